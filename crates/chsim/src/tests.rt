@@ -142,7 +142,12 @@ fn nothing_is_performed_after_a_write_fails(rt: HostRuntime) {
 }
 
 /// How a command over a text ends where so many requests for memory are granted, what it prints, and whether one was refused.
-fn served_with(rt: &HostRuntime, word: &str, text: &[u8], left: u64) -> (Vec<u8>, Outcome, bool) {
+fn served_with<R: Threads + Wait + Sync + AllocGlobal>(
+    rt: &R,
+    word: &str,
+    text: &[u8],
+    left: u64,
+) -> (Vec<u8>, Outcome, bool) {
     let mut reader = Heard::new(text);
     let mut sink = Watched::new(Vec::new(rt.alloc()));
     let mut supply = Refusing {
@@ -162,7 +167,12 @@ fn served_with(rt: &HostRuntime, word: &str, text: &[u8], left: u64) -> (Vec<u8>
 
 /// Whether a command ends for want of memory, of which it writes a line alone, where just these requests are granted, from none
 /// to the answer's number less one, and otherwise well, with this printed.
-fn refusals(rt: &HostRuntime, word: &str, text: &[u8], printed: &[u8]) -> Option<u64> {
+fn refusals<R: Threads + Wait + Sync + AllocGlobal>(
+    rt: &R,
+    word: &str,
+    text: &[u8],
+    printed: &[u8],
+) -> Option<u64> {
     let mut refusals = 0u64;
     for left in 0..1_000u64 {
         let (out, outcome, refused) = served_with(rt, word, text, left);

@@ -5,5 +5,6 @@ pub mod Raising
 pub mod Handing
 pub mod Lengthening
 pub mod Lasting
+pub mod Looks
 pub mod Trying
 pub mod Answering

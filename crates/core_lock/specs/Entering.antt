@@ -1,5 +1,5 @@
 -- What entering an event leaves, and what a look finds (own).
-use Rattle.std.specs.Prelude.{◌≡◌, ◌≤◌, ◌^◌, ◌⊎◌, ℕ, ◌+◌, ◌-◌, [], ◌∷◌, ◌++◌, length, min, Some, Result, Ok, Err, Vec, vec_capacity, vec_len, slice_get, slice_set}
+use Rattle.std.specs.Prelude.{◌≡◌, ◌≤◌, ◌^◌, ◌⊎◌, ℕ, ◌+◌, ◌-◌, List, [], ◌∷◌, ◌++◌, length, min, Some, Result, Ok, Err, Vec, vec_capacity, vec_len, slice_get, slice_set}
 use Rattle.scsw_irb.specs.declared.serials.Serials.{Serials}
 use Rattle.chan_model.specs.declared.fault.Fault.{Fault}
 use Rattle.chan_model.specs.declared.fault.Fault.TheVariants as fault
@@ -7,7 +7,7 @@ use Rattle.chan_events.specs.declared.event.Event.{Event}
 use Rattle.chan_events.specs.declared.event.Event.TheVariants as event
 use Rattle.chan_events.specs.declared.reply.Reply.{Reply}
 use Rattle.glance_cell.specs.Shown.{Words}
-use Rattle.machine_model.specs.State.{Past, State}
+use Rattle.machine_model.specs.State.{Past, State, serials_in, sub_of}
 use Rattle.machine_model.specs.Steps.{Step, IsRefused}
 use Rattle.core_lock.specs.declared.executing.CpuInstruction.{CpuInstruction}
 use Rattle.core_lock.specs.declared.executing.CpuInstruction.TheVariants as cpu_instruction
@@ -60,17 +60,41 @@ abbrev pub event_of : ℕ → CpuInstruction → Event
 event_of cpu (cpu_instruction.OnSubchannel i) = event.Execute cpu i
 event_of cpu (cpu_instruction.OfSubsystem i) = event.ExecuteOther cpu i
 
--- a look at a subchannel: its reader loads once, and what is found is part by part the greater of the words loaded and the pair,
--- which becomes the pair
-pub record Glances (old : Seated) (word : ℕ) (found : Serials) (new : Seated) : Type 0 where
-  pub place : ℕ
-  pub pair : Serials
+-- the reader that a seat has of the cell of a subchannel loads once, and finds these words; the seat had this pair of it
+pub record LoadsOnce (old : Seated) (word place : ℕ) (pair : Serials) (words : Words) : Type 0 where
   pub before : Words
-  pub words : Words
   pub named : place_named old.directory word ≡ Some place
   pub saw : slice_get old.pairs place ≡ Some pair
   pub had : slice_get old.loaded place ≡ Some before
   pub cell : words.cell ≡ before.cell
   pub loads : words.loads ≡ before.loads + 1
+
+-- the reader of a place loads once, and finds these counts
+abbrev pub LoadsAt : List Words → ℕ → Serials → List Words → Type 0
+LoadsAt old place found new =
+    (before : Words)
+    × (slice_get old place ≡ Some before)
+    × (new ≡ slice_set old place (record before { made = found.made; cleared = found.cleared; loads = before.loads + 1 }))
+
+-- a seat with this pair of a subchannel, whose reader loaded these words
+abbrev pub seat_loaded : Seated → ℕ → Serials → Words → Seated
+seat_loaded seat place pair words = record seat { pairs = slice_set seat.pairs place pair; loaded = slice_set seat.loaded place words }
+
+-- a look at a subchannel: what is found is part by part the greater of the words loaded and the pair, which becomes the pair
+pub record Glances (old : Seated) (word : ℕ) (found : Serials) (new : Seated) : Type 0 where
+  pub place : ℕ
+  pub pair : Serials
+  pub words : Words
+  pub load : LoadsOnce old word place pair words
   pub found_is : found ≡ greater pair (counts_of words)
-  pub leaves : new ≡ record old { pairs = slice_set old.pairs place found; loaded = slice_set old.loaded place words }
+  pub leaves : new ≡ seat_loaded old place found words
+
+-- a look at a subchannel with its machine at hand: what is found is the words loaded, and is what the machine has
+pub record Looks (s : State) (old : Seated) (word : ℕ) (found : Serials) (new : Seated) : Type 0 where
+  pub place : ℕ
+  pub pair : Serials
+  pub words : Words
+  pub load : LoadsOnce old word place pair words
+  pub found_is : found ≡ counts_of words
+  pub has : serials_in (sub_of s word) ≡ Some found
+  pub leaves : new ≡ seat_loaded old place (greater pair found) words

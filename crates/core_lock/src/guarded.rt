@@ -47,7 +47,7 @@ use supply::{Given, Supply};
 pub struct Guarded<J: Naming, P: PathChoice + Drop> {
     pub(crate) subsystem: Subsystem<P>,
     by: Vec<u16>,
-    writers: Vec<Writer>,
+    pub(crate) writers: Vec<Writer>,
     pub(crate) directory: Arc<Directory>,
     entries: Book<Entries<J>>,
     pub(crate) turns: Book<Turns<J>>,

@@ -46,7 +46,7 @@ pub const MOST_SEATS: u16 = 1024;
 /// A subsystem that is to be locked: what its lock will guard, and the seats that can still be made.
 #[derive(Drop)]
 pub struct Core<J: Naming, P: PathChoice + Drop> {
-    guarded: Guarded<J, P>,
+    pub(crate) guarded: Guarded<J, P>,
     stock: SeatStock<J>,
 }
 

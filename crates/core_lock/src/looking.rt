@@ -1,20 +1,24 @@
-//! What a seat does without the lock: the call that it owes, and its looks at serials.
+//! What a seat does without the lock: the call that it owes, and its looks at serials; and its looks with the machine at hand.
 
-ghost use Rattle.std.specs.Prelude.{◌≡◌, ◌≤◌, None, IsSome, IfOk, IfErr, OnErr, is_some};
+ghost use Rattle.std.specs.Prelude.{◌≡◌, ◌<◌, ◌≤◌, None, Some, IsSome, IfOk, IfErr, OnErr, is_some, length, slice_get};
 ghost use Rattle.chan_model.specs.declared.fault.Fault.TheVariants as fault_spec;
 ghost use Rattle.core_parts.specs.Directory.{place_named};
-ghost use Rattle.core_lock.specs.Entering.{Glances};
-ghost use Rattle.core_parts.specs.Named.{serials};
+ghost use Rattle.core_lock.specs.Entering.{Glances, LoadsAt, Looks};
+ghost use Rattle.core_parts.specs.Named.{cells_of, serials, shown};
+ghost use Rattle.machine_model.specs.State.{sub_of};
 ghost use Rattle.core_lock.specs.Turns as turn_spec;
 
-use crate::locked::Seat;
+use crate::guarded::Guarded;
+use crate::locked::{Core, Seat};
 use chan_model::fault::Fault;
 use chan_model::report::Report;
 use core_parts::gate::{Gate, Gated};
 use core_parts::naming::Naming;
 use core_parts::pairs::greater;
 use core_parts::turns::KeptReport;
+use glance_cell::cell::{Reader, Writer};
 use glance_cell::words::Glance;
+use path_select::PathChoice;
 use scsw_irb::serials::Serials;
 
 impl<J: Naming> Seat<J> {
@@ -76,5 +80,58 @@ impl<J: Naming> Seat<J> {
             made: found.made,
             cleared: found.cleared,
         })
+    }
+}
+
+impl<J: Naming, P: PathChoice + Drop> Core<J, P> {
+    /// The serials of a subchannel, which the seat's reader loads while nothing changes them: they are what the machine has. It
+    /// takes no memory, and is refused only where the subchannel is not configured.
+    pub fn look(&mut self, seat: &mut Seat<J>, subchannel: u32) -> Result<Serials, Fault>
+        ensures found { IfOk result (λ found. Looks self.old.value.state seat.old.value subchannel found seat.new.value) }
+        ensures refused { IfErr result (λ f. (f ≡ fault_spec.NoSuchSubchannel) × (sub_of self.old.value.state subchannel ≡ None)) }
+        ensures core { self.new ≡ self.old }
+        ensures seat { OnErr result (seat.new ≡ seat.old) }
+        ensures room { seat.new.room ≡ seat.old.room }
+    {
+        self.guarded.look(seat, subchannel)
+    }
+}
+
+impl<J: Naming, P: PathChoice + Drop> Guarded<J, P> {
+    /// A look, as `Core::look` has it.
+    fn look(&mut self, seat: &mut Seat<J>, subchannel: u32) -> Result<Serials, Fault>
+        ensures found { IfOk result (λ found. Looks self.old.value.state seat.old.value subchannel found seat.new.value) }
+        ensures refused { IfErr result (λ f. (f ≡ fault_spec.NoSuchSubchannel) × (sub_of self.old.value.state subchannel ≡ None)) }
+        ensures core { self.new ≡ self.old }
+        ensures seat { OnErr result (seat.new ≡ seat.old) }
+        ensures room { seat.new.room ≡ seat.old.room }
+    {
+        self.stands(seat);
+        let Some(place) = seat.directory.place(subchannel) else {
+            return Err(Fault::NoSuchSubchannel);
+        };
+        let found = load_at(&mut self.writers, &mut seat.readers, place);
+        let pair = seat.pairs[place];
+        let raised = greater(pair, found);
+        seat.pairs[place] = raised;
+        Ok(found)
+    }
+}
+
+/// The reader of a place loads what the writer of that place has.
+fn load_at(writers: &mut Vec<Writer>, readers: &mut Vec<Reader>, place: usize) -> Serials
+    requires read { place < length readers.old.items }
+    requires written { place < length writers.old.items }
+    requires cells { cells_of readers.old.items ≡ cells_of writers.old.items }
+    ensures found { slice_get (shown writers.old.items) place ≡ Some result }
+    ensures ordered { result.cleared ≤ result.made }
+    ensures writers { writers.new.items ≡ writers.old.items }
+    ensures readers { LoadsAt readers.old.items place result readers.new.items }
+{
+    let reader = &mut readers[place];
+    let loaded = reader.load_beside(&mut writers[place]);
+    Serials {
+        made: loaded.made,
+        cleared: loaded.cleared,
     }
 }

@@ -14,15 +14,24 @@ writer_view made cleared = view true made cleared 0
 abbrev pub reader_view : ℕ → ℕ → View
 reader_view made cleared = view false made cleared 0
 
--- the words are the count made and the count cleared, which is at most the first; exactly one view is a writer's, and it is the
--- words; each other one is a reader's, and is part by part at most the words
+-- a reader's view is taken in by the writer's, which counts that reader's loads from then on
+abbrev pub taken_in : View → View → View
+taken_in writer reader = view writer.writes writer.made writer.cleared reader.loads
+
+-- a reader that has loaded what the writer has, and as often as the writer counted
+abbrev pub handed_out : View → View
+handed_out writer = view false writer.made writer.cleared writer.loads
+
+-- the words are the count made and the count cleared, which is at most the first; exactly one view is a writer's, and its counts
+-- are the words; each other one is a reader's, and is part by part at most the words
 pub record IsKept (table : State ℕ View) : Type 0 where
   pub seat : ℕ
   pub made : ℕ
   pub cleared : ℕ
+  pub loads : ℕ
   pub words : table.words ≡ made ∷ cleared ∷ []
   pub ordered : cleared ≤ made
-  pub writer : get_elem? table.views seat ≡ some (writer_view made cleared)
+  pub writer : get_elem? table.views seat ≡ some (view true made cleared loads)
   pub readers : (other : ℕ) (v : View) → other ≢ seat → get_elem? table.views other ≡ some v → (v.writes ≡ false) × (v.made ≤ made) × (v.cleared ≤ cleared)
 
 -- a store sets its part of the view of the one that makes it
@@ -39,3 +48,10 @@ FindsMade step me word after = (after ≡ (view me.0.writes word me.0.cleared (m
 
 abbrev pub FindsCleared : Step ℕ → Me ℕ View → ℕ → Me ℕ View → Type 0
 FindsCleared step me word after = (after ≡ (view me.0.writes me.0.made word me.0.loads, me.1)) × (me.0.cleared ≤ word)
+
+-- what the writer's own loads find is what it has
+abbrev pub SeesMade : Step ℕ → Me ℕ View → ℕ → Me ℕ View → Type 0
+SeesMade step me word after = (after ≡ (view me.0.writes me.0.made me.0.cleared (me.0.loads + 1), me.1)) × (word ≡ me.0.made)
+
+abbrev pub SeesCleared : Step ℕ → Me ℕ View → ℕ → Me ℕ View → Type 0
+SeesCleared step me word after = (after ≡ me) × (word ≡ me.0.cleared)

@@ -3,11 +3,13 @@ ghost use Rattle.std.specs.Prelude.{◌≡◌, ◌+◌, ◌≤◌, IfOk};
 ghost use Rattle.glance_cell.specs.Shown.{Words, written};
 
 use crate::words::{
-    Glance, Law, LoadsCleared, LoadsMade, StoresCleared, StoresMade, View, Watches,
+    Glance, HandsOut, Law, LoadsCleared, LoadsMade, SeesCleared, SeesMade, StoresCleared,
+    StoresMade, TakesIn, View, Watches,
 };
 use atomic_table::{Seat, Table};
 use std::alloc::{AllocError, Global};
 use std::marker::Model;
+use std::mem;
 use std::sync::Arc;
 
 /// The two words, which their writer and their readers share.
@@ -100,6 +102,24 @@ impl Reader {
         let table = &self.cell.table.shared;
         let cleared = table.load::<LoadsCleared>(&mut self.seat, 1);
         let made = table.load::<LoadsMade>(&mut self.seat, 0);
+        Glance { made, cleared }
+    }
+    /// Loads both counts while the writer is at hand and stores nothing: they are what the writer has. It takes no memory and
+    /// waits for nobody.
+    pub fn load_beside(&mut self, writer: &mut Writer) -> Glance
+        requires same { self.old.cell ≡ writer.old.cell }
+        ensures value { (result.made ≡ writer.old.made) × (result.cleared ≡ writer.old.cleared) }
+        ensures ordered { result.cleared ≤ result.made }
+        ensures loads { self.new ≡ record writer.old { loads = self.old.loads + 1 } }
+        ensures writer { writer.new ≡ writer.old }
+    {
+        let table = &self.cell.table.shared;
+        let first = table.split_seat::<Watches>(&mut writer.seat);
+        let seat = mem::replace(&mut self.seat, first);
+        table.join_seat::<TakesIn>(&mut writer.seat, seat);
+        let cleared = table.load::<SeesCleared>(&mut writer.seat, 1);
+        let made = table.load::<SeesMade>(&mut writer.seat, 0);
+        self.seat = table.split_seat::<HandsOut>(&mut writer.seat);
         Glance { made, cleared }
     }
 }

@@ -1,6 +1,6 @@
 //! What a view of the two words knows, and the steps that change one.
 
-use atomic_table::{Play, Split, TableRule};
+use atomic_table::{Join, Play, Split, TableRule};
 
 /// How many statuses were made, and how many of them cleared, as one look found them.
 #[derive(Clone, Copy, PartialEq, Eq, Debug)]
@@ -9,8 +9,8 @@ pub struct Glance {
     pub cleared: u64,
 }
 
-/// What a view knows: the writer's is the words, a reader's is what it loaded last, and how often it loaded. No value of it
-/// is ever made.
+/// What a view knows: the writer's is the words, a reader's is what it loaded last, and how often it loaded. While a reader
+/// loads beside the writer, the writer's view counts that reader's loads. No value of it is ever made.
 pub struct View {
     pub writes: bool,
     pub made: u64,
@@ -74,4 +74,44 @@ impl Split<View> for Watches {
     ghost left = { λ v. v };
 
     ghost right = { λ v. reader_view v.made v.cleared };
+}
+
+/// The writer's load of the count made, for a reader.
+pub struct SeesMade;
+
+impl Play<u8, View> for SeesMade {
+    ghost use Rattle.glance_cell.specs.Rule.{SeesMade};
+
+    ghost then = { SeesMade };
+}
+
+/// The writer's load of the count cleared, for a reader.
+pub struct SeesCleared;
+
+impl Play<u8, View> for SeesCleared {
+    ghost use Rattle.glance_cell.specs.Rule.{SeesCleared};
+
+    ghost then = { SeesCleared };
+}
+
+/// A reader's view is taken in by the writer's.
+pub struct TakesIn;
+
+impl Join<View> for TakesIn {
+    ghost use Rattle.glance_cell.specs.Rule.{reader_view, taken_in};
+
+    ghost both = { taken_in };
+
+    ghost spent = { reader_view 0 0 };
+}
+
+/// A reader's view is handed out of the writer's.
+pub struct HandsOut;
+
+impl Split<View> for HandsOut {
+    ghost use Rattle.glance_cell.specs.Rule.{handed_out};
+
+    ghost left = { λ v. v };
+
+    ghost right = { handed_out };
 }

@@ -1,52 +1,70 @@
--- An audit without a race fails only by a look.
-use Rattle.std.proofs.Common.{◌≡◌, ℕ, Bool, true, false, List, [], Option, None, Some, refl, sym, ap, subst, inl, inr, ◌⊎◌, slice_get, take}
-use Rattle.chan_events.specs.declared.reply.Entry.{Entry}
-use Rattle.core_parts.specs.Seats.{Seated}
+-- When an audit fails.
+use Rattle.std.proofs.Common.{◌≡◌, ◌≢◌, ℕ, Bool, true, false, List, Option, None, Some, refl, sym, ap, subst, inl, inr, map}
 use Rattle.channel_config.specs.Setup.{Setup}
+use Rattle.core_parts.specs.Seats.{Seated}
 use Rattle.script.specs.Pieces.{lines_of}
+use Rattle.script.specs.Scripts.{ScriptContents, IsScript}
 use Rattle.script.specs.declared.Line.{Line}
-use Rattle.serving.specs.Acting.{Installed, IsAudited, IsOpening, opening_installed}
-use Rattle.serving.specs.Looking.{HasLook, IsLook, IsScriptWithLook}
+use Rattle.script.specs.declared.RaceLine.{RaceLine}
+use Rattle.serving.specs.Acting.{Installed, IsAudited, IsOpening}
+use Rattle.serving.specs.Audits.{FailsByRace}
 use Rattle.serving.specs.Performing.{HasPerformed, HasStopped}
-use Rattle.serving.specs.Serving.{FailsAudit, IsRunOf, Serves, TellsAudit}
+use Rattle.serving.specs.Serving.{FailsAudit, HasNoScript, IsRunOf, IsRaceOf, Serves, ServesRace, RunsOrRaces, TellsAudit, TellsNoMemoryBy}
+use Rattle.serving.specs.declared.Ending.{Ending}
 use Rattle.serving.specs.declared.Ending.TheVariants.{AuditFailed}
-use Rattle.serving.proofs.Logged.{IsSound, one, runs, sound, taken, there}
+use Rattle.serving.proofs.Logged.{Kept, acted, ran}
 use Rattle.streams.specs.Sinks.{Seen}
 
-opens : (setup : Setup) (i : Installed) → IsOpening setup i → IsSound i
-opens setup i opening =
-    subst (λ (x : Installed). IsSound x) (sym opening.0)
-    (record { kept = record { beside = refl; logged = sym (ap (λ (s : Seated). s.log) opening.1.0) }; agrees = refl })
+opens : (setup : Setup) (i : Installed) → IsOpening setup i → Kept i
+opens setup i opening = subst (λ (x : Installed). Kept x) (sym opening.0) (record { beside = refl; logged = sym (ap (λ (s : Seated). s.log) opening.1.0) })
 
-told : (i last : Installed) (lines : List Line) (held now : Seen) (whole : Bool) → IsSound i → TellsAudit i lines held now whole last → HasLook lines ⊎ IsSound last
-told i last lines held now whole s tells = runs i lines tells.performed.outcomes last tells.performed.runs s
+performed : (old last : Installed) (lines : List Line) (held now : Seen) (refused : Bool) → HasPerformed old lines held now refused last → Kept old → Kept last
+performed old last lines held now refused done k = ran old (map (λ l. l.action) lines) done.outcomes last done.runs k
 
-at_last : (lines : List Line) (n : ℕ) (line : Line) (last : Installed) → slice_get lines n ≡ Some line → IsLook line.action ⊎ IsSound last → HasLook lines ⊎ IsSound last
-at_last lines n line last at (inl look) = inl (there n lines line at look)
-at_last lines n line last at (inr s) = inr s
+stopped : (old last : Installed) (lines : List Line) (held now : Seen) (refused : Bool) → HasStopped old lines held now refused last → Kept old → Kept last
+stopped old last lines held now refused stop k =
+    acted stop.middle stop.last.action stop.stopped.outcome last stop.stopped.acts (performed old stop.middle _ held stop.between stop.earlier stop.performed k)
 
-before : (i last : Installed) (lines : List Line) (held now : Seen) (refused : Bool) (stop : HasStopped i lines held now refused last)
-    → HasLook (take stop.done lines) ⊎ IsSound stop.middle → HasLook lines ⊎ IsSound last
-before i last lines held now refused stop (inl look) = inl (taken stop.done lines look)
-before i last lines held now refused stop (inr s) = at_last lines stop.done stop.last last stop.there (one stop.middle stop.last.action stop.stopped.outcome last stop.stopped.acts s)
+told : (old last : Installed) (lines : List Line) (held now : Seen) (whole : Bool) → TellsAudit old lines held now whole last → Kept old → Kept last
+told old last lines held now whole tells k = performed old last lines held tells.between tells.refused tells.performed k
 
-stopped : (i last : Installed) (lines : List Line) (held now : Seen) (refused : Bool) → IsSound i → HasStopped i lines held now refused last → HasLook lines ⊎ IsSound last
-stopped i last lines held now refused s stop = before i last lines held now refused stop (runs i (take stop.done lines) stop.performed.outcomes stop.middle stop.performed.runs s)
+failing : (old last : Installed) (lines : List Line) (held now : Seen) (whole : Bool) → FailsAudit old lines held now whole last → Kept old → Kept last
+failing old last lines held now true fails k = told old last lines held now true fails k
+failing old last lines held now false (inl tells) k = told old last lines held now false tells k
+failing old last lines held now false (inr stop) k = stopped old last lines held now stop.0 stop.1 k
 
-decided : (lines : List Line) (last : Installed) → HasLook lines ⊎ IsSound last → ¬ IsAudited last → HasLook lines
-decided lines last (inl look) failed = look
-decided lines last (inr s) failed = absurd (failed (sound last s))
-
-failing : (i last : Installed) (lines : List Line) (held now : Seen) (whole : Bool) → IsSound i → FailsAudit i lines held now whole last → HasLook lines ⊎ IsSound last
-failing i last lines held now true s fails = told i last lines held now true s fails
-failing i last lines held now false s (inl tells) = told i last lines held now false s tells
-failing i last lines held now false s (inr stop) = stopped i last lines held now stop.0 s stop.1
-
-ran : (setup : Setup) (lines : List Line) (held now : Seen) (whole : Bool) → IsRunOf setup lines held now (AuditFailed whole) → HasLook lines
-ran setup lines held now whole run =
+no_run : (setup : Setup) (lines : List Line) (held now : Seen) (whole : Bool) → ¬ IsRunOf setup lines held now (AuditFailed whole)
+no_run setup lines held now whole run =
     let fails = run.2 in
-    decided lines fails.0 (failing run.0 fails.0 lines held now whole (opens setup run.0 run.1) fails.1) fails.2
+    fails.2 (failing run.0 fails.0 lines held now whole fails.1 (opens setup run.0 run.1)).logged
 
-pub only_by_look : (input : Option (List ℕ)) (held now : Seen) (whole : Bool) → Serves input held now (AuditFailed whole) → IsScriptWithLook input
-only_by_look None held now whole serves = serves
-only_by_look (Some text) held now whole serves = (serves.0, serves.1, ran serves.0.setup serves.0.lines held now whole serves.2)
+pub no_run_fails : (setup : Setup) (lines : List Line) (held now : Seen) (e : Ending) → IsRunOf setup lines held now e → (whole : Bool) → e ≢ AuditFailed whole
+no_run_fails setup lines held now e run whole is = no_run setup lines held now whole (subst (λ (x : Ending). IsRunOf setup lines held now x) is run)
+
+-- nor does what ends before one
+pub no_memory_fails : (held now : Seen) (e : Ending) → TellsNoMemoryBy held now e → (whole : Bool) → e ≢ AuditFailed whole
+no_memory_fails held now e tells whole is = absurd (subst (λ (x : Ending). TellsNoMemoryBy held now x) is tells)
+
+pub no_text_fails : (races : Bool) (input : Option (List ℕ)) (held now : Seen) (e : Ending) → HasNoScript races input held now e → (whole : Bool) → e ≢ AuditFailed whole
+no_text_fails races input held now e none whole is = absurd (subst (λ (x : Ending). HasNoScript races input held now x) is none)
+
+pub none_fails : (text : List ℕ) (held now : Seen) (whole : Bool) → ¬ Serves (Some text) held now (AuditFailed whole)
+none_fails text held now whole serves = no_run serves.0.setup serves.0.lines held now whole serves.2
+
+-- the sink failed before the race, and so no audit was of other books
+raced : (text : List ℕ) (s : ScriptContents) (line : RaceLine) (held now : Seen) (whole : Bool) → IsScript true (lines_of text) s → s.race ≡ Some line
+    → IsRaceOf s.setup s.lines line held now (AuditFailed whole) → FailsByRace text held now whole
+raced text s line held now true is asks (opening, opens_so, races) =
+    record { script = s; line = line; opening = opening; refused = races.0; is = is; asks = asks; opens = opens_so; races = races.1 }
+raced text s line held now false is asks (opening, opens_so, inl races) =
+    record { script = s; line = line; opening = opening; refused = races.0; is = is; asks = asks; opens = opens_so; races = races.1 }
+raced text s line held now false is asks (opening, opens_so, inr stop) =
+    absurd (stop.3 (stopped opening stop.0 s.lines held now stop.1 stop.2 (opens s.setup opening opens_so)).logged)
+
+asked : (text : List ℕ) (s : ScriptContents) (race : Option RaceLine) (held now : Seen) (whole : Bool) → s.race ≡ race → IsScript true (lines_of text) s
+    → RunsOrRaces race s.setup s.lines held now (AuditFailed whole) → FailsByRace text held now whole
+asked text s None held now whole asks is run = absurd (no_run s.setup s.lines held now whole run)
+asked text s (Some line) held now whole asks is races = raced text s line held now whole is asks races
+
+pub fails_only_by_race : (text : List ℕ) (held now : Seen) (whole : Bool) → ServesRace (Some text) held now (AuditFailed whole) → FailsByRace text held now whole
+fails_only_by_race text held now whole serves = asked text serves.0 serves.0.race held now whole refl serves.1 serves.2

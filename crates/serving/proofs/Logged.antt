@@ -1,6 +1,6 @@
--- The log of the one seat is what the history has of it, whatever is performed; and looks alone can differ.
-use Rattle.std.proofs.Common.{◌≡◌, ◌+◌, ◌==◌, ℕ, zero, suc, Bool, true, false, List, [], ◌∷◌, ◌++◌, length, Option, None, Some, Result, Ok, Err, refl, sym, ap, subst, ◌∙◌, arith, inl, inr, ◌⊎◌, eq-eqb, length-append, slice_get, take, map, tt}
-use Rattle.std.specs.Prelude.{if◌then◌else◌, ◌&&◌}
+-- The log of the one seat is what the history has of it, whatever is performed.
+use Rattle.std.proofs.Common.{◌≡◌, ◌+◌, ◌==◌, ℕ, Bool, true, false, List, [], ◌∷◌, ◌++◌, length, Option, None, Some, Result, Ok, Err, refl, sym, ap, subst, ◌∙◌, arith, eq-eqb, length-append}
+use Rattle.std.specs.Prelude.{if◌then◌else◌}
 use Rattle.chan_events.specs.declared.event.Event.{Event}
 use Rattle.chan_events.specs.declared.event.Event.TheVariants as event
 use Rattle.chan_events.specs.declared.reply.Entry.{Entry}
@@ -9,13 +9,11 @@ use Rattle.chan_model.specs.declared.fault.Fault.{Fault}
 use Rattle.chan_model.specs.declared.fault.Fault.TheVariants as fault
 use Rattle.chan_model.specs.declared.report.Report.{Report}
 use Rattle.core_parts.specs.Seats.{Seated, entries_by, entry}
-use Rattle.machine_model.specs.State.{IsAsBefore, Past}
+use Rattle.machine_model.specs.State.{IsAsBefore, Past, State}
 use Rattle.scsw_irb.specs.declared.serials.Serials.{Serials}
 use Rattle.script_rows.specs.declared.Action.{Action}
 use Rattle.script_rows.specs.declared.Action.TheVariants as action
-use Rattle.script.specs.declared.Line.{Line}
-use Rattle.serving.specs.Acting.{ActionOutcome, Books, DeviceTurn, Enters, Follows, Installed, IsAudited, Looks, LooksFrom, PerformsAction, Runs, booked, device_turn_of, same_serials}
-use Rattle.serving.specs.Looking.{HasLook, IsLook}
+use Rattle.serving.specs.Acting.{ActionOutcome, Books, DeviceTurn, Enters, Follows, Installed, LooksFrom, PerformsAction, Runs, SeatLooks, booked, device_turn_of}
 
 branch : (b : Bool) (x e : Entry) (rest : List Entry) → (if b then x ∷ (rest ++ e ∷ []) else rest ++ e ∷ []) ≡ (if b then x ∷ rest else rest) ++ e ∷ []
 branch true x e rest = refl
@@ -69,80 +67,25 @@ followed : (old : Installed) (place : ℕ) (report : Result Report Fault) (r : R
 followed old place (Ok report) r new turn k = written old.past old.books new (event.Report place report) r turn.0 turn.1 k
 followed old place (Err f) r new turn k = subst (λ (i : Installed). Kept i) (sym turn.1) k
 
-looking : (b : Books) (history : List Entry) (word : ℕ) (found : Option Serials) (seat : Seated) (agrees : Bool) → LooksFrom b.seat word found seat → Keeps b history
-    → Keeps (record b { seat = seat; agrees = agrees }) history
-looking b history word None seat agrees from k =
-    subst (λ (s : Seated). Keeps (record b { seat = s; agrees = agrees }) history) (sym from.1) (record { beside = k.beside; logged = k.logged })
-looking b history word (Some s) seat agrees from k =
-    subst (λ (s : Seated). Keeps (record b { seat = s; agrees = agrees }) history) (sym from.leaves) (record { beside = k.beside; logged = k.logged })
+-- a look leaves the number and the log of the seat
+looking : (s : State) (b : Books) (history : List Entry) (word : ℕ) (own : Option Serials) (seat : Seated) → SeatLooks s b.seat word own seat → Keeps b history
+    → Keeps (record b { seat = seat }) history
+looking s b history word None seat from k = subst (λ (x : Seated). Keeps (record b { seat = x }) history) (sym from) (record { beside = k.beside; logged = k.logged })
+looking s b history word (Some found) seat from k =
+    subst (λ (x : Seated). Keeps (record b { seat = x }) history) (sym from.leaves) (record { beside = k.beside; logged = k.logged })
 
-looked_on : (old : Installed) (word : ℕ) (own : Option Serials) (r : ActionOutcome) (new : Installed) → Looks old word own r new → Kept old → Kept new
+looked_on : (old : Installed) (word : ℕ) (own : Option Serials) (r : ActionOutcome) (new : Installed) → LooksFrom old word own r new → Kept old → Kept new
 looked_on old word own r new looks k =
-    let found = looks.1.0 in
-    subst (λ (i : Installed). Kept i) (sym looks.1.2) (looking old.books old.past.history word found new.books.seat (old.books.agrees && same_serials found own) looks.1.1 k)
+    subst (λ (i : Installed). Kept i) (sym looks.2) (looking old.past.state old.books old.past.history word own new.books.seat looks.1 k)
 
-acted : (old : Installed) (a : Action) (r : ActionOutcome) (new : Installed) → PerformsAction old a r new → Kept old → Kept new
+pub acted : (old : Installed) (a : Action) (r : ActionOutcome) (new : Installed) → PerformsAction old a r new → Kept old → Kept new
 acted old (action.Event e) r new acts k = written old.past old.books new e acts.0 acts.2.0 acts.2.1 k
 acted old (action.Dev place) r new acts k =
     followed (record old { devices = (device_turn_of old place).devices }) place (device_turn_of old place).report acts.0 new acts.2 (record { beside = k.beside; logged = k.logged })
 acted old (action.Glance word) r new acts k = looked_on old word _ r new acts k
 
--- an event leaves it as it is whether the looks agreed
-same_booked : (b : Books) (e : Event) (r : Result Reply Fault) → (booked b e r).agrees ≡ b.agrees
-same_booked b e (Ok x) = refl
-same_booked b e (Err f) = refl
-
-same_followed : (old : Installed) (place : ℕ) (report : Result Report Fault) (r : Result Reply Fault) (new : Installed) → Follows old place report r new → new.books.agrees ≡ old.books.agrees
-same_followed old place (Ok report) r new turn = ap (λ (b : Books). b.agrees) turn.1 ∙ same_booked old.books (event.Report place report) r
-same_followed old place (Err f) r new turn = ap (λ (i : Installed). i.books.agrees) turn.1
-
--- all is as an audit wants it
-pub record IsSound (i : Installed) : Type 0 where
-  pub kept : Kept i
-  pub agrees : i.books.agrees ≡ true
-
-pub sound : (i : Installed) → IsSound i → IsAudited i
-sound i s = (s.agrees, s.kept.logged)
-
-pub one : (old : Installed) (a : Action) (r : ActionOutcome) (new : Installed) → PerformsAction old a r new → IsSound old → IsLook a ⊎ IsSound new
-one old (action.Event e) r new acts s =
-    inr (record { kept = acted old (action.Event e) r new acts s.kept; agrees = ap (λ (b : Books). b.agrees) acts.2.1 ∙ same_booked old.books e acts.0 ∙ s.agrees })
-one old (action.Dev place) r new acts s =
-    inr (record {
-      kept = acted old (action.Dev place) r new acts s.kept;
-      agrees = same_followed (record old { devices = (device_turn_of old place).devices }) place (device_turn_of old place).report acts.0 new acts.2 ∙ s.agrees;
-    })
-one old (action.Glance word) r new acts s = inl tt
-
-later : (line : Line) (lines : List Line) (new : Installed) → HasLook lines ⊎ IsSound new → HasLook (line ∷ lines) ⊎ IsSound new
-later line lines new (inl look) = inl (inr look)
-later line lines new (inr s) = inr s
-
-onward : (line : Line) (lines : List Line) (middle new : Installed) → IsLook line.action ⊎ IsSound middle → (IsSound middle → HasLook lines ⊎ IsSound new)
-    → HasLook (line ∷ lines) ⊎ IsSound new
-onward line lines middle new (inl look) rest = inl (inl look)
-onward line lines middle new (inr s) rest = later line lines new (rest s)
-
-pub runs : (old : Installed) (lines : List Line) (outcomes : List ActionOutcome) (new : Installed) → Runs old (map (λ l. l.action) lines) outcomes new → IsSound old
-    → HasLook lines ⊎ IsSound new
-runs old [] [] new ran s = inr (subst (λ (i : Installed). IsSound i) (sym ran) s)
-runs old [] (r ∷ outcomes) new ran s = absurd ran
-runs old (line ∷ lines) [] new ran s = absurd ran
-runs old (line ∷ lines) (r ∷ outcomes) new ran s =
-    onward line lines ran.0 new (one old line.action r ran.0 ran.1 s) (λ m. runs ran.0 lines outcomes new ran.2 m)
-
--- a look among some lines is one among all
-pub taken : (n : ℕ) (lines : List Line) → HasLook (take n lines) → HasLook lines
-taken zero lines look = absurd look
-taken (suc n) [] look = absurd look
-taken (suc n) (line ∷ lines) (inl look) = inl look
-taken (suc n) (line ∷ lines) (inr look) = inr (taken n lines look)
-
-abbrev action_or : Option Line → Action → Action
-action_or None a = a
-action_or (Some line) a = line.action
-
-pub there : (n : ℕ) (lines : List Line) (line : Line) → slice_get lines n ≡ Some line → IsLook line.action → HasLook lines
-there n [] line at look = absurd (cc at)
-there zero (first ∷ lines) line at look = inl (subst (λ (a : Action). IsLook a) (sym (ap (λ (o : Option Line). action_or o line.action) at)) look)
-there (suc n) (first ∷ lines) line at look = inr (there n lines line at look)
+pub ran : (old : Installed) (actions : List Action) (outcomes : List ActionOutcome) (new : Installed) → Runs old actions outcomes new → Kept old → Kept new
+ran old [] [] new runs k = subst (λ (i : Installed). Kept i) (sym runs) k
+ran old [] (r ∷ outcomes) new runs k = absurd runs
+ran old (a ∷ actions) [] new runs k = absurd runs
+ran old (a ∷ actions) (r ∷ outcomes) new runs k = ran runs.0 actions outcomes new runs.2 (acted old a r runs.0 runs.1 k)

@@ -1,5 +1,5 @@
 -- What the actions of a script come to at a channel subsystem with its devices.
-use Rattle.std.specs.Prelude.{◌≡◌, ◌≤◌, ◌+◌, ◌==◌, ◌&&◌, ℕ, Bool, true, false, min, List, [], ◌∷◌, ◌++◌, length, map, replicate, slice_get, slice_set, MatchOption, Option, None, Some, Result, Ok, Err}
+use Rattle.std.specs.Prelude.{◌≡◌, ◌≤◌, ◌+◌, ℕ, Bool, true, false, min, List, [], ◌∷◌, ◌++◌, length, map, replicate, slice_get, slice_set, MatchOption, Option, None, Some, Result, Ok, Err}
 use Rattle.chan_events.specs.declared.event.Event.{Event}
 use Rattle.chan_events.specs.declared.event.Event.TheVariants as event
 use Rattle.chan_model.specs.declared.fault.Fault.{Fault}
@@ -13,14 +13,13 @@ use Rattle.chan_model.specs.declared.report.Report.{Report}
 use Rattle.chan_model.specs.declared.report.Work.{Work}
 use Rattle.chan_model.specs.declared.report.Work.TheVariants as work
 use Rattle.channel_config.specs.Setup.{Setup}
-use Rattle.core_lock.specs.Entering.{Glances, entered}
-use Rattle.core_parts.specs.Directory.{place_named}
+use Rattle.core_lock.specs.Entering.{Looks, entered}
 use Rattle.core_parts.specs.Seats.{Locked, LockedCore, HeldSeat, Seated, entry, entries_by}
 use Rattle.device_models.specs.AnyDevices.{device_of, device_opening, answer_of, after}
 use Rattle.device_models.specs.declared.any_device.AnyDevice.{AnyDevice}
 use Rattle.machine_model.specs.Ruled.{GoesByRule}
 use Rattle.path_select.specs.Choice.{TakesNext}
-use Rattle.machine_model.specs.State.{Past, IsAsBefore, IsSpent, opening_of, unit_turn_of, sub_of, serials_in}
+use Rattle.machine_model.specs.State.{Past, State, IsAsBefore, IsSpent, opening_of, unit_turn_of, sub_of, serials_in}
 use Rattle.machine_model.specs.Steps.{Step, IsRefused}
 use Rattle.machine_model.specs.declared.state.UnitTurn.{UnitTurn}
 use Rattle.machine_model.specs.declared.state.UnitTurn.TheVariants.{Takes, Works, Away, Rests}
@@ -41,11 +40,10 @@ abbrev pub ActionOutcome : Type 0
 ActionOutcome = Result ActionResult Fault
 
 -- what an audit compares: the seat from which events are entered, with its number and its log, and the seat of each entry of the
--- history; and whether each look at serials from that seat found what the machine had
+-- history
 pub record Books : Type 0 where
   pub by : List ℕ
   pub seat : Seated
-  pub agrees : Bool
 
 -- a machine, its books, and by unit its device and the report that is still to be handed in
 pub record Installed : Type 0 where
@@ -58,8 +56,8 @@ pub record Installed : Type 0 where
 abbrev pub past_of : LockedCore → HeldSeat → Past
 past_of core seat = record { state = core.value.state; history = core.value.history; room = min core.room seat.room }
 
-abbrev pub books_of : LockedCore → HeldSeat → Bool → Books
-books_of core seat agrees = record { by = core.value.by; seat = seat.value; agrees = agrees }
+abbrev pub books_of : LockedCore → HeldSeat → Books
+books_of core seat = record { by = core.value.by; seat = seat.value }
 
 -- the first seat of a machine at its opening
 abbrev pub opening_locked : Setup → Locked
@@ -69,7 +67,7 @@ abbrev pub IsOpeningSeat : Setup → Seated → Type 0
 IsOpeningSeat setup seat = IsNewSeat (opening_locked setup) seat
 
 abbrev pub opening_books : Seated → Books
-opening_books seat = record { by = []; seat = seat; agrees = true }
+opening_books seat = record { by = []; seat = seat }
 
 abbrev pub opening_installed : Setup → Seated → Installed
 opening_installed setup seat = record {
@@ -83,10 +81,9 @@ opening_installed setup seat = record {
 abbrev pub IsOpening : Setup → Installed → Type 0
 IsOpening setup i = (i ≡ opening_installed setup i.books.seat) × IsOpeningSeat setup i.books.seat
 
--- an audit finds what it should: each look showed what the machine had, and the entries of the history that have the number of
--- the seat are its log, in order
+-- an audit finds what it should: the entries of the history that have the number of the seat are its log, in order
 abbrev pub IsAudited : Installed → Type 0
-IsAudited i = (i.books.agrees ≡ true) × (entries_by i.books.seat.number i.books.by i.past.history ≡ i.books.seat.log)
+IsAudited i = entries_by i.books.seat.number i.books.by i.past.history ≡ i.books.seat.log
 
 -- the books after an event: an entry, with the number of the seat, where it was accepted, and the seat as it is then
 abbrev pub booked : Books → Event → Result Reply Fault → Books
@@ -201,31 +198,17 @@ abbrev pub outcome_at : Acted → AnswerPlace → ActionOutcome
 outcome_at Answered place = told_of (answer_at place)
 outcome_at (Looked own) place = glanced own
 
--- whether the seat found what the machine has
-abbrev pub same_serials : Option Serials → Option Serials → Bool
-same_serials None None = true
-same_serials None (Some own) = false
-same_serials (Some found) None = false
-same_serials (Some found) (Some own) = (found.made == own.made) && (found.cleared == own.cleared)
+-- a seat looks at the serials of a subchannel: where the machine has it, its reader of that subchannel's cell loads them once; else
+-- it stays as it was
+abbrev pub SeatLooks : State → Seated → ℕ → Option Serials → Seated → Type 0
+SeatLooks s old word own new = MatchOption own (new ≡ old) (λ found. Looks s old word found new)
 
--- a seat looks at the serials of the subchannel that a word names: through its reader of that subchannel's cell; or it knows none of
--- that name, and stays as it was
-abbrev pub LooksFrom : Seated → ℕ → Option Serials → Seated → Type 0
-LooksFrom old word found new =
-    MatchOption found ((place_named old.directory word ≡ None) × (new ≡ old)) (λ serials. Glances old word serials new)
-
--- the seat looked and is this one then, and found these serials where the machine has those: it agrees from then on just where it
--- did and both are the same
-abbrev pub looked : Installed → Seated → Option Serials → Option Serials → Installed
-looked old seat found own = record old {
-  books = record old.books { seat = seat; agrees = old.books.agrees && same_serials found own };
-}
-
--- a look from the seat; what the machine has is shown, whatever the seat found
-abbrev pub Looks : Installed → ℕ → Option Serials → ActionOutcome → Installed → Type 0
-Looks old word own r new =
+-- a look from the seat: what it finds is what the machine has, and is shown
+abbrev pub LooksFrom : Installed → ℕ → Option Serials → ActionOutcome → Installed → Type 0
+LooksFrom old word own r new =
     (r ≡ glanced own)
-    × ((found : Option Serials) × LooksFrom old.books.seat word found new.books.seat × (new ≡ looked old new.books.seat found own))
+    × SeatLooks old.past.state old.books.seat word own new.books.seat
+    × (new ≡ record old { books = record old.books { seat = new.books.seat } })
 
 -- where a restart of a unit was accepted its device is put back to its opening; a report that is kept for it is kept on
 abbrev pub put_back : List AnyDevice → ℕ → Option AnyDevice → List AnyDevice
@@ -251,7 +234,7 @@ abbrev pub PerformsAction : Installed → Action → ActionOutcome → Installed
 PerformsAction old (action.Event e) r new =
     (came : Result Reply Fault) × (r ≡ told_of came) × Happens old e came new
 PerformsAction old (action.Dev place) r new = (came : Result Reply Fault) × (r ≡ told_of came) × TakesTurn old place came new
-PerformsAction old (action.Glance word) r new = Looks old word (serials_in (sub_of old.past.state word)) r new
+PerformsAction old (action.Glance word) r new = LooksFrom old word (serials_in (sub_of old.past.state word)) r new
 
 -- the actions in order come to these outcomes
 abbrev pub Runs : Installed → List Action → List ActionOutcome → Installed → Type 0

@@ -2,4 +2,4 @@ pub mod Acting
 pub mod Performing
 pub mod Racing
 pub mod Serving
-pub mod Looking
+pub mod Audits

@@ -1,5 +1,5 @@
 -- A race at a machine, and what is told of it.
-use Rattle.std.specs.Prelude.{◌≡◌, ◌+◌, Bool, true, IsTrue, ◌↔◌, List, ◌∷◌, length, sum_by}
+use Rattle.std.specs.Prelude.{◌≡◌, ◌+◌, Bool, IsTrue, ◌↔◌, List, ◌∷◌, length, sum_by}
 use Rattle.core_parts.specs.Seats.{HeldSeat, Locked}
 use Rattle.machine_model.specs.Steps.{HasRun}
 use Rattle.subsystem.specs.Headline.{HasHeld}
@@ -14,8 +14,8 @@ HasAll after seats = length seats ≡ after.seats → length after.history ≡ s
 
 -- a race at a machine, with this told of it. The machine that the CPUs leave has a history that leads to its state, with a seat beside
 -- each entry, and has held what every run holds. Where no seats were made but its own and those of the CPUs, the history is as long as
--- their logs together. What else is known of it is what the audit found: that each look had shown what the machine had, and that it has
--- the logs of its own seat and of those of the CPUs, each in its order, by whose entries alone the history grew
+-- their logs together. What else is known of it is what the audit found: that it has the logs of its own seat and of those of the CPUs,
+-- each in its order, by whose entries alone the history grew
 pub record IsRaced (race : Race) (before : Installed) (told : RaceCount) (refused : Bool) : Type 0 where
   pub ready : List Runner
   pub raced : List Runner
@@ -29,6 +29,5 @@ pub record IsRaced (race : Race) (before : Installed) (told : RaceCount) (refuse
   pub beside : length after.by ≡ length after.history
   pub entries : HasAll after (own ∷ seats_of raced)
   pub told_is : told ≡ count_of (total_of raced) told.audited
-  pub audited : IsTrue told.audited
-      ↔ ((before.books.agrees ≡ true) × HasLogs after (own ∷ seats_of raced) (length before.past.history + (total_of raced).entries))
+  pub audited : IsTrue told.audited ↔ HasLogs after (own ∷ seats_of raced) (length before.past.history + (total_of raced).entries)
   pub refused_is : refused ≡ (total_of raced).refused

@@ -1,13 +1,13 @@
 //! A channel subsystem with a device for each of its units, a seat from which its events are entered, and seats of CPUs that
 //! are to race.
 
-ghost use Rattle.std.specs.Prelude.{◌≡◌, ◌+◌, Bool, IsTrue, IfOk, List, None, Some, OnErr, OnOk, length, slice_get, true, ◌↔◌, ◌≤◌, ℕ};
+ghost use Rattle.std.specs.Prelude.{◌≡◌, ◌+◌, IsTrue, IfOk, List, None, Some, OnErr, OnOk, length, slice_get, true, ◌↔◌, ◌≤◌, ℕ};
 ghost use Rattle.serving.specs.Acting as spec;
 ghost use Rattle.racing.specs.Racing.{AreMade, HasLogs};
 ghost use Rattle.serving.specs.Racing.{HasAll, IsRaced};
 ghost use Rattle.machine_model.specs.Steps.{HasRun};
 ghost use Rattle.subsystem.specs.Headline.{HasHeld};
-ghost use Rattle.serving.specs.Acting.{books_of, past_of, PerformsAction, Happens, IsAudited, IsOpening, Looks, LooksFrom, TakesTurn, HandsIn, outcome_at};
+ghost use Rattle.serving.specs.Acting.{books_of, past_of, PerformsAction, Happens, IsAudited, IsOpening, LooksFrom, TakesTurn, HandsIn, outcome_at};
 ghost use Rattle.machine_model.specs.State.{opening_of, sub_of, serials_in, unit_turn_of};
 ghost use Rattle.subsystem.specs.Keeping.{all_serials};
 ghost use Rattle.signal_places.specs.Answers.{answer_at};
@@ -32,7 +32,6 @@ use core_parts::naming::Naming;
 use core_parts::supplies::CoreSupply;
 use device_law::Device;
 use device_models::any_device::AnyDevice;
-use glance_cell::words::Glance;
 use kept_events::events::KeptEvent;
 use path_select::Rotating;
 use racing::racers::Racers;
@@ -53,7 +52,6 @@ use subsystem::subsystem::Subsystem;
 pub struct Installation<J: Naming> {
     core: Core<J, Rotating>,
     seat: Seat<J>,
-    agrees: bool,
     devices: Vec<AnyDevice>,
     kept: Vec<Option<Report>>,
 }
@@ -74,7 +72,7 @@ impl<J: Naming> Model for Installation<J> {
 
     ghost view = { λ i. record {
       past = past_of i.core i.seat;
-      books = books_of i.core i.seat i.agrees;
+      books = books_of i.core i.seat;
       devices = i.devices.items;
       kept = i.kept.items;
     } };
@@ -103,7 +101,6 @@ impl<J: Naming> Installation<J> {
         let installation = Installation {
             core,
             seat,
-            agrees: true,
             devices,
             kept,
         };
@@ -114,9 +111,9 @@ impl<J: Naming> Installation<J> {
     /// a report that is kept for the unit stays, and is refused NotNow by the unit's next turn. A turn of a device hands in
     /// the report that is kept for its unit, else the one of the unit's next work. It is refused NoSuchUnit where the unit
     /// is not configured, and NotNow where no report is kept and a signal waits for the unit, its program may ask for a
-    /// path, or it has nothing to do. A look at serials goes by the seat; what the subsystem has is told, and where the
-    /// seat found anything else the audit will fail. It is refused NoSuchSubchannel where the subchannel is not configured.
-    /// The answer of an event is written into a place.
+    /// path, or it has nothing to do. A look at serials goes by the seat, whose reader loads what the
+    /// subsystem has. It is refused NoSuchSubchannel where the subchannel is not configured. The answer of an event is written
+    /// into a place.
     pub fn act(&mut self, action: &KeptAction, bytes: &[u8], places: &mut Places) -> Acted
         requires { action_length action.now ≤ length bytes.now }
         ensures { PerformsAction self.old (action_in action.now bytes.now) (outcome_at result places.new.answer) self.new }
@@ -171,18 +168,17 @@ impl<J: Naming> Installation<J> {
         self.enter(&places.event, &mut places.answer);
     }
 
-    /// Whether each look showed what the subsystem had, and the seat's log is what the history has of it.
+    /// Whether the seat's log is what the history has of it.
     pub fn audited(self) -> bool
         ensures { IsTrue result ↔ IsAudited self }
     {
         let Installation {
             core,
             seat,
-            agrees,
             devices: _,
             kept: _,
         } = self;
-        agrees && has_its_log(&core, seat)
+        has_its_log(&core, seat)
     }
 
     /// CPUs race at it, and it is given up: what is told of the race, and whether an instruction was refused. The audit is of all
@@ -201,15 +197,13 @@ impl<J: Naming> Installation<J> {
         let Installation {
             core,
             seat,
-            agrees,
             devices: _,
             kept: _,
         } = self;
         let before = core.subsystem().history().len() as u64;
         let (core, seats, total) = racers.race(rt, core, seat, race);
         has_run(&core);
-        let settled = is_settled(core, seats, before, total.entries);
-        let audited = agrees && settled;
+        let audited = is_settled(core, seats, before, total.entries);
         (total.told(audited), total.refused)
     }
 
@@ -233,14 +227,14 @@ impl<J: Naming> Installation<J> {
         enter_from(&mut self.core, &mut self.seat, event, place);
     }
 
-    /// Looks from the seat at the serials of the subchannel that a word names, and shows those that the subsystem has.
+    /// Looks from the seat at the serials of the subchannel that a word names, which are those that the subsystem has.
     pub(crate) fn look(&mut self, subchannel: u32) -> Option<Serials>
-        ensures { Looks self.old subchannel (serials_in (sub_of self.old.past.state subchannel)) (spec.glanced result) self.new }
+        ensures { LooksFrom self.old subchannel (serials_in (sub_of self.old.past.state subchannel)) (spec.glanced result) self.new }
     {
-        let own = self.core.subsystem().serials(subchannel);
-        let found = found_by(&mut self.seat, subchannel);
-        self.agrees = self.agrees && same_serials(found, own);
-        own
+        match self.core.look(&mut self.seat, subchannel) {
+            Ok(found) => Some(found),
+            Err(_) => None,
+        }
     }
 
     /// Takes a turn of a unit's device, whose report is written into a place.
@@ -340,7 +334,7 @@ fn enter_from<J: Naming>(
     place: &mut AnswerPlace,
 )
     ensures past { spec.Enters (past_of core.old seat.old) event.now (answer_at place.new) (past_of core.new seat.new) }
-    ensures books { (agrees : Bool) → books_of core.new seat.new agrees ≡ spec.booked (books_of core.old seat.old agrees) event.now (answer_at place.new) }
+    ensures books { books_of core.new seat.new ≡ spec.booked (books_of core.old seat.old) event.now (answer_at place.new) }
 {
     let _ = core.enter_place(seat, event, place);
 }
@@ -376,28 +370,6 @@ fn is_grown(closed: Option<u64>, before: u64, entries: u64) -> bool
     match closed {
         Some(count) => count >= before && count - before == entries,
         None => false,
-    }
-}
-
-/// What a seat sees of the serials of the subchannel that a word names; None where it knows none of that name.
-fn found_by<J: Naming>(seat: &mut Seat<J>, subchannel: u32) -> Option<Serials>
-    ensures looks { LooksFrom seat.old.value subchannel result seat.new.value }
-    ensures room { seat.new.room ≡ seat.old.room }
-{
-    match seat.glance(subchannel) {
-        Ok(Glance { made, cleared }) => Some(Serials { made, cleared }),
-        Err(_) => None,
-    }
-}
-
-/// Whether a seat found what the subsystem has.
-fn same_serials(found: Option<Serials>, own: Option<Serials>) -> bool
-    ensures { result ≡ spec.same_serials found own }
-{
-    match (found, own) {
-        (None, None) => true,
-        (Some(found), Some(own)) => found.made == own.made && found.cleared == own.cleared,
-        (None, Some(_)) | (Some(_), None) => false,
     }
 }
 

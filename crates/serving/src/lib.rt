@@ -2,7 +2,7 @@
 //! CPUs may race at its end; then the books are audited.
 #![tactic(auto)]
 
-ghost use Rattle.std.specs.Prelude.{◌≡◌, true, false, IfOk, OnOk, IfErr, IfSome};
+ghost use Rattle.std.specs.Prelude.{◌≡◌, ◌≢◌, Bool, true, false, IfOk, OnOk, IfErr, IfSome};
 ghost use Rattle.script.specs.Pieces.{lines_of};
 ghost use Rattle.script.specs.Scripts.{IsScript};
 ghost use Rattle.serving.specs.declared.Ending.TheVariants as ending;
@@ -60,8 +60,8 @@ impl Ending {
 
 /// Reads a script and performs its actions from one seat, each of which prints one line. Where there is no memory before the first
 /// event, and only where the supply refused a growth, `refused 1` is written alone, without a line's number. At the end the seat's
-/// log is compared with the history: where it is another, or a `glance` line saw other serials than it printed, `audit failed` is
-/// written.
+/// log is compared with the history: `audit failed` would be written where it is another, which never comes.
+#[tactic(auto, using(crate::proofs::Failing::no_text_fails))]
 pub fn serve_script_with<M: CoreSupply, R: Source, S: Sink>(
     alloc: Global,
     supply: &mut M,
@@ -71,6 +71,7 @@ pub fn serve_script_with<M: CoreSupply, R: Source, S: Sink>(
     ensures ends { Serves (R.left reader.old) (S.seen sink.old) (S.seen sink.new) result }
     ensures read { result ≡ ending.NotRead → R.broken reader.new ≡ true }
     ensures memory { IsForMemory result → M.refused supply.new ≡ true }
+    ensures audited { (whole : Bool) → result ≢ ending.AuditFailed whole }
 {
     match read_script(alloc, supply, false, reader, sink) {
         Ok(script) => running::run_script(alloc, supply, script, sink),

@@ -58,7 +58,7 @@ pub(crate) fn opening_seats<J: Naming, S: CoreSupply>(
     requires directory { parts.name.directory ≡ directory_of (opening_of config) }
     requires serials { parts.serials ≡ all_serials (opening_of config) }
     ensures past { IfOk result (λ all. past_of all.0 all.1 ≡ record { state = opening_of config; history = []; room = 0 }) }
-    ensures books { IfOk result (λ all. books_of all.0 all.1 true ≡ spec.opening_books all.1.value) }
+    ensures books { IfOk result (λ all. books_of all.0 all.1 ≡ spec.opening_books all.1.value) }
     ensures seat { IfOk result (λ all. IsOpeningSeat config all.1.value) }
     ensures racers { IfOk result (λ all. AreMade cpus all.2) }
     ensures given { OnOk result (S.refused supply.new ≡ S.refused supply.old) }

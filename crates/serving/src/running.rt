@@ -1,11 +1,12 @@
 //! Running a script that was read, and racing CPUs at its end.
 
-ghost use Rattle.std.specs.Prelude.{◌≡◌, true};
+ghost use Rattle.std.specs.Prelude.{◌≡◌, ◌≢◌, Bool, true};
 ghost use Rattle.machine_model.specs.State.{opening_of};
 ghost use Rattle.subsystem.specs.Keeping.{all_serials};
 ghost use Rattle.core_parts.specs.Directory.{directory_of};
 ghost use Rattle.racing.specs.Racing.{AreMade};
 ghost use Rattle.serving.specs.Serving as spec;
+ghost use Rattle.serving.specs.declared.Ending.TheVariants as ending;
 ghost use Rattle.serving.specs.Serving.{EndsBy, IsForMemory, IsRun, IsRunOf, IsRunOrRaced, IsRaceOf, PerformsAll, Races};
 
 use crate::installation::Installation;
@@ -26,6 +27,7 @@ use std::thread::Threads;
 use streams::Sink;
 
 /// Performs a good script.
+#[tactic(auto, using(crate::proofs::Failing::no_run_fails, crate::proofs::Failing::no_memory_fails))]
 pub fn run_script<M: CoreSupply, S: Sink>(
     alloc: Global,
     supply: &mut M,
@@ -34,6 +36,7 @@ pub fn run_script<M: CoreSupply, S: Sink>(
 ) -> Ending
     ensures ends { IsRun script (S.seen sink.old) (S.seen sink.new) result }
     ensures memory { IsForMemory result → M.refused supply.new ≡ true }
+    ensures audited { (whole : Bool) → result ≢ ending.AuditFailed whole }
 {
     let (config, lines) = script.into_parts();
     let Ok(parts) = Parts::new_with(alloc, supply, &config) else {

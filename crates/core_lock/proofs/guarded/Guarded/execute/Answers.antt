@@ -8,9 +8,9 @@ use Rattle.core_lock.proofs.guarded.Guarded.execute.Goals as goal
 
 pub returns-clause-executes : goal.returns-clause-executes
 returns-clause-executes g c =
-    let e = c.enter_to.ensures in
-    subst (λ (x : Event). Executes g.P.PathChoice.picks c.args.self.now c.args.seat.now x c.enter_to.new.answer c.enter_to.new.self.value c.enter_to.new.seat.value) c.event_of-event.ensures
-    (executes g.P.PathChoice.picks c.args.self.now c.enter_to.new.self c.args.seat.now c.enter_to.new.seat c.event_of-event.result c.enter_to.new.answer (record {
+    let e = c.enter_to_with.ensures in
+    subst (λ (x : Event). Executes g.P.PathChoice.picks c.args.self.now c.args.seat.now x c.enter_to_with.new.answer c.enter_to_with.new.self.value c.enter_to_with.new.seat.value) c.event_of-event.ensures
+    (executes g.P.PathChoice.picks c.args.self.now c.enter_to_with.new.self c.args.seat.now c.enter_to_with.new.seat c.event_of-event.result c.enter_to_with.new.answer (record {
       step = e.step;
       history = e.history;
       by = e.by;
@@ -25,15 +25,15 @@ returns-clause-executes g c =
 pub returns-clause-executed : goal.returns-clause-executed
 returns-clause-executed g c = record {
   core = c.args.self.now;
-  left = c.enter_to.new.self.value;
+  left = c.enter_to_with.new.self.value;
   of_machine = c.stands.ensures;
   executes = returns-clause-executes g c;
 }
 
 pub returns-clause-logged : goal.returns-clause-logged
 returns-clause-logged g c =
-    logged_by g.P.PathChoice.picks c.args.self.now c.args.seat.now (event_of c.args.cpu c.args.instruction) c.enter_to.new.answer c.enter_to.new.self.value c.enter_to.new.seat.value (returns-clause-executes g c)
+    logged_by g.P.PathChoice.picks c.args.self.now c.args.seat.now (event_of c.args.cpu c.args.instruction) c.enter_to_with.new.answer c.enter_to_with.new.self.value c.enter_to_with.new.seat.value (returns-clause-executes g c)
 
 pub returns-clause-refusal : goal.returns-clause-refusal
 returns-clause-refusal g c =
-    refused_by g.P.PathChoice.picks c.args.self.now c.args.seat.now (event_of c.args.cpu c.args.instruction) c.enter_to.new.answer c.enter_to.new.self.value c.enter_to.new.seat.value c.stands.ensures (returns-clause-executes g c)
+    refused_by g.P.PathChoice.picks c.args.self.now c.args.seat.now (event_of c.args.cpu c.args.instruction) c.enter_to_with.new.answer c.enter_to_with.new.self.value c.enter_to_with.new.seat.value c.stands.ensures (returns-clause-executes g c)

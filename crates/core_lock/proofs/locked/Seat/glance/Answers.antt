@@ -47,13 +47,15 @@ returns-clause-found g c =
     record {
       place = k;
       pair = pair;
-      before = was;
       words = w;
-      named = ap (λ (s : HeldSeat). place_named s.value.directory c.args.subchannel) (sym is) ∙ ap (λ (d : Directory). place_named d c.args.subchannel) (sym c.deref.ensures) ∙ sym c.in-Some.ensures.place;
-      saw = ap (λ (s : HeldSeat). slice_get s.value.pairs k) (sym is) ∙ slice_get_read pairs (length pairs) k pair refl lt c.index-pair.ensures;
-      had = ap (λ (s : HeldSeat). slice_get s.value.loaded k) (sym is) ∙ slice_get_read readers (length readers) k was refl (omega (arith, lt, i.beside)) c.index_mut-reader.ensures.value;
-      cell = c.load-loaded.ensures.cell;
-      loads = c.load-loaded.ensures.loads;
+      load = record {
+        before = was;
+        named = ap (λ (s : HeldSeat). place_named s.value.directory c.args.subchannel) (sym is) ∙ ap (λ (d : Directory). place_named d c.args.subchannel) (sym c.deref.ensures) ∙ sym c.in-Some.ensures.place;
+        saw = ap (λ (s : HeldSeat). slice_get s.value.pairs k) (sym is) ∙ slice_get_read pairs (length pairs) k pair refl lt c.index-pair.ensures;
+        had = ap (λ (s : HeldSeat). slice_get s.value.loaded k) (sym is) ∙ slice_get_read readers (length readers) k was refl (omega (arith, lt, i.beside)) c.index_mut-reader.ensures.value;
+        cell = c.load-loaded.ensures.cell;
+        loads = c.load-loaded.ensures.loads;
+      };
       found_is = c.greater-found.ensures ∙ (λ j. greater pair (serials (v.0 j) (v.1 j)));
       leaves = ap (λ (s : HeldSeat). record s.value { pairs = set s.value.pairs k c.greater-found.result; loaded = set s.value.loaded k w }) is;
     }
