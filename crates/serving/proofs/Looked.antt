@@ -13,7 +13,7 @@ found_there old new word own found is looks same =
 -- it has none
 pub none_there : (old new : Installed) (word : ℕ) (own : Option Serials) → own ≡ None → new ≡ old → LooksFrom old word own (glanced None) new
 none_there old new word own is same = (
-      ap glanced (sym is),
-      subst (λ (o : Option Serials). SeatLooks old.past.state old.books.seat word o new.books.seat) (sym is) (ap (λ (i : Installed). i.books.seat) same),
-      same ∙ ap (λ (i : Installed). record old { books = record old.books { seat = i.books.seat } }) (sym same),
-    )
+  ap glanced (sym is),
+  subst (λ (o : Option Serials). SeatLooks old.past.state old.books.seat word o new.books.seat) (sym is) (ap (λ (i : Installed). i.books.seat) same),
+  same ∙ ap (λ (i : Installed). record old { books = record old.books { seat = i.books.seat } }) (sym same),
+)

@@ -26,7 +26,7 @@ returns-clause-found c =
     let w = c.index_mut.result.now in
     let v = c.load_beside-loaded.ensures.value in
     shown_there writers k w (slice_get_read writers (length writers) k w refl c.requires.written c.index_mut.ensures.value)
-        ∙ (λ i. Some (serials (sym v.0 i) (sym v.1 i)))
+    ∙ (λ i. Some (serials (sym v.0 i) (sym v.1 i)))
 
 pub returns-clause-readers : goal.returns-clause-readers
 returns-clause-readers c =

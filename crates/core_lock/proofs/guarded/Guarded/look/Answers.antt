@@ -90,5 +90,5 @@ pub returns-in_default-clause-refused : goal.returns-in_default-clause-refused
 returns-in_default-clause-refused g c =
     let word = c.args.subchannel in
     let named = ap (λ (h : HeldSeat). place_named h.value.directory word) (sym c.seat.view_is) ∙ ap (λ (d : Directory). place_named d word) (sym c.deref.ensures)
-        ∙ sym c.in_default.ensures.place in
+    ∙ sym c.in_default.ensures.place in
     (refl, lacks c.args.self.now.value.state c.args.seat.now.value.directory word c.stands.ensures.1 named)
