@@ -1,13 +1,15 @@
-use Rattle.std.proofs.Common.{length}
+use Rattle.std.proofs.Common.{length, ◌∙◌}
 use Rattle.serving.proofs.Auditing.{counted}
 use Rattle.serving.proofs.installation.is_settled.Goals as goal
 
 pub returns-then-held-clause-entries : goal.returns-then-held-clause-entries
-returns-then-held-clause-entries g c =
+returns-then-held-clause-entries g c = λ same.
     let k = c.close-closed in
-    counted k.result (length c.args.seats.items) c.args.core.value.seats (length c.args.core.value.history) _ k.ensures.entries k.ensures.logs k.ensures.none
+    let seats = c.args.seats in
+    counted k.result seats.len c.args.core.value.seats (length c.args.core.value.history) _ k.ensures.entries k.ensures.logs k.ensures.none (seats.ok.0 ∙ same)
 
 pub returns-else-held-clause-entries : goal.returns-else-held-clause-entries
-returns-else-held-clause-entries g c =
+returns-else-held-clause-entries g c = λ same.
     let k = c.close-closed in
-    counted k.result (length c.args.seats.items) c.args.core.value.seats (length c.args.core.value.history) _ k.ensures.entries k.ensures.logs k.ensures.none
+    let seats = c.args.seats in
+    counted k.result seats.len c.args.core.value.seats (length c.args.core.value.history) _ k.ensures.entries k.ensures.logs k.ensures.none (seats.ok.0 ∙ same)
