@@ -18,7 +18,7 @@ exit_status NotUtf8 = 1
 -- how the program ends for want of its words, by what kept them from it
 abbrev pub without_words : ErrorKind → Outcome
 without_words InvalidData = NotUtf8
-without_words other = NoMemory
+without_words kind = NoMemory
 
 -- nothing where all that was due was written
 abbrev pub unwritten : Bool → Option (List ℕ)
