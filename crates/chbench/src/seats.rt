@@ -1,6 +1,7 @@
 //! What is performed at a core, by seats of it.
 
-ghost use Rattle.std.specs.Prelude.{◌≡◌, []};
+ghost use Rattle.std.specs.Prelude.{◌≡◌};
+ghost use Rattle.machine_model.specs.State.{opening_of};
 ghost use Rattle.subsystem.specs.Keeping.{all_serials};
 ghost use Rattle.core_parts.specs.Directory.{directory_of};
 
@@ -8,6 +9,7 @@ use crate::bench::{Bench, Count, config_of};
 use crate::cycle::Kind;
 use crate::floor::{ReportPlace, Seated};
 use crate::race::{Race, RaceCount, run_race};
+use channel_config::config::Config;
 use core_lock::locked::Core;
 use core_lock::parts::Parts;
 use core_parts::naming::Naming;
@@ -66,16 +68,13 @@ fn with_seat<J: Naming>(core: Core<J, Rotating>) -> Option<Seated<J>> {
 }
 
 /// A core of this name, with its first seat.
-fn seated<J: Naming>(
-    alloc: Global,
-    subsystem: Subsystem<Rotating>,
-    parts: Parts,
-) -> Option<Seated<J>>
-    requires fresh { subsystem.history ≡ [] }
+fn seated<J: Naming>(alloc: Global, config: Config, parts: Parts) -> Option<Seated<J>>
     requires named { parts.name ≡ J.name }
-    requires directory { parts.name.directory ≡ directory_of subsystem.state }
-    requires serials { parts.serials ≡ all_serials subsystem.state }
+    requires set_up { J.setup ≡ config }
+    requires directory { parts.name.directory ≡ directory_of (opening_of config) }
+    requires serials { parts.serials ≡ all_serials (opening_of config) }
 {
+    let subsystem = Subsystem::new(alloc, config, Rotating).ok()?;
     match Core::<J, Rotating>::new(alloc, subsystem, parts) {
         Ok(core) => with_seat(core),
         Err(_) => None,
@@ -98,16 +97,16 @@ fn cycled<J: Naming>(
 fn performed<J: Naming + Send + Sync, R: Threads + Wait + Sync>(
     rt: &R,
     alloc: Global,
-    subsystem: Subsystem<Rotating>,
+    config: Config,
     parts: Parts,
     task: Task,
 ) -> Option<Outcome>
-    requires fresh { subsystem.history ≡ [] }
     requires named { parts.name ≡ J.name }
-    requires directory { parts.name.directory ≡ directory_of subsystem.state }
-    requires serials { parts.serials ≡ all_serials subsystem.state }
+    requires set_up { J.setup ≡ config }
+    requires directory { parts.name.directory ≡ directory_of (opening_of config) }
+    requires serials { parts.serials ≡ all_serials (opening_of config) }
 {
-    let seated = seated::<J>(alloc, subsystem, parts)?;
+    let seated = seated::<J>(alloc, config, parts)?;
     match task {
         Task::Cycles {
             kind,
@@ -122,6 +121,5 @@ fn performed<J: Naming + Send + Sync, R: Threads + Wait + Sync>(
 pub fn perform<R: Threads + Wait + Sync>(rt: &R, alloc: Global, task: Task) -> Option<Outcome> {
     let config = config_of(alloc, task.subchannels(), task.kind().paths())?;
     let parts = Parts::new(alloc, &config).ok()?;
-    let subsystem = Subsystem::new(alloc, config, Rotating).ok()?;
-    performed::<Brand, R>(rt, alloc, subsystem, parts, task)
+    performed::<Brand, R>(rt, alloc, config, parts, task)
 }

@@ -6,7 +6,6 @@ use Rattle.chan_events.specs.declared.event.Event.{Event}
 use Rattle.chan_events.specs.declared.reply.Reply.{Reply}
 use Rattle.machine_model.specs.State.{State}
 use Rattle.path_select.specs.Choice.{Rule}
-use Rattle.core_parts.specs.Directory.{Directory}
 use Rattle.core_parts.specs.Seats.{Guarded, GuardedCore, HeldSeat, Seated}
 use Rattle.core_lock.specs.Entering.{MayRefuse, entered}
 use Rattle.core_lock.specs.Turns.{Executes, IsOfMachine, IsRefusedBy, MayStand}
@@ -20,7 +19,7 @@ may : (picks : Rule) (core : GuardedCore) (seat : HeldSeat) (e : Event) (f : Fau
 may picks core seat e f (inl r) = inl r.0
 may picks core seat e f (inr r) = inr r.0
 
-pub refused_by : (picks : Rule) (core : GuardedCore) (seat : HeldSeat) (e : Event) (result : Result Reply Fault) (left : Guarded) (after : Seated) → IsOfMachine seat.value.directory core.value → Executes picks core seat e result left after
-    → IfErr result (λ f. (s : State) × MayStand seat.value.directory s × MayRefuse s e f)
+pub refused_by : (picks : Rule) (core : GuardedCore) (seat : HeldSeat) (e : Event) (result : Result Reply Fault) (left : Guarded) (after : Seated) → IsOfMachine seat.value core.value → Executes picks core seat e result left after
+    → IfErr result (λ f. (s : State) × MayStand seat.value.setup s × MayRefuse s e f)
 refused_by picks core seat e (Ok r) left after of x = tt
 refused_by picks core seat e (Err f) left after of x = (core.value.state, (core.value.history, of.0, of.1), may picks core seat e f x.0)

@@ -1,7 +1,6 @@
 -- The names of a machine's subchannels, which no step changes.
 use Rattle.std.proofs.Common.{◌≡◌, ℕ, List, [], ◌∷◌, map, length, Option, None, Some, refl, sym, ap, ◌∙◌}
 use Rattle.std.specs.Prelude.{if◌then◌else◌, replicate}
-use Rattle.chan_events.specs.declared.reply.Entry.{Entry}
 use Rattle.channel_config.specs.declared.names.SubchannelId.{SubchannelId}
 use Rattle.channel_config.specs.declared.parts.SubchannelSetup.{SubchannelSetup}
 use Rattle.channel_config.specs.Setup.{Setup}
@@ -12,10 +11,8 @@ use Rattle.subchannel_model.proofs.Named.{one_later}
 use Rattle.subchannel_model.specs.Places.{place_in, place_of_id}
 use Rattle.machine_model.specs.State.{State, opening_of, place_of}
 use Rattle.machine_model.specs.Setups.{IsSetUp}
-use Rattle.machine_model.specs.Steps.{HasRun}
-use Rattle.subsystem.specs.Keeping.{StaysSetUp, all_serials}
+use Rattle.subsystem.specs.Keeping.{all_serials}
 use Rattle.core_parts.specs.Directory.{Directory, directory_by, directory_of, is_name, name_place, place_named, place_of_name, setup_of}
-use Rattle.core_lock.specs.Keeping.{IsNamedBy}
 use Rattle.core_parts.specs.Named.{serials}
 
 -- a name is found where its subchannel stands
@@ -33,14 +30,8 @@ place_is s word = named_stands (subchannel_named s.sets word) s.subs
 pub directory_is : (setup : Setup) (s : State) → IsSetUp setup s → directory_of s ≡ directory_by setup
 directory_is setup s i j = record { sets = i.sets j; setups = i.subs j }
 
-pub run_named : (h : List Entry) (s : State) (d : Directory) → HasRun h s → directory_of s ≡ d → IsNamedBy d s
-run_named h s d run is = (run.0.0, run.0.1, sym (directory_is run.0.0 s run.0.1) ∙ is)
-
-pub stays_named : (old new : State) (d : Directory) → StaysSetUp old new → IsNamedBy d old → IsNamedBy d new
-stays_named old new d stays (setup, i, is) = (setup, stays setup i, is)
-
-pub is_named : (s : State) (d : Directory) → IsNamedBy d s → directory_of s ≡ d
-is_named s d (setup, i, is) = directory_is setup s i ∙ is
+pub is_named : (setup : Setup) (s : State) (d : Directory) → IsSetUp setup s → directory_by setup ≡ d → directory_of s ≡ d
+is_named setup s d i is = directory_is setup s i ∙ is
 
 -- at the opening
 opened_setups : (setups : List SubchannelSetup) → map setup_of (map opened setups) ≡ setups

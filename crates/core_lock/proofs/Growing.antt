@@ -12,12 +12,12 @@ use Rattle.chan_events.specs.declared.reply.Reply.{Reply}
 use Rattle.core_parts.specs.declared.turns.KeptReport.{KeptReport}
 use Rattle.core_parts.specs.declared.turns.Turn.{Turn}
 use Rattle.core_parts.specs.declared.turns.Turn.TheVariants.{Enters, Leaves, Owes, Rests}
-use Rattle.core_parts.specs.Directory.{Directory, directory_of}
+use Rattle.channel_config.specs.Setup.{Setup}
 use Rattle.path_select.specs.Choice.{Rule}
 use Rattle.core_parts.specs.Seats.{Guarded, GuardedCore, HeldSeat, Seated, entry}
 use Rattle.core_lock.specs.Entering.{entered}
-use Rattle.core_parts.specs.Turns.{turn_of, report_event, kept_after, path_turn_among}
-use Rattle.core_lock.specs.Turns.{turned, turned_seat, emptied_seat, turn_of_path, with_kept, with_left, with_owed, Tries, Passes, HandsIn, TakesTurn, TakesUnitTurn, TakesPathTurn, MayStand, MayTurn, IsOfPath, IsOfWorker, Grew, IsKeptFrom, IsOwedBy, WorksPath, WorksUnit, count_in}
+use Rattle.core_parts.specs.Turns.{turn_of, report_event, kept_after}
+use Rattle.core_lock.specs.Turns.{turned_seat, emptied_seat, turn_of_path, with_left, with_owed, Tries, Passes, HandsIn, TakesTurn, TakesUnitTurn, TakesPathTurn, MayStand, MayTurn, IsOfPath, IsOfWorker, Grew, IsKeptFrom, IsOwedBy, WorksPath, WorksUnit, count_in}
 
 all_none : (P : Entry → Type 0) → All P []
 all_none P k d lt = absurd (omega arith)
@@ -58,26 +58,28 @@ module _ {A : Type 0} (f : Seated → A) (stays : (s : Seated) (e : Event) (r : 
   tries_same picks old seat last e (Err fault) new after same (may, core, is) = ap f is
 
 -- what turns of a path's worker leave
-takes_path_turn : (picks : Rule) (chpid : ℕ) (old : GuardedCore) (seat : HeldSeat) (o : Option Event) (result : Result Bool Fault) (new : Guarded) (after : Seated) → ((e : Event) → o ≡ Some e → IsOfPath seat.value.directory chpid e) → TakesPathTurn picks old seat o result new after → WorksPath chpid seat.value after (count_in result)
+takes_path_turn : (picks : Rule) (chpid : ℕ) (old : GuardedCore) (seat : HeldSeat) (o : Option Event) (result : Result Bool Fault) (new : Guarded) (after : Seated) → ((e : Event) → o ≡ Some e → IsOfPath seat.value.setup chpid e) → TakesPathTurn picks old seat o result new after → WorksPath chpid seat.value after (count_in result)
 takes_path_turn picks chpid old seat None result new after all t = record {
   number = ap (λ (s : Seated). s.number) t.2;
+  setup = ap (λ (s : Seated). s.setup) t.2;
   directory = ap (λ (s : Seated). s.directory) t.2;
   owed = ap (λ (s : Seated). s.owed) t.2;
-  log = passes_grows (IsOfPath seat.value.directory chpid) old seat.value result new after t;
+  log = passes_grows (IsOfPath seat.value.setup chpid) old seat.value result new after t;
 }
 takes_path_turn picks chpid old seat (Some e) result new after all t = record {
   number = tries_same (λ (s : Seated). s.number) (λ s x r. refl) picks old seat seat.value e result new after refl t;
+  setup = tries_same (λ (s : Seated). s.setup) (λ s x r. refl) picks old seat seat.value e result new after refl t;
   directory = tries_same (λ (s : Seated). s.directory) (λ s x r. refl) picks old seat seat.value e result new after refl t;
   owed = tries_same (λ (s : Seated). s.owed) (λ s x r. refl) picks old seat seat.value e result new after refl t;
-  log = tries_grows (IsOfPath seat.value.directory chpid) picks old seat seat.value e result new after refl (all e refl) t;
+  log = tries_grows (IsOfPath seat.value.setup chpid) picks old seat seat.value e result new after refl (all e refl) t;
 }
 
-pub path_works : (picks : Rule) (old : GuardedCore) (seat : HeldSeat) (chpid : ℕ) (result : Result Bool Fault) (new : Guarded) (after : Seated) → MayStand seat.value.directory old.value.state → TakesPathTurn picks old (turned_seat seat) (turn_of_path old.value.state chpid) result new after → WorksPath chpid seat.value after (count_in result)
+pub path_works : (picks : Rule) (old : GuardedCore) (seat : HeldSeat) (chpid : ℕ) (result : Result Bool Fault) (new : Guarded) (after : Seated) → MayStand seat.value.setup old.value.state → TakesPathTurn picks old (turned_seat seat) (turn_of_path old.value.state chpid) result new after → WorksPath chpid seat.value after (count_in result)
 path_works picks old seat chpid result new after stands t =
-    let among : (e : Event) → turn_of_path old.value.state chpid ≡ Some e → IsOfPath seat.value.directory chpid e =
-    λ e is. (old.value.state, stands, subst (λ (d : Directory). path_turn_among old.value.state chpid d.setups ≡ Some e) stands.2 is) in
+    let among : (e : Event) → turn_of_path old.value.state chpid ≡ Some e → IsOfPath seat.value.setup chpid e =
+    λ e is. (old.value.state, stands, is) in
     let w = takes_path_turn picks chpid old (turned_seat seat) (turn_of_path old.value.state chpid) result new after among t in
-    record { number = w.number; directory = w.directory; owed = w.owed; log = w.log }
+    record { number = w.number; setup = w.setup; directory = w.directory; owed = w.owed; log = w.log }
 
 -- a turn of a path's worker is counted by itself
 pub path_turns : (picks : Rule) (old : GuardedCore) (seat : HeldSeat) (o : Option Event) (result : Result Bool Fault) (new : Guarded) (after : Seated) → TakesPathTurn picks old seat o result new after → after.turns ≡ seat.value.turns
@@ -85,7 +87,7 @@ path_turns picks old seat None result new after t = ap (λ (s : Seated). s.turns
 path_turns picks old seat (Some e) result new after t = tries_same (λ (s : Seated). s.turns) (λ s x r. refl) picks old seat seat.value e result new after refl t
 
 -- what turns of a unit's worker leave
-module _ (d : Directory) (roam : Bool) (at : ℕ) where
+module _ (d : Setup) (roam : Bool) (at : ℕ) where
   none_kept : (old now : Option KeptReport) → now ≡ None → IsKeptFrom d roam at old now
   none_kept old now is = subst (λ (o : Option KeptReport). IsKeptFrom d roam at old o) (sym is) tt
 
@@ -114,98 +116,107 @@ module _ (d : Directory) (roam : Bool) (at : ℕ) where
   of_worker a b e p (inl is) = inl is
   of_worker a b e p (inr (kept, from, is)) = inr (kept, kept_on a b (Some kept) p from, is)
 
-takes_turn : (picks : Rule) (old : GuardedCore) (seat : HeldSeat) (roam : Bool) (at : ℕ) (t : Turn) (result : Result Bool Fault) (new : Guarded) (after : Seated) → MayTurn seat.value.directory roam at t → seat.value.kept ≡ None → TakesTurn picks old seat t result new after → WorksUnit roam at seat.value after (count_in result)
+takes_turn : (picks : Rule) (old : GuardedCore) (seat : HeldSeat) (roam : Bool) (at : ℕ) (t : Turn) (result : Result Bool Fault) (new : Guarded) (after : Seated) → MayTurn seat.value.setup roam at t → seat.value.kept ≡ None → TakesTurn picks old seat t result new after → WorksUnit roam at seat.value after (count_in result)
 takes_turn picks old seat roam at (Enters e) result new after may none t = record {
   number = tries_same (λ (s : Seated). s.number) (λ s x r. refl) picks old seat seat.value e result new after refl t;
+  setup = tries_same (λ (s : Seated). s.setup) (λ s x r. refl) picks old seat seat.value e result new after refl t;
   directory = tries_same (λ (s : Seated). s.directory) (λ s x r. refl) picks old seat seat.value e result new after refl t;
-  kept = none_kept seat.value.directory roam at seat.value.kept after.kept (tries_same (λ (s : Seated). s.kept) (λ s x r. refl) picks old seat seat.value e result new after refl t ∙ none);
-  log = tries_grows (IsOfWorker seat.value.directory roam at seat.value.kept) picks old seat seat.value e result new after refl (inl (Enters e, may, refl)) t;
+  kept = none_kept seat.value.setup roam at seat.value.kept after.kept (tries_same (λ (s : Seated). s.kept) (λ s x r. refl) picks old seat seat.value e result new after refl t ∙ none);
+  log = tries_grows (IsOfWorker seat.value.setup roam at seat.value.kept) picks old seat seat.value e result new after refl (inl (Enters e, may, refl)) t;
 }
 takes_turn picks old seat roam at (Leaves command) result new after may none t =
     let last = with_left seat.value (Some command) in
     let e = event.Act command.«unit» act.Leave in
     record {
       number = tries_same (λ (s : Seated). s.number) (λ s x r. refl) picks old seat last e result new after refl t;
+      setup = tries_same (λ (s : Seated). s.setup) (λ s x r. refl) picks old seat last e result new after refl t;
       directory = tries_same (λ (s : Seated). s.directory) (λ s x r. refl) picks old seat last e result new after refl t;
-      kept = none_kept seat.value.directory roam at seat.value.kept after.kept (tries_same (λ (s : Seated). s.kept) (λ s x r. refl) picks old seat last e result new after refl t ∙ none);
-      log = tries_grows (IsOfWorker seat.value.directory roam at seat.value.kept) picks old seat last e result new after refl (inl (Leaves command, may, refl)) t;
+      kept = none_kept seat.value.setup roam at seat.value.kept after.kept (tries_same (λ (s : Seated). s.kept) (λ s x r. refl) picks old seat last e result new after refl t ∙ none);
+      log = tries_grows (IsOfWorker seat.value.setup roam at seat.value.kept) picks old seat last e result new after refl (inl (Leaves command, may, refl)) t;
     }
 takes_turn picks old seat roam at (Owes owed) result new after may none t = record {
   number = ap (λ (s : Seated). s.number) t.2;
+  setup = ap (λ (s : Seated). s.setup) t.2;
   directory = ap (λ (s : Seated). s.directory) t.2;
-  kept = none_kept seat.value.directory roam at seat.value.kept after.kept (ap (λ (s : Seated). s.kept) t.2 ∙ none);
-  log = passes_grows (IsOfWorker seat.value.directory roam at seat.value.kept) old (with_owed seat.value (Some owed)) result new after t;
+  kept = none_kept seat.value.setup roam at seat.value.kept after.kept (ap (λ (s : Seated). s.kept) t.2 ∙ none);
+  log = passes_grows (IsOfWorker seat.value.setup roam at seat.value.kept) old (with_owed seat.value (Some owed)) result new after t;
 }
 takes_turn picks old seat roam at Rests result new after may none t = record {
   number = ap (λ (s : Seated). s.number) t.2;
+  setup = ap (λ (s : Seated). s.setup) t.2;
   directory = ap (λ (s : Seated). s.directory) t.2;
-  kept = none_kept seat.value.directory roam at seat.value.kept after.kept (ap (λ (s : Seated). s.kept) t.2 ∙ none);
-  log = passes_grows (IsOfWorker seat.value.directory roam at seat.value.kept) old seat.value result new after t;
+  kept = none_kept seat.value.setup roam at seat.value.kept after.kept (ap (λ (s : Seated). s.kept) t.2 ∙ none);
+  log = passes_grows (IsOfWorker seat.value.setup roam at seat.value.kept) old seat.value result new after t;
 }
 
 -- what is handed in
 pub record Handed (roam : Bool) (at : ℕ) (report : KeptReport) (seat after : Seated) (count : ℕ) : Type 0 where
   pub number : after.number ≡ seat.number
+  pub setup : after.setup ≡ seat.setup
   pub directory : after.directory ≡ seat.directory
   pub owed : after.owed ≡ seat.owed
-  pub kept : IsKeptFrom seat.directory roam at (Some report) after.kept
-  pub log : Grew (IsOfWorker seat.directory roam at (Some report)) seat.log after.log count
+  pub kept : IsKeptFrom seat.setup roam at (Some report) after.kept
+  pub log : Grew (IsOfWorker seat.setup roam at (Some report)) seat.log after.log count
 
 handed : (picks : Rule) (old : GuardedCore) (seat : HeldSeat) (roam : Bool) (at : ℕ) (kept : KeptReport) (result : Result Bool Fault) (new : Guarded) (after : Seated) → seat.value.kept ≡ None → HandsIn picks old seat kept result new after → Handed roam at kept seat.value after (count_in result)
 handed picks old seat roam at kept (Ok true) new after none (r, enters) = record {
   number = ap (λ (s : Seated). s.number) enters.0.3;
+  setup = ap (λ (s : Seated). s.setup) enters.0.3;
   directory = ap (λ (s : Seated). s.directory) enters.0.3;
   owed = ap (λ (s : Seated). s.owed) enters.0.3;
-  kept = none_kept seat.value.directory roam at (Some kept) after.kept (ap (λ (s : Seated). s.kept) enters.0.3 ∙ none);
-  log = grew_one (IsOfWorker seat.value.directory roam at (Some kept)) seat.value.log after.log (report_event kept) r (ap (λ (s : Seated). s.log) enters.0.3) (inr (kept, inr refl, refl));
+  kept = none_kept seat.value.setup roam at (Some kept) after.kept (ap (λ (s : Seated). s.kept) enters.0.3 ∙ none);
+  log = grew_one (IsOfWorker seat.value.setup roam at (Some kept)) seat.value.log after.log (report_event kept) r (ap (λ (s : Seated). s.log) enters.0.3) (inr (kept, inr refl, refl));
 }
 handed picks old seat roam at kept (Ok false) new after none (may, core, is) = record {
   number = ap (λ (s : Seated). s.number) is;
+  setup = ap (λ (s : Seated). s.setup) is;
   directory = ap (λ (s : Seated). s.directory) is;
   owed = ap (λ (s : Seated). s.owed) is;
-  kept = none_kept seat.value.directory roam at (Some kept) after.kept (ap (λ (s : Seated). s.kept) is);
-  log = grew_none (IsOfWorker seat.value.directory roam at (Some kept)) seat.value.log after.log (ap (λ (s : Seated). s.log) is);
+  kept = none_kept seat.value.setup roam at (Some kept) after.kept (ap (λ (s : Seated). s.kept) is);
+  log = grew_none (IsOfWorker seat.value.setup roam at (Some kept)) seat.value.log after.log (ap (λ (s : Seated). s.log) is);
 }
 handed picks old seat roam at kept (Err f) new after none (other, may, core, is) = record {
   number = ap (λ (s : Seated). s.number) is;
+  setup = ap (λ (s : Seated). s.setup) is;
   directory = ap (λ (s : Seated). s.directory) is;
   owed = ap (λ (s : Seated). s.owed) is;
-  kept = kept_by seat.value.directory roam at kept f after.kept (ap (λ (s : Seated). s.kept) is);
-  log = grew_none (IsOfWorker seat.value.directory roam at (Some kept)) seat.value.log after.log (ap (λ (s : Seated). s.log) is);
+  kept = kept_by seat.value.setup roam at kept f after.kept (ap (λ (s : Seated). s.kept) is);
+  log = grew_none (IsOfWorker seat.value.setup roam at (Some kept)) seat.value.log after.log (ap (λ (s : Seated). s.log) is);
 }
 
-unit_turn_works : (picks : Rule) (old : GuardedCore) (seat : HeldSeat) (k : Option KeptReport) (at : ℕ) (roam : Bool) (result : Result Bool Fault) (new : Guarded) (after : Seated) → MayStand seat.value.directory old.value.state → seat.value.kept ≡ k → TakesUnitTurn picks old (turned_seat seat) k at roam result new after → WorksUnit roam at seat.value after (count_in result)
+unit_turn_works : (picks : Rule) (old : GuardedCore) (seat : HeldSeat) (k : Option KeptReport) (at : ℕ) (roam : Bool) (result : Result Bool Fault) (new : Guarded) (after : Seated) → MayStand seat.value.setup old.value.state → seat.value.kept ≡ k → TakesUnitTurn picks old (turned_seat seat) k at roam result new after → WorksUnit roam at seat.value after (count_in result)
 unit_turn_works picks old seat None at roam result new after stands is t =
     let w = takes_turn picks old (turned_seat seat) roam at (turn_of roam seat.value.left at old.value.state) result new after (old.value.state, stands, seat.value.left, refl) is t in
-    record { number = w.number; directory = w.directory; kept = w.kept; log = w.log }
+    record { number = w.number; setup = w.setup; directory = w.directory; kept = w.kept; log = w.log }
 unit_turn_works picks old seat (Some kept) at roam result new after stands is t =
     let w = handed picks old (emptied_seat (turned_seat seat)) roam at kept result new after refl t in
     record {
       number = w.number;
+      setup = w.setup;
       directory = w.directory;
-      kept = subst (λ (o : Option KeptReport). IsKeptFrom seat.value.directory roam at o after.kept) (sym is) w.kept;
-      log = subst (λ (o : Option KeptReport). Grew (IsOfWorker seat.value.directory roam at o) seat.value.log after.log (count_in result)) (sym is) w.log;
+      kept = subst (λ (o : Option KeptReport). IsKeptFrom seat.value.setup roam at o after.kept) (sym is) w.kept;
+      log = subst (λ (o : Option KeptReport). Grew (IsOfWorker seat.value.setup roam at o) seat.value.log after.log (count_in result)) (sym is) w.log;
     }
 
-pub unit_works : (picks : Rule) (old : GuardedCore) (seat : HeldSeat) (at : ℕ) (roam : Bool) (result : Result Bool Fault) (new : Guarded) (after : Seated) → MayStand seat.value.directory old.value.state → TakesUnitTurn picks old (turned_seat seat) seat.value.kept at roam result new after → WorksUnit roam at seat.value after (count_in result)
+pub unit_works : (picks : Rule) (old : GuardedCore) (seat : HeldSeat) (at : ℕ) (roam : Bool) (result : Result Bool Fault) (new : Guarded) (after : Seated) → MayStand seat.value.setup old.value.state → TakesUnitTurn picks old (turned_seat seat) seat.value.kept at roam result new after → WorksUnit roam at seat.value after (count_in result)
 unit_works picks old seat at roam result new after stands t = unit_turn_works picks old seat seat.value.kept at roam result new after stands refl t
 
 -- what is owed after a turn
-turn_owed : (picks : Rule) (old : GuardedCore) (seat : HeldSeat) (roam : Bool) (at : ℕ) (t : Turn) (result : Result Bool Fault) (new : Guarded) (after : Seated) → MayTurn seat.value.directory roam at t → seat.value.owed ≡ None → TakesTurn picks old seat t result new after → IsOwedBy seat.value.directory roam at after.owed
+turn_owed : (picks : Rule) (old : GuardedCore) (seat : HeldSeat) (roam : Bool) (at : ℕ) (t : Turn) (result : Result Bool Fault) (new : Guarded) (after : Seated) → MayTurn seat.value.setup roam at t → seat.value.owed ≡ None → TakesTurn picks old seat t result new after → IsOwedBy seat.value.setup roam at after.owed
 turn_owed picks old seat roam at (Enters e) result new after may none t =
-    subst (IsOwedBy seat.value.directory roam at) (sym (tries_same (λ (s : Seated). s.owed) (λ s x r. refl) picks old seat seat.value e result new after refl t ∙ none)) tt
+    subst (IsOwedBy seat.value.setup roam at) (sym (tries_same (λ (s : Seated). s.owed) (λ s x r. refl) picks old seat seat.value e result new after refl t ∙ none)) tt
 turn_owed picks old seat roam at (Leaves command) result new after may none t =
-    subst (IsOwedBy seat.value.directory roam at) (sym (tries_same (λ (s : Seated). s.owed) (λ s x r. refl) picks old seat (with_left seat.value (Some command)) (event.Act command.«unit» act.Leave) result new after refl t ∙ none)) tt
-turn_owed picks old seat roam at (Owes owed) result new after may none t = subst (IsOwedBy seat.value.directory roam at) (sym (ap (λ (s : Seated). s.owed) t.2)) may
-turn_owed picks old seat roam at Rests result new after may none t = subst (IsOwedBy seat.value.directory roam at) (sym (ap (λ (s : Seated). s.owed) t.2 ∙ none)) tt
+    subst (IsOwedBy seat.value.setup roam at) (sym (tries_same (λ (s : Seated). s.owed) (λ s x r. refl) picks old seat (with_left seat.value (Some command)) (event.Act command.«unit» act.Leave) result new after refl t ∙ none)) tt
+turn_owed picks old seat roam at (Owes owed) result new after may none t = subst (IsOwedBy seat.value.setup roam at) (sym (ap (λ (s : Seated). s.owed) t.2)) may
+turn_owed picks old seat roam at Rests result new after may none t = subst (IsOwedBy seat.value.setup roam at) (sym (ap (λ (s : Seated). s.owed) t.2 ∙ none)) tt
 
-unit_turn_owed : (picks : Rule) (old : GuardedCore) (seat : HeldSeat) (k : Option KeptReport) (at : ℕ) (roam : Bool) (result : Result Bool Fault) (new : Guarded) (after : Seated) → MayStand seat.value.directory old.value.state → seat.value.owed ≡ None → TakesUnitTurn picks old seat k at roam result new after → IsOwedBy seat.value.directory roam at after.owed
+unit_turn_owed : (picks : Rule) (old : GuardedCore) (seat : HeldSeat) (k : Option KeptReport) (at : ℕ) (roam : Bool) (result : Result Bool Fault) (new : Guarded) (after : Seated) → MayStand seat.value.setup old.value.state → seat.value.owed ≡ None → TakesUnitTurn picks old seat k at roam result new after → IsOwedBy seat.value.setup roam at after.owed
 unit_turn_owed picks old seat None at roam result new after stands none t =
     turn_owed picks old seat roam at (turn_of roam seat.value.left at old.value.state) result new after (old.value.state, stands, seat.value.left, refl) none t
 unit_turn_owed picks old seat (Some kept) at roam result new after stands none t =
-    subst (IsOwedBy seat.value.directory roam at) (sym ((handed picks old (emptied_seat seat) roam at kept result new after refl t).owed ∙ none)) tt
+    subst (IsOwedBy seat.value.setup roam at) (sym ((handed picks old (emptied_seat seat) roam at kept result new after refl t).owed ∙ none)) tt
 
-pub unit_owed : (picks : Rule) (old : GuardedCore) (seat : HeldSeat) (at : ℕ) (roam : Bool) (result : Result Bool Fault) (new : Guarded) (after : Seated) → MayStand seat.value.directory old.value.state → seat.value.owed ≡ None → TakesUnitTurn picks old (turned_seat seat) seat.value.kept at roam result new after → IsOwedBy seat.value.directory roam at after.owed
+pub unit_owed : (picks : Rule) (old : GuardedCore) (seat : HeldSeat) (at : ℕ) (roam : Bool) (result : Result Bool Fault) (new : Guarded) (after : Seated) → MayStand seat.value.setup old.value.state → seat.value.owed ≡ None → TakesUnitTurn picks old (turned_seat seat) seat.value.kept at roam result new after → IsOwedBy seat.value.setup roam at after.owed
 unit_owed picks old seat at roam result new after stands none t = unit_turn_owed picks old (turned_seat seat) seat.value.kept at roam result new after stands none t
 
 -- a turn is counted by itself: what it is for adds none
@@ -228,20 +239,22 @@ unit_turns picks old seat (Some kept) at roam result new after t = hands_turns p
 -- turn after turn
 pub works_more : (roam : Bool) (at : ℕ) (a b c : Seated) (m n : ℕ) → WorksUnit roam at a b m → WorksUnit roam at b c n → WorksUnit roam at a c (m + n)
 works_more roam at a b c m n p q =
-    let kept = subst (λ (d : Directory). IsKeptFrom d roam at b.kept c.kept) p.directory q.kept in
-    let log = subst (λ (d : Directory). Grew (IsOfWorker d roam at b.kept) b.log c.log n) p.directory q.log in
+    let kept = subst (λ (d : Setup). IsKeptFrom d roam at b.kept c.kept) p.setup q.kept in
+    let log = subst (λ (d : Setup). Grew (IsOfWorker d roam at b.kept) b.log c.log n) p.setup q.log in
     record {
       number = q.number ∙ p.number;
+      setup = q.setup ∙ p.setup;
       directory = q.directory ∙ p.directory;
-      kept = kept_on a.directory roam at a.kept b.kept c.kept p.kept kept;
-      log = grew_more (IsOfWorker a.directory roam at a.kept) a.log b.log c.log m n p.log
-          (grew_wider (IsOfWorker a.directory roam at b.kept) (IsOfWorker a.directory roam at a.kept) b.log c.log n (λ e. of_worker a.directory roam at a.kept b.kept e p.kept) log);
+      kept = kept_on a.setup roam at a.kept b.kept c.kept p.kept kept;
+      log = grew_more (IsOfWorker a.setup roam at a.kept) a.log b.log c.log m n p.log
+          (grew_wider (IsOfWorker a.setup roam at b.kept) (IsOfWorker a.setup roam at a.kept) b.log c.log n (λ e. of_worker a.setup roam at a.kept b.kept e p.kept) log);
     }
 
 pub paths_more : (chpid : ℕ) (a b c : Seated) (m n : ℕ) → WorksPath chpid a b m → WorksPath chpid b c n → WorksPath chpid a c (m + n)
 paths_more chpid a b c m n p q = record {
   number = q.number ∙ p.number;
+  setup = q.setup ∙ p.setup;
   directory = q.directory ∙ p.directory;
   owed = q.owed ∙ p.owed;
-  log = grew_more (IsOfPath a.directory chpid) a.log b.log c.log m n p.log (subst (λ (d : Directory). Grew (IsOfPath d chpid) b.log c.log n) p.directory q.log);
+  log = grew_more (IsOfPath a.setup chpid) a.log b.log c.log m n p.log (subst (λ (d : Setup). Grew (IsOfPath d chpid) b.log c.log n) p.setup q.log);
 }

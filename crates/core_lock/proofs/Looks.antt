@@ -7,7 +7,7 @@ use Rattle.std.proofs.Math.Seq.{map-set_same}
 use Rattle.scsw_irb.specs.declared.serials.Serials.{Serials}
 use Rattle.subchannel_model.specs.declared.state.Subchannel.{Subchannel}
 use Rattle.subchannel_model.specs.Places.{sub_at}
-use Rattle.machine_model.specs.State.{State, place_of, serials_in, sub_of}
+use Rattle.machine_model.specs.State.{State, serials_in, sub_of}
 use Rattle.subsystem.specs.Keeping.{all_serials}
 use Rattle.glance_cell.specs.Shown.{Words}
 use Rattle.core_parts.specs.Directory.{Directory, directory_of, place_named}

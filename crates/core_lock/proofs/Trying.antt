@@ -1,16 +1,15 @@
 -- What comes of an event that is tried, from what each clause of entering says of it.
 use Rattle.std.proofs.Common.{◌≡◌, ◌≢◌, ◌++◌, [], ◌∷◌, Bool, true, Result, Ok, Err, refl, sym, subst, inl, inr}
-use Rattle.std.specs.Prelude.{IfOk, IfErr, OnErr, OnOk}
+use Rattle.std.specs.Prelude.{IfOk, IfErr, OnErr}
 use Rattle.chan_model.specs.declared.fault.Fault.{Fault}
 use Rattle.chan_model.specs.declared.fault.Fault.TheVariants as fault
 use Rattle.chan_events.specs.declared.event.Event.{Event}
 use Rattle.chan_events.specs.declared.reply.Reply.{Reply}
 use Rattle.machine_model.specs.Ruled.{GoesByRule}
-use Rattle.machine_model.specs.State.{State}
 use Rattle.machine_model.specs.Steps.{IsRefused, Step}
 use Rattle.path_select.specs.Choice.{Rule}
-use Rattle.core_parts.specs.Seats.{Guarded, GuardedCore, HeldSeat, Seated, entry}
-use Rattle.core_lock.specs.Entering.{Enters, LacksRoom, MayRefuse, entered}
+use Rattle.core_parts.specs.Seats.{Guarded, GuardedCore, HeldSeat, entry}
+use Rattle.core_lock.specs.Entering.{LacksRoom, MayRefuse, entered}
 use Rattle.core_lock.specs.Turns.{Executes, IsRefusedBy, Tries}
 
 abbrev failed : Fault → Result Reply Fault

@@ -4,15 +4,11 @@ use Rattle.scsw_irb.specs.declared.serials.Serials.{Serials}
 use Rattle.chan_events.specs.declared.reply.Entry.{Entry}
 use Rattle.channel_config.specs.Setup.{Setup}
 use Rattle.glance_cell.specs.Shown.{Words}
-use Rattle.machine_model.specs.State.{Past, State}
+use Rattle.machine_model.specs.State.{Past}
 use Rattle.machine_model.specs.Setups.{IsSetUp}
 use Rattle.subsystem.specs.Keeping.{IsOrdered, all_serials}
 use Rattle.core_parts.specs.Directory.{Directory, directory_by}
 use Rattle.core_parts.specs.Named.{MachineName, cells_of, shown}
-
--- a set-up that the machine has gives it these subchannels
-abbrev pub IsNamedBy : Directory → State → Type 0
-IsNamedBy directory s = (setup : Setup) × IsSetUp setup s × (directory_by setup ≡ directory)
 
 -- how many parts of a ledger, and how much of what it counts, a share has
 pub record Part : Type 0 where
@@ -23,15 +19,16 @@ pub record Part : Type 0 where
 abbrev pub IsRest : Part → ℕ → Type 0
 IsRest rest seats = (rest.parts + seats ≡ 1025) × (rest.amount ≡ 0)
 
--- what the lock of a machine guards, whose past and cells are these: each entry has its seat, and the ledger counts the entries;
--- each writer's view is the counts of its subchannel
-pub record IsGuarded (past : Past) (by : List ℕ) (counted : ℕ) (writers : List Words) (held : Directory) (name : MachineName) : Type 0 where
+-- what the lock of a machine guards, whose past and cells are these: it is set up as it is named; each entry has its seat, and the
+-- ledger counts the entries; each writer's view is the counts of its subchannel
+pub record IsGuarded (past : Past) (by : List ℕ) (counted : ℕ) (writers : List Words) (held : Directory) (setup : Setup) (name : MachineName) : Type 0 where
   pub beside : length by ≡ length past.history
   pub entries : counted ≡ length past.history
   pub shown : shown writers ≡ all_serials past.state
   pub cells : cells_of writers ≡ name.cells
   pub directory : held ≡ name.directory
-  pub named : IsNamedBy name.directory past.state
+  pub set_up : IsSetUp setup past.state
+  pub named : directory_by setup ≡ name.directory
 
 -- the seats that can still be made, of which so many were made: the rest of both ledgers
 pub record IsStock (made : ℕ) (left turns_left : Part) : Type 0 where

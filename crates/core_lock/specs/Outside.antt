@@ -1,5 +1,5 @@
 -- What is told outside a lock of what was done under it (own).
-use Rattle.std.specs.Prelude.{◌≡◌, ℕ, Bool, Result}
+use Rattle.std.specs.Prelude.{ℕ, Bool, Result}
 use Rattle.chan_model.specs.declared.fault.Fault.{Fault}
 use Rattle.chan_events.specs.declared.event.Event.{Event}
 use Rattle.chan_events.specs.declared.reply.Reply.{Reply}
@@ -11,19 +11,19 @@ use Rattle.core_lock.specs.Turns.{Executes, IsOfMachine, TakesPathTurn, TakesUni
 pub record IsExecuted (picks : Rule) (old : HeldSeat) (e : Event) (result : Result Reply Fault) (new : Seated) : Type 0 where
   pub core : GuardedCore
   pub left : Guarded
-  pub of_machine : IsOfMachine old.value.directory core.value
+  pub of_machine : IsOfMachine old.value core.value
   pub executes : Executes picks core old e result left new
 
 -- a turn of a channel path's worker, at the machine of its seat as it stood when the lock was got
 pub record IsPathTurn (picks : Rule) (chpid : ℕ) (old : HeldSeat) (result : Result Bool Fault) (new : Seated) : Type 0 where
   pub core : GuardedCore
   pub left : Guarded
-  pub of_machine : IsOfMachine old.value.directory core.value
+  pub of_machine : IsOfMachine old.value core.value
   pub turn : TakesPathTurn picks core (turned_seat old) (turn_of_path core.value.state chpid) result left new
 
 -- a turn of a unit's worker under the lock, at the machine of its seat as it stood when the lock was got
 pub record IsUnitTurn (picks : Rule) (roam : Bool) (at : ℕ) (old : HeldSeat) (result : Result Bool Fault) (new : Seated) : Type 0 where
   pub core : GuardedCore
   pub left : Guarded
-  pub of_machine : IsOfMachine old.value.directory core.value
+  pub of_machine : IsOfMachine old.value core.value
   pub turn : TakesUnitTurn picks core (turned_seat old) old.value.kept at roam result left new

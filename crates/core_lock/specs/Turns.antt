@@ -10,6 +10,8 @@ use Rattle.chan_events.specs.declared.event.UnitAct.TheVariants as act
 use Rattle.chan_events.specs.declared.reply.Entry.{Entry}
 use Rattle.chan_events.specs.declared.reply.Reply.{Reply}
 use Rattle.machine_model.specs.Ruled.{GoesByRule}
+use Rattle.channel_config.specs.Setup.{Setup}
+use Rattle.machine_model.specs.Setups.{IsSetUp}
 use Rattle.machine_model.specs.State.{State}
 use Rattle.machine_model.specs.Steps.{HasRun, IsRefused}
 use Rattle.path_select.specs.Choice.{Rule}
@@ -18,7 +20,7 @@ use Rattle.core_parts.specs.declared.turns.KeptReport.{KeptReport}
 use Rattle.core_parts.specs.declared.turns.TakenCommand.{TakenCommand}
 use Rattle.core_parts.specs.declared.turns.Turn.{Turn}
 use Rattle.core_parts.specs.declared.turns.Turn.TheVariants.{Enters, Leaves, Owes, Rests}
-use Rattle.core_parts.specs.Directory.{Directory, directory_of}
+use Rattle.core_parts.specs.Directory.{directory_of}
 use Rattle.core_parts.specs.Seats.{Guarded, GuardedCore, HeldSeat, Seated}
 use Rattle.core_parts.specs.Turns.{kept_after, path_turn_among, report_event, turn_of}
 use Rattle.core_lock.specs.Entering as entering
@@ -118,21 +120,21 @@ Calls passes answers old device new after =
     × passes owed.«unit» (one_call_more old.calls) × answers device owed.call answer after
     × (new ≡ record old { calls = one_call_more old.calls; owed = None; kept = Some (report_of owed answer) })
 
--- what a lock guards is of a machine with these subchannels: its history led to its state
-abbrev pub IsOfMachine : Directory → Guarded → Type 0
-IsOfMachine directory core = HasRun core.history core.state × (directory_of core.state ≡ directory)
+-- what a lock guards is of the machine of this seat: its history led to its state, it is set up so, and these are its subchannels
+abbrev pub IsOfMachine : Seated → Guarded → Type 0
+IsOfMachine seat core = HasRun core.history core.state × IsSetUp seat.setup core.state × (directory_of core.state ≡ seat.directory)
 
--- a history of a machine with these subchannels may lead to this state
-abbrev pub MayStand : Directory → State → Type 0
-MayStand directory s = (h : List Entry) × HasRun h s × (directory_of s ≡ directory)
+-- a history of a machine that is set up so may lead to this state
+abbrev pub MayStand : Setup → State → Type 0
+MayStand setup s = (h : List Entry) × HasRun h s × IsSetUp setup s
 
 -- a turn of a channel path's worker may be this event: in such a state it is the first that there is for a subchannel
-abbrev pub IsOfPath : Directory → ℕ → Event → Type 0
-IsOfPath directory chpid e = (s : State) × MayStand directory s × (path_turn_among s chpid directory.setups ≡ Some e)
+abbrev pub IsOfPath : Setup → ℕ → Event → Type 0
+IsOfPath setup chpid e = (s : State) × MayStand setup s × (turn_of_path s chpid ≡ Some e)
 
 -- a turn of a unit's worker may be for this: in such a state, after some command for which the unit left its path last
-abbrev pub MayTurn : Directory → Bool → ℕ → Turn → Type 0
-MayTurn directory roam at turn = (s : State) × MayStand directory s × (left : Option TakenCommand) × (turn_of roam left at s ≡ turn)
+abbrev pub MayTurn : Setup → Bool → ℕ → Turn → Type 0
+MayTurn setup roam at turn = (s : State) × MayStand setup s × (left : Option TakenCommand) × (turn_of roam left at s ≡ turn)
 
 -- the event that a turn enters
 abbrev pub IsEnteredBy : Turn → Event → Type 0
@@ -141,28 +143,28 @@ IsEnteredBy (Leaves command) e = e ≡ event.Act command.«unit» act.Leave
 IsEnteredBy turn e = ⊥
 
 -- the report of what a device answered to a call that such a turn owed
-abbrev pub IsAnswer : Directory → Bool → ℕ → KeptReport → Type 0
-IsAnswer directory roam at kept =
-    (owed : OwedCall) × (answer : DeviceAnswer) × MayTurn directory roam at (Owes owed) × (kept ≡ report_of owed answer)
+abbrev pub IsAnswer : Setup → Bool → ℕ → KeptReport → Type 0
+IsAnswer setup roam at kept =
+    (owed : OwedCall) × (answer : DeviceAnswer) × MayTurn setup roam at (Owes owed) × (kept ≡ report_of owed answer)
 
 -- a report that is kept in the end was kept before, or answers a call of such a turn; a call that is owed is of such a turn
-abbrev pub IsKeptFrom : Directory → Bool → ℕ → Option KeptReport → Option KeptReport → Type 0
-IsKeptFrom directory roam at old None = Unit {0}
-IsKeptFrom directory roam at old (Some kept) = IsAnswer directory roam at kept ⊎ (old ≡ Some kept)
+abbrev pub IsKeptFrom : Setup → Bool → ℕ → Option KeptReport → Option KeptReport → Type 0
+IsKeptFrom setup roam at old None = Unit {0}
+IsKeptFrom setup roam at old (Some kept) = IsAnswer setup roam at kept ⊎ (old ≡ Some kept)
 
-abbrev pub IsOwedBy : Directory → Bool → ℕ → Option OwedCall → Type 0
-IsOwedBy directory roam at None = Unit {0}
-IsOwedBy directory roam at (Some owed) = MayTurn directory roam at (Owes owed)
+abbrev pub IsOwedBy : Setup → Bool → ℕ → Option OwedCall → Type 0
+IsOwedBy setup roam at None = Unit {0}
+IsOwedBy setup roam at (Some owed) = MayTurn setup roam at (Owes owed)
 
 -- an event of a unit's worker is that of a turn, or the report that its seat keeps
-abbrev pub IsTurnEvent : Directory → Bool → ℕ → Event → Type 0
-IsTurnEvent directory roam at e = (turn : Turn) × MayTurn directory roam at turn × IsEnteredBy turn e
+abbrev pub IsTurnEvent : Setup → Bool → ℕ → Event → Type 0
+IsTurnEvent setup roam at e = (turn : Turn) × MayTurn setup roam at turn × IsEnteredBy turn e
 
-abbrev pub IsHandedIn : Directory → Bool → ℕ → Option KeptReport → Event → Type 0
-IsHandedIn directory roam at old e = (kept : KeptReport) × IsKeptFrom directory roam at old (Some kept) × (e ≡ report_event kept)
+abbrev pub IsHandedIn : Setup → Bool → ℕ → Option KeptReport → Event → Type 0
+IsHandedIn setup roam at old e = (kept : KeptReport) × IsKeptFrom setup roam at old (Some kept) × (e ≡ report_event kept)
 
-abbrev pub IsOfWorker : Directory → Bool → ℕ → Option KeptReport → Event → Type 0
-IsOfWorker directory roam at kept e = IsTurnEvent directory roam at e ⊎ IsHandedIn directory roam at kept e
+abbrev pub IsOfWorker : Setup → Bool → ℕ → Option KeptReport → Event → Type 0
+IsOfWorker setup roam at kept e = IsTurnEvent setup roam at e ⊎ IsHandedIn setup roam at kept e
 
 -- the log grew by so many entries, whose events are such
 abbrev pub Grew : (Event → Type 0) → List Entry → List Entry → ℕ → Type 0
@@ -171,15 +173,17 @@ Grew P old new count = (more : List Entry) × (new ≡ old ++ more) × (length m
 -- what turns of a path's worker leave of its seat, and turns of a unit's worker
 pub record WorksPath (chpid : ℕ) (old new : Seated) (count : ℕ) : Type 0 where
   pub number : new.number ≡ old.number
+  pub setup : new.setup ≡ old.setup
   pub directory : new.directory ≡ old.directory
   pub owed : new.owed ≡ old.owed
-  pub log : Grew (IsOfPath old.directory chpid) old.log new.log count
+  pub log : Grew (IsOfPath old.setup chpid) old.log new.log count
 
 pub record WorksUnit (roam : Bool) (at : ℕ) (old new : Seated) (count : ℕ) : Type 0 where
   pub number : new.number ≡ old.number
+  pub setup : new.setup ≡ old.setup
   pub directory : new.directory ≡ old.directory
-  pub kept : IsKeptFrom old.directory roam at old.kept new.kept
-  pub log : Grew (IsOfWorker old.directory roam at old.kept) old.log new.log count
+  pub kept : IsKeptFrom old.setup roam at old.kept new.kept
+  pub log : Grew (IsOfWorker old.setup roam at old.kept) old.log new.log count
 
 -- what a call that is made leaves, where one is owed: a report of it
 abbrev pub IsAnswered : Option OwedCall → Option KeptReport → Option KeptReport → Type 0
@@ -188,6 +192,7 @@ IsAnswered (Some owed) old new = (answer : DeviceAnswer) × (new ≡ Some (repor
 
 pub record IsCalled (old new : Seated) : Type 0 where
   pub number : new.number ≡ old.number
+  pub setup : new.setup ≡ old.setup
   pub directory : new.directory ≡ old.directory
   pub log : new.log ≡ old.log
   pub turns : new.turns ≡ old.turns

@@ -39,7 +39,7 @@ impl<J: Naming, P: PathChoice + Drop> Guarded<J, P> {
         ensures starved { seat.new.starved ≡ spec.starved_after result seat.old.starved }
         ensures executed { IsExecuted P.picks seat.old (spec.event_of cpu instruction) result seat.new.value }
         ensures logged { MatchResult result (λ reply. seat.new.value ≡ entered seat.old.value (spec.event_of cpu instruction) reply) (λ _. seat.new.value ≡ seat.old.value) }
-        ensures refusal { IfErr result (λ f. (s : State) × MayStand seat.old.value.directory s × spec.MayRefuse s (spec.event_of cpu instruction) f) }
+        ensures refusal { IfErr result (λ f. (s : State) × MayStand seat.old.value.setup s × spec.MayRefuse s (spec.event_of cpu instruction) f) }
     {
         self.stands(seat);
         let event = event_of(cpu, instruction);

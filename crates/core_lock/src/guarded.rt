@@ -8,6 +8,7 @@ ghost use Rattle.machine_laws.specs.Agreeing.{AllAgree};
 ghost use Rattle.machine_laws.specs.Beginnings.{IsBegunOnce};
 ghost use Rattle.machine_laws.specs.Claims.{IsClearedOnce};
 ghost use Rattle.machine_model.specs.Ruled.{GoesByRule};
+ghost use Rattle.machine_model.specs.Setups.{IsSetUp};
 ghost use Rattle.machine_model.specs.Steps.{HasRun, Step};
 ghost use Rattle.subsystem.specs.Headline.{HasHeld};
 ghost use Rattle.subsystem.specs.Keeping.{IsOrdered, all_serials};
@@ -68,7 +69,7 @@ impl<J: Naming, P: PathChoice + Drop> Model for Guarded<J, P> {
       room = room_of c.subsystem c.by;
     } };
 
-    ghost invariant = { λ c. IsGuarded c.subsystem c.by.items c.entries.total c.writers.items (arc_value c.directory) J.name };
+    ghost invariant = { λ c. IsGuarded c.subsystem c.by.items c.entries.total c.writers.items (arc_value c.directory) J.setup J.name };
 }
 
 /// What a new seat sees of a machine.
@@ -90,6 +91,7 @@ pub(crate) fn open<J: Naming, P: PathChoice + Drop>(
     requires fresh { subsystem.history ≡ [] }
     requires empty { by.items ≡ [] }
     requires named { parts.name ≡ J.name }
+    requires set_up { IsSetUp J.setup subsystem.state }
     requires directory { parts.name.directory ≡ directory_of subsystem.state }
     requires serials { parts.serials ≡ all_serials subsystem.state }
     ensures guarded { result.0.value ≡ record { state = subsystem.state; history = []; by = [] } }
@@ -122,6 +124,7 @@ impl<J: Naming, P: PathChoice + Drop> Guarded<J, P> {
         ensures state { result.now.state ≡ self.now.value.state }
         ensures history { result.now.history ≡ self.now.value.history }
         ensures replays { HasRun self.now.value.history self.now.value.state }
+        ensures set_up { IsSetUp J.setup self.now.value.state }
         ensures cleared_once { IsClearedOnce self.now.value.state.sets self.now.value.history }
         ensures begun_once { IsBegunOnce self.now.value.state.sets self.now.value.history }
         ensures agree { AllAgree self.now.value.state }

@@ -8,6 +8,7 @@ ghost use Rattle.machine_laws.specs.Agreeing.{AllAgree};
 ghost use Rattle.machine_laws.specs.Beginnings.{IsBegunOnce};
 ghost use Rattle.machine_laws.specs.Claims.{IsClearedOnce};
 ghost use Rattle.machine_model.specs.Ruled.{GoesByRule};
+ghost use Rattle.machine_model.specs.Setups.{IsSetUp};
 ghost use Rattle.machine_model.specs.State.{place_of};
 ghost use Rattle.machine_model.specs.Steps.{HasRun, Step};
 ghost use Rattle.subsystem.specs.Headline.{HasHeld};
@@ -97,6 +98,7 @@ impl<J: Naming> Model for Seat<J> {
       value = record {
         number = s.number;
         log = s.log.entries;
+        setup = J.setup;
         directory = arc_value s.directory;
         pairs = s.pairs.items;
         loaded = s.readers.items;
@@ -119,6 +121,7 @@ impl<J: Naming, P: PathChoice + Drop> Core<J, P> {
     pub fn new(alloc: Global, subsystem: Subsystem<P>, parts: Parts) -> Result<Self, NotMade<P>>
         requires fresh { subsystem.history ≡ [] }
         requires named { parts.name ≡ J.name }
+        requires set_up { IsSetUp J.setup subsystem.state }
         requires directory { parts.name.directory ≡ directory_of subsystem.state }
         requires serials { parts.serials ≡ all_serials subsystem.state }
         ensures made { IfOk result (λ core. core.value ≡ record { state = subsystem.state; history = []; by = []; seats = 0 }) }
@@ -138,6 +141,7 @@ impl<J: Naming, P: PathChoice + Drop> Core<J, P> {
     ) -> Result<Self, NotMade<P>>
         requires fresh { subsystem.history ≡ [] }
         requires named { parts.name ≡ J.name }
+        requires set_up { IsSetUp J.setup subsystem.state }
         requires directory { parts.name.directory ≡ directory_of subsystem.state }
         requires serials { parts.serials ≡ all_serials subsystem.state }
         ensures made { IfOk result (λ core. core.value ≡ record { state = subsystem.state; history = []; by = []; seats = 0 }) }
@@ -159,6 +163,7 @@ impl<J: Naming, P: PathChoice + Drop> Core<J, P> {
         ensures state { result.now.state ≡ self.now.value.state }
         ensures history { result.now.history ≡ self.now.value.history }
         ensures replays { HasRun self.now.value.history self.now.value.state }
+        ensures set_up { IsSetUp J.setup self.now.value.state }
         ensures cleared_once { IsClearedOnce self.now.value.state.sets self.now.value.history }
         ensures begun_once { IsBegunOnce self.now.value.state.sets self.now.value.history }
         ensures agree { AllAgree self.now.value.state }
@@ -174,6 +179,7 @@ impl<J: Naming, P: PathChoice + Drop> Core<J, P> {
           value = record {
             number = self.old.value.seats;
             log = [];
+            setup = J.setup;
             directory = directory_of self.old.value.state;
             pairs = all_serials self.old.value.state;
             loaded = s.value.loaded;
@@ -203,6 +209,7 @@ impl<J: Naming, P: PathChoice + Drop> Core<J, P> {
           value = record {
             number = self.old.value.seats;
             log = [];
+            setup = J.setup;
             directory = directory_of self.old.value.state;
             pairs = all_serials self.old.value.state;
             loaded = s.value.loaded;
@@ -284,6 +291,7 @@ impl<J: Naming, P: PathChoice + Drop> Core<J, P> {
         ensures guarded { guarded_in result ≡ guarded }
         ensures seats { result.value.seats ≡ stock }
         ensures replays { HasRun result.value.history result.value.state }
+        ensures set_up { IsSetUp J.setup result.value.state }
     {
         let _ = guarded.subsystem();
         Core { guarded, stock }

@@ -57,7 +57,7 @@ impl<J: Naming, P: PathChoice + Drop> Guarded<J, P> {
         ensures turn { turn_spec.TakesUnitTurn P.picks self.old (turn_spec.turned_seat seat.old) seat.old.value.kept «unit» roam result self.new.value seat.new.value }
         ensures told { IsUnitTurn P.picks roam «unit» seat.old result seat.new.value }
         ensures works { turn_spec.WorksUnit roam «unit» seat.old.value seat.new.value (turn_spec.count_in result) }
-        ensures owes { turn_spec.IsOwedBy seat.old.value.directory roam «unit» seat.new.value.owed }
+        ensures owes { turn_spec.IsOwedBy seat.old.value.setup roam «unit» seat.new.value.owed }
     {
         self.stands(seat);
         self.count_turn(seat);
@@ -131,9 +131,9 @@ impl<J: Naming, P: PathChoice + Drop> Guarded<J, P> {
         Ok(entered)
     }
 
-    /// What is guarded is of the seat's machine, and its history led to its state.
+    /// What is guarded is of the seat's machine, set up as it is, and its history led to its state.
     pub(crate) fn stands(&self, seat: &Seat<J>)
-        ensures { turn_spec.IsOfMachine seat.now.value.directory self.now.value }
+        ensures { turn_spec.IsOfMachine seat.now.value self.now.value }
     {
         let _ = self.subsystem.history();
         let _ = &seat.directory;

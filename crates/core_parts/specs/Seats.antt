@@ -6,6 +6,7 @@ use Rattle.chan_events.specs.declared.event.Event.TheVariants as event
 use Rattle.chan_events.specs.declared.event.Instruction.TheVariants as instruction
 use Rattle.chan_events.specs.declared.reply.Entry.{Entry}
 use Rattle.chan_events.specs.declared.reply.Reply.{Reply}
+use Rattle.channel_config.specs.Setup.{Setup}
 use Rattle.event_laws.specs.Codes.{answer_in}
 use Rattle.subsystem.specs.Keeping.{serials_brought}
 use Rattle.glance_cell.specs.Shown.{Words}
@@ -29,12 +30,13 @@ pub record Guarded : Type 0 where
   pub history : List Entry
   pub by : List ℕ
 
--- a seat: its number, and what it entered; the subchannels of its machine, what it saw of the counts of each, and what its readers
--- loaded last; how many turns it made and calls it began, the call that it owes, the report that it keeps, and the command after
+-- a seat: its number, and what it entered; how its machine is set up, the subchannels of it, what it saw of the counts of each, and what
+-- its readers loaded last; how many turns it made and calls it began, the call that it owes, the report that it keeps, and the command after
 -- which its unit left its path
 pub record Seated : Type 0 where
   pub number : ℕ
   pub log : List Entry
+  pub setup : Setup
   pub directory : Directory
   pub pairs : List Serials
   pub loaded : List Words

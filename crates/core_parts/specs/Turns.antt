@@ -13,7 +13,6 @@ use Rattle.machine_model.specs.declared.state.UnitTurn.{UnitTurn}
 use Rattle.machine_model.specs.declared.state.UnitTurn.TheVariants as unit_turn
 use Rattle.machine_model.specs.State.{State, unit_turn_of}
 use Rattle.subchannel_steps.specs.PathTurns.{path_turn_of}
-use Rattle.core_parts.specs.declared.turns.OwedCall.{OwedCall}
 use Rattle.core_parts.specs.declared.turns.KeptReport.{KeptReport}
 use Rattle.core_parts.specs.declared.turns.TakenCommand.{TakenCommand}
 use Rattle.core_parts.specs.declared.turns.Turn.{Turn}

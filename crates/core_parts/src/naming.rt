@@ -8,16 +8,23 @@ use std::sync::ledger::Ledger;
 
 /// Names one machine.
 pub trait Naming {
+    ghost use Rattle.channel_config.specs.Setup.{Setup};
     ghost use Rattle.core_parts.specs.Named.{MachineName};
 
     // The ledgers, the glance cells and the subchannels of the machine.
     ghost name: { MachineName };
+
+    // How it is set up.
+    ghost setup: { Setup };
 }
 
 impl Naming for Brand {
     ghost use Rattle.std.specs.Prelude.{[]};
+    ghost use Rattle.channel_config.specs.Setup.{no_setup};
 
     ghost name = { record { entries = 0; turns = 0; cells = []; directory = record { sets = 0; setups = [] } } };
+
+    ghost setup = { no_setup };
 }
 
 /// The ledger of the entries of a machine: a part for each of 1,024 seats, and one that the machine keeps.

@@ -1,12 +1,12 @@
 -- What a call of a device leaves of a seat, and a turn with the call that it left owed.
-use Rattle.std.proofs.Common.{◌≡◌, ℕ, Bool, true, false, List, Option, None, Some, refl, sym, ap, ◌∙◌, subst, inl, inr}
+use Rattle.std.proofs.Common.{◌≡◌, ℕ, Bool, false, List, Option, None, Some, refl, sym, ap, ◌∙◌, subst, inl}
 use Rattle.std.specs.Prelude.{is_some}
 use Rattle.chan_model.specs.declared.report.Call.{Call}
 use Rattle.chan_model.specs.declared.report.DeviceAnswer.{DeviceAnswer}
 use Rattle.chan_events.specs.declared.reply.Entry.{Entry}
 use Rattle.core_parts.specs.declared.turns.OwedCall.{OwedCall}
 use Rattle.core_parts.specs.declared.turns.KeptReport.{KeptReport}
-use Rattle.core_parts.specs.Directory.{Directory}
+use Rattle.channel_config.specs.Setup.{Setup}
 use Rattle.core_parts.specs.Seats.{Seated}
 use Rattle.machine_lock.specs.Working.{MakesOwed}
 use Rattle.core_lock.specs.Turns.{Calls, Grew, IsAnswered, IsCalled, IsKeptFrom, IsOfWorker, IsOwedBy, WorksUnit, one_call_more, report_of}
@@ -20,6 +20,7 @@ not_called seat is =
     let none = none_owed seat.owed is in
     record {
       number = refl;
+      setup = refl;
       directory = refl;
       log = refl;
       turns = refl;
@@ -30,6 +31,7 @@ not_called seat is =
 pub called : (old new : Seated) (owed : OwedCall) (answer : DeviceAnswer) → old.owed ≡ Some owed → new ≡ record old { calls = one_call_more old.calls; owed = None; kept = Some (report_of owed answer) } → IsCalled old new
 called old new owed answer was is = record {
   number = ap (λ (s : Seated). s.number) is;
+  setup = ap (λ (s : Seated). s.setup) is;
   directory = ap (λ (s : Seated). s.directory) is;
   log = ap (λ (s : Seated). s.log) is;
   turns = ap (λ (s : Seated). s.turns) is;
@@ -37,16 +39,17 @@ called old new owed answer was is = record {
   kept = subst (λ (o : Option OwedCall). IsAnswered o old.kept new.kept) (sym was) (answer, ap (λ (s : Seated). s.kept) is);
 }
 
-kept_called : (d : Directory) (roam : Bool) (at : ℕ) (first old new : Option KeptReport) (o : Option OwedCall) → IsOwedBy d roam at o → IsAnswered o old new → IsKeptFrom d roam at first old → IsKeptFrom d roam at first new
+kept_called : (d : Setup) (roam : Bool) (at : ℕ) (first old new : Option KeptReport) (o : Option OwedCall) → IsOwedBy d roam at o → IsAnswered o old new → IsKeptFrom d roam at first old → IsKeptFrom d roam at first new
 kept_called d roam at first old new None by is from = subst (IsKeptFrom d roam at first) (sym is) from
 kept_called d roam at first old new (Some owed) by (answer, is) from = subst (IsKeptFrom d roam at first) (sym is) (inl (owed, answer, by, refl))
 
-pub works_called : (roam : Bool) (at : ℕ) (a b c : Seated) (n : ℕ) → WorksUnit roam at a b n → IsOwedBy a.directory roam at b.owed → IsCalled b c → WorksUnit roam at a c n
+pub works_called : (roam : Bool) (at : ℕ) (a b c : Seated) (n : ℕ) → WorksUnit roam at a b n → IsOwedBy a.setup roam at b.owed → IsCalled b c → WorksUnit roam at a c n
 works_called roam at a b c n works by called = record {
   number = called.number ∙ works.number;
+  setup = called.setup ∙ works.setup;
   directory = called.directory ∙ works.directory;
-  kept = kept_called a.directory roam at a.kept b.kept c.kept b.owed by called.kept works.kept;
-  log = subst (λ (l : List Entry). Grew (IsOfWorker a.directory roam at a.kept) a.log l n) (sym called.log) works.log;
+  kept = kept_called a.setup roam at a.kept b.kept c.kept b.owed by called.kept works.kept;
+  log = subst (λ (l : List Entry). Grew (IsOfWorker a.setup roam at a.kept) a.log l n) (sym called.log) works.log;
 }
 
 module _ {D : Type 0} (passes : ℕ → ℕ → Type 0) (answers : D → Call → DeviceAnswer → D → Type 0) where

@@ -3,6 +3,7 @@
 
 ghost use Rattle.std.specs.Prelude.{◌≡◌, ◌+◌, IfErr, None, MatchResult};
 ghost use Rattle.machine_model.specs.State.{State};
+ghost use Rattle.machine_model.specs.Setups.{IsSetUp};
 ghost use Rattle.machine_model.specs.Steps.{HasRun};
 ghost use Rattle.core_lock.specs.Entering as spec;
 ghost use Rattle.core_lock.specs.Entering.{entered};
@@ -41,6 +42,7 @@ impl<J: Naming, P: PathChoice + Drop> Machine<J, P> {
     pub fn into_core(self, stock: SeatStock<J>) -> Core<J, P>
         ensures seats { result.value.seats ≡ stock }
         ensures replays { HasRun result.value.history result.value.state }
+        ensures set_up { IsSetUp J.setup result.value.state }
     {
         let Machine { lock } = self;
         Core::join(lock.into_inner(), stock)
@@ -60,7 +62,7 @@ impl<J: Naming, P: PathChoice + Drop> Machine<J, P> {
         ensures starved { seat.new.starved ≡ spec.starved_after result seat.old.starved }
         ensures executed { IsExecuted P.picks seat.old (spec.event_of cpu instruction) result seat.new.value }
         ensures logged { MatchResult result (λ reply. seat.new.value ≡ entered seat.old.value (spec.event_of cpu instruction) reply) (λ _. seat.new.value ≡ seat.old.value) }
-        ensures refusal { IfErr result (λ f. (s : State) × MayStand seat.old.value.directory s × spec.MayRefuse s (spec.event_of cpu instruction) f) }
+        ensures refusal { IfErr result (λ f. (s : State) × MayStand seat.old.value.setup s × spec.MayRefuse s (spec.event_of cpu instruction) f) }
     {
         self.lock.lock(rt).execute(seat, cpu, instruction)
     }
@@ -91,7 +93,7 @@ impl<J: Naming, P: PathChoice + Drop> Machine<J, P> {
         requires { seat.old.value.owed ≡ None }
         ensures turns { seat.new.value.turns ≡ seat.old.value.turns + 1 }
         ensures turn { IsUnitTurn P.picks roam «unit» seat.old result seat.new.value }
-        ensures owes { IsOwedBy seat.old.value.directory roam «unit» seat.new.value.owed }
+        ensures owes { IsOwedBy seat.old.value.setup roam «unit» seat.new.value.owed }
         ensures works { WorksUnit roam «unit» seat.old.value seat.new.value (turn_spec.count_in result) }
     {
         self.lock.lock(rt).unit_step(seat, unit, roam)

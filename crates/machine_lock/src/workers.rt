@@ -22,7 +22,7 @@ impl<J: Naming, P: PathChoice + Drop> Machine<J, P> {
         ensures number { seat.new.value.number ≡ seat.old.value.number }
         ensures most { result ≤ turns }
         ensures each { ArePathTurns P.picks chpid turns seat.old seat.new result }
-        ensures log { Grew (IsOfPath seat.old.value.directory chpid) seat.old.value.log seat.new.value.log result }
+        ensures log { Grew (IsOfPath seat.old.value.setup chpid) seat.old.value.log seat.new.value.log result }
     {
         let mut added = 0;
         for _turn in 0..turns {
@@ -50,7 +50,7 @@ impl<J: Naming, P: PathChoice + Drop> Machine<J, P> {
         ensures number { seat.new.value.number ≡ seat.old.value.number }
         ensures most { result ≤ turns }
         ensures each { AreUnitTurns P.picks (G.passes gate.now) D.answers roam «unit» turns seat.old device.old seat.new device.new result }
-        ensures log { Grew (IsOfWorker seat.old.value.directory roam «unit» seat.old.value.kept) seat.old.value.log seat.new.value.log result }
+        ensures log { Grew (IsOfWorker seat.old.value.setup roam «unit» seat.old.value.kept) seat.old.value.log seat.new.value.log result }
     {
         let mut added = 0;
         for _turn in 0..turns {

@@ -9,6 +9,7 @@ use Rattle.chan_model.specs.ConditionCodes.{code_of}
 use Rattle.chan_model.specs.declared.answer.ConditionCode.{ConditionCode}
 use Rattle.chan_model.specs.declared.answer.ConditionCode.TheVariants.{Zero, One, Two, Three}
 use Rattle.chan_model.specs.declared.fault.Fault.{Fault}
+use Rattle.channel_config.specs.Setup.{Setup}
 use Rattle.core_lock.specs.declared.executing.CpuInstruction.{CpuInstruction}
 use Rattle.core_lock.specs.declared.executing.CpuInstruction.TheVariants as cpu_instruction
 use Rattle.core_lock.specs.Entering.{event_of}
@@ -131,11 +132,12 @@ pub record HaveGathered (race : Race) (ready : List Runner) (others all : List H
   pub seats : all ≡ others ++ seats_of raced
   pub total_is : total ≡ total_of raced
 
--- a new seat of a machine, whose readers loaded these words: it did nothing yet
-abbrev pub new_seat : Locked → List Words → Seated
-new_seat core loaded = record {
+-- a new seat of a machine that is set up so, whose readers loaded these words: it did nothing yet
+abbrev pub new_seat : Setup → Locked → List Words → Seated
+new_seat setup core loaded = record {
   number = core.seats;
   log = [];
+  setup = setup;
   directory = directory_of core.state;
   pairs = all_serials core.state;
   loaded = loaded;
@@ -147,8 +149,8 @@ new_seat core loaded = record {
 }
 
 -- what its readers loaded are the serials that the machine has
-abbrev pub IsNewSeat : Locked → Seated → Type 0
-IsNewSeat core seat = (seat ≡ new_seat core seat.loaded) × (shown seat.loaded ≡ all_serials core.state)
+abbrev pub IsNewSeat : Setup → Locked → Seated → Type 0
+IsNewSeat setup core seat = (seat ≡ new_seat setup core seat.loaded) × (shown seat.loaded ≡ all_serials core.state)
 
 -- the same machine, but for how many seats were made
 abbrev pub IsSeatedIn : Locked → Locked → Type 0

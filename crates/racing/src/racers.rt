@@ -194,7 +194,7 @@ pub fn one_seat<J: Naming, S: CoreSupply>(
     core: &mut Core<J, Rotating>,
 ) -> Result<Seat<J>, AllocError>
     requires { core.old.value.seats < 1024 }
-    ensures seat { IfOk result (λ seat. spec.IsNewSeat core.old.value seat.value) }
+    ensures seat { IfOk result (λ seat. spec.IsNewSeat J.setup core.old.value seat.value) }
     ensures log { IfOk result (λ seat. seat.value.log ≡ []) }
     ensures room { IfOk result (λ seat. seat.room ≡ 0) }
     ensures core { IfOk result (λ _. core.new.value ≡ record core.old.value { seats = core.old.value.seats + 1 }) }

@@ -6,7 +6,7 @@ use Rattle.script.specs.Pieces.{lines_of}
 use Rattle.script.specs.Scripts.{ScriptContents, IsScript}
 use Rattle.script.specs.declared.Line.{Line}
 use Rattle.script.specs.declared.RaceLine.{RaceLine}
-use Rattle.serving.specs.Acting.{Installed, IsAudited, IsOpening}
+use Rattle.serving.specs.Acting.{Installed, IsOpening}
 use Rattle.serving.specs.Audits.{FailsByRace}
 use Rattle.serving.specs.Performing.{HasPerformed, HasStopped}
 use Rattle.serving.specs.Serving.{FailsAudit, HasNoScript, IsRunOf, IsRaceOf, Serves, ServesRace, RunsOrRaces, TellsAudit, TellsNoMemoryBy}

@@ -13,7 +13,7 @@ use Rattle.machine_model.specs.State.{IsAsBefore, Past, State}
 use Rattle.scsw_irb.specs.declared.serials.Serials.{Serials}
 use Rattle.script_rows.specs.declared.Action.{Action}
 use Rattle.script_rows.specs.declared.Action.TheVariants as action
-use Rattle.serving.specs.Acting.{ActionOutcome, Books, DeviceTurn, Enters, Follows, Installed, LooksFrom, PerformsAction, Runs, SeatLooks, booked, device_turn_of}
+use Rattle.serving.specs.Acting.{ActionOutcome, Books, Enters, Follows, Installed, LooksFrom, PerformsAction, Runs, SeatLooks, booked, device_turn_of}
 
 branch : (b : Bool) (x e : Entry) (rest : List Entry) → (if b then x ∷ (rest ++ e ∷ []) else rest ++ e ∷ []) ≡ (if b then x ∷ rest else rest) ++ e ∷ []
 branch true x e rest = refl

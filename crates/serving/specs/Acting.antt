@@ -5,7 +5,6 @@ use Rattle.chan_events.specs.declared.event.Event.TheVariants as event
 use Rattle.chan_model.specs.declared.fault.Fault.{Fault}
 use Rattle.chan_model.specs.declared.fault.Fault.TheVariants as fault
 use Rattle.chan_model.specs.declared.names.Side.{Side}
-use Rattle.chan_events.specs.declared.reply.Entry.{Entry}
 use Rattle.chan_events.specs.declared.reply.Reply.{Reply}
 use Rattle.chan_model.specs.declared.report.Call.{Call}
 use Rattle.chan_model.specs.declared.report.DeviceAnswer.{DeviceAnswer}
@@ -14,7 +13,7 @@ use Rattle.chan_model.specs.declared.report.Work.{Work}
 use Rattle.chan_model.specs.declared.report.Work.TheVariants as work
 use Rattle.channel_config.specs.Setup.{Setup}
 use Rattle.core_lock.specs.Entering.{Looks, entered}
-use Rattle.core_parts.specs.Seats.{Locked, LockedCore, HeldSeat, Seated, entry, entries_by}
+use Rattle.core_parts.specs.Seats.{Locked, LockedCore, HeldSeat, Seated, entries_by}
 use Rattle.device_models.specs.AnyDevices.{device_of, device_opening, answer_of, after}
 use Rattle.device_models.specs.declared.any_device.AnyDevice.{AnyDevice}
 use Rattle.machine_model.specs.Ruled.{GoesByRule}
@@ -64,7 +63,7 @@ abbrev pub opening_locked : Setup → Locked
 opening_locked setup = record { state = opening_of setup; history = []; by = []; seats = 0 }
 
 abbrev pub IsOpeningSeat : Setup → Seated → Type 0
-IsOpeningSeat setup seat = IsNewSeat (opening_locked setup) seat
+IsOpeningSeat setup seat = IsNewSeat setup (opening_locked setup) seat
 
 abbrev pub opening_books : Seated → Books
 opening_books seat = record { by = []; seat = seat }

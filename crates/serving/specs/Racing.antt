@@ -3,6 +3,7 @@ use Rattle.std.specs.Prelude.{◌≡◌, ◌+◌, Bool, IsTrue, ◌↔◌, List,
 use Rattle.core_parts.specs.Seats.{HeldSeat, Locked}
 use Rattle.machine_model.specs.Steps.{HasRun}
 use Rattle.subsystem.specs.Headline.{HasHeld}
+use Rattle.subsystem.specs.Keeping.{StaysSetUp}
 use Rattle.racing.specs.Racing.{AreMade, HasLogs, HaveRaced, Runner, count_of, seats_of, total_of}
 use Rattle.script_rows.specs.declared.race.Race.{Race}
 use Rattle.script_text.specs.declared.race.RaceCount.{RaceCount}
@@ -12,8 +13,8 @@ use Rattle.serving.specs.Acting.{Installed}
 abbrev pub HasAll : Locked → List HeldSeat → Type 0
 HasAll after seats = length seats ≡ after.seats → length after.history ≡ sum_by (λ s. length s.value.log) seats
 
--- a race at a machine, with this told of it. The machine that the CPUs leave has a history that leads to its state, with a seat beside
--- each entry, and has held what every run holds. Where no seats were made but its own and those of the CPUs, the history is as long as
+-- a race at a machine, with this told of it. The machine that the CPUs leave is set up as it was, has a history that leads to its
+-- state, with a seat beside each entry, and has held what every run holds. Where no seats were made but its own and those of the CPUs, the history is as long as
 -- their logs together. What else is known of it is what the audit found: that it has the logs of its own seat and of those of the CPUs,
 -- each in its order, by whose entries alone the history grew
 pub record IsRaced (race : Race) (before : Installed) (told : RaceCount) (refused : Bool) : Type 0 where
@@ -24,6 +25,7 @@ pub record IsRaced (race : Race) (before : Installed) (told : RaceCount) (refuse
   pub made : AreMade race.cpus ready
   pub run : HaveRaced race ready raced
   pub seat : own.value ≡ before.books.seat
+  pub set_up : StaysSetUp before.past.state after.state
   pub replays : HasRun after.history after.state
   pub held : HasHeld after.history after.state
   pub beside : length after.by ≡ length after.history

@@ -5,6 +5,7 @@ ghost use Rattle.std.specs.Prelude.{◌≡◌, ◌+◌, IsTrue, IfOk, List, None
 ghost use Rattle.serving.specs.Acting as spec;
 ghost use Rattle.racing.specs.Racing.{AreMade, HasLogs};
 ghost use Rattle.serving.specs.Racing.{HasAll, IsRaced};
+ghost use Rattle.machine_model.specs.Setups.{IsSetUp};
 ghost use Rattle.machine_model.specs.Steps.{HasRun};
 ghost use Rattle.subsystem.specs.Headline.{HasHeld};
 ghost use Rattle.serving.specs.Acting.{books_of, past_of, PerformsAction, Happens, IsAudited, IsOpening, LooksFrom, TakesTurn, HandsIn, outcome_at};
@@ -89,6 +90,7 @@ impl<J: Naming> Installation<J> {
         cpus: u32,
     ) -> Result<(Installation<J>, Racers<J>), AllocError>
         requires named { parts.name ≡ J.name }
+        requires set_up { J.setup ≡ config }
         requires directory { parts.name.directory ≡ directory_of (opening_of config) }
         requires serials { parts.serials ≡ all_serials (opening_of config) }
         ensures made { IfOk result (λ both. IsOpening config both.0) }
@@ -341,6 +343,7 @@ fn enter_from<J: Naming>(
 
 /// What a core has, whoever was at work on it.
 fn has_run<J: Naming>(core: &Core<J, Rotating>)
+    ensures set_up { IsSetUp J.setup core.now.value.state }
     ensures replays { HasRun core.now.value.history core.now.value.state }
     ensures held { HasHeld core.now.value.history core.now.value.state }
     ensures beside { length core.now.value.by ≡ length core.now.value.history }

@@ -31,6 +31,7 @@ fn opening_core<J: Naming, S: CoreSupply>(
     parts: Parts,
 ) -> Result<Core<J, Rotating>, AllocError>
     requires named { parts.name ≡ J.name }
+    requires set_up { J.setup ≡ config }
     requires directory { parts.name.directory ≡ directory_of (opening_of config) }
     requires serials { parts.serials ≡ all_serials (opening_of config) }
     ensures made { IfOk result (λ core. core.value ≡ record { state = opening_of config; history = []; by = []; seats = 0 }) }
@@ -55,6 +56,7 @@ pub(crate) fn opening_seats<J: Naming, S: CoreSupply>(
     cpus: u32,
 ) -> Result<(Core<J, Rotating>, Seat<J>, Racers<J>), AllocError>
     requires named { parts.name ≡ J.name }
+    requires set_up { J.setup ≡ config }
     requires directory { parts.name.directory ≡ directory_of (opening_of config) }
     requires serials { parts.serials ≡ all_serials (opening_of config) }
     ensures past { IfOk result (λ all. past_of all.0 all.1 ≡ record { state = opening_of config; history = []; room = 0 }) }
@@ -79,7 +81,7 @@ fn first_seats<J: Naming, S: CoreSupply>(
     cpus: u32,
 ) -> Result<(Seat<J>, Racers<J>), AllocError>
     requires { core.old.value.seats ≡ 0 }
-    ensures seat { IfOk result (λ both. IsNewSeat core.old.value both.0.value) }
+    ensures seat { IfOk result (λ both. IsNewSeat J.setup core.old.value both.0.value) }
     ensures room { IfOk result (λ both. both.0.room ≡ 0) }
     ensures racers { IfOk result (λ both. AreMade cpus both.1) }
     ensures core { IfOk result (λ _. IsSeatedIn core.old.value core.new.value) }

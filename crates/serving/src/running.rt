@@ -80,6 +80,7 @@ fn run_named<J: Naming, M: CoreSupply, S: Sink>(
     sink: &mut S,
 ) -> Ending
     requires named { parts.name ≡ J.name }
+    requires set_up { J.setup ≡ config }
     requires directory { parts.name.directory ≡ directory_of (opening_of config) }
     requires serials { parts.serials ≡ all_serials (opening_of config) }
     ensures ends { IsRunOf config lines.now (S.seen sink.old) (S.seen sink.new) result }
@@ -104,6 +105,7 @@ fn race_named<J: Naming + Send + Sync, T: Threads + Wait + Sync, M: CoreSupply, 
     sink: &mut S,
 ) -> Ending
     requires named { parts.name ≡ J.name }
+    requires set_up { J.setup ≡ config }
     requires directory { parts.name.directory ≡ directory_of (opening_of config) }
     requires serials { parts.serials ≡ all_serials (opening_of config) }
     ensures ends { IsRaceOf config lines.now race (S.seen sink.old) (S.seen sink.new) result }

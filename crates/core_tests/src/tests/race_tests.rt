@@ -1,12 +1,13 @@
 //! CPUs that race run side by side, each on a thread of its own.
 
-ghost use Rattle.std.specs.Prelude.{◌≡◌, []};
+ghost use Rattle.std.specs.Prelude.{◌≡◌};
 ghost use Rattle.machine_model.specs.State.{opening_of};
 ghost use Rattle.subsystem.specs.Keeping.{all_serials};
 ghost use Rattle.core_parts.specs.Directory.{directory_of};
 
 use crate::tests::machines::{WORD, config_of};
 use chan_events::event::Event;
+use channel_config::config::Config;
 use core_lock::locked::Core;
 use core_lock::parts::Parts;
 use core_parts::naming::Naming;
@@ -78,18 +79,19 @@ fn changes_on<J: Naming + Send + Sync, R: Threads + Wait + Sync>(
     Some(changes(&history))
 }
 
-/// The same, at a core that is made of these.
+/// The same, at a core of this configuration that is made with these parts.
 fn changes_in<J: Naming + Send + Sync, R: Threads + Wait + Sync>(
     rt: &R,
     alloc: Global,
-    subsystem: Subsystem<Rotating>,
+    config: Config,
     parts: Parts,
 ) -> Option<u64>
-    requires fresh { subsystem.history ≡ [] }
     requires named { parts.name ≡ J.name }
-    requires directory { parts.name.directory ≡ directory_of subsystem.state }
-    requires serials { parts.serials ≡ all_serials subsystem.state }
+    requires set_up { J.setup ≡ config }
+    requires directory { parts.name.directory ≡ directory_of (opening_of config) }
+    requires serials { parts.serials ≡ all_serials (opening_of config) }
 {
+    let subsystem = Subsystem::new(alloc, config, Rotating).ok()?;
     match Core::<J, Rotating>::new(alloc, subsystem, parts) {
         Ok(core) => changes_on(rt, alloc, core),
         Err(_) => None,
@@ -102,10 +104,7 @@ fn race<R: Threads + Wait + Sync>(rt: &R, alloc: Global) -> Option<u64> {
     let Ok(parts) = Parts::new(alloc, &config) else {
         return None;
     };
-    let Ok(subsystem) = Subsystem::new(alloc, config, Rotating) else {
-        return None;
-    };
-    changes_in::<Brand, R>(rt, alloc, subsystem, parts)
+    changes_in::<Brand, R>(rt, alloc, config, parts)
 }
 
 #[test]

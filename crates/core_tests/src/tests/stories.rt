@@ -1,6 +1,7 @@
 //! What the tests do, each with a machine of its own that nothing happened to.
 
 ghost use Rattle.std.specs.Prelude.{◌≡◌, []};
+ghost use Rattle.machine_model.specs.Setups.{IsSetUp};
 ghost use Rattle.machine_model.specs.State.{opening_of};
 ghost use Rattle.subsystem.specs.Keeping.{all_serials};
 ghost use Rattle.core_parts.specs.Directory.{directory_of};
@@ -240,6 +241,7 @@ fn make_and_tell<J: Naming + Send + Sync, R: Threads + Wait + Sync>(
 ) -> bool
     requires fresh { given.subsystem.history ≡ [] }
     requires named { given.parts.name ≡ J.name }
+    requires set_up { IsSetUp J.setup given.subsystem.state }
     requires directory { given.parts.name.directory ≡ directory_of given.subsystem.state }
     requires serials { given.parts.serials ≡ all_serials given.subsystem.state }
 {
@@ -254,15 +256,18 @@ fn make_and_tell<J: Naming + Send + Sync, R: Threads + Wait + Sync>(
 fn refuse_and_tell<J: Naming + Send + Sync, R: Threads + Wait + Sync>(
     rt: &R,
     alloc: Global,
-    subsystem: Subsystem<Rotating>,
+    config: Config,
     parts: Parts,
     story: Story,
 ) -> bool
-    requires fresh { subsystem.history ≡ [] }
     requires named { parts.name ≡ J.name }
-    requires directory { parts.name.directory ≡ directory_of subsystem.state }
-    requires serials { parts.serials ≡ all_serials subsystem.state }
+    requires set_up { J.setup ≡ config }
+    requires directory { parts.name.directory ≡ directory_of (opening_of config) }
+    requires serials { parts.serials ≡ all_serials (opening_of config) }
 {
+    let Ok(subsystem) = Subsystem::new(alloc, config, Rotating) else {
+        return false;
+    };
     let mut supply = granting(0);
     match Core::<J, Rotating>::new_with(alloc, &mut supply, subsystem, parts) {
         Ok(_) => false,
@@ -279,8 +284,5 @@ pub fn goes<R: Threads + Wait + Sync>(rt: &R, alloc: Global, story: Story) -> bo
     let Ok(parts) = Parts::new(alloc, &config) else {
         return false;
     };
-    let Ok(subsystem) = Subsystem::new(alloc, config, Rotating) else {
-        return false;
-    };
-    refuse_and_tell::<Brand, R>(rt, alloc, subsystem, parts, story)
+    refuse_and_tell::<Brand, R>(rt, alloc, config, parts, story)
 }

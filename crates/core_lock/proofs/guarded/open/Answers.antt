@@ -1,6 +1,6 @@
 use Rattle.std.proofs.Common.{length, sym, ap, ◌∙◌}
 use Rattle.core_parts.specs.Named.{MachineName, MachineParts}
-use Rattle.core_lock.proofs.Directories.{run_named}
+use Rattle.core_lock.proofs.Directories.{directory_is}
 use Rattle.core_lock.proofs.guarded.open.Goals as goal
 
 pub invariant_of-guarded : goal.invariant_of-guarded
@@ -15,5 +15,6 @@ invariant_of-guarded g c =
       shown = ap (λ (p : MachineParts). p.serials) is ∙ c.requires.serials;
       cells = ap (λ (p : MachineParts). p.name.cells) is ∙ ap (λ (n : MachineName). n.cells) named;
       directory = ap (λ (p : MachineParts). p.name.directory) is ∙ ap (λ (n : MachineName). n.directory) named;
-      named = run_named past.history past.state g.J.Naming.name.directory c.history.ensures.replays (sym c.requires.directory ∙ ap (λ (n : MachineName). n.directory) named);
+      set_up = c.requires.set_up;
+      named = sym (directory_is g.J.Naming.setup past.state c.requires.set_up) ∙ sym c.requires.directory ∙ ap (λ (n : MachineName). n.directory) named;
     }

@@ -1,4 +1,4 @@
-use Rattle.std.proofs.Common.{Result, subst}
+use Rattle.std.proofs.Common.{subst}
 use Rattle.chan_events.specs.declared.event.Event.{Event}
 use Rattle.core_lock.specs.Entering.{event_of}
 use Rattle.core_lock.specs.Turns.{Executes}

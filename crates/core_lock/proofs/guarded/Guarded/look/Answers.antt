@@ -1,13 +1,12 @@
-use Rattle.std.proofs.Common.{◌≡◌, ◌<◌, List, length, refl, arith, sym, ap, ◌∙◌, set, subst}
-use Rattle.std.specs.Prelude.{slice_get, slice_set}
+use Rattle.std.proofs.Common.{◌<◌, List, length, refl, arith, sym, ap, ◌∙◌, set, subst}
+use Rattle.std.specs.Prelude.{slice_get}
 use Rattle.std.specs.Arc.{arc_value}
 use Rattle.std.proofs.lemmas.List.{length-set}
 use Rattle.std.proofs.lemmas.Option.{slice_get_read}
-use Rattle.subsystem.specs.Keeping.{IsOrdered, all_serials}
-use Rattle.core_parts.specs.Directory.{Directory, directory_of, place_named}
-use Rattle.core_parts.specs.Named.{cells_of, shown}
+use Rattle.subsystem.specs.Keeping.{IsOrdered}
+use Rattle.core_parts.specs.Directory.{Directory, place_named}
 use Rattle.scsw_irb.specs.declared.serials.Serials.{Serials}
-use Rattle.core_parts.specs.Seats.{GuardedCore, HeldSeat, Seated, greater}
+use Rattle.core_parts.specs.Seats.{GuardedCore, HeldSeat, Seated}
 use Rattle.core_lock.specs.Entering.{Looks}
 use Rattle.core_parts.proofs.Rewriting.{same_cells}
 use Rattle.core_lock.proofs.Directories.{is_named}
@@ -67,6 +66,7 @@ returns-clause-found g c =
     let seat : Seated = record {
       number = inside.number;
       log = inside.log.entries;
+      setup = g.J.Naming.setup;
       directory = directory;
       pairs = pairs;
       loaded = inside.readers.items;
@@ -80,7 +80,7 @@ returns-clause-found g c =
     let named = ap (λ (d : Directory). place_named d word) (sym c.deref.ensures) ∙ sym c.in-Some.ensures.place in
     let has = ap (λ (l : List Serials). slice_get l k) (sym m.shown) ∙ c.load_at-found.ensures.found in
     let saw = slice_get_read pairs (length pairs) k pair refl lt c.index-pair.ensures in
-    let is = is_named state g.J.Naming.name.directory m.named ∙ sym i.directory in
+    let is = is_named g.J.Naming.setup state g.J.Naming.name.directory m.set_up m.named ∙ sym i.directory in
     let base = looks state seat directory word k pair found loaded is refl named has saw c.load_at-found.ensures.readers in
     subst (λ (l : GuardedCore). Looks l.value.state c.args.seat.now.value word found (record seat { pairs = set pairs k c.greater-raised.result; loaded = loaded })) c.self.view_is
     (subst (λ (h : HeldSeat). Looks state h.value word found (record seat { pairs = set pairs k c.greater-raised.result; loaded = loaded })) c.seat.view_is
@@ -91,4 +91,4 @@ returns-in_default-clause-refused g c =
     let word = c.args.subchannel in
     let named = ap (λ (h : HeldSeat). place_named h.value.directory word) (sym c.seat.view_is) ∙ ap (λ (d : Directory). place_named d word) (sym c.deref.ensures)
     ∙ sym c.in_default.ensures.place in
-    (refl, lacks c.args.self.now.value.state c.args.seat.now.value.directory word c.stands.ensures.1 named)
+    (refl, lacks c.args.self.now.value.state c.args.seat.now.value.directory word c.stands.ensures.2 named)

@@ -1,4 +1,4 @@
-use Rattle.std.proofs.Common.{Option, ap, ◌∙◌, sym, subst}
+use Rattle.std.proofs.Common.{Option, ap, ◌∙◌, subst}
 use Rattle.chan_events.specs.declared.event.Event.{Event}
 use Rattle.core_parts.specs.Seats.{GuardedCore, HeldSeat}
 use Rattle.core_lock.specs.Turns.{TakesPathTurn, turn_of_path, turned_seat}

@@ -10,7 +10,7 @@ use Rattle.core_lock.proofs.guarded.Guarded.try_enter.Goals as goal
 pub invariant_of-self : goal.invariant_of-self
 invariant_of-self g c =
     let k = c.keep_entry.ensures in
-    stays_guarded _ _ _ _ _ _ _ _ _ _ c.self.invariant k.beside k.entries k.shown k.cells k.set_up
+    stays_guarded _ _ _ _ _ _ _ _ _ _ _ c.self.invariant k.beside k.entries k.shown k.cells k.set_up
 
 pub returns : goal.returns
 returns g c =

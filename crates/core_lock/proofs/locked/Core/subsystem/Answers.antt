@@ -1,8 +1,12 @@
 use Rattle.std.proofs.Common.{subst}
 use Rattle.machine_laws.specs.Agreeing.{AllAgree}
+use Rattle.machine_model.specs.Setups.{IsSetUp}
 use Rattle.subsystem.specs.Headline.{HasHeld}
 use Rattle.core_parts.specs.Seats.{LockedCore}
 use Rattle.core_lock.proofs.locked.Core.subsystem.Goals as goal
+
+pub returns-clause-set_up : goal.returns-clause-set_up
+returns-clause-set_up g c = subst (λ (l : LockedCore). IsSetUp g.J.Naming.setup l.value.state) c.self.view_is c.subsystem.ensures.set_up
 
 pub returns-clause-agree : goal.returns-clause-agree
 returns-clause-agree g c = subst (λ (l : LockedCore). AllAgree l.value.state) c.self.view_is c.subsystem.ensures.agree

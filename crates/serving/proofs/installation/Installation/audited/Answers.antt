@@ -1,4 +1,4 @@
-use Rattle.std.proofs.Common.{Bool, subst}
+use Rattle.std.proofs.Common.{subst}
 use Rattle.std.specs.Prelude.{IsTrue, ◌↔◌}
 use Rattle.serving.specs.Acting.{Installed, IsAudited}
 use Rattle.serving.proofs.installation.Installation.audited.Goals as goal

@@ -1,10 +1,11 @@
-use Rattle.std.proofs.Common.{◌≡◌, ◌+◌, ◌∷◌, ℕ, List, true, length, sym, ap, subst, ◌∙◌}
+use Rattle.std.proofs.Common.{◌+◌, ◌∷◌, ℕ, List, length, ap, subst, ◌∙◌}
 use Rattle.core_parts.specs.Seats.{HeldSeat}
 use Rattle.serving.specs.Racing.{HasAll}
 use Rattle.serving.specs.Acting.{Installed}
 use Rattle.racing.specs.declared.tally.Tally.{Tally}
 use Rattle.racing.specs.Racing.{HasLogs, seats_of, total_of}
-use Rattle.serving.proofs.Auditing.{settled, told_audited, told_of}
+use Rattle.subsystem.specs.Keeping.{StaysSetUp}
+use Rattle.serving.proofs.Auditing.{settled, stays_by, told_audited, told_of}
 use Rattle.serving.proofs.installation.Installation.race.Goals as goal
 
 pub returns : goal.returns
@@ -27,6 +28,7 @@ returns g c =
       made = c.requires;
       run = e.run;
       seat = ap (λ (i : Installed). i.books.seat) is;
+      set_up = subst (λ (i : Installed). StaysSetUp i.past.state after.state) is (stays_by g.J.Naming.setup c.self.inside.core.value.state after.state c.subsystem.ensures.set_up c.has_run.ensures.set_up);
       replays = c.has_run.ensures.replays;
       held = c.has_run.ensures.held;
       beside = c.has_run.ensures.beside;
