@@ -1,7 +1,8 @@
 -- What a step leaves of a program that is offered or holds the device.
-use Rattle.std.proofs.Common.{◌≡◌, refl, sym, ◌∙◌, ap, arith, ℕ, ◌<◌, ◌==◌, ◌&&◌, nat_lt, Bool, true, false, not, Option, None, Some}
+use Rattle.std.proofs.Common.{◌≡◌, refl, sym, ◌∙◌, ap, arith, ℕ, ◌+◌, ◌<◌, ◌==◌, ◌&&◌, nat_lt, Bool, true, false, not, Option, None, Some}
 use Rattle.std.specs.Prelude.{if◌then◌else◌}
 use Rattle.std.proofs.lemmas.Bool.{and_parts}
+use Rattle.scsw_irb.specs.declared.serials.Serials.{Serials}
 use Rattle.scsw_irb.specs.declared.status.DeviceStatus.{DeviceStatus}
 use Rattle.storage_keys.specs.Storage.{Contents}
 use Rattle.channel_program.specs.Walks.{WalkPlace}
@@ -38,6 +39,7 @@ use Rattle.subchannel_model.specs.Ends.{has_status_modifier, chains_command}
 use Rattle.subchannel_model.specs.Losing.{is_offered_or_held, reset_with, reset_for, loses_at, shows_at}
 use Rattle.subchannel_model.specs.Parts.{chain_with, end_shown_at, has_any}
 use Rattle.subchannel_model.proofs.Named.{with_known, with_attention}
+use Rattle.subchannel_model.specs.Status.{serials_made}
 use Rattle.subchannel_model.specs.Taking.{Met, meets, ignoring, quietly, let_go, by_hold, standing, goes_ahead, path_used, suspending, beginning, begin_standing, halt_done, clear_done, accept, attend, back, moving_on, giving, take_in, bytes_of_load, move_bytes, move_data, with_end, end_taken, chaining, goes_on, stops_at, command_ended, end_of, reset_taken, may_attend, takes_up}
 use Rattle.shown_laws.specs.Losses.{held_met}
 
@@ -288,6 +290,29 @@ loses-made (Some p) sub more = lost-made sub.state (rests_on sub.state.hold p) m
 pub notice-made : (s : SubchannelState) (b : ℕ) (more : Bool) → s.serials.made < (if more then quietly (reset_for (with_known s b)) else ignoring s).state.serials.made → holds s ≡ true
 notice-made s b true more = reset_for-made (with_known s b) more
 notice-made s b false more = absurd (omega (arith, more))
+
+-- where no status is made of a subchannel that is enabled, its status word stays
+abbrev pub IsSilent : SubchannelState → SubchannelState → Type 0
+IsSilent s x = s.pmcw.enabled ≡ true → x.serials ≡ s.serials → x.scsw ≡ s.scsw
+
+reset-silent : (s : SubchannelState) (shows : Bool) → IsSilent s (reset_with s shows)
+reset-silent s true e same =
+    let counts : (reset_with s true).serials.made ≡ s.serials.made + 1 = ap (λ (b : Bool). (serials_made b s.serials).made) e in
+    let stays : (reset_with s true).serials.made ≡ s.serials.made = ap (λ (x : Serials). x.made) same in
+    absurd (omega (arith, counts, stays))
+reset-silent s false e same = refl
+
+lost-silent : (s : SubchannelState) (b : Bool) → IsSilent s (if b then reset_for s else s)
+lost-silent s true = reset-silent s (holds s && has_any s.waiting s.begun s.suspended)
+lost-silent s false = λ e same. refl
+
+pub loses-silent : (o : Option ℕ) (sub : Subchannel) → IsSilent sub.state (loses_at o sub).state
+loses-silent None sub = λ e same. refl
+loses-silent (Some p) sub = lost-silent sub.state (rests_on sub.state.hold p)
+
+pub notice-silent : (s : SubchannelState) (b : ℕ) (more : Bool) → IsSilent s (if more then quietly (reset_for (with_known s b)) else ignoring s).state
+notice-silent s b true = lost-silent (with_known s b) true
+notice-silent s b false = λ e same. refl
 
 -- what a path that is lost leaves
 lost-off : (s : SubchannelState) (b : Bool) → holds (if b then reset_for s else s) ≡ true → holds s ≡ true

@@ -35,12 +35,14 @@ use Rattle.subchannel_model.specs.declared.state.SubchannelState.{SubchannelStat
 use Rattle.subchannel_model.specs.Causes.{with_cause}
 use Rattle.subchannel_model.specs.Choosing.{chosen, marked_sub}
 use Rattle.subchannel_model.specs.Conditions.{left_by}
-use Rattle.subchannel_model.specs.Losing.{is_offered_or_held, loses, loses_at, path_index}
+use Rattle.subchannel_model.specs.Losing.{is_offered_or_held, loses, path_index, shows_at}
 use Rattle.subchannel_model.specs.Places.{place_in}
-use Rattle.shown_laws.specs.Losses.{held_met, held_chosen, held_after, held_through, held_in, IsLossRight, AreLossesRight}
-use Rattle.shown_laws.specs.Shown.{names, is_about, is_accepted}
+use Rattle.shown_laws.specs.Codes.{enabled_in, MayBe}
+use Rattle.shown_laws.specs.Losses.{held_met, held_chosen, held_after, held_through, held_in, IsLoss, IsLossRight, AreLossesRight}
+use Rattle.shown_laws.specs.Shown.{StoredStatus, names, is_about, is_accepted}
+use Rattle.shown_laws.proofs.Enabling.{run-enabled}
 use Rattle.shown_laws.proofs.Executed.{IsEffect, reply_of, code_for, state_left}
-use Rattle.shown_laws.proofs.Losing.{holds, same-holds, takes-keeps, loses-made, notice-made, loses-off, shows-off}
+use Rattle.shown_laws.proofs.Losing.{holds, same-holds, takes-keeps, loses-made, loses-silent, notice-made, notice-silent, loses-off, shows-off}
 use Rattle.shown_laws.proofs.Runs.{AreLaws, status_of, run-keeps, run-between}
 use Rattle.shown_laws.proofs.Turned.{Turned, Executes, Chooses, Meets, Sweeps, Rests, met, reply_met, reply_chosen, state_chosen}
 
@@ -154,82 +156,100 @@ module _ (sets : ℕ) (id : SubchannelId) where
   turned-holds _ _ _ _ (Rests e r sub about) held f k = rests-holds e r sub.state about held f k
 
   -- the claim
-  met-right : (word path : ℕ) (returns : Bool) (storage : Contents) (sub : Subchannel) (x : Up) (held : Bool) → (holds sub.state ≡ true → held ≡ true) →
-      IsLossRight held (status_of sub.state) (event.Up word path) (reply_met x (met returns storage sub path x)) (status_of (met returns storage sub path x).step.state)
-  met-right word path returns storage sub (up.Accept t) held f = tt
-  met-right word path returns storage sub (up.Busy t) held f = tt
-  met-right word path returns storage sub (up.Leave t c) held f = tt
-  met-right word path returns storage sub (up.Back t c) held f = tt
-  met-right word path returns storage sub (up.Data t c n q load) held f = tt
-  met-right word path returns storage sub (up.End t n status more) held f = tt
-  met-right word path returns storage sub (up.Released t) held f = tt
-  met-right word path returns storage sub (up.Cleared r) held f = tt
-  met-right word path returns storage sub (up.Notice b) held f = λ more. f (notice-made sub.state b (nat_lt sub.state.hold.known b) more)
-  met-right word path returns storage sub (up.Attn a status) held f = tt
+  known-is : (known : Option Bool) (enabled : Bool) → known ≡ Some true → MayBe known enabled → enabled ≡ true
+  known-is known enabled e may = subst (λ (o : Option Bool). MayBe o enabled) e may
 
-  swept-right : (what : Sweep) (r : Reply) (sub : Subchannel) (held : Bool) → (holds sub.state ≡ true → held ≡ true) →
-      IsLossRight held (status_of sub.state) (sweep_event what) r (status_of (swept what sub).state)
-  swept-right (sweep.GoesDown chpid) r sub held f = λ more.
-      f (loses-made (path_index chpid sub.setup.paths) sub (subst (λ (n : ℕ). sub.state.serials.made < n) (shown-made (path_index chpid (loses chpid sub).setup.paths) (loses chpid sub)) more))
-    where
-      shown-made : (o : Option ℕ) (y : Subchannel) → (Rattle.subchannel_model.specs.Losing.shows_at o false y).state.serials.made ≡ y.state.serials.made
-      shown-made None y = refl
-      shown-made (Some p) y = refl
-  swept-right (sweep.ComesUp chpid) r sub held f = tt
-  swept-right (sweep.PathReset chpid) r sub held f = λ more. f (loses-made (path_index chpid sub.setup.paths) sub more)
-  swept-right sweep.SystemReset r sub held f = tt
+  same-loss : (held : Bool) (known : Option Bool) (k : StoredStatus) → IsLoss held known k k
+  same-loss held known k = record { made = λ more. absurd (omega (arith, more)); silent = λ e same. refl }
 
-  none-met : (r : Reply) (word path : ℕ) (s : SubchannelState) (held : Bool) → IsLossRight held (status_of s) (event.Up word path) r (status_of s)
-  none-met reply.Done word path s held = tt
-  none-met (reply.Shown bytes) word path s held = tt
-  none-met (reply.Code a) word path s held = tt
-  none-met (reply.Status a scsw) word path s held = tt
-  none-met (reply.Interruption found) word path s held = tt
-  none-met (reply.PathReset c) word path s held = tt
-  none-met (reply.ChannelReport report) word path s held = tt
-  none-met (reply.Paths engaged) word path s held = tt
-  none-met (reply.Offered t p z) word path s held = tt
-  none-met (reply.ResetSent n p) word path s held = tt
-  none-met (reply.HaltSent t p) word path s held = tt
-  none-met reply.Pending word path s held = tt
-  none-met reply.Idle word path s held = tt
-  none-met (reply.Up (up.Accept t) taken sent) word path s held = tt
-  none-met (reply.Up (up.Busy t) taken sent) word path s held = tt
-  none-met (reply.Up (up.Leave t c) taken sent) word path s held = tt
-  none-met (reply.Up (up.Back t c) taken sent) word path s held = tt
-  none-met (reply.Up (up.Data t c n q load) taken sent) word path s held = tt
-  none-met (reply.Up (up.End t n status more) taken sent) word path s held = tt
-  none-met (reply.Up (up.Released t) taken sent) word path s held = tt
-  none-met (reply.Up (up.Cleared r) taken sent) word path s held = tt
-  none-met (reply.Up (up.Notice b) taken sent) word path s held = λ more. absurd (omega (arith, more))
-  none-met (reply.Up (up.Attn a status) taken sent) word path s held = tt
-  none-met (reply.Down x taken sent) word path s held = tt
+  met-right : (word path : ℕ) (returns : Bool) (storage : Contents) (sub : Subchannel) (x : Up) (held : Bool) (known : Option Bool) → (holds sub.state ≡ true → held ≡ true) → MayBe known sub.state.pmcw.enabled →
+      IsLossRight held known (status_of sub.state) (event.Up word path) (reply_met x (met returns storage sub path x)) (status_of (met returns storage sub path x).step.state)
+  met-right word path returns storage sub (up.Accept t) held known f may = tt
+  met-right word path returns storage sub (up.Busy t) held known f may = tt
+  met-right word path returns storage sub (up.Leave t c) held known f may = tt
+  met-right word path returns storage sub (up.Back t c) held known f may = tt
+  met-right word path returns storage sub (up.Data t c n q load) held known f may = tt
+  met-right word path returns storage sub (up.End t n status more) held known f may = tt
+  met-right word path returns storage sub (up.Released t) held known f may = tt
+  met-right word path returns storage sub (up.Cleared r) held known f may = tt
+  met-right word path returns storage sub (up.Notice b) held known f may = record {
+    made = λ more. f (notice-made sub.state b (nat_lt sub.state.hold.known b) more);
+    silent = λ e same. notice-silent sub.state b (nat_lt sub.state.hold.known b) (known-is known sub.state.pmcw.enabled e may) same;
+  }
+  met-right word path returns storage sub (up.Attn a status) held known f may = tt
 
-  rests-right : (e : Event) (r : Reply) (s : SubchannelState) (held : Bool) → IsLossRight held (status_of s) e r (status_of s)
-  rests-right (event.Put address bytes) r s held = tt
-  rests-right (event.SetKey address key) r s held = tt
-  rests-right (event.SetPrefix cpu address) r s held = tt
-  rests-right (event.Show address count) r s held = tt
-  rests-right (event.Execute cpu i) r s held = tt
-  rests-right (event.ExecuteOther cpu i) r s held = tt
-  rests-right (event.Choose word) r s held = tt
-  rests-right (event.Up word path) r s held = none-met r word path s held
-  rests-right (event.Down word path) r s held = tt
-  rests-right (event.Report at report) r s held = tt
-  rests-right (event.Act at what) r s held = tt
-  rests-right (event.Restart at) r s held = tt
-  rests-right (event.PathDown chpid) r s held = λ more. absurd (omega (arith, more))
-  rests-right (event.PathUp chpid) r s held = tt
-  rests-right (event.PathReset chpid) r s held = λ more. absurd (omega (arith, more))
-  rests-right event.SystemReset r s held = tt
+  shown-status : (o : Option ℕ) (y : Subchannel) → status_of (shows_at o false y).state ≡ status_of y.state
+  shown-status None y = refl
+  shown-status (Some p) y = refl
 
-  turned-right : (e : Event) (r : Reply) (sub : Subchannel) (after : SubchannelState) (held : Bool) → (holds sub.state ≡ true → held ≡ true) → Turned sets id e r sub after →
-      IsLossRight held (status_of sub.state) e r (status_of after)
-  turned-right _ _ _ _ held f (Executes cpu i sub effect named is) = tt
-  turned-right _ _ _ _ held f (Chooses word sub choice named) = tt
-  turned-right _ _ _ _ held f (Meets word path returns storage sub x named) = met-right word path returns storage sub x held f
-  turned-right _ _ _ _ held f (Sweeps what r sub) = swept-right what r sub held f
-  turned-right _ _ _ _ held f (Rests e r sub about) = rests-right e r sub.state held
+  swept-right : (what : Sweep) (r : Reply) (sub : Subchannel) (held : Bool) (known : Option Bool) → (holds sub.state ≡ true → held ≡ true) → MayBe known sub.state.pmcw.enabled →
+      IsLossRight held known (status_of sub.state) (sweep_event what) r (status_of (swept what sub).state)
+  swept-right (sweep.GoesDown chpid) r sub held known f may =
+      let o : Option ℕ = path_index chpid sub.setup.paths in
+      let y : Subchannel = loses chpid sub in
+      let is : status_of (shows_at (path_index chpid y.setup.paths) false y).state ≡ status_of y.state = shown-status (path_index chpid y.setup.paths) y in
+      record {
+        made = λ more. f (loses-made o sub (subst (λ (k : StoredStatus). sub.state.serials.made < k.serials.made) is more));
+        silent = λ e same. ap (λ (k : StoredStatus). k.scsw) is ∙ loses-silent o sub (known-is known sub.state.pmcw.enabled e may) (ap (λ (k : StoredStatus). k.serials) (sym is) ∙ same);
+      }
+  swept-right (sweep.ComesUp chpid) r sub held known f may = tt
+  swept-right (sweep.PathReset chpid) r sub held known f may = record {
+    made = λ more. f (loses-made (path_index chpid sub.setup.paths) sub more);
+    silent = λ e same. loses-silent (path_index chpid sub.setup.paths) sub (known-is known sub.state.pmcw.enabled e may) same;
+  }
+  swept-right sweep.SystemReset r sub held known f may = tt
+
+  none-met : (r : Reply) (word path : ℕ) (s : SubchannelState) (held : Bool) (known : Option Bool) → IsLossRight held known (status_of s) (event.Up word path) r (status_of s)
+  none-met reply.Done word path s held known = tt
+  none-met (reply.Shown bytes) word path s held known = tt
+  none-met (reply.Code a) word path s held known = tt
+  none-met (reply.Status a scsw) word path s held known = tt
+  none-met (reply.Interruption found) word path s held known = tt
+  none-met (reply.PathReset c) word path s held known = tt
+  none-met (reply.ChannelReport report) word path s held known = tt
+  none-met (reply.Paths engaged) word path s held known = tt
+  none-met (reply.Offered t p z) word path s held known = tt
+  none-met (reply.ResetSent n p) word path s held known = tt
+  none-met (reply.HaltSent t p) word path s held known = tt
+  none-met reply.Pending word path s held known = tt
+  none-met reply.Idle word path s held known = tt
+  none-met (reply.Up (up.Accept t) taken sent) word path s held known = tt
+  none-met (reply.Up (up.Busy t) taken sent) word path s held known = tt
+  none-met (reply.Up (up.Leave t c) taken sent) word path s held known = tt
+  none-met (reply.Up (up.Back t c) taken sent) word path s held known = tt
+  none-met (reply.Up (up.Data t c n q load) taken sent) word path s held known = tt
+  none-met (reply.Up (up.End t n status more) taken sent) word path s held known = tt
+  none-met (reply.Up (up.Released t) taken sent) word path s held known = tt
+  none-met (reply.Up (up.Cleared r) taken sent) word path s held known = tt
+  none-met (reply.Up (up.Notice b) taken sent) word path s held known = same-loss held known (status_of s)
+  none-met (reply.Up (up.Attn a status) taken sent) word path s held known = tt
+  none-met (reply.Down x taken sent) word path s held known = tt
+
+  rests-right : (e : Event) (r : Reply) (s : SubchannelState) (held : Bool) (known : Option Bool) → IsLossRight held known (status_of s) e r (status_of s)
+  rests-right (event.Put address bytes) r s held known = tt
+  rests-right (event.SetKey address key) r s held known = tt
+  rests-right (event.SetPrefix cpu address) r s held known = tt
+  rests-right (event.Show address count) r s held known = tt
+  rests-right (event.Execute cpu i) r s held known = tt
+  rests-right (event.ExecuteOther cpu i) r s held known = tt
+  rests-right (event.Choose word) r s held known = tt
+  rests-right (event.Up word path) r s held known = none-met r word path s held known
+  rests-right (event.Down word path) r s held known = tt
+  rests-right (event.Report at report) r s held known = tt
+  rests-right (event.Act at what) r s held known = tt
+  rests-right (event.Restart at) r s held known = tt
+  rests-right (event.PathDown chpid) r s held known = same-loss held known (status_of s)
+  rests-right (event.PathUp chpid) r s held known = tt
+  rests-right (event.PathReset chpid) r s held known = same-loss held known (status_of s)
+  rests-right event.SystemReset r s held known = tt
+
+  turned-right : (e : Event) (r : Reply) (sub : Subchannel) (after : SubchannelState) (held : Bool) (known : Option Bool) → (holds sub.state ≡ true → held ≡ true) → MayBe known sub.state.pmcw.enabled → Turned sets id e r sub after →
+      IsLossRight held known (status_of sub.state) e r (status_of after)
+  turned-right _ _ _ _ held known f may (Executes cpu i sub effect named is) = tt
+  turned-right _ _ _ _ held known f may (Chooses word sub choice named) = tt
+  turned-right _ _ _ _ held known f may (Meets word path returns storage sub x named) = met-right word path returns storage sub x held known f may
+  turned-right _ _ _ _ held known f may (Sweeps what r sub) = swept-right what r sub held known f may
+  turned-right _ _ _ _ held known f may (Rests e r sub about) = rests-right e r sub.state held known
 
 -- along a run
 through-more : (sets : ℕ) (id : SubchannelId) (held : Bool) (h : List Entry) (x : Entry) → held_through sets id held (h ++ x ∷ []) ≡ held_after sets id x.event x.reply (held_through sets id held h)
@@ -246,6 +266,7 @@ run-holds laws setup id =
 
 pub run-losses : AreLaws → (setup : Setup) (h : List Entry) (s : State) → Run (opening_of setup) h s → AreLossesRight (set_count setup) h
 run-losses laws setup h s run id =
-    run-between laws setup id (λ before old e r new. IsLossRight (held_in (set_count setup) id before) old e r new)
+    run-between laws setup id (λ before old e r new. IsLossRight (held_in (set_count setup) id before) (enabled_in (set_count setup) id before) old e r new)
     (λ before old e r place sub after before-run named there turned.
-    turned-right (set_count setup) id e r sub after (held_in (set_count setup) id before) (run-holds laws setup id before old before-run place sub named there) turned) h s run
+    turned-right (set_count setup) id e r sub after (held_in (set_count setup) id before) (enabled_in (set_count setup) id before)
+    (run-holds laws setup id before old before-run place sub named there) (run-enabled laws setup id before old before-run place sub named there) turned) h s run

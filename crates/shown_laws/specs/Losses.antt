@@ -1,6 +1,7 @@
 -- Where the loss of a path, or a Notice of restarts, makes a status, an interface-control check (SA22-7832, chapter 16): only where a program
--- of the subchannel is offered or holds the device. A start that waits while its device is let go is not lost (own).
-use Rattle.std.specs.Prelude.{◌≡◌, ◌<◌, ℕ, ◌&&◌, Bool, true, false, if◌then◌else◌, Some, List, [], ◌∷◌}
+-- of the subchannel is offered or holds the device. A start that waits while its device is let go is not lost (own). Nothing is lost in
+-- silence: what STORE SUBCHANNEL shows changes with a status alone.
+use Rattle.std.specs.Prelude.{◌≡◌, ◌<◌, ℕ, ◌&&◌, Bool, true, false, if◌then◌else◌, Option, Some, List, [], ◌∷◌}
 use Rattle.chan_events.specs.declared.event.Event.{Event}
 use Rattle.chan_events.specs.declared.event.Event.TheVariants as event
 use Rattle.chan_events.specs.declared.event.Instruction.TheVariants as instruction
@@ -9,6 +10,7 @@ use Rattle.chan_events.specs.declared.reply.Reply.{Reply}
 use Rattle.chan_events.specs.declared.reply.Reply.TheVariants as reply
 use Rattle.chan_model.specs.declared.signal.Up.TheVariants as up
 use Rattle.channel_config.specs.declared.names.SubchannelId.{SubchannelId}
+use Rattle.shown_laws.specs.Codes.{enabled_in}
 use Rattle.shown_laws.specs.Shown.{StoredStatus, names, is_accepted, is_release, Between}
 
 -- whether the program that was offered last may be offered or hold the device still: not after Busy, its Release, Cleared or a Notice
@@ -38,13 +40,17 @@ held_through sets id held (entry ∷ entries) = held_through sets id (held_after
 abbrev pub held_in : ℕ → SubchannelId → List Entry → Bool
 held_in sets id h = held_through sets id false h
 
--- a status that is made so is of such a program
-abbrev pub IsLossRight : Bool → StoredStatus → Event → Reply → StoredStatus → Type 0
-IsLossRight held old (event.PathDown chpid) r new = old.serials.made < new.serials.made → held ≡ true
-IsLossRight held old (event.PathReset chpid) r new = old.serials.made < new.serials.made → held ≡ true
-IsLossRight held old (event.Up word path) (reply.Up (up.Notice b) taken sent) new = old.serials.made < new.serials.made → held ≡ true
-IsLossRight held old e r new = Unit {0}
+-- a status that is made so is of such a program; where none is made of a subchannel that is known to be enabled, its status word stays
+pub record IsLoss (held : Bool) (known : Option Bool) (old new : StoredStatus) : Type 0 where
+  pub made : old.serials.made < new.serials.made → held ≡ true
+  pub silent : known ≡ Some true → new.serials ≡ old.serials → new.scsw ≡ old.scsw
+
+abbrev pub IsLossRight : Bool → Option Bool → StoredStatus → Event → Reply → StoredStatus → Type 0
+IsLossRight held known old (event.PathDown chpid) r new = IsLoss held known old new
+IsLossRight held known old (event.PathReset chpid) r new = IsLoss held known old new
+IsLossRight held known old (event.Up word path) (reply.Up (up.Notice b) taken sent) new = IsLoss held known old new
+IsLossRight held known old e r new = Unit {0}
 
 -- of each subchannel
 abbrev pub AreLossesRight : ℕ → List Entry → Type 0
-AreLossesRight sets h = (id : SubchannelId) → Between sets id h (λ before old e r new. IsLossRight (held_in sets id before) old e r new)
+AreLossesRight sets h = (id : SubchannelId) → Between sets id h (λ before old e r new. IsLossRight (held_in sets id before) (enabled_in sets id before) old e r new)

@@ -110,7 +110,8 @@ pub fn deferred_codes()
 }
 
 /// In each run a path that is lost, or a Notice of restarts, makes a status of a subchannel only where a program was offered and,
-/// since, neither refused by Busy nor let go by a Release, nor cleared or reset (SA22-7832, chapter 16, interface-control check).
+/// since, neither refused by Busy nor let go by a Release, nor cleared or reset (SA22-7832, chapter 16, interface-control check);
+/// and where it makes none of a subchannel that is enabled, the status word stays as it was.
 pub fn losses()
     ensures held { (setup : Setup) (h : List Entry) (s : State) → Run (opening_of setup) h s → AreLossesRight (set_count setup) h }
 {
