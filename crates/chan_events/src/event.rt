@@ -8,7 +8,7 @@ use chan_model::report::Report;
 use storage_keys::key::Key;
 
 /// An I/O instruction (SA22-7832, chapter 14). `subchannel` is general register 1: the subsystem-identification word.
-#[derive(Clone, Copy, Debug)]
+#[derive(Clone, Copy, Debug, PartialEq, Eq)]
 pub enum Instruction {
     /// START SUBCHANNEL with the ORB at this real address.
     Ssch {
@@ -57,7 +57,7 @@ pub enum Instruction {
 }
 
 /// An I/O instruction that names no subchannel (SA22-7832, chapter 14). Addresses are real.
-#[derive(Clone, Copy, Debug)]
+#[derive(Clone, Copy, Debug, PartialEq, Eq)]
 pub enum OtherInstruction {
     /// TEST PENDING INTERRUPTION. `mask` is the byte of control register 6: hexadecimal 80 is subclass 0. With address
     /// 0 the code is stored at 184.
@@ -71,7 +71,7 @@ pub enum OtherInstruction {
 }
 
 /// An act of a unit of itself, told to the subchannel of a side. `path` is the index of a path of that subchannel.
-#[derive(Clone, Copy, Debug)]
+#[derive(Clone, Copy, Debug, PartialEq, Eq)]
 pub enum UnitAct {
     /// The program that is connected leaves its path and works on.
     Leave,

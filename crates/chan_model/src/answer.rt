@@ -15,7 +15,7 @@ pub enum ConditionCode {
 
 /// The condition code of an instruction on a subchannel (SA22-7832, chapter 14). The codes 0 and 1 bring the serials of
 /// the subchannel as the instruction leaves them.
-#[derive(Clone, Copy, Debug)]
+#[derive(Clone, Copy, Debug, PartialEq, Eq)]
 pub enum Answer {
     Zero(Serials),
     One(Serials),

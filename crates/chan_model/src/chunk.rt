@@ -1,6 +1,6 @@
 //! The bytes that one signal moves.
 
-ghost use Rattle.std.specs.Prelude.{◌≡◌, ◌≤◌, [], ◌∷◌, ◌++◌, ◌<◌, ◌↔◌, IsSome, IfSome, length};
+ghost use Rattle.std.specs.Prelude.{◌≡◌, ◌≤◌, [], ◌∷◌, ◌++◌, ◌<◌, ◌↔◌, IsSome, IfSome, length, take};
 
 use arrayvec::ArrayVec;
 use std::marker::Model;
@@ -66,6 +66,22 @@ impl Chunk {
         self.bytes.len()
     }
 
+    /// How many there are, as the length of another.
+    pub fn length(&self) -> ChunkLength
+        ensures value { result ≡ length self.now }
+        ensures bound { length self.now ≤ 256 }
+    {
+        ChunkLength::of(self.bytes.as_slice())
+    }
+
+    /// The first of these bytes, as many as are wanted.
+    pub fn first(wanted: ChunkLength, bytes: &[u8]) -> Chunk
+        requires { wanted ≤ length bytes.now }
+        ensures { result ≡ take wanted bytes.now }
+    {
+        Chunk::of(&bytes[..wanted.get()])
+    }
+
     /// The same bytes again; it takes no memory.
     pub fn copy(&self) -> Self
         ensures { result ≡ self.now }
@@ -75,7 +91,7 @@ impl Chunk {
 }
 
 /// How many bytes a chunk is to have: at most 256.
-#[derive(Clone, Copy, Debug)]
+#[derive(Clone, Copy, Debug, PartialEq, Eq)]
 pub struct ChunkLength {
     bytes: u16,
 }
@@ -104,6 +120,16 @@ impl ChunkLength {
             })
         } else {
             None
+        }
+    }
+
+    /// As many as these.
+    pub fn of(bytes: &[u8]) -> ChunkLength
+        requires { length bytes.now ≤ 256 }
+        ensures { result ≡ length bytes.now }
+    {
+        ChunkLength {
+            bytes: bytes.len() as u16,
         }
     }
 

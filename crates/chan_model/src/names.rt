@@ -5,7 +5,7 @@ ghost use Rattle.std.specs.Prelude.{◌≡◌, ◌<◌, ◌≤◌, ◌==◌, IfS
 use std::marker::Model;
 
 /// The index of a channel path of a subchannel, 0 to 7 (SA22-7832, chapter 13).
-#[derive(Clone, Copy, Debug)]
+#[derive(Clone, Copy, Debug, PartialEq, Eq)]
 pub struct Path {
     index: u8,
 }
@@ -52,7 +52,7 @@ impl Path {
 }
 
 /// The number of a CPU, 0 to 15.
-#[derive(Clone, Copy, Debug)]
+#[derive(Clone, Copy, Debug, PartialEq, Eq)]
 pub struct Cpu {
     number: u8,
 }

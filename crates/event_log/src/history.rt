@@ -9,7 +9,7 @@ ghost use Rattle.event_log.specs.Logs as spec;
 use crate::logs::Log;
 use chan_events::reply::Entry;
 use kept_events::entries::KeptEntry;
-use same_entries::{same, same_kept};
+use kept_events::same::{same_event, same_reply};
 use std::marker::Model;
 
 /// The accepted events with their replies, the oldest first.
@@ -152,40 +152,27 @@ fn is_kept_as(one: &KeptEntry, other: &KeptEntry) -> bool
     one.start == other.start && same_kept(one, other)
 }
 
-/// Whether both are the same entry, each with its bytes.
+/// Whether both are kept with the same numbers, wherever their bytes stand.
+fn same_kept(one: &KeptEntry, other: &KeptEntry) -> bool
+    ensures { IsTrue result ↔ ((one.now.event ≡ other.now.event) × (one.now.reply ≡ other.now.reply)) }
+{
+    same_event(&one.event, &other.event) && same_reply(&one.reply, &other.reply)
+}
+
+/// Whether both are the same bytes.
+fn same_bytes(one: &[u8], other: &[u8]) -> bool
+    ensures { IsTrue result ↔ (one.now ≡ other.now) }
+{
+    one == other
+}
+
+/// Whether both are the same entry, each with its bytes: they are where they are kept with the same numbers and have the same
+/// bytes.
+#[tactic(auto, using(crate::proofs::Sameness::from_parts, crate::proofs::Sameness::to_parts))]
 fn same_at(one: &KeptEntry, bytes: &[u8], other: &KeptEntry, other_bytes: &[u8]) -> bool
     requires one { spec.Fits (length bytes.now) one.now }
     requires other { spec.Fits (length other_bytes.now) other.now }
     ensures { IsTrue result ↔ (spec.entry_at bytes.now one.now ≡ spec.entry_at other_bytes.now other.now) }
 {
-    packed_same(one, bytes, other, other_bytes) || unpacked_same(one, bytes, other, other_bytes)
-}
-
-/// Whether both are kept as the same.
-fn packed_same(one: &KeptEntry, bytes: &[u8], other: &KeptEntry, other_bytes: &[u8]) -> bool
-    requires one { spec.Fits (length bytes.now) one.now }
-    requires other { spec.Fits (length other_bytes.now) other.now }
-    ensures { IsTrue result → spec.entry_at bytes.now one.now ≡ spec.entry_at other_bytes.now other.now }
-{
-    same_kept(one, other) && same_bytes(one, bytes, other, other_bytes)
-}
-
-/// Whether both, which are kept with the same numbers, have the same bytes: most have none.
-fn same_bytes(one: &KeptEntry, bytes: &[u8], other: &KeptEntry, other_bytes: &[u8]) -> bool
-    requires one { spec.Fits (length bytes.now) one.now }
-    requires other { spec.Fits (length other_bytes.now) other.now }
-    requires numbers { (one.now.event ≡ other.now.event) × (one.now.reply ≡ other.now.reply) }
-    ensures { IsTrue result → spec.entry_at bytes.now one.now ≡ spec.entry_at other_bytes.now other.now }
-{
-    one.length() == 0 || bytes_of(one, bytes) == bytes_of(other, other_bytes)
-}
-
-/// Whether both are the same entry, which each is unpacked to.
-#[inline(never)]
-fn unpacked_same(one: &KeptEntry, bytes: &[u8], other: &KeptEntry, other_bytes: &[u8]) -> bool
-    requires one { spec.Fits (length bytes.now) one.now }
-    requires other { spec.Fits (length other_bytes.now) other.now }
-    ensures { IsTrue result ↔ (spec.entry_at bytes.now one.now ≡ spec.entry_at other_bytes.now other.now) }
-{
-    same(&entry_at(one, bytes), &entry_at(other, other_bytes))
+    same_kept(one, other) && same_bytes(bytes_of(one, bytes), bytes_of(other, other_bytes))
 }

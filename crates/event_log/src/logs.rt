@@ -289,11 +289,12 @@ fn push(entries: &mut Vec<KeptEntry>, start: usize, event: KeptEvent, reply: Kep
     ensures len { vec_len entries.new ≡ vec_len entries.old + 1 }
     ensures capacity { vec_capacity entries.old ≤ vec_capacity entries.new }
 {
-    entries.push_reserved(KeptEntry {
+    let kept = KeptEntry {
         start,
         event,
         reply,
-    });
+    };
+    push_copy(entries, &kept);
 }
 
 /// Adds an entry that is kept with the same numbers, for which there is room.

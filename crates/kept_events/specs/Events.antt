@@ -14,7 +14,7 @@ reported unit side number command sequence a =
 
 -- the event with the first of these bytes
 abbrev pub event_in : KeptEvent → List ℕ → Event
-event_in (kept_event.Put length address) bytes = event.Put address (take length.bytes bytes)
+event_in (kept_event.Put length address) bytes = event.Put address (take length bytes)
 event_in (kept_event.SetKey address key) bytes = event.SetKey address key
 event_in (kept_event.SetPrefix cpu address) bytes = event.SetPrefix cpu address
 event_in (kept_event.Show length address) bytes = event.Show address length
@@ -25,7 +25,7 @@ event_in (kept_event.Up subchannel path) bytes = event.Up subchannel path
 event_in (kept_event.Down subchannel path) bytes = event.Down subchannel path
 event_in (kept_event.Begins side unit number command sequence) bytes = reported unit side number command sequence answer.Begins
 event_in (kept_event.Absorbed side count unit number command sequence) bytes = reported unit side number command sequence (answer.Absorbed count)
-event_in (kept_event.Supplied side length unit number command sequence) bytes = reported unit side number command sequence (answer.Supplied (take length.bytes bytes))
+event_in (kept_event.Supplied side length unit number command sequence) bytes = reported unit side number command sequence (answer.Supplied (take length bytes))
 event_in (kept_event.Again side unit number command sequence) bytes = reported unit side number command sequence answer.Again
 event_in (kept_event.Ended side status more unit number command sequence) bytes = reported unit side number command sequence (answer.Ended status more)
 event_in (kept_event.Act unit act) bytes = event.Act unit act
@@ -37,8 +37,8 @@ event_in kept_event.SystemReset bytes = event.SystemReset
 
 -- how many bytes it has
 abbrev pub event_length : KeptEvent → ℕ
-event_length (kept_event.Put length address) = length.bytes
-event_length (kept_event.Supplied side length unit number command sequence) = length.bytes
+event_length (kept_event.Put length address) = length
+event_length (kept_event.Supplied side length unit number command sequence) = length
 event_length kept = 0
 
 -- the bytes of an event

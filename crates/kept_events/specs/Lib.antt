@@ -2,3 +2,4 @@ pub mod Signals
 pub mod Events
 pub mod Replies
 pub mod Entries
+pub mod Fields

@@ -18,7 +18,7 @@ down_met taken path signal sent = reply.Down signal taken (Some (record { path =
 -- the reply with the first of these bytes: those of the signal that was met, then those of the one that was sent
 abbrev pub reply_in : KeptReply → List ℕ → Reply
 reply_in kept_reply.Done bytes = reply.Done
-reply_in (kept_reply.Shown length) bytes = reply.Shown (take length.bytes bytes)
+reply_in (kept_reply.Shown length) bytes = reply.Shown (take length bytes)
 reply_in (kept_reply.Code answer) bytes = reply.Code answer
 reply_in (kept_reply.Status answer scsw) bytes = reply.Status answer scsw
 reply_in (kept_reply.Interruption code) bytes = reply.Interruption code
@@ -37,7 +37,7 @@ reply_in (kept_reply.DownSent taken path signal sent) bytes = down_met taken pat
 
 -- how many bytes it has
 abbrev pub reply_length : KeptReply → ℕ
-reply_length (kept_reply.Shown length) = length.bytes
+reply_length (kept_reply.Shown length) = length
 reply_length (kept_reply.Up taken signal) = up_length signal
 reply_length (kept_reply.UpSent taken path signal sent) = up_length signal + down_length sent
 reply_length (kept_reply.Down taken signal) = down_length signal

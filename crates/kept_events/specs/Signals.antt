@@ -17,7 +17,7 @@ down_in (kept_down.Command code room number command) bytes = down.Command number
 down_in (kept_down.Grant number connection) bytes = down.Grant number connection
 down_in (kept_down.Refuse number connection) bytes = down.Refuse number connection
 down_in (kept_down.Took room number command sequence) bytes = down.Took number command sequence room
-down_in (kept_down.Give length number connection command sequence) bytes = down.Give number connection command sequence (take length.bytes bytes)
+down_in (kept_down.Give length number connection command sequence) bytes = down.Give number connection command sequence (take length bytes)
 down_in (kept_down.Halt number) bytes = down.Halt number
 down_in (kept_down.Release number) bytes = down.Release number
 down_in (kept_down.Reset number restarts) bytes = down.Reset number restarts
@@ -25,7 +25,7 @@ down_in (kept_down.Got attention) bytes = down.Got attention
 
 -- how many bytes it has
 abbrev pub down_length : KeptDown → ℕ
-down_length (kept_down.Give length number connection command sequence) = length.bytes
+down_length (kept_down.Give length number connection command sequence) = length
 down_length kept = 0
 
 -- the bytes of a signal
@@ -39,7 +39,7 @@ up_in (kept_up.Busy number) bytes = up.Busy number
 up_in (kept_up.Leave number connection) bytes = up.Leave number connection
 up_in (kept_up.Back number connection) bytes = up.Back number connection
 up_in (kept_up.Absorbed count number connection command sequence) bytes = up.Data number connection command sequence (load.Absorbed count)
-up_in (kept_up.Bytes length number connection command sequence) bytes = up.Data number connection command sequence (load.Bytes (take length.bytes bytes))
+up_in (kept_up.Bytes length number connection command sequence) bytes = up.Data number connection command sequence (load.Bytes (take length bytes))
 up_in (kept_up.End status more number command) bytes = up.End number command status more
 up_in (kept_up.Released number) bytes = up.Released number
 up_in (kept_up.Cleared number) bytes = up.Cleared number
@@ -47,7 +47,7 @@ up_in (kept_up.Notice restarts) bytes = up.Notice restarts
 up_in (kept_up.Attn status attention) bytes = up.Attn attention status
 
 abbrev pub up_length : KeptUp → ℕ
-up_length (kept_up.Bytes length number connection command sequence) = length.bytes
+up_length (kept_up.Bytes length number connection command sequence) = length
 up_length kept = 0
 
 abbrev pub up_bytes : Up → List ℕ

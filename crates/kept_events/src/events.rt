@@ -4,9 +4,8 @@ ghost use Rattle.std.specs.Prelude.{◌≡◌, ◌≤◌, ◌++◌, ℕ, List, l
 ghost use Rattle.chan_events.specs.declared.event.Event.TheVariants as event_spec;
 ghost use Rattle.kept_events.specs.Events as spec;
 
-use crate::lengths::{Length, chunk_of, length_of};
 use chan_events::event::{Event, Instruction, OtherInstruction, UnitAct};
-use chan_model::chunk::ChunkLength;
+use chan_model::chunk::{Chunk, ChunkLength};
 use chan_model::names::{Cpu, Side};
 use chan_model::report::{DeviceAnswer, Report};
 use scsw_irb::status::DeviceStatus;
@@ -16,7 +15,7 @@ use storage_keys::key::Key;
 #[derive(Clone, Copy)]
 pub enum KeptEvent {
     Put {
-        length: Length,
+        length: ChunkLength,
         address: u32,
     },
     SetKey {
@@ -67,7 +66,7 @@ pub enum KeptEvent {
     },
     Supplied {
         side: Side,
-        length: Length,
+        length: ChunkLength,
         unit: u32,
         number: u64,
         command: u64,
@@ -132,7 +131,7 @@ fn put_report(kept: &mut KeptEvent, unit: u32, report: &Report)
         },
         DeviceAnswer::Supplied(bytes) => *kept = KeptEvent::Supplied {
             side: report.side,
-            length: length_of(bytes),
+            length: bytes.length(),
             unit,
             number: report.number,
             command: report.command,
@@ -177,7 +176,7 @@ impl KeptEvent {
     {
         match event {
             Event::Put { address, bytes } => *self = KeptEvent::Put {
-                length: length_of(bytes),
+                length: bytes.length(),
                 address: *address,
             },
             Event::SetKey { address, key } => *self = KeptEvent::SetKey {
@@ -244,7 +243,7 @@ impl KeptEvent {
         match self {
             KeptEvent::Put { length, address } => Event::Put {
                 address: *address,
-                bytes: chunk_of(*length, bytes),
+                bytes: Chunk::first(*length, bytes),
             },
             KeptEvent::SetKey { address, key } => Event::SetKey {
                 address: *address,
@@ -324,7 +323,7 @@ impl KeptEvent {
                     number: *number,
                     command: *command,
                     sequence: *sequence,
-                    answer: DeviceAnswer::Supplied(chunk_of(*length, bytes)),
+                    answer: DeviceAnswer::Supplied(Chunk::first(*length, bytes)),
                 },
             },
             KeptEvent::Again {

@@ -4,6 +4,7 @@
 pub mod bytes;
 pub mod entries;
 pub mod events;
-pub mod lengths;
 pub mod replies;
+pub mod same;
 pub mod signals;
+mod words;

@@ -3,10 +3,10 @@
 ghost use Rattle.std.specs.Prelude.{◌≡◌, ◌≤◌, ◌++◌, ℕ, List, length};
 ghost use Rattle.kept_events.specs.Replies as spec;
 
-use crate::lengths::{Length, chunk_of, length_of};
 use crate::signals::{KeptDown, KeptUp};
 use chan_events::reply::{PATH_STATUS_BYTES, Reply};
 use chan_model::answer::{Answer, ConditionCode};
+use chan_model::chunk::{Chunk, ChunkLength};
 use chan_model::names::Path;
 use chan_model::signal::OnPath;
 use scsw_irb::code::IntCode;
@@ -18,7 +18,7 @@ use scsw_irb::scsw::Scsw;
 pub enum KeptReply {
     Done,
     Shown {
-        length: Length,
+        length: ChunkLength,
     },
     Code(Answer),
     Status {
@@ -78,7 +78,7 @@ impl KeptReply {
         match reply {
             Reply::Done => KeptReply::Done,
             Reply::Shown { bytes } => KeptReply::Shown {
-                length: length_of(bytes),
+                length: bytes.length(),
             },
             Reply::Code(answer) => KeptReply::Code(*answer),
             Reply::Status { answer, scsw } => KeptReply::Status {
@@ -170,7 +170,7 @@ impl KeptReply {
         match self {
             KeptReply::Done => Reply::Done,
             KeptReply::Shown { length } => Reply::Shown {
-                bytes: chunk_of(*length, bytes),
+                bytes: Chunk::first(*length, bytes),
             },
             KeptReply::Code(answer) => Reply::Code(*answer),
             KeptReply::Status { answer, scsw } => Reply::Status {

@@ -3,12 +3,12 @@
 ghost use Rattle.std.specs.Prelude.{◌≡◌, ◌≤◌, ◌++◌, ℕ, List, length};
 ghost use Rattle.kept_events.specs.Signals as spec;
 
-use crate::lengths::{Length, chunk_of, length_of};
+use chan_model::chunk::{Chunk, ChunkLength};
 use chan_model::signal::{Down, Load, Up};
 use scsw_irb::status::DeviceStatus;
 
 /// A `Down` whose bytes stand elsewhere.
-#[derive(Clone, Copy)]
+#[derive(Clone, Copy, PartialEq, Eq)]
 pub enum KeptDown {
     Select {
         number: u64,
@@ -34,7 +34,7 @@ pub enum KeptDown {
         sequence: u64,
     },
     Give {
-        length: Length,
+        length: ChunkLength,
         number: u64,
         connection: u64,
         command: u64,
@@ -56,7 +56,7 @@ pub enum KeptDown {
 }
 
 /// An `Up` whose bytes stand elsewhere.
-#[derive(Clone, Copy)]
+#[derive(Clone, Copy, PartialEq, Eq)]
 pub enum KeptUp {
     Accept {
         number: u64,
@@ -80,7 +80,7 @@ pub enum KeptUp {
         sequence: u64,
     },
     Bytes {
-        length: Length,
+        length: ChunkLength,
         number: u64,
         connection: u64,
         command: u64,
@@ -153,7 +153,7 @@ impl KeptDown {
                 sequence,
                 bytes,
             } => KeptDown::Give {
-                length: length_of(bytes),
+                length: bytes.length(),
                 number: *number,
                 connection: *connection,
                 command: *command,
@@ -242,7 +242,7 @@ impl KeptDown {
                 connection: *connection,
                 command: *command,
                 sequence: *sequence,
-                bytes: chunk_of(*length, bytes),
+                bytes: Chunk::first(*length, bytes),
             },
             KeptDown::Halt { number } => *signal = Down::Halt { number: *number },
             KeptDown::Release { number } => *signal = Down::Release { number: *number },
@@ -295,7 +295,7 @@ impl KeptUp {
                 sequence,
                 load: Load::Bytes(bytes),
             } => KeptUp::Bytes {
-                length: length_of(bytes),
+                length: bytes.length(),
                 number: *number,
                 connection: *connection,
                 command: *command,
@@ -387,7 +387,7 @@ impl KeptUp {
                 connection: *connection,
                 command: *command,
                 sequence: *sequence,
-                load: Load::Bytes(chunk_of(*length, bytes)),
+                load: Load::Bytes(Chunk::first(*length, bytes)),
             },
             KeptUp::End {
                 status,

@@ -15,7 +15,7 @@ use Rattle.script_rows.specs.declared.places.KeptAction.TheVariants as kept_acti
 -- an event wants no more bytes than it has
 event-front : (k : KeptEvent) (bytes : List ℕ) → event_in k (take (event_length k) bytes) ≡ event_in k bytes
 event-front (kept_event.Put length address) bytes =
-    ap (λ (b : List ℕ). event.Put address b) (take-take length.bytes length.bytes bytes (le_refl length.bytes))
+    ap (λ (b : List ℕ). event.Put address b) (take-take length length bytes (le_refl length))
 event-front (kept_event.SetKey address key) bytes = refl
 event-front (kept_event.SetPrefix cpu address) bytes = refl
 event-front (kept_event.Show length address) bytes = refl
@@ -27,7 +27,7 @@ event-front (kept_event.Down subchannel path) bytes = refl
 event-front (kept_event.Begins side unit number command sequence) bytes = refl
 event-front (kept_event.Absorbed side count unit number command sequence) bytes = refl
 event-front (kept_event.Supplied side length unit number command sequence) bytes =
-    ap (λ (b : List ℕ). reported unit side number command sequence (answer.Supplied b)) (take-take length.bytes length.bytes bytes (le_refl length.bytes))
+    ap (λ (b : List ℕ). reported unit side number command sequence (answer.Supplied b)) (take-take length length bytes (le_refl length))
 event-front (kept_event.Again side unit number command sequence) bytes = refl
 event-front (kept_event.Ended side status more unit number command sequence) bytes = refl
 event-front (kept_event.Act unit act) bytes = refl

@@ -8,7 +8,6 @@ ghost use Rattle.chan_events.specs.declared.event.Event.TheVariants as event_spe
 use crate::Action;
 use chan_model::chunk::{CHUNK_BYTES, Chunk};
 use kept_events::events::KeptEvent;
-use kept_events::lengths::length_of;
 
 /// An action whose bytes stand elsewhere.
 #[derive(Clone, Copy)]
@@ -63,7 +62,7 @@ impl ActionPlace {
     pub(crate) fn put(&mut self, address: u32, bytes: &Chunk)
         ensures { spec.action_at self.new ≡ action_spec.Event (event_spec.Put address bytes.now) }
     {
-        let length = length_of(bytes);
+        let length = bytes.length();
         self.bytes[..length.get()].copy_from_slice(bytes.as_slice());
         self.kept = KeptAction::Event(KeptEvent::Put { length, address });
     }

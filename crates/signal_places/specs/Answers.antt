@@ -13,7 +13,7 @@ use Rattle.signal_places.specs.declared.answers.Outcome.TheVariants as outcome
 abbrev pub answer_by : Outcome → AnswerPlace → Result Reply Fault
 answer_by (outcome.Refused fault) place = Err fault
 answer_by (outcome.Replied plain) place = Ok (reply_of plain)
-answer_by (outcome.Shown length) place = Ok (reply.Shown (take length.bytes place.up.bytes))
+answer_by (outcome.Shown length) place = Ok (reply.Shown (take length place.up.bytes))
 answer_by (outcome.MetUp taken) place = Ok (reply.Up (up_at place.up) taken place.sent_down)
 answer_by (outcome.MetDown taken) place = Ok (reply.Down (down_at place.down) taken place.sent_up)
 
@@ -24,7 +24,7 @@ answer_at place = answer_by place.outcome place
 abbrev pub reply_by : Outcome → AnswerPlace → Reply
 reply_by (outcome.Refused fault) place = reply.Done
 reply_by (outcome.Replied plain) place = reply_of plain
-reply_by (outcome.Shown length) place = reply.Shown (take length.bytes place.up.bytes)
+reply_by (outcome.Shown length) place = reply.Shown (take length place.up.bytes)
 reply_by (outcome.MetUp taken) place = reply.Up (up_at place.up) taken place.sent_down
 reply_by (outcome.MetDown taken) place = reply.Down (down_at place.down) taken place.sent_up
 

@@ -12,9 +12,9 @@ use crate::plain::PlainReply;
 use crate::sent::{SentDown, SentUp};
 use crate::signals::{DownPlace, UpPlace};
 use chan_events::reply::Reply;
+use chan_model::chunk::{Chunk, ChunkLength};
 use chan_model::fault::Fault;
 use chan_model::signal::{Down, Up};
-use kept_events::lengths::{Length, chunk_of};
 
 /// Which answer stands in a place.
 #[derive(Clone, Copy)]
@@ -22,7 +22,7 @@ pub enum Outcome {
     Refused(Fault),
     Replied(PlainReply),
     /// The bytes that were asked for stand in the place for a signal up.
-    Shown { length: Length },
+    Shown { length: ChunkLength },
     /// A subchannel met the signal up, and sent the one down.
     MetUp { taken: bool },
     /// A unit met the signal down, and sent the one up.
@@ -66,9 +66,7 @@ impl AnswerPlace {
         requires { length bytes.now ≤ 256 }
         ensures { answer_at self.new ≡ Ok (reply_spec.Shown bytes.now) }
     {
-        let length = Length {
-            bytes: bytes.len() as u16,
-        };
+        let length = ChunkLength::of(bytes);
         put_bytes(&mut self.up.bytes, bytes);
         self.outcome = Outcome::Shown { length };
     }
@@ -97,11 +95,11 @@ impl AnswerPlace {
 
     /// The reply that shows bytes of storage, written where it is wanted.
     #[inline(never)]
-    fn shown_to(&self, length: Length, answer: &mut Result<Reply, Fault>)
-        ensures { answer.new ≡ Ok (reply_spec.Shown (take length.bytes self.now.up.bytes)) }
+    fn shown_to(&self, length: ChunkLength, answer: &mut Result<Reply, Fault>)
+        ensures { answer.new ≡ Ok (reply_spec.Shown (take length self.now.up.bytes)) }
     {
         *answer = Ok(Reply::Shown {
-            bytes: chunk_of(length, &self.up.bytes),
+            bytes: Chunk::first(length, &self.up.bytes),
         });
     }
 

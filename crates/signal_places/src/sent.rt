@@ -9,9 +9,9 @@ ghost use Rattle.signal_places.specs.Places.{down_at, sent_path, up_at};
 
 use crate::bytes;
 use crate::signals::{DownPlace, UpPlace};
+use chan_model::chunk::ChunkLength;
 use chan_model::names::Path;
 use chan_model::signal::{Down, OnPath, Up};
-use kept_events::lengths::Length;
 use kept_events::signals::{KeptDown, KeptUp};
 use std::marker::Model;
 
@@ -73,9 +73,7 @@ impl SentDown {
         requires { length bytes.now ≤ 256 }
         ensures { self.new ≡ Some (record { path = path; signal = down.Give number connection command sequence bytes.now }) }
     {
-        let length = Length {
-            bytes: bytes.len() as u16,
-        };
+        let length = ChunkLength::of(bytes);
         bytes::put_bytes(&mut self.place.bytes, bytes);
         self.path = Some(path);
         self.place.kept = KeptDown::Give {
@@ -195,9 +193,7 @@ impl SentUp {
         requires { length bytes.now ≤ 256 }
         ensures { self.new ≡ Some (record { path = path; signal = up.Data number connection command sequence (load.Bytes bytes.now) }) }
     {
-        let length = Length {
-            bytes: bytes.len() as u16,
-        };
+        let length = ChunkLength::of(bytes);
         bytes::put_bytes(&mut self.place.bytes, bytes);
         self.path = Some(path);
         self.place.kept = KeptUp::Bytes {

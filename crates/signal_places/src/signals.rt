@@ -63,6 +63,7 @@ impl DownPlace {
     pub fn signal(&self) -> Down
         ensures { result ≡ down_at self.now }
     {
+        let _ = self.kept.length();
         self.kept.with(&self.bytes)
     }
 
@@ -71,6 +72,7 @@ impl DownPlace {
     pub fn signal_to(&self, signal: &mut Down)
         ensures { signal.new ≡ down_at self.now }
     {
+        let _ = self.kept.length();
         self.kept.with_to(&self.bytes, signal)
     }
 
@@ -80,6 +82,7 @@ impl DownPlace {
         ensures length { kept_spec.down_length result ≡ length (kept_spec.down_bytes (down_at self.now)) }
         ensures bound { length (kept_spec.down_bytes (down_at self.now)) ≤ 256 }
     {
+        let _ = self.kept.length();
         self.kept
     }
 
@@ -131,6 +134,7 @@ impl UpPlace {
     pub fn signal(&self) -> Up
         ensures { result ≡ up_at self.now }
     {
+        let _ = self.kept.length();
         self.kept.with(&self.bytes)
     }
 
@@ -139,6 +143,7 @@ impl UpPlace {
     pub fn signal_to(&self, signal: &mut Up)
         ensures { signal.new ≡ up_at self.now }
     {
+        let _ = self.kept.length();
         self.kept.with_to(&self.bytes, signal)
     }
 
@@ -148,6 +153,7 @@ impl UpPlace {
         ensures length { kept_spec.up_length result ≡ length (kept_spec.up_bytes (up_at self.now)) }
         ensures bound { length (kept_spec.up_bytes (up_at self.now)) ≤ 256 }
     {
+        let _ = self.kept.length();
         self.kept
     }
 

@@ -1,15 +1,66 @@
-//! Whether two entries are kept as the same, their bytes apart.
+//! Whether events and replies are kept with the same numbers, wherever their bytes stand.
 
 ghost use Rattle.std.specs.Prelude.{◌≡◌, ◌↔◌, IsTrue};
 
-use crate::events::{same_act, same_instruction, same_key, same_other_instruction, same_side};
-use crate::kept_signals::{same_kept_down, same_kept_up, same_length};
-use crate::replies::{same_answer, same_code, same_interruption, same_report, same_scsw};
-use kept_events::events::KeptEvent;
-use kept_events::replies::KeptReply;
+use crate::events::KeptEvent;
+use crate::replies::KeptReply;
+use crate::signals::{KeptDown, KeptUp};
+use crate::words::{same_interruption, same_scsw};
+use chan_events::event::{Instruction, OtherInstruction, UnitAct};
+use chan_model::answer::Answer;
+use scsw_irb::crw::Crw;
+use storage_keys::key::Key;
+
+fn same_down(one: &KeptDown, other: &KeptDown) -> bool
+    ensures { IsTrue result ↔ (one.now ≡ other.now) }
+{
+    *one == *other
+}
+
+fn same_up(one: &KeptUp, other: &KeptUp) -> bool
+    ensures { IsTrue result ↔ (one.now ≡ other.now) }
+{
+    *one == *other
+}
+
+fn same_answer(one: &Answer, other: &Answer) -> bool
+    ensures { IsTrue result ↔ (one.now ≡ other.now) }
+{
+    *one == *other
+}
+
+fn same_key(one: Key, other: Key) -> bool
+    ensures { IsTrue result ↔ (one ≡ other) }
+{
+    one == other
+}
+
+fn same_instruction(one: &Instruction, other: &Instruction) -> bool
+    ensures { IsTrue result ↔ (one.now ≡ other.now) }
+{
+    *one == *other
+}
+
+fn same_other_instruction(one: &OtherInstruction, other: &OtherInstruction) -> bool
+    ensures { IsTrue result ↔ (one.now ≡ other.now) }
+{
+    *one == *other
+}
+
+fn same_act(one: &UnitAct, other: &UnitAct) -> bool
+    ensures { IsTrue result ↔ (one.now ≡ other.now) }
+{
+    *one == *other
+}
+
+fn same_report(one: &Option<Crw>, other: &Option<Crw>) -> bool
+    ensures { IsTrue result ↔ (one.now ≡ other.now) }
+{
+    *one == *other
+}
 
 /// Whether both are kept as the same event.
-pub fn same_kept_event(one: &KeptEvent, other: &KeptEvent) -> bool
+pub fn same_event(one: &KeptEvent, other: &KeptEvent) -> bool
     ensures { IsTrue result ↔ (one.now ≡ other.now) }
 {
     match (one, other) {
@@ -22,14 +73,14 @@ pub fn same_kept_event(one: &KeptEvent, other: &KeptEvent) -> bool
                 length: y,
                 address: b,
             },
-        ) => same_length(*x, *y) && *a == *b,
+        ) => *x == *y && *a == *b,
         (KeptEvent::SetKey { address: a, key: x }, KeptEvent::SetKey { address: b, key: y }) => *a
             == *b
             && same_key(*x, *y),
         (
             KeptEvent::SetPrefix { cpu: c, address: a },
             KeptEvent::SetPrefix { cpu: d, address: b },
-        ) => c.number() == d.number() && *a == *b,
+        ) => *c == *d && *a == *b,
         (
             KeptEvent::Show {
                 length: x,
@@ -39,7 +90,7 @@ pub fn same_kept_event(one: &KeptEvent, other: &KeptEvent) -> bool
                 length: y,
                 address: b,
             },
-        ) => x.get() == y.get() && *a == *b,
+        ) => *x == *y && *a == *b,
         (
             KeptEvent::Execute {
                 cpu: c,
@@ -49,7 +100,7 @@ pub fn same_kept_event(one: &KeptEvent, other: &KeptEvent) -> bool
                 cpu: d,
                 instruction: y,
             },
-        ) => c.number() == d.number() && same_instruction(x, y),
+        ) => *c == *d && same_instruction(x, y),
         (
             KeptEvent::ExecuteOther {
                 cpu: c,
@@ -59,7 +110,7 @@ pub fn same_kept_event(one: &KeptEvent, other: &KeptEvent) -> bool
                 cpu: d,
                 instruction: y,
             },
-        ) => c.number() == d.number() && same_other_instruction(x, y),
+        ) => *c == *d && same_other_instruction(x, y),
         (KeptEvent::Choose { subchannel: a }, KeptEvent::Choose { subchannel: b }) => *a == *b,
         (
             KeptEvent::Up {
@@ -96,7 +147,7 @@ pub fn same_kept_event(one: &KeptEvent, other: &KeptEvent) -> bool
                 command: m,
                 sequence: p,
             },
-        ) => same_side(*c, *d) && *u == *v && *t == *r && *n == *m && *s == *p,
+        ) => *c == *d && *u == *v && *t == *r && *n == *m && *s == *p,
         (
             KeptEvent::Absorbed {
                 side: c,
@@ -114,7 +165,7 @@ pub fn same_kept_event(one: &KeptEvent, other: &KeptEvent) -> bool
                 command: m,
                 sequence: p,
             },
-        ) => same_side(*c, *d) && *a == *b && *u == *v && *t == *r && *n == *m && *s == *p,
+        ) => *c == *d && *a == *b && *u == *v && *t == *r && *n == *m && *s == *p,
         (
             KeptEvent::Supplied {
                 side: c,
@@ -132,12 +183,7 @@ pub fn same_kept_event(one: &KeptEvent, other: &KeptEvent) -> bool
                 command: m,
                 sequence: p,
             },
-        ) => same_side(*c, *d)
-            && same_length(*a, *b)
-            && *u == *v
-            && *t == *r
-            && *n == *m
-            && *s == *p,
+        ) => *c == *d && *a == *b && *u == *v && *t == *r && *n == *m && *s == *p,
         (
             KeptEvent::Again {
                 side: c,
@@ -153,7 +199,7 @@ pub fn same_kept_event(one: &KeptEvent, other: &KeptEvent) -> bool
                 command: m,
                 sequence: p,
             },
-        ) => same_side(*c, *d) && *u == *v && *t == *r && *n == *m && *s == *p,
+        ) => *c == *d && *u == *v && *t == *r && *n == *m && *s == *p,
         (
             KeptEvent::Ended {
                 side: c,
@@ -173,13 +219,7 @@ pub fn same_kept_event(one: &KeptEvent, other: &KeptEvent) -> bool
                 command: m,
                 sequence: p,
             },
-        ) => same_side(*c, *d)
-            && *a == *b
-            && *x == *y
-            && *u == *v
-            && *t == *r
-            && *n == *m
-            && *s == *p,
+        ) => *c == *d && *a == *b && *x == *y && *u == *v && *t == *r && *n == *m && *s == *p,
         (KeptEvent::Act { unit: u, act: x }, KeptEvent::Act { unit: v, act: y }) => *u == *v
             && same_act(x, y),
         (KeptEvent::Restart { unit: u }, KeptEvent::Restart { unit: v }) => *u == *v,
@@ -192,17 +232,17 @@ pub fn same_kept_event(one: &KeptEvent, other: &KeptEvent) -> bool
 }
 
 /// Whether both are kept as the same reply.
-pub fn same_kept_reply(one: &KeptReply, other: &KeptReply) -> bool
+pub fn same_reply(one: &KeptReply, other: &KeptReply) -> bool
     ensures { IsTrue result ↔ (one.now ≡ other.now) }
 {
     match (one, other) {
         (KeptReply::Done, KeptReply::Done) => true,
-        (KeptReply::Shown { length: a }, KeptReply::Shown { length: b }) => same_length(*a, *b),
+        (KeptReply::Shown { length: a }, KeptReply::Shown { length: b }) => *a == *b,
         (KeptReply::Code(a), KeptReply::Code(b)) => same_answer(a, b),
         (KeptReply::Status { answer: a, scsw: x }, KeptReply::Status { answer: b, scsw: y }) =>
             same_answer(a, b) && same_scsw(x, y),
         (KeptReply::Interruption(a), KeptReply::Interruption(b)) => same_interruption(a, b),
-        (KeptReply::PathReset(a), KeptReply::PathReset(b)) => same_code(*a, *b),
+        (KeptReply::PathReset(a), KeptReply::PathReset(b)) => *a == *b,
         (KeptReply::ChannelReport(a), KeptReply::ChannelReport(b)) => same_report(a, b),
         (KeptReply::Paths { engaged: a }, KeptReply::Paths { engaged: b }) => *a == *b,
         (
@@ -216,13 +256,13 @@ pub fn same_kept_reply(one: &KeptReply, other: &KeptReply) -> bool
                 resumed: s,
                 number: u,
             },
-        ) => p.index() == q.index() && *r == *s && *t == *u,
+        ) => *p == *q && *r == *s && *t == *u,
         (
             KeptReply::ResetSent { path: p, number: t },
             KeptReply::ResetSent { path: q, number: u },
-        ) => p.index() == q.index() && *t == *u,
+        ) => *p == *q && *t == *u,
         (KeptReply::HaltSent { path: p, number: t }, KeptReply::HaltSent { path: q, number: u }) =>
-            p.index() == q.index() && *t == *u,
+            *p == *q && *t == *u,
         (KeptReply::Pending, KeptReply::Pending) => true,
         (KeptReply::Idle, KeptReply::Idle) => true,
         (
@@ -234,7 +274,7 @@ pub fn same_kept_reply(one: &KeptReply, other: &KeptReply) -> bool
                 taken: u,
                 signal: b,
             },
-        ) => *t == *u && same_kept_up(a, b),
+        ) => *t == *u && same_up(a, b),
         (
             KeptReply::UpSent {
                 taken: t,
@@ -248,7 +288,7 @@ pub fn same_kept_reply(one: &KeptReply, other: &KeptReply) -> bool
                 signal: b,
                 sent: y,
             },
-        ) => *t == *u && p.index() == q.index() && same_kept_up(a, b) && same_kept_down(x, y),
+        ) => *t == *u && *p == *q && same_up(a, b) && same_down(x, y),
         (
             KeptReply::Down {
                 taken: t,
@@ -258,7 +298,7 @@ pub fn same_kept_reply(one: &KeptReply, other: &KeptReply) -> bool
                 taken: u,
                 signal: b,
             },
-        ) => *t == *u && same_kept_down(a, b),
+        ) => *t == *u && same_down(a, b),
         (
             KeptReply::DownSent {
                 taken: t,
@@ -272,7 +312,7 @@ pub fn same_kept_reply(one: &KeptReply, other: &KeptReply) -> bool
                 signal: b,
                 sent: y,
             },
-        ) => *t == *u && p.index() == q.index() && same_kept_down(a, b) && same_kept_up(x, y),
+        ) => *t == *u && *p == *q && same_down(a, b) && same_up(x, y),
         _ => false,
     }
 }

@@ -4,7 +4,7 @@ use mathlib.Core.Path.{to_path_p}
 use Rattle.std.proofs.Math.Bridge.{le_prop}
 use Rattle.scsw_irb.specs.declared.code.IntCode.{IntCode}
 use Rattle.scsw_irb.specs.declared.scsw.Scsw.{Scsw}
-use Rattle.same_entries.specs.Fields.{AreModesSame, IsRestSame}
+use Rattle.kept_events.specs.Fields.{AreModesSame, IsRestSame}
 
 pub codes_same : (a b : IntCode) → a.set ≡ b.set → a.subchannel ≡ b.subchannel → a.parameter ≡ b.parameter → a.subclass ≡ b.subclass → a ≡ b
 codes_same a b set subchannel parameter subclass i = record {
