@@ -1,1 +1,3 @@
 mod HaltRuns
+mod Losing
+mod LossRuns

@@ -1,5 +1,5 @@
-//! What the subsystem chooses for a subchannel, by what STORE SUBCHANNEL shows and by where its program is, in every run: theorems over the
-//! list of its entries alone.
+//! What is chosen for a subchannel and what is lost of it, by what STORE SUBCHANNEL shows and by where its program is, in every run: theorems
+//! over the list of its entries alone.
 #![tactic(auto)]
 
 ghost use Rattle.std.specs.Prelude.{List};
@@ -7,6 +7,7 @@ ghost use Rattle.chan_events.specs.declared.reply.Entry.{Entry};
 ghost use Rattle.channel_config.specs.Lawful.{IsLawful};
 ghost use Rattle.channel_config.specs.Setup.{Setup};
 ghost use Rattle.choice_laws.specs.Halts.{AreHaltsDone};
+ghost use Rattle.choice_laws.specs.Losses.{AreLossesRight};
 ghost use Rattle.machine_model.specs.State.{State, opening_of};
 ghost use Rattle.machine_model.specs.Steps.{Run};
 
@@ -19,6 +20,18 @@ use step_laws::walks;
 /// anywhere the halt is performed (SA22-7832, chapter 14).
 pub fn halts()
     ensures done { (setup : Setup) (h : List Entry) (s : State) → IsLawful setup → Run (opening_of setup) h s → AreHaltsDone setup h }
+{
+    walks();
+    setups();
+    steps();
+    engines();
+}
+
+/// In each run of a lawful set-up a path that is lost, or a Notice of restarts, makes a status, an interface-control check, where a
+/// program is offered by that path, connected by it, or of that unit, and STORE SUBCHANNEL shows it just before, of a subchannel that is
+/// enabled; and only of a program that is offered or holds the device by that path, or was accepted by it (SA22-7832, chapter 16).
+pub fn losses()
+    ensures right { (setup : Setup) (h : List Entry) (s : State) → IsLawful setup → Run (opening_of setup) h s → AreLossesRight setup h }
 {
     walks();
     setups();

@@ -1,10 +1,9 @@
 -- After each run the engines that are seen to serve a subchannel are those that do: each entry is right.
-use Rattle.std.proofs.Common.{◌≡◌, refl, sym, ◌∙◌, ap, subst, ℕ, zero, suc, ◌+◌, ◌*◌, ◌<◌, ◌≤◌, ◌==◌, ◌&&◌, ◌||◌, nat_lt, Bool, true, false, not, Option, None, Some, Result, Ok, Err, List, [], ◌∷◌, ◌++◌, length, map, slice_get, slice_index_or, IfOk, if◌then◌else◌, inl, inr, arith}
+use Rattle.std.proofs.Common.{◌≡◌, refl, sym, ◌∙◌, ap, subst, ℕ, zero, suc, ◌+◌, ◌*◌, ◌<◌, ◌==◌, ◌&&◌, ◌||◌, nat_lt, Bool, true, false, not, Option, None, Some, Result, Ok, Err, List, [], ◌∷◌, ◌++◌, length, map, slice_get, slice_index_or, IfOk, if◌then◌else◌, inl, inr, arith}
 use Rattle.std.specs.List.{list_any, range_with_len}
-use Rattle.std.proofs.lemmas.Bool.{eqb-true, eq-eqb, and_from, lt-ltb}
+use Rattle.std.proofs.lemmas.Bool.{eqb-true, and_from}
 use Rattle.std.proofs.lemmas.Option.{slice_get_within, get_or_from_slice_get}
 use Rattle.std.proofs.lemmas.List.FromFn.{get_or-range_with_len, length-range_with_len, get_or-map-range_with_len}
-use Rattle.allegiance.specs.Allegiances.{may_reconnect}
 use Rattle.allegiance.specs.PathUse.{is_member, each_path, reachable_paths}
 use Rattle.chan_events.specs.declared.event.Event.{Event}
 use Rattle.chan_events.specs.declared.event.Event.TheVariants as event
@@ -51,13 +50,14 @@ use Rattle.path_laws.specs.Engines.{IsOnePath}
 use Rattle.path_laws.proofs.Moving.{IsFree, usable-free, return-parts}
 use Rattle.path_laws.proofs.Offering.{IsOffer, chosen-offer, offer-usable}
 use Rattle.path_laws.proofs.Passing.{IsGranted, up-granted}
-use Rattle.path_laws.proofs.PathSets.{without-parts, each-true, each-from, both-from}
+use Rattle.path_laws.proofs.PathSets.{without-parts, each-true}
 use Rattle.path_laws.proofs.Turning.{returns-right}
 use Rattle.step_laws.specs.Walks as walked
 use Rattle.step_laws.specs.Walks.{AreWalks, Walked, IsQuiet}
 use Rattle.seen_laws.specs.Links.{Apart, SubSeen, Seen, engaged_by, is_on, IsUp, nothing_seen, seen_through}
 use Rattle.seen_laws.specs.Engines.{is_served, serves, IsIdle, IsOfferRight, IsGrantRight, IsGrantDue, GoesByIdle, status_byte, status_bytes, ShowsServed, ServesOne, IsEntryRight, HasOneEngine}
 use Rattle.seen_laws.proofs.LinkHolds.{Stands, link_at}
+use Rattle.seen_laws.proofs.Returning.{up-available, first-returns}
 use Rattle.seen_laws.proofs.LinkLists.{AreTied, of-named}
 use Rattle.seen_laws.proofs.LinkPaths.{member-up}
 use Rattle.seen_laws.proofs.LinkRuns.{AreSeen, AreOnePath, IsRunSeen, run-seen, through-more, right-more}
@@ -175,10 +175,6 @@ offer-idle k s j sub choice (Offers c path) x fits o tied tie =
     (idle-is k s j sub path tied tie (usable-free s.subs sub path parts.0 parts.1))
 
 -- a Back is granted by the path of its Accept
-may-reconnect : (single : Bool) (first : Option ℕ) (available : Bool) (path : ℕ) → first ≡ Some path → available ≡ true → (if single then is_path first path else available) ≡ true
-may-reconnect true first available path e a = ap (λ (o : Option ℕ). is_path o path) e ∙ eq-eqb path path refl
-may-reconnect false first available path e a = a
-
 not-member : (f : ℕ → Bool) (p : ℕ) → f p ≡ false → not (is_member (each_path f) p) ≡ true
 not-member f p e = by (is_member (each_path f) p) refl
   where
@@ -186,31 +182,13 @@ not-member f p e = by (is_member (each_path f) p) refl
     by true h = absurd (cc (sym (each-true f p h) ∙ e))
     by false h = refl
 
-record IsOpen (k : Seen) (s : State) (sub : Subchannel) (path : ℕ) : Type 0 where
-  low : path < 8
-  available : is_member (available_paths sub) path ≡ true
-  idle : is_engaged s.subs (slice_get sub.setup.paths path) ≡ false
-
-open-is : (k : Seen) (s : State) (j : SubSeen) (sub : Subchannel) (path : ℕ) → AreSeen k s → IsTied k.up j sub → IsUp k.up j path → IsIdle k j path → IsOpen k s sub path
-open-is k s j sub path tied tie up idle =
+may-return : (k : Seen) (s : State) (j : SubSeen) (sub : Subchannel) (path : ℕ) → sub.state.hold.first_path ≡ Some path → AreSeen k s → IsTied k.up j sub → IsUp k.up j path → IsIdle k j path →
+    may_return s.subs sub path ≡ true
+may-return k s j sub path first tied tie up idle =
     let there : slice_get sub.setup.paths path ≡ Some up.0 = sym (ap (λ (x : SubchannelSetup). slice_get x.paths path) tie.setup) ∙ up.1 in
-    let within : path < length sub.setup.paths = slice_get_within sub.setup.paths path up.0 there in
-    let few : length sub.setup.paths ≤ 8 = tie.paths.few in
-    let low : path < 8 = omega (arith, within, few) in
-    record {
-      low = low;
-      available = both-from (λ p. nat_lt p (length sub.setup.paths)) sub.state.pmcw.available path
-          (each-from (λ p. nat_lt p (length sub.setup.paths)) path low (lt-ltb path (length sub.setup.paths) within)) (tie.shown path up.0 there ∙ up.2);
-      idle = ap (is_engaged s.subs) there ∙ sym (serves-is k s up.0 tied) ∙ idle up.0 up.1;
-    }
-
-may-return : (k : Seen) (s : State) (sub : Subchannel) (path : ℕ) → sub.state.hold.first_path ≡ Some path → IsOpen k s sub path → may_return s.subs sub path ≡ true
-may-return k s sub path first free =
     and_from (is_member (return_paths sub) path) (not (is_member (engaged_paths s.subs sub) path))
-    (each-from (λ p. is_member (available_paths sub) p && may_reconnect sub.state.hold (available_paths sub) p) path free.low
-    (and_from (is_member (available_paths sub) path) (may_reconnect sub.state.hold (available_paths sub) path) free.available
-    (may-reconnect sub.state.hold.single_path sub.state.hold.first_path (is_member (available_paths sub) path) path first free.available)))
-    (not-member (λ p. is_engaged s.subs (slice_get sub.setup.paths p)) path free.idle)
+    (first-returns sub path first (up-available k.up j sub path tie up))
+    (not-member (λ p. is_engaged s.subs (slice_get sub.setup.paths p)) path (ap (is_engaged s.subs) there ∙ sym (serves-is k s up.0 tied) ∙ idle up.0 up.1))
 
 -- a Back that is taken of a program that is apart
 abbrev IsGrant : ℕ → ℕ → ℕ → Bool → Option (OnPath Down) → Type 0
@@ -256,7 +234,7 @@ signal-due k s returns storage j sub p (up.Back t c) front may tied tie =
     grant-due k j p t c _ _
     (λ apart first on idle.
     back-granted sub.state.hold sub.state.hold.phase sub.state.hold.reset_path j p t c returns tie.held.stands apart
-    (may ∙ ap (λ (o : Option Up). returns_by s.subs sub p o) front ∙ may-return k s sub p (sym tie.held.first ∙ first) (open-is k s j sub p tied tie on idle)))
+    (may ∙ ap (λ (o : Option Up). returns_by s.subs sub p o) front ∙ may-return k s j sub p (sym tie.held.first ∙ first) tied tie on idle))
 signal-due k s returns storage j sub p (up.Data t c n q load) front may tied tie = tt
 signal-due k s returns storage j sub p (up.End t n status more) front may tied tie = tt
 signal-due k s returns storage j sub p (up.Released t) front may tied tie = tt

@@ -28,9 +28,10 @@ mod Agrees
 pub mod LinkHolds
 mod LinkMeets
 mod LinkUnits
-mod LinkPaths
-mod LinkLosses
+pub mod LinkPaths
+pub mod LinkLosses
 pub mod LinkSubs
+pub mod Returning
 mod LinkPassing
 mod LinkChoices
 pub mod LinkLists

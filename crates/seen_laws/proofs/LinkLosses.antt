@@ -48,14 +48,14 @@ doubtful-held k h n t b now e tie =
     }
 
 -- where a reset is due by what is seen, it is; and where it is due unseen, the program is apart and was accepted by that path
-record IsUnseen (k : SubSeen) (p : ℕ) : Type 0 where
-  number : ℕ
-  apart : k.link ≡ Apart number
-  first : is_path k.first p ≡ true
+pub record IsUnseen (k : SubSeen) (p : ℕ) : Type 0 where
+  pub number : ℕ
+  pub apart : k.link ≡ Apart number
+  pub first : is_path k.first p ≡ true
 
-record Agree (k : SubSeen) (h : HoldState) (p : ℕ) : Type 0 where
-  seen : is_path (used_by k.link) p ≡ true → rests_on h p ≡ true
-  unseen : is_path (used_by k.link) p ≡ false → rests_on h p ≡ true → IsUnseen k p
+pub record Agree (k : SubSeen) (h : HoldState) (p : ℕ) : Type 0 where
+  pub seen : is_path (used_by k.link) p ≡ true → rests_on h p ≡ true
+  pub unseen : is_path (used_by k.link) p ≡ false → rests_on h p ≡ true → IsUnseen k p
 
 used-is : (k : SubSeen) (link : Link) (p : ℕ) → k.link ≡ link → is_path (used_by k.link) p ≡ is_path (used_by link) p
 used-is k link p e = ap (λ (l : Link). is_path (used_by l) p) e
@@ -110,7 +110,7 @@ doubt-agree k h p r phase sent t e f apart =
     subst (λ (y : HoldPhase). Agree k (record h { phase = y; reset_path = sent }) p) (sym e)
     (subst (λ (o : Option ℕ). Agree k (record h { phase = hold.Reset r; reset_path = o }) p) (sym f) (no-rest k _ p (used-is k (Apart t) p apart) refl))
 
-agree : (k : SubSeen) (h : HoldState) (n p : ℕ) → IsHeldAs k h n → Stands k h.phase h.reset_path → Agree k h p
+pub agree : (k : SubSeen) (h : HoldState) (n p : ℕ) → IsHeldAs k h n → Stands k h.phase h.reset_path → Agree k h p
 agree k h n p tie (inl e) = agree-at k h n p h.phase tie e
 agree k h n p tie (inr d) = doubt-agree k h p d.reset h.phase h.reset_path d.number d.is_reset d.unsent d.apart
 

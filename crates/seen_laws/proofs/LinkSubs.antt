@@ -160,7 +160,7 @@ emptied-tied is_up k sub x p tie = record {
   ups = lost-each (λ p x. IsSeenUp k.drawn x) sub.wires.up p tie.ups;
 }
 
-same-setup : (k : SubSeen) (sub : Subchannel) (o : Option ℕ) (chpid p : ℕ) → k.setup ≡ sub.setup → are_distinct sub.setup.paths ≡ true → slice_get sub.setup.paths p ≡ Some chpid → is_on k.setup o chpid ≡ is_path o p
+pub same-setup : (k : SubSeen) (sub : Subchannel) (o : Option ℕ) (chpid p : ℕ) → k.setup ≡ sub.setup → are_distinct sub.setup.paths ≡ true → slice_get sub.setup.paths p ≡ Some chpid → is_on k.setup o chpid ≡ is_path o p
 same-setup k sub o chpid p e d at = ap (λ (s : SubchannelSetup). is_on s o chpid) e ∙ on-path sub.setup o p chpid d at
 
 loses-tied : (is_up : ℕ → Bool) (k : SubSeen) (sub : Subchannel) (chpid : ℕ) (o : Option ℕ) → path_index chpid sub.setup.paths ≡ o → IsTied is_up k sub → IsTied is_up (sub_lost chpid k) (loses_at o sub)

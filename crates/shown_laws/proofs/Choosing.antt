@@ -109,7 +109,7 @@ module _ (sets : ℕ) (id : SubchannelId) where
   turned-right : (e : Event) (r : Reply) (sub : Subchannel) (after : SubchannelState) → Fits (seen sub.state) → Stands (seen sub.state) → Turned sets id e r sub after →
       IsChoiceRight sets id (status_of sub.state) e r (status_of after)
   turned-right _ _ _ _ fits stands (Executes cpu i sub effect named is) = tt
-  turned-right _ _ _ _ fits stands (Chooses word sub choice named) = λ mine.
+  turned-right _ _ _ _ fits stands (Chooses word sub choice named away) = λ mine.
       (reason sub.state (marked_sub sub choice).state (chosen sub choice) fits stands (why-chosen sub choice), leaves sub choice (chosen sub choice))
   turned-right _ _ _ _ fits stands (Meets word path returns storage sub x named) = tt
   turned-right _ _ _ _ fits stands (Sweeps (sweep.GoesDown chpid) r sub) = tt

@@ -253,7 +253,7 @@ module _ (sets : ℕ) (id : SubchannelId) where
   turned-right : (e : Event) (r : Reply) (sub : Subchannel) (after : SubchannelState) → Fits (seen sub.state) → Stands (seen sub.state) → Turned sets id e r sub after → IsRight e r sub.state after
   turned-right _ _ _ _ fits stands (Executes cpu i sub effect named is) =
       none-right _ _ sub.state (state_left i sub effect) (pair-left (code_for i sub) sub.state effect (effect-made i sub effect is)) (executed-code cpu i sub effect named is)
-  turned-right _ _ _ _ fits stands (Chooses word sub choice named) =
+  turned-right _ _ _ _ fits stands (Chooses word sub choice named away) =
       coded-right _ _ sub.state (state_chosen (marked_sub sub choice).state (chosen sub choice)) refl
       (choice-coded sub choice (chosen sub choice) (why-chosen sub choice) (no-clear sub (chosen sub choice) fits stands (why-chosen sub choice)))
   turned-right _ _ _ _ fits stands (Meets word path returns storage sub x named) =

@@ -252,7 +252,7 @@ turned-enabled sets id _ _ _ _ known (Executes cpu i sub effect named is) k =
     (state_left i sub effect).pmcw.enabled named
     (subst (λ (c : Option ConditionCode). MayBe (enabled_with i c known) (state_left i sub effect).pmcw.enabled) (sym (reply-code i sub effect is))
     (executed-enabled i sub effect known is k))
-turned-enabled sets id _ _ _ _ known (Chooses word sub choice named) k =
+turned-enabled sets id _ _ _ _ known (Chooses word sub choice named away) k =
     subst (λ (b : Bool). MayBe known b) (sym (chosen-enabled (marked_sub sub choice).state (chosen sub choice))) k
 turned-enabled sets id _ _ _ _ known (Meets word path returns storage sub x named) k =
     subst (λ (b : Bool). MayBe known b) (sym (met-enabled returns storage sub path x)) k
@@ -278,7 +278,7 @@ turned-code : (sets : ℕ) (id : SubchannelId) (e : Event) (r : Reply) (sub : Su
     MayBe known sub.state.pmcw.enabled → IsCodeRight sets id known (status_of sub.state) e r (status_of after)
 turned-code sets id _ _ _ _ known (Executes cpu i sub effect named is) k =
     λ mine. (sub.state.pmcw.enabled, k, left-answers i sub effect is ∙ ap (λ (c : ConditionCode). Some (answer_of_code c (state_left i sub effect).serials)) (code-is i sub.state))
-turned-code sets id _ _ _ _ known (Chooses word sub choice named) k = tt
+turned-code sets id _ _ _ _ known (Chooses word sub choice named away) k = tt
 turned-code sets id _ _ _ _ known (Meets word path returns storage sub x named) k = tt
 turned-code sets id _ _ _ _ known (Sweeps (sweep.GoesDown chpid) r sub) k = tt
 turned-code sets id _ _ _ _ known (Sweeps (sweep.ComesUp chpid) r sub) k = tt

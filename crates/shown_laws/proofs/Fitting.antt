@@ -271,7 +271,7 @@ swept-fits sweep.SystemReset sub fits = idle-fits _ refl refl
 turned-fits : (sets : ℕ) (id : SubchannelId) (e : Event) (r : Reply) (sub : Subchannel) (after : SubchannelState) → Fits (seen sub.state) → Turned sets id e r sub after →
     Fits (seen after)
 turned-fits sets id _ _ _ _ fits (Executes cpu i sub effect named is) = left-fits (code_for i sub) sub.state effect fits (effect-left i sub effect is fits)
-turned-fits sets id _ _ _ _ fits (Chooses word sub choice named) =
+turned-fits sets id _ _ _ _ fits (Chooses word sub choice named away) =
     let g = chosen-effect sub choice (chosen sub choice) refl in
     effect-fits (Held sub.state) (seen (marked_sub sub choice).state) g.0 (seen (state_chosen (marked_sub sub choice).state (chosen sub choice))) g.1 (marked-fits sub choice fits)
 turned-fits sets id _ _ _ _ fits (Meets word path returns storage sub x named) = met-fits returns storage sub path x fits

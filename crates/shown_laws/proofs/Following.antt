@@ -402,7 +402,7 @@ module _ (sets : ℕ) (id : SubchannelId) where
   turned-follows : (e : Event) (r : Reply) (sub : Subchannel) (after : SubchannelState) → Fits (seen sub.state) → Turned sets id e r sub after →
       Follows sets id (status_of sub.state) e r (status_of after)
   turned-follows _ _ _ _ fits (Executes cpu i sub effect named is) = executed-follows cpu i sub effect named is
-  turned-follows _ _ _ _ fits (Chooses word sub choice named) = chosen-follows word sub choice named fits
+  turned-follows _ _ _ _ fits (Chooses word sub choice named away) = chosen-follows word sub choice named fits
   turned-follows _ _ _ _ fits (Meets word path returns storage sub x named) = met-follows word path returns storage sub x named fits
   turned-follows _ _ _ _ fits (Sweeps what r sub) = swept-follows what r sub fits
   turned-follows _ _ _ _ fits (Rests e r sub about) = rests-follows e r (status_of sub.state) about

@@ -409,7 +409,7 @@ swept-held sweep.SystemReset sub h = λ e. absurd (cc e)
 
 pub turned-held : (sets : ℕ) (id : SubchannelId) (e : Event) (r : Reply) (sub : Subchannel) (after : SubchannelState) → Held sub.state → Turned sets id e r sub after → Held after
 turned-held sets id _ _ _ _ h (Executes cpu i sub effect named is) = left-held (code_for i sub) sub.state effect h (effect-held i sub effect is h)
-turned-held sets id _ _ _ _ h (Chooses word sub choice named) = chosen-held sub choice (chosen sub choice) (why-chosen sub choice) h
+turned-held sets id _ _ _ _ h (Chooses word sub choice named away) = chosen-held sub choice (chosen sub choice) (why-chosen sub choice) h
 turned-held sets id _ _ _ _ h (Meets word path returns storage sub x named) = takes-held returns storage sub.state path x h
 turned-held sets id _ _ _ _ h (Sweeps what r sub) = swept-held what sub h
 turned-held sets id _ _ _ _ h (Rests e r sub about) = h

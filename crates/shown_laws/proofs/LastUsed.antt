@@ -131,7 +131,7 @@ module _ (sets : ℕ) (id : SubchannelId) where
 
   turned-uses : (e : Event) (r : Reply) (sub : Subchannel) (after : SubchannelState) → Turned sets id e r sub after → Uses e r sub.state after
   turned-uses _ _ _ _ (Executes cpu i sub effect named is) = executed-uses cpu i sub effect named is
-  turned-uses _ _ _ _ (Chooses word sub choice named) = chosen-same (marked_sub sub choice).state (chosen sub choice)
+  turned-uses _ _ _ _ (Chooses word sub choice named away) = chosen-same (marked_sub sub choice).state (chosen sub choice)
   turned-uses _ _ _ _ (Meets word path returns storage sub x named) = mine (names sets id word) _ (used sub.state) _ named (takes-uses returns storage sub.state path x)
   turned-uses _ _ _ _ (Sweeps what r sub) = swept-uses what r sub
   turned-uses _ _ _ _ (Rests e r sub about) = rests-uses e r sub.state about

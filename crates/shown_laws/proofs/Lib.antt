@@ -6,11 +6,11 @@ pub mod Runs
 mod Chosen
 mod Unchained
 mod Holding
-mod Effects
+pub mod Effects
 mod Signals
-mod Enabling
+pub mod Enabling
 mod Absent
-mod Fitting
+pub mod Fitting
 mod Following
 mod Choosing
 mod Counted
@@ -18,6 +18,7 @@ mod Made
 mod Pending
 mod Standing
 mod StandingRuns
+pub mod Working
 mod Asking
 mod Waiting
 mod Given
@@ -32,5 +33,4 @@ mod Using
 mod LastUsed
 mod Coding
 mod Deferring
-mod Losing
-mod LossRuns
+pub mod LossRuns

@@ -409,7 +409,7 @@ module _ (sets : ℕ) (id : SubchannelId) (known : Option Bool) where
 
   pub turned-made : (e : Event) (r : Reply) (sub : Subchannel) (after : SubchannelState) → MayBe known sub.state.pmcw.enabled → Stands (seen sub.state) → Turned sets id e r sub after → Makes sub e r after
   turned-made _ _ _ _ may works (Executes cpu i sub effect named is) = executed-made cpu i sub effect named is may
-  turned-made _ _ _ _ may works (Chooses word sub choice named) = chosen-made word sub choice (chosen sub choice) named may
+  turned-made _ _ _ _ may works (Chooses word sub choice named away) = chosen-made word sub choice (chosen sub choice) named may
   turned-made _ _ _ _ may works (Meets word path returns storage sub x named) = met-made word path returns storage sub x named may works
   turned-made _ _ _ _ may works (Sweeps what r sub) = swept-made what r sub may works
   turned-made _ _ _ _ may works (Rests e r sub about) = rests-made e r sub about may

@@ -1,7 +1,9 @@
 -- What one step does to one subchannel: an instruction, a choice, a signal that comes up, what befalls each subchannel, or nothing.
-use Rattle.std.proofs.Common.{◌≡◌, refl, sym, ◌∙◌, ap, subst, ℕ, ◌+◌, Bool, true, false, not, nat_lt, Option, None, Some, Result, Ok, Err, List, length, map, inl, inr}
+use Rattle.std.proofs.Common.{◌≡◌, refl, sym, ◌∙◌, ap, subst, ℕ, ◌+◌, ◌&&◌, Bool, true, false, not, nat_lt, Option, None, Some, Result, Ok, Err, List, length, map, inl, inr}
 use Rattle.std.specs.Prelude.{slice_get, slice_set, if◌then◌else◌, IfOk}
 use Rattle.std.proofs.lemmas.Option.{same_Some}
+use Rattle.allegiance.specs.PathUse.{usable_paths}
+use Rattle.path_select.specs.Choice.{IsChoice}
 use Rattle.storage_keys.specs.declared.StorageFault.{StorageFault}
 use Rattle.storage_keys.specs.Storage.{Contents, put, key_set, prefix_set, shown}
 use Rattle.channel_config.specs.declared.names.SubchannelId.{SubchannelId}
@@ -10,6 +12,9 @@ use Rattle.channel_config.specs.SubchannelWords.{subchannel_named}
 use Rattle.channel_reports.specs.Queue.{is_asked}
 use Rattle.chan_model.specs.declared.fault.Fault.{Fault}
 use Rattle.chan_model.specs.declared.fault.Fault.TheVariants as fault
+use Rattle.chan_model.specs.declared.hold_state.HoldPhase.{HoldPhase}
+use Rattle.chan_model.specs.declared.hold_state.HoldPhase.TheVariants as hold
+use Rattle.chan_model.specs.declared.hold_state.HoldState.{HoldState}
 use Rattle.chan_model.specs.declared.names.Side.{Side}
 use Rattle.chan_model.specs.declared.signal.Down.{Down}
 use Rattle.chan_model.specs.declared.signal.Up.{Up}
@@ -55,9 +60,10 @@ use Rattle.subchannel_model.specs.declared.state.Chosen.TheVariants.{Idle, Reset
 use Rattle.subchannel_model.specs.declared.state.Subchannel.{Subchannel}
 use Rattle.subchannel_model.specs.declared.state.SubchannelState.{SubchannelState}
 use Rattle.subchannel_model.specs.Causes.{with_cause}
-use Rattle.subchannel_model.specs.Choosing.{chosen, marked_sub, reset_sent, halt_sent, offered}
+use Rattle.subchannel_model.specs.Choosing.{path_use, engaged_paths, return_paths, is_away, unsent_reset, paths_unreset, paths_to_choose, chosen, marked_sub, reset_sent, halt_sent, offered}
 use Rattle.subchannel_model.specs.Places.{Found, found_at, place_in, place_of_id, reached_in}
 use Rattle.subchannel_model.specs.Sending.{carried_by, finds_full}
+use Rattle.subchannel_model.specs.Store.{available_paths}
 use Rattle.subchannel_model.specs.Taking.{Met, takes_up}
 use Rattle.wires.specs.Queues.{queue}
 use Rattle.shown_laws.specs.Shown.{names, is_about}
@@ -89,10 +95,14 @@ met returns storage sub path x = takes_up returns storage sub.state path x
 abbrev pub reply_met : Up → Met → Reply
 reply_met x m = reply.Up x m.step.came.taken m.step.came.sent
 
+-- a halt goes to a program that is away by a path by which it may come back, where there is one
+abbrev pub IsAwayChoice : Subchannel → Option ℕ → Type 0
+IsAwayChoice sub choice = sub.state.scsw.activity.halt_pending ≡ true → is_away sub.state.hold.phase ≡ true → IsChoice (return_paths sub) choice
+
 pub data Turned (sets : ℕ) (id : SubchannelId) : Event → Reply → Subchannel → SubchannelState → Type 0 where
   Executes : (cpu : ℕ) (i : Instruction) (sub : Subchannel) (effect : SubchannelState) → names sets id (subchannel_word i) ≡ true → IsEffect i sub effect →
       Turned sets id (event.Execute cpu i) (reply_of i (code_for i sub) sub.state (state_left i sub effect)) sub (state_left i sub effect)
-  Chooses : (word : ℕ) (sub : Subchannel) (choice : Option ℕ) → names sets id word ≡ true →
+  Chooses : (word : ℕ) (sub : Subchannel) (choice : Option ℕ) → names sets id word ≡ true → IsAwayChoice sub choice →
       Turned sets id (event.Choose word) (reply_chosen (marked_sub sub choice).state (chosen sub choice)) sub (state_chosen (marked_sub sub choice).state (chosen sub choice))
   Meets : (word path : ℕ) (returns : Bool) (storage : Contents) (sub : Subchannel) (x : Up) → names sets id word ≡ true →
       Turned sets id (event.Up word path) (reply_met x (met returns storage sub path x)) sub (met returns storage sub path x).step.state
@@ -123,6 +133,22 @@ choice-left sub PerformsHalt t ok = done-chosen reply.Pending (with_state sub (w
 choice-left sub FindsNoPath t ok = done-chosen reply.Pending (with_state sub (with_cause sub.state cause.NoPath)) t ok
 choice-left sub (Offers c path) t ok =
     send-chosen sub (offered sub.state c.program path) _ (reply.Offered (sub.state.drawn + 1) path c.resumes) _ t refl ok
+
+unsent-away : (h : HoldState) (phase : HoldPhase) → is_away phase ≡ true → unsent_reset (record h { phase = phase }) ≡ None
+unsent-away h hold.Free e = refl
+unsent-away h (hold.Offer t p) e = refl
+unsent-away h (hold.On t p c) e = refl
+unsent-away h (hold.Away t) e = refl
+unsent-away h (hold.Letting t p) e = refl
+unsent-away h (hold.Reset r) e = absurd (cc e)
+
+away-choice : (subs : List Subchannel) (sub : Subchannel) (choice : Option ℕ) → IsChoice (paths_to_choose subs sub) choice → IsAwayChoice sub choice
+away-choice subs sub choice is pending away =
+    let h : HoldState = sub.state.hold in
+    subst (λ (paths : List Bool). IsChoice paths choice)
+    (ap (λ (o : Option ℕ). elim o [ None ↦ paths_unreset subs sub | Some r ↦ available_paths sub ]) (unsent-away h h.phase away)
+    ∙ ap (λ (b : Bool). if b && is_away h.phase then return_paths sub else usable_paths (path_use sub) (engaged_paths subs sub)) pending
+    ∙ ap (λ (b : Bool). if b then return_paths sub else usable_paths (path_use sub) (engaged_paths subs sub)) away) is
 
 -- a signal that comes up
 record IsMetBy (returns : Bool) (storage : Contents) (sub : Subchannel) (path : ℕ) (t : UpTurn) : Type 0 where
@@ -357,7 +383,7 @@ module _ (s : State) (id : SubchannelId) (place : ℕ) (sub : Subchannel) (mine 
       one-turns (event.Choose word) t.reply new k x t.sub one.there one.subs
       (λ here. subst (λ (r : Reply). Turned s.sets id (event.Choose word) r x t.sub.state) (sym was.0)
       (subst (λ (y : SubchannelState). Turned s.sets id (event.Choose word) (reply_chosen (marked_sub x choice).state (chosen x choice)) x y) (sym was.1)
-      (Chooses word x choice (named-here word k x n one.there here))))
+      (Chooses word x choice (named-here word k x n one.there here) (away-choice s.subs x choice i))))
       (not-named word k n)
   step-turns _ _ _ (walked.Met word path returns k x t new n ok one may) step =
       let was : IsMetBy returns s.storage x path t = up-met returns s.storage x path t ok in

@@ -11,7 +11,7 @@ ghost use Rattle.shown_laws.specs.Codes.{AreCodesRight, AreThree};
 ghost use Rattle.shown_laws.specs.Deferred.{AreDeferredRight};
 ghost use Rattle.shown_laws.specs.Functions.{DoFunctionsFollow};
 ghost use Rattle.shown_laws.specs.Interruptions.{IsAskedFor, IsGivenOnce, IsLowestFirst, IsOldestFirst};
-ghost use Rattle.shown_laws.specs.Losses.{AreLossesRight};
+ghost use Rattle.shown_laws.specs.Losses.{AreLossesShown};
 ghost use Rattle.shown_laws.specs.Paths.{AreOffersLogical, ShowsLastUsed};
 ghost use Rattle.shown_laws.specs.Serials.{AreMade, ArePendingShown};
 
@@ -109,11 +109,10 @@ pub fn deferred_codes()
     steps();
 }
 
-/// In each run a path that is lost, or a Notice of restarts, makes a status of a subchannel only where a program was offered and,
-/// since, neither refused by Busy nor let go by a Release, nor cleared or reset (SA22-7832, chapter 16, interface-control check);
-/// and where it makes none of a subchannel that is enabled, the status word stays as it was.
+/// In each run a path that is lost, or a Notice of restarts, that makes no status of a subchannel that is enabled leaves its status
+/// word as it was (SA22-7832, chapter 16).
 pub fn losses()
-    ensures held { (setup : Setup) (h : List Entry) (s : State) → Run (opening_of setup) h s → AreLossesRight (set_count setup) h }
+    ensures silent { (setup : Setup) (h : List Entry) (s : State) → Run (opening_of setup) h s → AreLossesShown (set_count setup) h }
 {
     walks();
     setups();

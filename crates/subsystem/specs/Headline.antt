@@ -34,8 +34,9 @@ use Rattle.shown_laws.specs.Codes.{AreCodesRight, AreThree}
 use Rattle.shown_laws.specs.Deferred.{AreDeferredRight}
 use Rattle.shown_laws.specs.Functions.{DoFunctionsFollow}
 use Rattle.choice_laws.specs.Halts.{AreHaltsDone}
+use Rattle.choice_laws.specs.Losses.{AreLossesRight}
 use Rattle.shown_laws.specs.Interruptions.{IsAskedFor, IsGivenOnce, IsLowestFirst, IsOldestFirst}
-use Rattle.shown_laws.specs.Losses.{AreLossesRight}
+use Rattle.shown_laws.specs.Losses.{AreLossesShown}
 use Rattle.shown_laws.specs.Paths.{AreOffersLogical, ShowsLastUsed}
 use Rattle.shown_laws.specs.Serials.{AreMade, ArePendingShown}
 
@@ -75,8 +76,10 @@ pub record HeadlineHolds (setup : Setup) (h : List Entry) : Type 0 where
   pub pending : ArePendingShown (set_count setup) h
   -- a status that is made shows the deferred condition code that is due
   pub deferred_codes : AreDeferredRight (set_count setup) h
-  -- a path that is lost makes one only of a program that was offered and not let go since
-  pub losses : AreLossesRight (set_count setup) h
+  -- a path that is lost makes one where a program that is shown is offered or holds the device by it, and nowhere else
+  pub losses : AreLossesRight setup h
+  -- where none is made, the status word stays
+  pub silent : AreLossesShown (set_count setup) h
   -- a status that is made asks for an interruption until it is given or taken away; it is given once, lower subclasses first, and of one
   -- subclass the oldest first
   pub asked : IsAskedFor (set_count setup) h

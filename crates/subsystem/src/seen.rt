@@ -7,9 +7,10 @@ ghost use Rattle.channel_config.specs.Setup.{Setup, set_count};
 ghost use Rattle.machine_laws.specs.Claims.{IsClearedOnce};
 ghost use Rattle.machine_model.specs.State.{State, opening_of};
 ghost use Rattle.machine_model.specs.Steps.{Run};
+ghost use Rattle.shown_laws.specs.Losses.{AreLossesShown};
 ghost use Rattle.subsystem.specs.Headline.{HeadlineHolds};
 
-use choice_laws::halts;
+use choice_laws::{halts, losses};
 use machine_laws::beginnings;
 use program_claims::told_by_entries;
 use seen_laws::{
@@ -17,7 +18,7 @@ use seen_laws::{
     one_holder, path_reports,
 };
 use shown_laws::{
-    choices, codes, deferred_codes, functions, last_used, logical_offers, losses, requests, serials,
+    choices, codes, deferred_codes, functions, last_used, logical_offers, requests, serials,
 };
 
 /// In each run of a lawful set-up the headline holds of the entries.
@@ -41,6 +42,7 @@ pub fn headline()
     serials();
     deferred_codes();
     losses();
+    silent();
     requests();
     choices();
     halts();
@@ -53,4 +55,11 @@ fn cleared_once()
     ensures { (setup : Setup) (h : List Entry) (s : State) → Run (opening_of setup) h s → IsClearedOnce (set_count setup) h }
 {
     machine_laws::serials();
+}
+
+/// In each run a lost path, or a Notice, that makes no status of an enabled subchannel leaves its status word.
+fn silent()
+    ensures { (setup : Setup) (h : List Entry) (s : State) → Run (opening_of setup) h s → AreLossesShown (set_count setup) h }
+{
+    shown_laws::losses();
 }
