@@ -1,151 +1,151 @@
--- After each step a halt is specified only where one was executed since the start was accepted.
-use Rattle.std.proofs.Common.{◌≡◌, refl, sym, ◌∙◌, ap, subst, ℕ, Bool, true, false, Option, Some, List, inl, inr}
-use Rattle.std.specs.Prelude.{if◌then◌else◌, slice_get, slice_set}
-use Rattle.std.proofs.lemmas.Bool.{eq-eqb}
+-- After each run a halt is specified for a subchannel exactly where the entries tell it.
+use Rattle.std.proofs.Common.{◌≡◌, refl, sym, ◌∙◌, ap, subst, ℕ, ◌&&◌, not, Bool, true, false, Option, Some, List, [], ◌∷◌, ◌++◌}
+use Rattle.std.specs.Prelude.{if◌then◌else◌, slice_get}
 use Rattle.scsw_irb.specs.declared.scsw.FunctionControl.{FunctionControl}
-use Rattle.chan_model.specs.declared.answer.Answer.TheVariants as answer
+use Rattle.scsw_irb.specs.declared.scsw.Scsw.{Scsw}
+use Rattle.scsw_irb.specs.Empty.{no_functions}
 use Rattle.chan_model.specs.declared.answer.ConditionCode.{ConditionCode}
 use Rattle.chan_model.specs.declared.answer.ConditionCode.TheVariants as code
-use Rattle.chan_model.specs.ResetCauses.{is_path}
 use Rattle.chan_events.specs.declared.event.Event.{Event}
 use Rattle.chan_events.specs.declared.event.Event.TheVariants as event
+use Rattle.chan_events.specs.declared.event.Instruction.{Instruction}
 use Rattle.chan_events.specs.declared.event.Instruction.TheVariants as instruction
+use Rattle.chan_events.specs.declared.reply.Entry.{Entry}
 use Rattle.chan_events.specs.declared.reply.Reply.{Reply}
-use Rattle.chan_events.specs.declared.reply.Reply.TheVariants as reply
-use Rattle.channel_config.specs.SubchannelWords.{subchannel_named}
+use Rattle.channel_config.specs.declared.names.SubchannelId.{SubchannelId}
+use Rattle.channel_config.specs.Setup.{Setup, set_count}
+use Rattle.machine_model.specs.InstructionSteps.{subchannel_word}
+use Rattle.machine_model.specs.State.{State, opening_of}
+use Rattle.machine_model.specs.Steps.{Run}
+use Rattle.machine_model.specs.declared.state.Sweep.TheVariants as sweep
 use Rattle.subchannel_model.specs.declared.state.Subchannel.{Subchannel}
 use Rattle.subchannel_model.specs.declared.state.SubchannelState.{SubchannelState}
-use Rattle.subchannel_model.specs.Halt.{halted, hsch_code}
-use Rattle.subchannel_model.specs.Start.{started}
-use Rattle.machine_model.specs.InstructionSteps.{function_sub, code_at}
-use Rattle.machine_model.specs.State.{State, place_of}
-use Rattle.machine_model.specs.Steps.{Step}
-use Rattle.machine_model.specs.Turns.{with_state}
-use Rattle.step_laws.specs.Walks.{Walked}
-use Rattle.step_laws.proofs.Places.{set-get}
-use Rattle.seen_laws.specs.BeginsItsOwn.{is_code_zero, over_by}
-use Rattle.seen_laws.proofs.OwnRuns.{settled-answered, Answered, Unfound, There, halt-answered}
-use Rattle.program_claims.specs.ProgramTold.{started_by, halted_after}
-use Rattle.program_claims.proofs.Starting as starting_step
-use Rattle.program_claims.proofs.Overs.{not-eqb}
-use Rattle.program_claims.proofs.OverRuns.{about}
-use Rattle.program_claims.proofs.FunctionSteps.{walk-has}
+use Rattle.subchannel_model.specs.Places.{place_in}
+use Rattle.shown_laws.specs.Functions.{keeps_functions, functions_by, functions_after}
+use Rattle.shown_laws.specs.Shown.{names, is_about, is_accepted}
+use Rattle.shown_laws.proofs.Effects.{seen}
+use Rattle.shown_laws.proofs.Executed.{reply_of, code_for, state_left}
+use Rattle.shown_laws.proofs.Fitting.{Fits, fits-opens, turned-fits}
+use Rattle.shown_laws.proofs.Following.{turned-follows}
+use Rattle.shown_laws.proofs.Runs.{AreLaws, run-keeps}
+use Rattle.shown_laws.proofs.Turned.{Turned, Executes, Chooses, Meets, Sweeps, Rests}
+use Rattle.program_claims.specs.ProgramTold.{halt_by, halted_after}
 
-abbrev pub Allows : Bool → FunctionControl → Type 0
-Allows halts f = f.halt ≡ true → halts ≡ true
+-- what an event is about, by the name of the subchannel
+abbrev pub mine : ℕ → SubchannelId → Event → Bool
+mine sets id (event.Execute cpu i) = names sets id (subchannel_word i)
+mine sets id (event.Choose word) = names sets id word
+mine sets id (event.Up word path) = names sets id word
+mine sets id (event.Down word path) = names sets id word
+mine sets id e = false
 
-abbrev pub HaltsAt : Bool → List Subchannel → ℕ → Type 0
-HaltsAt halts subs place = (sub : Subchannel) → slice_get subs place ≡ Some sub → Allows halts sub.state.scsw.functions
+abbrev pub halted_by : ℕ → SubchannelId → Bool → List Entry → Bool
+halted_by sets id halted [] = halted
+halted_by sets id halted (x ∷ h) = halted_by sets id (halted_after (mine sets id x.event) x.event x.reply halted) h
 
-set-halts : (halts next : Bool) (subs : List Subchannel) (at place : ℕ) (x after : Subchannel) → slice_get subs at ≡ Some x →
-    (at ≡ place → Allows halts x.state.scsw.functions → Allows next after.state.scsw.functions) → ((at ≡ place → ⊥) → next ≡ halts) → HaltsAt halts subs place → HaltsAt next (slice_set subs at after) place
-set-halts halts next subs at place x after there here other k = λ sub got.
-    elim (set-get subs at after place sub got) [
-      | inl p ↦
-          subst (λ (y : Subchannel). Allows next y.state.scsw.functions) (sym p.1)
-          (here (sym p.0) (k x (subst (λ (i : ℕ). slice_get subs i ≡ Some x) (sym p.0) there)))
-      | inr p ↦ subst (λ (b : Bool). Allows b sub.state.scsw.functions) (sym (other (λ e. p.0 (sym e)))) (k sub p.1)
-    ]
+by-more : (sets : ℕ) (id : SubchannelId) (halted : Bool) (h : List Entry) (x : Entry) →
+    halted_by sets id halted (h ++ x ∷ []) ≡ halted_after (mine sets id x.event) x.event x.reply (halted_by sets id halted h)
+by-more sets id halted [] x = refl
+by-more sets id halted (y ∷ h) x = by-more sets id (halted_after (mine sets id y.event) y.event y.reply halted) h x
 
--- an instruction with this effect on what is told
-module _ (by : Reply → Bool → Bool) (kept : (r : Reply) (halts : Bool) → is_code_zero r ≡ false → by r halts ≡ halts) where
-  abbrev After : Bool → State → ℕ → ℕ → Reply → Bool
-  After halts s word place r = if is_path (place_of s word) place then by r halts else halts
+-- an instruction with this code
+same-if : (b : Bool) (f : FunctionControl) → (if b then f else f).halt ≡ f.halt
+same-if true f = refl
+same-if false f = refl
 
-  same-after : (b : Bool) (r : Reply) (halts : Bool) → is_code_zero r ≡ false → (if b then by r halts else halts) ≡ halts
-  same-after true r halts z = kept r halts z
-  same-after false r halts z = refl
+kept-if : (b : Bool) (f : FunctionControl) → (if b then f else no_functions).halt ≡ (f.halt && b)
+kept-if true f = and-true f.halt
+  where
+    and-true : (a : Bool) → a ≡ (a && true)
+    and-true true = refl
+    and-true false = refl
+kept-if false f = and-false f.halt
+  where
+    and-false : (a : Bool) → false ≡ (a && false)
+    and-false true = refl
+    and-false false = refl
 
-  unfound-halts : (halts : Bool) (s : State) (word place : ℕ) (r : Reply) → is_code_zero r ≡ false → HaltsAt halts s.subs place → HaltsAt (After halts s word place r) s.subs place
-  unfound-halts halts s word place r z k = subst (λ (b : Bool). HaltsAt b s.subs place) (sym (same-after (is_path (place_of s word) place) r halts z)) k
+coded-halt : (i : Instruction) (c : ConditionCode) (s left : SubchannelState) →
+    (if is_accepted (reply_of i c s left) then functions_by i s.scsw else s.scsw.functions).halt ≡ halt_by i (reply_of i c s left) s.scsw.functions.halt
+coded-halt (instruction.Ssch word address) code.Zero s left = refl
+coded-halt (instruction.Ssch word address) code.One s left = refl
+coded-halt (instruction.Ssch word address) code.Two s left = refl
+coded-halt (instruction.Ssch word address) code.Three s left = refl
+coded-halt (instruction.Tsch word address) code.Zero s left = kept-if (keeps_functions s.scsw) s.scsw.functions
+coded-halt (instruction.Tsch word address) code.One s left = refl
+coded-halt (instruction.Tsch word address) code.Two s left = refl
+coded-halt (instruction.Tsch word address) code.Three s left = refl
+coded-halt (instruction.Stsch word address) c s left = same-if (is_accepted (reply_of (instruction.Stsch word address) c s left)) s.scsw.functions
+coded-halt (instruction.Msch word address) c s left = same-if (is_accepted (reply_of (instruction.Msch word address) c s left)) s.scsw.functions
+coded-halt (instruction.Enable word subclass multipath) c s left = same-if (is_accepted (reply_of (instruction.Enable word subclass multipath) c s left)) s.scsw.functions
+coded-halt (instruction.Rsch word) c s left = same-if (is_accepted (reply_of (instruction.Rsch word) c s left)) s.scsw.functions
+coded-halt (instruction.Hsch word) code.Zero s left = refl
+coded-halt (instruction.Hsch word) code.One s left = refl
+coded-halt (instruction.Hsch word) code.Two s left = refl
+coded-halt (instruction.Hsch word) code.Three s left = refl
+coded-halt (instruction.Csch word) code.Zero s left = refl
+coded-halt (instruction.Csch word) code.One s left = refl
+coded-halt (instruction.Csch word) code.Two s left = refl
+coded-halt (instruction.Csch word) code.Three s left = refl
+coded-halt (instruction.Xsch word) code.Zero s left = refl
+coded-halt (instruction.Xsch word) code.One s left = refl
+coded-halt (instruction.Xsch word) code.Two s left = refl
+coded-halt (instruction.Xsch word) code.Three s left = refl
 
-  kept-halts : (halts : Bool) (s : State) (word at place : ℕ) (x after : Subchannel) (r : Reply) → slice_get s.subs at ≡ Some x → after.state ≡ x.state → is_code_zero r ≡ false → HaltsAt halts s.subs place →
-      HaltsAt (After halts s word place r) (slice_set s.subs at after) place
-  kept-halts halts s word at place x after r there same z k =
-      subst (λ (b : Bool). HaltsAt b (slice_set s.subs at after) place) (sym (same-after (is_path (place_of s word) place) r halts z))
-      (set-halts halts halts s.subs at place x after there (λ e f. subst (λ (y : SubchannelState). Allows halts y.scsw.functions) (sym same) f) (λ e. refl) k)
+-- whatever befalls the subchannel
+module _ (sets : ℕ) (id : SubchannelId) where
+  abbrev Leaves : Event → Reply → Scsw → Type 0
+  Leaves e r scsw = (functions_after sets id e r scsw).halt ≡ halted_after (mine sets id e) e r scsw.functions.halt
 
-  done-halts : (halts : Bool) (s : State) (word at place : ℕ) (x after : Subchannel) (r : Reply) → place_of s word ≡ Some at → slice_get s.subs at ≡ Some x → Allows (by r halts) after.state.scsw.functions →
-      HaltsAt halts s.subs place → HaltsAt (After halts s word place r) (slice_set s.subs at after) place
-  done-halts halts s word at place x after r n there a k =
-      set-halts halts (After halts s word place r) s.subs at place x after there
-      (λ e f. subst (λ (b : Bool). Allows (if b then by r halts else halts) after.state.scsw.functions) (sym (ap (λ (o : Option ℕ). is_path o place) n ∙ eq-eqb at place e)) a)
-      (λ e. ap (λ (b : Bool). if b then by r halts else halts) (ap (λ (o : Option ℕ). is_path o place) n ∙ not-eqb at place e)) k
+  executed-halt : (cpu : ℕ) (i : Instruction) (c : ConditionCode) (s left : SubchannelState) → names sets id (subchannel_word i) ≡ true → Leaves (event.Execute cpu i) (reply_of i c s left) s.scsw
+  executed-halt cpu i c s left named =
+      subst (λ (b : Bool). (if b && is_accepted (reply_of i c s left) then functions_by i s.scsw else s.scsw.functions).halt ≡ (if b then halt_by i (reply_of i c s left) s.scsw.functions.halt else s.scsw.functions.halt))
+      (sym named) (coded-halt i c s left)
 
-over-kept : (r : Reply) (halts : Bool) → is_code_zero r ≡ false → over_by r halts ≡ halts
-over-kept r halts z = ap (λ (b : Bool). if b then true else halts) z
+  rests-halt : (e : Event) (r : Reply) (scsw : Scsw) → is_about sets id e ≡ false → Leaves e r scsw
+  rests-halt (event.Put address bytes) r scsw about = refl
+  rests-halt (event.SetKey address key) r scsw about = refl
+  rests-halt (event.SetPrefix cpu address) r scsw about = refl
+  rests-halt (event.Show address count) r scsw about = refl
+  rests-halt (event.Execute cpu i) r scsw about =
+      subst (λ (b : Bool). (if b && is_accepted r then functions_by i scsw else scsw.functions).halt ≡ (if b then halt_by i r scsw.functions.halt else scsw.functions.halt)) (sym about) refl
+  rests-halt (event.ExecuteOther cpu i) r scsw about = refl
+  rests-halt (event.Choose word) r scsw about = refl
+  rests-halt (event.Up word path) r scsw about = refl
+  rests-halt (event.Down word path) r scsw about = refl
+  rests-halt (event.Report at report) r scsw about = refl
+  rests-halt (event.Act at what) r scsw about = refl
+  rests-halt (event.Restart at) r scsw about = refl
+  rests-halt (event.PathDown chpid) r scsw about = refl
+  rests-halt (event.PathUp chpid) r scsw about = refl
+  rests-halt (event.PathReset chpid) r scsw about = refl
+  rests-halt event.SystemReset r scsw about = refl
 
-start-kept : (r : Reply) (halts : Bool) → is_code_zero r ≡ false → started_by r halts ≡ halts
-start-kept r halts z = ap (λ (b : Bool). if b then false else halts) z
+  leaves : (e : Event) (r : Reply) (sub : Subchannel) (after : SubchannelState) → Turned sets id e r sub after → Leaves e r sub.state.scsw
+  leaves _ _ _ _ (Executes cpu i sub effect named is) = executed-halt cpu i (code_for i sub) sub.state (state_left i sub effect) named
+  leaves _ _ _ _ (Chooses word sub choice named away) = refl
+  leaves _ _ _ _ (Meets word path returns storage sub x named) = refl
+  leaves _ _ _ _ (Sweeps (sweep.GoesDown chpid) r sub) = refl
+  leaves _ _ _ _ (Sweeps (sweep.ComesUp chpid) r sub) = refl
+  leaves _ _ _ _ (Sweeps (sweep.PathReset chpid) r sub) = refl
+  leaves _ _ _ _ (Sweeps sweep.SystemReset r sub) = refl
+  leaves _ _ _ _ (Rests e r sub about) = rests-halt e r sub.state.scsw about
 
--- HALT SUBCHANNEL and START SUBCHANNEL
-coded-halts : (halts : Bool) (s : State) (word at place : ℕ) (x : Subchannel) (c : ConditionCode) → place_of s word ≡ Some at → slice_get s.subs at ≡ Some x → HaltsAt halts s.subs place →
-    HaltsAt (After over_by over-kept halts s word place (function_sub x c (halted x.state)).reply) (slice_set s.subs at (function_sub x c (halted x.state)).sub) place
-coded-halts halts s word at place x code.Zero n there k =
-    done-halts over_by over-kept halts s word at place x (with_state x (halted x.state)) (function_sub x code.Zero (halted x.state)).reply n there (λ e. refl) k
-coded-halts halts s word at place x code.One n there k =
-    kept-halts over_by over-kept halts s word at place x (with_state x x.state) (function_sub x code.One (halted x.state)).reply there refl refl k
-coded-halts halts s word at place x code.Two n there k =
-    kept-halts over_by over-kept halts s word at place x (with_state x x.state) (function_sub x code.Two (halted x.state)).reply there refl refl k
-coded-halts halts s word at place x code.Three n there k =
-    kept-halts over_by over-kept halts s word at place x (with_state x x.state) (function_sub x code.Three (halted x.state)).reply there refl refl k
+record IsHalted (sets : ℕ) (id : SubchannelId) (h : List Entry) (s : SubchannelState) : Type 0 where
+  fits : Fits (seen s)
+  halted : s.scsw.functions.halt ≡ halted_by sets id false h
 
-halt-halts : (halts : Bool) (s : State) (word place : ℕ) (r : Reply) (subs : List Subchannel) → Answered s word hsch_code halted r subs → HaltsAt halts s.subs place →
-    HaltsAt (After over_by over-kept halts s word place r) subs place
-halt-halts halts s word place _ _ (Unfound r z) k = unfound-halts over_by over-kept halts s word place r z k
-halt-halts halts s word place _ _ (There at x n there) k = coded-halts halts s word at place x (code_at hsch_code x) n there k
-
-start-halts : (halts : Bool) (s : State) (cpu word address place : ℕ) (r : Reply) (subs : List Subchannel) → starting_step.Started s cpu word address r subs → HaltsAt halts s.subs place →
-    HaltsAt (After started_by start-kept halts s word place r) subs place
-start-halts halts s cpu word address place _ _ (starting_step.Unfound r z) k = unfound-halts started_by start-kept halts s word place r z k
-start-halts halts s cpu word address place _ _ (starting_step.Refused at x y r there same z) k = kept-halts started_by start-kept halts s word at place x y r there same z k
-start-halts halts s cpu word address place _ _ (starting_step.Starts at x orb serials n there here) k =
-    done-halts started_by start-kept halts s word at place x (with_state x (started x.state orb)) (reply.Code (answer.Zero serials)) n there (λ e. absurd (cc e)) k
-
--- other steps specify none
-other-halts : (halts : Bool) (s : State) (e : Event) (r : Reply) (new : State) (place : ℕ) → Walked s e r new → ((cpu word : ℕ) → e ≡ event.Execute cpu (instruction.Hsch word) → ⊥) →
-    HaltsAt halts s.subs place → HaltsAt halts new.subs place
-other-halts halts s e r new place walk not k = λ sub here.
-    let w = walk-has (Allows halts) (λ h. absurd (cc h)) (λ h. absurd (cc h)) (λ h. absurd (cc h)) s e r new walk not place sub here in w.2 (k w.0 w.1)
-
--- each step
-as-if : (b : Bool) (subs : List Subchannel) (place : ℕ) (x y : Bool) (f : Bool → Bool) → f true ≡ x → f false ≡ y → HaltsAt (if b then x else y) subs place → HaltsAt (f b) subs place
-as-if true subs place x y f e g k = subst (λ (z : Bool). HaltsAt z subs place) (sym e) k
-as-if false subs place x y f e g k = subst (λ (z : Bool). HaltsAt z subs place) (sym g) k
-
-others : (halts b : Bool) (s : State) (e : Event) (r : Reply) (new : State) (place : ℕ) → Walked s e r new → ((cpu word : ℕ) → e ≡ event.Execute cpu (instruction.Hsch word) → ⊥) →
-    halted_after true e r halts ≡ halts → halted_after false e r halts ≡ halts → HaltsAt halts s.subs place → HaltsAt (halted_after b e r halts) new.subs place
-others halts true s e r new place walk n t f k = subst (λ (z : Bool). HaltsAt z new.subs place) (sym t) (other-halts halts s e r new place walk n k)
-others halts false s e r new place walk n t f k = subst (λ (z : Bool). HaltsAt z new.subs place) (sym f) (other-halts halts s e r new place walk n k)
-
-pub step-halts : (halts : Bool) (s : State) (e : Event) (r : Reply) (new : State) (place : ℕ) → Step s e r new → Walked s e r new → HaltsAt halts s.subs place →
-    HaltsAt (halted_after (about s place e) e r halts) new.subs place
-step-halts halts s (event.Execute cpu (instruction.Ssch word address)) r new place step walk k =
-    as-if (is_path (place_of s word) place) new.subs place (started_by r halts) halts (λ b. halted_after b (event.Execute cpu (instruction.Ssch word address)) r halts) refl refl
-    (start-halts halts s cpu word address place r new.subs (starting_step.step-started s cpu word address r new step) k)
-step-halts halts s (event.Execute cpu (instruction.Hsch word)) r new place step walk k =
-    as-if (is_path (place_of s word) place) new.subs place (over_by r halts) halts (λ b. halted_after b (event.Execute cpu (instruction.Hsch word)) r halts) refl refl
-    (halt-halts halts s word place r new.subs
-    (settled-answered s (event.Execute cpu (instruction.Hsch word)) step.0 r new (Answered s word hsch_code halted) step.2 (halt-answered s cpu word (subchannel_named s.sets word) step.0 refl step.1)) k)
-step-halts halts s (event.Execute cpu (instruction.Tsch word address)) r new place step walk k = others halts (about s place (event.Execute cpu (instruction.Tsch word address))) s (event.Execute cpu (instruction.Tsch word address)) r new place walk (λ c w h. cc h) refl refl k
-step-halts halts s (event.Execute cpu (instruction.Stsch word address)) r new place step walk k = others halts (about s place (event.Execute cpu (instruction.Stsch word address))) s (event.Execute cpu (instruction.Stsch word address)) r new place walk (λ c w h. cc h) refl refl k
-step-halts halts s (event.Execute cpu (instruction.Msch word address)) r new place step walk k = others halts (about s place (event.Execute cpu (instruction.Msch word address))) s (event.Execute cpu (instruction.Msch word address)) r new place walk (λ c w h. cc h) refl refl k
-step-halts halts s (event.Execute cpu (instruction.Enable word subclass multipath)) r new place step walk k = others halts (about s place (event.Execute cpu (instruction.Enable word subclass multipath))) s (event.Execute cpu (instruction.Enable word subclass multipath)) r new place walk (λ c w h. cc h) refl refl k
-step-halts halts s (event.Execute cpu (instruction.Rsch word)) r new place step walk k = others halts (about s place (event.Execute cpu (instruction.Rsch word))) s (event.Execute cpu (instruction.Rsch word)) r new place walk (λ c w h. cc h) refl refl k
-step-halts halts s (event.Execute cpu (instruction.Csch word)) r new place step walk k = others halts (about s place (event.Execute cpu (instruction.Csch word))) s (event.Execute cpu (instruction.Csch word)) r new place walk (λ c w h. cc h) refl refl k
-step-halts halts s (event.Execute cpu (instruction.Xsch word)) r new place step walk k = others halts (about s place (event.Execute cpu (instruction.Xsch word))) s (event.Execute cpu (instruction.Xsch word)) r new place walk (λ c w h. cc h) refl refl k
-step-halts halts s (event.Choose word) r new place step walk k = others halts (about s place (event.Choose word)) s (event.Choose word) r new place walk (λ c w h. cc h) refl refl k
-step-halts halts s (event.Put address bytes) r new place step walk k = others halts (about s place (event.Put address bytes)) s (event.Put address bytes) r new place walk (λ c w h. cc h) refl refl k
-step-halts halts s (event.SetKey address key) r new place step walk k = others halts (about s place (event.SetKey address key)) s (event.SetKey address key) r new place walk (λ c w h. cc h) refl refl k
-step-halts halts s (event.SetPrefix cpu address) r new place step walk k = others halts (about s place (event.SetPrefix cpu address)) s (event.SetPrefix cpu address) r new place walk (λ c w h. cc h) refl refl k
-step-halts halts s (event.Show address count) r new place step walk k = others halts (about s place (event.Show address count)) s (event.Show address count) r new place walk (λ c w h. cc h) refl refl k
-step-halts halts s (event.ExecuteOther cpu i) r new place step walk k = others halts (about s place (event.ExecuteOther cpu i)) s (event.ExecuteOther cpu i) r new place walk (λ c w h. cc h) refl refl k
-step-halts halts s (event.Up word path) r new place step walk k = others halts (about s place (event.Up word path)) s (event.Up word path) r new place walk (λ c w h. cc h) refl refl k
-step-halts halts s (event.Down word path) r new place step walk k = others halts (about s place (event.Down word path)) s (event.Down word path) r new place walk (λ c w h. cc h) refl refl k
-step-halts halts s (event.Report at report) r new place step walk k = others halts (about s place (event.Report at report)) s (event.Report at report) r new place walk (λ c w h. cc h) refl refl k
-step-halts halts s (event.Act at what) r new place step walk k = others halts (about s place (event.Act at what)) s (event.Act at what) r new place walk (λ c w h. cc h) refl refl k
-step-halts halts s (event.Restart at) r new place step walk k = others halts (about s place (event.Restart at)) s (event.Restart at) r new place walk (λ c w h. cc h) refl refl k
-step-halts halts s (event.PathDown chpid) r new place step walk k = others halts (about s place (event.PathDown chpid)) s (event.PathDown chpid) r new place walk (λ c w h. cc h) refl refl k
-step-halts halts s (event.PathUp chpid) r new place step walk k = others halts (about s place (event.PathUp chpid)) s (event.PathUp chpid) r new place walk (λ c w h. cc h) refl refl k
-step-halts halts s (event.PathReset chpid) r new place step walk k = others halts (about s place (event.PathReset chpid)) s (event.PathReset chpid) r new place walk (λ c w h. cc h) refl refl k
-step-halts halts s event.SystemReset r new place step walk k = others halts (about s place event.SystemReset) s event.SystemReset r new place walk (λ c w h. cc h) refl refl k
+pub run-halted : AreLaws → (setup : Setup) (id : SubchannelId) (h : List Entry) (s : State) → Run (opening_of setup) h s → (place : ℕ) (sub : Subchannel) →
+    place_in id s.subs ≡ Some place → slice_get s.subs place ≡ Some sub → sub.state.scsw.functions.halt ≡ halted_by (set_count setup) id false h
+run-halted laws setup id h s run place sub named there =
+    let sets : ℕ = set_count setup in
+    let w : IsHalted sets id h sub.state =
+    run-keeps laws setup id (λ h s. IsHalted sets id h s) (record { fits = fits-opens; halted = refl })
+    (λ h e r sub after k turned. record {
+      fits = turned-fits sets id e r sub after k.fits turned;
+      halted = ap (λ (f : FunctionControl). f.halt) (turned-follows sets id e r sub after k.fits turned).functions
+          ∙ leaves sets id e r sub after turned
+          ∙ ap (λ (b : Bool). halted_after (mine sets id e) e r b) k.halted
+          ∙ sym (by-more sets id false h (record { event = e; reply = r }));
+    }) h s run place sub named there in
+    w.halted

@@ -5,7 +5,5 @@ mod Starting
 mod Telling
 mod Overs
 mod OverRuns
-mod Functions
-mod FunctionSteps
 mod Halts
 mod Runs

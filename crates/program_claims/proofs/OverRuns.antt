@@ -31,7 +31,7 @@ use Rattle.subchannel_model.specs.Places.{Found, place_in, place_of_id, found_at
 use Rattle.subchannel_model.specs.Resume.{resumed}
 use Rattle.subchannel_model.specs.Start.{started}
 use Rattle.subchannel_model.specs.Test.{ends_suspended, tested_wholly, tsch_code}
-use Rattle.machine_model.specs.InstructionSteps.{function_sub, test_with, test_at, test_sub, code_at}
+use Rattle.machine_model.specs.InstructionSteps.{subchannel_word, function_sub, test_with, test_at, test_sub, code_at}
 use Rattle.machine_model.specs.PathSteps.{swept}
 use Rattle.machine_model.specs.State.{State, place_of}
 use Rattle.machine_model.specs.Steps.{Step}
@@ -43,7 +43,7 @@ use Rattle.step_laws.proofs.Places.{set-get, map-get}
 use Rattle.seen_laws.specs.BeginsItsOwn.{is_code_zero, over_by, over_chosen}
 use Rattle.seen_laws.proofs.OwnSteps.{IsApart, down-apart, step-apart, act-apart}
 use Rattle.seen_laws.proofs.OwnRuns.{found-there, settled-answered, Answered, Unfound, There, halt-answered, cancel-answered}
-use Rattle.program_claims.specs.ProgramTold.{over_tested, over_after, instruction_word}
+use Rattle.program_claims.specs.ProgramTold.{over_tested, over_after}
 use Rattle.program_claims.proofs.Starting as starting_step
 use Rattle.program_claims.proofs.Overs.{Owned, same-tied, reset-tied, halt-owned, cancel-owned, start-owned, test-owned, resume-just, IsTurn, chosen-owned, up-owned, same-just, swept-owned, not-eqb}
 
@@ -248,7 +248,7 @@ tested-owned over s word place _ _ (Tests at x after r n there same z) owned =
 
 -- each step
 abbrev pub about : State → ℕ → Event → Bool
-about s place (event.Execute cpu i) = is_path (place_of s (instruction_word i)) place
+about s place (event.Execute cpu i) = is_path (place_of s (subchannel_word i)) place
 about s place (event.Choose word) = is_path (place_of s word) place
 about s place (event.Up word path) = is_path (place_of s word) place
 about s place (event.Down word path) = is_path (place_of s word) place

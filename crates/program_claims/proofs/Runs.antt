@@ -1,7 +1,7 @@
 -- Along a run what its entries tell of storage and of the programs.
 use Rattle.std.proofs.Common.{◌≡◌, refl, sym, ◌∙◌, ap, subst, ℕ, ◌+◌, ◌==◌, Bool, true, false, arith, Option, None, Some, List, [], ◌∷◌, ◌++◌, inl, inr}
 use Rattle.std.specs.Prelude.{if◌then◌else◌, map, option_map, slice_get, IfSome}
-use Rattle.std.proofs.lemmas.Bool.{eqb-true, eqb-false}
+use Rattle.std.proofs.lemmas.Bool.{eqb-true, eqb-false, eq-eqb}
 use Rattle.orb_block.specs.declared.Orb.{Orb}
 use Rattle.storage_keys.specs.Storage.{Contents}
 use Rattle.chan_model.specs.declared.answer.Answer.TheVariants as answer
@@ -27,6 +27,7 @@ use Rattle.subchannel_model.specs.declared.state.Subchannel.{Subchannel}
 use Rattle.subchannel_model.specs.declared.state.SubchannelState.{SubchannelState}
 use Rattle.subchannel_model.specs.Opening.{opened}
 use Rattle.subchannel_model.specs.Places.{first_place, is_named, place_in, place_of_id, reached_in}
+use Rattle.machine_model.specs.InstructionSteps.{subchannel_word}
 use Rattle.machine_model.specs.Setups.{IsSetUp}
 use Rattle.machine_model.specs.State.{State, opening_of, place_of}
 use Rattle.machine_model.specs.Steps.{Step, Run, Opened, Stepped}
@@ -36,16 +37,19 @@ use Rattle.machine_laws.specs.Claims.{is_id}
 use Rattle.seen_laws.specs.BeginsItsOwn.{is_code_zero, IsAcceptRight}
 use Rattle.seen_laws.proofs.HolderRuns as holders
 use Rattle.seen_laws.proofs.HolderRuns.{run-right}
+use Rattle.shown_laws.specs.Shown.{names}
+use Rattle.shown_laws.proofs.Named.{same-id, named-is}
+use Rattle.shown_laws.proofs.Runs.{AreLaws}
 use Rattle.program_laws.specs.Claims.{TraceCorrect}
 use Rattle.program_laws.specs.Tells.{GoesBy, IsTold, AllTold}
 use Rattle.program_laws.specs.Traces.{ProgramTrace, chosen_at, taken_at}
-use Rattle.program_claims.specs.ProgramTold.{Told, StartsBy, HasAbsorbed, Standing, over_after, halted_after, standing_after, TellsBy, place_named, is_named_at, instruction_word, is_about, AreTold, nothing_told, nothing_over, opening_storage, AreProgramsTold}
+use Rattle.program_claims.specs.ProgramTold.{Told, StartsBy, HasAbsorbed, Standing, over_after, halted_after, standing_after, TellsBy, place_named, is_named_at, is_about, AreTold, nothing_told, nothing_over, opening_storage, AreProgramsTold}
 use Rattle.program_claims.specs.StorageTold.{StoresBy, AreStored}
 use Rattle.program_claims.proofs.StorageSteps.{step-stores}
 use Rattle.program_claims.proofs.Starting.{Started, Unfound, Refused, Starts, step-started}
 use Rattle.program_claims.proofs.Overs.{Owned}
 use Rattle.program_claims.proofs.OverRuns.{OwnedAt, about, step-owned}
-use Rattle.program_claims.proofs.Halts.{Allows, HaltsAt, step-halts}
+use Rattle.program_claims.proofs.Halts.{mine, halted_by, run-halted}
 use Rattle.program_claims.proofs.Telling.{told, IsStarted, IsJust, AnswersOffer, up-by, walk-answers, walk-replies, walk-offers, offers-by, report-absorbed}
 use Rattle.program_claims.proofs.Waiting.{walk-waits}
 
@@ -112,7 +116,7 @@ about-same setup s u place (event.Put address bytes) = refl
 about-same setup s u place (event.SetKey address key) = refl
 about-same setup s u place (event.SetPrefix cpu address) = refl
 about-same setup s u place (event.Show address count) = refl
-about-same setup s u place (event.Execute cpu i) = word-same setup s u place (instruction_word i)
+about-same setup s u place (event.Execute cpu i) = word-same setup s u place (subchannel_word i)
 about-same setup s u place (event.ExecuteOther cpu i) = refl
 about-same setup s u place (event.Choose word) = word-same setup s u place word
 about-same setup s u place (event.Up word path) = word-same setup s u place word
@@ -244,7 +248,7 @@ down-by : (st : Standing) (former storage : Contents) (word path : ℕ) (r : Rep
 down-by st former storage word path r true a k after e = ap (told a) e
 down-by st former storage word path r false a k after e = ap (told a) e
 
-module _ (st : Standing) (s : State) (place : ℕ) (old sub : Subchannel) (new : State) (owned : Owned st.over old.state) (halts : Allows st.halted old.state.scsw.functions) (there : slice_get s.subs place ≡ Some old) (here : slice_get new.subs place ≡ Some sub) where
+module _ (st : Standing) (s : State) (place : ℕ) (old sub : Subchannel) (new : State) (owned : Owned st.over old.state) (halts : (word : ℕ) → is_path (place_of s word) place ≡ true → old.state.scsw.functions.halt ≡ st.halted) (there : slice_get s.subs place ≡ Some old) (here : slice_get new.subs place ≡ Some sub) where
   both : (signal : Up) (taken : Bool) (t : ℕ) (sent : Option (OnPath Down)) → signal ≡ up.Accept t → taken ≡ true → reply.Up signal taken sent ≡ reply.Up (up.Accept t) true sent
   both signal taken t sent e f = ap (λ (x : Up). reply.Up x taken sent) e ∙ ap (λ (b : Bool). reply.Up (up.Accept t) b sent) f
 
@@ -255,7 +259,7 @@ module _ (st : Standing) (s : State) (place : ℕ) (old sub : Subchannel) (new :
       IsAcceptRight (reply.Up signal taken sent) false → AnswersOffer old.state (reply.Up signal taken sent) → GoesBy place s (event.Up word path) (reply.Up signal taken sent) new k after →
       TellsBy b st s.storage new.storage (event.Up word path) (reply.Up signal taken sent) (told a k) (told a after)
   replied word path signal taken sent true a k after m right offer goes =
-      up-by st s.storage new.storage old.state sub.state signal taken sent a k after right (λ t e f. just t sent (both signal taken t sent e f) offer) halts (goes.1 m old sub there here)
+      up-by st s.storage new.storage old.state sub.state signal taken sent a k after right (λ t e f. just t sent (both signal taken t sent e f) offer) (halts word m) (goes.1 m old sub there here)
   replied word path signal taken sent false a k after m right offer goes = ap (told a) (goes.0 m).0
 
   up-tells : (word path : ℕ) (r : Reply) (b : Bool) (a : Option Orb) (k after : Option ProgramTrace) → is_path (place_of s word) place ≡ b → Walked s (event.Up word path) r new →
@@ -279,7 +283,7 @@ module _ (st : Standing) (s : State) (place : ℕ) (old sub : Subchannel) (new :
   executed cpu i r a k after n walk same started = (
     a,
     stays-started s (event.Execute cpu i) r new place a walk (not-start cpu i n) started,
-    instruction-by st s.storage new.storage cpu i r (is_path (place_of s (instruction_word i)) place) (told a k) (told a after) n (ap (told a) same),
+    instruction-by st s.storage new.storage cpu i r (is_path (place_of s (subchannel_word i)) place) (told a k) (told a after) n (ap (told a) same),
   )
 
   execute-tells : (cpu : ℕ) (i : Instruction) (r : Reply) (a : Option Orb) (k after : Option ProgramTrace) → Step s (event.Execute cpu i) r new → Walked s (event.Execute cpu i) r new → after ≡ k →
@@ -342,31 +346,80 @@ opened-owned : (setup : Setup) (place : ℕ) → OwnedAt false (opening_of setup
 opened-owned setup place = λ sub e.
     let p = map-get opened setup.subchannels place sub e in subst (λ (y : Subchannel). Owned false y.state) p.2 ((omega arith, tt, tt, tt), λ t q h. absurd (cc h))
 
-opened-halts : (setup : Setup) (place : ℕ) → HaltsAt false (opening_of setup).subs place
-opened-halts setup place = λ sub e.
-    let p = map-get opened setup.subchannels place sub e in subst (λ (y : Subchannel). Allows false y.state.scsw.functions) p.2 (λ h. absurd (cc h))
+-- the standing of a subchannel by its name
+module _ (setup : Setup) (s : State) (u : IsSetUp setup s) (id : SubchannelId) (place : ℕ) (sub : Subchannel) (named : place_in id s.subs ≡ Some place) (there : slice_get s.subs place ≡ Some sub) where
+  at-name : (x : Option SubchannelId) → is_path (place_of_id s.subs x) place ≡ is_id x id
+  at-name x = by (is_path (place_of_id s.subs x) place) refl (is_id x id) refl
+    where
+      by : (b : Bool) → is_path (place_of_id s.subs x) place ≡ b → (c : Bool) → is_id x id ≡ c → b ≡ c
+      by true e true f = refl
+      by false e false f = refl
+      by true e false f = absurd (cc (sym f ∙ named-is s.subs id x place sub (path-is (place_of_id s.subs x) place e) named there))
+      by false e true f = absurd (cc (sym e ∙ ap (λ (o : Option ℕ). is_path o place) (found x f) ∙ eq-eqb place place refl))
+        where
+          found : (x : Option SubchannelId) → is_id x id ≡ true → place_of_id s.subs x ≡ Some place
+          found None g = absurd (cc g)
+          found (Some other) g = ap (λ (y : SubchannelId). place_in y s.subs) (same-id other id g) ∙ named
+
+  word-mine : (word : ℕ) → is_named_at (set_count setup) setup.subchannels place word ≡ names (set_count setup) id word
+  word-mine word =
+      sym (word-same setup s u place word) ∙ at-name (subchannel_named s.sets word)
+      ∙ ap (λ (n : ℕ). is_id (subchannel_named n word) id) u.sets
+
+  about-mine : (e : Event) → is_about (set_count setup) setup.subchannels place e ≡ mine (set_count setup) id e
+  about-mine (event.Put address bytes) = refl
+  about-mine (event.SetKey address key) = refl
+  about-mine (event.SetPrefix cpu address) = refl
+  about-mine (event.Show address count) = refl
+  about-mine (event.Execute cpu i) = word-mine (subchannel_word i)
+  about-mine (event.ExecuteOther cpu i) = refl
+  about-mine (event.Choose word) = word-mine word
+  about-mine (event.Up word path) = word-mine word
+  about-mine (event.Down word path) = word-mine word
+  about-mine (event.Report at report) = refl
+  about-mine (event.Act at what) = refl
+  about-mine (event.Restart at) = refl
+  about-mine (event.PathDown chpid) = refl
+  about-mine (event.PathUp chpid) = refl
+  about-mine (event.PathReset chpid) = refl
+  about-mine event.SystemReset = refl
+
+  through-halted : (st : Standing) (h : List Entry) → (standing_through (set_count setup) setup.subchannels place st h).halted ≡ halted_by (set_count setup) id st.halted h
+  through-halted st [] = refl
+  through-halted st (x ∷ h) =
+      through-halted (standing_after (is_about (set_count setup) setup.subchannels place x.event) x.event x.reply st) h
+      ∙ ap (λ (b : Bool). halted_by (set_count setup) id (halted_after b x.event x.reply st.halted) h) (about-mine x.event)
 
 -- after a run
 pub record IsRunTold (setup : Setup) (place : ℕ) (h : List Entry) (s : State) (run : Run (opening_of setup) h s) (k : Option ProgramTrace) : Type 0 where
   pub orb : Option Orb
   pub started : StartedAt orb s place
   pub owned : OwnedAt (standing_through (set_count setup) setup.subchannels place nothing_over h).over s.subs place
-  pub halts : HaltsAt (standing_through (set_count setup) setup.subchannels place nothing_over h).halted s.subs place
   pub all : AreTold (set_count setup) setup.subchannels place (opening_storage setup) nothing_over nothing_told h (storages (opening_of setup) h s run) (told orb k)
 
 -- what is known of each step and each run
 pub record AreKnown : Type 0 where
-  pub walks : AreWalks
+  pub laws : AreLaws
   pub runs : holders.AreKnown
 
 module _ (known : AreKnown) (setup : Setup) (lawful : IsLawful setup) where
   set-up : (h : List Entry) (s : State) → Run (opening_of setup) h s → IsSetUp setup s
   set-up h s run = (run-right known.runs setup h s lawful run).set_up
 
+  -- where a word names the subchannel, a halt is specified where the entries before tell it
+  halts-told : (place : ℕ) (h : List Entry) (s : State) (run : Run (opening_of setup) h s) (sub : Subchannel) → slice_get s.subs place ≡ Some sub → (word : ℕ) → is_path (place_of s word) place ≡ true →
+      sub.state.scsw.functions.halt ≡ (standing_through (set_count setup) setup.subchannels place nothing_over h).halted
+  halts-told place h s run sub there word e = by (subchannel_named s.sets word) (path-is (place_of s word) place e)
+    where
+      by : (x : Option SubchannelId) → place_of_id s.subs x ≡ Some place → sub.state.scsw.functions.halt ≡ (standing_through (set_count setup) setup.subchannels place nothing_over h).halted
+      by None named = absurd (cc named)
+      by (Some id) named =
+          run-halted known.laws setup id h s run place sub named there ∙ sym (through-halted setup s (set-up h s run) id place sub named there nothing_over h)
+
   run-told : (place : ℕ) (x : SubchannelSetup) → slice_get setup.subchannels place ≡ Some x → (h : List Entry) (s : State) (run : Run (opening_of setup) h s) (k : Option ProgramTrace) →
       IsTold place (opening_of setup) h s run k → IsRunTold setup place h s run k
   run-told place x there _ _ Opened k t =
-      record { orb = None; started = opened-started setup place; owned = opened-owned setup place; halts = opened-halts setup place; all = ap (told None) t }
+      record { orb = None; started = opened-started setup place; owned = opened-owned setup place; all = ap (told None) t }
   run-told place z there _ _ (Stepped h old e r new run step) k t =
       let before : IsRunTold setup place h old run t.0 = run-told place z there h old run t.0 t.1 in
       let was = there-is setup old place z (set-up h old run) there in
@@ -375,16 +428,14 @@ module _ (known : AreKnown) (setup : Setup) (lawful : IsLawful setup) where
       let sets : ℕ = set_count setup in
       let subs : List SubchannelSetup = setup.subchannels in
       let st : Standing = standing_through sets subs place nothing_over h in
-      let walk : Walked old e r new = known.walks old e r new step in
+      let walk : Walked old e r new = known.laws.walks old e r new step in
       let same : about old place e ≡ is_about sets subs place e = about-same setup old (set-up h old run) place e in
-      let now = step-tells st old place was.0 is.0 new (before.owned was.0 was.1) (before.halts was.0 was.1) was.1 is.1 e r before.orb t.0 k step walk t.2 before.started in
+      let now = step-tells st old place was.0 is.0 new (before.owned was.0 was.1) (halts-told place h old run was.0 was.1) was.1 is.1 e r before.orb t.0 k step walk t.2 before.started in
       record {
         orb = now.0;
         started = now.1;
         owned = subst (λ (b : Standing). OwnedAt b.over new.subs place) (sym (through-more sets subs place nothing_over h x))
             (subst (λ (b : Bool). OwnedAt (over_after b e r st.over) new.subs place) same (step-owned st.over old e r new place step walk before.owned));
-        halts = subst (λ (b : Standing). HaltsAt b.halted new.subs place) (sym (through-more sets subs place nothing_over h x))
-            (subst (λ (b : Bool). HaltsAt (halted_after b e r st.halted) new.subs place) same (step-halts st.halted old e r new place step walk before.halts));
         all = told-more sets subs place (opening_storage setup) nothing_over nothing_told h (storages (opening_of setup) h old run) old.storage new.storage x (told before.orb t.0) (told now.0 k)
             (run-stored (opening_of setup) h old run) before.all
             (subst (λ (b : Bool). TellsBy b st old.storage new.storage e r (told before.orb t.0) (told now.0 k)) same now.2) t.3;

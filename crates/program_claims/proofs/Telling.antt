@@ -80,18 +80,19 @@ accepts false storage s next t sent k after o a (inl x) = absurd (ahead-over s o
 accepts false storage s next t sent k after o a (inr x) = (a, x.1)
 
 -- End
-ends : (executed : Bool) (storage : Contents) (s next : SubchannelState) (status : DeviceStatus) (more : Bool) (sent : Option (OnPath Down)) (k after : ProgramTrace) →
-    (s.scsw.functions.halt ≡ true → executed ≡ true) → tells.Ends storage s next status more sent k after → Ends executed storage status more sent k after
-ends executed storage s next status more sent k after h (inl x) = (s.scsw.functions.halt, h, inr (x.0, x.2, x.1))
-ends executed storage s next status more sent k after h (inr x) = (s.scsw.functions.halt, h, inl (x.0, x.1))
+ends : (storage : Contents) (s next : SubchannelState) (status : DeviceStatus) (more : Bool) (sent : Option (OnPath Down)) (k after : ProgramTrace) →
+    tells.Ends storage s next status more sent k after → Ends s.scsw.functions.halt storage status more sent k after
+ends storage s next status more sent k after (inl x) = inr (x.0, x.2, x.1)
+ends storage s next status more sent k after (inr x) = inl (x.0, x.1)
 
 -- a signal
 meets-by : (st : Standing) (former storage : Contents) (s next : SubchannelState) (signal : Up) (sent : Option (OnPath Down)) (k after : ProgramTrace) → IsAcceptRight (reply.Up signal true sent) false →
-    ((t : ℕ) → signal ≡ up.Accept t → IsJust st.over s) → (s.scsw.functions.halt ≡ true → st.halted ≡ true) → Meets former storage s next signal true sent k after → MeetsBy st former storage signal sent k after
+    ((t : ℕ) → signal ≡ up.Accept t → IsJust st.over s) → s.scsw.functions.halt ≡ st.halted → Meets former storage s next signal true sent k after → MeetsBy st former storage signal sent k after
 meets-by st former storage s next (up.Accept t) sent k after a j h m = (m.0, m.1, accepts st.over storage s next t sent k after (j t refl) a m.2)
 meets-by st former storage s next (up.Data t c n q load) sent k after a j h m =
     (m.0, m.1, m.2, m.3)
-meets-by st former storage s next (up.End t n status more) sent k after a j h m = (m.0, m.1, m.2, ends st.halted storage s next status more sent k after h m.3)
+meets-by st former storage s next (up.End t n status more) sent k after a j h m = 
+    (m.0, m.1, m.2, subst (λ (b : Bool). Ends b storage status more sent k after) h (ends storage s next status more sent k after m.3))
 meets-by st former storage s next (up.Busy t) sent k after a j h m = (m.0, m.1)
 meets-by st former storage s next (up.Leave t c) sent k after a j h m = (m.0, m.1)
 meets-by st former storage s next (up.Back t c) sent k after a j h m = (m.0, m.1)
@@ -129,7 +130,7 @@ abbrev Both : Contents → Contents → SubchannelState → SubchannelState → 
 Both former storage s next signal taken sent k after = OfBoth (MeetsNone former storage s next signal) (Meets former storage s next signal taken sent) k after
 
 pub up-by : (st : Standing) (former storage : Contents) (s next : SubchannelState) (signal : Up) (taken : Bool) (sent : Option (OnPath Down)) (a : Option Orb) (k after : Option ProgramTrace) →
-    IsAcceptRight (reply.Up signal taken sent) false → ((t : ℕ) → signal ≡ up.Accept t → taken ≡ true → IsJust st.over s) → (s.scsw.functions.halt ≡ true → st.halted ≡ true) → Both former storage s next signal taken sent k after →
+    IsAcceptRight (reply.Up signal taken sent) false → ((t : ℕ) → signal ≡ up.Accept t → taken ≡ true → IsJust st.over s) → s.scsw.functions.halt ≡ st.halted → Both former storage s next signal taken sent k after →
     UpBy st former storage (reply.Up signal taken sent) (told a k) (told a after)
 up-by st former storage s next signal true sent a None None r j h m = (refl, none-stores former storage s next signal m)
 up-by st former storage s next signal true sent a (Some k) (Some after) r j h m = (refl, meets-by st former storage s next signal sent k after r (λ t e. j t e refl) h m)

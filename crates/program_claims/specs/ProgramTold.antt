@@ -1,6 +1,6 @@
 -- What entries tell of the program that a subchannel offered last: which operation-request block it is of, which of its blocks were
 -- fetched, which commands were sent and ended, and which bytes moved (SA22-7832, chapters 14 and 15).
-use Rattle.std.specs.Prelude.{if◌then◌else◌, ◌≡◌, ◌⊎◌, ◌||◌, ℕ, Bool, true, false, Option, None, Some, option_map, option_and_then, unwrap_or, List, [], ◌∷◌, slice_get, Ok, IfSome}
+use Rattle.std.specs.Prelude.{if◌then◌else◌, ◌≡◌, ◌⊎◌, ◌&&◌, ◌||◌, ℕ, Bool, true, false, Option, None, Some, option_map, option_and_then, unwrap_or, List, [], ◌∷◌, slice_get, Ok, IfSome}
 use Rattle.zbits.specs.Layout.{image_of}
 use Rattle.orb_block.specs.declared.Orb.{Orb}
 use Rattle.orb_block.specs.OrbTable.{tables}
@@ -24,8 +24,10 @@ use Rattle.channel_config.specs.declared.parts.SubchannelSetup.{SubchannelSetup}
 use Rattle.channel_config.specs.Setup.{Setup, set_count}
 use Rattle.channel_config.specs.SubchannelWords.{subchannel_named}
 use Rattle.machine_laws.specs.Claims.{is_id}
+use Rattle.machine_model.specs.InstructionSteps.{subchannel_word}
 use Rattle.subchannel_model.specs.Places.{first_place}
 use Rattle.subchannel_model.specs.Test.{ends_suspended}
+use Rattle.shown_laws.specs.Functions.{keeps_functions}
 use Rattle.seen_laws.specs.BeginsItsOwn.{is_code_zero, over_by, over_chosen, IsAnswered}
 use Rattle.program_laws.specs.Claims.{TraceCorrect}
 use Rattle.program_laws.specs.Tells.{command_sent, Begins, IsAnswerTo, Moves, ended, IsChained, Chains}
@@ -66,13 +68,26 @@ over_after true (event.Execute cpu (instruction.Tsch word address)) r over = ove
 over_after true (event.Choose word) r over = over_chosen r over
 over_after mine e r over = over
 
--- whether a HALT SUBCHANNEL was answered with code 0 since the start that was accepted last
-abbrev pub started_by : Reply → Bool → Bool
-started_by r halted = if is_code_zero r then false else halted
+-- whether a halt is specified: after a HALT SUBCHANNEL with code 0, until a START, CLEAR or CANCEL SUBCHANNEL with code 0, a TEST SUBCHANNEL
+-- that clears the functions, or a reset of the subsystem
+abbrev pub unless_accepted : Reply → Bool → Bool
+unless_accepted r halted = if is_code_zero r then false else halted
+
+abbrev pub halt_tested : Reply → Bool → Bool
+halt_tested (reply.Status (answer.Zero serials) scsw) halted = halted && keeps_functions scsw
+halt_tested r halted = halted
+
+abbrev pub halt_by : Instruction → Reply → Bool → Bool
+halt_by (instruction.Ssch word address) r halted = unless_accepted r halted
+halt_by (instruction.Tsch word address) r halted = halt_tested r halted
+halt_by (instruction.Hsch word) r halted = over_by r halted
+halt_by (instruction.Csch word) r halted = unless_accepted r halted
+halt_by (instruction.Xsch word) r halted = unless_accepted r halted
+halt_by i r halted = halted
 
 abbrev pub halted_after : Bool → Event → Reply → Bool → Bool
-halted_after true (event.Execute cpu (instruction.Ssch word address)) r halted = started_by r halted
-halted_after true (event.Execute cpu (instruction.Hsch word)) r halted = over_by r halted
+halted_after mine (event.Execute cpu i) r halted = if mine then halt_by i r halted else halted
+halted_after mine event.SystemReset r halted = false
 halted_after mine e r halted = halted
 
 -- how what was offered stands
@@ -89,13 +104,13 @@ abbrev pub Accepts : Bool → Contents → ℕ → Option (OnPath Down) → Prog
 Accepts true storage t sent k after = IsAnswered true t sent × (after ≡ k)
 Accepts false storage t sent k after = IsAnswered false t sent × Begins storage sent k after
 
--- End: the next command is chained to where one is next and nothing breaks the chain, and goes on with device end; otherwise the device
--- is let go after the last End. A halt breaks the chain only where one was executed; that it always does is not told here
+-- End: the next command is chained to where one is next and nothing breaks the chain, as a halt does that is specified, and goes on with
+-- device end; otherwise the device is let go after the last End
 abbrev pub Ends : Bool → Contents → DeviceStatus → Bool → Option (OnPath Down) → ProgramTrace → ProgramTrace → Type 0
-Ends executed storage status more sent k after = (halted : Bool) × (halted ≡ true → executed ≡ true) × (
+Ends halted storage status more sent k after =
     (IsChained true halted status more k × Chains storage status sent k after)
     ⊎ (IsChained false halted status more k × (command_sent sent ≡ None)
-    × (after ≡ record k { now = record k.now { acts = ended false status ∷ k.now.acts; ended = true; unchained = true } })))
+    × (after ≡ record k { now = record k.now { acts = ended false status ∷ k.now.acts; ended = true; unchained = true } }))
 
 -- a signal that is taken. Data: bytes are moved, and the next block is fetched where the counts so far are used up
 abbrev pub MeetsBy : Standing → Contents → Contents → Up → Option (OnPath Down) → ProgramTrace → ProgramTrace → Type 0
@@ -135,19 +150,8 @@ place_named subs named = option_and_then (λ id. first_place (λ (x : Subchannel
 abbrev pub is_named_at : ℕ → List SubchannelSetup → ℕ → ℕ → Bool
 is_named_at sets subs place word = is_path (place_named subs (subchannel_named sets word)) place
 
-abbrev pub instruction_word : Instruction → ℕ
-instruction_word (instruction.Ssch word address) = word
-instruction_word (instruction.Tsch word address) = word
-instruction_word (instruction.Stsch word address) = word
-instruction_word (instruction.Msch word address) = word
-instruction_word (instruction.Enable word subclass multipath) = word
-instruction_word (instruction.Rsch word) = word
-instruction_word (instruction.Hsch word) = word
-instruction_word (instruction.Csch word) = word
-instruction_word (instruction.Xsch word) = word
-
 abbrev pub is_about : ℕ → List SubchannelSetup → ℕ → Event → Bool
-is_about sets subs place (event.Execute cpu i) = is_named_at sets subs place (instruction_word i)
+is_about sets subs place (event.Execute cpu i) = is_named_at sets subs place (subchannel_word i)
 is_about sets subs place (event.Choose word) = is_named_at sets subs place word
 is_about sets subs place (event.Up word path) = is_named_at sets subs place word
 is_about sets subs place (event.Down word path) = is_named_at sets subs place word

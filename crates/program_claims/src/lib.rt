@@ -9,7 +9,7 @@ ghost use Rattle.machine_model.specs.State.{State, opening_of};
 ghost use Rattle.machine_model.specs.Steps.{Run};
 ghost use Rattle.program_claims.specs.ProgramTold.{AreProgramsTold};
 
-use machine_laws::{reset_numbers, setups};
+use machine_laws::{reset_numbers, setups, steps};
 use program_laws::programs as program_traces;
 use step_laws::walks;
 
@@ -20,9 +20,9 @@ use step_laws::walks;
 /// lets the device go; otherwise the program of that operation-request block goes on: the block that is next is fetched, as
 /// storage holds it, and so on up to a command, which is sent, or a check or a suspension, where the device is let go. Each
 /// command that is sent is the next of the program: after an End with device end it is chained to exactly where one is next and
-/// nothing breaks the chain (unit check, unit exception, incorrect length, a check that is kept, or a halt, and that only where a
-/// HALT SUBCHANNEL was answered with code 0 since the start was accepted), and each Data and each End that is taken is of the last
-/// command. Of a Data that is next the bytes move for which there is room at the next places: those of a read are stored unless
+/// nothing breaks the chain (unit check, unit exception, incorrect length, a check that is kept, or a halt: one is specified after a
+/// HALT SUBCHANNEL with code 0, until a START, CLEAR or CANCEL SUBCHANNEL with code 0, a TEST SUBCHANNEL that clears the functions,
+/// or a reset of the subsystem), and each Data and each End that is taken is of the last command. Of a Data that is next the bytes move for which there is room at the next places: those of a read are stored unless
 /// storage refuses them, and those that are given are copied; data is chained exactly where they use up the counts so far; a check
 /// is kept where a block shows it, or where the next bytes can't be reached, fetched or stored, and then nothing more is moved,
 /// fetched or sent (SA22-7832, chapters 14 and 15).
@@ -31,6 +31,7 @@ pub fn told_by_entries()
 {
     walks();
     setups();
+    steps();
     reset_numbers();
     program_traces();
 }

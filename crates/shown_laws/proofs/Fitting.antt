@@ -39,6 +39,7 @@ use Rattle.subchannel_model.specs.Conditions.{any_function, start_alone, left_by
 use Rattle.subchannel_model.specs.Ends.{last_shown, work_shown}
 use Rattle.subchannel_model.specs.Halt.{drops_status, status_dropped, halt_begun}
 use Rattle.subchannel_model.specs.Losing.{path_lost, path_index, loses_at, loses, shows_at}
+use Rattle.subchannel_model.specs.Opening.{opening_subchannel}
 use Rattle.subchannel_model.specs.Places.{place_in}
 use Rattle.subchannel_model.specs.Programs.{without_programs}
 use Rattle.subchannel_model.specs.Status.{intermediate_alone, without_status}
@@ -268,7 +269,10 @@ swept-fits (sweep.ComesUp chpid) sub fits = shows-fits (path_index chpid sub.set
 swept-fits (sweep.PathReset chpid) sub fits = loses-fits (path_index chpid sub.setup.paths) sub fits
 swept-fits sweep.SystemReset sub fits = idle-fits _ refl refl
 
-turned-fits : (sets : ℕ) (id : SubchannelId) (e : Event) (r : Reply) (sub : Subchannel) (after : SubchannelState) → Fits (seen sub.state) → Turned sets id e r sub after →
+pub fits-opens : Fits (seen opening_subchannel)
+fits-opens = idle-fits _ refl refl
+
+pub turned-fits : (sets : ℕ) (id : SubchannelId) (e : Event) (r : Reply) (sub : Subchannel) (after : SubchannelState) → Fits (seen sub.state) → Turned sets id e r sub after →
     Fits (seen after)
 turned-fits sets id _ _ _ _ fits (Executes cpu i sub effect named is) = left-fits (code_for i sub) sub.state effect fits (effect-left i sub effect is fits)
 turned-fits sets id _ _ _ _ fits (Chooses word sub choice named away) =
@@ -280,4 +284,4 @@ turned-fits sets id _ _ _ _ fits (Rests e r sub about) = fits
 
 pub run-fits : AreLaws → (setup : Setup) (id : SubchannelId) (h : List Entry) (s : State) → Run (opening_of setup) h s → (place : ℕ) (sub : Subchannel) →
     place_in id s.subs ≡ Some place → slice_get s.subs place ≡ Some sub → Fits (seen sub.state)
-run-fits laws setup id = run-keeps laws setup id (λ h s. Fits (seen s)) (idle-fits _ refl refl) (λ h e r sub after fits turned. turned-fits (set_count setup) id e r sub after fits turned)
+run-fits laws setup id = run-keeps laws setup id (λ h s. Fits (seen s)) fits-opens (λ h e r sub after fits turned. turned-fits (set_count setup) id e r sub after fits turned)

@@ -399,7 +399,7 @@ module _ (sets : ℕ) (id : SubchannelId) where
   rests-follows (event.PathReset chpid) r k about = absurd (cc about)
   rests-follows event.SystemReset r k about = absurd (cc about)
 
-  turned-follows : (e : Event) (r : Reply) (sub : Subchannel) (after : SubchannelState) → Fits (seen sub.state) → Turned sets id e r sub after →
+  pub turned-follows : (e : Event) (r : Reply) (sub : Subchannel) (after : SubchannelState) → Fits (seen sub.state) → Turned sets id e r sub after →
       Follows sets id (status_of sub.state) e r (status_of after)
   turned-follows _ _ _ _ fits (Executes cpu i sub effect named is) = executed-follows cpu i sub effect named is
   turned-follows _ _ _ _ fits (Chooses word sub choice named away) = chosen-follows word sub choice named fits

@@ -1,6 +1,6 @@
 mod CodeTable
-mod Named
-mod Executed
+pub mod Named
+pub mod Executed
 pub mod Turned
 pub mod Runs
 mod Chosen
@@ -11,7 +11,7 @@ mod Signals
 pub mod Enabling
 mod Absent
 pub mod Fitting
-mod Following
+pub mod Following
 mod Choosing
 mod Counted
 mod Made
