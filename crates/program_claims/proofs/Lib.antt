@@ -1,4 +1,5 @@
 mod StorageSteps
+mod Signals
 mod Waits
 mod Waiting
 mod Starting
@@ -8,4 +9,6 @@ mod OverRuns
 mod Functions
 mod FunctionSteps
 mod Halts
+mod StartMasks
+mod OfferedPaths
 mod Runs
