@@ -1,4 +1,5 @@
 mod StorageSteps
+mod Signals
 mod Waits
 mod Waiting
 mod Starting
@@ -6,4 +7,6 @@ mod Telling
 mod Overs
 mod OverRuns
 mod Halts
+mod StartMasks
+mod OfferedPaths
 mod Runs

@@ -114,7 +114,7 @@ resume-just true s k = k
 resume-just false s k = k
 
 -- Choose: what is offered stands, and no halt is pending
-abbrev IsAhead : SubchannelState → Chosen → Type 0
+abbrev pub IsAhead : SubchannelState → Chosen → Type 0
 IsAhead s (Offers c path) = (s.scsw.activity.halt_pending ≡ false) × (candidate s ≡ Some c)
 IsAhead s c = Unit {0}
 
@@ -180,7 +180,7 @@ rest-ahead : (s : SubchannelState) (pending : Bool) (found : Option Candidate) (
 rest-ahead s true found reachable choice phase h e = halting-ahead s found reachable choice phase
 rest-ahead s false found reachable choice phase h e = offer-ahead s found reachable choice phase h e
 
-chosen-ahead : (sub : Subchannel) (choice : Option ℕ) → IsAhead sub.state (chosen sub choice)
+pub chosen-ahead : (sub : Subchannel) (choice : Option ℕ) → IsAhead sub.state (chosen sub choice)
 chosen-ahead sub choice =
     let s : SubchannelState = sub.state in
     or-idle s _

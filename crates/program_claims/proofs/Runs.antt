@@ -26,12 +26,14 @@ use Rattle.subchannel_model.specs.declared.state.Program.{Program}
 use Rattle.subchannel_model.specs.declared.state.Subchannel.{Subchannel}
 use Rattle.subchannel_model.specs.declared.state.SubchannelState.{SubchannelState}
 use Rattle.subchannel_model.specs.Opening.{opened}
+use Rattle.subchannel_model.specs.Start.{started}
 use Rattle.subchannel_model.specs.Places.{first_place, is_named, place_in, place_of_id, reached_in}
 use Rattle.machine_model.specs.InstructionSteps.{subchannel_word}
 use Rattle.machine_model.specs.Setups.{IsSetUp}
 use Rattle.machine_model.specs.State.{State, opening_of, place_of}
 use Rattle.machine_model.specs.Steps.{Step, Run, Opened, Stepped}
-use Rattle.step_laws.specs.Walks.{AreWalks, Walked}
+use Rattle.machine_model.specs.Turns.{with_state}
+use Rattle.step_laws.specs.Walks.{Walked}
 use Rattle.step_laws.proofs.Places.{set-get, map-get}
 use Rattle.machine_laws.specs.Claims.{is_id}
 use Rattle.seen_laws.specs.BeginsItsOwn.{is_code_zero, IsAcceptRight}
@@ -50,7 +52,9 @@ use Rattle.program_claims.proofs.Starting.{Started, Unfound, Refused, Starts, st
 use Rattle.program_claims.proofs.Overs.{Owned}
 use Rattle.program_claims.proofs.OverRuns.{OwnedAt, about, step-owned}
 use Rattle.program_claims.proofs.Halts.{mine, halted_by, run-halted}
-use Rattle.program_claims.proofs.Telling.{told, IsStarted, IsJust, AnswersOffer, up-by, walk-answers, walk-replies, walk-offers, offers-by, report-absorbed}
+use Rattle.program_claims.proofs.StartMasks.{Masked}
+use Rattle.program_claims.proofs.OfferedPaths.{IsNoStart, MaskedAt, SameSetups, stays-masked, set-masked, start-masked, offered-path}
+use Rattle.program_claims.proofs.Telling.{told, IsStarted, IsJust, AnswersOffer, up-by, walk-answers, walk-replies, IsChosen, walk-chosen, offers-waiting, offers-by, report-absorbed}
 use Rattle.program_claims.proofs.Waiting.{walk-waits}
 
 -- one entry more
@@ -130,17 +134,22 @@ about-same setup s u place (event.PathReset chpid) = refl
 about-same setup s u place event.SystemReset = refl
 
 -- a step
+abbrev WaitsAt : Option Orb → List Subchannel → ℕ → Type 0
+WaitsAt a subs place = (sub : Subchannel) → slice_get subs place ≡ Some sub → IsStarted a sub.state.waiting
+
 abbrev StartedAt : Option Orb → State → ℕ → Type 0
-StartedAt a s place = (sub : Subchannel) → slice_get s.subs place ≡ Some sub → IsStarted a sub.state.waiting
+StartedAt a s place = WaitsAt a s.subs place × MaskedAt a s.subs place
 
 abbrev Tells : Standing → State → Event → Reply → State → ℕ → Option Orb → Option ProgramTrace → Option ProgramTrace → Type 0
 Tells st s e r new place a k after =
     (b : Option Orb) × StartedAt b new place × TellsBy (about s place e) st s.storage new.storage e r (told a k) (told b after)
 
-stays-started : (s : State) (e : Event) (r : Reply) (new : State) (place : ℕ) (a : Option Orb) → Walked s e r new →
-    ((cpu word address : ℕ) → e ≡ event.Execute cpu (instruction.Ssch word address) → ⊥) → StartedAt a s place → StartedAt a new place
-stays-started s e r new place a walk not i = λ sub here.
-    let w = walk-waits (λ (x : Option Program). IsStarted a x) tt s e r new walk not place sub here in w.2 (i w.0 w.1)
+stays-started : (s : State) (e : Event) (r : Reply) (new : State) (place : ℕ) (a : Option Orb) → Step s e r new → Walked s e r new → SameSetups s.subs new.subs → IsNoStart e →
+    StartedAt a s place → StartedAt a new place
+stays-started s e r new place a step walk same not i = (
+  λ sub here. let w = walk-waits (λ (x : Option Program). IsStarted a x) tt s e r new walk not place sub here in w.2 (i.0 w.0 w.1),
+  stays-masked a s e r new place step walk same not i.1,
+)
 
 not-zero : (storage : Contents) (cpu word address : ℕ) (r : Reply) (k after : Told) → is_code_zero r ≡ false → after ≡ k → StartsBy storage cpu (instruction.Ssch word address) r k after
 not-zero storage cpu word address (reply.Code (answer.Zero serials)) k after z e = absurd (cc z)
@@ -167,25 +176,31 @@ ssch-by : (st : Standing) (former storage : Contents) (cpu word address : ℕ) (
 ssch-by st former storage cpu word address r true k after z e = not-zero former cpu word address r k after z e
 ssch-by st former storage cpu word address r false k after z e = e
 
-started-tells : (st : Standing) (s new : State) (cpu word address place : ℕ) (r : Reply) (subs : List Subchannel) (a : Option Orb) (k after : Option ProgramTrace) → new.subs ≡ subs → after ≡ k → StartedAt a s place →
-    Started s cpu word address r subs → Tells st s (event.Execute cpu (instruction.Ssch word address)) r new place a k after
-started-tells st s new cpu word address place _ _ a k after e same i (Unfound r z) = (
+started-tells : (st : Standing) (s new : State) (cpu word address place : ℕ) (r : Reply) (subs : List Subchannel) (a : Option Orb) (k after : Option ProgramTrace) → new.subs ≡ subs → SameSetups s.subs new.subs →
+    after ≡ k → StartedAt a s place → Started s cpu word address r subs → Tells st s (event.Execute cpu (instruction.Ssch word address)) r new place a k after
+started-tells st s new cpu word address place _ _ a k after e setups same i (Unfound r z) = (
   a,
-  λ sub here. i sub (subst (λ (xs : List Subchannel). slice_get xs place ≡ Some sub) e here),
+  (
+    λ sub here. i.0 sub (subst (λ (xs : List Subchannel). slice_get xs place ≡ Some sub) e here),
+    subst (λ (xs : List Subchannel). MaskedAt a xs place) (sym e) i.1,
+  ),
   ssch-by st s.storage new.storage cpu word address r (is_path (place_of s word) place) (told a k) (told a after) z (ap (told a) same),
 )
-started-tells st s new cpu word address place _ _ a k after e same i (Refused at x y r there kept z) = (
+started-tells st s new cpu word address place _ _ a k after e setups same i (Refused at x y r there kept z) = (
   a,
-  λ sub here.
-      elim (set-get s.subs at y place sub (subst (λ (xs : List Subchannel). slice_get xs place ≡ Some sub) e here)) [
-        | inl p ↦
-            subst (λ (v : SubchannelState). IsStarted a v.waiting) (sym kept ∙ ap (λ (v : Subchannel). v.state) (sym p.1))
-            (i x (subst (λ (j : ℕ). slice_get s.subs j ≡ Some x) (sym p.0) there))
-        | inr p ↦ i sub p.1
-      ],
+  (
+    λ sub here.
+        elim (set-get s.subs at y place sub (subst (λ (xs : List Subchannel). slice_get xs place ≡ Some sub) e here)) [
+          | inl p ↦
+              subst (λ (v : SubchannelState). IsStarted a v.waiting) (sym kept ∙ ap (λ (v : Subchannel). v.state) (sym p.1))
+              (i.0 x (subst (λ (j : ℕ). slice_get s.subs j ≡ Some x) (sym p.0) there))
+          | inr p ↦ i.0 sub p.1
+        ],
+    set-masked a a s.subs new.subs at place x y setups there e (λ h m. subst (λ (v : SubchannelState). Masked a v) (sym kept) m) (λ h. refl) i.1,
+  ),
   ssch-by st s.storage new.storage cpu word address r (is_path (place_of s word) place) (told a k) (told a after) z (ap (told a) same),
 )
-started-tells st s new cpu word address place _ _ a k after e same i (Starts at x orb serials n there here) = by (at == place) refl
+started-tells st s new cpu word address place _ _ a k after e setups same i (Starts at x orb serials n there here) = by (at == place) refl
   where
     mine : is_path (place_of s word) place ≡ (at == place)
     mine = ap (λ (o : Option ℕ). is_path o place) n
@@ -199,20 +214,26 @@ started-tells st s new cpu word address place _ _ a k after e same i (Starts at 
     by : (b : Bool) → (at == place) ≡ b → Tells st s ev r new place a k after
     by true f = (
       Some orb,
-      λ sub got.
-          elim (set-get s.subs at _ place sub (subst (λ (xs : List Subchannel). slice_get xs place ≡ Some sub) e got)) [
-            | inl p ↦ subst (λ (v : Subchannel). IsStarted (Some orb) v.state.waiting) (sym p.1) refl
-            | inr p ↦ absurd (p.0 (sym (eqb-true at place f)))
-          ],
+      (
+        λ sub got.
+            elim (set-get s.subs at _ place sub (subst (λ (xs : List Subchannel). slice_get xs place ≡ Some sub) e got)) [
+              | inl p ↦ subst (λ (v : Subchannel). IsStarted (Some orb) v.state.waiting) (sym p.1) refl
+              | inr p ↦ absurd (p.0 (sym (eqb-true at place f)))
+            ],
+        set-masked a (Some orb) s.subs new.subs at place x (with_state x (started x.state orb)) setups there e (λ h m. start-masked x.state orb) (λ h. absurd (h (eqb-true at place f))) i.1,
+      ),
       subst (λ (b : Bool). TellsBy b st s.storage new.storage ev r (told a k) (told (Some orb) after)) (sym (mine ∙ f)) (orb, here, ap (told (Some orb)) same),
     )
     by false f = (
       a,
-      λ sub got.
-          elim (set-get s.subs at _ place sub (subst (λ (xs : List Subchannel). slice_get xs place ≡ Some sub) e got)) [
-            | inl p ↦ absurd (eqb-false at place f (sym p.0))
-            | inr p ↦ i sub p.1
-          ],
+      (
+        λ sub got.
+            elim (set-get s.subs at _ place sub (subst (λ (xs : List Subchannel). slice_get xs place ≡ Some sub) e got)) [
+              | inl p ↦ absurd (eqb-false at place f (sym p.0))
+              | inr p ↦ i.0 sub p.1
+            ],
+        set-masked a a s.subs new.subs at place x (with_state x (started x.state orb)) setups there e (λ h m. absurd (eqb-false at place f h)) (λ h. refl) i.1,
+      ),
       subst (λ (b : Bool). TellsBy b st s.storage new.storage ev r (told a k) (told a after)) (sym (mine ∙ f)) (ap (told a) same),
     )
 
@@ -236,19 +257,20 @@ path-is None p e = absurd (cc e)
 path-is (Some q) p e = ap (λ (x : ℕ). Some x) (eqb-true q p e)
 
 choose-by : (st : Standing) (s new : State) (word place : ℕ) (r : Reply) (b : Bool) (old : Subchannel) (a : Option Orb) (k after : Option ProgramTrace) → is_path (place_of s word) place ≡ b →
-    slice_get s.subs place ≡ Some old → after ≡ (if b then chosen_at (slice_get s.subs place) r k else k) → IsStarted a old.state.waiting → Walked s (event.Choose word) r new →
-    TellsBy b st s.storage new.storage (event.Choose word) r (told a k) (told a after)
-choose-by st s new word place r true old a k after m there e i walk =
+    slice_get s.subs place ≡ Some old → after ≡ (if b then chosen_at (slice_get s.subs place) r k else k) → IsStarted a old.state.waiting → MaskedAt a s.subs place →
+    Walked s (event.Choose word) r new → TellsBy b st s.storage new.storage (event.Choose word) r (told a k) (told a after)
+choose-by st s new word place r true old a k after m there e i masked walk =
     let named : place_of s word ≡ Some place = path-is (place_of s word) place m in
-    offers-by old r a k after (e ∙ ap (λ (o : Option Subchannel). chosen_at o r k) there) i (walk-offers s (event.Choose word) r new walk word place old refl named there)
-choose-by st s new word place r false old a k after m there e i walk = ap (told a) e
+    let c : IsChosen s old r = walk-chosen s (event.Choose word) r new walk word place old refl named there in
+    offers-by old r a k after (e ∙ ap (λ (o : Option Subchannel). chosen_at o r k) there) i (offers-waiting s old r c) (offered-path a s word place r old c named there masked)
+choose-by st s new word place r false old a k after m there e i masked walk = ap (told a) e
 
 down-by : (st : Standing) (former storage : Contents) (word path : ℕ) (r : Reply) (b : Bool) (a : Option Orb) (k after : Option ProgramTrace) → after ≡ (if b then taken_at r k else k) →
     TellsBy b st former storage (event.Down word path) r (told a k) (told a after)
 down-by st former storage word path r true a k after e = ap (told a) e
 down-by st former storage word path r false a k after e = ap (told a) e
 
-module _ (st : Standing) (s : State) (place : ℕ) (old sub : Subchannel) (new : State) (owned : Owned st.over old.state) (halts : (word : ℕ) → is_path (place_of s word) place ≡ true → old.state.scsw.functions.halt ≡ st.halted) (there : slice_get s.subs place ≡ Some old) (here : slice_get new.subs place ≡ Some sub) where
+module _ (st : Standing) (s : State) (place : ℕ) (old sub : Subchannel) (new : State) (owned : Owned st.over old.state) (halts : (word : ℕ) → is_path (place_of s word) place ≡ true → old.state.scsw.functions.halt ≡ st.halted) (there : slice_get s.subs place ≡ Some old) (here : slice_get new.subs place ≡ Some sub) (setups : SameSetups s.subs new.subs) where
   both : (signal : Up) (taken : Bool) (t : ℕ) (sent : Option (OnPath Down)) → signal ≡ up.Accept t → taken ≡ true → reply.Up signal taken sent ≡ reply.Up (up.Accept t) true sent
   both signal taken t sent e f = ap (λ (x : Up). reply.Up x taken sent) e ∙ ap (λ (b : Bool). reply.Up (up.Accept t) b sent) f
 
@@ -279,59 +301,59 @@ module _ (st : Standing) (s : State) (place : ℕ) (old sub : Subchannel) (new :
   not-start cpu i n other word address e = let same : i ≡ instruction.Ssch word address = cc e in n word address same
 
   executed : (cpu : ℕ) (i : Instruction) (r : Reply) (a : Option Orb) (k after : Option ProgramTrace) → ((word address : ℕ) → i ≡ instruction.Ssch word address → ⊥) →
-      Walked s (event.Execute cpu i) r new → after ≡ k → StartedAt a s place → Tells st s (event.Execute cpu i) r new place a k after
-  executed cpu i r a k after n walk same started = (
+      Step s (event.Execute cpu i) r new → Walked s (event.Execute cpu i) r new → after ≡ k → StartedAt a s place → Tells st s (event.Execute cpu i) r new place a k after
+  executed cpu i r a k after n step walk same started = (
     a,
-    stays-started s (event.Execute cpu i) r new place a walk (not-start cpu i n) started,
+    stays-started s (event.Execute cpu i) r new place a step walk setups (not-start cpu i n) started,
     instruction-by st s.storage new.storage cpu i r (is_path (place_of s (subchannel_word i)) place) (told a k) (told a after) n (ap (told a) same),
   )
 
   execute-tells : (cpu : ℕ) (i : Instruction) (r : Reply) (a : Option Orb) (k after : Option ProgramTrace) → Step s (event.Execute cpu i) r new → Walked s (event.Execute cpu i) r new → after ≡ k →
       StartedAt a s place → Tells st s (event.Execute cpu i) r new place a k after
   execute-tells cpu (instruction.Ssch word address) r a k after step walk same started =
-      started-tells st s new cpu word address place r new.subs a k after refl same started (step-started s cpu word address r new step)
-  execute-tells cpu (instruction.Tsch word address) r a k after step walk same started = executed cpu (instruction.Tsch word address) r a k after (λ w x e. cc e) walk same started
-  execute-tells cpu (instruction.Stsch word address) r a k after step walk same started = executed cpu (instruction.Stsch word address) r a k after (λ w x e. cc e) walk same started
-  execute-tells cpu (instruction.Msch word address) r a k after step walk same started = executed cpu (instruction.Msch word address) r a k after (λ w x e. cc e) walk same started
+      started-tells st s new cpu word address place r new.subs a k after refl setups same started (step-started s cpu word address r new step)
+  execute-tells cpu (instruction.Tsch word address) r a k after step walk same started = executed cpu (instruction.Tsch word address) r a k after (λ w x e. cc e) step walk same started
+  execute-tells cpu (instruction.Stsch word address) r a k after step walk same started = executed cpu (instruction.Stsch word address) r a k after (λ w x e. cc e) step walk same started
+  execute-tells cpu (instruction.Msch word address) r a k after step walk same started = executed cpu (instruction.Msch word address) r a k after (λ w x e. cc e) step walk same started
   execute-tells cpu (instruction.Enable word subclass multipath) r a k after step walk same started =
-      executed cpu (instruction.Enable word subclass multipath) r a k after (λ w x e. cc e) walk same started
-  execute-tells cpu (instruction.Rsch word) r a k after step walk same started = executed cpu (instruction.Rsch word) r a k after (λ w x e. cc e) walk same started
-  execute-tells cpu (instruction.Hsch word) r a k after step walk same started = executed cpu (instruction.Hsch word) r a k after (λ w x e. cc e) walk same started
-  execute-tells cpu (instruction.Csch word) r a k after step walk same started = executed cpu (instruction.Csch word) r a k after (λ w x e. cc e) walk same started
-  execute-tells cpu (instruction.Xsch word) r a k after step walk same started = executed cpu (instruction.Xsch word) r a k after (λ w x e. cc e) walk same started
+      executed cpu (instruction.Enable word subclass multipath) r a k after (λ w x e. cc e) step walk same started
+  execute-tells cpu (instruction.Rsch word) r a k after step walk same started = executed cpu (instruction.Rsch word) r a k after (λ w x e. cc e) step walk same started
+  execute-tells cpu (instruction.Hsch word) r a k after step walk same started = executed cpu (instruction.Hsch word) r a k after (λ w x e. cc e) step walk same started
+  execute-tells cpu (instruction.Csch word) r a k after step walk same started = executed cpu (instruction.Csch word) r a k after (λ w x e. cc e) step walk same started
+  execute-tells cpu (instruction.Xsch word) r a k after step walk same started = executed cpu (instruction.Xsch word) r a k after (λ w x e. cc e) step walk same started
 
-  stays : (e : Event) (r : Reply) (a : Option Orb) (k after : Option ProgramTrace) → Walked s e r new → ((cpu word address : ℕ) → e ≡ event.Execute cpu (instruction.Ssch word address) → ⊥) →
+  stays : (e : Event) (r : Reply) (a : Option Orb) (k after : Option ProgramTrace) → Step s e r new → Walked s e r new → IsNoStart e →
       StartedAt a s place → TellsBy (about s place e) st s.storage new.storage e r (told a k) (told a after) → Tells st s e r new place a k after
-  stays e r a k after walk n started t = (a, stays-started s e r new place a walk n started, t)
+  stays e r a k after step walk n started t = (a, stays-started s e r new place a step walk setups n started, t)
 
   pub step-tells : (e : Event) (r : Reply) (a : Option Orb) (k after : Option ProgramTrace) → Step s e r new → Walked s e r new → GoesBy place s e r new k after → StartedAt a s place →
       Tells st s e r new place a k after
   step-tells (event.Execute cpu i) r a k after step walk goes started = execute-tells cpu i r a k after step walk goes.0 started
   step-tells (event.Choose word) r a k after step walk goes started =
-      stays (event.Choose word) r a k after walk (λ c w x e. cc e) started
-      (choose-by st s new word place r (is_path (place_of s word) place) old a k after refl there goes.0 (started old there) walk)
+      stays (event.Choose word) r a k after step walk (λ c w x e. cc e) started
+      (choose-by st s new word place r (is_path (place_of s word) place) old a k after refl there goes.0 (started.0 old there) started.1 walk)
   step-tells (event.Up word path) r a k after step walk goes started =
-      stays (event.Up word path) r a k after walk (λ c w x e. cc e) started (up-tells word path r (is_path (place_of s word) place) a k after refl walk goes)
+      stays (event.Up word path) r a k after step walk (λ c w x e. cc e) started (up-tells word path r (is_path (place_of s word) place) a k after refl walk goes)
   step-tells (event.Down word path) r a k after step walk goes started =
-      stays (event.Down word path) r a k after walk (λ c w x e. cc e) started
+      stays (event.Down word path) r a k after step walk (λ c w x e. cc e) started
       (down-by st s.storage new.storage word path r (is_path (place_of s word) place) a k after goes.0)
   step-tells (event.Report at report) r a k after step walk goes started =
-      stays (event.Report at report) r a k after walk (λ c w x e. cc e) started (
+      stays (event.Report at report) r a k after step walk (λ c w x e. cc e) started (
         refl,
         subst (λ (x : Option ProgramTrace). HasAbsorbed k x) (sym goes.0)
             (report-absorbed (is_path (reached_in at report.side s.subs) place) (slice_get s.units at) report k),
       )
-  step-tells (event.Put address bytes) r a k after step walk goes started = stays (event.Put address bytes) r a k after walk (λ c w x e. cc e) started (ap (told a) goes.0)
-  step-tells (event.SetKey address key) r a k after step walk goes started = stays (event.SetKey address key) r a k after walk (λ c w x e. cc e) started (ap (told a) goes.0)
-  step-tells (event.SetPrefix cpu address) r a k after step walk goes started = stays (event.SetPrefix cpu address) r a k after walk (λ c w x e. cc e) started (ap (told a) goes.0)
-  step-tells (event.Show address count) r a k after step walk goes started = stays (event.Show address count) r a k after walk (λ c w x e. cc e) started (ap (told a) goes.0)
-  step-tells (event.ExecuteOther cpu i) r a k after step walk goes started = stays (event.ExecuteOther cpu i) r a k after walk (λ c w x e. cc e) started (ap (told a) goes.0)
-  step-tells (event.Act at what) r a k after step walk goes started = stays (event.Act at what) r a k after walk (λ c w x e. cc e) started (ap (told a) goes.0)
-  step-tells (event.Restart at) r a k after step walk goes started = stays (event.Restart at) r a k after walk (λ c w x e. cc e) started (ap (told a) goes.0)
-  step-tells (event.PathDown chpid) r a k after step walk goes started = stays (event.PathDown chpid) r a k after walk (λ c w x e. cc e) started (ap (told a) goes.0)
-  step-tells (event.PathUp chpid) r a k after step walk goes started = stays (event.PathUp chpid) r a k after walk (λ c w x e. cc e) started (ap (told a) goes.0)
-  step-tells (event.PathReset chpid) r a k after step walk goes started = stays (event.PathReset chpid) r a k after walk (λ c w x e. cc e) started (ap (told a) goes.0)
-  step-tells event.SystemReset r a k after step walk goes started = stays event.SystemReset r a k after walk (λ c w x e. cc e) started (ap (told a) goes.0)
+  step-tells (event.Put address bytes) r a k after step walk goes started = stays (event.Put address bytes) r a k after step walk (λ c w x e. cc e) started (ap (told a) goes.0)
+  step-tells (event.SetKey address key) r a k after step walk goes started = stays (event.SetKey address key) r a k after step walk (λ c w x e. cc e) started (ap (told a) goes.0)
+  step-tells (event.SetPrefix cpu address) r a k after step walk goes started = stays (event.SetPrefix cpu address) r a k after step walk (λ c w x e. cc e) started (ap (told a) goes.0)
+  step-tells (event.Show address count) r a k after step walk goes started = stays (event.Show address count) r a k after step walk (λ c w x e. cc e) started (ap (told a) goes.0)
+  step-tells (event.ExecuteOther cpu i) r a k after step walk goes started = stays (event.ExecuteOther cpu i) r a k after step walk (λ c w x e. cc e) started (ap (told a) goes.0)
+  step-tells (event.Act at what) r a k after step walk goes started = stays (event.Act at what) r a k after step walk (λ c w x e. cc e) started (ap (told a) goes.0)
+  step-tells (event.Restart at) r a k after step walk goes started = stays (event.Restart at) r a k after step walk (λ c w x e. cc e) started (ap (told a) goes.0)
+  step-tells (event.PathDown chpid) r a k after step walk goes started = stays (event.PathDown chpid) r a k after step walk (λ c w x e. cc e) started (ap (told a) goes.0)
+  step-tells (event.PathUp chpid) r a k after step walk goes started = stays (event.PathUp chpid) r a k after step walk (λ c w x e. cc e) started (ap (told a) goes.0)
+  step-tells (event.PathReset chpid) r a k after step walk goes started = stays (event.PathReset chpid) r a k after step walk (λ c w x e. cc e) started (ap (told a) goes.0)
+  step-tells event.SystemReset r a k after step walk goes started = stays event.SystemReset r a k after step walk (λ c w x e. cc e) started (ap (told a) goes.0)
 
 -- the subchannel of a place is always there
 there-is : (setup : Setup) (s : State) (place : ℕ) (x : SubchannelSetup) → IsSetUp setup s → slice_get setup.subchannels place ≡ Some x → (sub : Subchannel) × (slice_get s.subs place ≡ Some sub)
@@ -339,8 +361,12 @@ there-is setup s place x u e =
     let p = map-get (λ (sub : Subchannel). sub.setup) s.subs place x (subst (λ (xs : List SubchannelSetup). slice_get xs place ≡ Some x) (sym u.subs) e) in (p.0, p.1)
 
 opened-started : (setup : Setup) (place : ℕ) → StartedAt None (opening_of setup) place
-opened-started setup place = λ sub e.
-    let p = map-get opened setup.subchannels place sub e in subst (λ (y : Subchannel). IsStarted None y.state.waiting) p.2 tt
+opened-started setup place = (
+  λ sub e. let p = map-get opened setup.subchannels place sub e in subst (λ (y : Subchannel). IsStarted None y.state.waiting) p.2 tt,
+  λ id sub named e.
+      let p = map-get opened setup.subchannels place sub e in
+      subst (λ (y : Subchannel). Masked None y.state) p.2 (record { mask = λ h. absurd (cc h); pending = λ h. absurd (cc h) }),
+)
 
 opened-owned : (setup : Setup) (place : ℕ) → OwnedAt false (opening_of setup).subs place
 opened-owned setup place = λ sub e.
@@ -422,15 +448,17 @@ module _ (known : AreKnown) (setup : Setup) (lawful : IsLawful setup) where
       record { orb = None; started = opened-started setup place; owned = opened-owned setup place; all = ap (told None) t }
   run-told place z there _ _ (Stepped h old e r new run step) k t =
       let before : IsRunTold setup place h old run t.0 = run-told place z there h old run t.0 t.1 in
+      let left : IsSetUp setup new = set-up _ new (Stepped h old e r new run step) in
       let was = there-is setup old place z (set-up h old run) there in
-      let is = there-is setup new place z (set-up _ new (Stepped h old e r new run step)) there in
+      let is = there-is setup new place z left there in
+      let setups : SameSetups old.subs new.subs = left.subs ∙ sym (set-up h old run).subs in
       let x : Entry = record { event = e; reply = r } in
       let sets : ℕ = set_count setup in
       let subs : List SubchannelSetup = setup.subchannels in
       let st : Standing = standing_through sets subs place nothing_over h in
       let walk : Walked old e r new = known.laws.walks old e r new step in
       let same : about old place e ≡ is_about sets subs place e = about-same setup old (set-up h old run) place e in
-      let now = step-tells st old place was.0 is.0 new (before.owned was.0 was.1) (halts-told place h old run was.0 was.1) was.1 is.1 e r before.orb t.0 k step walk t.2 before.started in
+      let now = step-tells st old place was.0 is.0 new (before.owned was.0 was.1) (halts-told place h old run was.0 was.1) was.1 is.1 setups e r before.orb t.0 k step walk t.2 before.started in
       record {
         orb = now.0;
         started = now.1;

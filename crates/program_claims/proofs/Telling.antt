@@ -1,6 +1,7 @@
 -- What is told of a subchannel's program goes on with each entry.
-use Rattle.std.proofs.Common.{◌≡◌, refl, sym, ◌∙◌, ap, subst, ℕ, ◌+◌, ◌==◌, Bool, true, false, Option, None, Some, Result, List, length, inl, inr}
+use Rattle.std.proofs.Common.{◌≡◌, refl, sym, ◌∙◌, ap, subst, ℕ, ◌+◌, ◌==◌, Bool, true, false, Option, None, Some, Result, Ok, List, length, inl, inr}
 use Rattle.std.specs.Prelude.{if◌then◌else◌, nat_lt, slice_get, IfOk}
+use Rattle.std.proofs.lemmas.Option.{same_Some}
 use Rattle.orb_block.specs.declared.Orb.{Orb}
 use Rattle.scsw_irb.specs.declared.status.DeviceStatus.{DeviceStatus}
 use Rattle.storage_keys.specs.Storage.{Contents}
@@ -15,18 +16,20 @@ use Rattle.chan_model.specs.declared.signal.Up.{Up}
 use Rattle.chan_model.specs.declared.signal.Up.TheVariants as up
 use Rattle.chan_model.specs.declared.unit_state.AtHand.{AtHand}
 use Rattle.chan_model.specs.declared.unit_state.UnitState.{UnitState}
+use Rattle.chan_model.specs.PathSets.{has_path}
 use Rattle.chan_events.specs.declared.event.Event.{Event}
 use Rattle.chan_events.specs.declared.event.Event.TheVariants as event
 use Rattle.chan_events.specs.declared.reply.Reply.{Reply}
 use Rattle.chan_events.specs.declared.reply.Reply.TheVariants as reply
 use Rattle.data_move.specs.Moving.{room}
+use Rattle.path_select.specs.Choice.{IsChoice}
 use Rattle.wires.specs.Queues.{queue}
 use Rattle.subchannel_model.specs.declared.state.Chosen.{Chosen}
 use Rattle.subchannel_model.specs.declared.state.Chosen.TheVariants.{Idle, Resets, PerformsClear, Halts, PerformsHalt, FindsNoPath, Offers}
 use Rattle.subchannel_model.specs.declared.state.Program.{Program}
 use Rattle.subchannel_model.specs.declared.state.Subchannel.{Subchannel}
 use Rattle.subchannel_model.specs.declared.state.SubchannelState.{SubchannelState}
-use Rattle.subchannel_model.specs.Choosing.{chosen, marked_sub}
+use Rattle.subchannel_model.specs.Choosing.{paths_to_choose, chosen, marked_sub}
 use Rattle.subchannel_model.specs.Sending.{carried_by, finds_full}
 use Rattle.subchannel_model.specs.Taking.{goes_ahead, takes_up}
 use Rattle.chan_model.specs.declared.hold_state.HoldPhase.{HoldPhase}
@@ -36,7 +39,7 @@ use Rattle.machine_model.specs.State.{State, place_of}
 use Rattle.machine_model.specs.Turns.{SubTurn, UpTurn}
 use Rattle.machine_model.specs.UpSteps.{up_front, up_sub}
 use Rattle.step_laws.specs.Walks as walked
-use Rattle.step_laws.specs.Walks.{Walked, IsFound, Suits, IsExecuted}
+use Rattle.step_laws.specs.Walks.{Walked, IsFound, IsForProgram, Suits}
 use Rattle.seen_laws.specs.BeginsItsOwn.{IsAnswered, IsAcceptRight}
 use Rattle.seen_laws.proofs.Meets as phases
 use Rattle.seen_laws.proofs.Meets.{takes-meets}
@@ -247,58 +250,78 @@ choose-offers sub (Offers c path) f =
 quiet-choose : (e : Event) (r : Reply) (word : ℕ) → walked.IsQuiet e r → e ≡ event.Choose word → ⊥
 quiet-choose e r word q h = subst (λ (x : Event). walked.IsQuiet x r) h q
 
-pub walk-offers : (s : State) (e : Event) (r : Reply) (new : State) → Walked s e r new → (word place : ℕ) (sub : Subchannel) → e ≡ event.Choose word → place_of s word ≡ Some place →
-    slice_get s.subs place ≡ Some sub → OffersWaiting sub r
-walk-offers s _ _ _ (walked.Stays e r new q sets subs units up) word place sub h n there = absurd (quiet-choose e r word q h)
-walk-offers s _ _ _ (walked.Started cpu w address at x orb c new m one) word place sub h n there = absurd (cc h)
-walk-offers s _ _ _ (walked.Tested e r at x c new q one address by answers) word place sub h n there = absurd (quiet-choose e r word q h)
-walk-offers s _ _ _ (walked.Modified e r at x given c new q one) word place sub h n there = absurd (quiet-choose e r word q h)
-walk-offers s _ _ _ (walked.Performed e r at x f c new q one by answers) word place sub h n there = absurd (quiet-choose e r word q h)
-walk-offers s _ _ _ (walked.Chosen w at x choice t new m y suits ok one) word place sub h n there =
+-- a choice for the subchannel of a place
+pub record IsChosen (s : State) (sub : Subchannel) (r : Reply) : Type 0 where
+  pub choice : Option ℕ
+  pub turn : SubTurn
+  pub right : IsChoice (paths_to_choose s.subs sub) choice
+  pub suits : Suits (chosen sub choice) sub.state
+  pub ok : choose_sub (marked_sub sub choice) (chosen sub choice) ≡ Ok turn
+  pub replies : r ≡ turn.reply
+
+pub walk-chosen : (s : State) (e : Event) (r : Reply) (new : State) → Walked s e r new → (word place : ℕ) (sub : Subchannel) → e ≡ event.Choose word → place_of s word ≡ Some place →
+    slice_get s.subs place ≡ Some sub → IsChosen s sub r
+walk-chosen s _ _ _ (walked.Stays e r new q sets subs units up) word place sub h n there = absurd (quiet-choose e r word q h)
+walk-chosen s _ _ _ (walked.Started cpu w address at x orb c new m one) word place sub h n there = absurd (cc h)
+walk-chosen s _ _ _ (walked.Tested e r at x c new q one address by answers) word place sub h n there = absurd (quiet-choose e r word q h)
+walk-chosen s _ _ _ (walked.Modified e r at x given c new q one) word place sub h n there = absurd (quiet-choose e r word q h)
+walk-chosen s _ _ _ (walked.Performed e r at x f c new q one by answers) word place sub h n there = absurd (quiet-choose e r word q h)
+walk-chosen s _ _ _ (walked.Chosen w at x choice t new m y suits ok one) word place sub h n there =
     let same : w ≡ word = cc h in
     let here : at ≡ place = cc (sym m ∙ ap (place_of s) same ∙ n) in
     let mine : x ≡ sub = cc (sym one.there ∙ ap (slice_get s.subs) here ∙ there) in
-    subst (λ (z : Subchannel). OffersWaiting z t.reply) mine
-    (subst (λ (o : Result SubTurn Fault). IfOk o (λ t. OffersWaiting (marked_sub x choice) t.reply)) ok (choose-offers (marked_sub x choice) (chosen x choice) (record { fits = suits.fits; found = found-as x choice suits })))
-  where
-    found-as : (x : Subchannel) (choice : Option ℕ) → Suits (chosen x choice) x.state → walked.IsForProgram (chosen x choice) (marked_sub x choice).state
-    found-as x choice f = by (chosen x choice) f.found
-      where
-        by : (c : Chosen) → walked.IsForProgram c x.state → walked.IsForProgram c (marked_sub x choice).state
-        by Idle f = tt
-        by (Resets r path) f = tt
-        by PerformsClear f = tt
-        by (Halts u path) f = tt
-        by PerformsHalt f = tt
-        by FindsNoPath f = tt
-        by (Offers c path) f = f
-walk-offers s _ _ _ (walked.Met w p returns at x t new m ok one may) word place sub h n there = absurd (cc h)
-walk-offers s _ _ _ (walked.Sunk w p may owed at x u t new m ok one) word place sub h n there = absurd (cc h)
-walk-offers s _ _ _ (walked.Reported i at x u report t new m reached ok one) word place sub h n there = absurd (cc h)
-walk-offers s _ _ _ (walked.Acted i at x u what t new side its ok one) word place sub h n there = absurd (cc h)
-walk-offers s _ _ _ (walked.Restarted at owed u r new found sets subs units up) word place sub h n there = absurd (cc h)
-walk-offers s _ _ _ (walked.Swept e r what new q sets subs units by) word place sub h n there = absurd (quiet-choose e r word q h)
+    subst (λ (z : Subchannel). IsChosen s z t.reply) mine (record { choice = choice; turn = t; right = y; suits = suits; ok = ok; replies = refl })
+walk-chosen s _ _ _ (walked.Met w p returns at x t new m ok one may) word place sub h n there = absurd (cc h)
+walk-chosen s _ _ _ (walked.Sunk w p may owed at x u t new m ok one) word place sub h n there = absurd (cc h)
+walk-chosen s _ _ _ (walked.Reported i at x u report t new m reached ok one) word place sub h n there = absurd (cc h)
+walk-chosen s _ _ _ (walked.Acted i at x u what t new side its ok one) word place sub h n there = absurd (cc h)
+walk-chosen s _ _ _ (walked.Restarted at owed u r new found sets subs units up) word place sub h n there = absurd (cc h)
+walk-chosen s _ _ _ (walked.Swept e r what new q sets subs units by) word place sub h n there = absurd (quiet-choose e r word q h)
+
+marked-found : (sub : Subchannel) (choice : Option ℕ) (c : Chosen) → IsForProgram c sub.state → IsForProgram c (marked_sub sub choice).state
+marked-found sub choice Idle f = tt
+marked-found sub choice (Resets r path) f = tt
+marked-found sub choice PerformsClear f = tt
+marked-found sub choice (Halts u path) f = tt
+marked-found sub choice PerformsHalt f = tt
+marked-found sub choice FindsNoPath f = tt
+marked-found sub choice (Offers c path) f = f
+
+pub offers-waiting : (s : State) (sub : Subchannel) (r : Reply) → IsChosen s sub r → OffersWaiting sub r
+offers-waiting s sub r k =
+    let marked : Subchannel = marked_sub sub k.choice in
+    let c : Chosen = chosen sub k.choice in
+    subst (λ (y : Reply). OffersWaiting sub y) (sym k.replies)
+    (subst (λ (o : Result SubTurn Fault). IfOk o (λ t. OffersWaiting marked t.reply)) k.ok
+    (choose-offers marked c (record { fits = k.suits.fits; found = marked-found sub k.choice c k.suits.found })))
+
+-- it is offered by a path of the operation-request block of the start that was accepted last
+abbrev pub IsByPath : Option Orb → Reply → Type 0
+IsByPath started r = (t path : ℕ) (resumes : Bool) → r ≡ reply.Offered t path resumes → (orb : Orb) × (started ≡ Some orb) × (has_path orb.paths path ≡ true)
 
 pub offers-by : (old : Subchannel) (r : Reply) (a : Option Orb) (k after : Option ProgramTrace) → after ≡ chosen_at (Some old) r k → IsStarted a old.state.waiting → OffersWaiting old r →
-    OffersBy r (told a k) (told a after)
-offers-by old (reply.Offered t p false) a k after e i o =
+    IsByPath a r → OffersBy r (told a k) (told a after)
+offers-by old (reply.Offered t p false) a k after e i o by =
     let w = o t p refl in
-    (w.0.orb, subst (λ (x : Option Program). IsStarted a x) w.1 i, ap (told a) (e ∙ ap (λ (x : Option Program). offered_for x t k) w.1))
-offers-by old (reply.Offered t p true) a k after e i o = ap (told a) e
-offers-by old reply.Done a k after e i o = ap (told a) e
-offers-by old (reply.Shown bytes) a k after e i o = ap (told a) e
-offers-by old (reply.Code c) a k after e i o = ap (told a) e
-offers-by old (reply.Status c scsw) a k after e i o = ap (told a) e
-offers-by old (reply.Interruption found) a k after e i o = ap (told a) e
-offers-by old (reply.PathReset c) a k after e i o = ap (told a) e
-offers-by old (reply.ChannelReport report) a k after e i o = ap (told a) e
-offers-by old (reply.Paths engaged) a k after e i o = ap (told a) e
-offers-by old (reply.ResetSent n p) a k after e i o = ap (told a) e
-offers-by old (reply.HaltSent t p) a k after e i o = ap (told a) e
-offers-by old reply.Pending a k after e i o = ap (told a) e
-offers-by old reply.Idle a k after e i o = ap (told a) e
-offers-by old (reply.Up x taken one) a k after e i o = ap (told a) e
-offers-by old (reply.Down x taken one) a k after e i o = ap (told a) e
+    let started : a ≡ Some w.0.orb = subst (λ (x : Option Program). IsStarted a x) w.1 i in
+    let on = by t p false refl in
+    let same : on.0 ≡ w.0.orb = same_Some on.0 w.0.orb (sym on.1 ∙ started) in
+    (w.0.orb, started, subst (λ (x : Orb). has_path x.paths p ≡ true) same on.2, ap (told a) (e ∙ ap (λ (x : Option Program). offered_for x t k) w.1))
+offers-by old (reply.Offered t p true) a k after e i o by = let on = by t p true refl in (on.0, on.1, on.2, ap (told a) e)
+offers-by old reply.Done a k after e i o by = ap (told a) e
+offers-by old (reply.Shown bytes) a k after e i o by = ap (told a) e
+offers-by old (reply.Code c) a k after e i o by = ap (told a) e
+offers-by old (reply.Status c scsw) a k after e i o by = ap (told a) e
+offers-by old (reply.Interruption found) a k after e i o by = ap (told a) e
+offers-by old (reply.PathReset c) a k after e i o by = ap (told a) e
+offers-by old (reply.ChannelReport report) a k after e i o by = ap (told a) e
+offers-by old (reply.Paths engaged) a k after e i o by = ap (told a) e
+offers-by old (reply.ResetSent n p) a k after e i o by = ap (told a) e
+offers-by old (reply.HaltSent t p) a k after e i o by = ap (told a) e
+offers-by old reply.Pending a k after e i o by = ap (told a) e
+offers-by old reply.Idle a k after e i o by = ap (told a) e
+offers-by old (reply.Up x taken one) a k after e i o by = ap (told a) e
+offers-by old (reply.Down x taken one) a k after e i o by = ap (told a) e
 
 -- a report
 absorbed-by : (count : ℕ) (x : Option AtHand) (k : ProgramTrace) → (absorbed : List ℕ) × (absorbs count x k ≡ record k { absorbed = absorbed })

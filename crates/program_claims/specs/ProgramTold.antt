@@ -11,6 +11,7 @@ use Rattle.chan_model.specs.declared.signal.Down.{Down}
 use Rattle.chan_model.specs.declared.signal.OnPath.{OnPath}
 use Rattle.chan_model.specs.declared.signal.Up.{Up}
 use Rattle.chan_model.specs.declared.signal.Up.TheVariants as up
+use Rattle.chan_model.specs.PathSets.{has_path}
 use Rattle.chan_model.specs.ResetCauses.{is_path}
 use Rattle.chan_events.specs.declared.event.Event.{Event}
 use Rattle.chan_events.specs.declared.event.Event.TheVariants as event
@@ -48,10 +49,13 @@ StartsBy storage cpu (instruction.Ssch word address) (reply.Code (answer.Zero se
     (orb : Orb) × IsOrbAt storage cpu address orb × (after ≡ record k { started = Some orb })
 StartsBy storage cpu i r k after = after ≡ k
 
--- Choose: the start that was accepted last is offered, or the program that was suspended
+-- Choose: the start that was accepted last is offered, or the program that was suspended, by a path of the logical-path mask of the
+-- operation-request block of that start
 abbrev pub OffersBy : Reply → Told → Told → Type 0
-OffersBy (reply.Offered t path false) k after = (orb : Orb) × (k.started ≡ Some orb) × (after ≡ record k { program = Some (trace_offered t orb) })
-OffersBy (reply.Offered t path true) k after = after ≡ record k { program = option_map (trace_resumed t) k.program }
+OffersBy (reply.Offered t path false) k after =
+    (orb : Orb) × (k.started ≡ Some orb) × (has_path orb.paths path ≡ true) × (after ≡ record k { program = Some (trace_offered t orb) })
+OffersBy (reply.Offered t path true) k after =
+    (orb : Orb) × (k.started ≡ Some orb) × (has_path orb.paths path ≡ true) × (after ≡ record k { program = option_map (trace_resumed t) k.program })
 OffersBy r k after = after ≡ k
 
 -- whether the start that was offered is over: since its offer a START, HALT or CANCEL SUBCHANNEL of the subchannel was answered with code

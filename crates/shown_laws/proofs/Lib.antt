@@ -28,7 +28,7 @@ mod Order
 mod Oldest
 mod Words
 mod WordRuns
-mod LogicalOffers
+pub mod LogicalOffers
 mod Using
 mod LastUsed
 mod Coding

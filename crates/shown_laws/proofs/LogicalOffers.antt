@@ -40,7 +40,7 @@ use Rattle.shown_laws.proofs.WordRuns.{HasMasks, steps-shown}
 use Rattle.shown_laws.proofs.Words.{member-masked}
 
 -- a usable path is of the mask
-reach-logical : (sub : Subchannel) (path : ℕ) → is_member (reachable_paths (path_use sub)) path ≡ true → (is_member sub.state.pmcw.logical path ≡ true) × (path < 8)
+pub reach-logical : (sub : Subchannel) (path : ℕ) → is_member (reachable_paths (path_use sub)) path ≡ true → (is_member sub.state.pmcw.logical path ≡ true) × (path < 8)
 reach-logical sub path e =
     let masks = path_use sub in
     let allowed : is_member (in_both (allowed_paths masks) masks.installed) path ≡ true = (both-parts (in_both (allowed_paths masks) masks.installed) masks.available path e).0 in
