@@ -1,125 +1,222 @@
 -- An answer goes by the path of its signal, or by that of the program that is offered or connected.
-use Rattle.std.proofs.Common.{◌≡◌, refl, sym, subst, ℕ, Bool, true, false, Option, None, Some, inl, inr}
+use Rattle.std.proofs.Common.{◌≡◌, refl, sym, ◌∙◌, ap, subst, ℕ, Bool, true, false, Option, None, Some, inl, inr}
 use Rattle.std.specs.Prelude.{◌==◌, ◌&&◌, if◌then◌else◌, nat_lt}
 use Rattle.storage_keys.specs.Storage.{Contents}
 use Rattle.chan_model.specs.declared.hold_state.HoldPhase.{HoldPhase}
 use Rattle.chan_model.specs.declared.hold_state.HoldPhase.TheVariants as hold
+use Rattle.chan_model.specs.declared.hold_state.HoldState.{HoldState}
+use Rattle.chan_model.specs.declared.signal.Load.{Load}
 use Rattle.chan_model.specs.declared.signal.Up.{Up}
 use Rattle.chan_model.specs.declared.signal.Up.TheVariants as up
-use Rattle.chan_model.specs.HoldTable.{is_connected, is_on}
-use Rattle.chan_model.specs.UnitReports.{is_last_end, has_device_end}
+use Rattle.chan_model.specs.HoldTable.{HoldStep, hold_quietly, program_begun, offer_accepted, found_busy, left, refusing, granting, asked_back, released, reset_cleared, attended, came_of, letting_go, is_connected, is_on}
+use Rattle.chan_model.specs.Loads.{load_length}
+use Rattle.chan_model.specs.UnitReports.{is_last_end, is_outward, has_device_end}
+use Rattle.channel_program.specs.Walks.{WalkPlace}
+use Rattle.data_move.specs.Moving.{residual}
+use Rattle.signal_places.specs.Places.{sent_path}
+use Rattle.transfer.specs.declared.Beginning.{Beginning}
 use Rattle.transfer.specs.declared.CommandStart.{CommandStart}
 use Rattle.transfer.specs.declared.CommandStart.TheVariants as came
-use Rattle.transfer.specs.Chunks.{is_answered}
-use Rattle.transfer.specs.Commands.{next_command}
+use Rattle.transfer.specs.Chunks.{taken_by_device, next_given, brought, is_answered}
+use Rattle.transfer.specs.Commands.{first_command, next_command}
+use Rattle.subchannel_model.specs.declared.cause.StatusCause.{StatusCause}
+use Rattle.subchannel_model.specs.declared.cause.StatusCause.TheVariants as cause
 use Rattle.subchannel_model.specs.declared.signals.DataSignal.{DataSignal}
 use Rattle.subchannel_model.specs.declared.signals.EndSignal.{EndSignal}
 use Rattle.subchannel_model.specs.declared.state.ActiveProgram.{ActiveProgram}
+use Rattle.subchannel_model.specs.declared.state.Program.{Program}
+use Rattle.subchannel_model.specs.declared.state.ProgramPosition.{ProgramPosition}
 use Rattle.subchannel_model.specs.declared.state.SubchannelState.{SubchannelState}
+use Rattle.subchannel_model.specs.declared.state.UpStep.{UpStep}
+use Rattle.subchannel_model.specs.Causes.{without_begun, with_cause}
 use Rattle.subchannel_model.specs.Ends.{has_status_modifier, chains_command}
-use Rattle.subchannel_model.specs.Taking.{may_attend, takes_up, with_end}
-use Rattle.subchannel.specs.Answering.{IsAnswerPath, accept_path, answer_path, attention_path, back_path, chained_path, data_path, end_path, ended_path, going_path, held_path, only_if, path_of, standing_path}
-use Rattle.working.specs.Working.{Ended, Moved, ended_of, moved_of}
-use Rattle.subchannel.proofs.Answered.{takes_answers}
+use Rattle.subchannel_model.specs.Losing.{reset_for}
+use Rattle.subchannel_model.specs.Parts.{end_shown_at}
+use Rattle.subchannel_model.specs.Taking.{Met, meets, ignoring, quietly, let_go, suspending, standing, goes_ahead, path_used, beginning, begin_standing, accept, giving, take_in, bytes_of_load, move_bytes, move_data, take_data, end_taken, chaining, goes_on, with_end, stops_at, command_ended, end_of, reset_taken, notice, may_attend, takes_up}
+use Rattle.subchannel.specs.Answering.{IsAnswerPath}
 
-own-if : (b : Bool) (phase : HoldPhase) (p : ℕ) → IsAnswerPath phase p (only_if b p)
-own-if true phase p = inl refl
-own-if false phase p = tt
+-- what a signal of this path, at a hold in this phase, is answered by
+abbrev Goes : HoldPhase → ℕ → UpStep → Type 0
+Goes phase p step = IsAnswerPath phase p (sent_path step.came.sent)
 
-standing-if : (b : Bool) (phase : HoldPhase) (p q : ℕ) → standing_path phase ≡ Some q → IsAnswerPath phase p (only_if b q)
-standing-if true phase p q e = inr e
-standing-if false phase p q e = tt
+if-goes : (b : Bool) (phase : HoldPhase) (p : ℕ) (x y : UpStep) → Goes phase p x → Goes phase p y → Goes phase p (if b then x else y)
+if-goes true phase p x y e f = e
+if-goes false phase p x y e f = f
 
-accept-goes : (phase : HoldPhase) (p u : ℕ) → IsAnswerPath phase p (accept_path phase u)
-accept-goes hold.Free p u = tt
-accept-goes (hold.Offer t q) p u = standing-if (u == t) (hold.Offer t q) p q refl
-accept-goes (hold.On t q c) p u = tt
-accept-goes (hold.Away t) p u = tt
-accept-goes (hold.Letting t q) p u = tt
-accept-goes (hold.Reset r) p u = tt
+if-met : (b : Bool) (phase : HoldPhase) (p : ℕ) (x y : Met) → Goes phase p x.step → Goes phase p y.step → Goes phase p (if b then x else y).step
+if-met true phase p x y e f = e
+if-met false phase p x y e f = f
 
-held-goes : (phase : HoldPhase) (p : ℕ) → IsAnswerPath phase p (held_path phase)
-held-goes hold.Free p = tt
-held-goes (hold.Offer t q) p = tt
-held-goes (hold.On t q c) p = inr refl
-held-goes (hold.Away t) p = tt
-held-goes (hold.Letting t q) p = tt
-held-goes (hold.Reset r) p = tt
+if-came : (b : Bool) (phase : HoldPhase) (p : ℕ) (step : HoldStep) → IsAnswerPath phase p (sent_path step.sent) → IsAnswerPath phase p (sent_path (came_of (if b then Some step else None)).sent)
+if-came true phase p step e = e
+if-came false phase p step e = tt
 
-back-goes : (seen : ℕ) (phase : HoldPhase) (p u c : ℕ) → IsAnswerPath phase p (back_path seen phase p u c)
-back-goes seen hold.Free p u c = tt
-back-goes seen (hold.Offer t q) p u c = tt
-back-goes seen (hold.On t q d) p u c = own-if ((u == t) && nat_lt seen c) (hold.On t q d) p
-back-goes seen (hold.Away t) p u c = own-if ((u == t) && nat_lt seen c) (hold.Away t) p
-back-goes seen (hold.Letting t q) p u c = tt
-back-goes seen (hold.Reset r) p u c = tt
+-- the device is let go by the path of the program that is connected
+letting : (h : HoldState) (phase : HoldPhase) (p : ℕ) → IsAnswerPath phase p (sent_path (came_of (letting_go h phase)).sent)
+letting h hold.Free p = tt
+letting h (hold.Offer t q) p = tt
+letting h (hold.On t q c) p = inr refl
+letting h (hold.Away t) p = tt
+letting h (hold.Letting t q) p = tt
+letting h (hold.Reset r) p = tt
 
-attention-goes : (phase : HoldPhase) (p : ℕ) (may : Bool) → IsAnswerPath phase p (attention_path phase p may)
-attention-goes hold.Free p may = own-if may hold.Free p
-attention-goes (hold.Offer t q) p may = tt
-attention-goes (hold.On t q c) p may = tt
-attention-goes (hold.Away t) p may = tt
-attention-goes (hold.Letting t q) p may = tt
-attention-goes (hold.Reset r) p may = tt
+let-goes : (s : SubchannelState) (h : HoldState) (p : ℕ) → s.hold ≡ h → Goes h.phase p (let_go s)
+let-goes s h p e = subst (λ (x : HoldState). IsAnswerPath x.phase p (sent_path (let_go s).came.sent)) e (letting s.hold s.hold.phase p)
+
+hold-if : (b : Bool) (x y : SubchannelState) (h : HoldState) → x.hold ≡ h → y.hold ≡ h → (if b then x else y).hold ≡ h
+hold-if true x y h e f = e
+hold-if false x y h e f = f
+
+suspending-hold : (s : SubchannelState) (program : Program) (walk : WalkPlace) (count : ℕ) → (suspending s program walk count).hold ≡ s.hold
+suspending-hold s program walk count = hold-if program.orb.suppress_suspended _ _ s.hold refl refl
+
+begun-hold : (b : Option ActiveProgram) (s : SubchannelState) → (without_begun b s).hold ≡ s.hold
+begun-hold None s = refl
+begun-hold (Some b) s = refl
+
+-- Accept: the program is connected by the path of its offer, and lets the device go by it
+offered-goes : (y : SubchannelState) (t q p : ℕ) → y.hold.phase ≡ hold.On t q 0 → Goes (hold.Offer t q) p (let_go y)
+offered-goes y t q p e = subst (λ (phase : HoldPhase). IsAnswerPath (hold.Offer t q) p (sent_path (came_of (letting_go y.hold phase)).sent)) (sym e) (inr refl)
+
+begun-goes : (storage : Contents) (s : SubchannelState) (t q p : ℕ) (st : ProgramPosition) (walk : WalkPlace) (x : CommandStart) → s.hold.phase ≡ hold.On t q 0 →
+    Goes (hold.Offer t q) p (beginning storage s q t st walk x)
+begun-goes storage s t q p st walk (came.Begins transfer) e = inr refl
+begun-goes storage s t q p st walk came.Suspends e =
+    offered-goes (suspending s st.program walk st.count) t q p (ap (λ (h : HoldState). h.phase) (suspending-hold s st.program walk st.count) ∙ e)
+begun-goes storage s t q p st walk (came.Stops check) e =
+    offered-goes (with_cause s (cause.FetchFault walk.tried check st.count)) t q p (ap (λ (h : HoldState). h.phase) (begun-hold s.begun s) ∙ e)
+
+standing-goes : (storage : Contents) (s : SubchannelState) (t q p : ℕ) (st : Option ProgramPosition) → s.hold.phase ≡ hold.On t q 0 → Goes (hold.Offer t q) p (begin_standing storage s q t st)
+standing-goes storage s t q p None e = tt
+standing-goes storage s t q p (Some st) e = begun-goes storage s t q p st (first_command storage st.walk).walk (first_command storage st.walk).came e
+
+offer-goes : (storage : Contents) (s : SubchannelState) (t q p : ℕ) (same may : Bool) → Goes (hold.Offer t q) p (accept storage s (if same then Some (program_begun s.hold t q may) else None))
+offer-goes storage s t q p false may = tt
+offer-goes storage s t q p true true =
+    standing-goes storage (record s { hold = record s.hold { phase = hold.On t q 0; seen = 0; first_path = Some q }; pmcw = path_used s.pmcw q }) t q p (standing s) refl
+offer-goes storage s t q p true false = inr refl
+
+accept-goes : (storage : Contents) (s : SubchannelState) (phase : HoldPhase) (p u : ℕ) (may : Bool) → Goes phase p (accept storage s (offer_accepted s.hold phase u may))
+accept-goes storage s hold.Free p u may = tt
+accept-goes storage s (hold.Offer t q) p u may = offer-goes storage s t q p (u == t) may
+accept-goes storage s (hold.On t q c) p u may = tt
+accept-goes storage s (hold.Away t) p u may = tt
+accept-goes storage s (hold.Letting t q) p u may = tt
+accept-goes storage s (hold.Reset r) p u may = tt
+
+-- what the hold alone takes
+quiet-goes : (b : Bool) (phase : HoldPhase) (p : ℕ) (h : HoldState) → IsAnswerPath phase p (sent_path (came_of (if b then Some (hold_quietly h) else None)).sent)
+quiet-goes b phase p h = if-came b phase p (hold_quietly h) tt
+
+busy-goes : (h : HoldState) (phase : HoldPhase) (p u : ℕ) → IsAnswerPath phase p (sent_path (came_of (found_busy h phase u)).sent)
+busy-goes h hold.Free p u = tt
+busy-goes h (hold.Offer t q) p u = quiet-goes (u == t) (hold.Offer t q) p _
+busy-goes h (hold.On t q c) p u = tt
+busy-goes h (hold.Away t) p u = tt
+busy-goes h (hold.Letting t q) p u = tt
+busy-goes h (hold.Reset r) p u = tt
+
+left-goes : (h : HoldState) (phase : HoldPhase) (p u d : ℕ) → IsAnswerPath phase p (sent_path (came_of (left h phase u d)).sent)
+left-goes h hold.Free p u d = tt
+left-goes h (hold.Offer t q) p u d = tt
+left-goes h (hold.On t q c) p u d = quiet-goes ((u == t) && (d == c)) (hold.On t q c) p _
+left-goes h (hold.Away t) p u d = tt
+left-goes h (hold.Letting t q) p u d = tt
+left-goes h (hold.Reset r) p u d = tt
+
+released-goes : (h : HoldState) (phase : HoldPhase) (p u : ℕ) → IsAnswerPath phase p (sent_path (came_of (released h phase u)).sent)
+released-goes h hold.Free p u = tt
+released-goes h (hold.Offer t q) p u = tt
+released-goes h (hold.On t q c) p u = tt
+released-goes h (hold.Away t) p u = tt
+released-goes h (hold.Letting t q) p u = quiet-goes (u == t) (hold.Letting t q) p _
+released-goes h (hold.Reset r) p u = tt
+
+away-goes : (h : HoldState) (phase : HoldPhase) (t p c : ℕ) (b may : Bool) →
+    IsAnswerPath phase p (sent_path (came_of (if b then (if may then Some (granting h p t c) else Some (refusing h p t c)) else None)).sent)
+away-goes h phase t p c true true = inl refl
+away-goes h phase t p c true false = inl refl
+away-goes h phase t p c false may = tt
+
+back-goes : (h : HoldState) (phase : HoldPhase) (p u c : ℕ) (may : Bool) → IsAnswerPath phase p (sent_path (came_of (asked_back h phase p u c may)).sent)
+back-goes h hold.Free p u c may = tt
+back-goes h (hold.Offer t q) p u c may = tt
+back-goes h (hold.On t q d) p u c may = if-came ((u == t) && nat_lt h.seen c) (hold.On t q d) p (refusing h p t c) (inl refl)
+back-goes h (hold.Away t) p u c may = away-goes h (hold.Away t) t p c ((u == t) && nat_lt h.seen c) may
+back-goes h (hold.Letting t q) p u c may = tt
+back-goes h (hold.Reset r) p u c may = tt
+
+cleared-by : (s : SubchannelState) (phase : HoldPhase) (p : ℕ) (b : Bool) (h : HoldState) → Goes phase p (reset_taken s (if b then Some (hold_quietly h) else None))
+cleared-by s phase p true h = tt
+cleared-by s phase p false h = tt
+
+cleared-goes : (s : SubchannelState) (phase : HoldPhase) (p u : ℕ) → Goes phase p (reset_taken s (reset_cleared s.hold phase u))
+cleared-goes s hold.Free p u = tt
+cleared-goes s (hold.Offer t q) p u = tt
+cleared-goes s (hold.On t q c) p u = tt
+cleared-goes s (hold.Away t) p u = tt
+cleared-goes s (hold.Letting t q) p u = tt
+cleared-goes s (hold.Reset r) p u = cleared-by s (hold.Reset r) p (u == r) _
+
+attended-goes : (h : HoldState) (phase : HoldPhase) (p a : ℕ) (may : Bool) → IsAnswerPath phase p (sent_path (came_of (attended h phase p a may)).sent)
+attended-goes h hold.Free p a may = if-came may hold.Free p _ (inl refl)
+attended-goes h (hold.Offer t q) p a may = tt
+attended-goes h (hold.On t q c) p a may = tt
+attended-goes h (hold.Away t) p a may = tt
+attended-goes h (hold.Letting t q) p a may = tt
+attended-goes h (hold.Reset r) p a may = tt
 
 -- Data
-data-if : (b : Bool) (o : Option Moved) (phase : HoldPhase) (p : ℕ) → IsAnswerPath phase p (data_path o) → IsAnswerPath phase p (data_path (if b then o else None))
-data-if true o phase p goes = goes
-data-if false o phase p goes = tt
+moved-goes : (storage : Contents) (s : SubchannelState) (b : Option ActiveProgram) (signal : DataSignal) (load : Load) → Goes s.hold.phase signal.path (move_data storage s b signal load).step
+moved-goes storage s None signal load = tt
+moved-goes storage s (Some b) signal load =
+    let phase : HoldPhase = s.hold.phase in
+    if-met (is_answered b.transfer signal.command signal.sequence) phase signal.path (move_bytes storage s b signal load) (meets storage (ignoring s))
+    (if-met (is_outward b.transfer.code) phase signal.path
+    (meets storage (giving s b signal (next_given storage (taken_by_device storage b.transfer signal.sequence (load_length load)))))
+    (take_in s b signal (brought storage b.transfer signal.sequence (bytes_of_load load))) (inl refl) (inl refl))
+    tt
 
-data-goes : (begun : Option ActiveProgram) (phase : HoldPhase) (signal : DataSignal) → IsAnswerPath phase signal.path (data_path (moved_of begun signal))
-data-goes None phase signal = tt
-data-goes (Some b) phase signal =
-    data-if (is_answered b.transfer signal.command signal.sequence) (Some (record { begun = b; signal = signal })) phase signal.path (inl refl)
+-- End: the next command goes by its path
+chaining-goes : (storage : Contents) (s : SubchannelState) (b : ActiveProgram) (signal : EndSignal) (walk : WalkPlace) (x : CommandStart) → Goes s.hold.phase signal.path (chaining storage s b signal walk x)
+chaining-goes storage s b signal walk (came.Begins transfer) = inl refl
+chaining-goes storage s b signal walk came.Suspends =
+    let y : SubchannelState = suspending (end_taken s signal) b.program walk (residual b.transfer.moving) in
+    let-goes y s.hold signal.path (suspending-hold (end_taken s signal) b.program walk (residual b.transfer.moving))
+chaining-goes storage s b signal walk (came.Stops check) =
+    let c : StatusCause = cause.FetchFault walk.tried check (residual b.transfer.moving) in
+    let-goes (with_cause (end_taken s signal) c) s.hold signal.path (begun-hold s.begun (end_taken s signal))
 
--- End
-path-if : (b : Bool) (phase : HoldPhase) (p : ℕ) (u v : Option ℕ) → IsAnswerPath phase p u → IsAnswerPath phase p v → IsAnswerPath phase p (if b then u else v)
-path-if true phase p u v x y = x
-path-if false phase p u v x y = y
+stops-goes : (s : SubchannelState) (b : ActiveProgram) (signal : EndSignal) → Goes s.hold.phase signal.path (stops_at s b signal)
+stops-goes s b signal =
+    if-goes (is_last_end signal.status) s.hold.phase signal.path (let_go (end_shown_at s b signal)) (quietly (end_shown_at s b signal))
+    (let-goes (end_shown_at s b signal) s.hold signal.path (hold-if (is_last_end signal.status) _ _ s.hold refl refl)) tt
 
-chained-goes : (x : CommandStart) (phase : HoldPhase) (p : ℕ) → IsAnswerPath phase p (chained_path x p (held_path phase))
-chained-goes (came.Begins transfer) phase p = inl refl
-chained-goes came.Suspends phase p = held-goes phase p
-chained-goes (came.Stops check) phase p = held-goes phase p
-
-going-goes : (storage : Contents) (s : SubchannelState) (b : ActiveProgram) (signal : EndSignal) → IsAnswerPath s.hold.phase signal.path (going_path storage s b signal)
-going-goes storage s b signal =
-    let next = (next_command storage b.transfer (has_status_modifier signal.status)).came in
-    path-if (has_device_end signal.status) s.hold.phase signal.path (chained_path next signal.path (held_path s.hold.phase)) None (chained-goes next s.hold.phase signal.path) tt
-
-ended-goes : (storage : Contents) (s : SubchannelState) (b : ActiveProgram) (signal : EndSignal) → IsAnswerPath s.hold.phase signal.path (ended_path storage s b signal)
-ended-goes storage s b signal =
-    let held = held_path s.hold.phase in
-    path-if (chains_command s.scsw b signal.status signal.more) s.hold.phase signal.path (going_path storage s (with_end b) signal) (if is_last_end signal.status then held else None)
-    (going-goes storage s (with_end b) signal)
-    (path-if (is_last_end signal.status) s.hold.phase signal.path held None (held-goes s.hold.phase signal.path) tt)
-
-end-if : (b : Bool) (o : Option Ended) (storage : Contents) (s : SubchannelState) (p : ℕ) → IsAnswerPath s.hold.phase p (end_path storage s o) →
-    IsAnswerPath s.hold.phase p (end_path storage s (if b then o else None))
-end-if true o storage s p goes = goes
-end-if false o storage s p goes = tt
-
-end-goes : (begun : Option ActiveProgram) (storage : Contents) (s : SubchannelState) (signal : EndSignal) → IsAnswerPath s.hold.phase signal.path (end_path storage s (ended_of begun signal))
-end-goes None storage s signal = tt
-end-goes (Some b) storage s signal =
-    end-if (signal.command == b.transfer.command) (Some (record { begun = b; signal = signal })) storage s signal.path (ended-goes storage s b signal)
-
-goes : (storage : Contents) (s : SubchannelState) (p : ℕ) (signal : Up) → IsAnswerPath s.hold.phase p (answer_path storage s p signal)
-goes storage s p (up.Accept t) = accept-goes s.hold.phase p t
-goes storage s p (up.Busy t) = tt
-goes storage s p (up.Leave t c) = tt
-goes storage s p (up.Back t c) = back-goes s.hold.seen s.hold.phase p t c
-goes storage s p (up.Data t c n seq load) =
-    let signal : DataSignal = record { path = p; number = t; connection = c; command = n; sequence = seq } in
-    data-if (is_connected s.hold.phase p t c) (moved_of s.begun signal) s.hold.phase p (data-goes s.begun s.hold.phase signal)
-goes storage s p (up.End t n status more) =
-    let signal : EndSignal = record { path = p; number = t; command = n; status = status; more = more } in
-    end-if (is_on s.hold.phase t) (ended_of s.begun signal) storage s p (end-goes s.begun storage s signal)
-goes storage s p (up.Released t) = tt
-goes storage s p (up.Cleared r) = tt
-goes storage s p (up.Notice b) = tt
-goes storage s p (up.Attn a status) = attention-goes s.hold.phase p (may_attend s)
+ended-goes : (storage : Contents) (s : SubchannelState) (b : Option ActiveProgram) (signal : EndSignal) → Goes s.hold.phase signal.path (end_of storage s b signal)
+ended-goes storage s None signal = tt
+ended-goes storage s (Some b) signal =
+    let phase : HoldPhase = s.hold.phase in
+    let next : Beginning = next_command storage (with_end b).transfer (has_status_modifier signal.status) in
+    if-goes (signal.command == b.transfer.command) phase signal.path (command_ended storage s b signal) (ignoring s)
+    (if-goes (chains_command s.scsw b signal.status signal.more) phase signal.path (goes_on storage s (with_end b) signal) (stops_at s b signal)
+    (if-goes (has_device_end signal.status) phase signal.path (chaining storage s (with_end b) signal next.walk next.came) _ (chaining-goes storage s (with_end b) signal next.walk next.came) tt)
+    (stops-goes s b signal))
+    tt
 
 pub answer_goes : (returns : Bool) (storage : Contents) (s : SubchannelState) (p : ℕ) (signal : Up) →
-    IsAnswerPath s.hold.phase p (path_of (takes_up returns storage s p signal).step.came.sent)
-answer_goes returns storage s p signal = subst (IsAnswerPath s.hold.phase p) (sym (takes_answers returns storage s p signal)) (goes storage s p signal)
+    IsAnswerPath s.hold.phase p (sent_path (takes_up returns storage s p signal).step.came.sent)
+answer_goes returns storage s p (up.Accept t) = accept-goes storage s s.hold.phase p t (goes_ahead s)
+answer_goes returns storage s p (up.Busy t) = busy-goes s.hold s.hold.phase p t
+answer_goes returns storage s p (up.Leave t c) = left-goes s.hold s.hold.phase p t c
+answer_goes returns storage s p (up.Back t c) = back-goes s.hold s.hold.phase p t c returns
+answer_goes returns storage s p (up.Data t c n seq load) =
+    let signal : DataSignal = record { path = p; number = t; connection = c; command = n; sequence = seq } in
+    if-met (is_connected s.hold.phase p t c) s.hold.phase p (move_data storage s s.begun signal load) (meets storage (ignoring s)) (moved-goes storage s s.begun signal load) tt
+answer_goes returns storage s p (up.End t n status more) =
+    let signal : EndSignal = record { path = p; number = t; command = n; status = status; more = more } in
+    if-goes (is_on s.hold.phase t) s.hold.phase p (end_of storage s s.begun signal) (ignoring s) (ended-goes storage s s.begun signal) tt
+answer_goes returns storage s p (up.Released t) = released-goes s.hold s.hold.phase p t
+answer_goes returns storage s p (up.Cleared r) = cleared-goes s s.hold.phase p r
+answer_goes returns storage s p (up.Notice b) =
+    if-goes (nat_lt s.hold.known b) s.hold.phase p (quietly (reset_for (record s { hold = record s.hold { known = b } }))) (ignoring s) tt tt
+answer_goes returns storage s p (up.Attn a status) = attended-goes s.hold s.hold.phase p a (may_attend s)

@@ -13,6 +13,7 @@ use Rattle.subchannel_model.specs.declared.state.ActiveProgram.{ActiveProgram}
 use Rattle.subchannel_model.specs.declared.state.SubchannelState.{SubchannelState}
 use Rattle.subchannel_model.specs.declared.state.UpStep.{UpStep}
 use Rattle.subchannel_model.specs.Taking.{Met, meets, ignoring, move_data, take_data, end_of, end_command, takes_up}
+use Rattle.subchannel.specs.Answering.{is_data}
 use Rattle.working.specs.Working.{load_of, moved_of, moved_at, data_by, data_taken, data_met, ended_of, ended_at, end_met}
 
 either : {A : Type 0} {B : Type 0} (f : A → B) (b : Bool) (x y : A) → (if b then f x else f y) ≡ f (if b then x else y)
@@ -44,10 +45,6 @@ end_takes storage s signal =
     let on : Bool = is_on s.hold.phase signal.number in
     ap (λ (step : UpStep). if on then step else ignoring s) (end-of storage s s.begun signal)
     ∙ either (end_met storage s) on (ended_of s.begun signal) None
-
-abbrev pub is_data : Up → Bool
-is_data (up.Data t c n seq load) = true
-is_data signal = false
 
 pub told_takes : (returns : Bool) (storage : Contents) (s : SubchannelState) (p : ℕ) (told : Up) → is_data told ≡ true →
     data_taken storage s (load_of told) (data_by p told) ≡ takes_up returns storage s p told

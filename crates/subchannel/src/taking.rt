@@ -3,6 +3,7 @@
 ghost use Rattle.std.specs.Prelude.{◌≡◌, ◌<◌, ◌^◌, false};
 ghost use Rattle.chan_model.specs.HoldTable.{hold_takes};
 ghost use Rattle.signal_places.specs.Places.{came_so, up_at};
+ghost use Rattle.subchannel.specs.Answering.{is_data};
 ghost use Rattle.working.specs.Stepping.{subchannel_stepped};
 ghost use Rattle.subchannel_model.specs.Taking as spec;
 
@@ -67,9 +68,36 @@ fn notice(state: &mut SubchannelState, restarts: u64, sent: &mut SentDown) -> bo
     quiet(sent)
 }
 
-/// A subchannel takes a signal: whether it was taken, with what is sent in a place. The bytes of a read are stored.
+/// A subchannel takes a signal that moves no bytes, so that storage stays: whether it was taken, with what is sent in a place.
 /// `returns`: a program that is away may come back by the path.
 #[tactic(auto, using(crate::proofs::Working::end_takes))]
+pub fn take_unmoved(
+    storage: &Storage,
+    state: &mut SubchannelState,
+    path: Path,
+    signal: &UpPlace,
+    returns: bool,
+    sent: &mut SentDown,
+) -> bool
+    requires made { state.old.serials.made < 2 ^ 63 }
+    requires drawn { state.old.drawn < 2 ^ 63 }
+    requires below { spec.IsBelow state.old.begun }
+    requires unmoved { is_data (up_at signal.now) ≡ false }
+    ensures met { spec.meets storage.now (subchannel_stepped state.new (came_so result sent.new)) ≡ spec.takes_up returns storage.now state.old path (up_at signal.now) }
+{
+    match signal.kept {
+        KeptUp::Accept { .. } => accept(storage, state, path, signal, sent),
+        KeptUp::End { .. } => end_command(storage, state, path, signal, sent),
+        KeptUp::Cleared { .. } => reset_taken(state, path, signal, sent),
+        KeptUp::Back { .. } => come_back(state, path, signal, returns, sent),
+        KeptUp::Notice { restarts } => notice(state, restarts, sent),
+        KeptUp::Attn { status, .. } => attend(state, path, signal, status, sent),
+        _ => by_hold(state, path, signal, false, sent),
+    }
+}
+
+/// A subchannel takes a signal: whether it was taken, with what is sent in a place. The bytes of a read are stored.
+/// `returns`: a program that is away may come back by the path.
 pub fn take_up(
     storage: &mut Storage,
     state: &mut SubchannelState,
@@ -84,15 +112,9 @@ pub fn take_up(
     ensures met { spec.meets storage.new (subchannel_stepped state.new (came_so result sent.new)) ≡ spec.takes_up returns storage.old state.old path (up_at signal.now) }
 {
     match signal.kept {
-        KeptUp::Accept { .. } => accept(storage, state, path, signal, sent),
         KeptUp::Absorbed { .. } | KeptUp::Bytes { .. } => {
             take_data(storage, state, path, signal, sent)
         }
-        KeptUp::End { .. } => end_command(storage, state, path, signal, sent),
-        KeptUp::Cleared { .. } => reset_taken(state, path, signal, sent),
-        KeptUp::Back { .. } => come_back(state, path, signal, returns, sent),
-        KeptUp::Notice { restarts } => notice(state, restarts, sent),
-        KeptUp::Attn { status, .. } => attend(state, path, signal, status, sent),
-        _ => by_hold(state, path, signal, false, sent),
+        _ => take_unmoved(storage, state, path, signal, returns, sent),
     }
 }

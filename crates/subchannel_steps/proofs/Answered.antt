@@ -7,15 +7,16 @@ use Rattle.chan_model.specs.declared.signal.Up.{Up}
 use Rattle.subchannel_model.specs.Sending.{carried}
 use Rattle.subchannel_steps.specs.Giving.{TellsFull}
 use Rattle.chan_model.specs.declared.hold_state.HoldPhase.{HoldPhase}
-use Rattle.subchannel.specs.Answering.{IsAnswerPath, path_of}
+use Rattle.signal_places.specs.Places.{sent_path}
+use Rattle.subchannel.specs.Answering.{IsAnswerPath}
 
-pub tells_some : (available : List Bool) (queues : List (List Down)) (sends : Option (OnPath Down)) (p : ℕ) (full : Bool) → path_of sends ≡ Some p →
+pub tells_some : (available : List Bool) (queues : List (List Down)) (sends : Option (OnPath Down)) (p : ℕ) (full : Bool) → sent_path sends ≡ Some p →
     ((s : OnPath Down) → s.path ≡ p → TellsFull queues (carried available (Some s)) full) → TellsFull queues (carried available sends) full
 tells_some available queues None p full e f = absurd (cc e)
 tells_some available queues (Some s) p full e f = f s (cc e)
 
 -- where no wire is full by which an answer may go, it finds none full
-pub tells_none : (available : List Bool) (queues : List (List Down)) (sends : Option (OnPath Down)) (phase : HoldPhase) (p : ℕ) → IsAnswerPath phase p (path_of sends) →
+pub tells_none : (available : List Bool) (queues : List (List Down)) (sends : Option (OnPath Down)) (phase : HoldPhase) (p : ℕ) → IsAnswerPath phase p (sent_path sends) →
     ((s : OnPath Down) → IsAnswerPath phase p (Some s.path) → TellsFull queues (carried available (Some s)) false) → TellsFull queues (carried available sends) false
 tells_none available queues None phase p goes f = (refl, tt)
 tells_none available queues (Some s) phase p goes f = f s goes

@@ -13,7 +13,7 @@ ghost use Rattle.chan_model.specs.declared.signal.Down.{Down};
 ghost use Rattle.chan_model.specs.declared.signal.OnPath.{OnPath};
 ghost use Rattle.std.specs.Bool.{OnFalse};
 ghost use Rattle.subchannel_model.specs.Choosing as choosing_spec;
-ghost use Rattle.subchannel_model.specs.Taking.{IsBelow, takes_up};
+ghost use Rattle.subchannel_model.specs.Taking.{takes_up};
 ghost use Rattle.subchannel_model.specs.declared.state.Chosen.TheVariants as chosen_spec;
 ghost use Rattle.machine_model.specs.Bounds.{IsRoomy, IsUnitRoomy};
 ghost use Rattle.chan_model.specs.UnitReports as reports_spec;
@@ -193,7 +193,7 @@ fn up_finds_full(
     signal: &UpPlace,
     returns: bool,
 ) -> bool
-    requires { IsBelow sub.now.state.begun }
+    requires { IsRoomy sub.now }
     ensures { giving_spec.TellsFull sub.now.wires.down (sending_spec.carried_by sub.now
         (takes_up returns storage.now sub.now.state path (up_at signal.now)).step.came.sent) result }
 {

@@ -2,7 +2,8 @@ use Rattle.std.proofs.Common.{◌≡◌, Bool, true, ap, ◌∙◌, inl, inr}
 use Rattle.kept_events.specs.Signals.{up_in}
 use Rattle.kept_events.specs.declared.signals.KeptUp.{KeptUp}
 use Rattle.signal_places.specs.Places.{up_at}
-use Rattle.subchannel.proofs.Working.{is_data, told_takes}
+use Rattle.subchannel.specs.Answering.{is_data}
+use Rattle.subchannel.proofs.Working.{told_takes}
 use Rattle.subchannel.proofs.taking.take_up.Goals as goal
 
 -- a Data that absorbed bytes, or brings them
