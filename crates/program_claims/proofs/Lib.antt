@@ -8,4 +8,6 @@ mod OverRuns
 mod Functions
 mod FunctionSteps
 mod Halts
+mod Statuses
+mod StatusRuns
 mod Runs

@@ -1,5 +1,5 @@
 mod CodeTable
-mod Named
+pub mod Named
 mod Executed
 pub mod Turned
 pub mod Runs
@@ -18,6 +18,8 @@ mod Made
 mod Pending
 mod Standing
 mod StandingRuns
+pub mod Showing
+pub mod Behind
 mod Asking
 mod Waiting
 mod Given

@@ -231,7 +231,7 @@ swept-stands (sweep.ComesUp chpid) sub h t = shows-stands (path_index chpid sub.
 swept-stands (sweep.PathReset chpid) sub h t = loses-stands (path_index chpid sub.setup.paths) sub h t
 swept-stands sweep.SystemReset sub h t = empty-stands _ refl refl refl
 
-turned-stands : (sets : ℕ) (id : SubchannelId) (e : Event) (r : Reply) (sub : Subchannel) (after : SubchannelState) → Held sub.state → Stands (seen sub.state) → Turned sets id e r sub after →
+pub turned-stands : (sets : ℕ) (id : SubchannelId) (e : Event) (r : Reply) (sub : Subchannel) (after : SubchannelState) → Held sub.state → Stands (seen sub.state) → Turned sets id e r sub after →
     Stands (seen after)
 turned-stands sets id _ _ _ _ h t (Executes cpu i sub effect named is) = left-stands (code_for i sub) sub.state effect t (effect-left i sub effect is t)
 turned-stands sets id _ _ _ _ h t (Chooses word sub choice named) = chosen-stands sub choice h t

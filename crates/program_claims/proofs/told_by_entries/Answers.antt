@@ -5,5 +5,10 @@ pub returns : goal.returns
 returns c =
     record {
       told = λ setup lawful h s run.
-          run-programs (record { walks = c.walks.ensures.each; runs = record { set_up = c.setups.ensures.set_up; above = c.reset_numbers.ensures.above } }) setup lawful (c.programs.ensures.told setup lawful) h s run;
+          run-programs
+          (record {
+            walks = c.walks.ensures.each;
+            runs = record { set_up = c.setups.ensures.set_up; above = c.reset_numbers.ensures.above };
+            laws = record { walks = c.walks.ensures.each; sets = c.steps.ensures.sets; setups = c.setups.ensures.stay };
+          }) setup lawful (c.programs.ensures.told setup lawful) h s run;
     }
