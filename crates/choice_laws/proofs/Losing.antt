@@ -1,6 +1,6 @@
 -- What the loss of a path, and a Notice, make of a program that is offered or holds the device.
 use Rattle.std.proofs.Common.{◌≡◌, refl, sym, ◌∙◌, ap, subst, arith, ℕ, ◌+◌, ◌<◌, ◌&&◌, ◌||◌, nat_lt, not, Bool, true, false, Option, None, Some, inl, inr}
-use Rattle.std.specs.Prelude.{if◌then◌else◌, slice_get}
+use Rattle.std.specs.Prelude.{if◌then◌else◌, is_some}
 use Rattle.std.proofs.lemmas.Bool.{and_parts}
 use Rattle.chan_model.specs.declared.hold_state.HoldPhase.{HoldPhase}
 use Rattle.chan_model.specs.declared.hold_state.HoldPhase.TheVariants as hold
@@ -14,6 +14,9 @@ use Rattle.subchannel_model.specs.Parts.{has_any}
 use Rattle.subchannel_model.specs.Status.{serials_made}
 use Rattle.subchannel_model.specs.Taking.{quietly, ignoring}
 use Rattle.subchannel_model.proofs.Named.{with_known}
+use Rattle.shown_laws.proofs.Effects.{seen}
+use Rattle.shown_laws.proofs.Fitting.{Fits}
+use Rattle.shown_laws.proofs.Showing.{TellsPrograms}
 use Rattle.seen_laws.specs.Links.{Link, Apart, SubSeen, used_by, is_apart, is_on}
 use Rattle.seen_laws.proofs.LinkHolds.{link_at, Stands, IsDoubtful, IsHeldAs}
 use Rattle.seen_laws.proofs.LinkLosses.{Agree, IsUnseen, agree}
@@ -30,6 +33,27 @@ has_program s = has_any s.waiting s.begun s.suspended
 both : (a b : Bool) → a ≡ true → b ≡ true → (a && b) ≡ true
 both true b e f = f
 both false b e f = absurd (cc e)
+
+-- where the activity shows a program, one is there
+abbrev IsShownBy : SubchannelState → Bool → Type 0
+IsShownBy s start = (start || (s.scsw.activity.device_active || s.scsw.activity.suspended)) ≡ true
+
+pub there-where-shown : (s : SubchannelState) → Fits (seen s) → TellsPrograms s → IsShownBy s s.scsw.activity.start_pending → has_program s ≡ true
+there-where-shown s fits tells e = by s.scsw.activity.start_pending refl e
+  where
+    first : (a b : Bool) → a ≡ true → (a || b) ≡ true
+    first true b f = refl
+    first false b f = absurd (cc f)
+
+    second : (a b : Bool) → b ≡ true → (a || b) ≡ true
+    second true b f = refl
+    second false b f = f
+
+    by : (start : Bool) → s.scsw.activity.start_pending ≡ start → IsShownBy s start → has_program s ≡ true
+    by true f e = first (is_some s.waiting) _ (fits.starts f)
+    by false f e =
+        second (is_some s.waiting) _
+        (sym (ap (λ (b : Bool). b || s.scsw.activity.suspended) tells.device ∙ ap (λ (b : Bool). is_some s.begun || b) tells.suspended) ∙ e)
 
 -- where the hold has the program, and where it is seen
 program-at : (phase : HoldPhase) (sent : Option ℕ) → is_program (link_at phase sent) ≡ is_offered_or_held phase

@@ -32,15 +32,14 @@ use Rattle.seen_laws.proofs.LinkSubs.{IsTied}
 use Rattle.shown_laws.specs.Codes.{enabled_in, MayBe}
 use Rattle.shown_laws.specs.Serials.{IsAtWork}
 use Rattle.shown_laws.specs.Shown.{StoredStatus, names, is_about}
-use Rattle.shown_laws.proofs.Effects.{seen}
 use Rattle.shown_laws.proofs.Enabling.{run-enabled}
 use Rattle.shown_laws.proofs.Fitting.{run-fits}
 use Rattle.shown_laws.proofs.LossRuns.{known-is, shown-status}
 use Rattle.shown_laws.proofs.Runs.{AreLaws, status_of, run-between}
 use Rattle.shown_laws.proofs.Turned.{Turned, Executes, Chooses, Meets, Sweeps, Rests, met, reply_met}
-use Rattle.shown_laws.proofs.Working.{run-works, there-where-shown}
+use Rattle.shown_laws.proofs.Showing.{whole, whole-tells}
 use Rattle.choice_laws.specs.Losses.{IsLoss, IsLossBy, IsLossRight, AreLossesRight, is_of_sub}
-use Rattle.choice_laws.proofs.Losing.{has_program, loses-made, loses-due, noticed, notice-made, notice-due}
+use Rattle.choice_laws.proofs.Losing.{has_program, there-where-shown, loses-made, loses-due, noticed, notice-made, notice-due}
 
 -- what is known of the subchannel: whether it is enabled, and that where its activity shows a program one is there
 record IsKnown (known : Option Bool) (s : SubchannelState) : Type 0 where
@@ -131,6 +130,6 @@ run-losses laws paths setup h s lawful run id =
     turned-right setup id before _ e r sub after
     (record {
       enabled = run-enabled laws setup id before old before-run place sub named there;
-      there = there-where-shown (seen sub.state) (run-fits laws setup id before old before-run place sub named there) (run-works laws setup id before old before-run place sub named there);
+      there = there-where-shown sub.state (run-fits laws setup id before old before-run place sub named there) (whole-tells sub.state (whole laws setup id before old before-run place sub named there));
     })
     (λ P f. of-first _ P id _ old.subs place sub named there f all.tied) turned) h s run

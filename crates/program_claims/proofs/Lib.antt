@@ -9,4 +9,6 @@ mod OverRuns
 mod Halts
 mod StartMasks
 mod OfferedPaths
+mod Statuses
+mod StatusRuns
 mod Runs

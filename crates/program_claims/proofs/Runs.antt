@@ -1,10 +1,11 @@
 -- Along a run what its entries tell of storage and of the programs.
 use Rattle.std.proofs.Common.{◌≡◌, refl, sym, ◌∙◌, ap, subst, ℕ, ◌+◌, ◌==◌, Bool, true, false, arith, Option, None, Some, List, [], ◌∷◌, ◌++◌, inl, inr}
 use Rattle.std.specs.Prelude.{if◌then◌else◌, map, option_map, slice_get, IfSome}
-use Rattle.std.proofs.lemmas.Bool.{eqb-true, eqb-false, eq-eqb}
+use Rattle.std.proofs.lemmas.Bool.{eqb-true, eqb-false}
 use Rattle.orb_block.specs.declared.Orb.{Orb}
 use Rattle.storage_keys.specs.Storage.{Contents}
 use Rattle.chan_model.specs.declared.answer.Answer.TheVariants as answer
+use Rattle.chan_model.specs.declared.hold_state.HoldPhase.TheVariants as hold
 use Rattle.chan_model.specs.declared.signal.Down.{Down}
 use Rattle.chan_model.specs.declared.signal.OnPath.{OnPath}
 use Rattle.chan_model.specs.declared.signal.Up.{Up}
@@ -40,12 +41,12 @@ use Rattle.seen_laws.specs.BeginsItsOwn.{is_code_zero, IsAcceptRight}
 use Rattle.seen_laws.proofs.HolderRuns as holders
 use Rattle.seen_laws.proofs.HolderRuns.{run-right}
 use Rattle.shown_laws.specs.Shown.{names}
-use Rattle.shown_laws.proofs.Named.{same-id, named-is}
 use Rattle.shown_laws.proofs.Runs.{AreLaws}
 use Rattle.program_laws.specs.Claims.{TraceCorrect}
 use Rattle.program_laws.specs.Tells.{GoesBy, IsTold, AllTold}
 use Rattle.program_laws.specs.Traces.{ProgramTrace, chosen_at, taken_at}
 use Rattle.program_claims.specs.ProgramTold.{Told, StartsBy, HasAbsorbed, Standing, over_after, halted_after, standing_after, TellsBy, place_named, is_named_at, is_about, AreTold, nothing_told, nothing_over, opening_storage, AreProgramsTold}
+use Rattle.program_claims.specs.StatusTold.{shown_by, IsStatusTold}
 use Rattle.program_claims.specs.StorageTold.{StoresBy, AreStored}
 use Rattle.program_claims.proofs.StorageSteps.{step-stores}
 use Rattle.program_claims.proofs.Starting.{Started, Unfound, Refused, Starts, step-started}
@@ -54,6 +55,7 @@ use Rattle.program_claims.proofs.OverRuns.{OwnedAt, about, step-owned}
 use Rattle.program_claims.proofs.Halts.{mine, halted_by, run-halted}
 use Rattle.program_claims.proofs.StartMasks.{Masked}
 use Rattle.program_claims.proofs.OfferedPaths.{IsNoStart, MaskedAt, SameSetups, stays-masked, set-masked, start-masked, offered-path}
+use Rattle.program_claims.proofs.StatusRuns.{path-is, named-same, AreStatusesTold, nothing-stored, entry-told, step-told}
 use Rattle.program_claims.proofs.Telling.{told, IsStarted, IsJust, AnswersOffer, up-by, walk-answers, walk-replies, IsChosen, walk-chosen, offers-waiting, offers-by, report-absorbed}
 use Rattle.program_claims.proofs.Waiting.{walk-waits}
 
@@ -74,21 +76,26 @@ through-more : (sets : ℕ) (subs : List SubchannelSetup) (place : ℕ) (st : St
 through-more sets subs place st [] x = refl
 through-more sets subs place st (y ∷ h) x = through-more sets subs place (standing_after (is_about sets subs place y.event) y.event y.reply st) h x
 
+abbrev StatusTold : Standing → Bool → Entry → Told → Type 0
+StatusTold st mine x k = IsStatusTold st.over st.behind st.stored.passed (shown_by mine x.event x.reply) k.program
+
 told-more : (sets : ℕ) (subs : List SubchannelSetup) (place : ℕ) (storage : Contents) (st : Standing) (k : Told) (h : List Entry) (later : List Contents) (mid after : Contents) (x : Entry) (now next : Told) →
     AreStored storage h later mid → AreTold sets subs place storage st k h later now →
     TellsBy (is_about sets subs place x.event) (standing_through sets subs place st h) mid after x.event x.reply now next →
-    IfSome next.program TraceCorrect → AreTold sets subs place storage st k (h ++ x ∷ []) (later ++ after ∷ []) next
-told-more sets subs place storage st k [] [] mid after x now next a t b c = (
+    IfSome next.program TraceCorrect → StatusTold (standing_through sets subs place st h) (is_about sets subs place x.event) x now →
+    AreTold sets subs place storage st k (h ++ x ∷ []) (later ++ after ∷ []) next
+told-more sets subs place storage st k [] [] mid after x now next a t b c d = (
   next,
   subst (λ (y : Contents). TellsBy (is_about sets subs place x.event) st y after x.event x.reply k next) a
       (subst (λ (y : Told). TellsBy (is_about sets subs place x.event) st mid after x.event x.reply y next) t b),
   c,
+  subst (λ (y : Told). StatusTold st (is_about sets subs place x.event) x y) t d,
   refl,
 )
-told-more sets subs place storage st k [] (y ∷ later) mid after x now next a t b c = absurd a
-told-more sets subs place storage st k (y ∷ h) [] mid after x now next a t b c = absurd a
-told-more sets subs place storage st k (y ∷ h) (z ∷ later) mid after x now next a t b c =
-    (t.0, t.1, t.2, told-more sets subs place z (standing_after (is_about sets subs place y.event) y.event y.reply st) t.0 h later mid after x now next a.1 t.3 b c)
+told-more sets subs place storage st k [] (y ∷ later) mid after x now next a t b c d = absurd a
+told-more sets subs place storage st k (y ∷ h) [] mid after x now next a t b c d = absurd a
+told-more sets subs place storage st k (y ∷ h) (z ∷ later) mid after x now next a t b c d =
+    (t.0, t.1, t.2, t.3, told-more sets subs place z (standing_after (is_about sets subs place y.event) y.event y.reply st) t.0 h later mid after x now next a.1 t.4 b c d)
 
 -- what storage held
 abbrev storages : (opening : State) (h : List Entry) (s : State) → Run opening h s → List Contents
@@ -105,13 +112,13 @@ first-same : (id : SubchannelId) (subs : List Subchannel) → place_in id subs �
 first-same id [] = refl
 first-same id (x ∷ xs) = ap (λ (o : Option ℕ). if is_named id x then Some 0 else option_map (λ place. place + 1) o) (first-same id xs)
 
-named-same : (subs : List Subchannel) (x : Option SubchannelId) → place_of_id subs x ≡ place_named (map (λ (sub : Subchannel). sub.setup) subs) x
-named-same subs None = refl
-named-same subs (Some id) = first-same id subs
+place-same : (subs : List Subchannel) (x : Option SubchannelId) → place_of_id subs x ≡ place_named (map (λ (sub : Subchannel). sub.setup) subs) x
+place-same subs None = refl
+place-same subs (Some id) = first-same id subs
 
 word-same : (setup : Setup) (s : State) → IsSetUp setup s → (place word : ℕ) → is_path (place_of s word) place ≡ is_named_at (set_count setup) setup.subchannels place word
 word-same setup s set_up place word =
-    ap (λ (o : Option ℕ). is_path o place) (named-same s.subs (subchannel_named s.sets word))
+    ap (λ (o : Option ℕ). is_path o place) (place-same s.subs (subchannel_named s.sets word))
     ∙ ap (λ (xs : List SubchannelSetup). is_path (place_named xs (subchannel_named s.sets word)) place) set_up.subs
     ∙ ap (λ (n : ℕ). is_path (place_named setup.subchannels (subchannel_named n word)) place) set_up.sets
 
@@ -252,9 +259,7 @@ instruction-by st former storage cpu (instruction.Csch word) r true k after n e 
 instruction-by st former storage cpu (instruction.Xsch word) r true k after n e = e
 
 -- Choose, and the signals
-path-is : (o : Option ℕ) (p : ℕ) → is_path o p ≡ true → o ≡ Some p
-path-is None p e = absurd (cc e)
-path-is (Some q) p e = ap (λ (x : ℕ). Some x) (eqb-true q p e)
+
 
 choose-by : (st : Standing) (s new : State) (word place : ℕ) (r : Reply) (b : Bool) (old : Subchannel) (a : Option Orb) (k after : Option ProgramTrace) → is_path (place_of s word) place ≡ b →
     slice_get s.subs place ≡ Some old → after ≡ (if b then chosen_at (slice_get s.subs place) r k else k) → IsStarted a old.state.waiting → MaskedAt a s.subs place →
@@ -355,6 +360,13 @@ module _ (st : Standing) (s : State) (place : ℕ) (old sub : Subchannel) (new :
   step-tells (event.PathReset chpid) r a k after step walk goes started = stays (event.PathReset chpid) r a k after step walk (λ c w x e. cc e) started (ap (told a) goes.0)
   step-tells event.SystemReset r a k after step walk goes started = stays event.SystemReset r a k after step walk (λ c w x e. cc e) started (ap (told a) goes.0)
 
+-- an Accept that is taken answers an offer
+accept-offer : (s : State) (place : ℕ) (old : Subchannel) (new : State) → slice_get s.subs place ≡ Some old → (e : Event) (r : Reply) → Walked s e r new →
+    (word path t : ℕ) (sent : Option (OnPath Down)) → e ≡ event.Up word path → is_path (place_of s word) place ≡ true → r ≡ reply.Up (up.Accept t) true sent →
+    (u : ℕ) × (q : ℕ) × (old.state.hold.phase ≡ hold.Offer u q)
+accept-offer s place old new there e r walk word path t sent i m q =
+    let offer : AnswersOffer old.state r = walk-answers s e r new walk word path place old i (path-is (place_of s word) place m) there in offer t sent q
+
 -- the subchannel of a place is always there
 there-is : (setup : Setup) (s : State) (place : ℕ) (x : SubchannelSetup) → IsSetUp setup s → slice_get setup.subchannels place ≡ Some x → (sub : Subchannel) × (slice_get s.subs place ≡ Some sub)
 there-is setup s place x u e =
@@ -374,23 +386,9 @@ opened-owned setup place = λ sub e.
 
 -- the standing of a subchannel by its name
 module _ (setup : Setup) (s : State) (u : IsSetUp setup s) (id : SubchannelId) (place : ℕ) (sub : Subchannel) (named : place_in id s.subs ≡ Some place) (there : slice_get s.subs place ≡ Some sub) where
-  at-name : (x : Option SubchannelId) → is_path (place_of_id s.subs x) place ≡ is_id x id
-  at-name x = by (is_path (place_of_id s.subs x) place) refl (is_id x id) refl
-    where
-      by : (b : Bool) → is_path (place_of_id s.subs x) place ≡ b → (c : Bool) → is_id x id ≡ c → b ≡ c
-      by true e true f = refl
-      by false e false f = refl
-      by true e false f = absurd (cc (sym f ∙ named-is s.subs id x place sub (path-is (place_of_id s.subs x) place e) named there))
-      by false e true f = absurd (cc (sym e ∙ ap (λ (o : Option ℕ). is_path o place) (found x f) ∙ eq-eqb place place refl))
-        where
-          found : (x : Option SubchannelId) → is_id x id ≡ true → place_of_id s.subs x ≡ Some place
-          found None g = absurd (cc g)
-          found (Some other) g = ap (λ (y : SubchannelId). place_in y s.subs) (same-id other id g) ∙ named
-
   word-mine : (word : ℕ) → is_named_at (set_count setup) setup.subchannels place word ≡ names (set_count setup) id word
   word-mine word =
-      sym (word-same setup s u place word) ∙ at-name (subchannel_named s.sets word)
-      ∙ ap (λ (n : ℕ). is_id (subchannel_named n word) id) u.sets
+      sym (word-same setup s u place word) ∙ sym (named-same s place id sub named there word) ∙ ap (λ (n : ℕ). names n id word) u.sets
 
   about-mine : (e : Event) → is_about (set_count setup) setup.subchannels place e ≡ mine (set_count setup) id e
   about-mine (event.Put address bytes) = refl
@@ -421,6 +419,7 @@ pub record IsRunTold (setup : Setup) (place : ℕ) (h : List Entry) (s : State) 
   pub orb : Option Orb
   pub started : StartedAt orb s place
   pub owned : OwnedAt (standing_through (set_count setup) setup.subchannels place nothing_over h).over s.subs place
+  pub statuses : AreStatusesTold place (standing_through (set_count setup) setup.subchannels place nothing_over h) s k
   pub all : AreTold (set_count setup) setup.subchannels place (opening_storage setup) nothing_over nothing_told h (storages (opening_of setup) h s run) (told orb k)
 
 -- what is known of each step and each run
@@ -445,7 +444,13 @@ module _ (known : AreKnown) (setup : Setup) (lawful : IsLawful setup) where
   run-told : (place : ℕ) (x : SubchannelSetup) → slice_get setup.subchannels place ≡ Some x → (h : List Entry) (s : State) (run : Run (opening_of setup) h s) (k : Option ProgramTrace) →
       IsTold place (opening_of setup) h s run k → IsRunTold setup place h s run k
   run-told place x there _ _ Opened k t =
-      record { orb = None; started = opened-started setup place; owned = opened-owned setup place; all = ap (told None) t }
+      record {
+        orb = None;
+        started = opened-started setup place;
+        owned = opened-owned setup place;
+        statuses = nothing-stored setup place k;
+        all = ap (told None) t;
+      }
   run-told place z there _ _ (Stepped h old e r new run step) k t =
       let before : IsRunTold setup place h old run t.0 = run-told place z there h old run t.0 t.1 in
       let left : IsSetUp setup new = set-up _ new (Stepped h old e r new run step) in
@@ -459,14 +464,20 @@ module _ (known : AreKnown) (setup : Setup) (lawful : IsLawful setup) where
       let walk : Walked old e r new = known.laws.walks old e r new step in
       let same : about old place e ≡ is_about sets subs place e = about-same setup old (set-up h old run) place e in
       let now = step-tells st old place was.0 is.0 new (before.owned was.0 was.1) (halts-told place h old run was.0 was.1) was.1 is.1 setups e r before.orb t.0 k step walk t.2 before.started in
+      let offer = accept-offer old place was.0 new was.1 e r walk in
       record {
         orb = now.0;
         started = now.1;
         owned = subst (λ (b : Standing). OwnedAt b.over new.subs place) (sym (through-more sets subs place nothing_over h x))
             (subst (λ (b : Bool). OwnedAt (over_after b e r st.over) new.subs place) same (step-owned st.over old e r new place step walk before.owned));
+        statuses = subst (λ (b : Standing). AreStatusesTold place b new k) (sym (through-more sets subs place nothing_over h x))
+            (subst (λ (b : Bool). AreStatusesTold place (standing_after b e r st) new k) same
+            (step-told known.laws setup h old run e r new step place was.0 was.1 st t.0 k before.statuses (before.owned was.0 was.1) offer t.2));
         all = told-more sets subs place (opening_storage setup) nothing_over nothing_told h (storages (opening_of setup) h old run) old.storage new.storage x (told before.orb t.0) (told now.0 k)
             (run-stored (opening_of setup) h old run) before.all
-            (subst (λ (b : Bool). TellsBy b st old.storage new.storage e r (told before.orb t.0) (told now.0 k)) same now.2) t.3;
+            (subst (λ (b : Bool). TellsBy b st old.storage new.storage e r (told before.orb t.0) (told now.0 k)) same now.2) t.3
+            (subst (λ (b : Bool). StatusTold st b x (told before.orb t.0)) same
+            (entry-told known.laws setup h old run e r new step place was.0 was.1 st t.0 k before.statuses));
       }
 
   pub run-programs : ((h : List Entry) (s : State) (run : Run (opening_of setup) h s) → AllTold (opening_of setup) h s run) → (h : List Entry) (s : State) → Run (opening_of setup) h s →

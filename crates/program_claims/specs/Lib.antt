@@ -1,2 +1,3 @@
 pub mod StorageTold
+pub mod StatusTold
 pub mod ProgramTold

@@ -33,7 +33,9 @@ use Rattle.seen_laws.specs.BeginsItsOwn.{is_code_zero, over_by, over_chosen, IsA
 use Rattle.program_laws.specs.Claims.{TraceCorrect}
 use Rattle.program_laws.specs.Tells.{command_sent, Begins, IsAnswerTo, Moves, ended, IsChained, Chains}
 use Rattle.program_laws.specs.Traces.{ProgramTrace, trace_offered, trace_resumed, taken_at}
+use Rattle.shown_laws.specs.Behind.{behind_after}
 use Rattle.program_claims.specs.StorageTold.{AreStored}
+use Rattle.program_claims.specs.StatusTold.{LastStored, stored_after, shown_by, IsStatusTold}
 
 -- the operation-request block of the start that was accepted last, and what was done for the program that was offered last
 pub record Told : Type 0 where
@@ -94,13 +96,20 @@ halted_after mine (event.Execute cpu i) r halted = if mine then halt_by i r halt
 halted_after mine event.SystemReset r halted = false
 halted_after mine e r halted = halted
 
--- how what was offered stands
+-- how what was offered stands, whether a start waits behind the program at work, and what was shown of the status
 pub record Standing : Type 0 where
   pub over : Bool
   pub halted : Bool
+  pub behind : Bool
+  pub stored : LastStored
 
 abbrev pub standing_after : Bool → Event → Reply → Standing → Standing
-standing_after mine e r st = record { over = over_after mine e r st.over; halted = halted_after mine e r st.halted }
+standing_after mine e r st = record {
+  over = over_after mine e r st.over;
+  halted = halted_after mine e r st.halted;
+  behind = behind_after mine e r st.behind;
+  stored = stored_after mine e r st.stored;
+}
 
 -- Accept: where the start is over the device is let go; otherwise its program goes on, by the first command under this number, or by none,
 -- and then the device is let go
@@ -161,12 +170,13 @@ is_about sets subs place (event.Up word path) = is_named_at sets subs place word
 is_about sets subs place (event.Down word path) = is_named_at sets subs place word
 is_about sets subs place e = false
 
--- entry by entry, and after each all is right
+-- entry by entry, and after each all is right; the status that an entry made is shown by the next
 abbrev pub AreTold : ℕ → List SubchannelSetup → ℕ → Contents → Standing → Told → List Entry → List Contents → Told → Type 0
 AreTold sets subs place storage st k [] [] last = last ≡ k
 AreTold sets subs place storage st k (entry ∷ entries) (after ∷ later) last =
     let mine : Bool = is_about sets subs place entry.event in
     (told : Told) × TellsBy mine st storage after entry.event entry.reply k told × IfSome told.program TraceCorrect
+    × IsStatusTold st.over st.behind st.stored.passed (shown_by mine entry.event entry.reply) k.program
     × AreTold sets subs place after (standing_after mine entry.event entry.reply st) told entries later last
 AreTold sets subs place storage st k entries later last = ⊥
 
@@ -174,7 +184,7 @@ abbrev pub nothing_told : Told
 nothing_told = record { started = None; program = None }
 
 abbrev pub nothing_over : Standing
-nothing_over = record { over = false; halted = false }
+nothing_over = record { over = false; halted = false; behind = false; stored = record { shown = None; passed = None } }
 
 -- The claim: what storage held after each entry can be told, and with it what was done for the programs of each subchannel
 abbrev pub opening_storage : Setup → Contents

@@ -26,7 +26,11 @@ use step_laws::walks;
 /// of the last command. Of a Data that is next the bytes move for which there is room at the next places: those of a read are
 /// stored unless storage refuses them, and those that are given are copied; data is chained exactly where they use up the counts
 /// so far; a check is kept where a block shows it, or where the next bytes can't be reached, fetched or stored, and then nothing
-/// more is moved, fetched or sent (SA22-7832, chapters 14 and 15).
+/// more is moved, fetched or sent. Where STORE SUBCHANNEL stands just before an entry that makes a status, and just after it, the
+/// command address and the count that it shows then are those of that program: eight more than the address of the block whose fetch
+/// was tried last, and the sum of the counts of the command's blocks less the bytes that were moved. They are those that it showed
+/// before, of attention, where no program is at work or suspended, and where a start waits behind the program that ends; of a clear
+/// they are zero (SA22-7832, chapters 14 to 16).
 pub fn told_by_entries()
     ensures told { (setup : Setup) → IsLawful setup → (h : List Entry) (s : State) → Run (opening_of setup) h s → AreProgramsTold setup h }
 {

@@ -1,30 +1,43 @@
 -- The command address and the count that the status word shows (SA22-7832, chapter 16).
 use Rattle.std.specs.Prelude.{◌≡◌, ◌&&◌, ◌||◌, ◌+◌, ◌<◌, Bool, true, false, is_none, is_some, Option, None, Some, length}
+use Rattle.scsw_irb.specs.declared.scsw.Scsw.{Scsw}
 use Rattle.channel_program.specs.Programs.{tried}
 use Rattle.subchannel_model.specs.declared.state.SubchannelState.{SubchannelState}
 use Rattle.program_laws.specs.DataAreas.{data_areas, counts}
 use Rattle.program_laws.specs.Traces.{ProgramTrace}
 
--- where status was made, its address and its count are those of the program: eight more than the address of the block whose fetch was
--- tried last, and before any that of the first; and the sum of the counts of the command's blocks, less the bytes that were moved
+-- its address and its count are those of the program: eight more than the address of the block whose fetch was tried last, and before any
+-- that of the first; and the sum of the counts of the command's blocks, less the bytes that were moved
+abbrev pub ShowsProgram : Scsw → ProgramTrace → Type 0
+ShowsProgram shown k =
+    (shown.command_address ≡ tried k.orb k.now.acts)
+    × (counts (data_areas k.orb k.now.acts) ≡ length k.now.moved + shown.count)
+
+-- they are those that stood before
+abbrev pub ShowsStanding : Scsw → Scsw → Type 0
+ShowsStanding before shown = (shown.command_address ≡ before.command_address) × (shown.count ≡ before.count)
+
+-- the first of these, or the second
+abbrev pub ShowsIf : Bool → Scsw → Scsw → ProgramTrace → Type 0
+ShowsIf true before shown k = ShowsProgram shown k
+ShowsIf false before shown k = ShowsStanding before shown
+
+-- they are zero
+abbrev pub ShowsZero : Scsw → Type 0
+ShowsZero shown = (shown.command_address ≡ 0) × (shown.count ≡ 0)
+
+-- where status was made
 abbrev pub IsProgramShown : SubchannelState → SubchannelState → ProgramTrace → Type 0
-IsProgramShown s next k =
-    s.serials.made < next.serials.made →
-    (next.scsw.command_address ≡ tried k.orb k.now.acts)
-    × (counts (data_areas k.orb k.now.acts) ≡ length k.now.moved + next.scsw.count)
+IsProgramShown s next k = s.serials.made < next.serials.made → ShowsProgram next.scsw k
 
--- where status was made, they are those that stood
 abbrev pub IsStandingShown : SubchannelState → SubchannelState → Type 0
-IsStandingShown s next =
-    s.serials.made < next.serials.made → (next.scsw.command_address ≡ s.scsw.command_address) × (next.scsw.count ≡ s.scsw.count)
+IsStandingShown s next = s.serials.made < next.serials.made → ShowsStanding s.scsw next.scsw
 
--- where status was made, they are zero
 abbrev pub IsZeroShown : SubchannelState → SubchannelState → Type 0
-IsZeroShown s next = s.serials.made < next.serials.made → (next.scsw.command_address ≡ 0) × (next.scsw.count ≡ 0)
+IsZeroShown s next = s.serials.made < next.serials.made → ShowsZero next.scsw
 
 abbrev pub IsShownBy : Bool → SubchannelState → SubchannelState → ProgramTrace → Type 0
-IsShownBy true s next k = IsProgramShown s next k
-IsShownBy false s next k = IsStandingShown s next
+IsShownBy program s next k = s.serials.made < next.serials.made → ShowsIf program s.scsw next.scsw k
 
 -- A status that is made without an answer of the program's device (a halt that is performed, an interface-control check, a start
 -- or a resume that finds no path) is of the program that is at work or suspended. While a start waits it is of that start, and

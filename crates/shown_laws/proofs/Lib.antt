@@ -18,7 +18,8 @@ mod Made
 mod Pending
 mod Standing
 mod StandingRuns
-pub mod Working
+pub mod Showing
+pub mod Behind
 mod Asking
 mod Waiting
 mod Given

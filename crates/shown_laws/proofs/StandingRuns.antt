@@ -38,7 +38,6 @@ use Rattle.subchannel_model.specs.Start.{started}
 use Rattle.orb_block.specs.declared.Orb.{Orb}
 use Rattle.subchannel_model.specs.Modify.{modified_state}
 use Rattle.subchannel_model.specs.Enable.{enabling}
-use Rattle.subchannel_model.specs.Opening.{opening_subchannel}
 use Rattle.subchannel_model.specs.Store.{pmcw_of}
 use Rattle.subchannel_model.specs.Resume.{resumed}
 use Rattle.subchannel_model.specs.Cancel.{cancelled, waits}
@@ -232,7 +231,7 @@ swept-stands (sweep.ComesUp chpid) sub h t = shows-stands (path_index chpid sub.
 swept-stands (sweep.PathReset chpid) sub h t = loses-stands (path_index chpid sub.setup.paths) sub h t
 swept-stands sweep.SystemReset sub h t = empty-stands _ refl refl refl
 
-turned-stands : (sets : ℕ) (id : SubchannelId) (e : Event) (r : Reply) (sub : Subchannel) (after : SubchannelState) → Held sub.state → Stands (seen sub.state) → Turned sets id e r sub after →
+pub turned-stands : (sets : ℕ) (id : SubchannelId) (e : Event) (r : Reply) (sub : Subchannel) (after : SubchannelState) → Held sub.state → Stands (seen sub.state) → Turned sets id e r sub after →
     Stands (seen after)
 turned-stands sets id _ _ _ _ h t (Executes cpu i sub effect named is) = left-stands (code_for i sub) sub.state effect t (effect-left i sub effect is t)
 turned-stands sets id _ _ _ _ h t (Chooses word sub choice named away) = chosen-stands sub choice h t
@@ -240,24 +239,19 @@ turned-stands sets id _ _ _ _ h t (Meets word path returns storage sub x named) 
 turned-stands sets id _ _ _ _ h t (Sweeps what r sub) = swept-stands what sub h t
 turned-stands sets id _ _ _ _ h t (Rests e r sub about) = t
 
-pub record IsWhole (s : SubchannelState) : Type 0 where
-  pub held : Held s
-  pub stands : Stands (seen s)
-
-pub whole-opens : IsWhole opening_subchannel
-whole-opens = record { held = λ e. absurd (cc e); stands = empty-stands _ refl refl refl }
-
-pub turned-whole : (sets : ℕ) (id : SubchannelId) (e : Event) (r : Reply) (sub : Subchannel) (after : SubchannelState) → IsWhole sub.state → Turned sets id e r sub after → IsWhole after
-turned-whole sets id e r sub after k turned = record {
-  held = turned-held sets id e r sub after k.held turned;
-  stands = turned-stands sets id e r sub after k.held k.stands turned;
-}
+record IsWhole (s : SubchannelState) : Type 0 where
+  held : Held s
+  stands : Stands (seen s)
 
 pub run-stands : AreLaws → (setup : Setup) (id : SubchannelId) (h : List Entry) (s : State) → Run (opening_of setup) h s → (place : ℕ) (sub : Subchannel) →
     place_in id s.subs ≡ Some place → slice_get s.subs place ≡ Some sub → Stands (seen sub.state)
 run-stands laws setup id h s run place sub named there =
     let w : IsWhole sub.state =
-    run-keeps laws setup id (λ h s. IsWhole s) whole-opens (λ h e r sub after k turned. turned-whole (set_count setup) id e r sub after k turned) h s run place sub named there in
+    run-keeps laws setup id (λ h s. IsWhole s) (record { held = λ e. absurd (cc e); stands = empty-stands _ refl refl refl })
+    (λ h e r sub after k turned. record {
+      held = turned-held (set_count setup) id e r sub after k.held turned;
+      stands = turned-stands (set_count setup) id e r sub after k.held k.stands turned;
+    }) h s run place sub named there in
     w.stands
 
 -- where a program is there, the activity shows it

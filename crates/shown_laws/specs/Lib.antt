@@ -8,3 +8,4 @@ pub mod Interruptions
 pub mod Paths
 pub mod Deferred
 pub mod Losses
+pub mod Behind
