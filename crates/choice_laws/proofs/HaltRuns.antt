@@ -1,12 +1,11 @@
 -- After each run what is chosen where a halt is shown pending is what is due by where the program is.
 use Rattle.std.proofs.Common.{◌≡◌, refl, sym, ◌∙◌, subst, ℕ, Bool, true, false, Option, None, Some, List, [], ◌∷◌, inl, inr}
-use Rattle.std.specs.Prelude.{◌⊎◌, slice_get, unwrap_or}
+use Rattle.std.specs.Prelude.{unwrap_or}
 use Rattle.allegiance.specs.PathUse.{is_any, reachable_paths}
 use Rattle.chan_events.specs.declared.event.Event.{Event}
 use Rattle.chan_events.specs.declared.event.Event.TheVariants as event
 use Rattle.chan_events.specs.declared.reply.Entry.{Entry}
 use Rattle.chan_events.specs.declared.reply.Reply.{Reply}
-use Rattle.chan_events.specs.declared.reply.Reply.TheVariants as reply
 use Rattle.chan_model.specs.declared.hold_state.HoldPhase.{HoldPhase}
 use Rattle.chan_model.specs.declared.hold_state.HoldPhase.TheVariants as hold
 use Rattle.channel_config.specs.declared.names.SubchannelId.{SubchannelId}
@@ -17,7 +16,7 @@ use Rattle.machine_model.specs.State.{State, opening_of}
 use Rattle.machine_model.specs.Steps.{Run}
 use Rattle.subchannel_model.specs.declared.state.Candidate.{Candidate}
 use Rattle.subchannel_model.specs.declared.state.Chosen.{Chosen}
-use Rattle.subchannel_model.specs.declared.state.Chosen.TheVariants.{Idle, Resets, PerformsClear, Halts, PerformsHalt, FindsNoPath, Offers}
+use Rattle.subchannel_model.specs.declared.state.Chosen.TheVariants.{Idle}
 use Rattle.subchannel_model.specs.declared.state.Subchannel.{Subchannel}
 use Rattle.subchannel_model.specs.declared.state.SubchannelState.{SubchannelState}
 use Rattle.path_select.specs.Choice.{IsChoice}

@@ -1,5 +1,5 @@
 -- What the loss of a path, and a Notice, make of a program that is offered or holds the device.
-use Rattle.std.proofs.Common.{◌≡◌, refl, sym, ◌∙◌, ap, subst, arith, ℕ, ◌+◌, ◌<◌, ◌&&◌, ◌||◌, nat_lt, not, Bool, true, false, Option, None, Some, inl, inr}
+use Rattle.std.proofs.Common.{◌≡◌, refl, sym, ◌∙◌, ap, subst, arith, ℕ, ◌+◌, ◌<◌, ◌&&◌, ◌||◌, not, Bool, true, false, Option, None, Some, inl, inr}
 use Rattle.std.specs.Prelude.{if◌then◌else◌, is_some}
 use Rattle.std.proofs.lemmas.Bool.{and_parts}
 use Rattle.chan_model.specs.declared.hold_state.HoldPhase.{HoldPhase}
@@ -17,7 +17,7 @@ use Rattle.subchannel_model.proofs.Named.{with_known}
 use Rattle.shown_laws.proofs.Effects.{seen}
 use Rattle.shown_laws.proofs.Fitting.{Fits}
 use Rattle.shown_laws.proofs.Showing.{TellsPrograms}
-use Rattle.seen_laws.specs.Links.{Link, Apart, SubSeen, used_by, is_apart, is_on}
+use Rattle.seen_laws.specs.Links.{Link, SubSeen, used_by, is_apart, is_on}
 use Rattle.seen_laws.proofs.LinkHolds.{link_at, Stands, IsDoubtful, IsHeldAs}
 use Rattle.seen_laws.proofs.LinkLosses.{Agree, IsUnseen, agree}
 use Rattle.seen_laws.proofs.LinkPaths.{index-is, on-none}

@@ -1,6 +1,6 @@
 -- After each run a path that is lost, and a Notice, make a status where a program is lost that is shown, and nowhere else.
-use Rattle.std.proofs.Common.{◌≡◌, refl, sym, ◌∙◌, ap, subst, ℕ, ◌<◌, ◌&&◌, nat_lt, not, Bool, true, false, Option, None, Some, List}
-use Rattle.std.specs.Prelude.{if◌then◌else◌, slice_get}
+use Rattle.std.proofs.Common.{◌≡◌, refl, sym, ◌∙◌, subst, ℕ, ◌&&◌, nat_lt, not, Bool, true, false, Option, List}
+use Rattle.std.specs.Prelude.{if◌then◌else◌}
 use Rattle.storage_keys.specs.Storage.{Contents}
 use Rattle.chan_events.specs.declared.event.Event.{Event}
 use Rattle.chan_events.specs.declared.event.Event.TheVariants as event
@@ -12,17 +12,13 @@ use Rattle.chan_model.specs.declared.signal.Up.TheVariants as up
 use Rattle.channel_config.specs.declared.names.SubchannelId.{SubchannelId}
 use Rattle.channel_config.specs.Lawful.{IsLawful}
 use Rattle.channel_config.specs.Setup.{Setup, set_count}
-use Rattle.machine_model.specs.declared.state.Sweep.{Sweep}
 use Rattle.machine_model.specs.declared.state.Sweep.TheVariants as sweep
-use Rattle.machine_model.specs.PathSteps.{swept}
 use Rattle.machine_model.specs.State.{State, opening_of}
 use Rattle.machine_model.specs.Steps.{Run}
-use Rattle.step_laws.specs.Walks.{sweep_event}
 use Rattle.subchannel_model.specs.declared.state.Subchannel.{Subchannel}
 use Rattle.subchannel_model.specs.declared.state.SubchannelState.{SubchannelState}
 use Rattle.subchannel_model.specs.declared.state.UpStep.{UpStep}
 use Rattle.subchannel_model.specs.Losing.{reset_for, loses, path_index}
-use Rattle.subchannel_model.specs.Places.{place_in}
 use Rattle.subchannel_model.specs.Taking.{quietly, ignoring}
 use Rattle.subchannel_model.proofs.Named.{with_known}
 use Rattle.seen_laws.specs.Links.{SubSeen, OfSub, first_seen, nothing_seen, seen_through}
@@ -31,14 +27,14 @@ use Rattle.seen_laws.proofs.LinkRuns.{AreOnePath, IsRunSeen, run-seen}
 use Rattle.seen_laws.proofs.LinkSubs.{IsTied}
 use Rattle.shown_laws.specs.Codes.{enabled_in, MayBe}
 use Rattle.shown_laws.specs.Serials.{IsAtWork}
-use Rattle.shown_laws.specs.Shown.{StoredStatus, names, is_about}
+use Rattle.shown_laws.specs.Shown.{StoredStatus}
 use Rattle.shown_laws.proofs.Enabling.{run-enabled}
 use Rattle.shown_laws.proofs.Fitting.{run-fits}
 use Rattle.shown_laws.proofs.LossRuns.{known-is, shown-status}
 use Rattle.shown_laws.proofs.Runs.{AreLaws, status_of, run-between}
 use Rattle.shown_laws.proofs.Turned.{Turned, Executes, Chooses, Meets, Sweeps, Rests, met, reply_met}
 use Rattle.shown_laws.proofs.Showing.{whole, whole-tells}
-use Rattle.choice_laws.specs.Losses.{IsLoss, IsLossBy, IsLossRight, AreLossesRight, is_of_sub}
+use Rattle.choice_laws.specs.Losses.{IsLoss, IsLossBy, IsLossRight, AreLossesRight}
 use Rattle.choice_laws.proofs.Losing.{has_program, there-where-shown, loses-made, loses-due, noticed, notice-made, notice-due}
 
 -- what is known of the subchannel: whether it is enabled, and that where its activity shows a program one is there

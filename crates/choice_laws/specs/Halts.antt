@@ -1,6 +1,6 @@
 -- What the subsystem chooses where STORE SUBCHANNEL shows a halt pending just before, by where the subchannel's program is, as the entries before
 -- tell (SA22-7832, chapter 14, HALT SUBCHANNEL; when it is done is this project's own choice).
-use Rattle.std.specs.Prelude.{◌≡◌, ◌⊎◌, ℕ, Bool, true, Option, Some, List}
+use Rattle.std.specs.Prelude.{◌≡◌, ◌⊎◌, ℕ, Bool, true, Some, List}
 use Rattle.chan_events.specs.declared.event.Event.{Event}
 use Rattle.chan_events.specs.declared.event.Event.TheVariants as event
 use Rattle.chan_events.specs.declared.reply.Entry.{Entry}

@@ -260,7 +260,6 @@ instruction-by st former storage cpu (instruction.Xsch word) r true k after n e 
 
 -- Choose, and the signals
 
-
 choose-by : (st : Standing) (s new : State) (word place : ℕ) (r : Reply) (b : Bool) (old : Subchannel) (a : Option Orb) (k after : Option ProgramTrace) → is_path (place_of s word) place ≡ b →
     slice_get s.subs place ≡ Some old → after ≡ (if b then chosen_at (slice_get s.subs place) r k else k) → IsStarted a old.state.waiting → MaskedAt a s.subs place →
     Walked s (event.Choose word) r new → TellsBy b st s.storage new.storage (event.Choose word) r (told a k) (told a after)

@@ -94,7 +94,7 @@ meets-by : (st : Standing) (former storage : Contents) (s next : SubchannelState
 meets-by st former storage s next (up.Accept t) sent k after a j h m = (m.0, m.1, accepts st.over storage s next t sent k after (j t refl) a m.2)
 meets-by st former storage s next (up.Data t c n q load) sent k after a j h m =
     (m.0, m.1, m.2, m.3)
-meets-by st former storage s next (up.End t n status more) sent k after a j h m = 
+meets-by st former storage s next (up.End t n status more) sent k after a j h m =
     (m.0, m.1, m.2, subst (λ (b : Bool). Ends b storage status more sent k after) h (ends storage s next status more sent k after m.3))
 meets-by st former storage s next (up.Busy t) sent k after a j h m = (m.0, m.1)
 meets-by st former storage s next (up.Leave t c) sent k after a j h m = (m.0, m.1)

@@ -97,7 +97,7 @@ choice-coded sub choice FindsNoPath why f =
 choice-coded sub choice (Offers c path) why f = inl (refl, refl)
 
 -- instructions
-pair-left : (c : ConditionCode) (s effect : SubchannelState) → effect.serials.made ≡ s.serials.made → (left_by c s effect).serials.made ≡ s.serials.made
+pub pair-left : (c : ConditionCode) (s effect : SubchannelState) → effect.serials.made ≡ s.serials.made → (left_by c s effect).serials.made ≡ s.serials.made
 pair-left code.Zero s effect e = e
 pair-left code.One s effect e = refl
 pair-left code.Two s effect e = refl
@@ -114,7 +114,7 @@ either-code d false x y e f = f
 abbrev made_of : SubchannelState → ℕ
 made_of s = s.serials.made
 
-effect-made : (i : Instruction) (sub : Subchannel) (effect : SubchannelState) → IsEffect i sub effect → effect.serials.made ≡ sub.state.serials.made
+pub effect-made : (i : Instruction) (sub : Subchannel) (effect : SubchannelState) → IsEffect i sub effect → effect.serials.made ≡ sub.state.serials.made
 effect-made (instruction.Ssch word address) sub effect is = ap made_of is.1
 effect-made (instruction.Tsch word address) sub effect is =
     ap made_of is ∙ either-made sub.state.serials.made (ends_suspended sub.state.scsw) (without_programs (tested sub.state)) (tested sub.state) refl refl
@@ -240,7 +240,7 @@ module _ (sets : ℕ) (id : SubchannelId) where
   swept-right (sweep.PathReset chpid) r sub = coded-right (event.PathReset chpid) r sub.state (swept (sweep.PathReset chpid) sub).state refl (loses-stays (path_index chpid sub.setup.paths) sub)
   swept-right sweep.SystemReset r sub = none-right event.SystemReset r sub.state (swept sweep.SystemReset sub).state refl refl
 
-  no-clear : (sub : Subchannel) (c : Chosen) → Fits (seen sub.state) → Stands (seen sub.state) → IsWhy sub.state c → c ≡ FindsNoPath → sub.state.scsw.activity.clear_pending ≡ false
+  pub no-clear : (sub : Subchannel) (c : Chosen) → Fits (seen sub.state) → Stands (seen sub.state) → IsWhy sub.state c → c ≡ FindsNoPath → sub.state.scsw.activity.clear_pending ≡ false
   no-clear sub c fits stands why e = by sub.state.scsw.activity.clear_pending refl
     where
       by : (b : Bool) → sub.state.scsw.activity.clear_pending ≡ b → sub.state.scsw.activity.clear_pending ≡ false

@@ -35,3 +35,5 @@ mod LastUsed
 mod Coding
 mod Deferring
 pub mod LossRuns
+mod Bytes
+mod ByteRuns

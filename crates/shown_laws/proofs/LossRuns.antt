@@ -1,5 +1,5 @@
 -- A path that is lost, and a Notice, that make no status of a subchannel that is enabled leave its status word.
-use Rattle.std.proofs.Common.{◌≡◌, refl, sym, ◌∙◌, ap, subst, arith, ℕ, ◌+◌, ◌&&◌, nat_lt, Bool, true, false, Option, None, Some, List}
+use Rattle.std.proofs.Common.{◌≡◌, refl, sym, ap, subst, arith, ℕ, ◌+◌, ◌&&◌, nat_lt, Bool, true, false, Option, None, Some, List}
 use Rattle.std.specs.Prelude.{if◌then◌else◌}
 use Rattle.scsw_irb.specs.declared.serials.Serials.{Serials}
 use Rattle.storage_keys.specs.Storage.{Contents}
@@ -76,7 +76,7 @@ met-shown word path returns storage sub (up.Data t c n q load) known may = tt
 met-shown word path returns storage sub (up.End t n status more) known may = tt
 met-shown word path returns storage sub (up.Released t) known may = tt
 met-shown word path returns storage sub (up.Cleared r) known may = tt
-met-shown word path returns storage sub (up.Notice b) known may = 
+met-shown word path returns storage sub (up.Notice b) known may =
     silent-shown known sub.state (met returns storage sub path (up.Notice b)).step.state may (notice-silent sub.state b (nat_lt sub.state.hold.known b))
 met-shown word path returns storage sub (up.Attn a status) known may = tt
 

@@ -9,3 +9,4 @@ pub mod Paths
 pub mod Deferred
 pub mod Losses
 pub mod Behind
+pub mod StatusBytes

@@ -13,6 +13,7 @@ ghost use Rattle.shown_laws.specs.Functions.{DoFunctionsFollow};
 ghost use Rattle.shown_laws.specs.Interruptions.{IsAskedFor, IsGivenOnce, IsLowestFirst, IsOldestFirst};
 ghost use Rattle.shown_laws.specs.Losses.{AreLossesShown};
 ghost use Rattle.shown_laws.specs.Paths.{AreOffersLogical, ShowsLastUsed};
+ghost use Rattle.shown_laws.specs.StatusBytes.{AreBytesRight};
 ghost use Rattle.shown_laws.specs.Serials.{AreMade, ArePendingShown};
 
 use machine_laws::{numbers, setups, steps};
@@ -113,6 +114,19 @@ pub fn deferred_codes()
 /// word as it was (SA22-7832, chapter 16).
 pub fn losses()
     ensures silent { (setup : Setup) (h : List Entry) (s : State) → Run (opening_of setup) h s → AreLossesShown (set_count setup) h }
+{
+    walks();
+    setups();
+    steps();
+}
+
+/// In each run a status that an entry makes brings the device status and the subchannel status that are due, which join those that
+/// are pending. An End after which nothing is chained brings its own device status, an incorrect length and the check that was kept;
+/// attention hexadecimal 80; an interruption by the program, a lost path, a Notice, and a block that shows a check or can't be fetched
+/// bring that of the subchannel; a halt, a suspension and a path that is not found bring none, and of a clear both are zero
+/// (SA22-7832, chapter 16).
+pub fn status_bytes()
+    ensures due { (setup : Setup) (h : List Entry) (s : State) → Run (opening_of setup) h s → AreBytesRight (set_count setup) h }
 {
     walks();
     setups();

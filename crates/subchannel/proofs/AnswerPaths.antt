@@ -32,7 +32,7 @@ use Rattle.subchannel_model.specs.Causes.{without_begun, with_cause}
 use Rattle.subchannel_model.specs.Ends.{has_status_modifier, chains_command}
 use Rattle.subchannel_model.specs.Losing.{reset_for}
 use Rattle.subchannel_model.specs.Parts.{end_shown_at}
-use Rattle.subchannel_model.specs.Taking.{Met, meets, ignoring, quietly, let_go, suspending, standing, goes_ahead, path_used, beginning, begin_standing, accept, giving, take_in, bytes_of_load, move_bytes, move_data, take_data, end_taken, chaining, goes_on, with_end, stops_at, command_ended, end_of, reset_taken, notice, may_attend, takes_up}
+use Rattle.subchannel_model.specs.Taking.{Met, meets, ignoring, quietly, let_go, suspending, standing, goes_ahead, path_used, beginning, begin_standing, accept, giving, take_in, bytes_of_load, move_bytes, move_data, end_taken, chaining, goes_on, with_end, stops_at, command_ended, end_of, reset_taken, may_attend, takes_up}
 use Rattle.subchannel.specs.Answering.{IsAnswerPath}
 
 -- what a signal of this path, at a hold in this phase, is answered by

@@ -39,6 +39,7 @@ use Rattle.shown_laws.specs.Interruptions.{IsAskedFor, IsGivenOnce, IsLowestFirs
 use Rattle.shown_laws.specs.Losses.{AreLossesShown}
 use Rattle.shown_laws.specs.Paths.{AreOffersLogical, ShowsLastUsed}
 use Rattle.shown_laws.specs.Serials.{AreMade, ArePendingShown}
+use Rattle.shown_laws.specs.StatusBytes.{AreBytesRight}
 
 -- of a history, by its entries alone
 pub record HeadlineHolds (setup : Setup) (h : List Entry) : Type 0 where
@@ -76,6 +77,8 @@ pub record HeadlineHolds (setup : Setup) (h : List Entry) : Type 0 where
   pub pending : ArePendingShown (set_count setup) h
   -- a status that is made shows the deferred condition code that is due
   pub deferred_codes : AreDeferredRight (set_count setup) h
+  -- and the device status and the subchannel status that are due
+  pub status_bytes : AreBytesRight (set_count setup) h
   -- a path that is lost makes one where a program that is shown is offered or holds the device by it, and nowhere else
   pub losses : AreLossesRight setup h
   -- where none is made, the status word stays

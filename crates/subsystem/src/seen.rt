@@ -19,6 +19,7 @@ use seen_laws::{
 };
 use shown_laws::{
     choices, codes, deferred_codes, functions, last_used, logical_offers, requests, serials,
+    status_bytes,
 };
 
 /// In each run of a lawful set-up the headline holds of the entries.
@@ -41,6 +42,7 @@ pub fn headline()
     functions();
     serials();
     deferred_codes();
+    status_bytes();
     losses();
     silent();
     requests();

@@ -21,6 +21,7 @@ returns c = record {
     made = c.serials.ensures.made setup h s run;
     pending = c.serials.ensures.pending setup h s run;
     deferred_codes = c.deferred_codes.ensures.due setup h s run;
+    status_bytes = c.status_bytes.ensures.due setup h s run;
     losses = c.losses.ensures.right setup h s lawful run;
     silent = c.silent.ensures setup h s run;
     asked = c.requests.ensures.asked setup h s run;
