@@ -1,8 +1,16 @@
 //! The program's words, readers and writers that fail, want of memory, and scripts that are made line by line. Scripts that are
 //! written out are those of `example_tests`, which runs them and compares what they print.
 
+mod answers;
+mod changes;
+mod commands;
+mod failures;
+mod first_write;
+mod losses;
 mod memory;
 mod paths;
+mod programs;
+mod rules;
 mod scenes;
 mod stops;
 

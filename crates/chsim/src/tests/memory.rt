@@ -12,6 +12,18 @@ pub struct Slow<'a> {
     pub fails_at: u64,
 }
 
+impl<'a> Slow<'a> {
+    /// A reader of this text.
+    pub fn new(text: &'a [u8], most: usize, fails_at: u64) -> Self {
+        Slow {
+            rest: text,
+            most,
+            calls: 0,
+            fails_at,
+        }
+    }
+}
+
 impl Read for Slow<'_> {
     fn read(&mut self, buf: &mut [u8]) -> io::Result<usize> {
         self.calls = self.calls.wrapping_add(1);
@@ -33,6 +45,18 @@ pub struct Short {
     pub most: usize,
     pub calls: u64,
     pub fails_at: u64,
+}
+
+impl Short {
+    /// A writer that has nothing yet.
+    pub fn new<R: AllocGlobal>(rt: &R, most: usize, fails_at: u64) -> Self {
+        Short {
+            text: Vec::new(rt.alloc()),
+            most,
+            calls: 0,
+            fails_at,
+        }
+    }
 }
 
 impl Write for Short {

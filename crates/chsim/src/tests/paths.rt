@@ -5,7 +5,7 @@ use std::sync::Wait;
 use std::thread::Threads;
 
 /// The lines of configuration of a subchannel with two paths.
-const TWO_PATHS: [&[u8]; 5] = [
+pub const TWO_PATHS: [&[u8]; 5] = [
     b"storage 10",
     b"path 10",
     b"path 11",

@@ -50,7 +50,7 @@ fn digit(number: u64) -> u8 {
 }
 
 /// A number below 100,000 in decimal.
-fn push_number(printed: &mut Vec<u8>, number: u64) {
+pub fn push_number(printed: &mut Vec<u8>, number: u64) {
     if number >= 10_000 {
         let _ = printed.push(digit(number / 10_000));
     }
@@ -72,13 +72,18 @@ impl Scene {
         Scene::with(rt, &ONE_PATH)
     }
 
-    /// The same with these lines of configuration.
-    pub fn with<R: AllocGlobal>(rt: &R, config: &[&[u8]]) -> Self {
-        let mut scene = Scene {
+    /// No line.
+    pub fn empty<R: AllocGlobal>(rt: &R) -> Self {
+        Scene {
             text: Vec::new(rt.alloc()),
             printed: Vec::new(rt.alloc()),
             count: 0,
-        };
+        }
+    }
+
+    /// The same with these lines of configuration.
+    pub fn with<R: AllocGlobal>(rt: &R, config: &[&[u8]]) -> Self {
+        let mut scene = Scene::empty(rt);
         for line in config {
             scene.push_line(line);
         }
@@ -106,11 +111,27 @@ impl Scene {
 
     /// One line more, and what it prints.
     pub fn says(&mut self, line: &[u8], told: &[u8]) {
+        self.says_parts(line, &[told]);
+    }
+
+    /// One line more, and the parts of what it prints.
+    pub fn says_parts(&mut self, line: &[u8], told: &[&[u8]]) {
         self.push_line(line);
         push_number(&mut self.printed, self.count);
         let _ = self.printed.push(b' ');
-        let _ = self.printed.extend_from_slice(told);
+        for part in told {
+            let _ = self.printed.extend_from_slice(part);
+        }
         let _ = self.printed.push(b'\n');
+    }
+
+    /// One line more, and what it prints, which is nothing where that is empty.
+    pub fn says_or_sets(&mut self, line: &[u8], told: &[u8]) {
+        if told.is_empty() {
+            self.push_line(line);
+        } else {
+            self.says(line, told);
+        }
     }
 
     /// So many of the first events of a write by path 0.
