@@ -11,5 +11,6 @@ mod machines;
 mod race_tests;
 mod replaying;
 mod seats_tests;
+mod stale_tests;
 mod stories;
 mod workers_tests;

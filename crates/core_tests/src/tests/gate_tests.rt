@@ -59,7 +59,11 @@ impl Gate for Meeting {
 }
 
 /// A program is begun at a subchannel, until its unit has a command to take.
-fn begins<J: Naming>(core: &mut Core<J, Rotating>, seat: &mut Seat<J>, subchannel: u32) -> bool {
+pub fn begins<J: Naming>(
+    core: &mut Core<J, Rotating>,
+    seat: &mut Seat<J>,
+    subchannel: u32,
+) -> bool {
     let Some(cpu) = Cpu::new(0) else {
         return false;
     };

@@ -15,6 +15,7 @@ use crate::tests::looking_tests::{begins_looks, has_made, looks};
 use crate::tests::machines::{apart, config_of};
 use crate::tests::replaying::replays;
 use crate::tests::seats_tests::{answers, fills, leaves_out, sees};
+use crate::tests::stale_tests::{begins_late, comes_late, has_dropped, is_refused};
 use crate::tests::workers_tests::{begins_work, has_roamed, roams};
 use channel_config::config::Config;
 use core_lock::locked::{Core, NotMade, Seat, audit};
@@ -41,6 +42,8 @@ pub enum Story {
     Fills,
     /// Calls of two devices meet.
     Meets,
+    /// A device is called before a Reset, and its report comes after it.
+    ComesLate,
     /// A thread looks while another makes and clears statuses.
     Looks,
     /// A unit goes from path to path.
@@ -62,7 +65,8 @@ pub fn setting(alloc: Global, story: Story) -> Config {
         | Story::Fills
         | Story::Looks
         | Story::Grows
-        | Story::Idles => config_of(alloc, 1, &[0x10]),
+        | Story::Idles
+        | Story::ComesLate => config_of(alloc, 1, &[0x10]),
         Story::Meets => apart(alloc, 2),
         Story::Roams => config_of(alloc, 1, &[0x10, 0x11, 0x12, 0x13, 0x14, 0x15, 0x16, 0x17]),
         Story::Crowds => config_of(alloc, 64, &[0x10, 0x11, 0x12, 0x13]),
@@ -99,6 +103,7 @@ fn enters<J: Naming>(
         Story::LeavesOut => leaves_out(core),
         Story::Fills => fills(core, hands),
         Story::Meets => begins_both(alloc, core, first, hands),
+        Story::ComesLate => begins_late(alloc, core, first, hands),
         Story::Looks => begins_looks(core, first, hands),
         Story::Roams => begins_work(alloc, core, first, hands),
         Story::Crowds => begins_crowd(alloc, core, first, hands),
@@ -130,6 +135,7 @@ fn plays<J: Naming + Send + Sync, R: Threads + Wait + Sync>(
 ) -> Option<Vec<Hand<J>>> {
     match story {
         Story::Meets => meets(rt, machine, hands),
+        Story::ComesLate => comes_late(rt, machine, first, hands),
         Story::Looks => looks(rt, machine, hands),
         Story::Roams => roams(rt, machine, first, hands),
         Story::Crowds => crowds(rt, machine, hands),
@@ -186,6 +192,7 @@ fn is_shown<J: Naming>(
     audit(core, seats)
         && match story {
             Story::Roams => has_roamed(&history),
+            Story::ComesLate => has_dropped(&history),
             Story::Crowds => replays(alloc, setting(alloc, story), &history),
             _ => true,
         }
@@ -199,23 +206,37 @@ fn are_due(story: Story, answered: u64, entries: Option<u64>) -> bool {
         Story::LeavesOut => entries.is_none(),
         Story::Fills => entries == Some(0),
         Story::Grows => entries == Some(2),
-        Story::Meets | Story::Roams => entries.is_some(),
+        Story::Meets | Story::Roams | Story::ComesLate => entries.is_some(),
         Story::Looks => has_made(entries),
         Story::Crowds => are_enough(answered, entries),
         Story::Idles => are_beside(answered, entries),
     }
 }
 
+/// Whether what is entered in the end, from the first seat, is answered as it must be.
+fn enters_last<J: Naming>(
+    core: &mut Core<J, Rotating>,
+    seats: &mut Vec<Seat<J>>,
+    story: Story,
+) -> bool {
+    match (story, seats.get_mut(0)) {
+        (Story::ComesLate, Some(first)) => is_refused(core, first),
+        _ => true,
+    }
+}
+
 /// Whether it went as it is told in the end, when core and seats are given up.
 fn ends<J: Naming>(alloc: Global, core: Core<J, Rotating>, acted: Acted<J>, story: Story) -> bool {
-    let shown = is_shown(alloc, &core, acted.seats.as_slice(), story);
+    let mut core = core;
     let Acted {
         well,
-        seats,
+        mut seats,
         answered,
     } = acted;
+    let entered = enters_last(&mut core, &mut seats, story);
+    let shown = is_shown(alloc, &core, seats.as_slice(), story);
     let entries = core.close(seats);
-    well && shown && are_due(story, answered, entries)
+    well && entered && shown && are_due(story, answered, entries)
 }
 
 /// Whether a story goes as it is told, on this core.

@@ -56,16 +56,17 @@ pub fn begins_work<J: Naming>(
 }
 
 /// Whether a status is the one that is due.
-fn is_due(scsw: &Scsw) -> bool {
+fn is_due(scsw: &Scsw, due: &[u32; 3]) -> bool {
     let words = scsw.words();
-    words == STATUS
+    words == *due
 }
 
 /// Whether the status that TEST SUBCHANNEL clears is the one that is due; None where it answers another code.
-fn cleared<J: Naming, R: Wait>(
+pub fn cleared<J: Naming, R: Wait>(
     rt: &R,
     machine: &Machine<J, Rotating>,
     program: &mut Seat<J>,
+    due: &[u32; 3],
 ) -> Option<bool> {
     let cpu = Cpu::new(0)?;
     let tested = machine.instruct(rt, program, cpu, CpuInstruction::OnSubchannel(tsch(WORD)));
@@ -75,7 +76,7 @@ fn cleared<J: Naming, R: Wait>(
                 answer: Answer::Zero(_),
                 scsw,
             },
-        ) => Some(is_due(&scsw)),
+        ) => Some(is_due(&scsw, due)),
         _ => None,
     }
 }
@@ -108,7 +109,7 @@ pub fn roams<J: Naming + Send + Sync, R: Threads + Wait + Sync>(
     let mut hands = hands;
     for _round in 0..ROUNDS {
         hands = round(rt, machine, hands)?;
-        if let Some(due) = cleared(rt, machine, program) {
+        if let Some(due) = cleared(rt, machine, program, &STATUS) {
             return if due { Some(hands) } else { None };
         }
     }

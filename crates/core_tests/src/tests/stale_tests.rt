@@ -1,0 +1,266 @@
+//! A device is called before a Reset, and its report is handed in after it: it is refused, and dropped.
+
+ghost use Rattle.std.specs.Prelude.{◌≡◌, None};
+
+use crate::tests::gate_tests::begins;
+use crate::tests::hands::{Hand, Task, add_hand, add_worker};
+use crate::tests::machines::{WORD, accepts_all, loads, ssch};
+use crate::tests::stories::{Story, goes};
+use crate::tests::workers_tests::{cleared, roams};
+use chan_events::event::{Event, Instruction};
+use chan_model::fault::Fault;
+use chan_model::names::{Cpu, Side};
+use chan_model::report::{DeviceAnswer, Report, Work};
+use channel_config::parts::UnitKind;
+use core_lock::executing::CpuInstruction;
+use core_lock::locked::{Core, Seat};
+use core_parts::gate::{Gate, Open};
+use core_parts::naming::Naming;
+use crossbeam_utils::Backoff;
+use device_models::any_device::AnyDevice;
+use event_log::history::History;
+use machine_lock::machine::Machine;
+use machine_model::state::UnitTurn;
+use path_select::Rotating;
+use std::alloc::Global;
+use std::sync::Wait;
+use std::sync::atomic::{AtomicU64, Ordering};
+use std::thread;
+use std::thread::Threads;
+
+/// The channel path of the subchannel.
+const CHPID: u8 = 0x10;
+
+/// How many turns the unit's worker takes: one for the call, one for its report, and one that has nothing to do.
+const TURNS: u64 = 3;
+
+/// How often a thread looks whether the other one is so far, before it goes on alone.
+const PATIENCE: u64 = 20_000_000;
+
+/// The number of the program that is cleared.
+const NUMBER: u64 = 1;
+
+/// The status that is due of it: clear function, status pending, and nothing else.
+const CLEARED: [u32; 3] = [0x0000_1001, 0, 0];
+
+/// A gate at which the first call waits until a reset is done.
+#[derive(Drop)]
+struct Barrier {
+    /// One as the call waits.
+    reached: AtomicU64,
+    /// One as the reset is done.
+    reset: AtomicU64,
+    /// One as the call went on after that.
+    passed: AtomicU64,
+}
+
+/// Whether a sign is set, while a thread waits for it.
+fn comes(sign: &AtomicU64) -> bool {
+    let backoff = Backoff::new();
+    for _look in 0..PATIENCE {
+        if sign.load(Ordering::SeqCst) == 1 {
+            return true;
+        }
+        backoff.snooze();
+    }
+    false
+}
+
+impl Gate for Barrier {
+    ghost passes = { λ _ _ _. Unit {0} };
+
+    fn pass(&self, _unit: u32, call: u64) {
+        if call != 1 {
+            return;
+        }
+        self.reached.store(1, Ordering::SeqCst);
+        if comes(&self.reset) {
+            self.passed.store(1, Ordering::SeqCst);
+        }
+    }
+}
+
+/// The report that is late: the device's initial status of the first command is empty.
+fn late_report() -> Report {
+    Report {
+        side: Side::First,
+        number: NUMBER,
+        command: 1,
+        sequence: 0,
+        answer: DeviceAnswer::Begins,
+    }
+}
+
+/// Whether the device is to be called, and its answer is of the command and the place of that report.
+fn is_due<J: Naming>(core: &Core<J, Rotating>) -> bool {
+    let late = late_report();
+    match core.subsystem().unit_turn(0) {
+        Some(
+            UnitTurn::Works(
+                Work::Call {
+                    side,
+                    number,
+                    command,
+                    sequence,
+                    ..
+                },
+            ),
+        ) => {
+            side.same(late.side)
+                && number == late.number
+                && command == late.command
+                && sequence == late.sequence
+        }
+        _ => false,
+    }
+}
+
+/// A program is begun, and its unit takes a command. There are a hand that resets, and the unit's worker.
+pub fn begins_late<J: Naming>(
+    alloc: Global,
+    core: &mut Core<J, Rotating>,
+    program: &mut Seat<J>,
+    hands: &mut Vec<Hand<J>>,
+) -> bool {
+    let take = Event::Down {
+        subchannel: WORD,
+        path: 0,
+    };
+    accepts_all(core, program, &loads())
+        && begins(core, program, WORD)
+        && accepts_all(core, program, &[take])
+        && is_due(core)
+        && add_hand(core, hands, Task::Path(CHPID))
+        && add_worker(alloc, core, hands, 0, 1)
+}
+
+/// CLEAR SUBCHANNEL, and the Reset that it asks for: it is sent, the unit takes it, and the subchannel takes the answer. The
+/// device is not called.
+fn resets<J: Naming, R: Wait>(rt: &R, machine: &Machine<J, Rotating>, seat: &mut Seat<J>) -> bool
+    requires { seat.old.value.owed ≡ None }
+    ensures { seat.new.value.owed ≡ None }
+{
+    let Some(cpu) = Cpu::new(0) else {
+        return false;
+    };
+    let clear = CpuInstruction::OnSubchannel(Instruction::Csch { subchannel: WORD });
+    let asked = machine.instruct(rt, seat, cpu, clear);
+    let sent = machine.path_worker(rt, seat, CHPID, 1);
+    let mut device = AnyDevice::of(UnitKind::Block);
+    let taken = machine.device_worker(rt, seat, 0, &mut device, &Open, false, 1);
+    let answered = machine.path_worker(rt, seat, CHPID, 1);
+    asked.is_ok() && sent == 1 && taken == 1 && answered == 1
+}
+
+impl<J: Naming> Hand<J> {
+    /// What it does: one resets while the call of the other waits, whose report then adds nothing. Whether that comes out so.
+    fn goes_late<R: Wait>(
+        &mut self,
+        rt: &R,
+        machine: &Machine<J, Rotating>,
+        gate: &Barrier,
+    ) -> bool {
+        if let Task::Path(_) = &self.task {
+            let reset = comes(&gate.reached) && resets(rt, machine, &mut self.seat);
+            gate.reset.store(1, Ordering::SeqCst);
+            return reset;
+        }
+        let added = self.turns(rt, machine, gate, false, TURNS);
+        added == 0 && !self.seat.owes()
+    }
+}
+
+/// Whether all went well with these hands.
+fn are_well<J: Naming>(hands: &[Hand<J>]) -> bool {
+    for hand in hands {
+        if !hand.well {
+            return false;
+        }
+    }
+    true
+}
+
+/// Whether the status of the clear function is there, and a program is started again.
+fn starts_again<J: Naming, R: Wait>(
+    rt: &R,
+    machine: &Machine<J, Rotating>,
+    program: &mut Seat<J>,
+) -> bool {
+    let Some(cpu) = Cpu::new(0) else {
+        return false;
+    };
+    let status = cleared(rt, machine, program, &CLEARED);
+    let start = CpuInstruction::OnSubchannel(ssch(WORD));
+    let started = machine.instruct(rt, program, cpu, start);
+    status == Some(true) && started.is_ok()
+}
+
+/// One thread resets while the call of a device waits at the gate on another; its report is handed in after it, and adds
+/// nothing. Then the subchannel is as after any clear, and a program that is started there goes through to its end.
+pub fn comes_late<J: Naming + Send + Sync, R: Threads + Wait + Sync>(
+    rt: &R,
+    machine: &Machine<J, Rotating>,
+    program: &mut Seat<J>,
+    hands: Vec<Hand<J>>,
+) -> Option<Vec<Hand<J>>> {
+    let gate = Barrier {
+        reached: AtomicU64::new(0),
+        reset: AtomicU64::new(0),
+        passed: AtomicU64::new(0),
+    };
+    let worked = thread::map_vec(
+        rt,
+        hands,
+        &|hand: Hand<J>| {
+            let mut hand = hand;
+            hand.well = hand.goes_late(rt, machine, &gate);
+            hand
+        },
+    );
+    let hands = worked.ok()?;
+    let passed = gate.passed.load(Ordering::SeqCst) == 1;
+    if passed && are_well(hands.as_slice()) && starts_again(rt, machine, program) {
+        roams(rt, machine, program, hands)
+    } else {
+        None
+    }
+}
+
+/// The number of the program whose report an event is.
+fn number_of(event: &Event) -> Option<u64> {
+    match event {
+        Event::Report { report, .. } => Some(report.number),
+        _ => None,
+    }
+}
+
+/// Whether a history has reports, and none of the program that was cleared.
+pub fn has_dropped(history: &History<'_>) -> bool {
+    let mut reported = false;
+    for place in 0..history.len() {
+        let Some(entry) = history.get(place) else {
+            return false;
+        };
+        match number_of(&entry.event) {
+            Some(NUMBER) => return false,
+            Some(_) => reported = true,
+            None => {}
+        }
+    }
+    reported
+}
+
+/// Whether that report, which is entered once more, is refused `NotNow`, which is 7, and adds nothing. A worker does not tell why
+/// its report was refused.
+pub fn is_refused<J: Naming>(core: &mut Core<J, Rotating>, seat: &mut Seat<J>) -> bool {
+    let before = core.subsystem().history().len();
+    let report = late_report();
+    let refusal = core.enter(seat, Event::Report { unit: 0, report });
+    let after = core.subsystem().history().len();
+    matches!(refusal, Err(Fault::NotNow)) && before == after
+}
+
+#[test]
+fn a_report_is_refused_after_a_reset_and_dropped(rt: HostRuntime) {
+    assert!(rt; goes(&rt, rt.alloc(), Story::ComesLate));
+}
