@@ -4,7 +4,7 @@
 
 ghost use Rattle.std.specs.Prelude.{◌≡◌, ℕ, Bool, true, List};
 ghost use Rattle.storage_keys.specs.Storage.{Contents};
-ghost use Rattle.chan_model.specs.declared.signal.Up.{Up};
+ghost use Rattle.chan_model.specs.Signals.{Up};
 ghost use Rattle.subchannel_model.specs.declared.state.SubchannelState.{SubchannelState};
 ghost use Rattle.subchannel_model.specs.Taking.{takes_up};
 ghost use Rattle.agree.specs.Replies.{is_taken};

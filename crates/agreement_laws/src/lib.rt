@@ -8,7 +8,7 @@ ghost use Rattle.chan_model.specs.declared.signal.OnPath.{OnPath};
 ghost use Rattle.chan_model.specs.UnitTable.{side_of};
 ghost use Rattle.chan_model.specs.UnitTable as unit_table;
 ghost use Rattle.chan_model.specs.declared.signal.Down.TheVariants as down;
-ghost use Rattle.chan_model.specs.declared.signal.Up.{Up};
+ghost use Rattle.chan_model.specs.Signals.{Up};
 ghost use Rattle.chan_model.specs.declared.signal.Up.TheVariants as up;
 ghost use Rattle.agreement_laws.specs.Links.{Links, link_of, opening_links};
 ghost use Rattle.agreement_laws.specs.Moving.{LinkCause, LinksStep};

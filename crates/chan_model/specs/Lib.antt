@@ -1,4 +1,5 @@
 pub mod Sides
+pub mod Signals
 pub mod Loads
 pub mod PathSets
 pub mod HoldTable

@@ -58,6 +58,13 @@ impl Chunk {
         self.bytes.as_slice()
     }
 
+    /// The bytes, lent.
+    pub fn lend(&self) -> Bytes<'_>
+        ensures { result.bytes.now ≡ self.now }
+    {
+        Bytes::of(self.bytes.as_slice())
+    }
+
     /// How many there are.
     pub fn len(&self) -> usize
         ensures value { result ≡ length self.now }
@@ -139,5 +146,30 @@ impl ChunkLength {
         ensures bound { result ≤ 256 }
     {
         usize::from(self.bytes)
+    }
+}
+
+/// At most 256 bytes that are lent.
+#[derive(Clone, Copy, PartialEq, Eq, Debug)]
+pub struct Bytes<'a> {
+    bytes: &'a [u8],
+    ghost fits: { length bytes.now ≤ 256 },
+}
+
+impl<'a> Bytes<'a> {
+    /// These bytes.
+    pub fn of(bytes: &'a [u8]) -> Self
+        requires { length bytes.now ≤ 256 }
+        ensures { result.bytes.now ≡ bytes.now }
+    {
+        Bytes { bytes }
+    }
+
+    /// The bytes.
+    pub fn as_slice(self) -> &'a [u8]
+        ensures value { result.now ≡ self.entry.bytes.now }
+        ensures bound { length result.now ≤ 256 }
+    {
+        self.bytes
     }
 }

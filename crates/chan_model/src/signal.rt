@@ -1,32 +1,34 @@
 //! The signals between a subchannel and its unit (own).
 
-ghost use Rattle.std.specs.Prelude.{◌≡◌, ◌≤◌};
+ghost use Rattle.std.specs.Prelude.{◌≡◌, ◌≤◌, length};
 ghost use Rattle.chan_model.specs.Loads.{load_length};
+ghost use Rattle.chan_model.specs.Signals as spec;
 
-use crate::chunk::Chunk;
+use crate::chunk::{Bytes, Chunk, ChunkLength};
 use crate::names::Path;
 use scsw_irb::status::DeviceStatus;
 
 /// A signal with the path that it goes by.
-#[derive(Drop)]
+#[derive(Clone, Copy, PartialEq, Eq, Debug, Drop)]
 pub struct OnPath<S> {
     pub path: Path,
     pub signal: S,
 }
 
 /// What came of a signal that was met: whether a state changed or a signal was sent, and the signal.
-#[derive(Drop)]
+#[derive(Clone, Copy, PartialEq, Eq, Debug, Drop)]
 pub struct Taken<S> {
     pub taken: bool,
     pub sent: Option<OnPath<S>>,
 }
 
-/// A signal from the subsystem to a unit.
+/// A signal from the subsystem to a unit, over what stands for its bytes: a `Chunk` that owns them, `Bytes` that are lent, or the
+/// `ChunkLength` of bytes that stand elsewhere.
 ///
 /// `number` is the number of an offer, `connection` that of a connection, `command` that of a command of one program,
 /// from 1, and `sequence` that of a chunk of one command, from 1.
-#[derive(Drop)]
-pub enum Down {
+#[derive(Clone, Copy, PartialEq, Eq, Debug, Drop)]
+pub enum Down<B = Chunk> {
     /// The program asks for the device.
     Select {
         number: u64,
@@ -61,7 +63,7 @@ pub enum Down {
         connection: u64,
         command: u64,
         sequence: u64,
-        bytes: Chunk,
+        bytes: B,
     },
     /// The command is to end.
     Halt {
@@ -83,15 +85,15 @@ pub enum Down {
 }
 
 /// What a Data signal brings: how many bytes of a write were absorbed, or the bytes of a read.
-#[derive(Drop)]
-pub enum Load {
+#[derive(Clone, Copy, PartialEq, Eq, Debug, Drop)]
+pub enum Load<B = Chunk> {
     Absorbed(u16),
-    Bytes(Chunk),
+    Bytes(B),
 }
 
-/// A signal from a unit to the subsystem, with the numbers of `Down`.
-#[derive(Drop)]
-pub enum Up {
+/// A signal from a unit to the subsystem, with the numbers of `Down`, over what stands for the load of a Data.
+#[derive(Clone, Copy, PartialEq, Eq, Debug, Drop)]
+pub enum Up<L = Load> {
     /// The program holds the device.
     Accept {
         number: u64,
@@ -116,7 +118,7 @@ pub enum Up {
         connection: u64,
         command: u64,
         sequence: u64,
-        load: Load,
+        load: L,
     },
     /// The command ended; `more` says that the device had more bytes.
     End {
@@ -144,6 +146,18 @@ pub enum Up {
     },
 }
 
+/// A signal down whose bytes are lent.
+pub type LentDown<'a> = Down<Bytes<'a>>;
+
+/// A signal up whose bytes are lent.
+pub type LentUp<'a> = Up<Load<Bytes<'a>>>;
+
+/// A signal down whose bytes stand elsewhere.
+pub type KeptDown = Down<ChunkLength>;
+
+/// A signal up whose bytes stand elsewhere.
+pub type KeptUp = Up<Load<ChunkLength>>;
+
 impl Default for Down {
     fn default() -> Self {
         Down::Select { number: 0 }
@@ -156,10 +170,10 @@ impl Default for Up {
     }
 }
 
-impl Down {
-    /// The same signal; it takes no memory.
-    pub fn copy(&self) -> Self
-        ensures { result ≡ self.now }
+impl<B> Down<B> {
+    /// The same signal over other bytes.
+    pub fn with<C: Drop>(&self, bytes: C) -> Down<C>
+        ensures { result ≡ spec.map_down (λ _. bytes) self.now }
     {
         match self {
             Down::Select { number } => Down::Select { number: *number },
@@ -198,13 +212,13 @@ impl Down {
                 connection,
                 command,
                 sequence,
-                bytes,
+                ..
             } => Down::Give {
                 number: *number,
                 connection: *connection,
                 command: *command,
                 sequence: *sequence,
-                bytes: bytes.copy(),
+                bytes,
             },
             Down::Halt { number } => Down::Halt { number: *number },
             Down::Release { number } => Down::Release { number: *number },
@@ -219,17 +233,81 @@ impl Down {
     }
 }
 
-impl Load {
-    /// The same load; it takes no memory.
-    pub fn copy(&self) -> Self
-        ensures { result ≡ self.now }
+impl Down {
+    /// Its bytes; most signals have none.
+    pub fn bytes(&self) -> Bytes<'_>
+        ensures { result.bytes.now ≡ spec.down_bytes self.now }
     {
         match self {
-            Load::Absorbed(count) => Load::Absorbed(*count),
-            Load::Bytes(bytes) => Load::Bytes(bytes.copy()),
+            Down::Give { bytes, .. } => bytes.lend(),
+            _ => Bytes::of(&[]),
         }
     }
 
+    /// The same signal, its bytes lent.
+    pub fn lend(&self) -> LentDown<'_>
+        ensures { spec.lent_down result ≡ self.now }
+    {
+        self.with(self.bytes())
+    }
+
+    /// The same signal; it takes no memory.
+    pub fn copy(&self) -> Self
+        ensures { result ≡ self.now }
+    {
+        self.lend().own()
+    }
+}
+
+impl<'a> Down<Bytes<'a>> {
+    /// Its bytes; most signals have none.
+    pub fn bytes(&self) -> &'a [u8]
+        ensures value { result.now ≡ spec.down_bytes (spec.lent_down self.now) }
+        ensures bound { length result.now ≤ 256 }
+    {
+        match self {
+            Down::Give { bytes, .. } => bytes.as_slice(),
+            _ => &[],
+        }
+    }
+
+    /// The same signal with its own bytes.
+    pub fn own(&self) -> Down
+        ensures { result ≡ spec.lent_down self.now }
+    {
+        self.with(Chunk::of(self.bytes()))
+    }
+
+    /// The same signal, its bytes standing elsewhere.
+    pub fn keep(&self) -> KeptDown
+        ensures { result ≡ spec.kept_down (spec.lent_down self.now) }
+    {
+        self.with(ChunkLength::of(self.bytes()))
+    }
+}
+
+impl Down<ChunkLength> {
+    /// How many bytes it has.
+    pub fn length(&self) -> usize
+        ensures value { result ≡ spec.down_length self.now }
+        ensures bound { result ≤ 256 }
+    {
+        match self {
+            Down::Give { bytes, .. } => bytes.get(),
+            _ => 0,
+        }
+    }
+
+    /// The signal with the first of these bytes.
+    pub fn lend<'a>(&self, bytes: &'a [u8]) -> LentDown<'a>
+        requires { spec.down_length self.now ≤ length bytes.now }
+        ensures { spec.lent_down result ≡ spec.down_in self.now bytes.now }
+    {
+        self.with(Bytes::of(&bytes[..self.length()]))
+    }
+}
+
+impl Load {
     /// How many bytes it stands for.
     pub fn len(&self) -> usize
         ensures { result ≡ load_length self.now }
@@ -239,12 +317,86 @@ impl Load {
             Load::Bytes(bytes) => bytes.len(),
         }
     }
-}
 
-impl Up {
-    /// The same signal; it takes no memory.
+    /// The same load, its bytes lent.
+    pub fn lend(&self) -> Load<Bytes<'_>>
+        ensures { spec.lent_load result ≡ self.now }
+    {
+        match self {
+            Load::Absorbed(count) => Load::Absorbed(*count),
+            Load::Bytes(bytes) => Load::Bytes(bytes.lend()),
+        }
+    }
+
+    /// The same load; it takes no memory.
     pub fn copy(&self) -> Self
         ensures { result ≡ self.now }
+    {
+        self.lend().own()
+    }
+}
+
+impl<'a> Load<Bytes<'a>> {
+    /// Its bytes; a count has none.
+    pub fn bytes(&self) -> &'a [u8]
+        ensures value { result.now ≡ spec.load_bytes (spec.lent_load self.now) }
+        ensures bound { length result.now ≤ 256 }
+    {
+        match self {
+            Load::Absorbed(_) => &[],
+            Load::Bytes(bytes) => bytes.as_slice(),
+        }
+    }
+
+    /// The same load with its own bytes.
+    pub fn own(&self) -> Load
+        ensures { result ≡ spec.lent_load self.now }
+    {
+        match self {
+            Load::Absorbed(count) => Load::Absorbed(*count),
+            Load::Bytes(bytes) => Load::Bytes(Chunk::of(bytes.as_slice())),
+        }
+    }
+
+    /// The same load, its bytes standing elsewhere.
+    pub fn keep(&self) -> Load<ChunkLength>
+        ensures { result ≡ spec.kept_load (spec.lent_load self.now) }
+    {
+        match self {
+            Load::Absorbed(count) => Load::Absorbed(*count),
+            Load::Bytes(bytes) => Load::Bytes(ChunkLength::of(bytes.as_slice())),
+        }
+    }
+}
+
+impl Load<ChunkLength> {
+    /// How many bytes stand elsewhere.
+    pub fn length(&self) -> usize
+        ensures value { result ≡ spec.kept_length self.now }
+        ensures bound { result ≤ 256 }
+    {
+        match self {
+            Load::Absorbed(_) => 0,
+            Load::Bytes(bytes) => bytes.get(),
+        }
+    }
+
+    /// The load with the first of these bytes.
+    pub fn lend<'a>(&self, bytes: &'a [u8]) -> Load<Bytes<'a>>
+        requires { spec.kept_length self.now ≤ length bytes.now }
+        ensures { spec.lent_load result ≡ spec.load_in self.now bytes.now }
+    {
+        match self {
+            Load::Absorbed(count) => Load::Absorbed(*count),
+            Load::Bytes(length) => Load::Bytes(Bytes::of(&bytes[..length.get()])),
+        }
+    }
+}
+
+impl<L> Up<L> {
+    /// The same signal over another load.
+    pub fn with<M: Drop>(&self, load: M) -> Up<M>
+        ensures { result ≡ spec.map_up (λ _. load) self.now }
     {
         match self {
             Up::Accept { number } => Up::Accept { number: *number },
@@ -262,13 +414,13 @@ impl Up {
                 connection,
                 command,
                 sequence,
-                load,
+                ..
             } => Up::Data {
                 number: *number,
                 connection: *connection,
                 command: *command,
                 sequence: *sequence,
-                load: load.copy(),
+                load,
             },
             Up::End {
                 number,
@@ -294,6 +446,94 @@ impl Up {
     }
 }
 
+impl Up {
+    /// What it brings; of a signal that is no Data it is nothing.
+    pub fn load(&self) -> Load<Bytes<'_>>
+        ensures { spec.lent_load result ≡ spec.load_of self.now }
+    {
+        match self {
+            Up::Data { load, .. } => load.lend(),
+            _ => Load::Absorbed(0),
+        }
+    }
+
+    /// The same signal, its bytes lent.
+    pub fn lend(&self) -> LentUp<'_>
+        ensures { spec.lent_up result ≡ self.now }
+    {
+        self.with(self.load())
+    }
+
+    /// The same signal; it takes no memory.
+    pub fn copy(&self) -> Self
+        ensures { result ≡ self.now }
+    {
+        self.lend().own()
+    }
+}
+
+impl<'a> Up<Load<Bytes<'a>>> {
+    /// What it brings; of a signal that is no Data it is nothing.
+    pub fn load(&self) -> Load<Bytes<'a>>
+        ensures { spec.lent_load result ≡ spec.load_of (spec.lent_up self.now) }
+    {
+        match self {
+            Up::Data { load, .. } => *load,
+            _ => Load::Absorbed(0),
+        }
+    }
+
+    /// Its bytes; most signals have none.
+    pub fn bytes(&self) -> &'a [u8]
+        ensures value { result.now ≡ spec.up_bytes (spec.lent_up self.now) }
+        ensures bound { length result.now ≤ 256 }
+    {
+        self.load().bytes()
+    }
+
+    /// The same signal with its own bytes.
+    pub fn own(&self) -> Up
+        ensures { result ≡ spec.lent_up self.now }
+    {
+        self.with(self.load().own())
+    }
+
+    /// The same signal, its bytes standing elsewhere.
+    pub fn keep(&self) -> KeptUp
+        ensures { result ≡ spec.kept_up (spec.lent_up self.now) }
+    {
+        self.with(self.load().keep())
+    }
+}
+
+impl Up<Load<ChunkLength>> {
+    /// What it brings; of a signal that is no Data it is nothing.
+    fn load(&self) -> Load<ChunkLength>
+        ensures { result ≡ spec.kept_load_of self.now }
+    {
+        match self {
+            Up::Data { load, .. } => *load,
+            _ => Load::Absorbed(0),
+        }
+    }
+
+    /// How many bytes it has.
+    pub fn length(&self) -> usize
+        ensures value { result ≡ spec.up_length self.now }
+        ensures bound { result ≤ 256 }
+    {
+        self.load().length()
+    }
+
+    /// The signal with the first of these bytes.
+    pub fn lend<'a>(&self, bytes: &'a [u8]) -> LentUp<'a>
+        requires { spec.up_length self.now ≤ length bytes.now }
+        ensures { spec.lent_up result ≡ spec.up_in self.now bytes.now }
+    {
+        self.with(self.load().lend(bytes))
+    }
+}
+
 impl OnPath<Down> {
     /// The same signal on the same path; it takes no memory.
     pub fn copy(&self) -> Self
@@ -301,7 +541,7 @@ impl OnPath<Down> {
     {
         OnPath {
             path: self.path,
-            signal: Down::copy(&self.signal),
+            signal: self.signal.copy(),
         }
     }
 }
@@ -313,7 +553,7 @@ impl OnPath<Up> {
     {
         OnPath {
             path: self.path,
-            signal: Up::copy(&self.signal),
+            signal: self.signal.copy(),
         }
     }
 }

@@ -5,8 +5,8 @@ use Rattle.storage_keys.specs.Storage.{Contents}
 use Rattle.chan_model.specs.declared.hold_state.HoldPhase.{HoldPhase}
 use Rattle.chan_model.specs.declared.hold_state.HoldPhase.TheVariants as hold
 use Rattle.chan_model.specs.declared.hold_state.HoldState.{HoldState}
-use Rattle.chan_model.specs.declared.signal.Load.{Load}
-use Rattle.chan_model.specs.declared.signal.Up.{Up}
+use Rattle.chan_model.specs.Signals.{Load}
+use Rattle.chan_model.specs.Signals.{Up}
 use Rattle.chan_model.specs.declared.signal.Up.TheVariants as up
 use Rattle.chan_model.specs.Loads.{load_length}
 use Rattle.chan_model.specs.HoldTable.{HoldStep, hold_quietly, refusing, granting, program_begun, offer_accepted, found_busy, left, asked_back, released, attended, hold_after, came_of, is_connected, is_on}

@@ -1,7 +1,7 @@
 -- Replies whose bytes stand elsewhere, and what they are with those bytes.
 use Rattle.std.specs.Prelude.{ℕ, ◌+◌, Bool, List, [], ◌++◌, None, Some, take, drop}
-use Rattle.chan_model.specs.declared.signal.Down.{Down}
-use Rattle.chan_model.specs.declared.signal.Up.{Up}
+use Rattle.chan_model.specs.Signals.{Down}
+use Rattle.chan_model.specs.Signals.{Up}
 use Rattle.chan_events.specs.declared.reply.Reply.{Reply}
 use Rattle.chan_events.specs.declared.reply.Reply.TheVariants as reply
 use Rattle.kept_events.specs.Signals.{down_in, down_length, down_bytes, up_in, up_length, up_bytes}

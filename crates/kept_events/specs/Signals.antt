@@ -1,7 +1,7 @@
 -- Signals whose bytes stand elsewhere, and what they are with those bytes.
 use Rattle.std.specs.Prelude.{ℕ, List, [], take}
-use Rattle.chan_model.specs.declared.signal.Down.{Down}
-use Rattle.chan_model.specs.declared.signal.Up.{Up}
+use Rattle.chan_model.specs.Signals.{Down}
+use Rattle.chan_model.specs.Signals.{Up}
 use Rattle.chan_model.specs.declared.signal.Down.TheVariants as down
 use Rattle.chan_model.specs.declared.signal.Load.TheVariants as load
 use Rattle.chan_model.specs.declared.signal.Up.TheVariants as up

@@ -5,8 +5,8 @@ use Rattle.schib_block.specs.declared.pmcw.Pmcw as block
 use Rattle.storage_keys.specs.declared.StorageFault.{StorageFault}
 use Rattle.chan_model.specs.declared.answer.Answer.{Answer}
 use Rattle.chan_model.specs.declared.fault.Fault.TheVariants as fault
-use Rattle.chan_model.specs.declared.signal.Down.{Down}
-use Rattle.chan_model.specs.declared.signal.Up.{Up}
+use Rattle.chan_model.specs.Signals.{Down}
+use Rattle.chan_model.specs.Signals.{Up}
 use Rattle.chan_model.specs.declared.signal.Up.TheVariants as up
 use Rattle.chan_model.specs.declared.names.Side.{Side}
 use Rattle.chan_model.specs.declared.unit_state.UnitState.{UnitState}

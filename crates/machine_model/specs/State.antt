@@ -13,7 +13,7 @@ use Rattle.interruptions.specs.Requests.{WaitingRequests, no_requests_wait}
 use Rattle.channel_reports.specs.Queue.{WaitingReports, no_reports_wait}
 use Rattle.channel_config.specs.SubchannelWords.{subchannel_named}
 use Rattle.scsw_irb.specs.declared.serials.Serials.{Serials}
-use Rattle.chan_model.specs.declared.signal.Down.{Down}
+use Rattle.chan_model.specs.Signals.{Down}
 use Rattle.chan_model.specs.declared.report.Work.{Work}
 use Rattle.chan_model.specs.UnitReports.{unit_work}
 use Rattle.machine_model.specs.declared.state.UnitTurn.{UnitTurn}

@@ -10,7 +10,7 @@ use Rattle.chan_model.specs.declared.fault.Fault.{Fault}
 use Rattle.chan_model.specs.declared.fault.Fault.TheVariants.{WireFull}
 use Rattle.chan_model.specs.declared.hold_state.HoldPhase.{HoldPhase}
 use Rattle.chan_model.specs.declared.hold_state.HoldPhase.TheVariants as hold
-use Rattle.chan_model.specs.declared.signal.Down.{Down}
+use Rattle.chan_model.specs.Signals.{Down}
 use Rattle.chan_model.specs.declared.signal.Down.TheVariants as down
 use Rattle.chan_events.specs.declared.event.Event.{Event}
 use Rattle.chan_events.specs.declared.event.Event.TheVariants as event

@@ -1,6 +1,6 @@
 -- Parts of the definitions of this crate, by names that proofs speak of.
 use Rattle.std.specs.Prelude.{ℕ, true, Option, Some, unwrap_or}
-use Rattle.chan_model.specs.declared.signal.Down.{Down}
+use Rattle.chan_model.specs.Signals.{Down}
 use Rattle.chan_model.specs.declared.signal.OnPath.{OnPath}
 use Rattle.chan_model.specs.declared.signal.Up.TheVariants as up
 use Rattle.chan_events.specs.declared.reply.Reply.TheVariants as reply

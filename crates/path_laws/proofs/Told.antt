@@ -3,9 +3,9 @@
 use Rattle.std.proofs.Common.{◌≡◌, ℕ, ◌≤◌, Option, None, List, arith}
 use Rattle.chan_model.specs.declared.hold_state.HoldPhase.{HoldPhase}
 use Rattle.chan_model.specs.declared.hold_state.HoldPhase.TheVariants as hold
-use Rattle.chan_model.specs.declared.signal.Down.{Down}
+use Rattle.chan_model.specs.Signals.{Down}
 use Rattle.chan_model.specs.declared.signal.Down.TheVariants as down
-use Rattle.chan_model.specs.declared.signal.Up.{Up}
+use Rattle.chan_model.specs.Signals.{Up}
 use Rattle.chan_model.specs.declared.signal.Up.TheVariants as up
 use Rattle.subchannel_model.specs.declared.state.Subchannel.{Subchannel}
 use Rattle.path_laws.proofs.Signals.{EachSignal, signals-weaker}

@@ -12,7 +12,7 @@ use Rattle.scsw_irb.specs.declared.status.DeviceStatus.{DeviceStatus}
 use Rattle.chan_model.specs.declared.answer.ConditionCode.{ConditionCode}
 use Rattle.chan_model.specs.declared.answer.ConditionCode.TheVariants as code
 use Rattle.chan_model.specs.PathSets.{paths_of_mask}
-use Rattle.chan_model.specs.declared.signal.Up.{Up}
+use Rattle.chan_model.specs.Signals.{Up}
 use Rattle.chan_model.specs.UnitReports.{is_last_end}
 use Rattle.channel_program.specs.Walks.{WalkPlace}
 use Rattle.storage_keys.specs.Storage.{Contents}

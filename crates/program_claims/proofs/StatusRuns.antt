@@ -5,7 +5,7 @@ use Rattle.std.proofs.lemmas.Bool.{eq-eqb, eqb-true}
 use Rattle.std.proofs.lemmas.Option.{same_Some}
 use Rattle.scsw_irb.specs.declared.status.DeviceStatus.{DeviceStatus}
 use Rattle.chan_model.specs.declared.hold_state.HoldPhase.TheVariants as hold
-use Rattle.chan_model.specs.declared.signal.Down.{Down}
+use Rattle.chan_model.specs.Signals.{Down}
 use Rattle.chan_model.specs.declared.signal.OnPath.{OnPath}
 use Rattle.chan_model.specs.declared.signal.Up.TheVariants as up
 use Rattle.chan_model.specs.ResetCauses.{is_held, is_path}

@@ -1,7 +1,7 @@
 -- A start that waits stays, or waits no more: by no signal does another begin to wait.
 use Rattle.std.proofs.Common.{◌≡◌, sym, subst, ℕ, Bool, true, false, Option, None, Some}
 use Rattle.std.specs.Prelude.{if◌then◌else◌}
-use Rattle.chan_model.specs.declared.signal.Up.{Up}
+use Rattle.chan_model.specs.Signals.{Up}
 use Rattle.chan_model.specs.UnitReports.{is_last_end}
 use Rattle.storage_keys.specs.Storage.{Contents}
 use Rattle.subchannel_model.specs.declared.cause.StatusCause.{StatusCause}

@@ -7,9 +7,9 @@ use Rattle.orb_block.specs.OrbTable.{tables}
 use Rattle.scsw_irb.specs.declared.status.DeviceStatus.{DeviceStatus}
 use Rattle.storage_keys.specs.Storage.{Contents, cleared_storage, operand_at}
 use Rattle.chan_model.specs.declared.answer.Answer.TheVariants as answer
-use Rattle.chan_model.specs.declared.signal.Down.{Down}
+use Rattle.chan_model.specs.Signals.{Down}
 use Rattle.chan_model.specs.declared.signal.OnPath.{OnPath}
-use Rattle.chan_model.specs.declared.signal.Up.{Up}
+use Rattle.chan_model.specs.Signals.{Up}
 use Rattle.chan_model.specs.declared.signal.Up.TheVariants as up
 use Rattle.chan_model.specs.PathSets.{has_path}
 use Rattle.chan_model.specs.ResetCauses.{is_path}

@@ -2,7 +2,7 @@
 -- (SA22-7832, chapter 16): by what it showed before, and by what was told of the program.
 use Rattle.std.specs.Prelude.{◌<◌, ◌&&◌, ◌||◌, not, Bool, true, false, Option, None, Some, option_map}
 use Rattle.scsw_irb.specs.declared.scsw.Scsw.{Scsw}
-use Rattle.chan_model.specs.declared.signal.Up.{Up}
+use Rattle.chan_model.specs.Signals.{Up}
 use Rattle.chan_model.specs.declared.signal.Up.TheVariants as up
 use Rattle.chan_model.specs.UnitReports.{is_last_end}
 use Rattle.chan_events.specs.declared.event.Event.{Event}

@@ -7,11 +7,11 @@ use Rattle.std.proofs.lemmas.List.Elements.{All-nil}
 use Rattle.orb_block.specs.declared.Orb.{Orb}
 use Rattle.chan_model.specs.declared.names.Side.{Side}
 use Rattle.chan_events.specs.declared.reply.Reply.TheVariants as reply
-use Rattle.chan_model.specs.declared.signal.Down.{Down}
+use Rattle.chan_model.specs.Signals.{Down}
 use Rattle.chan_model.specs.declared.signal.Down.TheVariants as down
-use Rattle.chan_model.specs.declared.signal.Load.{Load}
+use Rattle.chan_model.specs.Signals.{Load}
 use Rattle.chan_model.specs.declared.signal.OnPath.{OnPath}
-use Rattle.chan_model.specs.declared.signal.Up.{Up}
+use Rattle.chan_model.specs.Signals.{Up}
 use Rattle.chan_model.specs.declared.unit_state.AtHand.{AtHand}
 use Rattle.chan_model.specs.declared.unit_state.UnitState.{UnitState}
 use Rattle.chan_model.specs.UnitTable.{UnitStep, came_of, changes, new_command, side_of, is_owner, unit_takes, unit_after, telling}

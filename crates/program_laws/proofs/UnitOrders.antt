@@ -7,7 +7,7 @@ use Rattle.std.proofs.lemmas.List.Elements.{All-weaker, All-push, All-drop}
 use Rattle.std.proofs.lemmas.Option.{slice_get_within, get_or_from_slice_get}
 use Rattle.chan_model.specs.declared.names.Side.{Side}
 use Rattle.chan_model.specs.declared.names.Side.TheVariants.{First, Second}
-use Rattle.chan_model.specs.declared.signal.Down.{Down}
+use Rattle.chan_model.specs.Signals.{Down}
 use Rattle.chan_model.specs.declared.signal.Down.TheVariants as down
 use Rattle.chan_model.specs.declared.signal.OnPath.{OnPath}
 use Rattle.chan_model.specs.declared.signal.Up.TheVariants as up

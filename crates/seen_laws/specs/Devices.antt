@@ -10,9 +10,9 @@ use Rattle.chan_model.specs.declared.names.Side.{Side}
 use Rattle.chan_model.specs.declared.names.Side.TheVariants.{First, Second}
 use Rattle.chan_model.specs.declared.report.DeviceAnswer.{DeviceAnswer}
 use Rattle.chan_model.specs.declared.report.DeviceAnswer.TheVariants as answer
-use Rattle.chan_model.specs.declared.signal.Down.{Down}
+use Rattle.chan_model.specs.Signals.{Down}
 use Rattle.chan_model.specs.declared.signal.Down.TheVariants as down
-use Rattle.chan_model.specs.declared.signal.Up.{Up}
+use Rattle.chan_model.specs.Signals.{Up}
 use Rattle.chan_model.specs.declared.signal.Up.TheVariants as up
 use Rattle.chan_model.specs.Sides.{same_side}
 use Rattle.channel_config.specs.declared.names.SubchannelId.{SubchannelId}

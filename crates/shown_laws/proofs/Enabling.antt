@@ -15,7 +15,7 @@ use Rattle.channel_config.specs.declared.names.SubchannelId.{SubchannelId}
 use Rattle.channel_config.specs.Setup.{Setup, set_count}
 use Rattle.chan_model.specs.ResetCauses.{rests_on}
 use Rattle.chan_model.specs.UnitReports.{is_last_end}
-use Rattle.chan_model.specs.declared.signal.Up.{Up}
+use Rattle.chan_model.specs.Signals.{Up}
 use Rattle.storage_keys.specs.Storage.{Contents}
 use Rattle.event_laws.specs.Codes.{answer_in}
 use Rattle.machine_model.specs.declared.state.Sweep.{Sweep}

@@ -1,9 +1,9 @@
 -- Signals in places that are made beforehand, and what stands there.
 use Rattle.std.specs.Prelude.{ℕ, Bool, Option, None, Some}
-use Rattle.chan_model.specs.declared.signal.Down.{Down}
+use Rattle.chan_model.specs.Signals.{Down}
 use Rattle.chan_model.specs.declared.signal.OnPath.{OnPath}
 use Rattle.chan_model.specs.declared.signal.Taken.{Taken}
-use Rattle.chan_model.specs.declared.signal.Up.{Up}
+use Rattle.chan_model.specs.Signals.{Up}
 use Rattle.kept_events.specs.Signals.{down_in, up_in}
 use Rattle.signal_places.specs.declared.signals.DownPlace.{DownPlace}
 use Rattle.signal_places.specs.declared.signals.UpPlace.{UpPlace}

@@ -24,7 +24,7 @@ pub struct SentDown {
 
 impl Model for SentDown {
     ghost use Rattle.std.specs.Prelude.{Option};
-    ghost use Rattle.chan_model.specs.declared.signal.Down.{Down};
+    ghost use Rattle.chan_model.specs.Signals.{Down};
     ghost use Rattle.chan_model.specs.declared.signal.OnPath.{OnPath};
     ghost use Rattle.signal_places.specs.Places.{down_at, sent_on};
 
@@ -144,7 +144,7 @@ pub struct SentUp {
 
 impl Model for SentUp {
     ghost use Rattle.std.specs.Prelude.{Option};
-    ghost use Rattle.chan_model.specs.declared.signal.Up.{Up};
+    ghost use Rattle.chan_model.specs.Signals.{Up};
     ghost use Rattle.chan_model.specs.declared.signal.OnPath.{OnPath};
     ghost use Rattle.signal_places.specs.Places.{up_at, sent_on};
 

@@ -2,8 +2,8 @@
 use Rattle.std.proofs.Common.{◌≡◌, refl, sym, ◌∙◌, ap, ℕ, Bool, true, false, Option, None, Some}
 use Rattle.std.specs.Prelude.{if◌then◌else◌, is_some}
 use Rattle.storage_keys.specs.Storage.{Contents}
-use Rattle.chan_model.specs.declared.signal.Load.{Load}
-use Rattle.chan_model.specs.declared.signal.Up.{Up}
+use Rattle.chan_model.specs.Signals.{Load}
+use Rattle.chan_model.specs.Signals.{Up}
 use Rattle.chan_model.specs.declared.signal.Up.TheVariants as up
 use Rattle.chan_model.specs.UnitReports.{is_outward}
 use Rattle.signal_places.specs.Places.{sent_path}

@@ -1,7 +1,7 @@
 //! Whether a signal is answered, and by which path, before anything is changed.
 
 ghost use Rattle.std.specs.Prelude.{◌≡◌, ◌<◌, ◌^◌, false, is_some, ℕ, Bool};
-ghost use Rattle.chan_model.specs.declared.signal.Up.{Up};
+ghost use Rattle.chan_model.specs.Signals.{Up};
 ghost use Rattle.signal_places.specs.Places.{sent_path, up_at};
 ghost use Rattle.subchannel_model.specs.Taking as taking_spec;
 ghost use Rattle.subchannel.specs.Answering as spec;

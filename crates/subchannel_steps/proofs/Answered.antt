@@ -1,9 +1,9 @@
 -- Whether a signal that is sent finds its wire full, where that was asked of its path.
 use Rattle.std.proofs.Common.{◌≡◌, refl, ℕ, Bool, false, IfSome, Option, None, Some, List}
-use Rattle.chan_model.specs.declared.signal.Down.{Down}
+use Rattle.chan_model.specs.Signals.{Down}
 use Rattle.chan_model.specs.declared.signal.OnPath.{OnPath}
-use Rattle.chan_model.specs.declared.signal.Up.{Up}
-use Rattle.chan_model.specs.declared.signal.Up.{Up}
+use Rattle.chan_model.specs.Signals.{Up}
+use Rattle.chan_model.specs.Signals.{Up}
 use Rattle.subchannel_model.specs.Sending.{carried}
 use Rattle.subchannel_steps.specs.Giving.{TellsFull}
 use Rattle.chan_model.specs.declared.hold_state.HoldPhase.{HoldPhase}

@@ -1,7 +1,7 @@
 -- What a unit owes, and what control units keep, after it took a signal.
 use Rattle.std.proofs.Common.{◌≡◌, refl, sym, ◌∙◌, ap, ℕ, Bool, true, false, not, ◌&&◌, ◌||◌, if◌then◌else◌, Option, List}
 use Rattle.chan_model.specs.declared.signal.Taken.{Taken}
-use Rattle.chan_model.specs.declared.signal.Up.{Up}
+use Rattle.chan_model.specs.Signals.{Up}
 use Rattle.chan_model.specs.declared.unit_state.UnitState.{UnitState}
 use Rattle.chan_model.specs.UnitTable.{UnitStep, came_of, is_idle, unit_after}
 use Rattle.control_units.specs.declared.Member.{Member}

@@ -1,9 +1,9 @@
 //! Signals that are put on the wires of a subchannel: one that is sent on a path that is down vanishes.
 
 ghost use Rattle.std.specs.Prelude.{◌≡◌, Some, false};
-ghost use Rattle.chan_model.specs.declared.signal.Down.{Down};
+ghost use Rattle.chan_model.specs.Signals.{Down};
 ghost use Rattle.chan_model.specs.declared.signal.OnPath.{OnPath};
-ghost use Rattle.chan_model.specs.declared.signal.Up.{Up};
+ghost use Rattle.chan_model.specs.Signals.{Up};
 ghost use Rattle.machine_model.specs.ReportSteps as report_spec;
 ghost use Rattle.subchannel_steps.specs.Giving as giving_spec;
 ghost use Rattle.subchannel_model.specs.Sending as spec;

@@ -9,7 +9,7 @@ ghost use Rattle.machine_model.specs.DownSteps as down_spec;
 ghost use Rattle.machine_model.specs.ReportSteps as report_spec;
 ghost use Rattle.machine_model.specs.Turns as turn_spec;
 ghost use Rattle.subchannel.specs.Answering as answering_spec;
-ghost use Rattle.chan_model.specs.declared.signal.Down.{Down};
+ghost use Rattle.chan_model.specs.Signals.{Down};
 ghost use Rattle.chan_model.specs.declared.signal.OnPath.{OnPath};
 ghost use Rattle.std.specs.Bool.{OnFalse};
 ghost use Rattle.subchannel_model.specs.Choosing as choosing_spec;

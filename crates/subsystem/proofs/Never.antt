@@ -16,8 +16,8 @@ use Rattle.chan_events.specs.declared.event.Event.{Event}
 use Rattle.chan_events.specs.declared.event.Event.TheVariants as event
 use Rattle.chan_model.specs.declared.fault.Fault.{Fault}
 use Rattle.chan_model.specs.declared.fault.Fault.TheVariants.{NoMemory, NotNow, Storage, Operand, WireFull, NoSuchSubchannel, NoSuchPath}
-use Rattle.chan_model.specs.declared.signal.Down.{Down}
-use Rattle.chan_model.specs.declared.signal.Up.{Up}
+use Rattle.chan_model.specs.Signals.{Down}
+use Rattle.chan_model.specs.Signals.{Up}
 use Rattle.chan_model.specs.declared.report.Report.{Report}
 use Rattle.chan_events.specs.declared.reply.Reply.{Reply}
 use Rattle.chan_model.specs.declared.unit_state.UnitState.{UnitState}

@@ -1,8 +1,8 @@
 -- The wires between a subchannel and its unit (own): for each of its eight paths the signals that wait, one queue each
 -- way. Signals arrive in the order in which they were sent.
 use Rattle.std.specs.Prelude.{ℕ, Option, List, [], ◌∷◌, ◌++◌, drop, replicate, slice_get, slice_index_or, slice_set}
-use Rattle.chan_model.specs.declared.signal.Down.{Down}
-use Rattle.chan_model.specs.declared.signal.Up.{Up}
+use Rattle.chan_model.specs.Signals.{Down}
+use Rattle.chan_model.specs.Signals.{Up}
 
 -- for each path the signals that wait, the oldest first
 pub record Queues : Type 0 where

@@ -14,7 +14,7 @@ struct DownSlot {
 }
 
 impl Model for DownSlot {
-    ghost use Rattle.chan_model.specs.declared.signal.Down.{Down};
+    ghost use Rattle.chan_model.specs.Signals.{Down};
     ghost use Rattle.signal_places.specs.Places.{down_at};
 
     ghost Value = { Down };
@@ -56,7 +56,7 @@ pub(crate) struct Downs {
 
 impl Model for Downs {
     ghost use Rattle.std.specs.Prelude.{List, ◌<◌, ◌≤◌, ◌≡◌, length};
-    ghost use Rattle.chan_model.specs.declared.signal.Down.{Down};
+    ghost use Rattle.chan_model.specs.Signals.{Down};
     ghost use Rattle.wires.specs.Windows.{window};
 
     ghost Value = { List Down };

@@ -14,7 +14,7 @@ struct UpSlot {
 }
 
 impl Model for UpSlot {
-    ghost use Rattle.chan_model.specs.declared.signal.Up.{Up};
+    ghost use Rattle.chan_model.specs.Signals.{Up};
     ghost use Rattle.signal_places.specs.Places.{up_at};
 
     ghost Value = { Up };
@@ -56,7 +56,7 @@ pub(crate) struct Ups {
 
 impl Model for Ups {
     ghost use Rattle.std.specs.Prelude.{List, ◌<◌, ◌≤◌, ◌≡◌, length};
-    ghost use Rattle.chan_model.specs.declared.signal.Up.{Up};
+    ghost use Rattle.chan_model.specs.Signals.{Up};
     ghost use Rattle.wires.specs.Windows.{window};
 
     ghost Value = { List Up };

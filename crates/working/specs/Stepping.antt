@@ -1,6 +1,6 @@
 -- A subchannel that a signal changed in place, with what came of the signal.
 use Rattle.std.specs.Prelude.{true, false, Option, None}
-use Rattle.chan_model.specs.declared.signal.Down.{Down}
+use Rattle.chan_model.specs.Signals.{Down}
 use Rattle.chan_model.specs.declared.signal.OnPath.{OnPath}
 use Rattle.chan_model.specs.declared.signal.Taken.{Taken}
 use Rattle.subchannel_model.specs.declared.state.SubchannelState.{SubchannelState}

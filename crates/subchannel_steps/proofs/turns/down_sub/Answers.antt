@@ -1,5 +1,5 @@
 use Rattle.std.proofs.Common.{◌≡◌, sym, ◌∙◌, ap, subst, ℕ, false, nat_lt, Some, length}
-use Rattle.chan_model.specs.declared.signal.Down.{Down}
+use Rattle.chan_model.specs.Signals.{Down}
 use Rattle.chan_model.specs.UnitTable.{came_of, unit_takes}
 use Rattle.wires.specs.Queues.{Queues}
 use Rattle.subchannel_model.specs.Sending.{carried_by, finds_full}

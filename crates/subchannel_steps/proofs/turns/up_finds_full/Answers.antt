@@ -1,6 +1,6 @@
 use Rattle.std.proofs.Common.{Bool, false, subst, Some}
 use Rattle.std.specs.Bool.{OnFalse}
-use Rattle.chan_model.specs.declared.signal.Down.{Down}
+use Rattle.chan_model.specs.Signals.{Down}
 use Rattle.chan_model.specs.declared.signal.OnPath.{OnPath}
 use Rattle.signal_places.specs.Places.{up_at}
 use Rattle.subchannel.specs.Answering.{IsAnswerPath}

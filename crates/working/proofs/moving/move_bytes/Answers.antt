@@ -6,7 +6,7 @@ use Rattle.subchannel_model.specs.declared.state.UpStep.{UpStep}
 use Rattle.subchannel_model.specs.Taking.{Met, meets, bytes_of_load, take_in}
 use Rattle.storage_keys.specs.Storage.{Contents}
 use Rattle.chan_model.specs.Loads.{load_length}
-use Rattle.chan_model.specs.declared.signal.Load.{Load}
+use Rattle.chan_model.specs.Signals.{Load}
 use Rattle.signal_places.specs.Places.{came_so, up_at}
 use Rattle.transfer.specs.Chunks.{brought}
 use Rattle.working.specs.Stepping.{subchannel_stepped}
