@@ -1,8 +1,10 @@
 -- The signals between a subchannel and its unit, over lists of bytes, and the same over what else stands for their bytes (own).
-use Rattle.std.specs.Prelude.{ℕ, List, [], length, take}
+use Rattle.std.specs.Prelude.{ℕ, Option, None, Some, List, [], take}
 use Rattle.chan_model.specs.declared.chunk.Bytes.{Bytes}
 use Rattle.chan_model.specs.declared.signal.Down as declared_down
 use Rattle.chan_model.specs.declared.signal.Load as declared_load
+use Rattle.chan_model.specs.declared.signal.OnPath.{OnPath}
+use Rattle.chan_model.specs.declared.signal.Taken.{Taken}
 use Rattle.chan_model.specs.declared.signal.Up as declared_up
 use Rattle.chan_model.specs.declared.signal.Down.TheVariants as down
 use Rattle.chan_model.specs.declared.signal.Load.TheVariants as load
@@ -60,6 +62,14 @@ map_up f (up.Cleared number) = up.Cleared number
 map_up f (up.Notice restarts) = up.Notice restarts
 map_up f (up.Attn attention status) = up.Attn attention status
 
+-- a signal that is sent on a path, and what came of one that was met, over something else in place of the signal
+abbrev pub map_sent : {A B : Type 0} → (A → B) → Option (OnPath A) → Option (OnPath B)
+map_sent f None = None
+map_sent f (Some sent) = Some (record { path = sent.path; signal = f sent.signal })
+
+abbrev pub map_taken : {A B : Type 0} → (A → B) → Taken A → Taken B
+map_taken f came = record { taken = came.taken; sent = map_sent f came.sent }
+
 -- bytes that are lent, as a list
 abbrev pub lent : Bytes → List ℕ
 lent bytes = bytes.bytes.now
@@ -74,21 +84,12 @@ lent_load l = map_load lent l
 abbrev pub lent_up : declared_up.Up (declared_load.Load Bytes) → Up
 lent_up signal = map_up lent_load signal
 
--- a signal as it is kept, and what it is with the first of these bytes
-abbrev pub kept_down : Down → KeptDown
-kept_down signal = map_down length signal
-
+-- what a signal whose bytes stand elsewhere is with the first of these bytes
 abbrev pub down_in : KeptDown → List ℕ → Down
 down_in kept bytes = map_down (λ n. take n bytes) kept
 
-abbrev pub kept_load : Load → KeptLoad
-kept_load l = map_load length l
-
 abbrev pub load_in : KeptLoad → List ℕ → Load
 load_in kept bytes = map_load (λ n. take n bytes) kept
-
-abbrev pub kept_up : Up → KeptUp
-kept_up signal = map_up kept_load signal
 
 abbrev pub up_in : KeptUp → List ℕ → Up
 up_in kept bytes = map_up (λ l. load_in l bytes) kept

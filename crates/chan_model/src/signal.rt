@@ -1,6 +1,6 @@
 //! The signals between a subchannel and its unit (own).
 
-ghost use Rattle.std.specs.Prelude.{◌≡◌, ◌≤◌, length};
+ghost use Rattle.std.specs.Prelude.{◌≡◌, ◌≤◌, ◌++◌, ℕ, List, None, Some, false, length, true};
 ghost use Rattle.chan_model.specs.Loads.{load_length};
 ghost use Rattle.chan_model.specs.Signals as spec;
 
@@ -170,6 +170,38 @@ impl Default for Up {
     }
 }
 
+impl<S: Drop> Taken<S> {
+    /// The signal was ignored: nothing changed, and nothing was sent.
+    pub fn ignored() -> Self
+        ensures { result ≡ record { taken = false; sent = None } }
+    {
+        Taken {
+            taken: false,
+            sent: None,
+        }
+    }
+
+    /// The state changed, and nothing was sent.
+    pub fn quietly() -> Self
+        ensures { result ≡ record { taken = true; sent = None } }
+    {
+        Taken {
+            taken: true,
+            sent: None,
+        }
+    }
+
+    /// A signal was sent on a path.
+    pub fn sending(path: Path, signal: S) -> Self
+        ensures { result ≡ record { taken = true; sent = Some (record { path = path; signal = signal }) } }
+    {
+        Taken {
+            taken: true,
+            sent: Some(OnPath { path, signal }),
+        }
+    }
+}
+
 impl<B> Down<B> {
     /// The same signal over other bytes.
     pub fn with<C: Drop>(&self, bytes: C) -> Down<C>
@@ -280,7 +312,9 @@ impl<'a> Down<Bytes<'a>> {
 
     /// The same signal, its bytes standing elsewhere.
     pub fn keep(&self) -> KeptDown
-        ensures { result ≡ spec.kept_down (spec.lent_down self.now) }
+        ensures kept { (rest : List ℕ) → spec.down_in result (spec.down_bytes (spec.lent_down self.now) ++ rest) ≡ spec.lent_down self.now }
+        ensures length { spec.down_length result ≡ length (spec.down_bytes (spec.lent_down self.now)) }
+        ensures bound { length (spec.down_bytes (spec.lent_down self.now)) ≤ 256 }
     {
         self.with(ChunkLength::of(self.bytes()))
     }
@@ -360,7 +394,9 @@ impl<'a> Load<Bytes<'a>> {
 
     /// The same load, its bytes standing elsewhere.
     pub fn keep(&self) -> Load<ChunkLength>
-        ensures { result ≡ spec.kept_load (spec.lent_load self.now) }
+        ensures kept { (rest : List ℕ) → spec.load_in result (spec.load_bytes (spec.lent_load self.now) ++ rest) ≡ spec.lent_load self.now }
+        ensures length { spec.kept_length result ≡ length (spec.load_bytes (spec.lent_load self.now)) }
+        ensures bound { length (spec.load_bytes (spec.lent_load self.now)) ≤ 256 }
     {
         match self {
             Load::Absorbed(count) => Load::Absorbed(*count),
@@ -500,7 +536,9 @@ impl<'a> Up<Load<Bytes<'a>>> {
 
     /// The same signal, its bytes standing elsewhere.
     pub fn keep(&self) -> KeptUp
-        ensures { result ≡ spec.kept_up (spec.lent_up self.now) }
+        ensures kept { (rest : List ℕ) → spec.up_in result (spec.up_bytes (spec.lent_up self.now) ++ rest) ≡ spec.lent_up self.now }
+        ensures length { spec.up_length result ≡ length (spec.up_bytes (spec.lent_up self.now)) }
+        ensures bound { length (spec.up_bytes (spec.lent_up self.now)) ≤ 256 }
     {
         self.with(self.load().keep())
     }

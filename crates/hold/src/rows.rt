@@ -1,90 +1,54 @@
 //! What the hold does with each signal, and what its state says.
 
-ghost use Rattle.std.specs.Prelude.{◌≡◌, [], None, Some, true};
+ghost use Rattle.std.specs.Prelude.{◌≡◌, None, Some, true};
 ghost use Rattle.chan_model.specs.HoldTable as table;
 ghost use Rattle.chan_model.specs.ResetCauses as causes;
-ghost use Rattle.kept_events.specs.Signals as kept_spec;
-ghost use Rattle.signal_places.specs.Places.{came_so, up_at};
+ghost use Rattle.chan_model.specs.Signals.{lent_down, lent_up, map_taken};
 
 use chan_model::hold_state::{HoldPhase, HoldState};
 use chan_model::names::Path;
-use kept_events::signals::{KeptDown, KeptUp};
-use signal_places::sent::SentDown;
-use signal_places::signals::UpPlace;
+use chan_model::signal::{Down, LentDown, LentUp, Taken, Up};
+
+/// What came of a signal; none of those that the hold sends has bytes.
+type Came = Taken<LentDown<'static>>;
 
 /// A signal that came by a path.
-pub fn takes(
-    hold: &mut HoldState,
-    path: Path,
-    signal: &UpPlace,
-    may: bool,
-    sent: &mut SentDown,
-) -> bool
-    ensures state { hold.new ≡ table.hold_after hold.old (table.hold_takes hold.old path (up_at signal.now) may) }
-    ensures came { came_so result sent.new ≡ table.came_of (table.hold_takes hold.old path (up_at signal.now) may) }
+pub fn takes(hold: &mut HoldState, path: Path, signal: &LentUp<'_>, may: bool) -> Came
+    ensures state { hold.new ≡ table.hold_after hold.old (table.hold_takes hold.old path (lent_up signal.now) may) }
+    ensures came { map_taken lent_down result ≡ table.came_of (table.hold_takes hold.old path (lent_up signal.now) may) }
 {
-    match signal.kept {
-        KeptUp::Accept { number } => accepted(hold, number, may, sent),
-        KeptUp::Busy { number } => found_busy(hold, number, sent),
-        KeptUp::Leave { number, connection } => left(hold, number, connection, sent),
-        KeptUp::Back { number, connection } => asked_back(
-            hold, path, number, connection, may, sent,
-        ),
-        KeptUp::Absorbed { .. } | KeptUp::Bytes { .. } | KeptUp::End { .. } => ignored(sent),
-        KeptUp::Released { number } => released(hold, number, sent),
-        KeptUp::Cleared { number } => cleared(hold, number, sent),
-        KeptUp::Notice { restarts } => noticed(hold, restarts, sent),
-        KeptUp::Attn { attention, .. } => attended(hold, path, attention, may, sent),
+    match *signal {
+        Up::Accept { number } => accepted(hold, number, may),
+        Up::Busy { number } => found_busy(hold, number),
+        Up::Leave { number, connection } => left(hold, number, connection),
+        Up::Back { number, connection } => asked_back(hold, path, number, connection, may),
+        Up::Data { .. } | Up::End { .. } => Taken::ignored(),
+        Up::Released { number } => released(hold, number),
+        Up::Cleared { number } => cleared(hold, number),
+        Up::Notice { restarts } => noticed(hold, restarts),
+        Up::Attn { attention, .. } => attended(hold, path, attention, may),
     }
 }
 
-/// Nothing came of it.
-fn ignored(sent: &mut SentDown) -> bool
-    ensures { came_so result sent.new ≡ table.came_of None }
-{
-    sent.clear();
-    false
-}
-
-/// The state changed, and nothing was sent.
-fn quietly(sent: &mut SentDown) -> bool
-    ensures { came_so result sent.new ≡ record { taken = true; sent = None } }
-{
-    sent.clear();
-    true
-}
-
-/// A signal without bytes was sent on a path.
-fn sending(path: Path, signal: KeptDown, sent: &mut SentDown) -> bool
-    requires { kept_spec.down_length signal ≡ 0 }
-    ensures { came_so result sent.new ≡ record {
-      taken = true;
-      sent = Some (record { path = path; signal = kept_spec.down_in signal [] });
-    } }
-{
-    sent.put(path, signal);
-    true
-}
-
 /// Accept of the number that is offered: the program goes on, or lets the device go at once.
-fn accepted(hold: &mut HoldState, number: u64, may: bool, sent: &mut SentDown) -> bool
+fn accepted(hold: &mut HoldState, number: u64, may: bool) -> Came
     ensures state { hold.new ≡ table.hold_after hold.old (table.offer_accepted hold.old hold.old.phase number may) }
-    ensures came { came_so result sent.new ≡ table.came_of (table.offer_accepted hold.old hold.old.phase number may) }
+    ensures came { map_taken lent_down result ≡ table.came_of (table.offer_accepted hold.old hold.old.phase number may) }
 {
     let phase = hold.phase;
     match phase {
         HoldPhase::Offer {
             number: offered,
             path,
-        } if number == offered => begun(hold, offered, path, may, sent),
-        _ => ignored(sent),
+        } if number == offered => begun(hold, offered, path, may),
+        _ => Taken::ignored(),
     }
 }
 
 /// The program of this number was accepted on this path.
-fn begun(hold: &mut HoldState, number: u64, path: Path, goes_on: bool, sent: &mut SentDown) -> bool
+fn begun(hold: &mut HoldState, number: u64, path: Path, goes_on: bool) -> Came
     ensures state { hold.new ≡ (table.program_begun hold.old number path goes_on).state }
-    ensures came { came_so result sent.new ≡ table.came_of (Some (table.program_begun hold.old number path goes_on)) }
+    ensures came { map_taken lent_down result ≡ table.came_of (Some (table.program_begun hold.old number path goes_on)) }
 {
     hold.seen = 0;
     hold.first_path = Some(path);
@@ -94,17 +58,17 @@ fn begun(hold: &mut HoldState, number: u64, path: Path, goes_on: bool, sent: &mu
             path,
             connection: 0,
         };
-        quietly(sent)
+        Taken::quietly()
     } else {
         hold.phase = HoldPhase::Letting { number, path };
-        sending(path, KeptDown::Release { number }, sent)
+        Taken::sending(path, Down::Release { number })
     }
 }
 
 /// Busy at the number that is offered: the program waits again.
-fn found_busy(hold: &mut HoldState, number: u64, sent: &mut SentDown) -> bool
+fn found_busy(hold: &mut HoldState, number: u64) -> Came
     ensures state { hold.new ≡ table.hold_after hold.old (table.found_busy hold.old hold.old.phase number) }
-    ensures came { came_so result sent.new ≡ table.came_of (table.found_busy hold.old hold.old.phase number) }
+    ensures came { map_taken lent_down result ≡ table.came_of (table.found_busy hold.old hold.old.phase number) }
 {
     match hold.phase {
         HoldPhase::Offer {
@@ -112,16 +76,16 @@ fn found_busy(hold: &mut HoldState, number: u64, sent: &mut SentDown) -> bool
             ..
         } if number == offered => {
             hold.phase = HoldPhase::Free;
-            quietly(sent)
+            Taken::quietly()
         }
-        _ => ignored(sent),
+        _ => Taken::ignored(),
     }
 }
 
 /// Leave of the connection at hand.
-fn left(hold: &mut HoldState, number: u64, connection: u64, sent: &mut SentDown) -> bool
+fn left(hold: &mut HoldState, number: u64, connection: u64) -> Came
     ensures state { hold.new ≡ table.hold_after hold.old (table.left hold.old hold.old.phase number connection) }
-    ensures came { came_so result sent.new ≡ table.came_of (table.left hold.old hold.old.phase number connection) }
+    ensures came { map_taken lent_down result ≡ table.came_of (table.left hold.old hold.old.phase number connection) }
 {
     match hold.phase {
         HoldPhase::On {
@@ -130,64 +94,45 @@ fn left(hold: &mut HoldState, number: u64, connection: u64, sent: &mut SentDown)
             ..
         } if number == held && last == connection => {
             hold.phase = HoldPhase::Away { number: held };
-            quietly(sent)
+            Taken::quietly()
         }
-        _ => ignored(sent),
+        _ => Taken::ignored(),
     }
 }
 
 /// Back under a connection above the last seen: granted where the program is away and may come, refused elsewhere.
-fn asked_back(
-    hold: &mut HoldState,
-    path: Path,
-    number: u64,
-    connection: u64,
-    may: bool,
-    sent: &mut SentDown,
-) -> bool
+fn asked_back(hold: &mut HoldState, path: Path, number: u64, connection: u64, may: bool) -> Came
     ensures state { hold.new ≡ table.hold_after hold.old (table.asked_back hold.old hold.old.phase path number connection may) }
-    ensures came { came_so result sent.new ≡ table.came_of (table.asked_back hold.old hold.old.phase path number connection may) }
+    ensures came { map_taken lent_down result ≡ table.came_of (table.asked_back hold.old hold.old.phase path number connection may) }
 {
     match hold.phase {
         HoldPhase::On { number: held, .. } if number == held && hold.seen < connection => {
-            refusing(hold, path, held, connection, sent)
+            refusing(hold, path, held, connection)
         }
         HoldPhase::Away { number: held } if number == held && hold.seen < connection => {
             if may {
-                granting(hold, path, held, connection, sent)
+                granting(hold, path, held, connection)
             } else {
-                refusing(hold, path, held, connection, sent)
+                refusing(hold, path, held, connection)
             }
         }
-        _ => ignored(sent),
+        _ => Taken::ignored(),
     }
 }
 
 /// A connection is refused on the path by which it came.
-fn refusing(
-    hold: &mut HoldState,
-    path: Path,
-    number: u64,
-    connection: u64,
-    sent: &mut SentDown,
-) -> bool
+fn refusing(hold: &mut HoldState, path: Path, number: u64, connection: u64) -> Came
     ensures state { hold.new ≡ (table.refusing hold.old path number connection).state }
-    ensures came { came_so result sent.new ≡ table.came_of (Some (table.refusing hold.old path number connection)) }
+    ensures came { map_taken lent_down result ≡ table.came_of (Some (table.refusing hold.old path number connection)) }
 {
     hold.seen = connection;
-    sending(path, KeptDown::Refuse { number, connection }, sent)
+    Taken::sending(path, Down::Refuse { number, connection })
 }
 
 /// A connection is granted on the path by which it came.
-fn granting(
-    hold: &mut HoldState,
-    path: Path,
-    number: u64,
-    connection: u64,
-    sent: &mut SentDown,
-) -> bool
+fn granting(hold: &mut HoldState, path: Path, number: u64, connection: u64) -> Came
     ensures state { hold.new ≡ (table.granting hold.old path number connection).state }
-    ensures came { came_so result sent.new ≡ table.came_of (Some (table.granting hold.old path number connection)) }
+    ensures came { map_taken lent_down result ≡ table.came_of (Some (table.granting hold.old path number connection)) }
 {
     hold.seen = connection;
     hold.phase = HoldPhase::On {
@@ -195,65 +140,59 @@ fn granting(
         path,
         connection,
     };
-    sending(path, KeptDown::Grant { number, connection }, sent)
+    Taken::sending(path, Down::Grant { number, connection })
 }
 
 /// Released of the number that is let go.
-fn released(hold: &mut HoldState, number: u64, sent: &mut SentDown) -> bool
+fn released(hold: &mut HoldState, number: u64) -> Came
     ensures state { hold.new ≡ table.hold_after hold.old (table.released hold.old hold.old.phase number) }
-    ensures came { came_so result sent.new ≡ table.came_of (table.released hold.old hold.old.phase number) }
+    ensures came { map_taken lent_down result ≡ table.came_of (table.released hold.old hold.old.phase number) }
 {
     match hold.phase {
         HoldPhase::Letting { number: let_go, .. } if number == let_go => {
             hold.phase = HoldPhase::Free;
-            quietly(sent)
+            Taken::quietly()
         }
-        _ => ignored(sent),
+        _ => Taken::ignored(),
     }
 }
 
 /// Cleared of the Reset's number.
-fn cleared(hold: &mut HoldState, number: u64, sent: &mut SentDown) -> bool
+fn cleared(hold: &mut HoldState, number: u64) -> Came
     ensures state { hold.new ≡ table.hold_after hold.old (table.reset_cleared hold.old hold.old.phase number) }
-    ensures came { came_so result sent.new ≡ table.came_of (table.reset_cleared hold.old hold.old.phase number) }
+    ensures came { map_taken lent_down result ≡ table.came_of (table.reset_cleared hold.old hold.old.phase number) }
 {
     match hold.phase {
         HoldPhase::Reset { number: last } if number == last => {
             hold.phase = HoldPhase::Free;
             hold.reset_path = None;
-            quietly(sent)
+            Taken::quietly()
         }
-        _ => ignored(sent),
+        _ => Taken::ignored(),
     }
 }
 
 /// Notice of more restarts than are known.
-fn noticed(hold: &mut HoldState, restarts: u64, sent: &mut SentDown) -> bool
+fn noticed(hold: &mut HoldState, restarts: u64) -> Came
     ensures state { hold.new ≡ table.hold_after hold.old (table.noticed hold.old restarts) }
-    ensures came { came_so result sent.new ≡ table.came_of (table.noticed hold.old restarts) }
+    ensures came { map_taken lent_down result ≡ table.came_of (table.noticed hold.old restarts) }
 {
     if hold.known < restarts {
         hold.known = restarts;
-        quietly(sent)
+        Taken::quietly()
     } else {
-        ignored(sent)
+        Taken::ignored()
     }
 }
 
 /// Attn where nothing holds the device: answered where the subchannel can show it.
-fn attended(
-    hold: &mut HoldState,
-    path: Path,
-    attention: u64,
-    may: bool,
-    sent: &mut SentDown,
-) -> bool
+fn attended(hold: &mut HoldState, path: Path, attention: u64, may: bool) -> Came
     ensures state { hold.new ≡ table.hold_after hold.old (table.attended hold.old hold.old.phase path attention may) }
-    ensures came { came_so result sent.new ≡ table.came_of (table.attended hold.old hold.old.phase path attention may) }
+    ensures came { map_taken lent_down result ≡ table.came_of (table.attended hold.old hold.old.phase path attention may) }
 {
     match hold.phase {
-        HoldPhase::Free if may => sending(path, KeptDown::Got { attention }, sent),
-        _ => ignored(sent),
+        HoldPhase::Free if may => Taken::sending(path, Down::Got { attention }),
+        _ => Taken::ignored(),
     }
 }
 
