@@ -283,6 +283,15 @@ impl Down {
         self.with(self.bytes())
     }
 
+    /// The same signal, its bytes standing elsewhere.
+    pub fn keep(&self) -> KeptDown
+        ensures kept { (rest : List ℕ) → spec.down_in result (spec.down_bytes self.now ++ rest) ≡ self.now }
+        ensures length { spec.down_length result ≡ length (spec.down_bytes self.now) }
+        ensures bound { length (spec.down_bytes self.now) ≤ 256 }
+    {
+        self.lend().keep()
+    }
+
     /// The same signal; it takes no memory.
     pub fn copy(&self) -> Self
         ensures { result ≡ self.now }
@@ -498,6 +507,15 @@ impl Up {
         ensures { spec.lent_up result ≡ self.now }
     {
         self.with(self.load())
+    }
+
+    /// The same signal, its bytes standing elsewhere.
+    pub fn keep(&self) -> KeptUp
+        ensures kept { (rest : List ℕ) → spec.up_in result (spec.up_bytes self.now ++ rest) ≡ self.now }
+        ensures length { spec.up_length result ≡ length (spec.up_bytes self.now) }
+        ensures bound { length (spec.up_bytes self.now) ≤ 256 }
+    {
+        self.lend().keep()
     }
 
     /// The same signal; it takes no memory.

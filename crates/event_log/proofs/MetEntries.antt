@@ -11,10 +11,10 @@ use Rattle.chan_model.specs.Signals.{Up}
 use Rattle.kept_events.specs.declared.entries.KeptEntry.{KeptEntry}
 use Rattle.kept_events.specs.declared.events.KeptEvent.TheVariants as kept_event
 use Rattle.kept_events.specs.declared.replies.KeptReply.TheVariants as kept_reply
-use Rattle.kept_events.specs.declared.signals.KeptDown.{KeptDown}
-use Rattle.kept_events.specs.declared.signals.KeptUp.{KeptUp}
+use Rattle.chan_model.specs.Signals.{KeptDown}
+use Rattle.chan_model.specs.Signals.{KeptUp}
 use Rattle.kept_events.specs.Entries.{entry_in, entry_length}
-use Rattle.kept_events.specs.Signals.{down_bytes, down_in, down_length, up_bytes, up_in, up_length}
+use Rattle.chan_model.specs.Signals.{down_bytes, down_in, down_length, up_bytes, up_in, up_length}
 
 -- an entry is kept with these bytes
 pub record IsKept (k : KeptEntry) (bytes : List ℕ) (e : Entry) : Type 0 where

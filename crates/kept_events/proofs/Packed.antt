@@ -3,10 +3,8 @@ use Rattle.std.proofs.Common.{◌≡◌, ◌≤◌, ℕ, ◌∙◌, refl, sym, a
 use Rattle.chan_model.specs.declared.names.Side.{Side}
 use Rattle.chan_model.specs.declared.report.DeviceAnswer.{DeviceAnswer}
 use Rattle.chan_model.specs.declared.report.DeviceAnswer.TheVariants as answer
-use Rattle.chan_model.specs.Signals.{Down}
 use Rattle.chan_model.specs.declared.signal.Down.TheVariants as down
 use Rattle.chan_model.specs.declared.signal.Load.TheVariants as load
-use Rattle.chan_model.specs.Signals.{Up}
 use Rattle.chan_model.specs.declared.signal.Up.TheVariants as up
 use Rattle.chan_events.specs.declared.event.Event.{Event}
 use Rattle.chan_events.specs.declared.event.Event.TheVariants as event
@@ -18,40 +16,17 @@ use Rattle.kept_events.specs.declared.events.KeptEvent.{KeptEvent}
 use Rattle.kept_events.specs.declared.events.KeptEvent.TheVariants as kept_event
 use Rattle.kept_events.specs.declared.replies.KeptReply.{KeptReply}
 use Rattle.kept_events.specs.declared.replies.KeptReply.TheVariants as kept_reply
-use Rattle.kept_events.specs.declared.signals.KeptDown.{KeptDown}
-use Rattle.kept_events.specs.declared.signals.KeptDown.TheVariants as kept_down
-use Rattle.kept_events.specs.declared.signals.KeptUp.{KeptUp}
-use Rattle.kept_events.specs.declared.signals.KeptUp.TheVariants as kept_up
 use Rattle.kept_events.specs.Entries.{entry_in, entry_length, entry_bytes}
 use Rattle.kept_events.specs.Events.{event_in, event_length, event_bytes}
 use Rattle.kept_events.specs.Replies.{reply_in, reply_length, reply_bytes}
-use Rattle.kept_events.specs.Signals.{down_in, down_length, down_bytes, up_in, up_length, up_bytes}
+use Rattle.chan_model.specs.Signals.{Down, KeptDown, KeptUp, Up, map_down, map_load, map_up, down_in, down_length, down_bytes, up_in, up_length, up_bytes}
 
 -- what is kept of signals, events and replies
 abbrev kept_of_down : Down → KeptDown
-kept_of_down (down.Select number) = kept_down.Select number
-kept_of_down (down.Command number command code room) = kept_down.Command code room number command
-kept_of_down (down.Grant number connection) = kept_down.Grant number connection
-kept_of_down (down.Refuse number connection) = kept_down.Refuse number connection
-kept_of_down (down.Took number command sequence room) = kept_down.Took room number command sequence
-kept_of_down (down.Give number connection command sequence bytes) = kept_down.Give (length bytes) number connection command sequence
-kept_of_down (down.Halt number) = kept_down.Halt number
-kept_of_down (down.Release number) = kept_down.Release number
-kept_of_down (down.Reset number restarts) = kept_down.Reset number restarts
-kept_of_down (down.Got attention) = kept_down.Got attention
+kept_of_down signal = map_down length signal
 
 abbrev kept_of_up : Up → KeptUp
-kept_of_up (up.Accept number) = kept_up.Accept number
-kept_of_up (up.Busy number) = kept_up.Busy number
-kept_of_up (up.Leave number connection) = kept_up.Leave number connection
-kept_of_up (up.Back number connection) = kept_up.Back number connection
-kept_of_up (up.Data number connection command sequence (load.Absorbed count)) = kept_up.Absorbed count number connection command sequence
-kept_of_up (up.Data number connection command sequence (load.Bytes bytes)) = kept_up.Bytes (length bytes) number connection command sequence
-kept_of_up (up.End number command status more) = kept_up.End status more number command
-kept_of_up (up.Released number) = kept_up.Released number
-kept_of_up (up.Cleared number) = kept_up.Cleared number
-kept_of_up (up.Notice restarts) = kept_up.Notice restarts
-kept_of_up (up.Attn attention status) = kept_up.Attn status attention
+kept_of_up signal = map_up (λ l. map_load length l) signal
 
 abbrev kept_of_answer : ℕ → Side → ℕ → ℕ → ℕ → DeviceAnswer → KeptEvent
 kept_of_answer unit side number command sequence answer.Begins = kept_event.Begins side unit number command sequence
@@ -102,29 +77,29 @@ taken-length : (n : ℕ) (bytes : List ℕ) → n ≤ length bytes → length (t
 taken-length n bytes fits = length-take-le n bytes fits
 
 down-kept : (k : KeptDown) (bytes : List ℕ) → down_length k ≤ length bytes → kept_of_down (down_in k bytes) ≡ k
-down-kept (kept_down.Select number) bytes fits = refl
-down-kept (kept_down.Command code room number command) bytes fits = refl
-down-kept (kept_down.Grant number connection) bytes fits = refl
-down-kept (kept_down.Refuse number connection) bytes fits = refl
-down-kept (kept_down.Took room number command sequence) bytes fits = refl
-down-kept (kept_down.Give count number connection command sequence) bytes fits = ap (λ n. kept_down.Give n number connection command sequence) (taken-length count bytes fits)
-down-kept (kept_down.Halt number) bytes fits = refl
-down-kept (kept_down.Release number) bytes fits = refl
-down-kept (kept_down.Reset number restarts) bytes fits = refl
-down-kept (kept_down.Got attention) bytes fits = refl
+down-kept (down.Select number) bytes fits = refl
+down-kept (down.Command number command code room) bytes fits = refl
+down-kept (down.Grant number connection) bytes fits = refl
+down-kept (down.Refuse number connection) bytes fits = refl
+down-kept (down.Took number command sequence room) bytes fits = refl
+down-kept (down.Give number connection command sequence count) bytes fits = ap (λ n. down.Give number connection command sequence n) (taken-length count bytes fits)
+down-kept (down.Halt number) bytes fits = refl
+down-kept (down.Release number) bytes fits = refl
+down-kept (down.Reset number restarts) bytes fits = refl
+down-kept (down.Got attention) bytes fits = refl
 
 up-kept : (k : KeptUp) (bytes : List ℕ) → up_length k ≤ length bytes → kept_of_up (up_in k bytes) ≡ k
-up-kept (kept_up.Accept number) bytes fits = refl
-up-kept (kept_up.Busy number) bytes fits = refl
-up-kept (kept_up.Leave number connection) bytes fits = refl
-up-kept (kept_up.Back number connection) bytes fits = refl
-up-kept (kept_up.Absorbed count number connection command sequence) bytes fits = refl
-up-kept (kept_up.Bytes count number connection command sequence) bytes fits = ap (λ n. kept_up.Bytes n number connection command sequence) (taken-length count bytes fits)
-up-kept (kept_up.End status more number command) bytes fits = refl
-up-kept (kept_up.Released number) bytes fits = refl
-up-kept (kept_up.Cleared number) bytes fits = refl
-up-kept (kept_up.Notice restarts) bytes fits = refl
-up-kept (kept_up.Attn status attention) bytes fits = refl
+up-kept (up.Accept number) bytes fits = refl
+up-kept (up.Busy number) bytes fits = refl
+up-kept (up.Leave number connection) bytes fits = refl
+up-kept (up.Back number connection) bytes fits = refl
+up-kept (up.Data number connection command sequence (load.Absorbed count)) bytes fits = refl
+up-kept (up.Data number connection command sequence (load.Bytes count)) bytes fits = ap (λ n. up.Data number connection command sequence (load.Bytes n)) (taken-length count bytes fits)
+up-kept (up.End number command status more) bytes fits = refl
+up-kept (up.Released number) bytes fits = refl
+up-kept (up.Cleared number) bytes fits = refl
+up-kept (up.Notice restarts) bytes fits = refl
+up-kept (up.Attn attention status) bytes fits = refl
 
 event-kept : (k : KeptEvent) (bytes : List ℕ) → event_length k ≤ length bytes → kept_of_event (event_in k bytes) ≡ k
 event-kept (kept_event.Put count address) bytes fits = ap (λ n. kept_event.Put n address) (taken-length count bytes fits)
@@ -173,29 +148,29 @@ reply-kept (kept_reply.DownSent taken path signal sent) bytes fits =
 
 -- and has these bytes
 down-bytes : (k : KeptDown) (bytes : List ℕ) → down_bytes (down_in k bytes) ≡ take (down_length k) bytes
-down-bytes (kept_down.Select number) bytes = refl
-down-bytes (kept_down.Command code room number command) bytes = refl
-down-bytes (kept_down.Grant number connection) bytes = refl
-down-bytes (kept_down.Refuse number connection) bytes = refl
-down-bytes (kept_down.Took room number command sequence) bytes = refl
-down-bytes (kept_down.Give count number connection command sequence) bytes = refl
-down-bytes (kept_down.Halt number) bytes = refl
-down-bytes (kept_down.Release number) bytes = refl
-down-bytes (kept_down.Reset number restarts) bytes = refl
-down-bytes (kept_down.Got attention) bytes = refl
+down-bytes (down.Select number) bytes = refl
+down-bytes (down.Command number command code room) bytes = refl
+down-bytes (down.Grant number connection) bytes = refl
+down-bytes (down.Refuse number connection) bytes = refl
+down-bytes (down.Took number command sequence room) bytes = refl
+down-bytes (down.Give number connection command sequence count) bytes = refl
+down-bytes (down.Halt number) bytes = refl
+down-bytes (down.Release number) bytes = refl
+down-bytes (down.Reset number restarts) bytes = refl
+down-bytes (down.Got attention) bytes = refl
 
 up-bytes : (k : KeptUp) (bytes : List ℕ) → up_bytes (up_in k bytes) ≡ take (up_length k) bytes
-up-bytes (kept_up.Accept number) bytes = refl
-up-bytes (kept_up.Busy number) bytes = refl
-up-bytes (kept_up.Leave number connection) bytes = refl
-up-bytes (kept_up.Back number connection) bytes = refl
-up-bytes (kept_up.Absorbed count number connection command sequence) bytes = refl
-up-bytes (kept_up.Bytes count number connection command sequence) bytes = refl
-up-bytes (kept_up.End status more number command) bytes = refl
-up-bytes (kept_up.Released number) bytes = refl
-up-bytes (kept_up.Cleared number) bytes = refl
-up-bytes (kept_up.Notice restarts) bytes = refl
-up-bytes (kept_up.Attn status attention) bytes = refl
+up-bytes (up.Accept number) bytes = refl
+up-bytes (up.Busy number) bytes = refl
+up-bytes (up.Leave number connection) bytes = refl
+up-bytes (up.Back number connection) bytes = refl
+up-bytes (up.Data number connection command sequence (load.Absorbed count)) bytes = refl
+up-bytes (up.Data number connection command sequence (load.Bytes count)) bytes = refl
+up-bytes (up.End number command status more) bytes = refl
+up-bytes (up.Released number) bytes = refl
+up-bytes (up.Cleared number) bytes = refl
+up-bytes (up.Notice restarts) bytes = refl
+up-bytes (up.Attn attention status) bytes = refl
 
 event-bytes : (k : KeptEvent) (bytes : List ℕ) → event_bytes (event_in k bytes) ≡ take (event_length k) bytes
 event-bytes (kept_event.Put count address) bytes = refl

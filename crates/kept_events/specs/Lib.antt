@@ -1,4 +1,3 @@
-pub mod Signals
 pub mod Events
 pub mod Replies
 pub mod Entries

@@ -4,7 +4,7 @@ use Rattle.chan_model.specs.Signals.{Down}
 use Rattle.chan_model.specs.Signals.{Up}
 use Rattle.chan_events.specs.declared.reply.Reply.{Reply}
 use Rattle.chan_events.specs.declared.reply.Reply.TheVariants as reply
-use Rattle.kept_events.specs.Signals.{down_in, down_length, down_bytes, up_in, up_length, up_bytes}
+use Rattle.chan_model.specs.Signals.{down_in, down_length, down_bytes, up_in, up_length, up_bytes}
 use Rattle.kept_events.specs.declared.replies.KeptReply.{KeptReply}
 use Rattle.kept_events.specs.declared.replies.KeptReply.TheVariants as kept_reply
 

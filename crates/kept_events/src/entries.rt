@@ -51,4 +51,4 @@ impl KeptEntry {
     }
 }
 
-const _: () = prove!(size_of::<KeptEntry>() == 128);
+const _: () = prove!(size_of::<KeptEntry>() == 144);

@@ -6,5 +6,4 @@ pub mod entries;
 pub mod events;
 pub mod replies;
 pub mod same;
-pub mod signals;
 mod words;

@@ -1,14 +1,14 @@
 //! Replies as they are kept.
 
 ghost use Rattle.std.specs.Prelude.{◌≡◌, ◌≤◌, ◌++◌, ℕ, List, length};
+ghost use Rattle.chan_events.specs.declared.reply.Reply.TheVariants as reply_spec;
 ghost use Rattle.kept_events.specs.Replies as spec;
 
-use crate::signals::{KeptDown, KeptUp};
 use chan_events::reply::{PATH_STATUS_BYTES, Reply};
 use chan_model::answer::{Answer, ConditionCode};
 use chan_model::chunk::{Chunk, ChunkLength};
 use chan_model::names::Path;
-use chan_model::signal::OnPath;
+use chan_model::signal::{Down, KeptDown, KeptUp, OnPath, Up};
 use scsw_irb::code::IntCode;
 use scsw_irb::crw::Crw;
 use scsw_irb::scsw::Scsw;
@@ -111,38 +111,52 @@ impl KeptReply {
             Reply::Up {
                 signal,
                 taken,
-                sent: None,
-            } => KeptReply::Up {
-                taken: *taken,
-                signal: KeptUp::of(signal),
-            },
-            Reply::Up {
-                signal,
-                taken,
-                sent: Some(sent),
-            } => KeptReply::UpSent {
-                taken: *taken,
-                path: sent.path,
-                signal: KeptUp::of(signal),
-                sent: KeptDown::of(&sent.signal),
-            },
+                sent,
+            } => KeptReply::met_up(signal, *taken, sent),
             Reply::Down {
                 signal,
                 taken,
-                sent: None,
-            } => KeptReply::Down {
-                taken: *taken,
-                signal: KeptDown::of(signal),
-            },
-            Reply::Down {
-                signal,
+                sent,
+            } => KeptReply::met_down(signal, *taken, sent),
+        }
+    }
+
+    /// The numbers of the reply to a signal up that was met.
+    fn met_up(signal: &Up, taken: bool, sent: &Option<OnPath<Down>>) -> Self
+        ensures kept { (rest : List ℕ) → spec.reply_in result (spec.reply_bytes (reply_spec.Up signal.now taken sent.now) ++ rest) ≡ reply_spec.Up signal.now taken sent.now }
+        ensures length { spec.reply_length result ≡ length (spec.reply_bytes (reply_spec.Up signal.now taken sent.now)) }
+        ensures bound { length (spec.reply_bytes (reply_spec.Up signal.now taken sent.now)) ≤ 512 }
+    {
+        match sent {
+            None => KeptReply::Up {
                 taken,
-                sent: Some(sent),
-            } => KeptReply::DownSent {
-                taken: *taken,
+                signal: signal.keep(),
+            },
+            Some(sent) => KeptReply::UpSent {
+                taken,
                 path: sent.path,
-                signal: KeptDown::of(signal),
-                sent: KeptUp::of(&sent.signal),
+                signal: signal.keep(),
+                sent: sent.signal.keep(),
+            },
+        }
+    }
+
+    /// The numbers of the reply to a signal down that was met.
+    fn met_down(signal: &Down, taken: bool, sent: &Option<OnPath<Up>>) -> Self
+        ensures kept { (rest : List ℕ) → spec.reply_in result (spec.reply_bytes (reply_spec.Down signal.now taken sent.now) ++ rest) ≡ reply_spec.Down signal.now taken sent.now }
+        ensures length { spec.reply_length result ≡ length (spec.reply_bytes (reply_spec.Down signal.now taken sent.now)) }
+        ensures bound { length (spec.reply_bytes (reply_spec.Down signal.now taken sent.now)) ≤ 512 }
+    {
+        match sent {
+            None => KeptReply::Down {
+                taken,
+                signal: signal.keep(),
+            },
+            Some(sent) => KeptReply::DownSent {
+                taken,
+                path: sent.path,
+                signal: signal.keep(),
+                sent: sent.signal.keep(),
             },
         }
     }
@@ -201,7 +215,7 @@ impl KeptReply {
             KeptReply::Pending => Reply::Pending,
             KeptReply::Idle => Reply::Idle,
             KeptReply::Up { taken, signal } => Reply::Up {
-                signal: signal.with(bytes),
+                signal: signal.lend(bytes).own(),
                 taken: *taken,
                 sent: None,
             },
@@ -211,15 +225,15 @@ impl KeptReply {
                 signal,
                 sent,
             } => Reply::Up {
-                signal: signal.with(bytes),
+                signal: signal.lend(bytes).own(),
                 taken: *taken,
                 sent: Some(OnPath {
                     path: *path,
-                    signal: sent.with(&bytes[signal.length()..]),
+                    signal: sent.lend(&bytes[signal.length()..]).own(),
                 }),
             },
             KeptReply::Down { taken, signal } => Reply::Down {
-                signal: signal.with(bytes),
+                signal: signal.lend(bytes).own(),
                 taken: *taken,
                 sent: None,
             },
@@ -229,11 +243,11 @@ impl KeptReply {
                 signal,
                 sent,
             } => Reply::Down {
-                signal: signal.with(bytes),
+                signal: signal.lend(bytes).own(),
                 taken: *taken,
                 sent: Some(OnPath {
                     path: *path,
-                    signal: sent.with(&bytes[signal.length()..]),
+                    signal: sent.lend(&bytes[signal.length()..]).own(),
                 }),
             },
         }

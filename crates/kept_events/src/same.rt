@@ -4,10 +4,10 @@ ghost use Rattle.std.specs.Prelude.{◌≡◌, ◌↔◌, IsTrue};
 
 use crate::events::KeptEvent;
 use crate::replies::KeptReply;
-use crate::signals::{KeptDown, KeptUp};
 use crate::words::{same_interruption, same_scsw};
 use chan_events::event::{Instruction, OtherInstruction, UnitAct};
 use chan_model::answer::Answer;
+use chan_model::signal::{KeptDown, KeptUp};
 use scsw_irb::crw::Crw;
 use storage_keys::key::Key;
 

@@ -12,7 +12,7 @@ use crate::{
     put_answer, put_bytes, put_code, put_decimal, put_interruption, put_named, put_paths,
     put_refusal, put_report, put_status, put_taken,
 };
-use kept_events::signals::{KeptDown, KeptUp};
+use chan_model::signal::{KeptDown, KeptUp};
 use signal_places::answers::{AnswerPlace, Outcome};
 use signal_places::plain::PlainReply;
 use signal_places::signals::{DownPlace, UpPlace};

@@ -4,7 +4,7 @@ use Rattle.chan_model.specs.Signals.{Down}
 use Rattle.chan_model.specs.declared.signal.OnPath.{OnPath}
 use Rattle.chan_model.specs.declared.signal.Taken.{Taken}
 use Rattle.chan_model.specs.Signals.{Up}
-use Rattle.kept_events.specs.Signals.{down_in, up_in}
+use Rattle.chan_model.specs.Signals.{down_in, up_in}
 use Rattle.signal_places.specs.declared.signals.DownPlace.{DownPlace}
 use Rattle.signal_places.specs.declared.signals.UpPlace.{UpPlace}
 

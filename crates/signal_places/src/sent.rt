@@ -4,7 +4,7 @@ ghost use Rattle.std.specs.Prelude.{◌≡◌, ◌≤◌, ◌++◌, [], MatchOpt
 ghost use Rattle.chan_model.specs.declared.signal.Down.TheVariants as down;
 ghost use Rattle.chan_model.specs.declared.signal.Load.TheVariants as load;
 ghost use Rattle.chan_model.specs.declared.signal.Up.TheVariants as up;
-ghost use Rattle.kept_events.specs.Signals as kept_spec;
+ghost use Rattle.chan_model.specs.Signals as kept_spec;
 ghost use Rattle.signal_places.specs.Places.{down_at, sent_path, up_at};
 
 use crate::bytes;
@@ -12,7 +12,7 @@ use crate::signals::{DownPlace, UpPlace};
 use chan_model::chunk::ChunkLength;
 use chan_model::names::Path;
 use chan_model::signal::{Down, OnPath, Up};
-use kept_events::signals::{KeptDown, KeptUp};
+use chan_model::signal::{KeptDown, KeptUp};
 use std::marker::Model;
 
 /// A signal down that is sent on a path, or none.

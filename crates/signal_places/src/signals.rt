@@ -1,14 +1,14 @@
 //! A place for one signal.
 
 ghost use Rattle.std.specs.Prelude.{◌≡◌, ◌≤◌, ◌++◌, ℕ, List, length};
-ghost use Rattle.kept_events.specs.Signals as kept_spec;
+ghost use Rattle.chan_model.specs.Signals as kept_spec;
 ghost use Rattle.signal_places.specs.Places.{down_at, up_at};
 
 use crate::bytes::put_bytes;
 use chan_model::chunk::CHUNK_BYTES;
 use chan_model::signal::{Down, Up};
 use kept_events::bytes::{down_bytes, up_bytes};
-use kept_events::signals::{KeptDown, KeptUp};
+use chan_model::signal::{KeptDown, KeptUp};
 
 /// A place for a signal down: its numbers, and room for its bytes.
 #[derive(Drop)]

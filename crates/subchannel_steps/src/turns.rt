@@ -33,7 +33,7 @@ use chan_model::report::{Report, ReportPath};
 use chan_model::unit_state::Place;
 use control_units::sharing::Sharing;
 use finding::engines::Counted;
-use kept_events::signals::{KeptDown, KeptUp};
+use chan_model::signal::{KeptDown, KeptUp};
 use signal_places::answers::{AnswerPlace, Outcome};
 use signal_places::plain::PlainReply;
 use signal_places::sent::SentDown;

@@ -3,7 +3,7 @@
 ghost use Rattle.std.specs.Prelude.{◌≡◌, ◌==◌, ◌+◌, [], None, Some, true};
 ghost use Rattle.chan_model.specs.UnitTable as table;
 ghost use Rattle.chan_model.specs.Parts as table_parts;
-ghost use Rattle.kept_events.specs.Signals as kept_spec;
+ghost use Rattle.chan_model.specs.Signals as kept_spec;
 ghost use Rattle.unit.specs.UnitWords as words;
 
 use chan_model::names::{Path, Side};

@@ -12,7 +12,7 @@ use crate::commands::{answered, commanded, given, is_of_command};
 use crate::parts::{free, is_owner, keep_side, owns, sending, side_of};
 use chan_model::names::{Path, Side};
 use chan_model::unit_state::{Own, Place, SideState, UnitState};
-use kept_events::signals::{KeptDown, KeptUp};
+use chan_model::signal::{KeptDown, KeptUp};
 use signal_places::sent::SentUp;
 use signal_places::signals::DownPlace;
 

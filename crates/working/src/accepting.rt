@@ -8,7 +8,7 @@ ghost use Rattle.subchannel_model.specs.Taking as spec;
 ghost use Rattle.subchannel_model.specs.Parts as parts;
 ghost use Rattle.subchannel_model.specs.declared.cause.StatusCause.TheVariants as cause;
 ghost use Rattle.working.specs.Stepping.{subchannel_stepped};
-ghost use Rattle.kept_events.specs.declared.signals.KeptDown.TheVariants as kept_down;
+ghost use Rattle.chan_model.specs.declared.signal.Down.TheVariants as kept_down;
 ghost use Rattle.transfer.specs.Commands as transfer_spec;
 
 use crate::answers::{ignored, let_go, quiet};

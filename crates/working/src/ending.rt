@@ -20,7 +20,7 @@ use ccw_walk::Walk;
 use chan_model::names::Path;
 use channel_program::check::Check;
 use hold::Hold;
-use kept_events::signals::{KeptDown, KeptUp};
+use chan_model::signal::{KeptDown, KeptUp};
 use signal_places::sent::SentDown;
 use signal_places::signals::UpPlace;
 use status::ends::{chains_command, is_last_end};

@@ -15,7 +15,7 @@ use crate::intermediate::interrupt;
 use allegiance::allegiances::{AllegianceCause, dedicated};
 use chan_model::names::Path;
 use hold::Hold;
-use kept_events::signals::{KeptDown, KeptUp};
+use chan_model::signal::{KeptDown, KeptUp};
 use signal_places::sent::SentDown;
 use signal_places::signals::UpPlace;
 use storage_keys::Storage;

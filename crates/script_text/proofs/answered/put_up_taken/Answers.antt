@@ -1,6 +1,6 @@
 use Rattle.std.proofs.Common.{◌++◌, ◌∷◌, [], ap, sym, true}
-use Rattle.kept_events.specs.Signals.{up_in}
-use Rattle.kept_events.specs.declared.signals.KeptUp.{KeptUp}
+use Rattle.chan_model.specs.Signals.{up_in}
+use Rattle.chan_model.specs.Signals.{KeptUp}
 use Rattle.script_text.specs.Text as spec
 use Rattle.script_text.proofs.Printing.{same_text}
 use Rattle.script_text.proofs.answered.put_up_taken.Goals as goal

@@ -1,6 +1,6 @@
 use Rattle.std.proofs.Common.{◌≡◌, Bool, true, ap, ◌∙◌, inl, inr}
-use Rattle.kept_events.specs.Signals.{up_in}
-use Rattle.kept_events.specs.declared.signals.KeptUp.{KeptUp}
+use Rattle.chan_model.specs.Signals.{up_in}
+use Rattle.chan_model.specs.Signals.{KeptUp}
 use Rattle.signal_places.specs.Places.{up_at}
 use Rattle.subchannel.specs.Answering.{is_data}
 use Rattle.subchannel.proofs.Working.{told_takes}
