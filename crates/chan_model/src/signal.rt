@@ -613,3 +613,27 @@ impl OnPath<Up> {
         }
     }
 }
+
+impl<'a> OnPath<Down<Bytes<'a>>> {
+    /// The same signal on the same path, with its own bytes.
+    pub fn own(&self) -> OnPath<Down>
+        ensures { Some result ≡ spec.map_sent spec.lent_down (Some self.now) }
+    {
+        OnPath {
+            path: self.path,
+            signal: self.signal.own(),
+        }
+    }
+}
+
+impl<'a> OnPath<Up<Load<Bytes<'a>>>> {
+    /// The same signal on the same path, with its own bytes.
+    pub fn own(&self) -> OnPath<Up>
+        ensures { Some result ≡ spec.map_sent spec.lent_up (Some self.now) }
+    {
+        OnPath {
+            path: self.path,
+            signal: self.signal.own(),
+        }
+    }
+}

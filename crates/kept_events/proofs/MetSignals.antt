@@ -3,7 +3,6 @@ use Rattle.std.proofs.Common.{◌≡◌, ℕ, List, ◌++◌, length, drop, Bool
 use Rattle.std.proofs.lemmas.List.{append_assoc, drop_at}
 use Rattle.chan_model.specs.declared.signal.OnPath.{OnPath}
 use Rattle.chan_model.specs.Signals.{Down, KeptDown, KeptUp, Up, down_in, down_bytes, down_length, up_in, up_bytes, up_length}
-use Rattle.chan_events.specs.declared.reply.Reply.{Reply}
 use Rattle.chan_events.specs.declared.reply.Reply.TheVariants as reply
 use Rattle.kept_events.specs.Replies.{down_met, reply_bytes, up_met}
 

@@ -1,19 +1,7 @@
 -- Signals in places that are made beforehand, and what stands there.
 use Rattle.std.specs.Prelude.{ℕ, Bool, Option, None, Some}
-use Rattle.chan_model.specs.Signals.{Down}
 use Rattle.chan_model.specs.declared.signal.OnPath.{OnPath}
 use Rattle.chan_model.specs.declared.signal.Taken.{Taken}
-use Rattle.chan_model.specs.Signals.{Up}
-use Rattle.chan_model.specs.Signals.{down_in, up_in}
-use Rattle.signal_places.specs.declared.signals.DownPlace.{DownPlace}
-use Rattle.signal_places.specs.declared.signals.UpPlace.{UpPlace}
-
--- the signal that stands in a place
-abbrev pub down_at : DownPlace → Down
-down_at place = down_in place.kept place.bytes
-
-abbrev pub up_at : UpPlace → Up
-up_at place = up_in place.kept place.bytes
 
 -- a signal that is sent on a path, where there is one
 abbrev pub sent_on : {A : Type 0} → Option ℕ → A → Option (OnPath A)

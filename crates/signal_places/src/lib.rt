@@ -6,4 +6,4 @@ pub mod answers;
 pub mod bytes;
 pub mod plain;
 pub mod sent;
-pub mod signals;
+pub mod slots;

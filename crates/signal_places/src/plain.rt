@@ -1,12 +1,11 @@
 //! Replies without signals and without bytes.
 
-ghost use Rattle.std.specs.Prelude.{◌≡◌, ℕ, List, Ok};
+ghost use Rattle.std.specs.Prelude.{◌≡◌, ℕ, List};
 ghost use Rattle.kept_events.specs.Replies as kept_spec;
 ghost use Rattle.signal_places.specs.Plain.{reply_of};
 
 use chan_events::reply::{PATH_STATUS_BYTES, Reply};
 use chan_model::answer::{Answer, ConditionCode};
-use chan_model::fault::Fault;
 use chan_model::names::Path;
 use kept_events::replies::KeptReply;
 use scsw_irb::code::IntCode;
@@ -84,40 +83,40 @@ impl PlainReply {
         }
     }
 
-    /// The reply, written where it is wanted.
-    pub fn reply_to(&self, answer: &mut Result<Reply, Fault>)
-        ensures { answer.new ≡ Ok (reply_of self.now) }
+    /// The reply.
+    pub fn reply(&self) -> Reply
+        ensures { result ≡ reply_of self.now }
     {
         match self {
-            PlainReply::Done => *answer = Ok(Reply::Done),
-            PlainReply::Code(code) => *answer = Ok(Reply::Code(*code)),
-            PlainReply::Status { answer: code, scsw } => *answer = Ok(Reply::Status {
+            PlainReply::Done => Reply::Done,
+            PlainReply::Code(code) => Reply::Code(*code),
+            PlainReply::Status { answer: code, scsw } => Reply::Status {
                 answer: *code,
                 scsw: *scsw,
-            }),
-            PlainReply::Interruption(code) => *answer = Ok(Reply::Interruption(*code)),
-            PlainReply::PathReset(code) => *answer = Ok(Reply::PathReset(*code)),
-            PlainReply::ChannelReport(report) => *answer = Ok(Reply::ChannelReport(*report)),
-            PlainReply::Paths { engaged } => *answer = Ok(Reply::Paths { engaged: *engaged }),
+            },
+            PlainReply::Interruption(code) => Reply::Interruption(*code),
+            PlainReply::PathReset(code) => Reply::PathReset(*code),
+            PlainReply::ChannelReport(report) => Reply::ChannelReport(*report),
+            PlainReply::Paths { engaged } => Reply::Paths { engaged: *engaged },
             PlainReply::Offered {
                 path,
                 resumed,
                 number,
-            } => *answer = Ok(Reply::Offered {
+            } => Reply::Offered {
                 number: *number,
                 path: *path,
                 resumed: *resumed,
-            }),
-            PlainReply::ResetSent { path, number } => *answer = Ok(Reply::ResetSent {
+            },
+            PlainReply::ResetSent { path, number } => Reply::ResetSent {
                 number: *number,
                 path: *path,
-            }),
-            PlainReply::HaltSent { path, number } => *answer = Ok(Reply::HaltSent {
+            },
+            PlainReply::HaltSent { path, number } => Reply::HaltSent {
                 number: *number,
                 path: *path,
-            }),
-            PlainReply::Pending => *answer = Ok(Reply::Pending),
-            PlainReply::Idle => *answer = Ok(Reply::Idle),
+            },
+            PlainReply::Pending => Reply::Pending,
+            PlainReply::Idle => Reply::Idle,
         }
     }
 }

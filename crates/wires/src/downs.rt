@@ -2,48 +2,11 @@
 
 ghost use Rattle.std.specs.Prelude.{◌≡◌, ◌<◌, ◌↔◌, [], ◌∷◌, ◌++◌, None, Some, IsTrue, IsSome, MatchOption, length, replicate, slice_get, drop};
 ghost use Rattle.std.specs.Bool.{OnFalse};
-ghost use Rattle.signal_places.specs.Places.{down_at};
+ghost use Rattle.chan_model.specs.Signals.{lent_down};
 
-use signal_places::signals::DownPlace;
+use chan_model::signal::LentDown;
+use signal_places::slots::DownSlot;
 use std::marker::Model;
-
-/// A place of the ring: the signal that stands there.
-#[derive(Drop)]
-struct DownSlot {
-    place: DownPlace,
-}
-
-impl Model for DownSlot {
-    ghost use Rattle.chan_model.specs.Signals.{Down};
-    ghost use Rattle.signal_places.specs.Places.{down_at};
-
-    ghost Value = { Down };
-
-    ghost view = { λ s. down_at s.place };
-}
-
-impl DownSlot {
-    /// A place, with a signal that no one sent.
-    fn new() -> Self {
-        DownSlot {
-            place: DownPlace::new(),
-        }
-    }
-
-    /// Writes there what stands in another place.
-    fn put(&mut self, place: &DownPlace)
-        ensures { self.new ≡ down_at place.now }
-    {
-        self.place.put_from(place);
-    }
-
-    /// The place itself.
-    fn place(&self) -> &DownPlace
-        ensures { down_at result.now ≡ self.now }
-    {
-        &self.place
-    }
-}
 
 /// A ring of eight places, which stay where they are: sending writes the one behind the last signal, and nothing else is
 /// touched.
@@ -111,24 +74,24 @@ impl Downs {
         self.count == 8
     }
 
-    /// The signal in this place goes to the end.
-    pub fn send(&mut self, place: &DownPlace)
+    /// The signal goes to the end.
+    pub fn send(&mut self, signal: &LentDown<'_>)
         requires { length self.old < 8 }
-        ensures { self.new ≡ self.old ++ down_at place.now ∷ [] }
+        ensures { self.new ≡ self.old ++ lent_down signal.now ∷ [] }
     {
-        self.slots[(self.oldest + self.count) % 8].put(place);
+        self.slots[(self.oldest + self.count) % 8].put(signal);
         self.count += 1;
     }
 
-    /// The place of the signal that waits longest; None where none waits.
-    pub fn front(&self) -> Option<&DownPlace>
+    /// The signal that waits longest; None where none waits.
+    pub fn front(&self) -> Option<LentDown<'_>>
         ensures waits { IsSome result ↔ (0 < length self.now) }
-        ensures first { MatchOption result (slice_get self.now 0 ≡ None) (λ place. slice_get self.now 0 ≡ Some (down_at place.now)) }
+        ensures first { MatchOption result (slice_get self.now 0 ≡ None) (λ signal. slice_get self.now 0 ≡ Some (lent_down signal)) }
     {
         if self.count == 0 {
             return None;
         }
-        Some(self.slots[self.oldest].place())
+        Some(self.slots[self.oldest].lend())
     }
 
     /// Lets that signal go.

@@ -14,13 +14,13 @@ mod ups;
 
 ghost use Rattle.std.specs.Prelude.{◌≡◌, ◌<◌, ◌↔◌, None, Some, IsTrue, IsSome, MatchOption, length};
 ghost use Rattle.std.specs.Bool.{OnFalse};
-ghost use Rattle.signal_places.specs.Places.{down_at, up_at};
+ghost use Rattle.chan_model.specs.Signals.{lent_down, lent_up};
 ghost use Rattle.wires.specs.Queues.{no_queues, queue, first_of, sent, taken, lost};
 
 use crate::downs::Downs;
 use crate::ups::Ups;
 use chan_model::names::Path;
-use signal_places::signals::{DownPlace, UpPlace};
+use chan_model::signal::{LentDown, LentUp};
 use std::marker::Model;
 
 /// The signals that wait, for each path down to the unit and up to the subchannel. A wire holds at most 8.
@@ -57,18 +57,18 @@ impl Wires {
         self.down[path.index()].is_full()
     }
 
-    /// Sends the signal in this place down.
-    pub fn send_down(&mut self, path: Path, place: &DownPlace)
+    /// Sends a signal down.
+    pub fn send_down(&mut self, path: Path, signal: &LentDown<'_>)
         requires { length (queue self.old.down path) < 8 }
-        ensures { self.new ≡ record self.old { down = sent self.old.down path (down_at place.now) } }
+        ensures { self.new ≡ record self.old { down = sent self.old.down path (lent_down signal.now) } }
     {
-        self.down[path.index()].send(place);
+        self.down[path.index()].send(signal);
     }
 
-    /// The place of the signal that waits longest on the wire down of a path; None where none waits.
-    pub fn front_down(&self, path: Path) -> Option<&DownPlace>
+    /// The signal that waits longest on the wire down of a path; None where none waits.
+    pub fn front_down(&self, path: Path) -> Option<LentDown<'_>>
         ensures waits { IsSome result ↔ (0 < length (queue self.now.down path)) }
-        ensures first { MatchOption result (first_of self.now.down path ≡ None) (λ place. first_of self.now.down path ≡ Some (down_at place.now)) }
+        ensures first { MatchOption result (first_of self.now.down path ≡ None) (λ signal. first_of self.now.down path ≡ Some (lent_down signal)) }
     {
         self.down[path.index()].front()
     }
@@ -89,18 +89,18 @@ impl Wires {
         self.up[path.index()].is_full()
     }
 
-    /// Sends the signal in this place up.
-    pub fn send_up(&mut self, path: Path, place: &UpPlace)
+    /// Sends a signal up.
+    pub fn send_up(&mut self, path: Path, signal: &LentUp<'_>)
         requires { length (queue self.old.up path) < 8 }
-        ensures { self.new ≡ record self.old { up = sent self.old.up path (up_at place.now) } }
+        ensures { self.new ≡ record self.old { up = sent self.old.up path (lent_up signal.now) } }
     {
-        self.up[path.index()].send(place);
+        self.up[path.index()].send(signal);
     }
 
-    /// The place of the signal that waits longest on the wire up of a path; None where none waits.
-    pub fn front_up(&self, path: Path) -> Option<&UpPlace>
+    /// The signal that waits longest on the wire up of a path; None where none waits.
+    pub fn front_up(&self, path: Path) -> Option<LentUp<'_>>
         ensures waits { IsSome result ↔ (0 < length (queue self.now.up path)) }
-        ensures first { MatchOption result (first_of self.now.up path ≡ None) (λ place. first_of self.now.up path ≡ Some (up_at place.now)) }
+        ensures first { MatchOption result (first_of self.now.up path ≡ None) (λ signal. first_of self.now.up path ≡ Some (lent_up signal)) }
     {
         self.up[path.index()].front()
     }

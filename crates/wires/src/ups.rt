@@ -2,48 +2,11 @@
 
 ghost use Rattle.std.specs.Prelude.{◌≡◌, ◌<◌, ◌↔◌, [], ◌∷◌, ◌++◌, None, Some, IsTrue, IsSome, MatchOption, length, replicate, slice_get, drop};
 ghost use Rattle.std.specs.Bool.{OnFalse};
-ghost use Rattle.signal_places.specs.Places.{up_at};
+ghost use Rattle.chan_model.specs.Signals.{lent_up};
 
-use signal_places::signals::UpPlace;
+use chan_model::signal::LentUp;
+use signal_places::slots::UpSlot;
 use std::marker::Model;
-
-/// A place of the ring: the signal that stands there.
-#[derive(Drop)]
-struct UpSlot {
-    place: UpPlace,
-}
-
-impl Model for UpSlot {
-    ghost use Rattle.chan_model.specs.Signals.{Up};
-    ghost use Rattle.signal_places.specs.Places.{up_at};
-
-    ghost Value = { Up };
-
-    ghost view = { λ s. up_at s.place };
-}
-
-impl UpSlot {
-    /// A place, with a signal that no one sent.
-    fn new() -> Self {
-        UpSlot {
-            place: UpPlace::new(),
-        }
-    }
-
-    /// Writes there what stands in another place.
-    fn put(&mut self, place: &UpPlace)
-        ensures { self.new ≡ up_at place.now }
-    {
-        self.place.put_from(place);
-    }
-
-    /// The place itself.
-    fn place(&self) -> &UpPlace
-        ensures { up_at result.now ≡ self.now }
-    {
-        &self.place
-    }
-}
 
 /// A ring of eight places, which stay where they are: sending writes the one behind the last signal, and nothing else is
 /// touched.
@@ -111,24 +74,24 @@ impl Ups {
         self.count == 8
     }
 
-    /// The signal in this place goes to the end.
-    pub fn send(&mut self, place: &UpPlace)
+    /// The signal goes to the end.
+    pub fn send(&mut self, signal: &LentUp<'_>)
         requires { length self.old < 8 }
-        ensures { self.new ≡ self.old ++ up_at place.now ∷ [] }
+        ensures { self.new ≡ self.old ++ lent_up signal.now ∷ [] }
     {
-        self.slots[(self.oldest + self.count) % 8].put(place);
+        self.slots[(self.oldest + self.count) % 8].put(signal);
         self.count += 1;
     }
 
-    /// The place of the signal that waits longest; None where none waits.
-    pub fn front(&self) -> Option<&UpPlace>
+    /// The signal that waits longest; None where none waits.
+    pub fn front(&self) -> Option<LentUp<'_>>
         ensures waits { IsSome result ↔ (0 < length self.now) }
-        ensures first { MatchOption result (slice_get self.now 0 ≡ None) (λ place. slice_get self.now 0 ≡ Some (up_at place.now)) }
+        ensures first { MatchOption result (slice_get self.now 0 ≡ None) (λ signal. slice_get self.now 0 ≡ Some (lent_up signal)) }
     {
         if self.count == 0 {
             return None;
         }
-        Some(self.slots[self.oldest].place())
+        Some(self.slots[self.oldest].lend())
     }
 
     /// Lets that signal go.

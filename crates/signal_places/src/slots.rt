@@ -1,0 +1,91 @@
+//! A place for one signal.
+
+ghost use Rattle.std.specs.Prelude.{◌≡◌};
+ghost use Rattle.chan_model.specs.Signals.{lent_down, lent_up};
+
+use crate::bytes::put_bytes;
+use chan_model::chunk::CHUNK_BYTES;
+use chan_model::signal::{Down, KeptDown, KeptUp, LentDown, LentUp, Up};
+use std::marker::Model;
+
+/// A place for a signal down: its numbers, and room for its bytes.
+#[derive(Drop)]
+pub struct DownSlot {
+    kept: KeptDown,
+    bytes: [u8; CHUNK_BYTES],
+}
+
+impl Model for DownSlot {
+    ghost use Rattle.chan_model.specs.Signals.{Down, down_in};
+
+    ghost Value = { Down };
+
+    ghost view = { λ s. down_in s.kept s.bytes };
+}
+
+impl DownSlot {
+    /// A place, with a signal that no one sent.
+    pub fn new() -> Self {
+        DownSlot {
+            kept: Down::Select { number: 0 },
+            bytes: [0; CHUNK_BYTES],
+        }
+    }
+
+    /// Writes a signal there.
+    pub fn put(&mut self, signal: &LentDown<'_>)
+        ensures { self.new ≡ lent_down signal.now }
+    {
+        self.kept = signal.keep();
+        put_bytes(&mut self.bytes, signal.bytes());
+    }
+
+    /// The signal that stands there.
+    pub fn lend(&self) -> LentDown<'_>
+        ensures { lent_down result ≡ self.now }
+    {
+        let _ = self.kept.length();
+        self.kept.lend(&self.bytes)
+    }
+}
+
+/// A place for a signal up.
+#[derive(Drop)]
+pub struct UpSlot {
+    kept: KeptUp,
+    bytes: [u8; CHUNK_BYTES],
+}
+
+impl Model for UpSlot {
+    ghost use Rattle.chan_model.specs.Signals.{Up, up_in};
+
+    ghost Value = { Up };
+
+    ghost view = { λ s. up_in s.kept s.bytes };
+}
+
+impl UpSlot {
+    /// A place, with a signal that no one sent.
+    pub fn new() -> Self {
+        UpSlot {
+            kept: Up::Accept { number: 0 },
+            bytes: [0; CHUNK_BYTES],
+        }
+    }
+
+    /// Writes a signal there.
+    pub fn put(&mut self, signal: &LentUp<'_>)
+        ensures { self.new ≡ lent_up signal.now }
+    {
+        self.kept = signal.keep();
+        put_bytes(&mut self.bytes, signal.bytes());
+    }
+
+    /// The signal that stands there.
+    pub fn lend(&self) -> LentUp<'_>
+        ensures { lent_up result ≡ self.now }
+    {
+        let _ = self.kept.length();
+        self.kept.lend(&self.bytes)
+    }
+}
