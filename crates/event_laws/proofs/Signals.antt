@@ -27,7 +27,8 @@ use Rattle.subchannel_model.specs.declared.cause.StatusCause.TheVariants as caus
 use Rattle.subchannel_model.specs.Causes.{with_cause}
 use Rattle.subchannel_model.specs.Ends.{has_status_modifier, chains_command}
 use Rattle.subchannel_model.proofs.Named.{give_next, with_attention}
-use Rattle.subchannel_model.specs.Taking.{Met, meets, ignoring, quietly, let_go, by_hold, interrupted, path_used, taking_over, suspending, standing, goes_ahead, beginning, begin_standing, halt_done, accept, take_in, bytes_of_load, move_bytes, move_data, with_end, end_taken, chaining, goes_on, stops_at, command_ended, end_of, may_attend, takes_up}
+use Rattle.subchannel_model.specs.Taking.{Met, meets, ignoring, quietly, let_go, by_hold, interrupted, path_used, taking_over, suspending, standing, goes_ahead, beginning, begin_standing, halt_done, accept, take_in, move_bytes, move_data, with_end, end_taken, chaining, goes_on, stops_at, command_ended, end_of, may_attend, takes_up}
+use Rattle.chan_model.specs.Signals.{load_bytes}
 use Rattle.subchannel_model.specs.Parts.{chain_with, end_shown_at}
 use Rattle.event_laws.proofs.Calm.{IsAsReset, as-same, IsCalm, calm-same, calm-then, counts-same, cause-calm, interrupted-calm, moving-calm, suspending-calm, halt_done-calm, attention-calm, let_go-calm}
 
@@ -157,10 +158,10 @@ move-calm storage s None signal load = stays s
 move-calm storage s (Some b) signal load =
     if-meets s (is_answered b.transfer signal.command signal.sequence) (move_bytes storage s b signal load) (meets storage (ignoring s))
     (if-meets s (is_outward b.transfer.code) (meets storage (give_next storage s b signal (load_length load)))
-    (take_in s b signal (brought storage b.transfer signal.sequence (bytes_of_load load)))
+    (take_in s b signal (brought storage b.transfer signal.sequence (load_bytes load)))
     (moving-calm s b (next_given storage (taken_by_device storage b.transfer signal.sequence (load_length load))).transfer)
-    (moving-calm s b (with_room (brought storage b.transfer signal.sequence (bytes_of_load load)).storage
-    (brought storage b.transfer signal.sequence (bytes_of_load load)).transfer).transfer))
+    (moving-calm s b (with_room (brought storage b.transfer signal.sequence (load_bytes load)).storage
+    (brought storage b.transfer signal.sequence (load_bytes load)).transfer).transfer))
     (stays s)
 
 -- End

@@ -46,7 +46,8 @@ use Rattle.machine_model.specs.ChooseSteps.{choose_sub}
 use Rattle.subchannel_model.specs.Sending.{carried_by, finds_full}
 use Rattle.machine_model.specs.UpSteps.{up_front, up_sub}
 use Rattle.subchannel_model.proofs.Named.{with_known, give_next, with_attention}
-use Rattle.subchannel_model.specs.Taking.{Met, meets, ignoring, quietly, sending, let_go, by_hold, moving_on, giving, answering, take_in, bytes_of_load, standing, goes_ahead, path_used, taking_over, interrupted, suspending, beginning, begin_standing, halt_done, accept, move_bytes, move_data, with_end, end_taken, chaining, goes_on, stops_at, command_ended, end_of, reset_taken, may_attend, takes_up}
+use Rattle.subchannel_model.specs.Taking.{Met, meets, ignoring, quietly, sending, let_go, by_hold, moving_on, giving, answering, take_in, standing, goes_ahead, path_used, taking_over, interrupted, suspending, beginning, begin_standing, halt_done, accept, move_bytes, move_data, with_end, end_taken, chaining, goes_on, stops_at, command_ended, end_of, reset_taken, may_attend, takes_up}
+use Rattle.chan_model.specs.Signals.{load_bytes}
 use Rattle.subchannel_model.specs.Parts.{chain_with, end_shown_at, has_any}
 use Rattle.subchannel_model.specs.Losing.{is_offered_or_held, reset_for}
 use Rattle.machine_laws.proofs.Resetting.{reset-acted}
@@ -199,9 +200,9 @@ module _ (keeps : Keeps) where
   move-leaves storage l s None signal load at = ignored l s at
   move-leaves storage l s (Some b) signal load at =
       if-meets l (is_answered b.transfer signal.command signal.sequence) (move_bytes storage s b signal load) (meets storage (ignoring s))
-      (if-meets l (is_outward b.transfer.code) (meets storage (give_next storage s b signal (load_length load))) (take_in s b signal (brought storage b.transfer signal.sequence (bytes_of_load load)))
+      (if-meets l (is_outward b.transfer.code) (meets storage (give_next storage s b signal (load_length load))) (take_in s b signal (brought storage b.transfer signal.sequence (load_bytes load)))
       (given-leaves l s b signal (next_given storage (taken_by_device storage b.transfer signal.sequence (load_length load))) at)
-      (answer-leaves l s b signal (with_room (brought storage b.transfer signal.sequence (bytes_of_load load)).storage (brought storage b.transfer signal.sequence (bytes_of_load load)).transfer) at))
+      (answer-leaves l s b signal (with_room (brought storage b.transfer signal.sequence (load_bytes load)).storage (brought storage b.transfer signal.sequence (load_bytes load)).transfer) at))
       (ignored l s at)
 
   -- End

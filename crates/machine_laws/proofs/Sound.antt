@@ -51,7 +51,8 @@ use Rattle.subchannel_model.specs.Losing.{is_offered_or_held, reset_drawn, reset
 use Rattle.subchannel_model.specs.SystemReset.{state_reset}
 use Rattle.chan_model.specs.ResetCauses.{rests_on}
 use Rattle.subchannel_model.proofs.Named.{with_known, with_pci_of, give_next}
-use Rattle.subchannel_model.specs.Taking.{Met, meets, ignoring, quietly, without_pci, standing, goes_ahead, taking_over, suspending, beginning, begin_standing, halt_done, accepted_by, accept_by, with_transfer, moving_on, take_in, bytes_of_load, move_bytes, move_data, take_data, with_end, end_taken, chaining, goes_on, stops_at, command_ended, end_of, end_command, reset_taken, may_attend, takes_up, path_used, let_go}
+use Rattle.subchannel_model.specs.Taking.{Met, meets, ignoring, quietly, without_pci, standing, goes_ahead, taking_over, suspending, beginning, begin_standing, halt_done, accepted_by, accept_by, with_transfer, moving_on, take_in, move_bytes, move_data, take_data, with_end, end_taken, chaining, goes_on, stops_at, command_ended, end_of, end_command, reset_taken, may_attend, takes_up, path_used, let_go}
+use Rattle.chan_model.specs.Signals.{load_bytes}
 use Rattle.subchannel_model.proofs.Cleared.{none-uncleared, tested-pending}
 use Rattle.step_laws.specs.Walks.{Function, Resumes, Halts, Clears, Cancels, effect_of}
 
@@ -335,7 +336,7 @@ module _ (numbered : AreNumbered) where
   move-sound floor n storage s (Some b) signal load w k =
       pick-met floor (n + 1) (is_answered b.transfer signal.command signal.sequence) (move_bytes storage s b signal load) (meets storage (ignoring s))
       (pick-met floor (n + 1) (is_outward b.transfer.code) (meets storage (give_next storage s b signal (load_length load))) _
-      (given-sound floor n storage s b signal (load_length load) w k) (taken-sound floor n storage s b signal (bytes_of_load load) w k))
+      (given-sound floor n storage s b signal (load_length load) w k) (taken-sound floor n storage s b signal (load_bytes load) w k))
       (later floor n s k)
 
   data-sound : (floor : Serials) (n : ℕ) (storage : Contents) (s : SubchannelState) (signal : DataSignal) (load : Load) → Sound floor n s →

@@ -32,7 +32,8 @@ use Rattle.scsw_irb.specs.declared.scsw.Scsw.{Scsw}
 use Rattle.subchannel_model.specs.Causes.{with_cause}
 use Rattle.subchannel_model.specs.Ends.{has_status_modifier, chains_command}
 use Rattle.subchannel_model.proofs.Named.{with_attention, with_pci_of, give_next}
-use Rattle.subchannel_model.specs.Taking.{back, may_attend, Met, meets, ignoring, quietly, let_go, by_hold, without_pci, from_start, suspended_as, standing_as, standing, goes_ahead, path_used, taking_over, suspending, beginning, begin_standing, halt_done, accept, with_transfer, moving_on, take_in, bytes_of_load, move_bytes, move_data, with_end, end_taken, chaining, goes_on, stops_at, command_ended, end_of, reset_taken, takes_up}
+use Rattle.subchannel_model.specs.Taking.{back, may_attend, Met, meets, ignoring, quietly, let_go, by_hold, without_pci, from_start, suspended_as, standing_as, standing, goes_ahead, path_used, taking_over, suspending, beginning, begin_standing, halt_done, accept, with_transfer, moving_on, take_in, move_bytes, move_data, with_end, end_taken, chaining, goes_on, stops_at, command_ended, end_of, reset_taken, takes_up}
+use Rattle.chan_model.specs.Signals.{load_bytes}
 use Rattle.subchannel_model.specs.Parts.{suspended_alone, standing_still, chain_with, end_shown_at}
 use Rattle.machine_laws.proofs.Resetting.{notice-turned}
 use Rattle.machine_laws.proofs.Waits.{no-less, WaitsAs, IsBegunHeld, Waits, Turned, IsCalm, kept, cause-calm, fault-begun, fault-waiting, end-held, end-begun, not-begun, none-held, held-by, held-on, let-offer, moved-as, calm-as, calm-turned, same-turned, if-turned}
@@ -344,9 +345,9 @@ module _ (A : Type 0) (B : ℕ → Type 0) where
   move-turned storage s (Some b) signal load e k =
       let held : is_held s.hold.phase ≡ true = held-by s.begun b s.hold.phase e k.begun in
       if-met s (is_answered b.transfer signal.command signal.sequence) (move_bytes storage s b signal load) (meets storage (ignoring s))
-      (if-met s (is_outward b.transfer.code) (meets storage (give_next storage s b signal (load_length load))) (take_in s b signal (brought storage b.transfer signal.sequence (bytes_of_load load)))
+      (if-met s (is_outward b.transfer.code) (meets storage (give_next storage s b signal (load_length load))) (take_in s b signal (brought storage b.transfer signal.sequence (load_bytes load)))
       (moving-turned s b (next_given storage (taken_by_device storage b.transfer signal.sequence (load_length load))).transfer k.waiting held)
-      (moving-turned s b (with_room (brought storage b.transfer signal.sequence (bytes_of_load load)).storage (brought storage b.transfer signal.sequence (bytes_of_load load)).transfer).transfer k.waiting held))
+      (moving-turned s b (with_room (brought storage b.transfer signal.sequence (load_bytes load)).storage (brought storage b.transfer signal.sequence (load_bytes load)).transfer).transfer k.waiting held))
       (same-turned A B s k)
 
   -- End

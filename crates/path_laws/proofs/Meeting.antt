@@ -37,7 +37,8 @@ use Rattle.subchannel_model.specs.declared.state.UpStep.{UpStep}
 use Rattle.subchannel_model.specs.Causes.{with_cause}
 use Rattle.subchannel_model.specs.Ends.{has_status_modifier, chains_command}
 use Rattle.subchannel_model.proofs.Named.{give_next}
-use Rattle.subchannel_model.specs.Taking.{Met, meets, ignoring, quietly, let_go, interrupted, standing, goes_ahead, path_used, taking_over, suspending, beginning, begin_standing, halt_done, accept, moving_on, giving, answering, take_in, bytes_of_load, move_bytes, move_data, with_end, end_taken, chaining, goes_on, stops_at, command_ended, end_of, back, may_attend, takes_up}
+use Rattle.subchannel_model.specs.Taking.{Met, meets, ignoring, quietly, let_go, interrupted, standing, goes_ahead, path_used, taking_over, suspending, beginning, begin_standing, halt_done, accept, moving_on, giving, answering, take_in, move_bytes, move_data, with_end, end_taken, chaining, goes_on, stops_at, command_ended, end_of, back, may_attend, takes_up}
+use Rattle.chan_model.specs.Signals.{load_bytes}
 use Rattle.subchannel_model.specs.Parts.{chain_with, end_shown_at}
 use Rattle.path_laws.proofs.Named.{first_of_both, granted_on}
 use Rattle.path_laws.specs.Returns.{accepted_by}
@@ -247,10 +248,10 @@ data-calm storage s None signal load = ignored-calm s
 data-calm storage s (Some b) signal load =
     if-met s (is_answered b.transfer signal.command signal.sequence) (move_bytes storage s b signal load) (meets storage (ignoring s))
     (if-met s (is_outward b.transfer.code) (meets storage (give_next storage s b signal (load_length load)))
-    (take_in s b signal (brought storage b.transfer signal.sequence (bytes_of_load load)))
+    (take_in s b signal (brought storage b.transfer signal.sequence (load_bytes load)))
     (given-calm s b signal (next_given storage (taken_by_device storage b.transfer signal.sequence (load_length load))))
     (answer-calm s b signal
-    (with_room (brought storage b.transfer signal.sequence (bytes_of_load load)).storage (brought storage b.transfer signal.sequence (bytes_of_load load)).transfer)))
+    (with_room (brought storage b.transfer signal.sequence (load_bytes load)).storage (brought storage b.transfer signal.sequence (load_bytes load)).transfer)))
     (ignored-calm s)
 
 -- End

@@ -33,7 +33,8 @@ use Rattle.subchannel_model.specs.Causes.{with_cause}
 use Rattle.subchannel_model.specs.Ends.{has_status_modifier, chains_command}
 use Rattle.subchannel_model.specs.Losing.{is_offered_or_held, reset_drawn, reset_with, reset_for}
 use Rattle.subchannel_model.specs.Parts.{has_any, suspended_alone, standing_still, end_shown_at}
-use Rattle.subchannel_model.specs.Taking.{Met, meets, ignoring, quietly, let_go, without_pci, interrupted, standing, goes_ahead, path_used, taking_over, suspending, beginning, begin_standing, halt_done, accepted_by, accept, with_transfer, moving_on, giving, take_in, bytes_of_load, move_bytes, move_data, with_end, end_taken, chaining, goes_on, stops_at, command_ended, end_of, clear_done, reset_taken, may_attend, takes_up}
+use Rattle.subchannel_model.specs.Taking.{Met, meets, ignoring, quietly, let_go, without_pci, interrupted, standing, goes_ahead, path_used, taking_over, suspending, beginning, begin_standing, halt_done, accepted_by, accept, with_transfer, moving_on, giving, take_in, move_bytes, move_data, with_end, end_taken, chaining, goes_on, stops_at, command_ended, end_of, clear_done, reset_taken, may_attend, takes_up}
+use Rattle.chan_model.specs.Signals.{load_bytes}
 
 -- what the claim may be of: the program that waits, the status word and the logical-path mask; a status is made; a program takes the device, or
 -- is suspended
@@ -122,10 +123,10 @@ module _ (Q : SubchannelState → Type 0) (same : (s x : SubchannelState) → x.
   move-kept storage s (Some b) signal load k =
       if-met (is_answered b.transfer signal.command signal.sequence) (move_bytes storage s b signal load) (meets storage (ignoring s))
       (if-met (is_outward b.transfer.code) (meets storage (giving s b signal (next_given storage (taken_by_device storage b.transfer signal.sequence (load_length load)))))
-      (take_in s b signal (brought storage b.transfer signal.sequence (bytes_of_load load)))
+      (take_in s b signal (brought storage b.transfer signal.sequence (load_bytes load)))
       (moving-kept s b (next_given storage (taken_by_device storage b.transfer signal.sequence (load_length load))).transfer k)
       (moving-kept s b
-      (with_room (brought storage b.transfer signal.sequence (bytes_of_load load)).storage (brought storage b.transfer signal.sequence (bytes_of_load load)).transfer).transfer k))
+      (with_room (brought storage b.transfer signal.sequence (load_bytes load)).storage (brought storage b.transfer signal.sequence (load_bytes load)).transfer).transfer k))
       k
 
   -- End

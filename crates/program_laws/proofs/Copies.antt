@@ -28,7 +28,8 @@ use Rattle.subchannel_model.specs.declared.state.Program.{Program}
 use Rattle.subchannel_model.specs.declared.state.ProgramPosition.{ProgramPosition}
 use Rattle.subchannel_model.specs.declared.state.SubchannelState.{SubchannelState}
 use Rattle.subchannel_model.specs.Ends.{has_status_modifier, chains_command}
-use Rattle.subchannel_model.specs.Taking.{goes_ahead, bytes_of_load}
+use Rattle.subchannel_model.specs.Taking.{goes_ahead}
+use Rattle.chan_model.specs.Signals.{load_bytes}
 use Rattle.program_laws.proofs.MachineActs as doing
 use Rattle.program_laws.specs.Traces.{CommandTrace, no_trace}
 use Rattle.program_laws.proofs.MachineActs.{with_acts, with_places, with_copy, located_acts, chunk_of, chained_acts, trace_answered, gives, with_arrival, storing, takes_in, first_acts, next_acts}
@@ -145,9 +146,9 @@ module _ (accesses : AreAccesses) where
   accept-if storage s step k false c = c
 
   move-if : (storage : Contents) (t : Transfer) (seq : ℕ) (load : Load) (k : ProgramTrace) (b : Bool) → AreCopied k →
-      AreCopied (if b then record k { now = gives storage t seq (load_length load) k.now } else record k { now = takes_in storage t seq (bytes_of_load load) k.now })
+      AreCopied (if b then record k { now = gives storage t seq (load_length load) k.now } else record k { now = takes_in storage t seq (load_bytes load) k.now })
   move-if storage t seq load k true c = (gives-copied storage t seq (load_length load) k.now c.0, c.1)
-  move-if storage t seq load k false c = (takes_in-copied storage t seq (bytes_of_load load) k.now c.0, c.1)
+  move-if storage t seq load k false c = (takes_in-copied storage t seq (load_bytes load) k.now c.0, c.1)
 
   answers-if : (storage : Contents) (t : Transfer) (seq : ℕ) (load : Load) (k : ProgramTrace) (b : Bool) → AreCopied k → AreCopied (if b then stories.moves storage t seq load k else k)
   answers-if storage t seq load k true c = move-if storage t seq load k (is_outward t.code) c

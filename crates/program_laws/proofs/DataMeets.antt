@@ -20,7 +20,8 @@ use Rattle.subchannel_model.specs.declared.state.ActiveProgram.{ActiveProgram}
 use Rattle.subchannel_model.specs.declared.state.SubchannelState.{SubchannelState}
 use Rattle.subchannel_model.specs.Taking as taking
 use Rattle.subchannel_model.proofs.Named as pieces
-use Rattle.subchannel_model.specs.Taking.{Met, bytes_of_load}
+use Rattle.subchannel_model.specs.Taking.{Met}
+use Rattle.chan_model.specs.Signals.{load_bytes}
 use Rattle.program_laws.specs.Traces.{CommandTrace, ProgramTrace}
 use Rattle.program_laws.specs.Fetches.{AddsFetched}
 use Rattle.program_laws.specs.Interrupts.{asked, Interrupts, OnlyInterrupts}
@@ -69,11 +70,11 @@ module _ (laws : AreLaws) (accesses : AreAccesses) where
 
   in-told : (storage : Contents) (s : SubchannelState) (b : ActiveProgram) (k : ProgramTrace) (signal : DataSignal) (load : Load) → IsAtWork k.earlier k.orb k.now b.transfer false → IsMarked k.now b.transfer →
       ((signal.sequence == b.transfer.sequence) || (signal.sequence == b.transfer.sequence + 1)) ≡ true →
-      MovesOf storage (taking.take_in s b signal (brought storage b.transfer signal.sequence (bytes_of_load load))) signal.sequence load k
-      (record k { now = takes_in storage b.transfer signal.sequence (bytes_of_load load) k.now })
+      MovesOf storage (taking.take_in s b signal (brought storage b.transfer signal.sequence (load_bytes load))) signal.sequence load k
+      (record k { now = takes_in storage b.transfer signal.sequence (load_bytes load) k.now })
   in-told storage s b k signal load w marks at =
       let t : Transfer = b.transfer in
-      let bytes : List ℕ = bytes_of_load load in
+      let bytes : List ℕ = load_bytes load in
       let a : Brought = brought storage t signal.sequence bytes in
       let f : IsSame t a.transfer = brought-same storage t signal.sequence bytes in
       let u : Transfer = located_transfer a.storage a.transfer in
@@ -103,10 +104,10 @@ module _ (laws : AreLaws) (accesses : AreAccesses) where
       (gives-asking storage k.orb k.now b.transfer signal.sequence count e f).0
 
   in-asks : (storage : Contents) (s : SubchannelState) (b : ActiveProgram) (k : ProgramTrace) (signal : DataSignal) (load : Load) → b.transfer.walk ≡ walk_place k.orb k.now.acts → b.transfer.pci_pending ≡ false →
-      Interrupts s (taking.take_in s b signal (brought storage b.transfer signal.sequence (bytes_of_load load))).step.state k
-      (record k { now = takes_in storage b.transfer signal.sequence (bytes_of_load load) k.now })
+      Interrupts s (taking.take_in s b signal (brought storage b.transfer signal.sequence (load_bytes load))).step.state k
+      (record k { now = takes_in storage b.transfer signal.sequence (load_bytes load) k.now })
   in-asks storage s b k signal load e f =
-      let bytes : List ℕ = bytes_of_load load in
+      let bytes : List ℕ = load_bytes load in
       let now : CommandTrace = takes_in storage b.transfer signal.sequence bytes k.now in
       let x : Brought = brought storage b.transfer signal.sequence bytes in
       let t : Transfer = located_transfer x.storage x.transfer in
@@ -123,10 +124,10 @@ module _ (laws : AreLaws) (accesses : AreAccesses) where
       (gives-asking storage k.orb k.now b.transfer signal.sequence count e f).1
 
   in-only : (storage : Contents) (s : SubchannelState) (b : ActiveProgram) (k : ProgramTrace) (signal : DataSignal) (load : Load) → b.transfer.walk ≡ walk_place k.orb k.now.acts → b.transfer.pci_pending ≡ false →
-      OnlyInterrupts s (taking.take_in s b signal (brought storage b.transfer signal.sequence (bytes_of_load load))).step.state k
-      (record k { now = takes_in storage b.transfer signal.sequence (bytes_of_load load) k.now })
+      OnlyInterrupts s (taking.take_in s b signal (brought storage b.transfer signal.sequence (load_bytes load))).step.state k
+      (record k { now = takes_in storage b.transfer signal.sequence (load_bytes load) k.now })
   in-only storage s b k signal load e f =
-      let bytes : List ℕ = bytes_of_load load in
+      let bytes : List ℕ = load_bytes load in
       let now : CommandTrace = takes_in storage b.transfer signal.sequence bytes k.now in
       let x : Brought = brought storage b.transfer signal.sequence bytes in
       let t : Transfer = located_transfer x.storage x.transfer in
@@ -161,8 +162,8 @@ module _ (laws : AreLaws) (accesses : AreAccesses) where
       signal.number ≡ k.number → signal.command ≡ k.sent → IsMarked k.now b.transfer →
       ((signal.sequence == b.transfer.sequence) || (signal.sequence == b.transfer.sequence + 1)) ≡ true → IsAtWork k.earlier k.orb k.now b.transfer (is_outward b.transfer.code) →
       DataBy storage s signal load (if x then taking.meets storage (pieces.give_next storage s b signal (load_length load))
-      else taking.take_in s b signal (brought storage b.transfer signal.sequence (bytes_of_load load))) k
-      (if x then record k { now = gives storage b.transfer signal.sequence (load_length load) k.now } else record k { now = takes_in storage b.transfer signal.sequence (bytes_of_load load) k.now })
+      else taking.take_in s b signal (brought storage b.transfer signal.sequence (load_bytes load))) k
+      (if x then record k { now = gives storage b.transfer signal.sequence (load_length load) k.now } else record k { now = takes_in storage b.transfer signal.sequence (load_bytes load) k.now })
   moves-meets storage s b k signal load true is d c u n marks at w r = (
     u,
     n,

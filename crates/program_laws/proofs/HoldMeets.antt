@@ -46,7 +46,8 @@ use Rattle.subchannel_model.specs.Causes.{with_cause, without_begun, fetch_fault
 use Rattle.subchannel_model.specs.Taking as taking
 use Rattle.subchannel_model.specs.Parts as taking_parts
 use Rattle.subchannel_model.proofs.Named as pieces
-use Rattle.subchannel_model.specs.Taking.{takes_up, goes_ahead, path_used, let_go, bytes_of_load, with_end, without_pci, interrupted, taking_over, from_start, suspended_as, standing_as, suspending}
+use Rattle.subchannel_model.specs.Taking.{takes_up, goes_ahead, path_used, let_go, with_end, without_pci, interrupted, taking_over, from_start, suspended_as, standing_as, suspending}
+use Rattle.chan_model.specs.Signals.{load_bytes}
 use Rattle.subchannel_model.specs.Parts.{standing_still, suspended_alone, has_any}
 use Rattle.program_laws.specs.Traces.{CommandTrace, no_trace}
 use Rattle.program_laws.proofs.MachineActs.{with_acts, goes_acts, first_acts, next_acts, gives, takes_in}
@@ -246,8 +247,8 @@ module _ (laws : AreLaws) (accesses : AreAccesses) where
   out-held : (storage : Contents) (s : SubchannelState) (b : ActiveProgram) (k : ProgramTrace) (signal : DataSignal) (load : Load) (x : Bool) → is_outward b.transfer.code ≡ x → s.begun ≡ Some b → IsHeld s k →
       IsAtWork k.earlier k.orb k.now b.transfer (is_outward b.transfer.code) → (b.transfer.command ≡ k.sent) × (1 ≤ k.sent) → b.program.orb ≡ k.orb →
       IsHeld (if x then taking.meets storage (pieces.give_next storage s b signal (load_length load))
-      else taking.take_in s b signal (brought storage b.transfer signal.sequence (bytes_of_load load))).step.state
-      (if x then record k { now = gives storage b.transfer signal.sequence (load_length load) k.now } else record k { now = takes_in storage b.transfer signal.sequence (bytes_of_load load) k.now })
+      else taking.take_in s b signal (brought storage b.transfer signal.sequence (load_bytes load))).step.state
+      (if x then record k { now = gives storage b.transfer signal.sequence (load_length load) k.now } else record k { now = takes_in storage b.transfer signal.sequence (load_bytes load) k.now })
   out-held storage s b k signal load true d e h w m o =
       let a : Transfer = taken_by_device storage b.transfer signal.sequence (load_length load) in
       let u : Transfer = (next_given storage a).transfer in
@@ -258,13 +259,13 @@ module _ (laws : AreLaws) (accesses : AreAccesses) where
       (gives-work k.earlier laws storage k.orb k.now b.transfer signal.sequence (load_length load) (subst (λ (y : Bool). IsAtWork k.earlier k.orb k.now b.transfer y) d w)))
       m (refl, refl, refl, refl, refl, refl) o
   out-held storage s b k signal load false d e h w m o =
-      let a = brought storage b.transfer signal.sequence (bytes_of_load load) in
+      let a = brought storage b.transfer signal.sequence (load_bytes load) in
       let u : Transfer = (with_room a.storage a.transfer).transfer in
-      let f : IsSame b.transfer a.transfer = brought-same storage b.transfer signal.sequence (bytes_of_load load) in
+      let f : IsSame b.transfer a.transfer = brought-same storage b.transfer signal.sequence (load_bytes load) in
       let g : IsSame a.transfer u = located-same a.storage a.transfer in
-      transfer-held s b k u (takes_in storage b.transfer signal.sequence (bytes_of_load load) k.now) e h (g.0 ∙ f.0, g.1 ∙ f.1)
-      (subst (λ (y : Bool). IsAtWork k.earlier k.orb (takes_in storage b.transfer signal.sequence (bytes_of_load load) k.now) u y) (sym d)
-      (takes_in-work k.earlier laws accesses storage k.orb k.now b.transfer signal.sequence (bytes_of_load load) (subst (λ (y : Bool). IsAtWork k.earlier k.orb k.now b.transfer y) d w)))
+      transfer-held s b k u (takes_in storage b.transfer signal.sequence (load_bytes load) k.now) e h (g.0 ∙ f.0, g.1 ∙ f.1)
+      (subst (λ (y : Bool). IsAtWork k.earlier k.orb (takes_in storage b.transfer signal.sequence (load_bytes load) k.now) u y) (sym d)
+      (takes_in-work k.earlier laws accesses storage k.orb k.now b.transfer signal.sequence (load_bytes load) (subst (λ (y : Bool). IsAtWork k.earlier k.orb k.now b.transfer y) d w)))
       m (refl, refl, refl, refl, refl, refl) o
 
   answered-held : (storage : Contents) (s : SubchannelState) (b : ActiveProgram) (k : ProgramTrace) (signal : DataSignal) (load : Load) (x : Bool) → s.begun ≡ Some b → IsHeld s k →

@@ -48,7 +48,8 @@ use Rattle.subchannel_model.specs.declared.cause.StatusCause.TheVariants as caus
 use Rattle.subchannel_model.specs.Taking as taking
 use Rattle.subchannel_model.specs.Parts as taking_parts
 use Rattle.subchannel_model.proofs.Named as pieces
-use Rattle.subchannel_model.specs.Taking.{goes_ahead, from_start, bytes_of_load, takes_up, with_end}
+use Rattle.subchannel_model.specs.Taking.{goes_ahead, from_start, takes_up, with_end}
+use Rattle.chan_model.specs.Signals.{load_bytes}
 use Rattle.subchannel_model.specs.Sending.{with_any_sent}
 use Rattle.wires.specs.Queues.{taken}
 use Rattle.program_laws.specs.DataAreas.{data_areas}
@@ -300,9 +301,9 @@ module _ (laws : AreLaws) (accesses : AreAccesses) (storage : Contents) (side : 
       by (Reads d h g o q w) =
           let same : d ≡ b = cc (sym h ∙ e) in
           let out : is_outward b.transfer.code ≡ false = subst (λ (x : ActiveProgram). is_outward x.transfer.code ≡ false) same o in
-          subst (λ (x : Bool). Goes (if x then taking.meets storage (pieces.give_next storage s b signal (load_length l)) else taking.take_in s b signal (brought storage b.transfer signal.sequence (bytes_of_load l))).step
-          (if x then with_now (gives storage b.transfer signal.sequence (load_length l) k.now) else with_now (takes_in storage b.transfer signal.sequence (bytes_of_load l) k.now))) (sym out)
-          (reads-goes b signal (brought storage b.transfer signal.sequence (bytes_of_load l)) (takes_in storage b.transfer signal.sequence (bytes_of_load l) k.now) (brought-same storage b.transfer signal.sequence (bytes_of_load l)) g out q w)
+          subst (λ (x : Bool). Goes (if x then taking.meets storage (pieces.give_next storage s b signal (load_length l)) else taking.take_in s b signal (brought storage b.transfer signal.sequence (load_bytes l))).step
+          (if x then with_now (gives storage b.transfer signal.sequence (load_length l) k.now) else with_now (takes_in storage b.transfer signal.sequence (load_bytes l) k.now))) (sym out)
+          (reads-goes b signal (brought storage b.transfer signal.sequence (load_bytes l)) (takes_in storage b.transfer signal.sequence (load_bytes l) k.now) (brought-same storage b.transfer signal.sequence (load_bytes l)) g out q w)
       by (Writes d h g o lead y w) =
           let same : d ≡ b = cc (sym h ∙ e) in
           let out : is_outward b.transfer.code ≡ true = subst (λ (x : ActiveProgram). is_outward x.transfer.code ≡ true) same o in
@@ -311,8 +312,8 @@ module _ (laws : AreLaws) (accesses : AreAccesses) (storage : Contents) (side : 
           subst (λ (x : ActiveProgram). IsWired side k.number m (HandFlow x.transfer.code (view_of x.transfer k.now) lead) (IsGive (view_of x.transfer k.now)) (IsData (view_of x.transfer k.now) lead) downs ups u) same w in
           let r = data-front (IsData (view_of b.transfer k.now) lead) b signal.number signal.connection signal.command signal.sequence l e z i
           (f (HandFlow b.transfer.code (view_of b.transfer k.now) lead) (IsGive (view_of b.transfer k.now)) (IsData (view_of b.transfer k.now) lead) w') in
-          subst (λ (x : Bool). Goes (if x then taking.meets storage (pieces.give_next storage s b signal (load_length l)) else taking.take_in s b signal (brought storage b.transfer signal.sequence (bytes_of_load l))).step
-          (if x then with_now (gives storage b.transfer signal.sequence (load_length l) k.now) else with_now (takes_in storage b.transfer signal.sequence (bytes_of_load l) k.now))) (sym out)
+          subst (λ (x : Bool). Goes (if x then taking.meets storage (pieces.give_next storage s b signal (load_length l)) else taking.take_in s b signal (brought storage b.transfer signal.sequence (load_bytes l))).step
+          (if x then with_now (gives storage b.transfer signal.sequence (load_length l) k.now) else with_now (takes_in storage b.transfer signal.sequence (load_bytes l) k.now))) (sym out)
           (writes-goes b signal l lead e z r.0 g out at (r.1 (r.2 ∙ sym g)) y' w')
 
   module _ (signal : DataSignal) (l : Load) (front : (P : Option AtHand → Type 0) (Q : ℕ → List ℕ → Type 0) (R : ℕ → Load → Type 0) → IsWired side k.number m P Q R downs ups u → Front R (up.Data signal.number signal.connection signal.command signal.sequence l)) where

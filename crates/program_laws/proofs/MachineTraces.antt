@@ -33,7 +33,8 @@ use Rattle.subchannel_model.specs.declared.state.SubchannelState.{SubchannelStat
 use Rattle.machine_model.specs.State.{State, place_of}
 use Rattle.subchannel_model.specs.Places.{reached_in}
 use Rattle.subchannel_model.specs.Ends.{has_status_modifier, chains_command}
-use Rattle.subchannel_model.specs.Taking.{goes_ahead, bytes_of_load}
+use Rattle.subchannel_model.specs.Taking.{goes_ahead}
+use Rattle.chan_model.specs.Signals.{load_bytes}
 use Rattle.machine_model.specs.Steps.{Run, Opened, Stepped}
 use Rattle.program_laws.proofs.MachineActs.{with_acts, first_acts, next_acts, gives, takes_in}
 use Rattle.program_laws.specs.Traces.{no_trace, ProgramTrace, past_part, chosen_at, taken_at, reported_at}
@@ -76,7 +77,7 @@ trace_accepted storage s step k = if (came_of step).taken then accepted_at stora
 abbrev pub moves : Contents → Transfer → ℕ → Load → ProgramTrace → ProgramTrace
 moves storage t s load k =
     if is_outward t.code then record k { now = gives storage t s (load_length load) k.now }
-    else record k { now = takes_in storage t s (bytes_of_load load) k.now }
+    else record k { now = takes_in storage t s (load_bytes load) k.now }
 
 abbrev pub answers : Contents → Option ActiveProgram → ℕ → ℕ → Load → ProgramTrace → ProgramTrace
 answers storage None n s load k = k

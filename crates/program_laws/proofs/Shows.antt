@@ -33,7 +33,8 @@ use Rattle.subchannel_model.proofs.Named.{with_row}
 use Rattle.subchannel_model.specs.Causes.{without_begun, fetch_fault_shown, pci_shown, suspension_shown, with_cause}
 use Rattle.subchannel_model.specs.Taking as taking
 use Rattle.subchannel_model.proofs.Named as pieces
-use Rattle.subchannel_model.specs.Taking.{bytes_of_load, let_go, with_end, without_pci}
+use Rattle.subchannel_model.specs.Taking.{let_go, with_end, without_pci}
+use Rattle.chan_model.specs.Signals.{load_bytes}
 use Rattle.program_laws.proofs.MachineActs.{with_acts, next_acts}
 use Rattle.program_laws.specs.DataAreas.{data_areas, counts}
 use Rattle.program_laws.proofs.Named.{IsRest, IsRestAt}
@@ -93,13 +94,13 @@ interrupted-shows s b k false h = unmade s.serials.made s k refl
 -- Data
 move-shows : (storage : Contents) (s : SubchannelState) (b : ActiveProgram) (signal : DataSignal) (load : Load) (k : ProgramTrace) (x : Bool) →
     let after : SubchannelState = (if x then taking.meets storage (pieces.give_next storage s b signal (load_length load))
-    else taking.take_in s b signal (brought storage b.transfer signal.sequence (bytes_of_load load))).step.state in
+    else taking.take_in s b signal (brought storage b.transfer signal.sequence (load_bytes load))).step.state in
     IsHeld after k → ShowsRestOf s.serials.made after k
 move-shows storage s b signal load k true h =
     let t = (next_given storage (taken_by_device storage b.transfer signal.sequence (load_length load))).transfer in
     interrupted-shows (taking.with_transfer s b t) (record b { transfer = t }) k t.pci_pending h
 move-shows storage s b signal load k false h =
-    let t = (with_room (brought storage b.transfer signal.sequence (bytes_of_load load)).storage (brought storage b.transfer signal.sequence (bytes_of_load load)).transfer).transfer in
+    let t = (with_room (brought storage b.transfer signal.sequence (load_bytes load)).storage (brought storage b.transfer signal.sequence (load_bytes load)).transfer).transfer in
     interrupted-shows (taking.with_transfer s b t) (record b { transfer = t }) k t.pci_pending h
 
 answered-shows : (storage : Contents) (s : SubchannelState) (b : ActiveProgram) (signal : DataSignal) (load : Load) (k : ProgramTrace) (x : Bool) →

@@ -45,7 +45,8 @@ use Rattle.subchannel_model.specs.Losing.{is_offered_or_held, reset_for, reset_w
 use Rattle.subchannel_model.specs.Parts.{chain_with, has_any}
 use Rattle.subchannel_model.specs.Sending.{carried_by, finds_full}
 use Rattle.subchannel_model.specs.Taking as taking
-use Rattle.subchannel_model.specs.Taking.{bytes_of_load, interrupted, let_go, takes_up, with_end, without_pci}
+use Rattle.subchannel_model.specs.Taking.{interrupted, let_go, takes_up, with_end, without_pci}
+use Rattle.chan_model.specs.Signals.{load_bytes}
 use Rattle.machine_model.specs.ChooseSteps.{choose_sub}
 use Rattle.machine_model.specs.declared.state.Sweep.{Sweep}
 use Rattle.machine_model.specs.PathSteps.{swept}
@@ -127,12 +128,12 @@ accept-unasked storage s step u = by (came_of step).taken
 move-unasked : (storage : Contents) (s : SubchannelState) (b : ActiveProgram) (signal : DataSignal) (load : Load) (x : Bool) →
     IsUnasked
     (if x then taking.meets storage (give_next storage s b signal (load_length load))
-    else taking.take_in s b signal (brought storage b.transfer signal.sequence (bytes_of_load load))).step.state.begun
+    else taking.take_in s b signal (brought storage b.transfer signal.sequence (load_bytes load))).step.state.begun
 move-unasked storage s b signal load true =
     let t = (next_given storage (taken_by_device storage b.transfer signal.sequence (load_length load))).transfer in
     asked-made (taking.with_transfer s b t) (record b { transfer = t }) t.pci_pending refl refl
 move-unasked storage s b signal load false =
-    let t = (with_room (brought storage b.transfer signal.sequence (bytes_of_load load)).storage (brought storage b.transfer signal.sequence (bytes_of_load load)).transfer).transfer in
+    let t = (with_room (brought storage b.transfer signal.sequence (load_bytes load)).storage (brought storage b.transfer signal.sequence (load_bytes load)).transfer).transfer in
     asked-made (taking.with_transfer s b t) (record b { transfer = t }) t.pci_pending refl refl
 
 answered-unasked : (storage : Contents) (s : SubchannelState) (b : ActiveProgram) (signal : DataSignal) (load : Load) (x : Bool) → IsUnasked s.begun →

@@ -34,7 +34,8 @@ use Rattle.subchannel_model.specs.declared.state.Program.{Program}
 use Rattle.subchannel_model.specs.declared.state.ProgramPosition.{ProgramPosition}
 use Rattle.subchannel_model.specs.declared.state.SubchannelState.{SubchannelState}
 use Rattle.subchannel_model.specs.Ends.{has_status_modifier, chains_command}
-use Rattle.subchannel_model.specs.Taking.{goes_ahead, bytes_of_load}
+use Rattle.subchannel_model.specs.Taking.{goes_ahead}
+use Rattle.chan_model.specs.Signals.{load_bytes}
 use Rattle.program_laws.specs.Traces.{CommandTrace, no_trace}
 use Rattle.program_laws.proofs.MachineActs.{with_acts, with_places, trace_moved_on, trace_answered, with_copy, copying, trace_giving, gives, with_arrival, storing, arriving, takes_in, located_acts, chained_acts, chunk_of, first_acts, next_acts}
 use Rattle.program_laws.specs.Traces.{ProgramTrace, past_part}
@@ -245,7 +246,7 @@ accept-grown storage s h (hold.Reset r) t may k e = same-grown k
 moves-grown : (storage : Contents) (t : Transfer) (s : ℕ) (load : Load) (k : ProgramTrace) → IsGrown k (moves storage t s load k)
 moves-grown storage t s load k =
     if-grown k (is_outward t.code) _ _ (now-grown k (gives storage t s (load_length load) k.now) (gives-on storage t s (load_length load) k.now))
-    (now-grown k (takes_in storage t s (bytes_of_load load) k.now) (takes_in-on storage t s (bytes_of_load load) k.now))
+    (now-grown k (takes_in storage t s (load_bytes load) k.now) (takes_in-on storage t s (load_bytes load) k.now))
 
 answers-grown : (storage : Contents) (b : Option ActiveProgram) (n s : ℕ) (load : Load) (k : ProgramTrace) → IsGrown k (answers storage b n s load k)
 answers-grown storage None n s load k = same-grown k

@@ -26,7 +26,7 @@ use Rattle.subchannel_model.specs.declared.state.Subchannel.{Subchannel}
 use Rattle.subchannel_model.specs.declared.state.SubchannelState.{SubchannelState}
 use Rattle.subchannel_model.specs.Choosing.{unsent_reset, clear_chosen}
 use Rattle.subchannel_model.specs.Ends.{has_status_modifier, has_unit_exception, is_unit_check_alone, is_channel_end_alone}
-use Rattle.subchannel_model.specs.Taking.{bytes_of_load}
+use Rattle.chan_model.specs.Signals.{load_bytes}
 use Rattle.machine_model.specs.State.{State, place_of}
 use Rattle.machine_model.specs.Steps.{Run, Opened, Stepped}
 use Rattle.program_laws.specs.Traces.{CommandTrace, no_trace, ProgramTrace, told_after}
@@ -151,7 +151,7 @@ pub record TakesNext (former storage : Contents) (orb : Orb) (s : ℕ) (bytes : 
 -- a Data is answered by what it is answered with
 abbrev pub MovesBy : Contents → Contents → Orb → ℕ → Load → Down → CommandTrace → CommandTrace → Type 0
 MovesBy former storage orb s load (down.Give t c n next bytes) k now = (storage ≡ former) × GivesNext storage orb s (load_length load) bytes k now
-MovesBy former storage orb s load (down.Took t n last more) k now = TakesNext former storage orb s (bytes_of_load load) more k now
+MovesBy former storage orb s load (down.Took t n last more) k now = TakesNext former storage orb s (load_bytes load) more k now
 MovesBy former storage orb s load signal k now = ⊥
 
 -- Data is chained where bytes were moved, and those that were moved so far are all that the counts ask for, unless a check was kept:

@@ -42,7 +42,8 @@ use Rattle.subchannel_model.specs.Programs.{without_programs}
 use Rattle.subchannel_model.specs.Sending.{carried_by, finds_full}
 use Rattle.subchannel_model.specs.Test.{tested_wholly, ends_suspended, tested}
 use Rattle.subchannel_model.proofs.Named.{with_known, give_next, with_attention}
-use Rattle.subchannel_model.specs.Taking.{Met, meets, ignoring, quietly, let_go, by_hold, without_pci, interrupted, standing, goes_ahead, path_used, taking_over, suspending, beginning, begin_standing, halt_done, clear_done, accept, take_in, bytes_of_load, move_bytes, move_data, with_end, end_taken, dedicated_by_end, chaining, goes_on, stops_at, command_ended, end_of, reset_taken, may_attend, takes_up}
+use Rattle.subchannel_model.specs.Taking.{Met, meets, ignoring, quietly, let_go, by_hold, without_pci, interrupted, standing, goes_ahead, path_used, taking_over, suspending, beginning, begin_standing, halt_done, clear_done, accept, take_in, move_bytes, move_data, with_end, end_taken, dedicated_by_end, chaining, goes_on, stops_at, command_ended, end_of, reset_taken, may_attend, takes_up}
+use Rattle.chan_model.specs.Signals.{load_bytes}
 use Rattle.machine_model.specs.ChooseSteps.{choose_sub}
 use Rattle.machine_model.specs.Turns.{SubTurn}
 use Rattle.chan_model.specs.ResetCauses.{rests_on}
@@ -196,7 +197,7 @@ data-left storage s (Some b) p t c n q load =
     let signal : DataSignal = record { path = p; number = t; connection = c; command = n; sequence = q } in
     if-met p (up.Data t c n q load) s (is_answered b.transfer n q) (move_bytes storage s b signal load) (meets storage (ignoring s))
     (if-met p (up.Data t c n q load) s (is_outward b.transfer.code) (meets storage (give_next storage s b signal (load_length load)))
-    (take_in s b signal (brought storage b.transfer q (bytes_of_load load))) tt tt)
+    (take_in s b signal (brought storage b.transfer q (load_bytes load))) tt tt)
     refl
 
 -- End

@@ -35,7 +35,8 @@ use Rattle.subchannel_model.specs.Ends.{has_status_modifier, chains_command}
 use Rattle.subchannel_model.specs.Losing.{is_offered_or_held, reset_with, reset_for}
 use Rattle.subchannel_model.specs.Parts.{chain_with, end_shown_at, has_any}
 use Rattle.subchannel_model.proofs.Named.{with_known, give_next, with_attention}
-use Rattle.subchannel_model.specs.Taking.{Met, meets, ignoring, quietly, let_go, by_hold, interrupted, standing, goes_ahead, path_used, taking_over, suspending, beginning, begin_standing, halt_done, clear_done, accept, moving_on, take_in, bytes_of_load, move_bytes, move_data, with_end, end_taken, chaining, goes_on, stops_at, command_ended, end_of, reset_taken, may_attend, takes_up}
+use Rattle.subchannel_model.specs.Taking.{Met, meets, ignoring, quietly, let_go, by_hold, interrupted, standing, goes_ahead, path_used, taking_over, suspending, beginning, begin_standing, halt_done, clear_done, accept, moving_on, take_in, move_bytes, move_data, with_end, end_taken, chaining, goes_on, stops_at, command_ended, end_of, reset_taken, may_attend, takes_up}
+use Rattle.chan_model.specs.Signals.{load_bytes}
 use Rattle.path_laws.proofs.SameState.{IsSame, is-same, same-then, cause-same, interrupted-same, moving-same, suspending-same, halt_done-same, clear_done-same, attention-same}
 use Rattle.seen_laws.specs.Links.{Link, Offered, accepted, engaged_by, link_sent, SubSeen, sub_met, program_of, mover_of, IsSilent, IsTaken}
 use Rattle.seen_laws.proofs.LinkHolds.{Stands, IsHeldAs, phased, is_offer_of, same-offered, certain, IsSentAs, AreSentAs, Turned, TurnedBy, ignored, busy-turned, left-turned, released-turned, cleared-turned, back-turned, attended-turned}
@@ -149,10 +150,10 @@ data-left : (storage : Contents) (s : SubchannelState) (b : Option ActiveProgram
 data-left storage s None signal load = ignored-left s
 data-left storage s (Some b) signal load =
     if-met s (is_answered b.transfer signal.command signal.sequence) (move_bytes storage s b signal load) (meets storage (ignoring s))
-    (if-met s (is_outward b.transfer.code) (meets storage (give_next storage s b signal (load_length load))) (take_in s b signal (brought storage b.transfer signal.sequence (bytes_of_load load)))
+    (if-met s (is_outward b.transfer.code) (meets storage (give_next storage s b signal (load_length load))) (take_in s b signal (brought storage b.transfer signal.sequence (load_bytes load)))
     (same-left s (moving_on s b (next_given storage (taken_by_device storage b.transfer signal.sequence (load_length load))).transfer) _ (moving-same s b _))
     (same-left s
-    (moving_on s b (with_room (brought storage b.transfer signal.sequence (bytes_of_load load)).storage (brought storage b.transfer signal.sequence (bytes_of_load load)).transfer).transfer) _
+    (moving_on s b (with_room (brought storage b.transfer signal.sequence (load_bytes load)).storage (brought storage b.transfer signal.sequence (load_bytes load)).transfer).transfer) _
     (moving-same s b _)))
     (ignored-left s)
 

@@ -52,7 +52,8 @@ use Rattle.subchannel_model.specs.Halt.{drops_status, status_dropped, halt_begun
 use Rattle.subchannel_model.specs.Losing.{is_offered_or_held, reset_with, reset_for, path_index, loses_at, loses, shows_at}
 use Rattle.subchannel_model.specs.Parts.{has_any, suspended_alone, standing_still, end_shown_at}
 use Rattle.subchannel_model.specs.Programs.{without_programs}
-use Rattle.subchannel_model.specs.Taking.{Met, meets, ignoring, quietly, let_go, without_pci, standing, goes_ahead, path_used, taking_over, beginning, begin_standing, accept, with_transfer, moving_on, giving, take_in, bytes_of_load, move_bytes, move_data, with_end, end_taken, chaining, goes_on, stops_at, command_ended, end_of, reset_taken, attend, may_attend, takes_up}
+use Rattle.subchannel_model.specs.Taking.{Met, meets, ignoring, quietly, let_go, without_pci, standing, goes_ahead, path_used, taking_over, beginning, begin_standing, accept, with_transfer, moving_on, giving, take_in, move_bytes, move_data, with_end, end_taken, chaining, goes_on, stops_at, command_ended, end_of, reset_taken, attend, may_attend, takes_up}
+use Rattle.chan_model.specs.Signals.{load_bytes}
 use Rattle.subchannel_model.specs.Test.{tested, ends_suspended, tested_wholly}
 use Rattle.shown_laws.specs.Behind.{behind_met, behind_after}
 use Rattle.shown_laws.specs.Shown.{is_about}
@@ -123,10 +124,10 @@ module _ (s : SubchannelState) where
       let some : is_some s.begun ≡ true = ap (λ (o : Option ActiveProgram). is_some o) i in
       if-met (is_answered b.transfer signal.command signal.sequence) (move_bytes storage s b signal load) (meets storage (ignoring s))
       (if-met (is_outward b.transfer.code) (meets storage (giving s b signal (next_given storage (taken_by_device storage b.transfer signal.sequence (load_length load)))))
-      (take_in s b signal (brought storage b.transfer signal.sequence (bytes_of_load load)))
+      (take_in s b signal (brought storage b.transfer signal.sequence (load_bytes load)))
       (moving-keeps b (next_given storage (taken_by_device storage b.transfer signal.sequence (load_length load))).transfer some)
       (moving-keeps b
-      (with_room (brought storage b.transfer signal.sequence (bytes_of_load load)).storage (brought storage b.transfer signal.sequence (bytes_of_load load)).transfer).transfer some))
+      (with_room (brought storage b.transfer signal.sequence (load_bytes load)).storage (brought storage b.transfer signal.sequence (load_bytes load)).transfer).transfer some))
       same
 
   -- End

@@ -44,7 +44,8 @@ use Rattle.subchannel_model.specs.Ends.{has_status_modifier, chains_command, sho
 use Rattle.subchannel_model.specs.Losing.{is_offered_or_held, reset_drawn, reset_with, reset_for, loses_at}
 use Rattle.subchannel_model.specs.Parts.{suspended_alone, standing_still, chain_with, end_shown_at, has_any, scsw_joined}
 use Rattle.subchannel_model.specs.Status.{check_bits, scsw_made, serials_made, with_joined, no_device_status, no_subchannel_status}
-use Rattle.subchannel_model.specs.Taking.{Met, meets, ignoring, quietly, let_go, by_hold, without_pci, interrupted, standing, goes_ahead, path_used, taking_over, suspending, beginning, begin_standing, halt_done, accept, giving, take_in, bytes_of_load, move_bytes, move_data, with_end, with_transfer, end_taken, chaining, goes_on, stops_at, command_ended, end_of, reset_taken, may_attend, takes_up}
+use Rattle.subchannel_model.specs.Taking.{Met, meets, ignoring, quietly, let_go, by_hold, without_pci, interrupted, standing, goes_ahead, path_used, taking_over, suspending, beginning, begin_standing, halt_done, accept, giving, take_in, move_bytes, move_data, with_end, with_transfer, end_taken, chaining, goes_on, stops_at, command_ended, end_of, reset_taken, may_attend, takes_up}
+use Rattle.chan_model.specs.Signals.{load_bytes}
 use Rattle.subchannel_model.proofs.Named.{with_known, with_attention}
 use Rattle.shown_laws.specs.StatusBytes.{joined_byte, Brings, is_command, BringsStop, BringsEnd, BringsChain, BringsAnswered, IsSignalBrought}
 use Rattle.shown_laws.proofs.Counted.{IsKept, cause-kept}
@@ -198,7 +199,7 @@ data-brought storage s None signal load = inl refl
 data-brought storage s (Some b) signal load =
     let P : Option (OnPath Down) → Scsw → Type 0 = λ sent x. Brings s.scsw x 0 0x80 in
     let given = next_given storage (taken_by_device storage b.transfer signal.sequence (load_length load)) in
-    let x = brought storage b.transfer signal.sequence (bytes_of_load load) in
+    let x = brought storage b.transfer signal.sequence (load_bytes load) in
     let room = with_room x.storage x.transfer in
     if-met P s (is_answered b.transfer signal.command signal.sequence) (move_bytes storage s b signal load) (meets storage (ignoring s))
     (if-met P s (is_outward b.transfer.code) (meets storage (giving s b signal given)) (take_in s b signal x)

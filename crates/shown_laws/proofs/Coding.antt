@@ -43,7 +43,8 @@ use Rattle.subchannel_model.specs.Losing.{is_offered_or_held, reset_drawn, reset
 use Rattle.subchannel_model.specs.Parts.{suspended_alone, standing_still, chain_with, end_shown_at, has_any, scsw_joined}
 use Rattle.subchannel_model.specs.Status.{scsw_made, serials_made, with_joined, no_device_status, no_subchannel_status}
 use Rattle.subchannel_model.proofs.Named.{with_known, with_attention}
-use Rattle.subchannel_model.specs.Taking.{Met, meets, ignoring, quietly, let_go, by_hold, without_pci, interrupted, standing, goes_ahead, path_used, taking_over, suspending, beginning, begin_standing, halt_done, clear_done, accept, giving, take_in, bytes_of_load, move_bytes, move_data, with_end, with_transfer, end_taken, chaining, goes_on, stops_at, command_ended, end_of, reset_taken, may_attend, takes_up}
+use Rattle.subchannel_model.specs.Taking.{Met, meets, ignoring, quietly, let_go, by_hold, without_pci, interrupted, standing, goes_ahead, path_used, taking_over, suspending, beginning, begin_standing, halt_done, clear_done, accept, giving, take_in, move_bytes, move_data, with_end, with_transfer, end_taken, chaining, goes_on, stops_at, command_ended, end_of, reset_taken, may_attend, takes_up}
+use Rattle.chan_model.specs.Signals.{load_bytes}
 use Rattle.shown_laws.specs.Deferred.{IsLastEndCode, IsEndCode, IsSignalCode}
 use Rattle.shown_laws.proofs.Counted.{IsKept, cause-kept}
 use Rattle.shown_laws.proofs.Effects.{seen}
@@ -175,7 +176,7 @@ data-stays storage s None signal load = inl (refl, refl)
 data-stays storage s (Some b) signal load =
     let P : DeferredCode → Type 0 = λ d. d ≡ s.scsw.deferred in
     let given = next_given storage (taken_by_device storage b.transfer signal.sequence (load_length load)) in
-    let x = brought storage b.transfer signal.sequence (bytes_of_load load) in
+    let x = brought storage b.transfer signal.sequence (load_bytes load) in
     let room = with_room x.storage x.transfer in
     if-met P s (is_answered b.transfer signal.command signal.sequence) (move_bytes storage s b signal load) (meets storage (ignoring s))
     (if-met P s (is_outward b.transfer.code) (meets storage (giving s b signal given)) (take_in s b signal x)

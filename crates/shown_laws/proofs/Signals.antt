@@ -34,7 +34,8 @@ use Rattle.subchannel_model.specs.Causes.{with_cause}
 use Rattle.subchannel_model.specs.Ends.{has_status_modifier, breaks_chain, chains_command}
 use Rattle.subchannel_model.specs.Losing.{is_offered_or_held, reset_drawn, reset_with, reset_for}
 use Rattle.subchannel_model.specs.Parts.{has_any, suspended_alone, standing_still, end_shown_at}
-use Rattle.subchannel_model.specs.Taking.{Met, meets, ignoring, quietly, let_go, without_pci, standing, standing_as, goes_ahead, path_used, taking_over, beginning, begin_standing, accept, with_transfer, moving_on, giving, take_in, bytes_of_load, move_bytes, move_data, with_end, end_taken, chaining, goes_on, stops_at, command_ended, end_of, reset_taken, back, attend, may_attend, is_open, takes_up}
+use Rattle.subchannel_model.specs.Taking.{Met, meets, ignoring, quietly, let_go, without_pci, standing, standing_as, goes_ahead, path_used, taking_over, beginning, begin_standing, accept, with_transfer, moving_on, giving, take_in, move_bytes, move_data, with_end, end_taken, chaining, goes_on, stops_at, command_ended, end_of, reset_taken, back, attend, may_attend, is_open, takes_up}
+use Rattle.chan_model.specs.Signals.{load_bytes}
 use Rattle.shown_laws.specs.Shown.{is_release}
 use Rattle.shown_laws.proofs.Effects.{Seen, seen, IsStanding, IsGoing, Effect, Nothing, Takes, TakesAsking, Moves, MovesAsking, Suspends, SuspendsShowing, causes}
 use Rattle.shown_laws.proofs.Holding.{Held, not-held}
@@ -194,12 +195,12 @@ module _ (storage : Contents) where
       if-met H (seen s) (up.Data u c m k load) (is_answered b.transfer signal.command signal.sequence) (move_bytes storage s b signal load) (meets storage (ignoring s))
       (if-met H (seen s) (up.Data u c m k load) (is_outward b.transfer.code)
       (meets storage (giving s b signal (next_given storage (taken_by_device storage b.transfer signal.sequence (load_length load)))))
-      (take_in s b signal (brought storage b.transfer signal.sequence (bytes_of_load load)))
+      (take_in s b signal (brought storage b.transfer signal.sequence (load_bytes load)))
       (giving-comes H s (up.Data u c m k load) b signal (next_given storage (taken_by_device storage b.transfer signal.sequence (load_length load))).transfer _ e
       (λ u. sym (giving-same storage b.transfer signal.sequence (load_length load)) ∙ u) (λ n y. tt))
       (giving-comes H s (up.Data u c m k load) b signal
-      (with_room (brought storage b.transfer signal.sequence (bytes_of_load load)).storage (brought storage b.transfer signal.sequence (bytes_of_load load)).transfer).transfer _ e
-      (λ u. sym (taking-same storage b.transfer signal.sequence (bytes_of_load load)) ∙ u) (λ n y. tt)))
+      (with_room (brought storage b.transfer signal.sequence (load_bytes load)).storage (brought storage b.transfer signal.sequence (load_bytes load)).transfer).transfer _ e
+      (λ u. sym (taking-same storage b.transfer signal.sequence (load_bytes load)) ∙ u) (λ n y. tt)))
       (Ignored refl refl)
 
   -- End

@@ -38,7 +38,8 @@ use Rattle.subchannel_model.specs.Ends.{has_status_modifier, chains_command}
 use Rattle.subchannel_model.specs.Losing.{is_offered_or_held, reset_with, reset_for, loses_at, shows_at}
 use Rattle.subchannel_model.specs.Parts.{suspended_alone, standing_still, chain_with, end_shown_at, has_any}
 use Rattle.subchannel_model.proofs.Named.{with_known, with_attention}
-use Rattle.subchannel_model.specs.Taking.{Met, meets, ignoring, quietly, let_go, by_hold, without_pci, interrupted, standing, goes_ahead, path_used, taking_over, suspending, beginning, begin_standing, halt_done, clear_done, accept, back, giving, take_in, bytes_of_load, move_bytes, move_data, with_end, with_transfer, end_taken, chaining, goes_on, stops_at, command_ended, end_of, reset_taken, may_attend, takes_up}
+use Rattle.subchannel_model.specs.Taking.{Met, meets, ignoring, quietly, let_go, by_hold, without_pci, interrupted, standing, goes_ahead, path_used, taking_over, suspending, beginning, begin_standing, halt_done, clear_done, accept, back, giving, take_in, move_bytes, move_data, with_end, with_transfer, end_taken, chaining, goes_on, stops_at, command_ended, end_of, reset_taken, may_attend, takes_up}
+use Rattle.chan_model.specs.Signals.{load_bytes}
 use Rattle.shown_laws.specs.Paths.{used_met}
 use Rattle.shown_laws.proofs.Turned.{state_chosen}
 
@@ -204,7 +205,7 @@ data-uses storage s None p t c n q load = refl
 data-uses storage s (Some b) p t c n q load =
     let signal : DataSignal = record { path = p; number = t; connection = c; command = n; sequence = q } in
     let given = next_given storage (taken_by_device storage b.transfer q (load_length load)) in
-    let x = brought storage b.transfer q (bytes_of_load load) in
+    let x = brought storage b.transfer q (load_bytes load) in
     let room = with_room x.storage x.transfer in
     if-met (up.Data t c n q load) s (is_answered b.transfer n q) (move_bytes storage s b signal load) (meets storage (ignoring s))
     (if-met (up.Data t c n q load) s (is_outward b.transfer.code) (meets storage (giving s b signal given)) (take_in s b signal x)

@@ -45,7 +45,8 @@ use Rattle.subchannel_model.specs.declared.state.SubchannelState.{SubchannelStat
 use Rattle.subchannel_model.specs.declared.status.Condition.{Condition}
 use Rattle.subchannel_model.specs.Places.{Found, found_at, place_in, reached_in}
 use Rattle.subchannel_model.specs.Sending.{carried_by, finds_full}
-use Rattle.subchannel_model.specs.Taking.{Met, meets, ignoring, move_data, takes_up, bytes_of_load}
+use Rattle.subchannel_model.specs.Taking.{Met, meets, ignoring, move_data, takes_up}
+use Rattle.chan_model.specs.Signals.{load_bytes}
 use Rattle.subchannel_model.specs.Choosing.{chosen, marked_sub}
 use Rattle.subchannel_model.specs.Resume.{rsch_code, resumed}
 use Rattle.subchannel_model.specs.Halt.{hsch_code, halted}
@@ -148,7 +149,7 @@ data-of n storage s None signal load k = k
 data-of n storage s (Some b) signal load k =
     either (MeetsOf n) (is_answered b.transfer signal.command signal.sequence) _ (meets storage (ignoring s))
     (either (MeetsOf n) (is_outward b.transfer.code) (meets storage _) _ k
-    (brought-of n storage b.transfer signal.sequence (bytes_of_load load) k)) k
+    (brought-of n storage b.transfer signal.sequence (load_bytes load) k)) k
 
 met-of : (n : ℕ) (returns : Bool) (storage : Contents) (s : SubchannelState) (p : ℕ) (signal : Up) → IsOf n storage → MeetsOf n (takes_up returns storage s p signal)
 met-of n returns storage s p (up.Accept t) k = k

@@ -32,7 +32,8 @@ use Rattle.subchannel_model.specs.Causes.{without_begun, with_cause}
 use Rattle.subchannel_model.specs.Ends.{has_status_modifier, chains_command}
 use Rattle.subchannel_model.specs.Losing.{reset_for}
 use Rattle.subchannel_model.specs.Parts.{end_shown_at}
-use Rattle.subchannel_model.specs.Taking.{Met, meets, ignoring, quietly, let_go, suspending, standing, goes_ahead, path_used, beginning, begin_standing, accept, giving, take_in, bytes_of_load, move_bytes, move_data, end_taken, chaining, goes_on, with_end, stops_at, command_ended, end_of, reset_taken, may_attend, takes_up}
+use Rattle.subchannel_model.specs.Taking.{Met, meets, ignoring, quietly, let_go, suspending, standing, goes_ahead, path_used, beginning, begin_standing, accept, giving, take_in, move_bytes, move_data, end_taken, chaining, goes_on, with_end, stops_at, command_ended, end_of, reset_taken, may_attend, takes_up}
+use Rattle.chan_model.specs.Signals.{load_bytes}
 use Rattle.subchannel.specs.Answering.{IsAnswerPath}
 
 -- what a signal of this path, at a hold in this phase, is answered by
@@ -174,7 +175,7 @@ moved-goes storage s (Some b) signal load =
     if-met (is_answered b.transfer signal.command signal.sequence) phase signal.path (move_bytes storage s b signal load) (meets storage (ignoring s))
     (if-met (is_outward b.transfer.code) phase signal.path
     (meets storage (giving s b signal (next_given storage (taken_by_device storage b.transfer signal.sequence (load_length load)))))
-    (take_in s b signal (brought storage b.transfer signal.sequence (bytes_of_load load))) (inl refl) (inl refl))
+    (take_in s b signal (brought storage b.transfer signal.sequence (load_bytes load))) (inl refl) (inl refl))
     tt
 
 -- End: the next command goes by its path

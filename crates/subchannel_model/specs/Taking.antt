@@ -9,7 +9,7 @@ use Rattle.chan_model.specs.declared.hold_state.HoldPhase.{HoldPhase}
 use Rattle.chan_model.specs.declared.hold_state.HoldPhase.TheVariants as hold
 use Rattle.chan_model.specs.declared.hold_state.HoldState.{HoldState}
 use Rattle.chan_model.specs.declared.signal.Taken.{Taken}
-use Rattle.chan_model.specs.Signals.{Load}
+use Rattle.chan_model.specs.Signals.{Load, load_bytes}
 use Rattle.chan_model.specs.Signals.{Down}
 use Rattle.chan_model.specs.declared.signal.OnPath.{OnPath}
 use Rattle.chan_model.specs.declared.signal.Down.TheVariants as down
@@ -186,15 +186,11 @@ answering s b signal x =
 abbrev pub take_in : SubchannelState → ActiveProgram → DataSignal → Brought → Met
 take_in s b signal x = meets x.storage (answering s b signal (with_room x.storage x.transfer))
 
-abbrev pub bytes_of_load : Load → List ℕ
-bytes_of_load (load.Absorbed count) = []
-bytes_of_load (load.Bytes bytes) = bytes
-
 abbrev pub move_bytes : Contents → SubchannelState → ActiveProgram → DataSignal → Load → Met
 move_bytes storage s b signal load =
     if is_outward b.transfer.code
     then meets storage (giving s b signal (next_given storage (taken_by_device storage b.transfer signal.sequence (load_length load))))
-    else take_in s b signal (brought storage b.transfer signal.sequence (bytes_of_load load))
+    else take_in s b signal (brought storage b.transfer signal.sequence (load_bytes load))
 
 abbrev pub move_data : Contents → SubchannelState → Option ActiveProgram → DataSignal → Load → Met
 move_data storage s None signal load = meets storage (ignoring s)

@@ -3,7 +3,8 @@ use Rattle.std.specs.Prelude.{if◌then◌else◌}
 use Rattle.chan_model.specs.UnitReports.{is_outward}
 use Rattle.subchannel_model.specs.declared.state.ActiveProgram.{ActiveProgram}
 use Rattle.subchannel_model.specs.declared.state.UpStep.{UpStep}
-use Rattle.subchannel_model.specs.Taking.{Met, meets, bytes_of_load, take_in}
+use Rattle.subchannel_model.specs.Taking.{Met, meets, take_in}
+use Rattle.chan_model.specs.Signals.{load_bytes}
 use Rattle.storage_keys.specs.Storage.{Contents}
 use Rattle.chan_model.specs.Loads.{load_length}
 use Rattle.chan_model.specs.Signals.{Load}
@@ -49,7 +50,7 @@ returns-then-goes_out c =
     let came = subst (λ (n : ℕ). IfSome s.begun (λ b. step ≡ give_next storage s b moved n)) c.count_of.ensures c.give_bytes.ensures in
     first-way s.begun c.goes_out.result (meets storage step)
     (λ b. meets storage (give_next storage s b moved (load_length load)))
-    (λ b. take_in s b moved (brought storage b.transfer moved.sequence (bytes_of_load load)))
+    (λ b. take_in s b moved (brought storage b.transfer moved.sequence (load_bytes load)))
     c.if-goes_out.true c.goes_out.ensures
     (met-so s.begun storage step (λ b. give_next storage s b moved (load_length load)) came)
 
@@ -62,7 +63,7 @@ returns-else-goes_out c =
     let met : Met = meets c.take_bytes.new.storage (subchannel_stepped c.take_bytes.new.state (came_so c.take_bytes.result c.take_bytes.new.sent)) in
     second-way s.begun c.goes_out.result met
     (λ b. meets storage (give_next storage s b moved (load_length load)))
-    (λ b. take_in s b moved (brought storage b.transfer moved.sequence (bytes_of_load load)))
+    (λ b. take_in s b moved (brought storage b.transfer moved.sequence (load_bytes load)))
     c.if-goes_out.false c.goes_out.ensures
     (subst (λ (bytes : List ℕ). IfSome s.begun (λ b. met ≡ take_in s b moved (brought storage b.transfer moved.sequence bytes)))
     c.bytes_of.ensures.value c.take_bytes.ensures)
