@@ -17,7 +17,6 @@ use Rattle.chan_model.specs.Signals.{Up}
 use Rattle.chan_model.specs.declared.signal.Up.TheVariants as up
 use Rattle.chan_model.specs.HoldTable.{HoldStep, hold_takes, hold_after, came_of, is_connected, is_on, letting_go}
 use Rattle.chan_model.specs.Loads.{load_length}
-use Rattle.chan_model.specs.declared.signal.Load.TheVariants as load
 use Rattle.scsw_irb.specs.Empty.{no_activity}
 use Rattle.chan_model.specs.UnitReports.{is_last_end, is_outward, has_device_end, has_unit_check}
 use Rattle.channel_program.specs.Walks.{WalkPlace, walk_place}
