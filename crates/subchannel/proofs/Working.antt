@@ -14,7 +14,8 @@ use Rattle.subchannel_model.specs.declared.state.SubchannelState.{SubchannelStat
 use Rattle.subchannel_model.specs.declared.state.UpStep.{UpStep}
 use Rattle.subchannel_model.specs.Taking.{Met, meets, ignoring, move_data, take_data, end_of, end_command, takes_up}
 use Rattle.subchannel.specs.Answering.{is_data}
-use Rattle.working.specs.Working.{load_of, moved_of, moved_at, data_by, data_taken, data_met, ended_of, ended_at, end_met}
+use Rattle.working.specs.Working.{moved_of, moved_at, data_by, data_taken, data_met, ended_of, ended_at, end_met}
+use Rattle.chan_model.specs.Signals.{load_of}
 
 either : {A : Type 0} {B : Type 0} (f : A → B) (b : Bool) (x y : A) → (if b then f x else f y) ≡ f (if b then x else y)
 either f true x y = refl

@@ -2,7 +2,8 @@
 
 ghost use Rattle.std.specs.Prelude.{◌≡◌, ◌<◌, ◌^◌, false, is_some, ℕ, Bool};
 ghost use Rattle.chan_model.specs.Signals.{Up};
-ghost use Rattle.signal_places.specs.Places.{sent_path, up_at};
+ghost use Rattle.chan_model.specs.Signals.{lent_up};
+ghost use Rattle.signal_places.specs.Places.{sent_path};
 ghost use Rattle.subchannel_model.specs.Taking as taking_spec;
 ghost use Rattle.subchannel.specs.Answering as spec;
 ghost use Rattle.working.specs.Working as working_spec;
@@ -12,10 +13,9 @@ ghost use Rattle.subchannel_model.specs.declared.state.SubchannelState.{Subchann
 use crate::taking::take_unmoved;
 use chan_model::hold_state::{HoldPhase, HoldState};
 use chan_model::names::Path;
+use chan_model::signal::{LentUp, Up};
 use hold::Hold;
-use kept_events::signals::KeptUp;
 use signal_places::sent::SentDown;
-use signal_places::signals::UpPlace;
 use storage_keys::Storage;
 use subchannel_model::state::SubchannelState;
 use transfer::chunks::is_answered;
@@ -40,9 +40,9 @@ pub fn answer_paths()
 {}
 
 /// Whether the program that is connected answers a Data of this path: one of its command, and not of a chunk before the last.
-fn answers_data(state: &SubchannelState, path: Path, signal: &UpPlace) -> bool
+fn answers_data(state: &SubchannelState, path: Path, signal: &LentUp<'_>) -> bool
     requires { taking_spec.IsBelow state.now.begun }
-    ensures { result ≡ is_some (working_spec.moved_by state.now path (up_at signal.now)) }
+    ensures { result ≡ is_some (working_spec.moved_by state.now path (lent_up signal.now)) }
 {
     let Some(data) = data_by(path, signal) else {
         return false;
@@ -63,19 +63,17 @@ pub fn answer_path(
     storage: &Storage,
     state: &SubchannelState,
     path: Path,
-    signal: &UpPlace,
+    signal: &LentUp<'_>,
     returns: bool,
 ) -> Option<Path>
     requires made { state.now.serials.made < 2 ^ 63 }
     requires drawn { state.now.drawn < 2 ^ 63 }
     requires below { taking_spec.IsBelow state.now.begun }
-    ensures { sent_path (taking_spec.takes_up returns storage.now state.now path (up_at signal.now)).step.came.sent ≡ result }
+    ensures { sent_path (taking_spec.takes_up returns storage.now state.now path (lent_up signal.now)).step.came.sent ≡ result }
 {
-    match signal.kept {
-        KeptUp::Absorbed { .. } | KeptUp::Bytes { .. } if answers_data(state, path, signal) => {
-            Some(path)
-        }
-        KeptUp::Absorbed { .. } | KeptUp::Bytes { .. } => None,
+    match *signal {
+        Up::Data { .. } if answers_data(state, path, signal) => Some(path),
+        Up::Data { .. } => None,
         _ => unmoved_path(storage, state, path, signal, returns),
     }
 }
@@ -85,14 +83,14 @@ fn unmoved_path(
     storage: &Storage,
     state: &SubchannelState,
     path: Path,
-    signal: &UpPlace,
+    signal: &LentUp<'_>,
     returns: bool,
 ) -> Option<Path>
     requires made { state.now.serials.made < 2 ^ 63 }
     requires drawn { state.now.drawn < 2 ^ 63 }
     requires below { taking_spec.IsBelow state.now.begun }
-    requires unmoved { spec.is_data (up_at signal.now) ≡ false }
-    ensures { sent_path (taking_spec.takes_up returns storage.now state.now path (up_at signal.now)).step.came.sent ≡ result }
+    requires unmoved { spec.is_data (lent_up signal.now) ≡ false }
+    ensures { sent_path (taking_spec.takes_up returns storage.now state.now path (lent_up signal.now)).step.came.sent ≡ result }
 {
     let mut copy = *state;
     let mut sent = SentDown::new();

@@ -2,15 +2,16 @@
 
 ghost use Rattle.std.specs.Prelude.{◌≡◌, ◌<◌, ◌^◌};
 ghost use Rattle.chan_model.specs.HoldTable.{hold_takes};
-ghost use Rattle.signal_places.specs.Places.{came_so, up_at};
+ghost use Rattle.chan_model.specs.Signals.{lent_up};
+ghost use Rattle.signal_places.specs.Places.{came_so};
 ghost use Rattle.subchannel_model.specs.Taking as spec;
 ghost use Rattle.working.specs.Stepping.{subchannel_stepped};
 
 use chan_model::names::Path;
+use chan_model::signal::LentUp;
 use scsw_irb::scsw::ActivityControl;
 use scsw_irb::status::DeviceStatus;
 use signal_places::sent::SentDown;
-use signal_places::signals::UpPlace;
 use status::make_pending;
 use subchannel_model::cause::StatusCause;
 use subchannel_model::state::SubchannelState;
@@ -39,12 +40,12 @@ pub fn may_attend(state: &SubchannelState) -> bool
 pub(crate) fn attend(
     state: &mut SubchannelState,
     path: Path,
-    signal: &UpPlace,
+    signal: &LentUp<'_>,
     status: DeviceStatus,
     sent: &mut SentDown,
 ) -> bool
     requires { state.old.serials.made < 2 ^ 63 }
-    ensures { subchannel_stepped state.new (came_so result sent.new) ≡ spec.attend state.old status (hold_takes state.old.hold path (up_at signal.now) (spec.may_attend state.old)) }
+    ensures { subchannel_stepped state.new (came_so result sent.new) ≡ spec.attend state.old status (hold_takes state.old.hold path (lent_up signal.now) (spec.may_attend state.old)) }
 {
     let may = may_attend(state);
     let taken = by_hold(state, path, signal, may, sent);

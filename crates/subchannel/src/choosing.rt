@@ -256,7 +256,8 @@ pub fn send_reset(state: &mut SubchannelState, path: Path, sent: &mut SentDown)
     ensures sent { sent.new ≡ (came_of (sending_reset state.old.hold state.old.hold.phase path)).sent }
 {
     let mut hold = Hold::of(state.hold);
-    hold.send_reset_to(path, sent);
+    let reset = hold.send_reset(path);
+    sent.put_any(&reset);
     state.hold = hold.state();
     state.last_path = Some(path);
 }
@@ -283,7 +284,8 @@ pub fn offer(state: &mut SubchannelState, program: &Program, path: Path, sent: &
 {
     state.drawn += 1;
     let mut hold = Hold::of(state.hold);
-    hold.offer_to(state.drawn, path, program.single_path, sent);
+    let select = hold.offer(state.drawn, path, program.single_path);
+    sent.put(select.path, &select.signal);
     state.hold = hold.state();
     state.offered = program.start;
     state.last_path = Some(path);

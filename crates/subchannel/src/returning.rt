@@ -2,14 +2,14 @@
 
 ghost use Rattle.std.specs.Prelude.{◌≡◌, Some};
 ghost use Rattle.chan_model.specs.HoldTable.{hold_takes};
-ghost use Rattle.signal_places.specs.Places.{came_so, up_at};
+ghost use Rattle.chan_model.specs.Signals.{lent_up};
+ghost use Rattle.signal_places.specs.Places.{came_so};
 ghost use Rattle.subchannel_model.specs.Taking as spec;
 ghost use Rattle.working.specs.Stepping.{subchannel_stepped};
 
 use chan_model::names::Path;
-use kept_events::signals::KeptDown;
+use chan_model::signal::{Down, LentUp};
 use signal_places::sent::SentDown;
-use signal_places::signals::UpPlace;
 use subchannel_model::state::{PmcwState, SubchannelState};
 use working::answers::by_hold;
 
@@ -17,11 +17,11 @@ use working::answers::by_hold;
 pub(crate) fn come_back(
     state: &mut SubchannelState,
     path: Path,
-    signal: &UpPlace,
+    signal: &LentUp<'_>,
     returns: bool,
     sent: &mut SentDown,
 ) -> bool
-    ensures { subchannel_stepped state.new (came_so result sent.new) ≡ spec.back state.old path (hold_takes state.old.hold path (up_at signal.now) returns) }
+    ensures { subchannel_stepped state.new (came_so result sent.new) ≡ spec.back state.old path (hold_takes state.old.hold path (lent_up signal.now) returns) }
 {
     let taken = by_hold(state, path, signal, returns, sent);
     if is_granted(sent) {
@@ -36,7 +36,7 @@ fn is_granted(answer: &SentDown) -> bool
     ensures { result ≡ spec.is_granted answer.now }
 {
     match answer.get() {
-        Some((_, place)) => matches!(place.kept, KeptDown::Grant { .. }),
+        Some(sent) => matches!(sent.signal, Down::Grant { .. }),
         None => false,
     }
 }

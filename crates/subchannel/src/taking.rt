@@ -2,7 +2,8 @@
 
 ghost use Rattle.std.specs.Prelude.{◌≡◌, ◌<◌, ◌^◌, false};
 ghost use Rattle.chan_model.specs.HoldTable.{hold_takes};
-ghost use Rattle.signal_places.specs.Places.{came_so, up_at};
+ghost use Rattle.chan_model.specs.Signals.{lent_up};
+ghost use Rattle.signal_places.specs.Places.{came_so};
 ghost use Rattle.subchannel.specs.Answering.{is_data};
 ghost use Rattle.working.specs.Stepping.{subchannel_stepped};
 ghost use Rattle.subchannel_model.specs.Taking as spec;
@@ -11,16 +12,15 @@ use crate::attending::attend;
 use crate::losing::reset_for;
 use crate::returning::come_back;
 use chan_model::names::Path;
+use chan_model::signal::{LentUp, Up};
 use hold::Hold;
-use kept_events::signals::KeptUp;
 use signal_places::sent::SentDown;
-use signal_places::signals::UpPlace;
 use status::make_pending;
 use storage_keys::Storage;
 use subchannel_model::cause::StatusCause;
 use subchannel_model::state::SubchannelState;
 use working::accepting::accept;
-use working::answers::{by_hold, ignored, quiet};
+use working::answers::{answered, by_hold, ignored, quiet};
 use working::ending::end_command;
 use working::moving::take_data;
 
@@ -38,20 +38,20 @@ fn do_clear(state: &mut SubchannelState)
 fn reset_taken(
     state: &mut SubchannelState,
     path: Path,
-    signal: &UpPlace,
+    signal: &LentUp<'_>,
     sent: &mut SentDown,
 ) -> bool
     requires { state.old.serials.made < 2 ^ 63 }
-    ensures { subchannel_stepped state.new (came_so result sent.new) ≡ spec.reset_taken state.old (hold_takes state.old.hold path (up_at signal.now) false) }
+    ensures { subchannel_stepped state.new (came_so result sent.new) ≡ spec.reset_taken state.old (hold_takes state.old.hold path (lent_up signal.now) false) }
 {
     let mut hold = Hold::of(state.hold);
-    let taken = hold.take_to(path, signal, false, sent);
-    if !taken {
+    let came = hold.take(path, signal, false);
+    if !came.taken {
         return ignored(sent);
     }
     state.hold = hold.state();
     do_clear(state);
-    taken
+    answered(&came, sent)
 }
 
 /// Notice: the unit restarted. A count above the one known becomes known, and the hold is to be reset.
@@ -75,23 +75,23 @@ pub fn take_unmoved(
     storage: &Storage,
     state: &mut SubchannelState,
     path: Path,
-    signal: &UpPlace,
+    signal: &LentUp<'_>,
     returns: bool,
     sent: &mut SentDown,
 ) -> bool
     requires made { state.old.serials.made < 2 ^ 63 }
     requires drawn { state.old.drawn < 2 ^ 63 }
     requires below { spec.IsBelow state.old.begun }
-    requires unmoved { is_data (up_at signal.now) ≡ false }
-    ensures met { spec.meets storage.now (subchannel_stepped state.new (came_so result sent.new)) ≡ spec.takes_up returns storage.now state.old path (up_at signal.now) }
+    requires unmoved { is_data (lent_up signal.now) ≡ false }
+    ensures met { spec.meets storage.now (subchannel_stepped state.new (came_so result sent.new)) ≡ spec.takes_up returns storage.now state.old path (lent_up signal.now) }
 {
-    match signal.kept {
-        KeptUp::Accept { .. } => accept(storage, state, path, signal, sent),
-        KeptUp::End { .. } => end_command(storage, state, path, signal, sent),
-        KeptUp::Cleared { .. } => reset_taken(state, path, signal, sent),
-        KeptUp::Back { .. } => come_back(state, path, signal, returns, sent),
-        KeptUp::Notice { restarts } => notice(state, restarts, sent),
-        KeptUp::Attn { status, .. } => attend(state, path, signal, status, sent),
+    match *signal {
+        Up::Accept { .. } => accept(storage, state, path, signal, sent),
+        Up::End { .. } => end_command(storage, state, path, signal, sent),
+        Up::Cleared { .. } => reset_taken(state, path, signal, sent),
+        Up::Back { .. } => come_back(state, path, signal, returns, sent),
+        Up::Notice { restarts } => notice(state, restarts, sent),
+        Up::Attn { status, .. } => attend(state, path, signal, status, sent),
         _ => by_hold(state, path, signal, false, sent),
     }
 }
@@ -102,19 +102,17 @@ pub fn take_up(
     storage: &mut Storage,
     state: &mut SubchannelState,
     path: Path,
-    signal: &UpPlace,
+    signal: &LentUp<'_>,
     returns: bool,
     sent: &mut SentDown,
 ) -> bool
     requires made { state.old.serials.made < 2 ^ 63 }
     requires drawn { state.old.drawn < 2 ^ 63 }
     requires below { spec.IsBelow state.old.begun }
-    ensures met { spec.meets storage.new (subchannel_stepped state.new (came_so result sent.new)) ≡ spec.takes_up returns storage.old state.old path (up_at signal.now) }
+    ensures met { spec.meets storage.new (subchannel_stepped state.new (came_so result sent.new)) ≡ spec.takes_up returns storage.old state.old path (lent_up signal.now) }
 {
-    match signal.kept {
-        KeptUp::Absorbed { .. } | KeptUp::Bytes { .. } => {
-            take_data(storage, state, path, signal, sent)
-        }
+    match *signal {
+        Up::Data { .. } => take_data(storage, state, path, signal, sent),
         _ => take_unmoved(storage, state, path, signal, returns, sent),
     }
 }

@@ -1,5 +1,5 @@
 -- What a subchannel does with a signal that came up by a path (own).
-use Rattle.std.specs.Prelude.{ℕ, nat_lt, ◌+◌, ◌<◌, ◌^◌, Bool, true, false, not, ◌==◌, ◌&&◌, ◌||◌, if◌then◌else◌, Option, None, Some, is_some, List, [], slice_set}
+use Rattle.std.specs.Prelude.{ℕ, nat_lt, ◌+◌, ◌<◌, ◌^◌, Bool, true, false, not, ◌==◌, ◌&&◌, ◌||◌, if◌then◌else◌, Option, None, Some, is_some, [], slice_set}
 use Rattle.allegiance.specs.Allegiances.{dedicated_after}
 use Rattle.allegiance.specs.declared.allegiances.AllegianceCause.TheVariants as allegiance
 use Rattle.scsw_irb.specs.declared.scsw.ActivityControl.{ActivityControl}

@@ -2,7 +2,6 @@
 use Rattle.std.specs.Prelude.{ℕ, ◌+◌, ◌==◌, if◌then◌else◌, Bool, false, Option, None, Some, List}
 use Rattle.storage_keys.specs.Storage.{Contents}
 use Rattle.chan_model.specs.Signals.{Load}
-use Rattle.chan_model.specs.declared.signal.Load.TheVariants as load
 use Rattle.chan_model.specs.Signals.{Up}
 use Rattle.chan_model.specs.declared.signal.Up.TheVariants as up
 use Rattle.chan_model.specs.HoldTable.{is_connected, is_on}
@@ -47,11 +46,6 @@ moved_when s (Some signal) = moved_at s signal
 
 abbrev pub moved_by : SubchannelState → ℕ → Up → Option Moved
 moved_by s p signal = moved_when s (data_by p signal)
-
--- what a Data brings; of another signal it is nothing
-abbrev pub load_of : Up → Load
-load_of (up.Data t c n seq load) = load
-load_of signal = load.Absorbed 0
 
 -- whether it is to be answered, and what comes of the one that a signal is
 abbrev pub is_due : Option ActiveProgram → DataSignal → Bool

@@ -2,27 +2,27 @@
 
 ghost use Rattle.std.specs.Prelude.{◌≡◌, ◌<◌, ◌^◌, is_some};
 ghost use Rattle.chan_model.specs.HoldTable.{hold_takes};
-ghost use Rattle.signal_places.specs.Places.{came_so, up_at};
+ghost use Rattle.chan_model.specs.Signals.{lent_down, lent_up};
+ghost use Rattle.signal_places.specs.Places.{came_so};
 ghost use Rattle.subchannel_model.specs.Causes.{with_cause};
 ghost use Rattle.subchannel_model.specs.Taking as spec;
 ghost use Rattle.subchannel_model.specs.Parts as parts;
 ghost use Rattle.subchannel_model.specs.declared.cause.StatusCause.TheVariants as cause;
 ghost use Rattle.working.specs.Stepping.{subchannel_stepped};
-ghost use Rattle.chan_model.specs.declared.signal.Down.TheVariants as kept_down;
+ghost use Rattle.chan_model.specs.declared.signal.Down.TheVariants as down;
 ghost use Rattle.transfer.specs.Commands as transfer_spec;
 
-use crate::answers::{ignored, let_go, quiet};
+use crate::answers::{answered, ignored, let_go, quiet};
 use crate::intermediate::{interrupt, suspend};
 use ccw_walk::Walk;
 use chan_model::hold_state::HoldPhase;
 use chan_model::names::Path;
+use chan_model::signal::{Down, LentDown, LentUp};
 use channel_program::Advance;
 use channel_program::check::Check;
 use hold::Hold;
-use kept_events::signals::KeptDown;
 use scsw_irb::scsw::Scsw;
 use signal_places::sent::SentDown;
-use signal_places::signals::UpPlace;
 use status::make_pending;
 use storage_keys::Storage;
 use subchannel_model::cause::StatusCause;
@@ -131,16 +131,16 @@ fn take_over(state: &mut SubchannelState, program: Program, transfer: Transfer)
 }
 
 /// The room for the first bytes of a program's first command is found, and its device is told of both.
-fn tell_first(storage: &Storage, begun: &mut ActiveProgram, number: u64) -> KeptDown
+fn tell_first(storage: &Storage, begun: &mut ActiveProgram, number: u64) -> LentDown<'static>
     ensures begun { begun.new ≡ record begun.old { transfer = (transfer_spec.begun_with_room storage.now begun.old.transfer).transfer } }
-    ensures signal { result ≡ kept_down.Command begun.new.transfer.code (transfer_spec.begun_with_room storage.now begun.old.transfer).room number begun.new.transfer.command }
+    ensures signal { lent_down result ≡ down.Command number begun.new.transfer.command begun.new.transfer.code (transfer_spec.begun_with_room storage.now begun.old.transfer).room }
 {
     let room = room_to_tell(storage, &mut begun.transfer);
-    KeptDown::Command {
-        code: begun.transfer.code,
-        room,
+    Down::Command {
         number,
         command: begun.transfer.command,
+        code: begun.transfer.code,
+        room,
     }
 }
 
@@ -160,7 +160,7 @@ fn send_first(
     take_over(state, program, first);
     if let Some(begun) = &mut state.begun {
         let signal = tell_first(storage, begun, number);
-        sent.put(path, signal);
+        sent.put(path, &signal);
     }
     interrupt(state);
     true
@@ -306,17 +306,18 @@ pub fn accept(
     storage: &Storage,
     state: &mut SubchannelState,
     path: Path,
-    signal: &UpPlace,
+    signal: &LentUp<'_>,
     sent: &mut SentDown,
 ) -> bool
     requires { state.old.serials.made < 2 ^ 63 }
-    ensures { subchannel_stepped state.new (came_so result sent.new) ≡ spec.accept storage.now state.old (hold_takes state.old.hold path (up_at signal.now) (spec.goes_ahead state.old)) }
+    ensures { subchannel_stepped state.new (came_so result sent.new) ≡ spec.accept storage.now state.old (hold_takes state.old.hold path (lent_up signal.now) (spec.goes_ahead state.old)) }
 {
     let mut hold = Hold::of(state.hold);
-    let taken = hold.take_to(path, signal, goes_ahead(state), sent);
-    if !taken {
+    let came = hold.take(path, signal, goes_ahead(state));
+    if !came.taken {
         return ignored(sent);
     }
     state.hold = hold.state();
+    let taken = answered(&came, sent);
     accepted_by(storage, state, taken, sent)
 }

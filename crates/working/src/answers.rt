@@ -1,17 +1,16 @@
 //! What may come of a signal.
 
-ghost use Rattle.std.specs.Prelude.{◌≡◌, [], None, Some};
+ghost use Rattle.std.specs.Prelude.{◌≡◌, None, Some};
 ghost use Rattle.chan_model.specs.HoldTable.{hold_takes};
-ghost use Rattle.chan_model.specs.Signals as kept_spec;
-ghost use Rattle.signal_places.specs.Places.{came_so, up_at};
+ghost use Rattle.chan_model.specs.Signals.{lent_down, lent_up, map_taken};
+ghost use Rattle.signal_places.specs.Places.{came_so};
 ghost use Rattle.subchannel_model.specs.Taking as spec;
 ghost use Rattle.working.specs.Stepping.{not_taken, subchannel_stepped, taken_with};
 
 use chan_model::names::Path;
-use hold::{let_go_at, take_at};
-use kept_events::signals::KeptDown;
+use chan_model::signal::{LentDown, LentUp, Taken};
+use hold::Hold;
 use signal_places::sent::SentDown;
-use signal_places::signals::UpPlace;
 use subchannel_model::state::SubchannelState;
 
 pub fn ignored(sent: &mut SentDown) -> bool
@@ -28,18 +27,28 @@ pub fn quiet(sent: &mut SentDown) -> bool
     true
 }
 
-pub(crate) fn send(sent: &mut SentDown, path: Path, signal: KeptDown) -> bool
-    requires { kept_spec.down_length signal ≡ 0 }
-    ensures { came_so result sent.new ≡ taken_with (Some (record { path = path; signal = kept_spec.down_in signal [] })) }
+pub(crate) fn send(sent: &mut SentDown, path: Path, signal: &LentDown<'_>) -> bool
+    ensures { came_so result sent.new ≡ taken_with (Some (record { path = path; signal = lent_down signal.now })) }
 {
     sent.put(path, signal);
     true
 }
 
+/// What the hold answered.
+pub fn answered(came: &Taken<LentDown<'_>>, sent: &mut SentDown) -> bool
+    ensures { came_so result sent.new ≡ map_taken lent_down came.now }
+{
+    sent.put_any(&came.sent);
+    came.taken
+}
+
 pub(crate) fn let_go(state: &mut SubchannelState, sent: &mut SentDown) -> bool
     ensures { subchannel_stepped state.new (came_so result sent.new) ≡ spec.let_go state.old }
 {
-    let_go_at(&mut state.hold, sent);
+    let mut hold = Hold::of(state.hold);
+    let released = hold.let_go();
+    state.hold = hold.state();
+    sent.put_any(&released);
     true
 }
 
@@ -47,11 +56,14 @@ pub(crate) fn let_go(state: &mut SubchannelState, sent: &mut SentDown) -> bool
 pub fn by_hold(
     state: &mut SubchannelState,
     path: Path,
-    signal: &UpPlace,
+    signal: &LentUp<'_>,
     may: bool,
     sent: &mut SentDown,
 ) -> bool
-    ensures { subchannel_stepped state.new (came_so result sent.new) ≡ spec.by_hold state.old (hold_takes state.old.hold path (up_at signal.now) may) }
+    ensures { subchannel_stepped state.new (came_so result sent.new) ≡ spec.by_hold state.old (hold_takes state.old.hold path (lent_up signal.now) may) }
 {
-    take_at(&mut state.hold, path, signal, may, sent)
+    let mut hold = Hold::of(state.hold);
+    let came = hold.take(path, signal, may);
+    state.hold = hold.state();
+    answered(&came, sent)
 }

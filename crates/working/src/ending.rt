@@ -1,7 +1,8 @@
 //! What a subchannel does as a command ends.
 
 ghost use Rattle.std.specs.Prelude.{◌≡◌, ◌<◌, ◌^◌, IfSome};
-ghost use Rattle.signal_places.specs.Places.{came_so, up_at};
+ghost use Rattle.chan_model.specs.Signals.{lent_up};
+ghost use Rattle.signal_places.specs.Places.{came_so};
 ghost use Rattle.subchannel_model.specs.Causes.{with_cause};
 ghost use Rattle.subchannel_model.specs.Ends as end_spec;
 ghost use Rattle.subchannel_model.specs.Taking as spec;
@@ -18,11 +19,10 @@ use allegiance::allegiances;
 use allegiance::allegiances::dedicated;
 use ccw_walk::Walk;
 use chan_model::names::Path;
+use chan_model::signal::{Down, LentUp, Up};
 use channel_program::check::Check;
 use hold::Hold;
-use chan_model::signal::{KeptDown, KeptUp};
 use signal_places::sent::SentDown;
-use signal_places::signals::UpPlace;
 use status::ends::{chains_command, is_last_end};
 use status::{make_end_pending, make_pending};
 use storage_keys::Storage;
@@ -33,15 +33,15 @@ use transfer::commands::{begun_with_room, next_command};
 use transfer::{CommandStart, WithRoom};
 
 /// The numbers of an End. None where the signal is another.
-pub fn end_by(path: Path, signal: &UpPlace) -> Option<EndSignal>
-    ensures { result ≡ working_spec.end_by path (up_at signal.now) }
+pub fn end_by(path: Path, signal: &LentUp<'_>) -> Option<EndSignal>
+    ensures { result ≡ working_spec.end_by path (lent_up signal.now) }
 {
-    match signal.kept {
-        KeptUp::End {
-            status,
-            more,
+    match *signal {
+        Up::End {
             number,
             command,
+            status,
+            more,
         } => Some(EndSignal {
             path,
             number,
@@ -94,14 +94,14 @@ fn send_next(
         parts.sends_next state.old (spec.with_end b) end.now command) }
 {
     let WithRoom { transfer, room } = command;
-    let next = KeptDown::Command {
-        code: transfer.code,
-        room,
+    let next = Down::Command {
         number: end.number,
         command: transfer.command,
+        code: transfer.code,
+        room,
     };
     move_on(state, transfer);
-    send(sent, end.path, next)
+    send(sent, end.path, &next)
 }
 
 /// The program is suspended instead of going on.
@@ -255,12 +255,12 @@ pub fn end_command(
     storage: &Storage,
     state: &mut SubchannelState,
     path: Path,
-    signal: &UpPlace,
+    signal: &LentUp<'_>,
     sent: &mut SentDown,
 ) -> bool
     requires made { state.old.serials.made < 2 ^ 63 }
     requires below { spec.IsBelow state.old.begun }
-    ensures { subchannel_stepped state.new (came_so result sent.new) ≡ working_spec.end_taken_by storage.now state.old (working_spec.end_by path (up_at signal.now)) }
+    ensures { subchannel_stepped state.new (came_so result sent.new) ≡ working_spec.end_taken_by storage.now state.old (working_spec.end_by path (lent_up signal.now)) }
 {
     let Some(end) = end_by(path, signal) else {
         return ignored(sent);

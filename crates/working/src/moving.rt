@@ -1,7 +1,8 @@
 //! What a subchannel does with the Data of a command.
 
 ghost use Rattle.std.specs.Prelude.{◌≡◌, ◌<◌, ◌≤◌, ◌^◌, IfSome, length};
-ghost use Rattle.signal_places.specs.Places.{came_so, up_at};
+ghost use Rattle.chan_model.specs.Signals.{lent_up, load_bytes, load_of};
+ghost use Rattle.signal_places.specs.Places.{came_so};
 ghost use Rattle.chan_model.specs.Loads.{load_length};
 ghost use Rattle.chan_model.specs.UnitReports.{is_outward as is_outward_code};
 ghost use Rattle.transfer.specs.Chunks.{brought as brought_by};
@@ -13,11 +14,11 @@ ghost use Rattle.working.specs.Stepping.{subchannel_stepped};
 use crate::answers::ignored;
 use crate::intermediate::interrupt;
 use allegiance::allegiances::{AllegianceCause, dedicated};
+use chan_model::chunk::Bytes;
 use chan_model::names::Path;
+use chan_model::signal::{Down, LentUp, Load, Up};
 use hold::Hold;
-use chan_model::signal::{KeptDown, KeptUp};
 use signal_places::sent::SentDown;
-use signal_places::signals::UpPlace;
 use storage_keys::Storage;
 use subchannel_model::signals::DataSignal;
 use subchannel_model::state::{ActiveProgram, SubchannelState};
@@ -26,18 +27,11 @@ use transfer::chunks::{absorb, bring, give_next, is_answered};
 use transfer::commands::{find_room, is_outward};
 
 /// The numbers of a Data. None where the signal is another.
-pub fn data_by(path: Path, signal: &UpPlace) -> Option<DataSignal>
-    ensures { result ≡ working_spec.data_by path (up_at signal.now) }
+pub fn data_by(path: Path, signal: &LentUp<'_>) -> Option<DataSignal>
+    ensures { result ≡ working_spec.data_by path (lent_up signal.now) }
 {
-    match signal.kept {
-        KeptUp::Absorbed {
-            number,
-            connection,
-            command,
-            sequence,
-            ..
-        }
-        | KeptUp::Bytes {
+    match *signal {
+        Up::Data {
             number,
             connection,
             command,
@@ -97,13 +91,15 @@ fn give(
 {
     absorb(storage, &mut begun.transfer, moved.sequence, count);
     let bytes = give_next(storage, &mut begun.transfer);
-    sent.put_give(
+    sent.put(
         moved.path,
-        moved.number,
-        moved.connection,
-        moved.command,
-        moved.sequence + 1,
-        bytes.as_slice(),
+        &Down::Give {
+            number: moved.number,
+            connection: moved.connection,
+            command: moved.command,
+            sequence: moved.sequence + 1,
+            bytes: Bytes::of(bytes.as_slice()),
+        },
     );
 }
 
@@ -124,34 +120,22 @@ fn take_in(
     let room = find_room(storage, &mut begun.transfer);
     sent.put(
         moved.path,
-        KeptDown::Took {
-            room,
+        &Down::Took {
             number: moved.number,
             command: moved.command,
             sequence: moved.sequence,
+            room,
         },
     );
 }
 
-/// The bytes that a Data brings.
-fn bytes_of(signal: &UpPlace) -> &[u8]
-    ensures value { result.now ≡ spec.bytes_of_load (working_spec.load_of (up_at signal.now)) }
-    ensures bound { length result.now ≤ 256 }
-{
-    match signal.kept {
-        KeptUp::Bytes { length, .. } => &signal.bytes[..length.get()],
-        _ => &[],
-    }
-}
-
 /// How many bytes a Data is of.
-fn count_of(signal: &UpPlace) -> usize
-    ensures { result ≡ load_length (working_spec.load_of (up_at signal.now)) }
+fn count_of(signal: &LentUp<'_>) -> usize
+    ensures { result ≡ load_length (load_of (lent_up signal.now)) }
 {
-    match signal.kept {
-        KeptUp::Absorbed { count, .. } => usize::from(count),
-        KeptUp::Bytes { length, .. } => signal.bytes[..length.get()].len(),
-        _ => 0,
+    match signal.load() {
+        Load::Absorbed(count) => usize::from(count),
+        Load::Bytes(bytes) => bytes.as_slice().len(),
     }
 }
 
@@ -219,19 +203,19 @@ fn move_bytes(
     storage: &mut Storage,
     state: &mut SubchannelState,
     moved: &DataSignal,
-    signal: &UpPlace,
+    signal: &LentUp<'_>,
     sent: &mut SentDown,
 ) -> bool
     requires made { state.old.serials.made < 2 ^ 63 }
     requires sequence { moved.now.sequence < 2 ^ 63 }
     requires below { spec.IsBelow state.old.begun }
     ensures { IfSome state.old.begun (λ b. spec.meets storage.new (subchannel_stepped state.new (came_so result sent.new)) ≡
-        spec.move_bytes storage.old state.old b moved.now (working_spec.load_of (up_at signal.now))) }
+        spec.move_bytes storage.old state.old b moved.now (load_of (lent_up signal.now))) }
 {
     if goes_out(state) {
         give_bytes(storage, state, moved, count_of(signal), sent)
     } else {
-        take_bytes(storage, state, moved, bytes_of(signal), sent)
+        take_bytes(storage, state, moved, signal.bytes(), sent)
     }
 }
 
@@ -240,12 +224,12 @@ pub fn take_data(
     storage: &mut Storage,
     state: &mut SubchannelState,
     path: Path,
-    signal: &UpPlace,
+    signal: &LentUp<'_>,
     sent: &mut SentDown,
 ) -> bool
     requires made { state.old.serials.made < 2 ^ 63 }
     requires below { spec.IsBelow state.old.begun }
-    ensures { spec.meets storage.new (subchannel_stepped state.new (came_so result sent.new)) ≡ working_spec.data_taken storage.old state.old (working_spec.load_of (up_at signal.now)) (working_spec.data_by path (up_at signal.now)) }
+    ensures { spec.meets storage.new (subchannel_stepped state.new (came_so result sent.new)) ≡ working_spec.data_taken storage.old state.old (load_of (lent_up signal.now)) (working_spec.data_by path (lent_up signal.now)) }
 {
     let Some(moved) = data_by(path, signal) else {
         return ignored(sent);

@@ -1,7 +1,7 @@
 use Rattle.std.proofs.Common.{◌≡◌, Bool, true, ap, ◌∙◌, inl, inr}
 use Rattle.chan_model.specs.Signals.{up_in}
 use Rattle.chan_model.specs.Signals.{KeptUp}
-use Rattle.signal_places.specs.Places.{up_at}
+use Rattle.chan_model.specs.Signals.{lent_up}
 use Rattle.subchannel.specs.Answering.{is_data}
 use Rattle.subchannel.proofs.Working.{told_takes}
 use Rattle.subchannel.proofs.taking.take_up.Goals as goal
@@ -10,7 +10,7 @@ use Rattle.subchannel.proofs.taking.take_up.Goals as goal
 pub returns-in-Absorbed : goal.returns-in-Absorbed
 returns-in-Absorbed c =
     let moves : KeptUp → Bool = λ kept. is_data (up_in kept c.args.signal.now.bytes) in
-    let is : is_data (up_at c.args.signal.now) ≡ true = elim c.in-Absorbed.is [ inl absorbed ↦ ap moves absorbed.5 | inr brings ↦ ap moves brings.5 ] in
+    let is : is_data (lent_up c.args.signal.now) ≡ true = elim c.in-Absorbed.is [ inl absorbed ↦ ap moves absorbed.5 | inr brings ↦ ap moves brings.5 ] in
     record {
-      met = c.take_data.ensures ∙ told_takes c.args.returns c.args.storage.now c.args.state.now c.args.path (up_at c.args.signal.now) is;
+      met = c.take_data.ensures ∙ told_takes c.args.returns c.args.storage.now c.args.state.now c.args.path (lent_up c.args.signal.now) is;
     }

@@ -8,10 +8,11 @@ use Rattle.chan_model.specs.Signals.{load_bytes}
 use Rattle.storage_keys.specs.Storage.{Contents}
 use Rattle.chan_model.specs.Loads.{load_length}
 use Rattle.chan_model.specs.Signals.{Load}
-use Rattle.signal_places.specs.Places.{came_so, up_at}
+use Rattle.signal_places.specs.Places.{came_so}
 use Rattle.transfer.specs.Chunks.{brought}
 use Rattle.working.specs.Stepping.{subchannel_stepped}
-use Rattle.working.specs.Working.{give_next, load_of}
+use Rattle.chan_model.specs.Signals.{lent_up, load_of}
+use Rattle.working.specs.Working.{give_next}
 use Rattle.working.proofs.moving.move_bytes.Goals as goal
 
 chosen-first : (b : Bool) (x y : Met) → b ≡ true → x ≡ (if b then x else y)
@@ -45,7 +46,7 @@ returns-then-goes_out c =
     let storage = c.args.storage.now in
     let s = c.args.state.now in
     let moved = c.args.moved.now in
-    let load : Load = load_of (up_at c.args.signal.now) in
+    let load : Load = load_of (lent_up c.args.signal.now) in
     let step : UpStep = subchannel_stepped c.give_bytes.new.state (came_so c.give_bytes.result c.give_bytes.new.sent) in
     let came = subst (λ (n : ℕ). IfSome s.begun (λ b. step ≡ give_next storage s b moved n)) c.count_of.ensures c.give_bytes.ensures in
     first-way s.begun c.goes_out.result (meets storage step)
@@ -59,11 +60,11 @@ returns-else-goes_out c =
     let storage = c.args.storage.now in
     let s = c.args.state.now in
     let moved = c.args.moved.now in
-    let load : Load = load_of (up_at c.args.signal.now) in
+    let load : Load = load_of (lent_up c.args.signal.now) in
     let met : Met = meets c.take_bytes.new.storage (subchannel_stepped c.take_bytes.new.state (came_so c.take_bytes.result c.take_bytes.new.sent)) in
     second-way s.begun c.goes_out.result met
     (λ b. meets storage (give_next storage s b moved (load_length load)))
     (λ b. take_in s b moved (brought storage b.transfer moved.sequence (load_bytes load)))
     c.if-goes_out.false c.goes_out.ensures
     (subst (λ (bytes : List ℕ). IfSome s.begun (λ b. met ≡ take_in s b moved (brought storage b.transfer moved.sequence bytes)))
-    c.bytes_of.ensures.value c.take_bytes.ensures)
+    c.bytes.ensures.value c.take_bytes.ensures)
