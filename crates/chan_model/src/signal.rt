@@ -584,6 +584,18 @@ impl OnPath<Down> {
     }
 }
 
+impl OnPath<LentDown<'_>> {
+    /// The same signal on the same path, with its own bytes.
+    pub fn own(&self) -> OnPath<Down>
+        ensures { result ≡ record { path = self.now.path; signal = spec.lent_down self.now.signal } }
+    {
+        OnPath {
+            path: self.path,
+            signal: self.signal.own(),
+        }
+    }
+}
+
 impl OnPath<Up> {
     /// The same signal on the same path; it takes no memory.
     pub fn copy(&self) -> Self
@@ -592,6 +604,18 @@ impl OnPath<Up> {
         OnPath {
             path: self.path,
             signal: self.signal.copy(),
+        }
+    }
+}
+
+impl OnPath<LentUp<'_>> {
+    /// The same signal on the same path, with its own bytes.
+    pub fn own(&self) -> OnPath<Up>
+        ensures { result ≡ record { path = self.now.path; signal = spec.lent_up self.now.signal } }
+    {
+        OnPath {
+            path: self.path,
+            signal: self.signal.own(),
         }
     }
 }
