@@ -11,14 +11,15 @@ ghost use Rattle.agree.specs.Rooms as room_spec;
 ghost use Rattle.agree.specs.State as state_spec;
 ghost use Rattle.agree.specs.declared.reply.WorldReply.TheVariants as reply;
 ghost use Rattle.agreement_laws.specs.Moving as moving;
+ghost use Rattle.chan_model.specs.Signals.{lent_down, map_sent};
 
-use crate::reply::{WorldReply, copy_down};
+use crate::reply::{WorldReply, own_down};
 use chan_model::fault::Fault;
 use chan_model::hold_state::{HoldPhase, HoldState};
 use chan_model::names::{Path, Side};
-use chan_model::signal::{Down, OnPath, Up};
+use chan_model::signal::{Down, LentDown, OnPath, Up};
 use hold::Hold;
-use program::{is_taken, may_send};
+use program::{is_taken, may_send, met_by};
 use signals::{cut_downs, cut_ups, is_up, post, with_path};
 use std::alloc::{AllocError, Global};
 use std::marker::Model;
@@ -114,12 +115,17 @@ impl SideLine {
     }
 
     /// Keeps what the hold did, and sends what it sent.
-    fn keep(&mut self, drawn: u64, hold: Hold, sent: Option<OnPath<Down>>) -> Result<(), Fault>
-        ensures gives { spec.GivesTurn self.old.line (Ok (spec.acted self.old.line (record { drawn = drawn; hold = hold; sent = sent }))) (room_spec.IsFullDown self.new.room) result self.new.line }
+    fn keep(
+        &mut self,
+        drawn: u64,
+        hold: Hold,
+        sent: &Option<OnPath<LentDown<'_>>>,
+    ) -> Result<(), Fault>
+        ensures gives { spec.GivesTurn self.old.line (Ok (spec.acted self.old.line (record { drawn = drawn; hold = hold; sent = map_sent lent_down sent.now }))) (room_spec.IsFullDown self.new.room) result self.new.line }
         ensures room { room_spec.LineTakes result self.old.room self.new.room }
     {
         if let Some(signal) = sent {
-            post(&mut self.downs, &self.up, signal)?;
+            post(&mut self.downs, &self.up, signal.own())?;
         }
         self.drawn = drawn;
         self.hold = hold;
@@ -139,13 +145,13 @@ impl SideLine {
                 let number = self.drawn + 1;
                 let select = Some(hold.offer(number, path, single_path));
                 let reply = WorldReply::of_side(side, &select);
-                self.keep(number, hold, select)?;
+                self.keep(number, hold, &select)?;
                 Ok(reply)
             }
             HoldPhase::Reset { .. } => {
                 let reset = hold.send_reset(path);
                 let reply = WorldReply::of_side(side, &reset);
-                self.keep(self.drawn, hold, reset)?;
+                self.keep(self.drawn, hold, &reset)?;
                 Ok(reply)
             }
             _ => Err(Fault::NotNow),
@@ -163,7 +169,7 @@ impl SideLine {
             HoldPhase::On { .. } => {
                 let release = hold.let_go();
                 let reply = WorldReply::of_side(side, &release);
-                self.keep(self.drawn, hold, release)?;
+                self.keep(self.drawn, hold, &release)?;
                 Ok(reply)
             }
             _ => Err(Fault::NotNow),
@@ -179,13 +185,13 @@ impl SideLine {
         if !may_send(&self.hold, path, signal) {
             return Err(Fault::NotNow);
         }
-        let signal = OnPath {
+        let sent = Some(OnPath {
             path,
-            signal: Down::copy(signal),
-        };
-        let sent = Some(OnPath::<Down>::copy(&signal));
-        self.keep(self.drawn, self.hold, sent)?;
-        Ok(WorldReply::SentDown { side, signal })
+            signal: signal.lend(),
+        });
+        let reply = WorldReply::of_side(side, &sent);
+        self.keep(self.drawn, self.hold, &sent)?;
+        Ok(reply)
     }
 
     /// The hold is reset.
@@ -218,8 +224,8 @@ impl SideLine {
         let signal = self.ups[place].copy();
         let taken = is_taken(&hold, &signal, may);
         let (drawn, sent) = takes(self.drawn, &mut hold, &signal, may);
-        let answer = copy_down(&sent);
-        self.keep(drawn, hold, sent)?;
+        let answer = own_down(&sent);
+        self.keep(drawn, hold, &sent)?;
         if !keep {
             self.ups.remove(place);
         }
@@ -311,11 +317,16 @@ impl SideLine {
 
 /// The hold takes a signal: how many numbers are drawn then, and what is sent. A Notice of more restarts than are known is a
 /// cause of a reset.
-fn takes(drawn: u64, hold: &mut Hold, signal: &OnPath<Up>, may: bool) -> (u64, Option<OnPath<Down>>)
+fn takes(
+    drawn: u64,
+    hold: &mut Hold,
+    signal: &OnPath<Up>,
+    may: bool,
+) -> (u64, Option<OnPath<LentDown<'static>>>)
     requires { drawn ≤ 2 ^ 62 }
-    ensures { record { drawn = result.0; hold = hold.new; sent = result.1 } ≡ moving.hold_taken drawn hold.old signal.now.path signal.now.signal may }
+    ensures { record { drawn = result.0; hold = hold.new; sent = map_sent lent_down result.1 } ≡ moving.hold_taken drawn hold.old signal.now.path signal.now.signal may }
 {
-    let came = hold.take(signal.path, &signal.signal, may);
+    let came = met_by(hold, signal, may);
     if came.taken && matches!(signal.signal, Up::Notice { .. }) {
         hold.reset(drawn + 1);
         return (drawn + 1, None);

@@ -2,9 +2,10 @@
 
 ghost use Rattle.std.specs.Prelude.{◌≡◌};
 ghost use Rattle.agree.specs.Replies as spec;
+ghost use Rattle.chan_model.specs.Signals.{lent_down, lent_up, map_sent};
 
 use chan_model::names::Side;
-use chan_model::signal::{Down, OnPath, Up};
+use chan_model::signal::{Down, LentDown, LentUp, OnPath, Up};
 
 /// What came of an event that was accepted.
 #[derive(Drop)]
@@ -39,48 +40,48 @@ pub enum WorldReply {
 
 impl WorldReply {
     /// What a side sent, or nothing.
-    pub fn of_side(side: Side, sent: &Option<OnPath<Down>>) -> Self
-        ensures { result ≡ spec.told_down side sent.now }
+    pub fn of_side(side: Side, sent: &Option<OnPath<LentDown<'_>>>) -> Self
+        ensures { result ≡ spec.told_down side (map_sent lent_down sent.now) }
     {
         match sent {
             None => WorldReply::Done,
             Some(signal) => WorldReply::SentDown {
                 side,
-                signal: signal.copy(),
+                signal: signal.own(),
             },
         }
     }
 
     /// What the unit sent to a side, or nothing.
-    pub fn of_unit(side: Side, sent: &Option<OnPath<Up>>) -> Self
-        ensures { result ≡ spec.told_up side sent.now }
+    pub fn of_unit(side: Side, sent: &Option<OnPath<LentUp<'_>>>) -> Self
+        ensures { result ≡ spec.told_up side (map_sent lent_up sent.now) }
     {
         match sent {
             None => WorldReply::Done,
             Some(signal) => WorldReply::SentUp {
                 side,
-                signal: signal.copy(),
+                signal: signal.own(),
             },
         }
     }
 }
 
-/// The same signal, where there is one.
-pub fn copy_down(sent: &Option<OnPath<Down>>) -> Option<OnPath<Down>>
-    ensures { result ≡ sent.now }
+/// The same signal with its own bytes, where there is one.
+pub fn own_down(sent: &Option<OnPath<LentDown<'_>>>) -> Option<OnPath<Down>>
+    ensures { result ≡ map_sent lent_down sent.now }
 {
     match sent {
         None => None,
-        Some(signal) => Some(signal.copy()),
+        Some(signal) => Some(signal.own()),
     }
 }
 
-/// The same signal, where there is one.
-pub fn copy_up(sent: &Option<OnPath<Up>>) -> Option<OnPath<Up>>
-    ensures { result ≡ sent.now }
+/// The same signal with its own bytes, where there is one.
+pub fn own_up(sent: &Option<OnPath<LentUp<'_>>>) -> Option<OnPath<Up>>
+    ensures { result ≡ map_sent lent_up sent.now }
 {
     match sent {
         None => None,
-        Some(signal) => Some(signal.copy()),
+        Some(signal) => Some(signal.own()),
     }
 }

@@ -602,6 +602,18 @@ impl OnPath<Down> {
     }
 }
 
+impl OnPath<LentDown<'_>> {
+    /// The same signal on the same path, with its own bytes.
+    pub fn own(&self) -> OnPath<Down>
+        ensures { result ≡ record { path = self.now.path; signal = spec.lent_down self.now.signal } }
+    {
+        OnPath {
+            path: self.path,
+            signal: self.signal.own(),
+        }
+    }
+}
+
 impl OnPath<Up> {
     /// The same signal on the same path; it takes no memory.
     pub fn copy(&self) -> Self
@@ -614,22 +626,10 @@ impl OnPath<Up> {
     }
 }
 
-impl<'a> OnPath<Down<Bytes<'a>>> {
-    /// The same signal on the same path, with its own bytes.
-    pub fn own(&self) -> OnPath<Down>
-        ensures { Some result ≡ spec.map_sent spec.lent_down (Some self.now) }
-    {
-        OnPath {
-            path: self.path,
-            signal: self.signal.own(),
-        }
-    }
-}
-
-impl<'a> OnPath<Up<Load<Bytes<'a>>>> {
+impl OnPath<LentUp<'_>> {
     /// The same signal on the same path, with its own bytes.
     pub fn own(&self) -> OnPath<Up>
-        ensures { Some result ≡ spec.map_sent spec.lent_up (Some self.now) }
+        ensures { result ≡ record { path = self.now.path; signal = spec.lent_up self.now.signal } }
     {
         OnPath {
             path: self.path,

@@ -1,7 +1,8 @@
 -- Whether a signal is answered: neither its path nor what the control unit may do decides that.
-use Rattle.std.proofs.Common.{◌≡◌, ◌==◌, ◌&&◌, ℕ, Bool, true, false, if◌then◌else◌, nat_lt, is_some, Option, refl, sym, ◌∙◌}
+use Rattle.std.proofs.Common.{◌≡◌, ◌==◌, ◌&&◌, ℕ, Bool, true, false, if◌then◌else◌, nat_lt, is_some, Option, None, Some, refl, sym, ◌∙◌}
 use Rattle.chan_model.specs.declared.names.Side.{Side}
-use Rattle.chan_model.specs.Signals.{Down}
+use Rattle.chan_model.specs.Signals.{Down, map_sent}
+use Rattle.chan_model.specs.declared.signal.OnPath.{OnPath}
 use Rattle.chan_model.specs.declared.signal.Down.TheVariants.{Select, Command, Grant, Refuse, Took, Give, Halt, Release, Reset, Got}
 use Rattle.chan_model.specs.declared.unit_state.Place.{Place}
 use Rattle.chan_model.specs.declared.unit_state.Place.TheVariants.{On, Ask, Away}
@@ -11,6 +12,11 @@ use Rattle.chan_model.specs.declared.unit_state.UnitState.{UnitState}
 use Rattle.chan_model.specs.Sides.{same_side}
 use Rattle.chan_model.specs.UnitTable.{UnitStep, came_of, side_of, is_owner, raised, resets, selected, granted, granted_at, unit_takes}
 use Rattle.unit.specs.UnitWords.{is_unit_answered}
+
+-- a signal is sent whatever stands for it
+pub is_some-map_sent : {A B : Type 0} (f : A → B) (sent : Option (OnPath A)) → is_some (map_sent f sent) ≡ is_some sent
+is_some-map_sent f None = refl
+is_some-map_sent f (Some s) = refl
 
 -- the step sends a signal
 abbrev pub sends_one : Option UnitStep → Bool

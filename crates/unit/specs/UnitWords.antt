@@ -1,12 +1,10 @@
 -- What the calls of a unit say of it beside its tables (own).
-use Rattle.std.specs.Prelude.{◌≡◌, ℕ, Bool, false, true, ◌==◌, ◌&&◌, Option, None, Some, is_some, IsTrue}
+use Rattle.std.specs.Prelude.{◌≡◌, ◌≤◌, ℕ, Bool, false, true, ◌==◌, ◌&&◌, Option, None, Some, IfSome, is_some, IsTrue, List, [], length}
 use Rattle.chan_model.specs.declared.names.Side.{Side}
 use Rattle.chan_model.specs.declared.names.Side.TheVariants.{First, Second}
-use Rattle.chan_model.specs.Signals.{Down}
+use Rattle.chan_model.specs.Signals.{Down, KeptUp, Load, Up, load_bytes, map_taken, up_in, up_length}
 use Rattle.chan_model.specs.declared.signal.Down.TheVariants as down
-use Rattle.chan_model.specs.declared.signal.OnPath.{OnPath}
 use Rattle.chan_model.specs.declared.signal.Taken.{Taken}
-use Rattle.chan_model.specs.Signals.{Up}
 use Rattle.chan_model.specs.declared.unit_state.Place.{Place}
 use Rattle.chan_model.specs.declared.unit_state.Place.TheVariants.{On, Ask, Away}
 use Rattle.chan_model.specs.declared.unit_state.Own.{Own}
@@ -16,10 +14,6 @@ use Rattle.chan_model.specs.declared.unit_state.UnitState.{UnitState}
 use Rattle.chan_model.specs.declared.report.Report.{Report}
 use Rattle.chan_model.specs.UnitReports.{report_on}
 use Rattle.chan_model.specs.UnitTable.{unit_takes, came_of, side_of, owns, is_owner, is_owner_on}
-
--- what came of a signal: whether it was taken, and what was sent
-abbrev pub taken_so : Bool → Option (OnPath Up) → Taken Up
-taken_so taken sent = record { taken = taken; sent = sent }
 
 -- the signal is answered; neither its path nor what the control unit may do decides that
 abbrev pub is_unit_answered : UnitState → Side → Down → Bool
@@ -45,6 +39,22 @@ last_connection (Owned side t place) = connection_of place
 abbrev pub last_sequence : Option AtHand → ℕ
 last_sequence None = 0
 last_sequence (Some x) = x.sequence
+
+-- the bytes of a read that were sent last and are not answered
+abbrev pub bytes_of : Option Load → List ℕ
+bytes_of None = []
+bytes_of (Some load) = load_bytes load
+
+abbrev pub unanswered_bytes : Option AtHand → List ℕ
+unanswered_bytes None = []
+unanswered_bytes (Some x) = bytes_of x.unanswered
+
+-- what came of a report: the bytes of its Data are those that are not answered, which are as many
+abbrev pub reported : Option AtHand → Taken KeptUp → Taken Up
+reported at_hand came = map_taken (λ signal. up_in signal (unanswered_bytes at_hand)) came
+
+abbrev pub AreAtHand : Option AtHand → Taken KeptUp → Type 0
+AreAtHand at_hand came = IfSome came.sent (λ sent. up_length sent.signal ≤ length (unanswered_bytes at_hand))
 
 -- a report of the program that is connected is neither stale nor against the law of devices
 abbrev pub IsAllowed : UnitState → Report → Type 0

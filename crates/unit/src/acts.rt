@@ -3,34 +3,34 @@
 ghost use Rattle.std.specs.Prelude.{◌≡◌, ◌<◌, ◌+◌, ◌^◌};
 ghost use Rattle.chan_model.specs.UnitTable as table;
 ghost use Rattle.chan_model.specs.Parts as table_parts;
+ghost use Rattle.chan_model.specs.Signals.{lent_up, map_sent};
 ghost use Rattle.unit.specs.UnitWords as words;
 
-use crate::parts::{free, side_of};
+use crate::parts::{Sent, free, side_of};
 use chan_model::names::{Path, Side};
+use chan_model::signal::{OnPath, Up};
 use chan_model::unit_state::{AtHand, Attention, Own, Place, UnitState};
-use kept_events::signals::KeptUp;
 use scsw_irb::status::DeviceStatus;
-use signal_places::sent::SentUp;
 
 /// Leave: the program that is connected works on without the path.
-pub fn leaving(unit: &mut UnitState, sent: &mut SentUp)
+pub fn leaving(unit: &mut UnitState) -> Sent
     ensures state { unit.new ≡ table.unit_after unit.old (table.leaving unit.old unit.old.own) }
-    ensures sent { sent.new ≡ (table.came_of (table.leaving unit.old unit.old.own)).sent }
+    ensures sent { map_sent lent_up result ≡ (table.came_of (table.leaving unit.old unit.old.own)).sent }
 {
     match unit.own {
-        Own::Idle => sent.clear(),
+        Own::Idle => None,
         Own::Owned {
             side,
             number,
             place,
-        } => leaving_from(unit, side, number, place, sent),
+        } => leaving_from(unit, side, number, place),
     }
 }
 
 /// Leave from a place of the program that holds the device.
-fn leaving_from(unit: &mut UnitState, side: Side, number: u64, place: Place, sent: &mut SentUp)
+fn leaving_from(unit: &mut UnitState, side: Side, number: u64, place: Place) -> Sent
     ensures state { unit.new ≡ table.unit_after unit.old (table.leaving_from unit.old side number place) }
-    ensures sent { sent.new ≡ (table.came_of (table.leaving_from unit.old side number place)).sent }
+    ensures sent { map_sent lent_up result ≡ (table.came_of (table.leaving_from unit.old side number place)).sent }
 {
     match place {
         Place::On { path, connection } => {
@@ -40,9 +40,12 @@ fn leaving_from(unit: &mut UnitState, side: Side, number: u64, place: Place, sen
                 place: Place::Away { connection },
             };
             mark_again(&mut unit.at_hand);
-            sent.put(path, KeptUp::Leave { number, connection });
+            Some(OnPath {
+                path,
+                signal: Up::Leave { number, connection },
+            })
         }
-        _ => sent.clear(),
+        _ => None,
     }
 }
 
@@ -56,10 +59,10 @@ fn mark_again(at_hand: &mut Option<AtHand>)
 }
 
 /// Ask: for a path, under the next connection number.
-pub fn asking(unit: &mut UnitState, path: Path, sent: &mut SentUp)
+pub fn asking(unit: &mut UnitState, path: Path) -> Sent
     requires { words.last_connection unit.old.own < 2 ^ 63 }
     ensures state { unit.new ≡ table.unit_after unit.old (table.asking unit.old unit.old.own path) }
-    ensures sent { sent.new ≡ (table.came_of (table.asking unit.old unit.old.own path)).sent }
+    ensures sent { map_sent lent_up result ≡ (table.came_of (table.asking unit.old unit.old.own path)).sent }
 {
     match unit.own {
         Own::Owned {
@@ -73,34 +76,36 @@ pub fn asking(unit: &mut UnitState, path: Path, sent: &mut SentUp)
                 number,
                 place: Place::Ask { path, connection },
             };
-            sent.put(path, KeptUp::Back { number, connection });
+            Some(OnPath {
+                path,
+                signal: Up::Back { number, connection },
+            })
         }
-        _ => sent.clear(),
+        _ => None,
     }
 }
 
 /// Attention: of an idle unit, on a side that is not fresh.
-pub fn attending(unit: &mut UnitState, side: Side, path: Path, sent: &mut SentUp)
+pub fn attending(unit: &mut UnitState, side: Side, path: Path) -> Sent
     requires { unit.old.attentions < 2 ^ 63 }
     ensures state { unit.new ≡ table.unit_after unit.old (table.attending unit.old side path) }
-    ensures sent { sent.new ≡ (table.came_of (table.attending unit.old side path)).sent }
+    ensures sent { map_sent lent_up result ≡ (table.came_of (table.attending unit.old side path)).sent }
 {
     if !is_idle(unit.own) || side_of(unit, side).fresh {
-        sent.clear();
-        return;
+        return None;
     }
     let number = unit.attentions + 1;
     let status = attention_status(unit.end_owed);
     unit.attentions = number;
     unit.attention = Some(Attention { number, side });
     unit.end_owed = false;
-    sent.put(
+    Some(OnPath {
         path,
-        KeptUp::Attn {
+        signal: Up::Attn {
             attention: number,
             status,
         },
-    );
+    })
 }
 
 /// Whether nothing holds the device.
@@ -134,17 +139,17 @@ pub fn restart(unit: &mut UnitState)
 }
 
 /// Notice: of a side that is fresh.
-pub fn noticing(unit: &UnitState, side: Side, path: Path, sent: &mut SentUp)
-    ensures { sent.new ≡ (table.came_of (table.noticing unit.now side path)).sent }
+pub fn noticing(unit: &UnitState, side: Side, path: Path) -> Sent
+    ensures { map_sent lent_up result ≡ (table.came_of (table.noticing unit.now side path)).sent }
 {
     if side_of(unit, side).fresh {
-        sent.put(
+        Some(OnPath {
             path,
-            KeptUp::Notice {
+            signal: Up::Notice {
                 restarts: unit.restarts,
             },
-        );
+        })
     } else {
-        sent.clear();
+        None
     }
 }

@@ -3,15 +3,14 @@
 ghost use Rattle.std.specs.Prelude.{◌≡◌, ◌≤◌, IfSome, None, length};
 ghost use Rattle.chan_model.specs.UnitTable as table;
 ghost use Rattle.chan_model.specs.Parts as table_parts;
-ghost use Rattle.signal_places.specs.Places.{down_at};
+ghost use Rattle.chan_model.specs.Signals.{lent_down, lent_up, map_taken};
 ghost use Rattle.unit.specs.UnitWords as words;
 
-use crate::parts::{follows, is_owner, is_owner_on};
+use crate::parts::{Came, follows, is_owner, is_owner_on};
 use chan_model::chunk::Chunk;
 use chan_model::names::Side;
+use chan_model::signal::{Down, LentDown, Taken};
 use chan_model::unit_state::{AtHand, Progress, UnitState};
-use kept_events::signals::KeptDown;
-use signal_places::signals::DownPlace;
 
 /// Command: the next of the program that holds the device.
 pub fn commanded(
@@ -21,16 +20,16 @@ pub fn commanded(
     command: u64,
     code: u8,
     room: u16,
-) -> bool
+) -> Came
     ensures state { unit.new ≡ table.unit_after unit.old (table.commanded unit.old side number command code room) }
-    ensures came { words.taken_so result None ≡ table.came_of (table.commanded unit.old side number command code room) }
+    ensures came { map_taken lent_up result ≡ table.came_of (table.commanded unit.old side number command code room) }
 {
     if is_owner(unit, side, number) && follows(command, unit.last_command) {
         unit.last_command = command;
         unit.at_hand = Some(new_command(code, room));
-        true
+        Taken::quietly()
     } else {
-        false
+        Taken::ignored()
     }
 }
 
@@ -53,16 +52,16 @@ fn new_command(code: u8, room: u16) -> AtHand
 
 /// Whether a Took or a Give is of the last command of the program that holds the device, and a Give of the connection at
 /// hand.
-pub fn is_of_command(unit: &UnitState, side: Side, signal: &DownPlace) -> bool
-    ensures { result ≡ words.is_of_command unit.now side (down_at signal.now) }
+pub fn is_of_command(unit: &UnitState, side: Side, signal: &LentDown<'_>) -> bool
+    ensures { result ≡ words.is_of_command unit.now side (lent_down signal.now) }
 {
-    match signal.kept {
-        KeptDown::Took {
+    match *signal {
+        Down::Took {
             number,
             command,
             ..
         } => { is_owner(unit, side, number) && command == unit.last_command }
-        KeptDown::Give {
+        Down::Give {
             number,
             connection,
             command,
@@ -73,17 +72,17 @@ pub fn is_of_command(unit: &UnitState, side: Side, signal: &DownPlace) -> bool
 }
 
 /// Give of the command at hand: the chunk that follows the last.
-pub fn given(unit: &mut UnitState, sequence: u64, bytes: &[u8]) -> bool
+pub fn given(unit: &mut UnitState, sequence: u64, bytes: &[u8]) -> Came
     requires { length bytes.now ≤ 256 }
     ensures state { unit.new ≡ table.unit_after unit.old (table.given_next unit.old unit.old.at_hand sequence bytes.now) }
-    ensures came { words.taken_so result None ≡ table.came_of (table.given_next unit.old unit.old.at_hand sequence bytes.now) }
+    ensures came { map_taken lent_up result ≡ table.came_of (table.given_next unit.old unit.old.at_hand sequence bytes.now) }
 {
     match &mut unit.at_hand {
         Some(command) if follows(sequence, command.sequence) => {
             give(command, sequence, bytes);
-            true
+            Taken::quietly()
         }
-        _ => false,
+        _ => Taken::ignored(),
     }
 }
 
@@ -122,16 +121,16 @@ pub fn forget(kept: &mut Option<Chunk>)
 }
 
 /// Took of the last chunk of the command at hand, where its Data is not answered.
-pub fn answered(unit: &mut UnitState, sequence: u64, room: u16) -> bool
+pub fn answered(unit: &mut UnitState, sequence: u64, room: u16) -> Came
     ensures state { unit.new ≡ table.unit_after unit.old (table.answered_last unit.old unit.old.at_hand sequence room) }
-    ensures came { words.taken_so result None ≡ table.came_of (table.answered_last unit.old unit.old.at_hand sequence room) }
+    ensures came { map_taken lent_up result ≡ table.came_of (table.answered_last unit.old unit.old.at_hand sequence room) }
 {
     match &mut unit.at_hand {
         Some(command) if sequence == command.sequence && command.unanswered.is_some() => {
             settle(command, room);
-            true
+            Taken::quietly()
         }
-        _ => false,
+        _ => Taken::ignored(),
     }
 }
 

@@ -9,19 +9,17 @@ mod signals;
 mod works;
 
 ghost use Rattle.std.specs.Prelude.{◌≡◌, ◌<◌, ◌≤◌, ◌^◌, ◌||◌, ℕ, Bool, IfSome, MatchOption, None, is_some, length};
+ghost use Rattle.chan_model.specs.Signals.{lent_down, lent_up, map_sent, map_taken};
 ghost use Rattle.chan_model.specs.UnitReports as reports;
 ghost use Rattle.chan_model.specs.UnitTable as table;
 ghost use Rattle.kept_work.specs.Works.{given_bytes, works_in};
-ghost use Rattle.signal_places.specs.Places.{down_at};
 ghost use Rattle.unit.specs.UnitWords as words;
 
 use chan_model::names::{Path, Side};
 use chan_model::report::{Report, ReportPath, Work};
-use chan_model::signal::{Down, OnPath, Taken, Up};
+use chan_model::signal::{KeptUp, LentDown, LentUp, OnPath, Taken};
 use chan_model::unit_state::{Own, Place, SideState, UnitState};
 use kept_work::works::KeptWork;
-use signal_places::sent::SentUp;
-use signal_places::signals::DownPlace;
 use std::marker::Model;
 
 /// A unit: whom its device is held by, what it keeps of each side, and the command at hand.
@@ -85,81 +83,52 @@ impl Unit {
     }
 
     /// Takes a signal of a side that came by a path. `may` says, at Select, that the control unit may serve it.
-    pub fn take(&mut self, side: Side, path: Path, signal: &Down, may: bool) -> Taken<Up>
-        ensures state { self.new ≡ table.unit_after self.old (table.unit_takes self.old side path signal.now may) }
-        ensures came { result ≡ table.came_of (table.unit_takes self.old side path signal.now may) }
-
-        // An answer goes by the path of the signal; the other side is left as it was.
-        ensures path { IfSome result.sent (λ sent. sent.path ≡ path) }
-        ensures answered { is_some result.sent ≡ words.is_unit_answered self.old side signal.now }
-        ensures other { words.LeavesOther side self.old self.new }
-    {
-        let place = DownPlace::of(signal);
-        let mut sent = SentUp::new();
-        let taken = self.take_to(side, path, &place, may, &mut sent);
-        Taken {
-            taken,
-            sent: sent.signal(),
-        }
-    }
-
-    /// Takes a signal, as `take` has it, with the signal that is sent in a place: whether it was taken.
-    pub fn take_to(
+    pub fn take(
         &mut self,
         side: Side,
         path: Path,
-        signal: &DownPlace,
+        signal: &LentDown<'_>,
         may: bool,
-        sent: &mut SentUp,
-    ) -> bool
-        ensures state { self.new ≡ table.unit_after self.old (table.unit_takes self.old side path (down_at signal.now) may) }
-        ensures came { words.taken_so result sent.new ≡ table.came_of (table.unit_takes self.old side path (down_at signal.now) may) }
+    ) -> Taken<LentUp<'static>>
+        ensures state { self.new ≡ table.unit_after self.old (table.unit_takes self.old side path (lent_down signal.now) may) }
+        ensures came { map_taken lent_up result ≡ table.came_of (table.unit_takes self.old side path (lent_down signal.now) may) }
+
+        // An answer goes by the path of the signal; the other side is left as it was.
+        ensures path { IfSome result.sent (λ sent. sent.path ≡ path) }
+        ensures answered { is_some result.sent ≡ words.is_unit_answered self.old side (lent_down signal.now) }
+        ensures other { words.LeavesOther side self.old self.new }
     {
-        sent.clear();
-        signals::takes(&mut self.state, side, path, signal, may, sent)
+        signals::takes(&mut self.state, side, path, signal, may)
     }
 
     /// Whether a signal of a side is answered. Its path, and what the control unit may do, make no difference.
-    pub fn answers(&self, side: Side, signal: &Down) -> bool
-        ensures answers { (path : ℕ) (may : Bool) → result ≡ is_some (table.came_of (table.unit_takes self.now side path signal.now may)).sent }
+    pub fn answers(&self, side: Side, signal: &LentDown<'_>) -> bool
+        ensures answers { (path : ℕ) (may : Bool) → result ≡ is_some (table.came_of (table.unit_takes self.now side path (lent_down signal.now) may)).sent }
 
         // Its answer goes by the path that the signal came by.
-        ensures path { (path : ℕ) (may : Bool) → IfSome (table.came_of (table.unit_takes self.now side path signal.now may)).sent (λ s. s.path ≡ path) }
-    {
-        self.answers_at(side, &DownPlace::of(signal))
-    }
-
-    /// Whether a signal of a side is answered, as `answers` has it, of a signal in a place.
-    pub fn answers_at(&self, side: Side, signal: &DownPlace) -> bool
-        ensures answers { (path : ℕ) (may : Bool) → result ≡ is_some (table.came_of (table.unit_takes self.now side path (down_at signal.now) may)).sent }
-        ensures path { (path : ℕ) (may : Bool) → IfSome (table.came_of (table.unit_takes self.now side path (down_at signal.now) may)).sent (λ s. s.path ≡ path) }
+        ensures path { (path : ℕ) (may : Bool) → IfSome (table.came_of (table.unit_takes self.now side path (lent_down signal.now) may)).sent (λ s. s.path ≡ path) }
     {
         signals::answers(&self.state, side, signal)
     }
 
     /// Takes the device's answer. It is not taken where it is stale or against the law of devices, and then nothing
-    /// changes. Nothing is sent where a read begins.
-    pub fn report(&mut self, report: &Report) -> Taken<Up>
+    /// changes. Nothing is sent where a read begins. The unit keeps the bytes of a Data that it sends until they are
+    /// answered, and `lend` has them.
+    pub fn report(&mut self, report: &Report) -> Taken<KeptUp>
         requires { words.last_sequence self.old.at_hand < 2 ^ 63 }
         ensures state { self.new ≡ table.unit_after self.old (reports.unit_reports self.old report.now) }
-        ensures came { result ≡ table.came_of (reports.unit_reports self.old report.now) }
+        ensures came { words.reported self.new.at_hand result ≡ table.came_of (reports.unit_reports self.old report.now) }
+        ensures bytes { words.AreAtHand self.new.at_hand result }
     {
-        let mut sent = SentUp::new();
-        let taken = self.report_to(report, &mut sent);
-        Taken {
-            taken,
-            sent: sent.signal(),
-        }
+        reports::reports(&mut self.state, report)
     }
 
-    /// Takes the device's answer, as `report` has it, with the signal that is sent in a place: whether it was taken.
-    pub fn report_to(&mut self, report: &Report, sent: &mut SentUp) -> bool
-        requires { words.last_sequence self.old.at_hand < 2 ^ 63 }
-        ensures state { self.new ≡ table.unit_after self.old (reports.unit_reports self.old report.now) }
-        ensures came { words.taken_so result sent.new ≡ table.came_of (reports.unit_reports self.old report.now) }
+    /// What came of the last report, the bytes of its Data lent.
+    pub fn lend(&self, came: &Taken<KeptUp>) -> Taken<LentUp<'_>>
+        requires { words.AreAtHand self.now.at_hand came.now }
+        ensures { map_taken lent_up result ≡ words.reported self.now.at_hand came.now }
     {
-        sent.clear();
-        reports::reports(&mut self.state, report, sent)
+        reports::lend(&self.state, came)
     }
 
     /// Where the program of a report stands, asked before the report is taken; None where the report is stale or against the
@@ -180,15 +149,15 @@ impl Unit {
         reports::path_from(&self.state, *place, report)
     }
 
-    /// Takes the device's answer, as `report_to` does, of a report whose program stands there.
-    pub fn report_from(&mut self, place: &Place, report: &Report, sent: &mut SentUp) -> bool
+    /// Takes the device's answer, as `report` does, of a report whose program stands there.
+    pub fn report_from(&mut self, place: &Place, report: &Report) -> Taken<KeptUp>
         requires below { words.last_sequence self.old.at_hand < 2 ^ 63 }
         requires allowed { words.IsAllowed self.old report.now }
         ensures state { self.new ≡ table.unit_after self.old (reports.report_on self.old report.now.number place.now self.old.at_hand report.now) }
-        ensures came { words.taken_so result sent.new ≡ table.came_of (reports.report_on self.old report.now.number place.now self.old.at_hand report.now) }
+        ensures came { words.reported self.new.at_hand result ≡ table.came_of (reports.report_on self.old report.now.number place.now self.old.at_hand report.now) }
+        ensures bytes { words.AreAtHand self.new.at_hand result }
     {
-        sent.clear();
-        reports::report_on(&mut self.state, *place, report, sent)
+        reports::report_on(&mut self.state, *place, report)
     }
 
     /// The path that the signal of a report is sent on, asked before the report is taken.
@@ -227,61 +196,29 @@ impl Unit {
     }
 
     /// Leaves the path of its program, which works on. None where no program is connected, and then nothing changes.
-    pub fn leave(&mut self) -> Option<OnPath<Up>>
+    pub fn leave(&mut self) -> Option<OnPath<LentUp<'static>>>
         ensures state { self.new ≡ table.unit_after self.old (table.leaving self.old self.old.own) }
-        ensures sent { result ≡ (table.came_of (table.leaving self.old self.old.own)).sent }
+        ensures sent { map_sent lent_up result ≡ (table.came_of (table.leaving self.old self.old.own)).sent }
     {
-        let mut sent = SentUp::new();
-        self.leave_to(&mut sent);
-        sent.signal()
-    }
-
-    /// Leaves the path of its program, as `leave` has it, with the Leave in a place.
-    pub fn leave_to(&mut self, sent: &mut SentUp)
-        ensures state { self.new ≡ table.unit_after self.old (table.leaving self.old self.old.own) }
-        ensures sent { sent.new ≡ (table.came_of (table.leaving self.old self.old.own)).sent }
-    {
-        acts::leaving(&mut self.state, sent);
+        acts::leaving(&mut self.state)
     }
 
     /// Asks for a path. None where no program is without one, and then nothing changes.
-    pub fn ask(&mut self, path: Path) -> Option<OnPath<Up>>
+    pub fn ask(&mut self, path: Path) -> Option<OnPath<LentUp<'static>>>
         requires { words.last_connection self.old.own < 2 ^ 63 }
         ensures state { self.new ≡ table.unit_after self.old (table.asking self.old self.old.own path) }
-        ensures sent { result ≡ (table.came_of (table.asking self.old self.old.own path)).sent }
+        ensures sent { map_sent lent_up result ≡ (table.came_of (table.asking self.old self.old.own path)).sent }
     {
-        let mut sent = SentUp::new();
-        self.ask_to(path, &mut sent);
-        sent.signal()
-    }
-
-    /// Asks for a path, as `ask` has it, with the Back in a place.
-    pub fn ask_to(&mut self, path: Path, sent: &mut SentUp)
-        requires { words.last_connection self.old.own < 2 ^ 63 }
-        ensures state { self.new ≡ table.unit_after self.old (table.asking self.old self.old.own path) }
-        ensures sent { sent.new ≡ (table.came_of (table.asking self.old self.old.own path)).sent }
-    {
-        acts::asking(&mut self.state, path, sent);
+        acts::asking(&mut self.state, path)
     }
 
     /// Asks a side for attention. None where a program holds the device or the side is fresh, and then nothing changes.
-    pub fn attention(&mut self, side: Side, path: Path) -> Option<OnPath<Up>>
+    pub fn attention(&mut self, side: Side, path: Path) -> Option<OnPath<LentUp<'static>>>
         requires { self.old.attentions < 2 ^ 63 }
         ensures state { self.new ≡ table.unit_after self.old (table.attending self.old side path) }
-        ensures sent { result ≡ (table.came_of (table.attending self.old side path)).sent }
+        ensures sent { map_sent lent_up result ≡ (table.came_of (table.attending self.old side path)).sent }
     {
-        let mut sent = SentUp::new();
-        self.attention_to(side, path, &mut sent);
-        sent.signal()
-    }
-
-    /// Asks a side for attention, as `attention` has it, with the Attn in a place.
-    pub fn attention_to(&mut self, side: Side, path: Path, sent: &mut SentUp)
-        requires { self.old.attentions < 2 ^ 63 }
-        ensures state { self.new ≡ table.unit_after self.old (table.attending self.old side path) }
-        ensures sent { sent.new ≡ (table.came_of (table.attending self.old side path)).sent }
-    {
-        acts::attending(&mut self.state, side, path, sent);
+        acts::attending(&mut self.state, side, path)
     }
 
     /// Restarts the device: it forgets its program, and both sides are fresh.
@@ -300,18 +237,9 @@ impl Unit {
     }
 
     /// Tells a side that is fresh how often it was restarted. None where the side is not fresh.
-    pub fn notice(&self, side: Side, path: Path) -> Option<OnPath<Up>>
-        ensures { result ≡ (table.came_of (table.noticing self.now side path)).sent }
+    pub fn notice(&self, side: Side, path: Path) -> Option<OnPath<LentUp<'static>>>
+        ensures { map_sent lent_up result ≡ (table.came_of (table.noticing self.now side path)).sent }
     {
-        let mut sent = SentUp::new();
-        self.notice_to(side, path, &mut sent);
-        sent.signal()
-    }
-
-    /// Tells a side that is fresh, as `notice` has it, with the Notice in a place.
-    pub fn notice_to(&self, side: Side, path: Path, sent: &mut SentUp)
-        ensures { sent.new ≡ (table.came_of (table.noticing self.now side path)).sent }
-    {
-        acts::noticing(&self.state, side, path, sent);
+        acts::noticing(&self.state, side, path)
     }
 }

@@ -1,27 +1,18 @@
 //! The parts of a unit's state that its tables speak of.
 
-ghost use Rattle.std.specs.Prelude.{◌≡◌, ◌==◌, ◌+◌, [], None, Some, true};
+ghost use Rattle.std.specs.Prelude.{◌≡◌, ◌==◌, ◌+◌};
 ghost use Rattle.chan_model.specs.UnitTable as table;
 ghost use Rattle.chan_model.specs.Parts as table_parts;
-ghost use Rattle.chan_model.specs.Signals as kept_spec;
-ghost use Rattle.unit.specs.UnitWords as words;
 
 use chan_model::names::{Path, Side};
+use chan_model::signal::{LentUp, OnPath, Taken};
 use chan_model::unit_state::{Own, Place, SideState, UnitState};
-use kept_events::signals::KeptUp;
-use signal_places::sent::SentUp;
 
-/// A signal without bytes is sent on a path.
-pub fn sending(path: Path, signal: KeptUp, sent: &mut SentUp) -> bool
-    requires { kept_spec.up_length signal ≡ 0 }
-    ensures { words.taken_so result sent.new ≡ record {
-      taken = true;
-      sent = Some (record { path = path; signal = kept_spec.up_in signal [] });
-    } }
-{
-    sent.put(path, signal);
-    true
-}
+/// What came of a signal; none of those that the unit answers with has bytes.
+pub type Came = Taken<LentUp<'static>>;
+
+/// What the unit sends of itself; it has no bytes.
+pub type Sent = Option<OnPath<LentUp<'static>>>;
 
 /// What is kept of a side.
 pub fn side_of(unit: &UnitState, side: Side) -> SideState

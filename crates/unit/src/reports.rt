@@ -4,23 +4,23 @@ ghost use Rattle.std.specs.Prelude.{◌≡◌, ◌<◌, ◌≤◌, ◌==◌, ◌
 ghost use Rattle.chan_model.specs.UnitReports as reports;
 ghost use Rattle.chan_model.specs.Parts as parts;
 ghost use Rattle.chan_model.specs.Sides.{same_side};
+ghost use Rattle.chan_model.specs.Signals.{kept_length, lent_up, load_bytes, load_in, map_taken};
 ghost use Rattle.chan_model.specs.UnitTable as table;
-ghost use Rattle.chan_model.specs.declared.signal.Load.TheVariants as load;
 ghost use Rattle.chan_model.specs.declared.signal.Up.TheVariants as up;
 ghost use Rattle.chan_model.specs.declared.unit_state.Place.TheVariants.{On};
 ghost use Rattle.unit.specs.UnitWords as words;
 
 use crate::commands::forget;
-use crate::parts::sending;
 use bitflags::Flags;
-use chan_model::chunk::Chunk;
+use chan_model::chunk::{Chunk, ChunkLength};
 use chan_model::names::{Path, Side};
 use chan_model::report::{DeviceAnswer, Report, ReportPath};
-use chan_model::signal::Load;
+use chan_model::signal::{KeptUp, LentUp, Load, OnPath, Taken, Up};
 use chan_model::unit_state::{AtHand, Own, Place, Progress, UnitState};
-use kept_events::signals::KeptUp;
 use scsw_irb::status::DeviceStatus;
-use signal_places::sent::SentUp;
+
+/// What came of a report; the bytes of its Data are those that are not answered.
+type Reported = Taken<KeptUp>;
 
 /// Whether a device status says that the channel ended.
 fn has_channel_end(status: DeviceStatus) -> bool
@@ -173,15 +173,15 @@ pub fn reporting(unit: &UnitState, report: &Report) -> Option<Place>
 }
 
 /// What a report does. It is not taken where it is stale or against the law of devices, and then nothing changes.
-pub fn reports(unit: &mut UnitState, report: &Report, sent: &mut SentUp) -> bool
-    requires nothing { sent.old ≡ None }
+pub fn reports(unit: &mut UnitState, report: &Report) -> Reported
     requires below { words.last_sequence unit.old.at_hand < 2 ^ 63 }
     ensures state { unit.new ≡ table.unit_after unit.old (reports.unit_reports unit.old report.now) }
-    ensures came { words.taken_so result sent.new ≡ table.came_of (reports.unit_reports unit.old report.now) }
+    ensures came { words.reported unit.new.at_hand result ≡ table.came_of (reports.unit_reports unit.old report.now) }
+    ensures bytes { words.AreAtHand unit.new.at_hand result }
 {
     match reporting(unit, report) {
-        Some(place) => report_on(unit, place, report, sent),
-        None => false,
+        Some(place) => report_on(unit, place, report),
+        None => Taken::ignored(),
     }
 }
 
@@ -212,15 +212,15 @@ pub fn path_from(unit: &UnitState, place: Place, report: &Report) -> ReportPath
 }
 
 /// What a report does that is allowed: Data or End is sent on the path of the program, or a read is begun.
-pub fn report_on(unit: &mut UnitState, place: Place, report: &Report, sent: &mut SentUp) -> bool
-    requires nothing { sent.old ≡ None }
+pub fn report_on(unit: &mut UnitState, place: Place, report: &Report) -> Reported
     requires below { words.last_sequence unit.old.at_hand < 2 ^ 63 }
     requires allowed { is_some (reports.report_on unit.old 0 (On 0 0) unit.old.at_hand report.now) ≡ true }
     ensures state { unit.new ≡ table.unit_after unit.old (reports.report_on unit.old report.now.number place unit.old.at_hand report.now) }
-    ensures came { words.taken_so result sent.new ≡ table.came_of (reports.report_on unit.old report.now.number place unit.old.at_hand report.now) }
+    ensures came { words.reported unit.new.at_hand result ≡ table.came_of (reports.report_on unit.old report.now.number place unit.old.at_hand report.now) }
+    ensures bytes { words.AreAtHand unit.new.at_hand result }
 {
     let Place::On { path, connection } = place else {
-        return false;
+        return Taken::ignored();
     };
     let program = Program {
         path,
@@ -229,33 +229,33 @@ pub fn report_on(unit: &mut UnitState, place: Place, report: &Report, sent: &mut
         command: unit.last_command,
     };
     let Some(command) = &mut unit.at_hand else {
-        return false;
+        return Taken::ignored();
     };
     match &report.answer {
         DeviceAnswer::Begins if is_outward(command.code) => {
             absorb(command, 0);
-            program.absorbed(command, 0, sent)
+            program.data(command)
         }
         DeviceAnswer::Begins => {
             command.progress = Progress::Working;
-            true
+            Taken::quietly()
         }
         DeviceAnswer::Absorbed(count) => {
             absorb(command, *count);
-            program.absorbed(command, *count, sent)
+            program.data(command)
         }
         DeviceAnswer::Supplied(bytes) => {
             supply(command, bytes);
-            program.supplied(command, bytes.as_slice(), sent)
+            program.data(command)
         }
         DeviceAnswer::Again => {
             command.again = false;
-            program.data_again(command, sent)
+            program.data(command)
         }
         DeviceAnswer::Ended { status, more } => {
             let shown = shown_end(command.progress, *status);
             command.progress = after_end(shown);
-            program.end(shown, *more, sent)
+            program.end(shown, *more)
         }
     }
 }
@@ -279,6 +279,40 @@ fn supply(command: &mut AtHand, bytes: &Chunk)
     command.unanswered = Some(Load::Bytes(bytes.copy()));
 }
 
+/// The bytes of a read that were sent last and are not answered.
+fn unanswered(unit: &UnitState) -> &[u8]
+    ensures value { result.now ≡ words.unanswered_bytes unit.now.at_hand }
+    ensures bound { length result.now ≤ 256 }
+{
+    let Some(command) = &unit.at_hand else {
+        return &[];
+    };
+    match &command.unanswered {
+        Some(Load::Bytes(bytes)) => bytes.as_slice(),
+        Some(Load::Absorbed(_)) | None => &[],
+    }
+}
+
+/// What came of a report, the bytes of its Data lent.
+pub fn lend<'a>(unit: &'a UnitState, came: &Taken<KeptUp>) -> Taken<LentUp<'a>>
+    requires { words.AreAtHand unit.now.at_hand came.now }
+    ensures { map_taken lent_up result ≡ words.reported unit.now.at_hand came.now }
+{
+    let Some(sent) = &came.sent else {
+        return Taken {
+            taken: came.taken,
+            sent: None,
+        };
+    };
+    Taken {
+        taken: came.taken,
+        sent: Some(OnPath {
+            path: sent.path,
+            signal: sent.signal.lend(unanswered(unit)),
+        }),
+    }
+}
+
 /// The program that is connected, and its last command.
 #[derive(Clone, Copy)]
 struct Program {
@@ -289,71 +323,35 @@ struct Program {
 }
 
 impl Program {
-    /// The Data of the last chunk of a write: so many bytes were absorbed.
-    fn absorbed(&self, command: &AtHand, count: u16, sent: &mut SentUp) -> bool
-        ensures { words.taken_so result sent.new ≡ record {
-          taken = true;
-          sent = Some (record {
-            path = self.now.path;
-            signal = up.Data self.now.number self.now.connection self.now.command command.now.sequence (load.Absorbed count);
-          });
-        } }
-    {
-        sending(
-            self.path,
-            KeptUp::Absorbed {
-                count,
-                number: self.number,
-                connection: self.connection,
-                command: self.command,
-                sequence: command.sequence,
-            },
-            sent,
-        )
-    }
-
-    /// The Data of the last chunk of a read.
-    fn supplied(&self, command: &AtHand, bytes: &[u8], sent: &mut SentUp) -> bool
-        requires { length bytes.now ≤ 256 }
-        ensures { words.taken_so result sent.new ≡ record {
-          taken = true;
-          sent = Some (record {
-            path = self.now.path;
-            signal = up.Data self.now.number self.now.connection self.now.command command.now.sequence (load.Bytes bytes.now);
-          });
-        } }
-    {
-        sent.put_bytes(
-            self.path,
-            self.number,
-            self.connection,
-            self.command,
-            command.sequence,
-            bytes,
-        );
-        true
-    }
-
-    /// The Data that was not answered, on the connection at hand.
-    fn data_again(&self, command: &AtHand, sent: &mut SentUp) -> bool
-        ensures { IfSome command.now.unanswered (λ load. words.taken_so result sent.new ≡ record {
+    /// The Data of the last chunk, which is not answered.
+    fn data(&self, command: &AtHand) -> Reported
+        ensures sent { IfSome command.now.unanswered (λ load. words.reported (Some command.now) result ≡ record {
           taken = true;
           sent = Some (record {
             path = self.now.path;
             signal = up.Data self.now.number self.now.connection self.now.command command.now.sequence load;
           });
         }) }
+        ensures bytes { words.AreAtHand (Some command.now) result }
     {
-        match &command.unanswered {
-            Some(Load::Absorbed(count)) => self.absorbed(command, *count, sent),
-            Some(Load::Bytes(bytes)) => self.supplied(command, bytes.as_slice(), sent),
-            None => false,
-        }
+        let Some(load) = &command.unanswered else {
+            return Taken::ignored();
+        };
+        Taken::sending(
+            self.path,
+            Up::Data {
+                number: self.number,
+                connection: self.connection,
+                command: self.command,
+                sequence: command.sequence,
+                load: kept(load),
+            },
+        )
     }
 
     /// The End of the command.
-    fn end(&self, status: DeviceStatus, more: bool, sent: &mut SentUp) -> bool
-        ensures { words.taken_so result sent.new ≡ record {
+    fn end(&self, status: DeviceStatus, more: bool) -> Reported
+        ensures { result ≡ record {
           taken = true;
           sent = Some (record {
             path = self.now.path;
@@ -361,16 +359,26 @@ impl Program {
           });
         } }
     {
-        sending(
+        Taken::sending(
             self.path,
-            KeptUp::End {
-                status,
-                more,
+            Up::End {
                 number: self.number,
                 command: self.command,
+                status,
+                more,
             },
-            sent,
         )
+    }
+}
+
+/// The same load, its bytes standing where they are.
+fn kept(load: &Load) -> Load<ChunkLength>
+    ensures value { load_in result (load_bytes load.now) ≡ load.now }
+    ensures length { kept_length result ≡ length (load_bytes load.now) }
+{
+    match load {
+        Load::Absorbed(count) => Load::Absorbed(*count),
+        Load::Bytes(bytes) => Load::Bytes(bytes.length()),
     }
 }
 

@@ -5,110 +5,80 @@ ghost use Rattle.chan_model.specs.UnitTable as table;
 ghost use Rattle.chan_model.specs.Parts as table_parts;
 ghost use Rattle.chan_model.specs.declared.signal.Down.TheVariants as down;
 ghost use Rattle.chan_model.specs.declared.signal.Up.TheVariants as up;
-ghost use Rattle.signal_places.specs.Places.{down_at};
+ghost use Rattle.chan_model.specs.Signals.{lent_down, lent_up, map_taken};
 ghost use Rattle.unit.specs.UnitWords as words;
 
 use crate::commands::{answered, commanded, given, is_of_command};
-use crate::parts::{free, is_owner, keep_side, owns, sending, side_of};
+use crate::parts::{Came, free, is_owner, keep_side, owns, side_of};
 use chan_model::names::{Path, Side};
+use chan_model::signal::{Down, LentDown, Taken, Up};
 use chan_model::unit_state::{Own, Place, SideState, UnitState};
-use chan_model::signal::{KeptDown, KeptUp};
-use signal_places::sent::SentUp;
-use signal_places::signals::DownPlace;
 
 /// A signal of a side that came by a path.
-pub fn takes(
-    unit: &mut UnitState,
-    side: Side,
-    path: Path,
-    signal: &DownPlace,
-    may: bool,
-    sent: &mut SentUp,
-) -> bool
-    requires { sent.old ≡ None }
-    ensures state { unit.new ≡ table.unit_after unit.old (table.unit_takes unit.old side path (down_at signal.now) may) }
-    ensures came { words.taken_so result sent.new ≡ table.came_of (table.unit_takes unit.old side path (down_at signal.now) may) }
+pub fn takes(unit: &mut UnitState, side: Side, path: Path, signal: &LentDown<'_>, may: bool) -> Came
+    ensures state { unit.new ≡ table.unit_after unit.old (table.unit_takes unit.old side path (lent_down signal.now) may) }
+    ensures came { map_taken lent_up result ≡ table.came_of (table.unit_takes unit.old side path (lent_down signal.now) may) }
 {
-    if let KeptDown::Reset { number, restarts } = signal.kept {
-        reset(unit, side, path, number, restarts, sent)
+    if let Down::Reset { number, restarts } = *signal {
+        reset(unit, side, path, number, restarts)
     } else if side_of(unit, side).fresh {
-        telling(unit, path, sent)
+        telling(unit, path)
     } else {
-        works(unit, side, path, signal, may, sent)
+        works(unit, side, path, signal, may)
     }
 }
 
 /// A signal of a side that is not fresh, but Reset.
-fn works(
-    unit: &mut UnitState,
-    side: Side,
-    path: Path,
-    signal: &DownPlace,
-    may: bool,
-    sent: &mut SentUp,
-) -> bool
-    requires { sent.old ≡ None }
-    ensures state { unit.new ≡ table.unit_after unit.old (table.unit_works unit.old side path (down_at signal.now) may) }
-    ensures came { words.taken_so result sent.new ≡ table.came_of (table.unit_works unit.old side path (down_at signal.now) may) }
+fn works(unit: &mut UnitState, side: Side, path: Path, signal: &LentDown<'_>, may: bool) -> Came
+    ensures state { unit.new ≡ table.unit_after unit.old (table.unit_works unit.old side path (lent_down signal.now) may) }
+    ensures came { map_taken lent_up result ≡ table.came_of (table.unit_works unit.old side path (lent_down signal.now) may) }
 {
-    match signal.kept {
-        KeptDown::Select { number } => offered(unit, side, path, number, may, sent),
-        KeptDown::Command {
+    match *signal {
+        Down::Select { number } => offered(unit, side, path, number, may),
+        Down::Command {
             code,
             room,
             number,
             command,
         } => commanded(unit, side, number, command, code, room),
-        KeptDown::Grant { number, connection } => {
-            granted(unit, side, path, number, connection, sent)
-        }
-        KeptDown::Refuse { number, connection } => refused(unit, side, number, connection),
-        KeptDown::Took { room, sequence, .. } if is_of_command(unit, side, signal) => {
+        Down::Grant { number, connection } => granted(unit, side, path, number, connection),
+        Down::Refuse { number, connection } => refused(unit, side, number, connection),
+        Down::Took { room, sequence, .. } if is_of_command(unit, side, signal) => {
             answered(unit, sequence, room)
         }
-        KeptDown::Give { sequence, .. } if is_of_command(unit, side, signal) => {
+        Down::Give { sequence, .. } if is_of_command(unit, side, signal) => {
             given(unit, sequence, signal.bytes())
         }
-        KeptDown::Halt { number } => halting(unit, side, number),
-        KeptDown::Release { number } => releasing(unit, side, path, number, sent),
-        KeptDown::Took { .. } | KeptDown::Give { .. } | KeptDown::Reset { .. } => false,
-        KeptDown::Got { attention } => forgetting(unit, side, attention),
+        Down::Halt { number } => halting(unit, side, number),
+        Down::Release { number } => releasing(unit, side, path, number),
+        Down::Took { .. } | Down::Give { .. } | Down::Reset { .. } => Taken::ignored(),
+        Down::Got { attention } => forgetting(unit, side, attention),
     }
 }
 
 /// In a side that is fresh: how often the device was restarted.
-fn telling(unit: &UnitState, path: Path, sent: &mut SentUp) -> bool
-    requires { sent.old ≡ None }
-    ensures { words.taken_so result sent.new ≡ table.came_of (table.telling unit.now path) }
+fn telling(unit: &UnitState, path: Path) -> Came
+    ensures { map_taken lent_up result ≡ table.came_of (table.telling unit.now path) }
 {
-    sending(
+    Taken::sending(
         path,
-        KeptUp::Notice {
+        Up::Notice {
             restarts: unit.restarts,
         },
-        sent,
     )
 }
 
 /// Select: ignored at or below the floor of its side.
-fn offered(
-    unit: &mut UnitState,
-    side: Side,
-    path: Path,
-    number: u64,
-    may: bool,
-    sent: &mut SentUp,
-) -> bool
-    requires { sent.old ≡ None }
+fn offered(unit: &mut UnitState, side: Side, path: Path, number: u64, may: bool) -> Came
     ensures state { unit.new ≡ table.unit_after unit.old (table.unit_works unit.old side path (down.Select number) may) }
-    ensures came { words.taken_so result sent.new ≡ table.came_of (table.unit_works unit.old side path (down.Select number) may) }
+    ensures came { map_taken lent_up result ≡ table.came_of (table.unit_works unit.old side path (down.Select number) may) }
 {
     let own = unit.own;
     if side_of(unit, side).floor < number {
         raise(unit, side, number);
-        selected(unit, own, side, path, number, may, sent)
+        selected(unit, own, side, path, number, may)
     } else {
-        false
+        Taken::ignored()
     }
 }
 
@@ -128,25 +98,16 @@ fn raise(unit: &mut UnitState, side: Side, number: u64)
 }
 
 /// Select above the floor: accepted where nothing holds the device and the control unit may serve it.
-fn selected(
-    unit: &mut UnitState,
-    own: Own,
-    side: Side,
-    path: Path,
-    number: u64,
-    may: bool,
-    sent: &mut SentUp,
-) -> bool
-    requires { sent.old ≡ None }
+fn selected(unit: &mut UnitState, own: Own, side: Side, path: Path, number: u64, may: bool) -> Came
     ensures state { unit.new ≡ table.unit_after unit.old (table.selected unit.old own side path number may) }
-    ensures came { words.taken_so result sent.new ≡ table.came_of (table.selected unit.old own side path number may) }
+    ensures came { map_taken lent_up result ≡ table.came_of (table.selected unit.old own side path number may) }
 {
     match own {
         Own::Idle if may => {
             hold(unit, side, path, number);
-            sending(path, KeptUp::Accept { number }, sent)
+            Taken::sending(path, Up::Accept { number })
         }
-        _ => sending(path, KeptUp::Busy { number }, sent),
+        _ => Taken::sending(path, Up::Busy { number }),
     }
 }
 
@@ -166,17 +127,9 @@ fn hold(unit: &mut UnitState, side: Side, path: Path, number: u64)
 }
 
 /// Grant: of the connection asked for; an older one is answered by Leave.
-fn granted(
-    unit: &mut UnitState,
-    side: Side,
-    path: Path,
-    number: u64,
-    connection: u64,
-    sent: &mut SentUp,
-) -> bool
-    requires { sent.old ≡ None }
+fn granted(unit: &mut UnitState, side: Side, path: Path, number: u64, connection: u64) -> Came
     ensures state { unit.new ≡ table.unit_after unit.old (table.granted unit.old unit.old.own side path number connection) }
-    ensures came { words.taken_so result sent.new ≡ table.came_of (table.granted unit.old unit.old.own side path number connection) }
+    ensures came { map_taken lent_up result ≡ table.came_of (table.granted unit.old unit.old.own side path number connection) }
 {
     let own = unit.own;
     match own {
@@ -185,9 +138,9 @@ fn granted(
             number: held,
             place,
         } if owner.same(side) && number == held => {
-            granted_at(unit, owner, held, place, path, connection, sent)
+            granted_at(unit, owner, held, place, path, connection)
         }
-        _ => false,
+        _ => Taken::ignored(),
     }
 }
 
@@ -199,11 +152,9 @@ fn granted_at(
     place: Place,
     path: Path,
     connection: u64,
-    sent: &mut SentUp,
-) -> bool
-    requires { sent.old ≡ None }
+) -> Came
     ensures state { unit.new ≡ table.unit_after unit.old (table.granted_at unit.old side number place path connection) }
-    ensures came { words.taken_so result sent.new ≡ table.came_of (table.granted_at unit.old side number place path connection) }
+    ensures came { map_taken lent_up result ≡ table.came_of (table.granted_at unit.old side number place path connection) }
 {
     match place {
         Place::Ask {
@@ -219,37 +170,36 @@ fn granted_at(
                         connection: last,
                     },
                 };
-                true
+                Taken::quietly()
             } else {
-                granted_late(number, path, connection, last, sent)
+                granted_late(number, path, connection, last)
             }
         }
         Place::On {
             connection: last,
             ..
         }
-        | Place::Away { connection: last } => granted_late(number, path, connection, last, sent),
+        | Place::Away { connection: last } => granted_late(number, path, connection, last),
     }
 }
 
 /// Grant of an older connection than the last.
-fn granted_late(number: u64, path: Path, connection: u64, last: u64, sent: &mut SentUp) -> bool
-    requires { sent.old ≡ None }
-    ensures { words.taken_so result sent.new ≡ (if nat_lt connection last
+fn granted_late(number: u64, path: Path, connection: u64, last: u64) -> Came
+    ensures { map_taken lent_up result ≡ (if nat_lt connection last
         then record { taken = true; sent = Some (record { path = path; signal = up.Leave number connection }) }
         else record { taken = false; sent = None }) }
 {
     if connection < last {
-        sending(path, KeptUp::Leave { number, connection }, sent)
+        Taken::sending(path, Up::Leave { number, connection })
     } else {
-        false
+        Taken::ignored()
     }
 }
 
 /// Refuse: of the connection asked for.
-fn refused(unit: &mut UnitState, side: Side, number: u64, connection: u64) -> bool
+fn refused(unit: &mut UnitState, side: Side, number: u64, connection: u64) -> Came
     ensures state { unit.new ≡ table.unit_after unit.old (table.grant_refused unit.old unit.old.own side number connection) }
-    ensures came { words.taken_so result None ≡ table.came_of (table.grant_refused unit.old unit.old.own side number connection) }
+    ensures came { map_taken lent_up result ≡ table.came_of (table.grant_refused unit.old unit.old.own side number connection) }
 {
     match unit.own {
         Own::Owned {
@@ -265,59 +215,50 @@ fn refused(unit: &mut UnitState, side: Side, number: u64, connection: u64) -> bo
                 number: held,
                 place: Place::Away { connection: last },
             };
-            true
+            Taken::quietly()
         }
-        _ => false,
+        _ => Taken::ignored(),
     }
 }
 
 /// Halt: once for a program.
-fn halting(unit: &mut UnitState, side: Side, number: u64) -> bool
+fn halting(unit: &mut UnitState, side: Side, number: u64) -> Came
     ensures state { unit.new ≡ table.unit_after unit.old (table_parts.unit_halting unit.old side number) }
-    ensures came { words.taken_so result None ≡ table.came_of (table_parts.unit_halting unit.old side number) }
+    ensures came { map_taken lent_up result ≡ table.came_of (table_parts.unit_halting unit.old side number) }
 {
     if is_owner(unit, side, number) && !unit.halted {
         unit.halted = true;
-        true
+        Taken::quietly()
     } else {
-        false
+        Taken::ignored()
     }
 }
 
 /// Release: by the program that holds the device.
-fn releasing(unit: &mut UnitState, side: Side, path: Path, number: u64, sent: &mut SentUp) -> bool
-    requires { sent.old ≡ None }
+fn releasing(unit: &mut UnitState, side: Side, path: Path, number: u64) -> Came
     ensures state { unit.new ≡ table.unit_after unit.old (table_parts.releasing unit.old side path number) }
-    ensures came { words.taken_so result sent.new ≡ table.came_of (table_parts.releasing unit.old side path number) }
+    ensures came { map_taken lent_up result ≡ table.came_of (table_parts.releasing unit.old side path number) }
 {
     if is_owner(unit, side, number) {
         free(unit);
-        sending(path, KeptUp::Released { number }, sent)
+        Taken::sending(path, Up::Released { number })
     } else {
-        false
+        Taken::ignored()
     }
 }
 
 /// Reset: taken with the device's own restart count, where its side is fresh or its number above the floor.
-fn reset(
-    unit: &mut UnitState,
-    side: Side,
-    path: Path,
-    number: u64,
-    restarts: u64,
-    sent: &mut SentUp,
-) -> bool
-    requires { sent.old ≡ None }
+fn reset(unit: &mut UnitState, side: Side, path: Path, number: u64, restarts: u64) -> Came
     ensures state { unit.new ≡ table.unit_after unit.old (table.unit_takes unit.old side path (down.Reset number restarts) false) }
-    ensures came { words.taken_so result sent.new ≡ table.came_of (table.unit_takes unit.old side path (down.Reset number restarts) false) }
+    ensures came { map_taken lent_up result ≡ table.came_of (table.unit_takes unit.old side path (down.Reset number restarts) false) }
 {
     if resets(unit, side, number, restarts) {
         reset_side(unit, side, number);
-        sending(path, KeptUp::Cleared { number }, sent)
+        Taken::sending(path, Up::Cleared { number })
     } else if side_of(unit, side).fresh {
-        telling(unit, path, sent)
+        telling(unit, path)
     } else {
-        false
+        Taken::ignored()
     }
 }
 
@@ -347,24 +288,24 @@ fn reset_side(unit: &mut UnitState, side: Side, number: u64)
 }
 
 /// Got: of the attention that is not answered.
-fn forgetting(unit: &mut UnitState, side: Side, attention: u64) -> bool
+fn forgetting(unit: &mut UnitState, side: Side, attention: u64) -> Came
     ensures state { unit.new ≡ table.unit_after unit.old (table.forgetting unit.old unit.old.attention side attention) }
-    ensures came { words.taken_so result None ≡ table.came_of (table.forgetting unit.old unit.old.attention side attention) }
+    ensures came { map_taken lent_up result ≡ table.came_of (table.forgetting unit.old unit.old.attention side attention) }
 {
     match unit.attention {
         Some(last) if last.side.same(side) && attention == last.number => {
             unit.attention = None;
-            true
+            Taken::quietly()
         }
-        _ => false,
+        _ => Taken::ignored(),
     }
 }
 
 /// Whether a signal is answered.
-pub fn answers(unit: &UnitState, side: Side, signal: &DownPlace) -> bool
-    ensures { result ≡ words.is_unit_answered unit.now side (down_at signal.now) }
+pub fn answers(unit: &UnitState, side: Side, signal: &LentDown<'_>) -> bool
+    ensures { result ≡ words.is_unit_answered unit.now side (lent_down signal.now) }
 {
-    if let KeptDown::Reset { number, restarts } = signal.kept {
+    if let Down::Reset { number, restarts } = *signal {
         resets(unit, side, number, restarts) || side_of(unit, side).fresh
     } else {
         side_of(unit, side).fresh || is_work_answered(unit, side, signal)
@@ -372,13 +313,13 @@ pub fn answers(unit: &UnitState, side: Side, signal: &DownPlace) -> bool
 }
 
 /// Whether a signal of a side that is not fresh is answered.
-fn is_work_answered(unit: &UnitState, side: Side, signal: &DownPlace) -> bool
-    ensures { result ≡ is_some (table.came_of (table.unit_works unit.now side 0 (down_at signal.now) false)).sent }
+fn is_work_answered(unit: &UnitState, side: Side, signal: &LentDown<'_>) -> bool
+    ensures { result ≡ is_some (table.came_of (table.unit_works unit.now side 0 (lent_down signal.now) false)).sent }
 {
-    match signal.kept {
-        KeptDown::Select { number } => side_of(unit, side).floor < number,
-        KeptDown::Grant { number, connection } => is_granted_late(unit, side, number, connection),
-        KeptDown::Release { number } => is_owner(unit, side, number),
+    match *signal {
+        Down::Select { number } => side_of(unit, side).floor < number,
+        Down::Grant { number, connection } => is_granted_late(unit, side, number, connection),
+        Down::Release { number } => is_owner(unit, side, number),
         _ => false,
     }
 }

@@ -4,11 +4,12 @@ ghost use Rattle.std.specs.Prelude.{◌≡◌, ◌<◌, ◌≤◌, ◌+◌, ◌�
 ghost use Rattle.agree.specs.Lines as spec;
 ghost use Rattle.agree.specs.State as state_spec;
 ghost use Rattle.agreement_laws.specs.Links.{with_accepted};
+ghost use Rattle.chan_model.specs.Signals.{lent_up, map_sent};
 ghost use Rattle.chan_model.specs.declared.fault.Fault.TheVariants as fault_spec;
 
 use chan_model::fault::Fault;
 use chan_model::names::Path;
-use chan_model::signal::{Down, OnPath, Up};
+use chan_model::signal::{Down, LentUp, OnPath, Up};
 
 /// Whether a path is up.
 pub fn is_up(up: &[bool; 8], path: Path) -> bool
@@ -95,14 +96,14 @@ pub fn tell(
     ups: &mut Vec<OnPath<Up>>,
     accepted: &mut Vec<u64>,
     up: &[bool; 8],
-    sent: Option<OnPath<Up>>,
+    sent: &Option<OnPath<LentUp<'_>>>,
 )
     requires room { vec_len ups.old < vec_capacity ups.old }
     requires room_accepted { vec_len accepted.old < vec_capacity accepted.old }
-    ensures ups { ups.new.items ≡ spec.queue_with_sent up.now ups.old.items sent }
+    ensures ups { ups.new.items ≡ spec.queue_with_sent up.now ups.old.items (map_sent lent_up sent.now) }
     ensures ups_len { vec_len ups.new ≤ vec_len ups.old + 1 }
     ensures ups_capacity { vec_capacity ups.old ≤ vec_capacity ups.new }
-    ensures accepted { accepted.new.items ≡ with_accepted accepted.old.items sent }
+    ensures accepted { accepted.new.items ≡ with_accepted accepted.old.items (map_sent lent_up sent.now) }
     ensures accepted_len { vec_len accepted.new ≤ vec_len accepted.old + 1 }
     ensures accepted_capacity { vec_capacity accepted.old ≤ vec_capacity accepted.new }
 {
@@ -111,7 +112,7 @@ pub fn tell(
             add(accepted, number);
         }
         if is_up(up, signal.path) {
-            add(ups, signal);
+            add(ups, signal.own());
         }
     }
 }

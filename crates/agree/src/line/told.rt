@@ -9,7 +9,7 @@ ghost use Rattle.unit.specs.UnitWords as words;
 
 use super::SideLine;
 use super::signals::{make_room, tell};
-use crate::reply::{WorldReply, copy_up};
+use crate::reply::{WorldReply, own_up};
 use chan_model::fault::Fault;
 use chan_model::names::{Path, Side};
 use chan_model::report::Report;
@@ -34,12 +34,12 @@ impl SideLine {
         }
         make_room(&mut self.ups, &mut self.accepted)?;
         let signal = self.downs[place].copy();
-        let came = unit.take(side, signal.path, &signal.signal, may);
+        let came = unit.take(side, signal.path, &signal.signal.lend(), may);
         if !keep {
             self.downs.remove(place);
         }
-        let answer = copy_up(&came.sent);
-        tell(&mut self.ups, &mut self.accepted, &self.up, came.sent);
+        let answer = own_up(&came.sent);
+        tell(&mut self.ups, &mut self.accepted, &self.up, &came.sent);
         Ok(WorldReply::Down {
             side,
             signal,
@@ -60,7 +60,7 @@ impl SideLine {
             return Err(Fault::NotNow);
         }
         let reply = WorldReply::of_unit(side, &sent);
-        tell(&mut self.ups, &mut self.accepted, &self.up, sent);
+        tell(&mut self.ups, &mut self.accepted, &self.up, &sent);
         Ok(reply)
     }
 
@@ -77,7 +77,7 @@ impl SideLine {
             return Err(Fault::NotNow);
         }
         let reply = WorldReply::of_unit(side, &sent);
-        tell(&mut self.ups, &mut self.accepted, &self.up, sent);
+        tell(&mut self.ups, &mut self.accepted, &self.up, &sent);
         Ok(reply)
     }
 
@@ -99,7 +99,7 @@ impl SideLine {
             return Err(Fault::NotNow);
         }
         let reply = WorldReply::of_unit(side, &sent);
-        tell(&mut self.ups, &mut self.accepted, &self.up, sent);
+        tell(&mut self.ups, &mut self.accepted, &self.up, &sent);
         Ok(reply)
     }
 
@@ -115,7 +115,7 @@ impl SideLine {
             return Err(Fault::NotNow);
         }
         let reply = WorldReply::of_unit(side, &sent);
-        tell(&mut self.ups, &mut self.accepted, &self.up, sent);
+        tell(&mut self.ups, &mut self.accepted, &self.up, &sent);
         Ok(reply)
     }
 
@@ -136,8 +136,9 @@ impl SideLine {
         if !came.taken {
             return Err(Fault::NotNow);
         }
+        let came = unit.lend(&came);
         let reply = WorldReply::of_unit(side, &came.sent);
-        tell(&mut self.ups, &mut self.accepted, &self.up, came.sent);
+        tell(&mut self.ups, &mut self.accepted, &self.up, &came.sent);
         Ok(reply)
     }
 }

@@ -2,16 +2,16 @@
 
 use chan_model::hold_state::HoldPhase;
 use chan_model::names::Path;
-use chan_model::signal::{Down, OnPath, Up};
+use chan_model::signal::{Down, LentDown, LentUp, OnPath, Up};
 use hold::Hold;
 
 /// Whether the first program is offered, and its Select sent.
-fn is_offered(offered: OnPath<Down>) -> bool {
+fn is_offered(offered: &OnPath<LentDown<'_>>) -> bool {
     matches!(offered.signal, Down::Select { number: 1 })
 }
 
 /// Whether the hold takes this signal that came by this path.
-fn takes(hold: &mut Hold, path: Path, signal: &Up) -> bool {
+fn takes(hold: &mut Hold, path: Path, signal: &LentUp<'_>) -> bool {
     hold.take(path, signal, true).taken
 }
 
@@ -36,20 +36,29 @@ fn comes_back(hold: &mut Hold, path: Path) -> bool {
         number: 1,
         connection: 1,
     };
-    let grant = hold.take(path, &back, true).sent.map(|sent| sent.signal);
+    let grant = hold.take(path, &back, true).sent;
     matches!(
         grant,
-        Some(Down::Grant {
-            number: 1,
-            connection: 1
+        Some(OnPath {
+            signal: Down::Grant {
+                number: 1,
+                connection: 1
+            },
+            ..
         })
     )
 }
 
 /// Whether the program is let go by a Release.
 fn lets_go(hold: &mut Hold) -> bool {
-    let release = hold.let_go().map(|sent| sent.signal);
-    matches!(release, Some(Down::Release { number: 1 }))
+    let release = hold.let_go();
+    matches!(
+        release,
+        Some(OnPath {
+            signal: Down::Release { number: 1 },
+            ..
+        })
+    )
 }
 
 #[test]
@@ -57,7 +66,7 @@ fn a_program_leaves_comes_back_and_ends(rt: HostRuntime) {
     let mut hold = Hold::new();
     let first = Path::new(2).unwrap();
     let second = Path::new(5).unwrap();
-    let offered = is_offered(hold.offer(1, first, false));
+    let offered = is_offered(&hold.offer(1, first, false));
     let accepted = is_accepted(&mut hold, first);
     let connected = hold.is_on(1) && hold.is_connected(first, 1, 0);
     let left = leaves(&mut hold, first);
@@ -74,12 +83,15 @@ fn a_program_leaves_comes_back_and_ends(rt: HostRuntime) {
 
 /// Whether a Reset is sent on this path, with what the hold knows of restarts.
 fn sends_reset(hold: &mut Hold, path: Path) -> bool {
-    let reset = hold.send_reset(path).map(|sent| sent.signal);
+    let reset = hold.send_reset(path);
     matches!(
         reset,
-        Some(Down::Reset {
-            number: 7,
-            restarts: 3
+        Some(OnPath {
+            signal: Down::Reset {
+                number: 7,
+                restarts: 3
+            },
+            ..
         })
     )
 }

@@ -7,7 +7,7 @@ use crate::tests::unit_answers::{
 use chan_model::chunk::Chunk;
 use chan_model::names::{Path, Side};
 use chan_model::report::{DeviceAnswer, Report, ReportPath};
-use chan_model::signal::{Down, OnPath, Taken, Up};
+use chan_model::signal::{Down, LentUp, OnPath, Taken, Up};
 use chan_model::unit_state::{Own, Place};
 use scsw_irb::status::DeviceStatus;
 use unit::Unit;
@@ -81,7 +81,7 @@ fn ended() -> DeviceAnswer {
 
 /// Whether the unit takes a signal of a side that came by this path.
 fn takes(unit: &mut Unit, side: Side, path: Path, signal: &Down) -> bool {
-    unit.take(side, path, signal, true).taken
+    unit.take(side, path, &signal.lend(), true).taken
 }
 
 /// The unit takes a report, while its chunks have small numbers.
@@ -90,18 +90,23 @@ fn reported(unit: &mut Unit, report: &Report) -> Taken<Up> {
         Some(command) => command.sequence,
         None => 0,
     };
-    if last < 8 {
-        unit.report(report)
-    } else {
-        Taken {
-            taken: false,
-            sent: None,
-        }
+    if last >= 8 {
+        return Taken::ignored();
+    }
+    let kept = unit.report(report);
+    let came = unit.lend(&kept);
+    let sent = match &came.sent {
+        Some(sent) => Some(sent.own()),
+        None => None,
+    };
+    Taken {
+        taken: came.taken,
+        sent,
     }
 }
 
 /// What the unit sends to ask for a path, while its connections have small numbers.
-fn asked_for(unit: &mut Unit, path: Path) -> Option<OnPath<Up>> {
+fn asked_for(unit: &mut Unit, path: Path) -> Option<OnPath<LentUp<'static>>> {
     let Own::Owned { place, .. } = unit.own() else {
         return None;
     };
@@ -112,7 +117,7 @@ fn asked_for(unit: &mut Unit, path: Path) -> Option<OnPath<Up>> {
 }
 
 /// What the unit sends to ask for attention, while its attentions have small numbers.
-fn attended(unit: &mut Unit, side: Side, path: Path) -> Option<OnPath<Up>> {
+fn attended(unit: &mut Unit, side: Side, path: Path) -> Option<OnPath<LentUp<'static>>> {
     if unit.state().attentions < 8 {
         unit.attention(side, path)
     } else {
@@ -129,10 +134,13 @@ fn restart(unit: &mut Unit) {
 
 /// Whether Select is answered by Accept.
 fn is_accepted(unit: &mut Unit, path: Path) -> bool {
-    let accept = unit.take(Side::First, path, &select(), true).sent;
+    let accept = unit.take(Side::First, path, &select().lend(), true).sent;
     matches!(
-        accept.map(|sent| sent.signal),
-        Some(Up::Accept { number: 1 })
+        accept,
+        Some(OnPath {
+            signal: Up::Accept { number: 1 },
+            ..
+        })
     )
 }
 
@@ -142,8 +150,11 @@ fn is_released(unit: &mut Unit, path: Path) -> bool {
         .take(Side::First, path, &Down::Release { number: 1 }, true)
         .sent;
     matches!(
-        release.map(|sent| sent.signal),
-        Some(Up::Released { number: 1 })
+        release,
+        Some(OnPath {
+            signal: Up::Released { number: 1 },
+            ..
+        })
     )
 }
 
@@ -152,7 +163,7 @@ fn a_write_is_carried_out(rt: HostRuntime) {
     let side = Side::First;
     let path = Path::new(6).unwrap();
     let mut unit = Unit::new();
-    let answered = unit.answers(side, &select());
+    let answered = unit.answers(side, &select().lend());
     let accepted = is_accepted(&mut unit, path);
     let commanded = takes(&mut unit, side, path, &write());
     let code = code_to_begin(&unit);
@@ -298,24 +309,30 @@ fn what_was_not_answered_is_sent_again(rt: HostRuntime) {
 
 /// Whether the unit leaves the path of the first connection.
 fn leaves(unit: &mut Unit) -> bool {
-    let leave = unit.leave().map(|sent| sent.signal);
+    let leave = unit.leave();
     matches!(
         leave,
-        Some(Up::Leave {
-            number: 1,
-            connection: 0
+        Some(OnPath {
+            signal: Up::Leave {
+                number: 1,
+                connection: 0
+            },
+            ..
         })
     )
 }
 
 /// Whether the unit asks for this path for the second connection.
 fn asks_back(unit: &mut Unit, path: Path) -> bool {
-    let back = asked_for(unit, path).map(|sent| sent.signal);
+    let back = asked_for(unit, path);
     matches!(
         back,
-        Some(Up::Back {
-            number: 1,
-            connection: 1
+        Some(OnPath {
+            signal: Up::Back {
+                number: 1,
+                connection: 1
+            },
+            ..
         })
     )
 }
@@ -337,16 +354,20 @@ fn a_path_is_left_and_asked_for(rt: HostRuntime) {
 
 /// Whether the unit asks the first side for its first attention.
 fn asks_for_attention(unit: &mut Unit, path: Path) -> bool {
-    let attention = attended(unit, Side::First, path).map(|sent| sent.signal);
-    matches!(attention, Some(Up::Attn { attention: 1, .. }))
+    let attention = attended(unit, Side::First, path);
+    matches!(
+        attention,
+        Some(OnPath {
+            signal: Up::Attn { attention: 1, .. },
+            ..
+        })
+    )
 }
 
 /// Whether Select of a program of this number is answered by a Notice.
 fn is_told(unit: &mut Unit, path: Path, number: u64) -> bool {
-    is_notice(
-        unit.take(Side::First, path, &Down::Select { number }, true)
-            .sent,
-    )
+    let told = unit.take(Side::First, path, &Down::Select { number }, true);
+    is_notice(&told.sent)
 }
 
 /// Whether Reset is answered by Cleared.
@@ -357,8 +378,11 @@ fn is_cleared(unit: &mut Unit, path: Path) -> bool {
     };
     let cleared = unit.take(Side::First, path, &reset, true).sent;
     matches!(
-        cleared.map(|sent| sent.signal),
-        Some(Up::Cleared { number: 5 })
+        cleared,
+        Some(OnPath {
+            signal: Up::Cleared { number: 5 },
+            ..
+        })
     )
 }
 
@@ -368,7 +392,7 @@ fn a_restart_is_told_to_both_sides(rt: HostRuntime) {
     let mut unit = Unit::new();
     let asked = asks_for_attention(&mut unit, path);
     restart(&mut unit);
-    let noticed = is_notice(unit.notice(Side::Second, path));
+    let noticed = is_notice(&unit.notice(Side::Second, path));
     let told = is_told(&mut unit, path, 4);
     let cleared = is_cleared(&mut unit, path);
     let first = unit.state().first;
@@ -379,10 +403,14 @@ fn a_restart_is_told_to_both_sides(rt: HostRuntime) {
 }
 
 /// The status of the attention that was sent.
-fn attention_status(sent: Option<OnPath<Up>>) -> Option<DeviceStatus> {
-    let OnPath { signal, .. } = sent?;
-    match signal {
-        Up::Attn { status, .. } => Some(status),
+fn attention_status(sent: &Option<OnPath<LentUp<'_>>>) -> Option<DeviceStatus> {
+    match sent {
+        Some(
+            OnPath {
+                signal: Up::Attn { status, .. },
+                ..
+            },
+        ) => Some(*status),
         _ => None,
     }
 }
@@ -394,8 +422,8 @@ fn an_owed_control_unit_end_is_said_once(rt: HostRuntime) {
     let idle = unit.is_idle();
     unit.owe(true);
     unit.owe(false);
-    let first = attention_status(attended(&mut unit, Side::First, path));
-    let second = attention_status(attended(&mut unit, Side::First, path));
+    let first = attention_status(&attended(&mut unit, Side::First, path));
+    let second = attention_status(&attended(&mut unit, Side::First, path));
     drop(unit);
     assert!(rt;
         idle && first == Some(DeviceStatus::CONTROL_UNIT_END)
