@@ -10,4 +10,5 @@ pub mod names;
 pub mod paths;
 pub mod report;
 pub mod signal;
+pub mod slots;
 pub mod unit_state;

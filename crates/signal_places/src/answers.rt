@@ -6,13 +6,12 @@ ghost use Rattle.signal_places.specs.Answers.{answer_at, reply_at};
 ghost use Rattle.signal_places.specs.Plain.{plain_outcome};
 ghost use Rattle.chan_events.specs.declared.reply.Reply.TheVariants as reply_spec;
 
-use crate::bytes::put_bytes;
 use crate::plain::PlainReply;
 use crate::sent::{SentDown, SentUp};
-use crate::slots::{DownSlot, UpSlot};
 use chan_events::reply::Reply;
 use chan_model::chunk::{CHUNK_BYTES, Chunk, ChunkLength};
 use chan_model::fault::Fault;
+use chan_model::slots::{DownSlot, UpSlot, put_bytes};
 
 /// Which answer stands in a place.
 #[derive(Clone, Copy)]

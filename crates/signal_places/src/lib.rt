@@ -3,7 +3,5 @@
 #![tactic(auto)]
 
 pub mod answers;
-pub mod bytes;
 pub mod plain;
 pub mod sent;
-pub mod slots;

@@ -4,9 +4,9 @@ ghost use Rattle.std.specs.Prelude.{◌≡◌, None, Some};
 ghost use Rattle.chan_model.specs.Signals.{lent_down, lent_up, map_sent};
 ghost use Rattle.signal_places.specs.Places.{sent_path};
 
-use crate::slots::{DownSlot, UpSlot};
 use chan_model::names::Path;
 use chan_model::signal::{Down, LentDown, LentUp, OnPath, Up};
+use chan_model::slots::{DownSlot, UpSlot};
 use std::marker::Model;
 
 /// A signal down that is sent on a path, or none.

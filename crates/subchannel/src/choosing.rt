@@ -1,6 +1,7 @@
 //! What the subsystem does of itself for a subchannel (own).
 
-ghost use Rattle.std.specs.Prelude.{◌≡◌, ◌<◌, ◌+◌, ◌^◌, if◌then◌else◌, IfSome, length, true};
+ghost use Rattle.std.specs.Prelude.{◌≡◌, ◌<◌, ◌+◌, ◌^◌, if◌then◌else◌, IfSome, Some, length, true};
+ghost use Rattle.chan_model.specs.Signals.{lent_down, map_sent};
 ghost use Rattle.chan_model.specs.HoldTable.{came_of, offering, sending_reset};
 ghost use Rattle.allegiance.specs.PathUse as set_spec;
 ghost use Rattle.subchannel_model.specs.Choosing as spec;
@@ -12,11 +13,11 @@ use allegiance::path_use::{PathUse, is_any};
 use chan_model::hold_state::{HoldPhase, HoldState};
 use chan_model::names::Path;
 use chan_model::paths::PathSet;
+use chan_model::signal::{LentDown, OnPath};
 use finding::engines::Counted;
 use functions::blocks::available_paths;
 use hold::Hold;
 use scsw_irb::scsw::Scsw;
-use signal_places::sent::SentDown;
 use subchannel_model::state::{
     Candidate, Chosen, PmcwState, Program, ProgramPosition, Subchannel, SubchannelState,
 };
@@ -251,15 +252,15 @@ pub fn mark_lost_paths(sub: &mut Subchannel, choice: &Option<Path>)
 }
 
 /// The Reset that is due is sent on a path; nothing is sent where there is none.
-pub fn send_reset(state: &mut SubchannelState, path: Path, sent: &mut SentDown)
+pub fn send_reset(state: &mut SubchannelState, path: Path) -> Option<OnPath<LentDown<'static>>>
     ensures state { state.new ≡ spec.reset_sent state.old path }
-    ensures sent { sent.new ≡ (came_of (sending_reset state.old.hold state.old.hold.phase path)).sent }
+    ensures sent { map_sent lent_down result ≡ (came_of (sending_reset state.old.hold state.old.hold.phase path)).sent }
 {
     let mut hold = Hold::of(state.hold);
     let reset = hold.send_reset(path);
-    sent.put_any(&reset);
     state.hold = hold.state();
     state.last_path = Some(path);
+    reset
 }
 
 fn tell_halt(scsw: &mut Scsw)
@@ -276,17 +277,21 @@ pub fn send_halt(state: &mut SubchannelState)
 }
 
 /// A program is offered on a path under a fresh number.
-pub fn offer(state: &mut SubchannelState, program: &Program, path: Path, sent: &mut SentDown)
+pub fn offer(
+    state: &mut SubchannelState,
+    program: &Program,
+    path: Path,
+) -> OnPath<LentDown<'static>>
     requires drawn { state.old.drawn < 2 ^ 63 }
     requires free { state.old.hold.phase ≡ phase.Free }
     ensures state { state.new ≡ spec.offered state.old program.now path }
-    ensures sent { sent.new ≡ (offering state.old.hold (state.old.drawn + 1) path program.now.single_path).sent }
+    ensures sent { map_sent lent_down (Some result) ≡ (offering state.old.hold (state.old.drawn + 1) path program.now.single_path).sent }
 {
     state.drawn += 1;
     let mut hold = Hold::of(state.hold);
     let select = hold.offer(state.drawn, path, program.single_path);
-    sent.put(select.path, &select.signal);
     state.hold = hold.state();
     state.offered = program.start;
     state.last_path = Some(path);
+    select
 }

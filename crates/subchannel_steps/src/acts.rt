@@ -73,8 +73,8 @@ fn leave(sub: &mut Subchannel, unit: &mut Unit, answer: &mut AnswerPlace)
         answer.outcome = Outcome::Refused(Fault::WireFull);
         return;
     }
-    unit.leave_to(&mut answer.sent_up);
-    send_any_up(sub, &answer.sent_up);
+    let sent = unit.leave();
+    send_any_up(sub, &sent);
     answer.outcome = Outcome::Replied(PlainReply::Done);
 }
 
@@ -95,8 +95,8 @@ fn ask(sub: &mut Subchannel, unit: &mut Unit, path: Path, answer: &mut AnswerPla
         answer.outcome = Outcome::Refused(Fault::WireFull);
         return;
     }
-    unit.ask_to(path, &mut answer.sent_up);
-    send_any_up(sub, &answer.sent_up);
+    let sent = unit.ask(path);
+    send_any_up(sub, &sent);
     answer.outcome = Outcome::Replied(PlainReply::Done);
 }
 
@@ -118,8 +118,8 @@ fn attend(sub: &mut Subchannel, unit: &mut Unit, path: Path, answer: &mut Answer
         answer.outcome = Outcome::Refused(Fault::WireFull);
         return;
     }
-    unit.attention_to(side, path, &mut answer.sent_up);
-    send_any_up(sub, &answer.sent_up);
+    let sent = unit.attention(side, path);
+    send_any_up(sub, &sent);
     answer.outcome = Outcome::Replied(PlainReply::Done);
 }
 
@@ -140,8 +140,8 @@ fn notice(sub: &mut Subchannel, unit: &Unit, path: Path, answer: &mut AnswerPlac
         answer.outcome = Outcome::Refused(Fault::WireFull);
         return;
     }
-    unit.notice_to(side, path, &mut answer.sent_up);
-    send_any_up(sub, &answer.sent_up);
+    let sent = unit.notice(side, path);
+    send_any_up(sub, &sent);
     answer.outcome = Outcome::Replied(PlainReply::Done);
 }
 

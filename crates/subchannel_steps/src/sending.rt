@@ -1,16 +1,15 @@
 //! Signals that are put on the wires of a subchannel: one that is sent on a path that is down vanishes.
 
 ghost use Rattle.std.specs.Prelude.{◌≡◌, Some, false};
-ghost use Rattle.chan_model.specs.Signals.{Down};
+ghost use Rattle.chan_model.specs.Signals.{Down, Up, lent_down, lent_up, map_sent};
 ghost use Rattle.chan_model.specs.declared.signal.OnPath.{OnPath};
-ghost use Rattle.chan_model.specs.Signals.{Up};
 ghost use Rattle.machine_model.specs.ReportSteps as report_spec;
 ghost use Rattle.subchannel_steps.specs.Giving as giving_spec;
 ghost use Rattle.subchannel_model.specs.Sending as spec;
 
 use chan_model::names::Path;
 use chan_model::paths::PathSet;
-use signal_places::sent::{SentDown, SentUp};
+use chan_model::signal::{LentDown, LentUp, OnPath};
 use subchannel_model::state::Subchannel;
 use wires::Wires;
 
@@ -23,15 +22,15 @@ pub fn finds_down_full(sub: &Subchannel, path: Path) -> bool
 }
 
 /// Sends a signal down, where there is one. `available`: the paths of its subchannel that are not down.
-pub fn send_any_down(wires: &mut Wires, available: &PathSet, sent: &SentDown)
-    requires { giving_spec.TellsFull wires.old.down (spec.carried available.now sent.now) false }
-    ensures { wires.new ≡ record wires.old { down = spec.with_any_sent wires.old.down (spec.carried available.now sent.now) } }
+pub fn send_any_down(wires: &mut Wires, available: &PathSet, sent: &Option<OnPath<LentDown<'_>>>)
+    requires { giving_spec.TellsFull wires.old.down (spec.carried available.now (map_sent lent_down sent.now)) false }
+    ensures { wires.new ≡ record wires.old { down = spec.with_any_sent wires.old.down (spec.carried available.now (map_sent lent_down sent.now)) } }
 {
-    let Some((path, signal)) = sent.get() else {
+    let Some(sent) = sent else {
         return;
     };
-    if available[path.index()] {
-        wires.send_down(path, signal);
+    if available[sent.path.index()] {
+        wires.send_down(sent.path, &sent.signal);
     }
 }
 
@@ -44,14 +43,14 @@ pub fn finds_up_full(sub: &Subchannel, path: Path) -> bool
 }
 
 /// Sends a signal up, where there is one.
-pub fn send_any_up(sub: &mut Subchannel, sent: &SentUp)
-    requires { giving_spec.TellsFull sub.old.wires.up (spec.carried_by sub.old sent.now) false }
-    ensures { sub.new ≡ report_spec.with_any_up sub.old sent.now }
+pub fn send_any_up(sub: &mut Subchannel, sent: &Option<OnPath<LentUp<'_>>>)
+    requires { giving_spec.TellsFull sub.old.wires.up (spec.carried_by sub.old (map_sent lent_up sent.now)) false }
+    ensures { sub.new ≡ report_spec.with_any_up sub.old (map_sent lent_up sent.now) }
 {
-    let Some((path, signal)) = sent.get() else {
+    let Some(sent) = sent else {
         return;
     };
-    if sub.state.pmcw.available[path.index()] {
-        sub.wires.send_up(path, signal);
+    if sub.state.pmcw.available[sent.path.index()] {
+        sub.wires.send_up(sent.path, &sent.signal);
     }
 }

@@ -7,16 +7,13 @@ ghost use Rattle.control_units.specs.Units as members_spec;
 ghost use Rattle.machine_model.specs.Bounds.{IsUnitRoomy};
 ghost use Rattle.machine_model.specs.Sharing as spec;
 ghost use Rattle.subchannel_steps.specs.Giving as giving_spec;
-ghost use Rattle.signal_places.specs.Places.{down_at};
-ghost use Rattle.unit.specs.UnitWords as words;
+ghost use Rattle.chan_model.specs.Signals.{lent_down, lent_up, map_taken};
 
 use chan_model::names::{Path, Side};
+use chan_model::signal::{Down, LentDown, LentUp, Taken};
 use chan_model::unit_state::{Own, SideState, UnitState};
 use control_units::ControlUnit;
 use control_units::sharing::Sharing;
-use kept_events::signals::KeptDown;
-use signal_places::sent::SentUp;
-use signal_places::signals::DownPlace;
 use unit::Unit;
 
 /// What is kept of a side of a unit.
@@ -31,12 +28,12 @@ pub fn side_of(unit: &UnitState, side: Side) -> SideState
 
 /// Whether the control unit is asked for a signal: a Select above the floor, at a side that is not fresh, where no program
 /// holds the device.
-fn is_asked_for(unit: &UnitState, side: Side, signal: &DownPlace) -> bool
-    ensures asked { result ≡ spec.is_asked_for «unit».now side (down_at signal.now) }
+fn is_asked_for(unit: &UnitState, side: Side, signal: &LentDown<'_>) -> bool
+    ensures asked { result ≡ spec.is_asked_for «unit».now side (lent_down signal.now) }
     ensures idle { OnTrue result (unit_spec.is_idle «unit».now.own ≡ true) }
 {
-    match signal.kept {
-        KeptDown::Select { number } => {
+    match *signal {
+        Down::Select { number } => {
             let kept = side_of(unit, side);
             !kept.fresh && kept.floor < number && matches!(unit.own, Own::Idle)
         }
@@ -70,31 +67,29 @@ fn end(sharing: &mut Sharing, number: u16, unit: &mut Unit, was_idle: bool)
     }
 }
 
-/// The unit takes a signal that came by a path, with the signal that it sends in a place: whether it was taken. Its control
-/// unit is asked where it must be.
+/// The unit takes a signal that came by a path. Its control unit is asked where it must be.
 pub fn take(
     sharing: &mut Sharing,
     number: u16,
     unit: &mut Unit,
     side: Side,
     path: Path,
-    signal: &DownPlace,
-    sent: &mut SentUp,
-) -> bool
+    signal: &LentDown<'_>,
+) -> Taken<LentUp<'static>>
     ensures state { «unit».new ≡ spec.owing_after sharing.old number «unit».old
-        (unit_spec.unit_after «unit».old (giving_spec.shared_step sharing.old number «unit».old side path (down_at signal.now))) }
-    ensures members { sharing.new ≡ spec.members_after sharing.old number (spec.is_asked_for «unit».old side (down_at signal.now)) «unit».old
-        (unit_spec.unit_after «unit».old (giving_spec.shared_step sharing.old number «unit».old side path (down_at signal.now))) }
-    ensures came { words.taken_so result sent.new ≡ unit_spec.came_of (giving_spec.shared_step sharing.old number «unit».old side path (down_at signal.now)) }
+        (unit_spec.unit_after «unit».old (giving_spec.shared_step sharing.old number «unit».old side path (lent_down signal.now))) }
+    ensures members { sharing.new ≡ spec.members_after sharing.old number (spec.is_asked_for «unit».old side (lent_down signal.now)) «unit».old
+        (unit_spec.unit_after «unit».old (giving_spec.shared_step sharing.old number «unit».old side path (lent_down signal.now))) }
+    ensures came { map_taken lent_up result ≡ unit_spec.came_of (giving_spec.shared_step sharing.old number «unit».old side path (lent_down signal.now)) }
 {
     if is_asked_for(unit.state(), side, signal) {
         let may = serve(sharing, number);
-        unit.take_to(side, path, signal, may, sent)
+        unit.take(side, path, signal, may)
     } else {
         let was_idle = unit.is_idle();
-        let taken = unit.take_to(side, path, signal, true, sent);
+        let came = unit.take(side, path, signal, true);
         end(sharing, number, unit, was_idle);
-        taken
+        came
     }
 }
 

@@ -9,7 +9,7 @@ ghost use Rattle.machine_model.specs.DownSteps as down_spec;
 ghost use Rattle.machine_model.specs.ReportSteps as report_spec;
 ghost use Rattle.machine_model.specs.Turns as turn_spec;
 ghost use Rattle.subchannel.specs.Answering as answering_spec;
-ghost use Rattle.chan_model.specs.Signals.{Down};
+ghost use Rattle.chan_model.specs.Signals.{Down, lent_down, lent_up};
 ghost use Rattle.chan_model.specs.declared.signal.OnPath.{OnPath};
 ghost use Rattle.std.specs.Bool.{OnFalse};
 ghost use Rattle.subchannel_model.specs.Choosing as choosing_spec;
@@ -21,7 +21,6 @@ ghost use Rattle.chan_model.specs.UnitTable as unit_spec;
 ghost use Rattle.chan_model.specs.UnitTable.{UnitStep};
 ghost use Rattle.finding.specs.Tables.{engaged};
 ghost use Rattle.signal_places.specs.Answers.{answer_at};
-ghost use Rattle.signal_places.specs.Places.{down_at, up_at};
 ghost use Rattle.signal_places.specs.Plain.{reply_of};
 ghost use Rattle.unit.specs.UnitWords.{IsAllowed};
 
@@ -30,14 +29,12 @@ use crate::sharing::take;
 use chan_model::fault::Fault;
 use chan_model::names::Path;
 use chan_model::report::{Report, ReportPath};
+use chan_model::signal::{Down, LentDown, LentUp, OnPath, Up};
 use chan_model::unit_state::Place;
 use control_units::sharing::Sharing;
 use finding::engines::Counted;
-use chan_model::signal::{KeptDown, KeptUp};
 use signal_places::answers::{AnswerPlace, Outcome};
 use signal_places::plain::PlainReply;
-use signal_places::sent::SentDown;
-use signal_places::signals::{DownPlace, UpPlace};
 use status::make_pending;
 use storage_keys::Storage;
 use subchannel::answering::{answer_path, answer_paths, standing_path};
@@ -62,40 +59,38 @@ fn chosen_finds_full(sub: &Subchannel, chosen: &Chosen) -> bool
 
 /// A Reset is sent on a path.
 #[inline(never)]
-fn reset_on(sub: &mut Subchannel, number: u64, path: Path, sent: &mut SentDown) -> PlainReply
+fn reset_on(sub: &mut Subchannel, number: u64, path: Path) -> PlainReply
     requires due { choosing_spec.IsFitFor (chosen_spec.Resets number path) sub.old.state.hold }
     requires room { giving_spec.HasRoomForChosen sub.old (chosen_spec.Resets number path) }
     ensures gives { choose_spec.choose_sub sub.old (chosen_spec.Resets number path) ≡ Ok (turn_spec.leaves (reply_of result) sub.new) }
     ensures setup { sub.new.setup ≡ sub.old.setup }
 {
     let available = sub.state.pmcw.available;
-    send_reset(&mut sub.state, path, sent);
-    send_any_down(&mut sub.wires, &available, sent);
+    let reset = send_reset(&mut sub.state, path);
+    send_any_down(&mut sub.wires, &available, &reset);
     PlainReply::ResetSent { path, number }
 }
 
 /// A Halt is sent on a path.
 #[inline(never)]
-fn halt_on(sub: &mut Subchannel, number: u64, path: Path, sent: &mut SentDown) -> PlainReply
+fn halt_on(sub: &mut Subchannel, number: u64, path: Path) -> PlainReply
     requires { giving_spec.HasRoomForChosen sub.old (chosen_spec.Halts number path) }
     ensures gives { choose_spec.choose_sub sub.old (chosen_spec.Halts number path) ≡ Ok (turn_spec.leaves (reply_of result) sub.new) }
     ensures setup { sub.new.setup ≡ sub.old.setup }
 {
     let available = sub.state.pmcw.available;
-    sent.put(path, KeptDown::Halt { number });
-    send_any_down(&mut sub.wires, &available, sent);
+    let halt = OnPath {
+        path,
+        signal: Down::Halt { number },
+    };
+    send_any_down(&mut sub.wires, &available, &Some(halt));
     send_halt(&mut sub.state);
     PlainReply::HaltSent { path, number }
 }
 
 /// A program is offered on a path.
 #[inline(never)]
-fn offer_on(
-    sub: &mut Subchannel,
-    candidate: Candidate,
-    path: Path,
-    sent: &mut SentDown,
-) -> PlainReply
+fn offer_on(sub: &mut Subchannel, candidate: Candidate, path: Path) -> PlainReply
     requires drawn { sub.old.state.drawn < 2 ^ 63 }
     requires free { choosing_spec.IsFitFor (chosen_spec.Offers candidate path) sub.old.state.hold }
     requires room { giving_spec.HasRoomForChosen sub.old (chosen_spec.Offers candidate path) }
@@ -103,8 +98,8 @@ fn offer_on(
     ensures setup { sub.new.setup ≡ sub.old.setup }
 {
     let available = sub.state.pmcw.available;
-    offer(&mut sub.state, &candidate.program, path, sent);
-    send_any_down(&mut sub.wires, &available, sent);
+    let select = offer(&mut sub.state, &candidate.program, path);
+    send_any_down(&mut sub.wires, &available, &Some(select));
     PlainReply::Offered {
         path,
         resumed: candidate.resumes,
@@ -124,7 +119,7 @@ fn pend_sub(sub: &mut Subchannel, cause: &StatusCause) -> PlainReply
 }
 
 /// What was chosen is done.
-fn act_on_choice(sub: &mut Subchannel, chosen: Chosen, sent: &mut SentDown) -> PlainReply
+fn act_on_choice(sub: &mut Subchannel, chosen: Chosen) -> PlainReply
     requires drawn { sub.old.state.drawn < 2 ^ 63 }
     requires made { sub.old.state.serials.made < 2 ^ 63 }
     requires fits { choosing_spec.IsFitFor chosen sub.old.state.hold }
@@ -134,12 +129,12 @@ fn act_on_choice(sub: &mut Subchannel, chosen: Chosen, sent: &mut SentDown) -> P
 {
     match chosen {
         Chosen::Idle => PlainReply::Idle,
-        Chosen::Resets { number, path } => reset_on(sub, number, path, sent),
+        Chosen::Resets { number, path } => reset_on(sub, number, path),
         Chosen::PerformsClear => pend_sub(sub, &StatusCause::ClearDone),
-        Chosen::Halts { number, path } => halt_on(sub, number, path, sent),
+        Chosen::Halts { number, path } => halt_on(sub, number, path),
         Chosen::PerformsHalt => pend_sub(sub, &StatusCause::HaltDone),
         Chosen::FindsNoPath => pend_sub(sub, &StatusCause::NoPath),
-        Chosen::Offers { candidate, path } => offer_on(sub, candidate, path, sent),
+        Chosen::Offers { candidate, path } => offer_on(sub, candidate, path),
     }
 }
 
@@ -162,7 +157,7 @@ pub fn choose_sub(
         return;
     }
     mark_lost_paths(sub, choice);
-    let reply = act_on_choice(sub, chosen, &mut answer.sent_down);
+    let reply = act_on_choice(sub, chosen);
     answer.outcome = Outcome::Replied(reply);
 }
 
@@ -190,12 +185,12 @@ fn up_finds_full(
     storage: &Storage,
     sub: &Subchannel,
     path: Path,
-    signal: &UpPlace,
+    signal: &LentUp<'_>,
     returns: bool,
 ) -> bool
     requires { IsRoomy sub.now }
     ensures { giving_spec.TellsFull sub.now.wires.down (sending_spec.carried_by sub.now
-        (takes_up returns storage.now sub.now.state path (up_at signal.now)).step.came.sent) result }
+        (takes_up returns storage.now sub.now.state path (lent_up signal.now)).step.came.sent) result }
 {
     answer_paths();
     if !answers_may_find_full(sub, path) {
@@ -223,12 +218,7 @@ pub fn returns_at(subs: &Counted<'_>, sub: &Subchannel, path: Path) -> bool
     ensures { giving_spec.MayReturn subs.now sub.now path result }
 {
     match sub.wires.front_up(path) {
-        Some(
-            UpPlace {
-                kept: KeptUp::Back { .. },
-                ..
-            },
-        ) => is_granted(subs, sub, path),
+        Some(Up::Back { .. }) => is_granted(subs, sub, path),
         _ => false,
     }
 }
@@ -252,31 +242,31 @@ pub fn up_sub(
         answer.outcome = Outcome::Refused(Fault::NotSent);
         return;
     };
-    if up_finds_full(storage, sub, path, front, returns) {
+    if up_finds_full(storage, sub, path, &front, returns) {
         answer.outcome = Outcome::Refused(Fault::WireFull);
         return;
     }
-    answer.up.put_from(front);
+    answer.up.put(&front);
     sub.wires.drop_up(path);
     let available = sub.state.pmcw.available;
     let taken = take_up(
         storage,
         &mut sub.state,
         path,
-        &answer.up,
+        &answer.up.lend(),
         returns,
         &mut answer.sent_down,
     );
-    send_any_down(&mut sub.wires, &available, &answer.sent_down);
+    send_any_down(&mut sub.wires, &available, &answer.sent_down.get());
     answer.outcome = Outcome::MetUp { taken };
 }
 
 /// Whether the answer of a unit to a signal finds its wire full. What the control unit may do makes no difference.
-fn answer_finds_full(sub: &Subchannel, unit: &Unit, path: Path, signal: &DownPlace) -> bool
+fn answer_finds_full(sub: &Subchannel, unit: &Unit, path: Path, signal: &LentDown<'_>) -> bool
     ensures { (may : Bool) → giving_spec.TellsFull sub.now.wires.up (sending_spec.carried_by sub.now
-        (unit_spec.came_of (unit_spec.unit_takes «unit».now sub.now.setup.side path (down_at signal.now) may)).sent) result }
+        (unit_spec.came_of (unit_spec.unit_takes «unit».now sub.now.setup.side path (lent_down signal.now) may)).sent) result }
 {
-    finds_up_full(sub, path) && unit.answers_at(sub.setup.side, signal)
+    finds_up_full(sub, path) && unit.answers(sub.setup.side, signal)
 }
 
 /// The unit takes the signal that waits longest on the wire down of a path, once it is known that its answer finds room; its
@@ -301,24 +291,24 @@ pub fn down_sub(
         answer.outcome = Outcome::Refused(Fault::NotSent);
         return;
     };
-    if answer_finds_full(sub, unit, path, front) {
+    if answer_finds_full(sub, unit, path, &front) {
         answer.outcome = Outcome::Refused(Fault::WireFull);
         return;
     }
-    answer.down.put_from(front);
+    answer.down.put(&front);
     sub.wires.drop_down(path);
     let side = sub.setup.side;
-    let taken = take(
+    let came = take(
         sharing,
         sub.setup.unit,
         unit,
         side,
         path,
-        &answer.down,
-        &mut answer.sent_up,
+        &answer.down.lend(),
     );
-    send_any_up(sub, &answer.sent_up);
-    answer.outcome = Outcome::MetDown { taken };
+    send_any_up(sub, &came.sent);
+    answer.sent_up.put_any(&came.sent);
+    answer.outcome = Outcome::MetDown { taken: came.taken };
 }
 
 /// Whether what comes of a report, whose path is this, finds its wire full.
@@ -357,8 +347,9 @@ fn report_from(
         answer.outcome = Outcome::Refused(Fault::WireFull);
         return;
     }
-    let _ = unit.report_from(place, report, &mut answer.sent_up);
-    send_any_up(sub, &answer.sent_up);
+    let reported = unit.report_from(place, report);
+    let came = unit.lend(&reported);
+    send_any_up(sub, &came.sent);
     answer.outcome = Outcome::Replied(PlainReply::Done);
 }
 

@@ -5,7 +5,7 @@ ghost use Rattle.std.specs.Bool.{OnFalse};
 ghost use Rattle.chan_model.specs.Signals.{lent_down};
 
 use chan_model::signal::LentDown;
-use signal_places::slots::DownSlot;
+use chan_model::slots::DownSlot;
 use std::marker::Model;
 
 /// A ring of eight places, which stay where they are: sending writes the one behind the last signal, and nothing else is

@@ -5,7 +5,7 @@ ghost use Rattle.std.specs.Bool.{OnFalse};
 ghost use Rattle.chan_model.specs.Signals.{lent_up};
 
 use chan_model::signal::LentUp;
-use signal_places::slots::UpSlot;
+use chan_model::slots::UpSlot;
 use std::marker::Model;
 
 /// A ring of eight places, which stay where they are: sending writes the one behind the last signal, and nothing else is

@@ -6,9 +6,8 @@ use Rattle.subchannel_model.specs.Sending.{carried_by, finds_full}
 use Rattle.machine_model.specs.DownSteps.{down_shared}
 use Rattle.machine_model.specs.ReportSteps.{with_any_up}
 use Rattle.machine_model.specs.Sharing.{is_asked_for, may_take}
-use Rattle.signal_places.specs.Places.{down_at}
 use Rattle.subchannel_steps.proofs.Turning.{down-fronted, down-done, downed}
-use Rattle.unit.specs.UnitWords.{taken_so}
+use Rattle.chan_model.specs.Signals.{lent_down, lent_up, map_taken}
 use Rattle.subchannel_steps.proofs.turns.down_sub.Goals as goal
 
 pub returns-clause-gives : goal.returns-clause-gives
@@ -18,17 +17,17 @@ returns-clause-gives c =
     let u = c.args.unit.now in
     let k = sub.setup.«unit» in
     let path = c.in-Some.path in
-    let signal = down_at c.put_from.new.self in
-    let came = taken_so c.take-taken.result c.take-taken.new.sent in
+    let signal = c.put.new.self in
+    let came = map_taken lent_up c.take-came.result in
     let asks = is_asked_for u sub.setup.side signal in
     let step = unit_takes u sub.setup.side path signal (may_take members k asks) in
-    let same : down_at c.in-Some-front_down.front.now ≡ signal = sym c.put_from.ensures in
+    let same : lent_down c.in-Some-front_down.front ≡ signal = sym c.put.ensures in
     let first = c.in-Some-front_down.ensures.first ∙ ap (λ (d : Down). Some d) same in
     let room : false ≡ finds_full sub.wires.up (carried_by sub (came_of step).sent) =
     subst (λ (d : Down). false ≡ finds_full sub.wires.up (carried_by sub (came_of (unit_takes u sub.setup.side path d (may_take members k asks))).sent)) same
     (c.if-answer_finds_full.ensures (may_take members k asks)).0 in
-    subst (λ (n : ℕ). down_shared members sub n u ≡ downed signal came c.send_any_up.new.sub c.take-taken.new.«unit» c.take-taken.new.sharing) c.in-Some.ensures.1
+    subst (λ (n : ℕ). down_shared members sub n u ≡ downed signal came c.send_any_up.new.sub c.take-came.new.«unit» c.take-came.new.sharing) c.in-Some.ensures.1
     (down-fronted members sub path u (Some signal) (ap (λ (n : ℕ). nat_lt n (length sub.setup.paths)) c.in-Some.ensures.1 ∙ c.in-Some.ensures.0) first
-    ∙ down-done members c.take-taken.new.sharing k asks u c.take-taken.new.«unit» sub c.send_any_up.new.sub path signal step came room c.take-taken.ensures.came
+    ∙ down-done members c.take-came.new.sharing k asks u c.take-came.new.«unit» sub c.send_any_up.new.sub path signal step came room c.take-came.ensures.came
     (c.send_any_up.ensures ∙ ap (λ (w : Queues). with_any_up (record sub { wires = w }) came.sent) c.drop_down.ensures)
-    c.take-taken.ensures.state c.take-taken.ensures.members)
+    c.take-came.ensures.state c.take-came.ensures.members)

@@ -3,7 +3,7 @@ use Rattle.chan_model.specs.UnitReports.{report_on}
 use Rattle.finding.specs.Tables.{engaged}
 use Rattle.subchannel_model.specs.declared.state.Subchannel.{Subchannel}
 use Rattle.subchannel_steps.proofs.Turning.{report-done}
-use Rattle.unit.specs.UnitWords.{taken_so}
+use Rattle.chan_model.specs.Signals.{lent_up, map_taken}
 use Rattle.subchannel_steps.proofs.turns.report_from.Goals as goal
 
 pub returns : goal.returns
@@ -14,7 +14,7 @@ returns c =
     record {
       engaged = ap engaged c.send_any_up.ensures;
       state = ap (λ (s : Subchannel). s.state) c.send_any_up.ensures;
-      gives = report-done c.args.sub.now c.send_any_up.new.sub u c.report_from.new.self step (taken_so c.report_from.result c.report_from.new.sent)
+      gives = report-done c.args.sub.now c.send_any_up.new.sub u c.report_from-reported.new.self step (map_taken lent_up c.lend-came.result)
           (λ e. c.in_default.not-Refused (path ∙ e)) (c.if-report_finds_full.ensures step (sym path)).0
-          c.report_from.ensures.came c.send_any_up.ensures c.report_from.ensures.state;
+          (c.lend-came.ensures ∙ c.report_from-reported.ensures.came) c.send_any_up.ensures c.report_from-reported.ensures.state;
     }

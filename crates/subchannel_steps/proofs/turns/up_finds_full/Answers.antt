@@ -2,7 +2,7 @@ use Rattle.std.proofs.Common.{Bool, false, subst, Some}
 use Rattle.std.specs.Bool.{OnFalse}
 use Rattle.chan_model.specs.Signals.{Down}
 use Rattle.chan_model.specs.declared.signal.OnPath.{OnPath}
-use Rattle.signal_places.specs.Places.{up_at}
+use Rattle.chan_model.specs.Signals.{lent_up}
 use Rattle.subchannel.specs.Answering.{IsAnswerPath}
 use Rattle.subchannel_model.specs.Sending.{carried_by}
 use Rattle.subchannel_steps.specs.Giving.{TellsFull}
@@ -14,7 +14,7 @@ returns-then-not-answers_may_find_full c =
     let sub = c.args.sub.now in
     let phase = sub.state.hold.phase in
     tells_none sub.state.pmcw.available sub.wires.down _ phase c.args.path
-    (c.answer_paths.ensures c.args.returns c.args.storage.now sub.state c.args.path (up_at c.args.signal.now))
+    (c.answer_paths.ensures c.args.returns c.args.storage.now sub.state c.args.path (lent_up c.args.signal.now))
     (subst (λ (b : Bool). OnFalse b ((s : OnPath Down) → IsAnswerPath phase c.args.path (Some s.path) → TellsFull sub.wires.down (carried_by sub (Some s)) false))
     c.if-not-answers_may_find_full.true c.answers_may_find_full.ensures)
 

@@ -1,12 +1,22 @@
 //! A place for one signal.
 
-ghost use Rattle.std.specs.Prelude.{◌≡◌};
+ghost use Rattle.std.specs.Prelude.{◌≡◌, ◌≤◌, ◌++◌, drop, length};
 ghost use Rattle.chan_model.specs.Signals.{lent_down, lent_up};
 
-use crate::bytes::put_bytes;
-use chan_model::chunk::CHUNK_BYTES;
-use chan_model::signal::{Down, KeptDown, KeptUp, LentDown, LentUp, Up};
+use crate::chunk::CHUNK_BYTES;
+use crate::signal::{Down, KeptDown, KeptUp, LentDown, LentUp, Up};
 use std::marker::Model;
+
+/// Writes bytes to the front; what stands behind them stays. Most signals have none.
+pub fn put_bytes(place: &mut [u8; CHUNK_BYTES], bytes: &[u8])
+    requires { length bytes.now ≤ 256 }
+    ensures { place.new ≡ bytes.now ++ drop (length bytes.now) place.old }
+{
+    match bytes {
+        [] => {}
+        [_, ..] => place[..bytes.len()].copy_from_slice(bytes),
+    }
+}
 
 /// A place for a signal down: its numbers, and room for its bytes.
 #[derive(Drop)]
