@@ -2,13 +2,14 @@
 
 ghost use Rattle.std.specs.Prelude.{◌≡◌, ◌≤◌, ◌++◌, ℕ, List, length};
 ghost use Rattle.chan_events.specs.declared.reply.Reply.TheVariants as reply_spec;
+ghost use Rattle.chan_model.specs.Signals.{lent_down, lent_up, map_sent};
 ghost use Rattle.kept_events.specs.Replies as spec;
 
 use chan_events::reply::{PATH_STATUS_BYTES, Reply};
 use chan_model::answer::{Answer, ConditionCode};
 use chan_model::chunk::{Chunk, ChunkLength};
 use chan_model::names::Path;
-use chan_model::signal::{Down, KeptDown, KeptUp, OnPath, Up};
+use chan_model::signal::{Down, KeptDown, KeptUp, LentDown, LentUp, OnPath, Up};
 use scsw_irb::code::IntCode;
 use scsw_irb::crw::Crw;
 use scsw_irb::scsw::Scsw;
@@ -68,6 +69,32 @@ pub enum KeptReply {
     },
 }
 
+/// What was sent down, its bytes lent.
+fn lend_down(sent: &Option<OnPath<Down>>) -> Option<OnPath<LentDown<'_>>>
+    ensures { map_sent lent_down result ≡ sent.now }
+{
+    match sent {
+        None => None,
+        Some(sent) => Some(OnPath {
+            path: sent.path,
+            signal: sent.signal.lend(),
+        }),
+    }
+}
+
+/// What was sent up, its bytes lent.
+fn lend_up(sent: &Option<OnPath<Up>>) -> Option<OnPath<LentUp<'_>>>
+    ensures { map_sent lent_up result ≡ sent.now }
+{
+    match sent {
+        None => None,
+        Some(sent) => Some(OnPath {
+            path: sent.path,
+            signal: sent.signal.lend(),
+        }),
+    }
+}
+
 impl KeptReply {
     /// The numbers of a reply.
     pub fn of(reply: &Reply) -> Self
@@ -112,20 +139,20 @@ impl KeptReply {
                 signal,
                 taken,
                 sent,
-            } => KeptReply::met_up(signal, *taken, sent),
+            } => KeptReply::met_up(&signal.lend(), *taken, &lend_down(sent)),
             Reply::Down {
                 signal,
                 taken,
                 sent,
-            } => KeptReply::met_down(signal, *taken, sent),
+            } => KeptReply::met_down(&signal.lend(), *taken, &lend_up(sent)),
         }
     }
 
     /// The numbers of the reply to a signal up that was met.
-    fn met_up(signal: &Up, taken: bool, sent: &Option<OnPath<Down>>) -> Self
-        ensures kept { (rest : List ℕ) → spec.reply_in result (spec.reply_bytes (reply_spec.Up signal.now taken sent.now) ++ rest) ≡ reply_spec.Up signal.now taken sent.now }
-        ensures length { spec.reply_length result ≡ length (spec.reply_bytes (reply_spec.Up signal.now taken sent.now)) }
-        ensures bound { length (spec.reply_bytes (reply_spec.Up signal.now taken sent.now)) ≤ 512 }
+    pub fn met_up(signal: &LentUp<'_>, taken: bool, sent: &Option<OnPath<LentDown<'_>>>) -> Self
+        ensures kept { (rest : List ℕ) → spec.reply_in result (spec.reply_bytes (reply_spec.Up (lent_up signal.now) taken (map_sent lent_down sent.now)) ++ rest) ≡ reply_spec.Up (lent_up signal.now) taken (map_sent lent_down sent.now) }
+        ensures length { spec.reply_length result ≡ length (spec.reply_bytes (reply_spec.Up (lent_up signal.now) taken (map_sent lent_down sent.now))) }
+        ensures bound { length (spec.reply_bytes (reply_spec.Up (lent_up signal.now) taken (map_sent lent_down sent.now))) ≤ 512 }
     {
         match sent {
             None => KeptReply::Up {
@@ -142,10 +169,10 @@ impl KeptReply {
     }
 
     /// The numbers of the reply to a signal down that was met.
-    fn met_down(signal: &Down, taken: bool, sent: &Option<OnPath<Up>>) -> Self
-        ensures kept { (rest : List ℕ) → spec.reply_in result (spec.reply_bytes (reply_spec.Down signal.now taken sent.now) ++ rest) ≡ reply_spec.Down signal.now taken sent.now }
-        ensures length { spec.reply_length result ≡ length (spec.reply_bytes (reply_spec.Down signal.now taken sent.now)) }
-        ensures bound { length (spec.reply_bytes (reply_spec.Down signal.now taken sent.now)) ≤ 512 }
+    pub fn met_down(signal: &LentDown<'_>, taken: bool, sent: &Option<OnPath<LentUp<'_>>>) -> Self
+        ensures kept { (rest : List ℕ) → spec.reply_in result (spec.reply_bytes (reply_spec.Down (lent_down signal.now) taken (map_sent lent_up sent.now)) ++ rest) ≡ reply_spec.Down (lent_down signal.now) taken (map_sent lent_up sent.now) }
+        ensures length { spec.reply_length result ≡ length (spec.reply_bytes (reply_spec.Down (lent_down signal.now) taken (map_sent lent_up sent.now))) }
+        ensures bound { length (spec.reply_bytes (reply_spec.Down (lent_down signal.now) taken (map_sent lent_up sent.now))) ≤ 512 }
     {
         match sent {
             None => KeptReply::Down {
