@@ -230,7 +230,7 @@ impl<J: Naming, P: PathChoice + Drop> Guarded<J, P> {
             event,
             &mut self.answer,
         );
-        self.answer.answer_to(answer);
+        *answer = self.answer.answer();
     }
 
     /// One step, as `enter_to_with` has it, with its answer in a place that is made once: no more bytes move than its signals

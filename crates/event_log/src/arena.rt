@@ -6,7 +6,7 @@ ghost use Rattle.kept_events.specs.Replies as reply_spec;
 
 use chan_events::event::Event;
 use chan_events::reply::Reply;
-use kept_events::bytes::{down_bytes, event_bytes, up_bytes};
+use kept_events::bytes::event_bytes;
 
 /// Adds bytes; there are often none.
 #[inline(always)]
@@ -42,15 +42,15 @@ fn add_reply(arena: &mut Vec<u8>, reply: &Reply)
     match reply {
         Reply::Shown { bytes } => add_bytes(arena, bytes.as_slice()),
         Reply::Up { signal, sent, .. } => {
-            add_bytes(arena, up_bytes(signal));
+            add_bytes(arena, signal.lend().bytes());
             if let Some(sent) = sent {
-                add_bytes(arena, down_bytes(&sent.signal));
+                add_bytes(arena, sent.signal.lend().bytes());
             }
         }
         Reply::Down { signal, sent, .. } => {
-            add_bytes(arena, down_bytes(signal));
+            add_bytes(arena, signal.lend().bytes());
             if let Some(sent) = sent {
-                add_bytes(arena, up_bytes(&sent.signal));
+                add_bytes(arena, sent.signal.lend().bytes());
             }
         }
         _ => {}

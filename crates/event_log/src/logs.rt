@@ -1,12 +1,7 @@
 //! A log that grows at its end.
 
 ghost use Rattle.std.specs.Prelude.{◌≡◌, ◌≤◌, ◌<◌, ◌+◌, ◌++◌, ◌∷◌, [], ℕ, List, OnOk, OnErr, IsTrue, true, length, vec_len, vec_capacity};
-ghost use Rattle.chan_events.specs.declared.event.Event.TheVariants as event_spec;
-ghost use Rattle.chan_events.specs.declared.reply.Reply.TheVariants as reply_spec;
 ghost use Rattle.kept_events.specs.Entries.{entry_bytes, entry_in, entry_length};
-ghost use Rattle.kept_events.specs.Events.{event_length};
-ghost use Rattle.kept_events.specs.Replies.{reply_length};
-ghost use Rattle.signal_places.specs.Places.{down_at, up_at};
 ghost use Rattle.signal_places.specs.Answers.{reply_at};
 
 use crate::answers::pack;
@@ -18,9 +13,7 @@ use kept_events::bytes::event_bytes;
 use kept_events::entries::KeptEntry;
 use kept_events::events::KeptEvent;
 use kept_events::replies::KeptReply;
-use signal_places::answers::{AnswerPlace, Outcome};
-use signal_places::sent::{SentDown, SentUp};
-use signal_places::signals::{DownPlace, UpPlace};
+use signal_places::answers::AnswerPlace;
 use std::alloc::{AllocError, Global};
 use std::marker::Model;
 use supply::{Given, Supply, ensure_room};
@@ -134,101 +127,8 @@ impl Log {
         push(&mut self.entries, entry.start, entry.event, entry.reply);
     }
 
-    /// Adds an event with the reply that stands in a place, for which there is room. What occurs most is told apart first.
-    #[inline(always)]
+    /// Adds an event with the reply that stands in a place, for which there is room.
     pub fn append_answer(&mut self, event: &Event, place: &AnswerPlace)
-        requires { 1 ≤ self.old.room }
-        ensures entries { self.new.entries ≡ self.old.entries ++ record { event = event.now; reply = reply_at place.now } ∷ [] }
-        ensures room { self.old.room ≤ self.new.room + 1 }
-    {
-        if let Outcome::MetUp { taken } = &place.outcome
-            && let Event::Up { subchannel, path } = event
-        {
-            self.append_up(*subchannel, *path, *taken, &place.up, &place.sent_down);
-            return;
-        }
-        if let Outcome::MetDown { taken } = &place.outcome
-            && let Event::Down { subchannel, path } = event
-        {
-            self.append_down(*subchannel, *path, *taken, &place.down, &place.sent_up);
-            return;
-        }
-        self.append_any(event, place);
-    }
-
-    /// Adds the event of a signal up that was met, for which there is room.
-    #[inline(always)]
-    fn append_up(&mut self, subchannel: u32, path: u32, taken: bool, met: &UpPlace, sent: &SentDown)
-        requires { 1 ≤ self.old.room }
-        ensures entries { self.new.entries ≡ self.old.entries ++ record { event = event_spec.Up subchannel path; reply = reply_spec.Up (up_at met.now) taken sent.now } ∷ [] }
-        ensures room { self.old.room ≤ self.new.room + 1 }
-    {
-        let start = self.bytes.len();
-        let event = KeptEvent::Up { subchannel, path };
-        match sent.get() {
-            None => {
-                let reply = KeptReply::Up {
-                    taken,
-                    signal: met.kept(),
-                };
-                push(&mut self.entries, start, event, reply);
-                add_bytes(&mut self.bytes, met.bytes());
-            }
-            Some((path, place)) => {
-                let reply = KeptReply::UpSent {
-                    taken,
-                    path,
-                    signal: met.kept(),
-                    sent: place.kept(),
-                };
-                push(&mut self.entries, start, event, reply);
-                add_bytes(&mut self.bytes, met.bytes());
-                add_bytes(&mut self.bytes, place.bytes());
-            }
-        }
-    }
-
-    /// Adds the event of a signal down that was met, for which there is room.
-    #[inline(always)]
-    fn append_down(
-        &mut self,
-        subchannel: u32,
-        path: u32,
-        taken: bool,
-        met: &DownPlace,
-        sent: &SentUp,
-    )
-        requires { 1 ≤ self.old.room }
-        ensures entries { self.new.entries ≡ self.old.entries ++ record { event = event_spec.Down subchannel path; reply = reply_spec.Down (down_at met.now) taken sent.now } ∷ [] }
-        ensures room { self.old.room ≤ self.new.room + 1 }
-    {
-        let start = self.bytes.len();
-        let event = KeptEvent::Down { subchannel, path };
-        match sent.get() {
-            None => {
-                let reply = KeptReply::Down {
-                    taken,
-                    signal: met.kept(),
-                };
-                push(&mut self.entries, start, event, reply);
-                add_bytes(&mut self.bytes, met.bytes());
-            }
-            Some((path, place)) => {
-                let reply = KeptReply::DownSent {
-                    taken,
-                    path,
-                    signal: met.kept(),
-                    sent: place.kept(),
-                };
-                push(&mut self.entries, start, event, reply);
-                add_bytes(&mut self.bytes, met.bytes());
-                add_bytes(&mut self.bytes, place.bytes());
-            }
-        }
-    }
-
-    /// Adds any event with the reply that stands in a place, for which there is room.
-    fn append_any(&mut self, event: &Event, place: &AnswerPlace)
         requires { 1 ≤ self.old.room }
         ensures entries { self.new.entries ≡ self.old.entries ++ record { event = event.now; reply = reply_at place.now } ∷ [] }
         ensures room { self.old.room ≤ self.new.room + 1 }

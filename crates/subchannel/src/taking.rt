@@ -20,7 +20,7 @@ use storage_keys::Storage;
 use subchannel_model::cause::StatusCause;
 use subchannel_model::state::SubchannelState;
 use working::accepting::accept;
-use working::answers::{answered, by_hold, ignored, quiet};
+use working::answers::{by_hold, ignored, quiet, take_by};
 use working::ending::end_command;
 use working::moving::take_data;
 
@@ -45,13 +45,13 @@ fn reset_taken(
     ensures { subchannel_stepped state.new (came_so result sent.new) ≡ spec.reset_taken state.old (hold_takes state.old.hold path (lent_up signal.now) false) }
 {
     let mut hold = Hold::of(state.hold);
-    let came = hold.take(path, signal, false);
-    if !came.taken {
+    let taken = take_by(&mut hold, path, signal, false, sent);
+    if !taken {
         return ignored(sent);
     }
     state.hold = hold.state();
     do_clear(state);
-    answered(&came, sent)
+    taken
 }
 
 /// Notice: the unit restarted. A count above the one known becomes known, and the hold is to be reset.

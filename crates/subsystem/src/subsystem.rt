@@ -213,7 +213,7 @@ impl<P: PathChoice + Drop> Subsystem<P> {
             event,
             &mut self.answer,
         );
-        self.answer.answer_to(answer);
+        *answer = self.answer.answer();
     }
 
     /// One event, as `step` has it, with its answer in a place that is made once: no more bytes move than its signals have.

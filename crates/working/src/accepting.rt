@@ -12,7 +12,7 @@ ghost use Rattle.working.specs.Stepping.{subchannel_stepped};
 ghost use Rattle.chan_model.specs.declared.signal.Down.TheVariants as down;
 ghost use Rattle.transfer.specs.Commands as transfer_spec;
 
-use crate::answers::{answered, ignored, let_go, quiet};
+use crate::answers::{ignored, let_go, quiet, take_by};
 use crate::intermediate::{interrupt, suspend};
 use ccw_walk::Walk;
 use chan_model::hold_state::HoldPhase;
@@ -313,11 +313,10 @@ pub fn accept(
     ensures { subchannel_stepped state.new (came_so result sent.new) ≡ spec.accept storage.now state.old (hold_takes state.old.hold path (lent_up signal.now) (spec.goes_ahead state.old)) }
 {
     let mut hold = Hold::of(state.hold);
-    let came = hold.take(path, signal, goes_ahead(state));
-    if !came.taken {
+    let taken = take_by(&mut hold, path, signal, goes_ahead(state), sent);
+    if !taken {
         return ignored(sent);
     }
     state.hold = hold.state();
-    let taken = answered(&came, sent);
     accepted_by(storage, state, taken, sent)
 }

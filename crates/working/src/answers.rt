@@ -1,14 +1,14 @@
 //! What may come of a signal.
 
 ghost use Rattle.std.specs.Prelude.{◌≡◌, None, Some};
-ghost use Rattle.chan_model.specs.HoldTable.{hold_takes};
-ghost use Rattle.chan_model.specs.Signals.{lent_down, lent_up, map_taken};
+ghost use Rattle.chan_model.specs.HoldTable.{came_of, hold_after, hold_takes};
+ghost use Rattle.chan_model.specs.Signals.{lent_down, lent_up};
 ghost use Rattle.signal_places.specs.Places.{came_so};
 ghost use Rattle.subchannel_model.specs.Taking as spec;
 ghost use Rattle.working.specs.Stepping.{not_taken, subchannel_stepped, taken_with};
 
 use chan_model::names::Path;
-use chan_model::signal::{LentDown, LentUp, Taken};
+use chan_model::signal::{LentDown, LentUp, OnPath};
 use hold::Hold;
 use signal_places::sent::SentDown;
 use subchannel_model::state::SubchannelState;
@@ -34,11 +34,22 @@ pub(crate) fn send(sent: &mut SentDown, path: Path, signal: &LentDown<'_>) -> bo
     true
 }
 
-/// What the hold answered.
-pub fn answered(came: &Taken<LentDown<'_>>, sent: &mut SentDown) -> bool
-    ensures { came_so result sent.new ≡ map_taken lent_down came.now }
+/// The hold takes a signal, with what it sends in a place: whether it was taken.
+pub fn take_by(
+    hold: &mut Hold,
+    path: Path,
+    signal: &LentUp<'_>,
+    may: bool,
+    sent: &mut SentDown,
+) -> bool
+    ensures state { hold.new ≡ hold_after hold.old (hold_takes hold.old path (lent_up signal.now) may) }
+    ensures came { came_so result sent.new ≡ came_of (hold_takes hold.old path (lent_up signal.now) may) }
 {
-    sent.put_any(&came.sent);
+    let came = hold.take(path, signal, may);
+    match &came.sent {
+        None => sent.clear(),
+        Some(OnPath { path, signal }) => sent.put(*path, signal),
+    }
     came.taken
 }
 
@@ -63,7 +74,7 @@ pub fn by_hold(
     ensures { subchannel_stepped state.new (came_so result sent.new) ≡ spec.by_hold state.old (hold_takes state.old.hold path (lent_up signal.now) may) }
 {
     let mut hold = Hold::of(state.hold);
-    let came = hold.take(path, signal, may);
+    let taken = take_by(&mut hold, path, signal, may, sent);
     state.hold = hold.state();
-    answered(&came, sent)
+    taken
 }

@@ -6,7 +6,7 @@ use Rattle.kept_events.specs.Entries.{entry_bytes}
 use Rattle.signal_places.specs.Answers.{reply_at}
 use Rattle.event_log.specs.Logs.{entries_at}
 use Rattle.event_log.proofs.Growing.{entries-added, whole-bytes}
-use Rattle.event_log.proofs.logs.Log.append_any.Goals as goal
+use Rattle.event_log.proofs.logs.Log.append_answer.Goals as goal
 
 pub returns-clause-entries : goal.returns-clause-entries
 returns-clause-entries c =
