@@ -11,7 +11,11 @@ use Rattle.kept_events.specs.declared.events.KeptEvent.TheVariants as kept_event
 use Rattle.kept_events.specs.declared.replies.KeptReply.TheVariants as kept_reply
 use Rattle.kept_events.specs.Entries.{entry_in, entry_length}
 use Rattle.event_log.specs.Logs.{entry_at, entries_at, Fits, AllFit}
-use Rattle.event_log.proofs.MetEntries.{IsKept}
+
+-- an entry is kept with these bytes
+pub record IsKept (k : KeptEntry) (bytes : List ℕ) (e : Entry) : Type 0 where
+  pub long : entry_length k ≡ length bytes
+  pub same : entry_in k bytes ≡ e
 
 -- a piece that lies in an arena is the same in a longer one
 cut-append : (arena more : List ℕ) (start count : ℕ) → start + count ≤ length arena →

@@ -1,8 +1,7 @@
 //! Whether a signal is answered, and by which path, before anything is changed.
 
 ghost use Rattle.std.specs.Prelude.{◌≡◌, ◌<◌, ◌^◌, false, is_some, ℕ, Bool};
-ghost use Rattle.chan_model.specs.Signals.{Up};
-ghost use Rattle.chan_model.specs.Signals.{lent_up};
+ghost use Rattle.chan_model.specs.Signals as signals;
 ghost use Rattle.signal_places.specs.Places.{sent_path};
 ghost use Rattle.subchannel_model.specs.Taking as taking_spec;
 ghost use Rattle.subchannel.specs.Answering as spec;
@@ -35,14 +34,14 @@ pub fn standing_path(hold: &HoldState) -> Option<Path>
 /// nothing.
 #[tactic(auto, using(crate::proofs::AnswerPaths::answer_goes))]
 pub fn answer_paths()
-    ensures { (returns : Bool) (storage : Contents) (s : SubchannelState) (path : ℕ) (signal : Up) →
+    ensures { (returns : Bool) (storage : Contents) (s : SubchannelState) (path : ℕ) (signal : signals.Up) →
         spec.IsAnswerPath s.hold.phase path (sent_path (taking_spec.takes_up returns storage s path signal).step.came.sent) }
 {}
 
 /// Whether the program that is connected answers a Data of this path: one of its command, and not of a chunk before the last.
 fn answers_data(state: &SubchannelState, path: Path, signal: &LentUp<'_>) -> bool
     requires { taking_spec.IsBelow state.now.begun }
-    ensures { result ≡ is_some (working_spec.moved_by state.now path (lent_up signal.now)) }
+    ensures { result ≡ is_some (working_spec.moved_by state.now path (signals.lent_up signal.now)) }
 {
     let Some(data) = data_by(path, signal) else {
         return false;
@@ -69,7 +68,7 @@ pub fn answer_path(
     requires made { state.now.serials.made < 2 ^ 63 }
     requires drawn { state.now.drawn < 2 ^ 63 }
     requires below { taking_spec.IsBelow state.now.begun }
-    ensures { sent_path (taking_spec.takes_up returns storage.now state.now path (lent_up signal.now)).step.came.sent ≡ result }
+    ensures { sent_path (taking_spec.takes_up returns storage.now state.now path (signals.lent_up signal.now)).step.came.sent ≡ result }
 {
     match *signal {
         Up::Data { .. } if answers_data(state, path, signal) => Some(path),
@@ -89,8 +88,8 @@ fn unmoved_path(
     requires made { state.now.serials.made < 2 ^ 63 }
     requires drawn { state.now.drawn < 2 ^ 63 }
     requires below { taking_spec.IsBelow state.now.begun }
-    requires unmoved { spec.is_data (lent_up signal.now) ≡ false }
-    ensures { sent_path (taking_spec.takes_up returns storage.now state.now path (lent_up signal.now)).step.came.sent ≡ result }
+    requires unmoved { spec.is_data (signals.lent_up signal.now) ≡ false }
+    ensures { sent_path (taking_spec.takes_up returns storage.now state.now path (signals.lent_up signal.now)).step.came.sent ≡ result }
 {
     let mut copy = *state;
     let mut sent = SentDown::new();

@@ -1,8 +1,8 @@
 //! Signals that are put on the wires of a subchannel: one that is sent on a path that is down vanishes.
 
 ghost use Rattle.std.specs.Prelude.{◌≡◌, Some, false};
-ghost use Rattle.chan_model.specs.Signals.{Down, Up, lent_down, lent_up, map_sent};
-ghost use Rattle.chan_model.specs.declared.signal.OnPath.{OnPath};
+ghost use Rattle.chan_model.specs.Signals as signals;
+ghost use Rattle.chan_model.specs.declared.signal.OnPath as on_path;
 ghost use Rattle.machine_model.specs.ReportSteps as report_spec;
 ghost use Rattle.subchannel_steps.specs.Giving as giving_spec;
 ghost use Rattle.subchannel_model.specs.Sending as spec;
@@ -15,7 +15,7 @@ use wires::Wires;
 
 /// Whether a signal that is sent down on a path finds its wire full. On a path that is down it finds none.
 pub fn finds_down_full(sub: &Subchannel, path: Path) -> bool
-    ensures { (sent : OnPath Down) → sent.path ≡ path →
+    ensures { (sent : on_path.OnPath signals.Down) → sent.path ≡ path →
         giving_spec.TellsFull sub.now.wires.down (spec.carried_by sub.now (Some sent)) result }
 {
     sub.state.pmcw.available[path.index()] && sub.wires.down_is_full(path)
@@ -23,8 +23,8 @@ pub fn finds_down_full(sub: &Subchannel, path: Path) -> bool
 
 /// Sends a signal down, where there is one. `available`: the paths of its subchannel that are not down.
 pub fn send_any_down(wires: &mut Wires, available: &PathSet, sent: &Option<OnPath<LentDown<'_>>>)
-    requires { giving_spec.TellsFull wires.old.down (spec.carried available.now (map_sent lent_down sent.now)) false }
-    ensures { wires.new ≡ record wires.old { down = spec.with_any_sent wires.old.down (spec.carried available.now (map_sent lent_down sent.now)) } }
+    requires { giving_spec.TellsFull wires.old.down (spec.carried available.now (signals.map_sent signals.lent_down sent.now)) false }
+    ensures { wires.new ≡ record wires.old { down = spec.with_any_sent wires.old.down (spec.carried available.now (signals.map_sent signals.lent_down sent.now)) } }
 {
     let Some(sent) = sent else {
         return;
@@ -36,7 +36,7 @@ pub fn send_any_down(wires: &mut Wires, available: &PathSet, sent: &Option<OnPat
 
 /// Whether a signal that is sent up on a path finds its wire full. On a path that is down it finds none.
 pub fn finds_up_full(sub: &Subchannel, path: Path) -> bool
-    ensures { (sent : OnPath Up) → sent.path ≡ path →
+    ensures { (sent : on_path.OnPath signals.Up) → sent.path ≡ path →
         giving_spec.TellsFull sub.now.wires.up (spec.carried_by sub.now (Some sent)) result }
 {
     sub.state.pmcw.available[path.index()] && sub.wires.up_is_full(path)
@@ -44,8 +44,8 @@ pub fn finds_up_full(sub: &Subchannel, path: Path) -> bool
 
 /// Sends a signal up, where there is one.
 pub fn send_any_up(sub: &mut Subchannel, sent: &Option<OnPath<LentUp<'_>>>)
-    requires { giving_spec.TellsFull sub.old.wires.up (spec.carried_by sub.old (map_sent lent_up sent.now)) false }
-    ensures { sub.new ≡ report_spec.with_any_up sub.old (map_sent lent_up sent.now) }
+    requires { giving_spec.TellsFull sub.old.wires.up (spec.carried_by sub.old (signals.map_sent signals.lent_up sent.now)) false }
+    ensures { sub.new ≡ report_spec.with_any_up sub.old (signals.map_sent signals.lent_up sent.now) }
 {
     let Some(sent) = sent else {
         return;

@@ -9,8 +9,8 @@ ghost use Rattle.machine_model.specs.DownSteps as down_spec;
 ghost use Rattle.machine_model.specs.ReportSteps as report_spec;
 ghost use Rattle.machine_model.specs.Turns as turn_spec;
 ghost use Rattle.subchannel.specs.Answering as answering_spec;
-ghost use Rattle.chan_model.specs.Signals.{Down, lent_down, lent_up};
-ghost use Rattle.chan_model.specs.declared.signal.OnPath.{OnPath};
+ghost use Rattle.chan_model.specs.Signals as signals;
+ghost use Rattle.chan_model.specs.declared.signal.OnPath as on_path;
 ghost use Rattle.std.specs.Bool.{OnFalse};
 ghost use Rattle.subchannel_model.specs.Choosing as choosing_spec;
 ghost use Rattle.subchannel_model.specs.Taking.{takes_up};
@@ -163,7 +163,7 @@ pub fn choose_sub(
 
 /// Whether the wire down of the program that is offered or connected is full.
 fn standing_finds_full(sub: &Subchannel) -> bool
-    ensures { OnFalse result ((s : OnPath Down) → answering_spec.standing_path sub.now.state.hold.phase ≡ Some s.path →
+    ensures { OnFalse result ((s : on_path.OnPath signals.Down) → answering_spec.standing_path sub.now.state.hold.phase ≡ Some s.path →
         giving_spec.TellsFull sub.now.wires.down (sending_spec.carried_by sub.now (Some s)) false) }
 {
     match standing_path(&sub.state.hold) {
@@ -174,7 +174,7 @@ fn standing_finds_full(sub: &Subchannel) -> bool
 
 /// Whether an answer to a signal of a path may find its wire full.
 fn answers_may_find_full(sub: &Subchannel, path: Path) -> bool
-    ensures { OnFalse result ((s : OnPath Down) → answering_spec.IsAnswerPath sub.now.state.hold.phase path (Some s.path) →
+    ensures { OnFalse result ((s : on_path.OnPath signals.Down) → answering_spec.IsAnswerPath sub.now.state.hold.phase path (Some s.path) →
         giving_spec.TellsFull sub.now.wires.down (sending_spec.carried_by sub.now (Some s)) false) }
 {
     finds_down_full(sub, path) || standing_finds_full(sub)
@@ -190,7 +190,7 @@ fn up_finds_full(
 ) -> bool
     requires { IsRoomy sub.now }
     ensures { giving_spec.TellsFull sub.now.wires.down (sending_spec.carried_by sub.now
-        (takes_up returns storage.now sub.now.state path (lent_up signal.now)).step.came.sent) result }
+        (takes_up returns storage.now sub.now.state path (signals.lent_up signal.now)).step.came.sent) result }
 {
     answer_paths();
     if !answers_may_find_full(sub, path) {
@@ -264,7 +264,7 @@ pub fn up_sub(
 /// Whether the answer of a unit to a signal finds its wire full. What the control unit may do makes no difference.
 fn answer_finds_full(sub: &Subchannel, unit: &Unit, path: Path, signal: &LentDown<'_>) -> bool
     ensures { (may : Bool) → giving_spec.TellsFull sub.now.wires.up (sending_spec.carried_by sub.now
-        (unit_spec.came_of (unit_spec.unit_takes «unit».now sub.now.setup.side path (lent_down signal.now) may)).sent) result }
+        (unit_spec.came_of (unit_spec.unit_takes «unit».now sub.now.setup.side path (signals.lent_down signal.now) may)).sent) result }
 {
     finds_up_full(sub, path) && unit.answers(sub.setup.side, signal)
 }
