@@ -10,20 +10,20 @@ use signal_places::plain::PlainReply;
 use signal_places::sent::{SentDown, SentUp};
 
 /// A Give of these bytes.
-fn give(sequence: u64, bytes: &[u8]) -> LentDown<'_> {
+fn give(sequence: u64, bytes: Bytes<'_>) -> LentDown<'_> {
     Down::Give {
         number: 1,
         connection: 2,
         command: 3,
         sequence,
-        bytes: Bytes::of(bytes),
+        bytes,
     }
 }
 
 /// Whether the last of two Gives is put into another place, with its own bytes alone.
 fn is_last_put(sent: &mut SentDown, path: Path) -> bool {
-    sent.put(path, &give(4, &[0xC1, 0xC2, 0xC3]));
-    sent.put(path, &give(5, &[0xC4]));
+    sent.put(path, &give(4, Bytes::of(&[0xC1, 0xC2, 0xC3])));
+    sent.put(path, &give(5, Bytes::of(&[0xC4])));
     let mut other = SentDown::new();
     other.put_any(&sent.get());
     let last = other.own();
