@@ -7,6 +7,7 @@ ghost use Rattle.std.specs.List.{flat_map};
 ghost use Rattle.zbits.specs.Layout.{word_of};
 ghost use Rattle.scsw_irb.specs.CodeTable.{code_tables};
 ghost use Rattle.chan_model.specs.ConditionCodes as codes_spec;
+ghost use Rattle.chan_model.specs.Signals.{lent_down, lent_up};
 ghost use Rattle.script_text.specs.Text as spec;
 ghost use Rattle.streams.specs.Sinks.{Puts};
 
@@ -21,7 +22,7 @@ use crate::race::put_race;
 use chan_events::reply::{PATH_STATUS_BYTES, Reply, report_word};
 use chan_model::answer::{Answer, ConditionCode};
 use chan_model::fault::Fault;
-use chan_model::signal::{Down, Up};
+use chan_model::signal::{Down, LentDown, LentUp, Up};
 use itoa::Buffer;
 pub use race::RaceCount;
 use scsw_irb::code::IntCode;
@@ -246,8 +247,8 @@ pub(crate) fn put_paths<S: Sink>(sink: &mut S, engaged: &[u8; PATH_STATUS_BYTES]
     }
 }
 
-fn put_down_name<S: Sink>(sink: &mut S, signal: &Down) -> bool
-    ensures { Puts (S.seen sink.old) (spec.down_name signal.now) (S.seen sink.new) result }
+fn put_down_name<S: Sink>(sink: &mut S, signal: &LentDown<'_>) -> bool
+    ensures { Puts (S.seen sink.old) (spec.down_name (lent_down signal.now)) (S.seen sink.new) result }
 {
     sink.put(match signal {
         Down::Select { .. } => b"select",
@@ -263,8 +264,8 @@ fn put_down_name<S: Sink>(sink: &mut S, signal: &Down) -> bool
     })
 }
 
-fn put_up_name<S: Sink>(sink: &mut S, signal: &Up) -> bool
-    ensures { Puts (S.seen sink.old) (spec.up_name signal.now) (S.seen sink.new) result }
+fn put_up_name<S: Sink>(sink: &mut S, signal: &LentUp<'_>) -> bool
+    ensures { Puts (S.seen sink.old) (spec.up_name (lent_up signal.now)) (S.seen sink.new) result }
 {
     sink.put(match signal {
         Up::Accept { .. } => b"accept",
@@ -281,7 +282,7 @@ fn put_up_name<S: Sink>(sink: &mut S, signal: &Up) -> bool
 }
 
 /// Whether a signal that was met was taken.
-pub(crate) fn put_taken<S: Sink>(sink: &mut S, taken: bool) -> bool
+fn put_taken<S: Sink>(sink: &mut S, taken: bool) -> bool
     ensures { Puts (S.seen sink.old) (spec.taken_text taken) (S.seen sink.new) result }
 {
     if taken {
@@ -301,16 +302,16 @@ pub(crate) fn put_status<S: Sink>(sink: &mut S, answer: Answer, scsw: &Scsw) -> 
 
 /// A signal that was met on its way up.
 #[tactic(auto, using(streams::proofs::Sinking::takes_then, streams::proofs::Sinking::fails_then))]
-fn put_up<S: Sink>(sink: &mut S, taken: bool, signal: &Up) -> bool
-    ensures { Puts (S.seen sink.old) (spec.taken_text taken ++ spec.up_name signal.now) (S.seen sink.new) result }
+pub(crate) fn put_up<S: Sink>(sink: &mut S, taken: bool, signal: &LentUp<'_>) -> bool
+    ensures { Puts (S.seen sink.old) (spec.taken_text taken ++ spec.up_name (lent_up signal.now)) (S.seen sink.new) result }
 {
     put_taken(sink, taken) && put_up_name(sink, signal)
 }
 
 /// A signal that was met on its way down.
 #[tactic(auto, using(streams::proofs::Sinking::takes_then, streams::proofs::Sinking::fails_then))]
-fn put_down<S: Sink>(sink: &mut S, taken: bool, signal: &Down) -> bool
-    ensures { Puts (S.seen sink.old) (spec.taken_text taken ++ spec.down_name signal.now) (S.seen sink.new) result }
+pub(crate) fn put_down<S: Sink>(sink: &mut S, taken: bool, signal: &LentDown<'_>) -> bool
+    ensures { Puts (S.seen sink.old) (spec.taken_text taken ++ spec.down_name (lent_down signal.now)) (S.seen sink.new) result }
 {
     put_taken(sink, taken) && put_down_name(sink, signal)
 }
@@ -333,8 +334,8 @@ pub fn put_reply<S: Sink>(sink: &mut S, reply: &Reply) -> bool
         Reply::HaltSent { path, .. } => put_named(sink, b"halt ", path.index() as u64),
         Reply::Pending => sink.put(b"status"),
         Reply::Idle => sink.put(b"idle"),
-        Reply::Up { signal, taken, .. } => put_up(sink, *taken, signal),
-        Reply::Down { signal, taken, .. } => put_down(sink, *taken, signal),
+        Reply::Up { signal, taken, .. } => put_up(sink, *taken, &signal.lend()),
+        Reply::Down { signal, taken, .. } => put_down(sink, *taken, &signal.lend()),
     }
 }
 

@@ -8,7 +8,6 @@ use chan_model::signal::{Down, Up};
 use channel_config::names::SubchannelId;
 use channel_config::parts::{ChpidList, SubchannelSetup};
 use functions::blocks::pmcw_of;
-use signal_places::signals::{DownPlace, UpPlace};
 use subchannel::choosing::mark_lost_paths;
 use subchannel::losing::{go_down, lose_path, show_path};
 use subchannel::system_reset::reset_by_system;
@@ -26,10 +25,10 @@ fn second_path() -> Path {
 /// A signal waits each way.
 fn send(wires: &mut Wires, path: Path) {
     if !wires.down_is_full(path) {
-        wires.send_down(path, &DownPlace::of(&Down::Halt { number: 1 }));
+        wires.send_down(path, &Down::Halt { number: 1 });
     }
     if !wires.up_is_full(path) {
-        wires.send_up(path, &UpPlace::of(&Up::Busy { number: 1 }));
+        wires.send_up(path, &Up::Busy { number: 1 });
     }
 }
 

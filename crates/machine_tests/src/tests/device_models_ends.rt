@@ -6,7 +6,7 @@ use ccw_codec::command::class;
 use chan_model::chunk::Chunk;
 use chan_model::names::{Path, Side};
 use chan_model::report::{Report, Work};
-use chan_model::signal::{Down, Taken, Up};
+use chan_model::signal::{Down, KeptUp, LentDown, Up};
 use device_law::answering::answer;
 use device_law::{Device, Finish};
 use scsw_irb::status::DeviceStatus;
@@ -49,7 +49,7 @@ impl Device for Rewinding {
 }
 
 /// The unit takes a report, while its chunks have small numbers.
-fn reported(unit: &mut Unit, report: &Report) -> Option<Up> {
+fn reported(unit: &mut Unit, report: &Report) -> Option<KeptUp> {
     let last = match &unit.state().at_hand {
         Some(command) => command.sequence,
         None => 0,
@@ -57,8 +57,7 @@ fn reported(unit: &mut Unit, report: &Report) -> Option<Up> {
     if last >= 8 {
         return None;
     }
-    let Taken { sent, .. } = unit.report(report);
-    sent.map(|sent| sent.signal)
+    unit.report(report).sent.map(|sent| sent.signal)
 }
 
 /// The device's next turn: the status of the End that the unit sends for it.
@@ -89,7 +88,7 @@ fn end_shown<D: Device>(unit: &mut Unit, device: &mut D) -> Option<u8> {
 }
 
 /// Whether the unit takes a signal on path 2.
-fn takes(unit: &mut Unit, signal: &Down) -> bool {
+fn takes(unit: &mut Unit, signal: &LentDown<'_>) -> bool {
     let path = Path::new(2).unwrap();
     unit.take(Side::First, path, signal, true).taken
 }
@@ -111,7 +110,6 @@ fn channel_end_that_was_sent_is_left_out_of_the_later_status(rt: HostRuntime) {
     let third = end_shown(&mut unit, &mut device);
     drop(unit);
     drop(device);
-    drop(rewind);
     assert!(rt; selected && begun && first == Some(0x08));
     assert!(rt; second == Some(0x04) && third == None);
 }

@@ -1,31 +1,39 @@
 //! What is written into a place stands there, bytes and all, whatever stood there before.
 
 use chan_events::reply::Reply;
+use chan_model::chunk::Bytes;
 use chan_model::fault::Fault;
 use chan_model::names::Path;
-use chan_model::signal::{Down, Load, OnPath, Up};
-use kept_events::signals::KeptDown;
+use chan_model::signal::{Down, LentDown, Load, OnPath, Up};
 use signal_places::answers::{AnswerPlace, Outcome};
 use signal_places::plain::PlainReply;
 use signal_places::sent::{SentDown, SentUp};
-use signal_places::signals::DownPlace;
+
+/// A Give of these bytes.
+fn give(sequence: u64, bytes: Bytes<'_>) -> LentDown<'_> {
+    Down::Give {
+        number: 1,
+        connection: 2,
+        command: 3,
+        sequence,
+        bytes,
+    }
+}
 
 /// Whether the last of two Gives is put into another place, with its own bytes alone.
 fn is_last_put(sent: &mut SentDown, path: Path) -> bool {
-    sent.put_give(path, 1, 2, 3, 4, &[0xC1, 0xC2, 0xC3]);
-    sent.put_give(path, 1, 2, 3, 5, &[0xC4]);
-    let mut place = DownPlace::new();
-    if let Some((_, signal)) = sent.get() {
-        place.put_from(signal);
-    }
-    let signal = place.signal();
-    matches!(&signal, Down::Give { sequence: 5, bytes, .. } if bytes.as_slice() == [0xC4].as_slice())
+    sent.put(path, &give(4, Bytes::of(&[0xC1, 0xC2, 0xC3])));
+    sent.put(path, &give(5, Bytes::of(&[0xC4])));
+    let mut other = SentDown::new();
+    other.put_any(&sent.get());
+    let last = other.own();
+    matches!(&last, Some(OnPath { signal: Down::Give { sequence: 5, bytes, .. }, .. }) if bytes.as_slice() == [0xC4].as_slice())
 }
 
 /// Whether a Halt is sent that is put over what was there.
 fn is_halt_put(sent: &mut SentDown, path: Path) -> bool {
-    sent.put(path, KeptDown::Halt { number: 9 });
-    let halt = sent.signal();
+    sent.put(path, &Down::Halt { number: 9 });
+    let halt = sent.own();
     matches!(
         halt,
         Some(OnPath {
@@ -43,7 +51,7 @@ fn a_place_has_what_was_written_last(rt: HostRuntime) {
     let last = is_last_put(&mut sent, path);
     let halted = is_halt_put(&mut sent, path);
     sent.clear();
-    let cleared = sent.signal().is_none();
+    let cleared = sent.own().is_none();
     drop(sent);
     assert!(rt; empty);
     assert!(rt; last, "the last Give, with its own bytes alone");
@@ -54,8 +62,17 @@ fn a_place_has_what_was_written_last(rt: HostRuntime) {
 fn bytes_come_up_from_their_place(rt: HostRuntime) {
     let path = Path::new(0).unwrap();
     let mut sent = SentUp::new();
-    sent.put_bytes(path, 1, 0, 1, 1, &[7, 8]);
-    let signal = sent.signal().map(|sent| sent.signal);
+    sent.put(
+        path,
+        &Up::Data {
+            number: 1,
+            connection: 0,
+            command: 1,
+            sequence: 1,
+            load: Load::Bytes(Bytes::of(&[7, 8])),
+        },
+    );
+    let signal = sent.own().map(|sent| sent.signal);
     assert!(rt;
         matches!(&signal, Some(Up::Data { load: Load::Bytes(bytes), .. }) if bytes.as_slice() == [7, 8].as_slice()),
         "both bytes"
@@ -65,22 +82,18 @@ fn bytes_come_up_from_their_place(rt: HostRuntime) {
 #[test]
 fn an_answer_is_read_off_its_place(rt: HostRuntime) {
     let mut place = AnswerPlace::new();
-    let mut answer = Ok(Reply::Done);
     place.tell(Err(Fault::WireFull));
-    place.answer_to(&mut answer);
-    let full = matches!(answer, Err(Fault::WireFull));
+    let full = matches!(place.answer(), Err(Fault::WireFull));
     place.tell(Ok(PlainReply::Pending));
     let replied = place.is_reply();
-    place.answer_to(&mut answer);
-    let pending = matches!(answer, Ok(Reply::Pending));
+    let pending = matches!(place.answer(), Ok(Reply::Pending));
     place.show(&[1, 2, 3]);
-    place.answer_to(&mut answer);
+    let answer = place.answer();
     let shown =
         matches!(&answer, Ok(Reply::Shown { bytes }) if bytes.as_slice() == [1, 2, 3].as_slice());
     place.outcome = Outcome::MetDown { taken: false };
-    place.answer_to(&mut answer);
     let met = matches!(
-        answer,
+        place.answer(),
         Ok(Reply::Down {
             taken: false,
             sent: None,

@@ -2,30 +2,23 @@
 
 use chan_model::names::Path;
 use chan_model::signal::{Down, Up};
-use signal_places::signals::{DownPlace, UpPlace};
 use wires::Wires;
 
 /// The signal that waits longest on the way down.
 fn first_down(wires: &Wires, path: Path) -> Option<Down> {
-    match wires.front_down(path) {
-        None => None,
-        Some(place) => Some(place.signal()),
-    }
+    wires.front_down(path).map(|signal| signal.own())
 }
 
 /// The signal that waits longest on the way up.
 fn first_up(wires: &Wires, path: Path) -> Option<Up> {
-    match wires.front_up(path) {
-        None => None,
-        Some(place) => Some(place.signal()),
-    }
+    wires.front_up(path).map(|signal| signal.own())
 }
 
 /// Whether a Select of this number is sent down, where there is room.
 fn sends_down(wires: &mut Wires, path: Path, number: u64) -> bool {
     let room = !wires.down_is_full(path);
     if room {
-        wires.send_down(path, &DownPlace::of(&Down::Select { number }));
+        wires.send_down(path, &Down::Select { number });
     }
     room
 }
@@ -81,7 +74,7 @@ fn signals_arrive_in_order(rt: HostRuntime) {
 fn sends_up(wires: &mut Wires, path: Path, number: u64) -> bool {
     let room = !wires.up_is_full(path);
     if room {
-        wires.send_up(path, &UpPlace::of(&Up::Busy { number }));
+        wires.send_up(path, &Up::Busy { number });
     }
     room
 }
@@ -132,7 +125,7 @@ fn signals_go_round(rt: HostRuntime) {
 fn sends_halt(wires: &mut Wires, path: Path) -> bool {
     let room = !wires.down_is_full(path);
     if room {
-        wires.send_down(path, &DownPlace::of(&Down::Halt { number: 5 }));
+        wires.send_down(path, &Down::Halt { number: 5 });
     }
     room
 }
