@@ -9,8 +9,7 @@ use Rattle.storage_keys.specs.Storage.{Contents}
 use Rattle.chan_model.specs.declared.hold_state.HoldPhase.{HoldPhase}
 use Rattle.chan_model.specs.declared.hold_state.HoldPhase.TheVariants as hold
 use Rattle.chan_model.specs.declared.hold_state.HoldState.{HoldState}
-use Rattle.chan_model.specs.Signals.{Load}
-use Rattle.chan_model.specs.Signals.{Up}
+use Rattle.chan_model.specs.Signals.{Load, Up, load_bytes}
 use Rattle.chan_model.specs.declared.signal.Up.TheVariants as up
 use Rattle.chan_model.specs.HoldTable as hold_table
 use Rattle.chan_model.specs.HoldTable.{HoldStep, hold_takes, came_of, is_connected, is_on}
@@ -47,7 +46,6 @@ use Rattle.subchannel_model.specs.Taking as taking
 use Rattle.subchannel_model.specs.Parts as taking_parts
 use Rattle.subchannel_model.proofs.Named as pieces
 use Rattle.subchannel_model.specs.Taking.{takes_up, goes_ahead, path_used, let_go, with_end, without_pci, interrupted, taking_over, from_start, suspended_as, standing_as, suspending}
-use Rattle.chan_model.specs.Signals.{load_bytes}
 use Rattle.subchannel_model.specs.Parts.{standing_still, suspended_alone, has_any}
 use Rattle.program_laws.specs.Traces.{CommandTrace, no_trace}
 use Rattle.program_laws.proofs.MachineActs.{with_acts, goes_acts, first_acts, next_acts, gives, takes_in}

@@ -10,11 +10,9 @@ use Rattle.chan_model.specs.declared.hold_state.HoldPhase.{HoldPhase}
 use Rattle.chan_model.specs.declared.hold_state.HoldPhase.TheVariants as hold
 use Rattle.chan_model.specs.declared.hold_state.HoldState.{HoldState}
 use Rattle.chan_model.specs.declared.names.Side.{Side}
-use Rattle.chan_model.specs.Signals.{Down}
+use Rattle.chan_model.specs.Signals.{Down, Load, Up, load_bytes}
 use Rattle.chan_model.specs.declared.signal.Down.TheVariants as down
-use Rattle.chan_model.specs.Signals.{Load}
 use Rattle.chan_model.specs.declared.signal.OnPath.{OnPath}
-use Rattle.chan_model.specs.Signals.{Up}
 use Rattle.chan_model.specs.declared.signal.Up.TheVariants as up
 use Rattle.chan_model.specs.declared.unit_state.AtHand.{AtHand}
 use Rattle.chan_model.specs.declared.unit_state.UnitState.{UnitState}
@@ -49,7 +47,6 @@ use Rattle.subchannel_model.specs.Taking as taking
 use Rattle.subchannel_model.specs.Parts as taking_parts
 use Rattle.subchannel_model.proofs.Named as pieces
 use Rattle.subchannel_model.specs.Taking.{goes_ahead, from_start, takes_up, with_end}
-use Rattle.chan_model.specs.Signals.{load_bytes}
 use Rattle.subchannel_model.specs.Sending.{with_any_sent}
 use Rattle.wires.specs.Queues.{taken}
 use Rattle.program_laws.specs.DataAreas.{data_areas}
