@@ -34,14 +34,20 @@ use wires::Wires;
 const NUMBERS_OF_A_SET: u16 = 0x100;
 
 /// A subchannel at the opening.
-fn opened(setup: &SubchannelSetup) -> Subchannel
-    ensures { result ≡ opening_spec.opened setup.now }
+fn opened<S: Supply>(
+    alloc: Global,
+    supply: &mut S,
+    setup: &SubchannelSetup,
+) -> Result<Subchannel, AllocError>
+    ensures opened { IfOk result (λ sub. sub ≡ opening_spec.opened setup.now) }
+    ensures given { OnOk result (S.refused supply.new ≡ S.refused supply.old) }
+    ensures memory { OnErr result (S.refused supply.new ≡ true) }
 {
-    Subchannel {
+    Ok(Subchannel {
         setup: setup.copy(),
         state: opening_subchannel(),
-        wires: Wires::new(),
-    }
+        wires: Wires::new_with(alloc, supply)?,
+    })
 }
 
 fn opening_subchannel() -> SubchannelState
@@ -77,7 +83,8 @@ fn opened_all<S: Supply>(
 {
     let mut subs = Vec::new(alloc);
     for setup in setups {
-        push(supply, &mut subs, opened(setup))?;
+        let sub = opened(alloc, supply, setup)?;
+        push(supply, &mut subs, sub)?;
     }
     Ok(subs)
 }

@@ -1,12 +1,14 @@
 //! The signals that wait on the way down of one path.
 
-ghost use Rattle.std.specs.Prelude.{◌≡◌, ◌<◌, ◌↔◌, [], ◌∷◌, ◌++◌, None, Some, IsTrue, IsSome, MatchOption, length, replicate, slice_get, drop};
+ghost use Rattle.std.specs.Prelude.{◌≡◌, ◌<◌, ◌↔◌, [], ◌∷◌, ◌++◌, None, Some, IfOk, IsTrue, IsSome, MatchOption, OnErr, OnOk, length, replicate, slice_get, drop, true};
 ghost use Rattle.std.specs.Bool.{OnFalse};
 ghost use Rattle.chan_model.specs.Signals.{lent_down};
 
 use chan_model::signal::LentDown;
 use chan_model::slots::DownSlot;
+use std::alloc::{AllocError, Global};
 use std::marker::Model;
+use supply::{Supply, make_room, push};
 
 /// A ring of eight places, which stay where they are: sending writes the one behind the last signal, and nothing else is
 /// touched.
@@ -50,20 +52,22 @@ impl Downs {
         }
     }
 
-    /// A ring for each of the eight paths, where no signal waits.
-    pub fn on_each_path() -> [Downs; 8]
-        ensures { result ≡ replicate 8 [] }
+    /// A ring for each of the eight paths, where no signal waits. Each is made where it stays. It is refused only where the supply
+    /// refuses a growth.
+    pub fn on_each_path<S: Supply>(
+        alloc: Global,
+        supply: &mut S,
+    ) -> Result<Vec<Downs>, AllocError>
+        ensures made { IfOk result (λ rings. rings.items ≡ replicate 8 []) }
+        ensures given { OnOk result (S.refused supply.new ≡ S.refused supply.old) }
+        ensures memory { OnErr result (S.refused supply.new ≡ true) }
     {
-        [
-            Downs::new(),
-            Downs::new(),
-            Downs::new(),
-            Downs::new(),
-            Downs::new(),
-            Downs::new(),
-            Downs::new(),
-            Downs::new(),
-        ]
+        let mut rings = Vec::new(alloc);
+        make_room(supply, &mut rings, 8)?;
+        for _path in 0..8usize {
+            push(supply, &mut rings, Downs::new())?;
+        }
+        Ok(rings)
     }
 
     /// Whether there is no room.

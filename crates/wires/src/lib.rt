@@ -5,14 +5,14 @@
 //! in which they were sent, once each; only `lose` makes signals vanish, and then all of one path, both ways. No call changes a
 //! queue but those that it names. Sending has the condition that there is room, and letting go that a signal waits;
 //! `down_is_full` and `front_down` tell that beforehand, and so do their like for the way up. A queue is a ring of places that
-//! are made with the wires and stay where they are: sending writes one place, and a signal is read where it stands. Nothing
-//! here takes memory.
+//! are made with the wires and stay where they are, also where the wires are moved: sending writes one place, and a signal is
+//! read where it stands. Only the making takes memory.
 #![tactic(auto)]
 
 mod downs;
 mod ups;
 
-ghost use Rattle.std.specs.Prelude.{◌≡◌, ◌<◌, ◌↔◌, None, Some, IsTrue, IsSome, MatchOption, length};
+ghost use Rattle.std.specs.Prelude.{◌≡◌, ◌<◌, ◌↔◌, None, Some, IfOk, IsTrue, IsSome, MatchOption, OnErr, OnOk, length, true};
 ghost use Rattle.std.specs.Bool.{OnFalse};
 ghost use Rattle.chan_model.specs.Signals.{lent_down, lent_up};
 ghost use Rattle.wires.specs.Queues.{no_queues, queue, first_of, sent, taken, lost};
@@ -21,32 +21,46 @@ use crate::downs::Downs;
 use crate::ups::Ups;
 use chan_model::names::Path;
 use chan_model::signal::{LentDown, LentUp};
+use std::alloc::{AllocError, Global};
 use std::marker::Model;
+use supply::{Given, Supply};
 
 /// The signals that wait, for each path down to the unit and up to the subchannel. A wire holds at most 8.
 #[derive(Drop)]
 pub struct Wires {
-    down: [Downs; 8],
-    up: [Ups; 8],
+    down: Vec<Downs>,
+    up: Vec<Ups>,
 }
 
 impl Model for Wires {
+    ghost use Rattle.std.specs.Prelude.{◌≡◌, length};
     ghost use Rattle.wires.specs.Queues.{Queues};
 
     ghost Value = { Queues };
 
-    ghost view = { λ w. record { down = w.down; up = w.up } };
+    ghost view = { λ w. record { down = w.down.items; up = w.up.items } };
+
+    ghost invariant = { λ w. (length w.down.items ≡ 8) × (length w.up.items ≡ 8) };
 }
 
 impl Wires {
     /// No signal waits.
-    pub fn new() -> Self
-        ensures { result ≡ no_queues }
+    pub fn new(alloc: Global) -> Result<Self, AllocError>
+        ensures { IfOk result (λ wires. wires ≡ no_queues) }
     {
-        Wires {
-            down: Downs::on_each_path(),
-            up: Ups::on_each_path(),
-        }
+        Wires::new_with(alloc, &mut Given { refused: false })
+    }
+
+    /// No signal waits, in what room a supply has. It is refused only where the supply refuses a growth.
+    pub fn new_with<S: Supply>(alloc: Global, supply: &mut S) -> Result<Self, AllocError>
+        ensures made { IfOk result (λ wires. wires ≡ no_queues) }
+        ensures given { OnOk result (S.refused supply.new ≡ S.refused supply.old) }
+        ensures memory { OnErr result (S.refused supply.new ≡ true) }
+    {
+        Ok(Wires {
+            down: Downs::on_each_path(alloc, supply)?,
+            up: Ups::on_each_path(alloc, supply)?,
+        })
     }
 
     /// Whether the wire down of a path has no room.
