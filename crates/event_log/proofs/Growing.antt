@@ -1,21 +1,24 @@
 -- Entries over an arena that grows.
-use Rattle.std.proofs.Common.{◌≡◌, ◌≤◌, ◌<◌, ℕ, zero, suc, ◌+◌, ◌∙◌, refl, sym, subst, ap, ap₂, add-one, List, [], ◌∷◌, ◌++◌, Some, arith, length, take, drop, get_or, length-append, length-drop}
+use Rattle.std.proofs.Common.{◌≡◌, ◌≤◌, ◌<◌, ℕ, zero, suc, ◌+◌, ◌-◌, ◌∙◌, refl, sym, subst, ap, ap₂, add-one, List, [], ◌∷◌, ◌++◌, Some, arith, length, take, drop, get_or, map, length-append, length-drop}
 use Rattle.std.proofs.Math.Seq.{drop-append_seam, take-length}
 use Rattle.std.proofs.lemmas.List.{same_lists, take_all, take-append-le, drop-append-le, append-nil, get_or-map, length-map, map_push}
 use Rattle.std.proofs.lemmas.List.Elements.{All-push}
 use Rattle.std.proofs.lemmas.Option.{same_Some, slice_get_read}
 use Rattle.std.specs.List.{slice_get}
+use Rattle.std.specs.Prelude.{All}
+use Rattle.chan_events.specs.declared.event.Event.{Event}
 use Rattle.chan_events.specs.declared.reply.Entry.{Entry}
+use Rattle.chan_events.specs.declared.reply.Reply.{Reply}
+use Rattle.chan_events.specs.declared.reply.Reply.TheVariants as reply
 use Rattle.kept_events.specs.declared.entries.KeptEntry.{KeptEntry}
 use Rattle.kept_events.specs.declared.events.KeptEvent.TheVariants as kept_event
 use Rattle.kept_events.specs.declared.replies.KeptReply.TheVariants as kept_reply
+use Rattle.kept_events.specs.declared.replies.KeptReply.{KeptReply}
 use Rattle.kept_events.specs.Entries.{entry_in, entry_length}
-use Rattle.event_log.specs.Logs.{entry_at, entries_at, Fits, AllFit}
-
--- an entry is kept with these bytes
-pub record IsKept (k : KeptEntry) (bytes : List ℕ) (e : Entry) : Type 0 where
-  pub long : entry_length k ≡ length bytes
-  pub same : entry_in k bytes ≡ e
+use Rattle.kept_events.specs.Events.{event_in, event_length}
+use Rattle.kept_events.specs.Replies.{reply_in, reply_length}
+use Rattle.kept_events.proofs.Packed.{reply-done, reply-front}
+use Rattle.event_log.specs.Logs.{entry_at, entries_at, last_reply, room_of, Fits, AllFit, IsWritten}
 
 -- a piece that lies in an arena is the same in a longer one
 cut-append : (arena more : List ℕ) (start count : ℕ) → start + count ≤ length arena →
@@ -49,34 +52,98 @@ entry-added arena bytes k is =
     let after = ap (λ s. drop s (arena ++ bytes)) is.start ∙ drop-append_seam arena bytes in
     ap (entry_in k) (ap₂ take is.long after ∙ take-length bytes)
 
-pub entries-added : (arena bytes : List ℕ) (ks : List KeptEntry) (k : KeptEntry) → AllFit arena ks → IsAdded arena bytes k →
+entries-added : (arena bytes : List ℕ) (ks : List KeptEntry) (k : KeptEntry) → AllFit arena ks → IsAdded arena bytes k →
     entries_at (arena ++ bytes) (ks ++ k ∷ []) ≡ entries_at arena ks ++ entry_in k bytes ∷ []
 entries-added arena bytes ks k fit is =
     map_push (entry_at (arena ++ bytes)) ks k
     ∙ ap₂ (λ (h : List Entry) (x : Entry). h ++ x ∷ []) (entries-append arena bytes ks fit) (entry-added arena bytes k is)
 
-pub fit-added : (arena bytes : List ℕ) (ks : List KeptEntry) (k : KeptEntry) → AllFit arena ks → IsAdded arena bytes k → AllFit (arena ++ bytes) (ks ++ k ∷ [])
-fit-added arena bytes ks k fit is =
-    let size = length-append arena bytes in
-    All-push (Fits (length (arena ++ bytes))) ks k (λ i d within. omega (arith, fit i d within, size)) (omega (arith, is.start, is.long, size))
+-- entries that end before a place fit in an arena that goes on
+pub fit-within : (arena : List ℕ) (start : ℕ) (ks : List KeptEntry) → start ≤ length arena → All (Fits start) ks → AllFit arena ks
+fit-within arena start ks inside fit = λ i d within. omega (arith, fit i d within, inside)
 
--- the bytes of an entry, as they are where nothing follows
-pub whole-bytes : (k : KeptEntry) (bytes : List ℕ) (e : Entry) → ((rest : List ℕ) → entry_in k (bytes ++ rest) ≡ e) → entry_in k bytes ≡ e
-whole-bytes k bytes e kept = ap (entry_in k) (sym (append-nil bytes)) ∙ kept []
+fit-further : (near far : ℕ) (ks : List KeptEntry) → near ≤ far → All (Fits near) ks → All (Fits far) ks
+fit-further near far ks further fit = λ i d within. omega (arith, fit i d within, further)
 
--- entries and their bytes, grown by one entry
-pub record Grown (arena : List ℕ) (ks : List KeptEntry) (after : List ℕ) (later : List KeptEntry) (e : Entry) : Type 0 where
-  pub fit : AllFit after later
-  pub same : entries_at after later ≡ entries_at arena ks ++ e ∷ []
+-- bytes behind an entry that is being written leave those before it
+pub entries-stay : (arena more : List ℕ) (start : ℕ) (ks : List KeptEntry) → start ≤ length arena → All (Fits start) ks →
+    entries_at (arena ++ more) ks ≡ entries_at arena ks
+entries-stay arena more start ks inside fit = entries-append arena more ks (fit-within arena start ks inside fit)
 
-pub grown : (arena more after : List ℕ) (ks later : List KeptEntry) (k : KeptEntry) (e : Entry) → after ≡ arena ++ more → later ≡ ks ++ k ∷ [] →
-    AllFit arena ks → k.start ≡ length arena → IsKept k more e → Grown arena ks after later e
-grown arena more after ks later k e is grew fit start kept =
-    let added : IsAdded arena more k = record { start = start; long = kept.long } in
+-- a reply whose bytes are added where none of it stood
+pub record IsBegun (arena : List ℕ) (start : ℕ) (before : KeptReply) : Type 0 where
+  pub ends : start ≡ length arena
+  pub none : reply_length before ≡ 0
+
+pub begun : (arena : List ℕ) (ks : List KeptEntry) (start : ℕ) (k : KeptReply) → IsWritten arena ks start k → reply_in k (drop start arena) ≡ reply.Done → IsBegun arena start k
+begun arena ks start k is fresh =
+    let none : reply_length k ≡ 0 = reply-done k (drop start arena) (omega (arith, is.whole, length-drop start arena)) fresh in
+    record { ends = omega (arith, is.whole, none); none = none }
+
+pub added-behind : (arena more : List ℕ) (start : ℕ) → start ≡ length arena → drop start (arena ++ more) ≡ more
+added-behind arena more start ends = ap (λ n. drop n (arena ++ more)) ends ∙ drop-append_seam arena more
+
+pub told-behind : (arena more : List ℕ) (start : ℕ) (k : KeptReply) (r : Reply) → start ≡ length arena → ((rest : List ℕ) → reply_in k (more ++ rest) ≡ r) →
+    reply_in k (drop start (arena ++ more)) ≡ r
+told-behind arena more start k r ends told = ap (reply_in k) (added-behind arena more start ends ∙ sym (append-nil more)) ∙ told []
+
+-- a greater capacity has no less room
+pub room-grows : (places near far start : ℕ) → near ≤ far → room_of places (near - start) ≤ room_of places (far - start)
+room-grows places near far start grows = omega (arith, grows)
+
+-- the entry that ends: its reply's bytes stand from its start on, and those of its event follow
+pub ended : (arena more : List ℕ) (ks : List KeptEntry) (k : KeptEntry) (e : Event) → IsWritten arena ks k.start k.reply →
+    ((rest : List ℕ) → event_in k.event (more ++ rest) ≡ e) → event_length k.event ≡ length more →
+    entries_at (arena ++ more) (ks ++ k ∷ []) ≡ entries_at arena ks ++ record { event = e; reply = reply_in k.reply (drop k.start arena) } ∷ []
+ended arena more ks k e is kept long =
+    let behind-start = drop k.start arena in
+    let size = length-drop k.start arena in
+    let fits : reply_length k.reply ≤ length behind-start = omega (arith, is.whole, size) in
+    let behind : drop k.start (arena ++ more) ≡ behind-start ++ more = drop-append-le k.start arena more is.inside in
+    let all : take (entry_length k) (behind-start ++ more) ≡ behind-start ++ more = take_all (entry_length k) (behind-start ++ more) (omega (arith, is.whole, size, long, length-append behind-start more)) in
+    let first : reply_in k.reply (behind-start ++ more) ≡ reply_in k.reply behind-start = reply-front k.reply behind-start more fits in
+    let rest : drop (reply_length k.reply) (behind-start ++ more) ≡ more = ap (λ n. drop n (behind-start ++ more)) (omega (arith, is.whole, size)) ∙ drop-append_seam behind-start more in
+    let second : event_in k.event (drop (reply_length k.reply) (behind-start ++ more)) ≡ e = ap (event_in k.event) (rest ∙ sym (append-nil more)) ∙ kept [] in
+    map_push (entry_at (arena ++ more)) ks k
+    ∙ ap₂ (λ (h : List Entry) (x : Entry). h ++ x ∷ []) (entries-append arena more ks (fit-within arena k.start ks is.inside is.fit))
+    (ap (λ xs. entry_in k (take (entry_length k) xs)) behind ∙ ap (entry_in k) all ∙ ap₂ (λ (x : Event) (y : Reply). record { event = x; reply = y }) second first)
+
+fit-more : (arena more : List ℕ) (ks : List KeptEntry) (k : KeptEntry) → IsWritten arena ks k.start k.reply → event_length k.event ≡ length more →
+    IsWritten (arena ++ more) (ks ++ k ∷ []) (length (arena ++ more)) kept_reply.Done
+fit-more arena more ks k is long =
+    let size = length-append arena more in
     record {
-      fit = subst (λ (x : List KeptEntry). AllFit after x) (sym grew) (subst (λ (a : List ℕ). AllFit a (ks ++ k ∷ [])) (sym is) (fit-added arena more ks k fit added));
-      same = ap₂ entries_at is grew ∙ (entries-added arena more ks k fit added ∙ ap (λ (x : Entry). entries_at arena ks ++ x ∷ []) kept.same);
+      fit = All-push (Fits (length (arena ++ more))) ks k (fit-further k.start (length (arena ++ more)) ks (omega (arith, is.inside, size)) is.fit) (omega (arith, is.whole, long, size));
+      inside = omega arith;
+      whole = omega arith;
+      bound = omega arith;
     }
+
+pub fit-ended : (arena more after : List ℕ) (ks later : List KeptEntry) (k : KeptEntry) (far : ℕ) → after ≡ arena ++ more → later ≡ ks ++ k ∷ [] → far ≡ length after →
+    IsWritten arena ks k.start k.reply → event_length k.event ≡ length more → IsWritten after later far kept_reply.Done
+fit-ended arena more after ks later k far grew pushed counts is long =
+    subst (λ (n : ℕ). IsWritten after later n kept_reply.Done) (sym counts)
+    (subst (λ (l : List KeptEntry). IsWritten after l (length after) kept_reply.Done) (sym pushed)
+    (subst (λ (a : List ℕ). IsWritten a (ks ++ k ∷ []) (length a) kept_reply.Done) (sym grew) (fit-more arena more ks k is long)))
+
+-- an entry that is added with its bytes, where none is being written
+pub kept-added : (arena bytes : List ℕ) (ks : List KeptEntry) (before : KeptReply) (k : KeptEntry) → IsWritten arena ks k.start before → IsBegun arena k.start before →
+    entry_length k ≡ length bytes → entries_at (arena ++ bytes) (ks ++ k ∷ []) ≡ entries_at arena ks ++ entry_in k bytes ∷ []
+kept-added arena bytes ks before k is new long =
+    entries-added arena bytes ks k (fit-within arena k.start ks is.inside is.fit) (record { start = new.ends; long = long })
+
+-- the reply of the last entry
+pub last-of : (f : KeptEntry → Entry) (ks : List KeptEntry) (n : ℕ) (d : KeptEntry) → suc n ≡ length ks → last_reply (map f ks) ≡ (f (get_or ks n d)).reply
+last-of f [] n d e = absurd (omega (arith, e))
+last-of f (k ∷ []) zero d e = refl
+last-of f (k ∷ []) (suc n) d e = absurd (omega (arith, e))
+last-of f (k ∷ l ∷ ks) zero d e = absurd (omega (arith, e))
+last-of f (k ∷ l ∷ ks) (suc n) d e = last-of f (l ∷ ks) n d (omega (arith, e))
+
+pub last-pushed : (h : List Entry) (e : Entry) → last_reply (h ++ e ∷ []) ≡ e.reply
+last-pushed [] e = refl
+last-pushed (x ∷ []) e = refl
+last-pushed (x ∷ y ∷ h) e = last-pushed (y ∷ h) e
 
 pub same_heads : {A : Type 0} (x y : A) (xs ys : List A) → x ∷ xs ≡ y ∷ ys → x ≡ y
 same_heads x y xs ys e = cc

@@ -1,13 +1,29 @@
 -- Packed entries over one arena of bytes, and the entries that they are.
-use Rattle.std.specs.Prelude.{ℕ, ◌≡◌, ◌+◌, ◌/◌, ◌≤◌, ◌<◌, min, List, All, length, take, drop, map, slice_get}
+use Rattle.std.specs.Prelude.{ℕ, ◌≡◌, ◌+◌, ◌/◌, ◌≤◌, ◌<◌, ◌++◌, min, List, [], ◌∷◌, All, Vec, vec_len, vec_capacity, Result, Ok, Err, length, take, drop, map, slice_get}
 use Rattle.chan_events.specs.declared.reply.Entry.{Entry}
+use Rattle.chan_events.specs.declared.reply.Reply.{Reply}
+use Rattle.chan_events.specs.declared.reply.Reply.TheVariants as reply
+use Rattle.chan_model.specs.declared.fault.Fault.{Fault}
 use Rattle.kept_events.specs.Entries.{entry_in, entry_length}
+use Rattle.kept_events.specs.Replies.{reply_bytes, reply_in, reply_length}
 use Rattle.kept_events.specs.declared.entries.KeptEntry.{KeptEntry}
+use Rattle.kept_events.specs.declared.replies.KeptReply.{KeptReply}
 
--- entries, and for how many more of them there is room
+-- entries, for how many more of them there is room, and the reply of the one that is being written: Done, until a step answers
 pub record Logged : Type 0 where
   pub entries : List Entry
   pub room : ℕ
+  pub reply : Reply
+
+-- no entry came or went, and no room was lost
+pub record IsKept (old new : Logged) : Type 0 where
+  pub entries : new.entries ≡ old.entries
+  pub room : old.room ≤ new.room
+
+-- what a step came to: its refusal, or the reply that stands in the log
+abbrev pub answer_in : {A : Type 0} → Result A Fault → Logged → Result Reply Fault
+answer_in (Ok _) log = Ok log.reply
+answer_in (Err f) log = Err f
 
 -- room for one more takes a place among the entries, and 768 bytes, as many as an entry may have
 abbrev pub room_of : (places bytes : ℕ) → ℕ
@@ -26,6 +42,28 @@ Fits size kept = kept.start + entry_length kept ≤ size
 
 abbrev pub AllFit : List ℕ → List KeptEntry → Type 0
 AllFit arena kept = All (Fits (length arena)) kept
+
+-- the reply of the last entry; Done where there is none
+abbrev pub last_reply : List Entry → Reply
+last_reply [] = reply.Done
+last_reply (e ∷ []) = e.reply
+last_reply (e ∷ f ∷ h) = last_reply (f ∷ h)
+
+-- the same in the part of an arena before an entry that is being written; behind it stand the bytes of its reply, and no others
+pub record IsWritten (arena : List ℕ) (kept : List KeptEntry) (start : ℕ) (reply : KeptReply) : Type 0 where
+  pub fit : All (Fits start) kept
+  pub inside : start ≤ length arena
+  pub whole : start + reply_length reply ≡ length arena
+  pub bound : reply_length reply ≤ 512
+
+-- an arena has grown by the bytes of a reply, which is told by what is kept of it and them
+pub record IsPacked {Z : Type 0} (old new : Vec ℕ Z) (kept : KeptReply) (r : Reply) : Type 0 where
+  pub told : (rest : List ℕ) → reply_in kept (reply_bytes r ++ rest) ≡ r
+  pub long : reply_length kept ≡ length (reply_bytes r)
+  pub items : new.items ≡ old.items ++ reply_bytes r
+  pub bound : length (reply_bytes r) ≤ 512
+  pub size : vec_len new ≡ vec_len old + length (reply_bytes r)
+  pub capacity : vec_capacity old ≤ vec_capacity new
 
 -- entries have one at a place, and others have the same at another
 abbrev pub HasSame : List Entry → ℕ → List Entry → ℕ → Type 0

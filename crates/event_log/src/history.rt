@@ -1,14 +1,17 @@
 //! What was accepted, in order.
 
-ghost use Rattle.std.specs.Prelude.{◌≡◌, ◌≤◌, ◌+◌, ◌++◌, ◌∷◌, ◌↔◌, [], IsTrue, List, length, take, drop, slice_get};
+ghost use Rattle.std.specs.Prelude.{◌≡◌, ◌≤◌, ◌+◌, ◌++◌, ◌∷◌, ◌↔◌, [], IfNone, IfSome, IsTrue, List, length, take, drop, slice_get};
 ghost use Rattle.chan_events.specs.declared.reply.Entry.{Entry};
+ghost use Rattle.chan_events.specs.declared.reply.Reply.TheVariants as reply_spec;
 ghost use Rattle.kept_events.specs.Entries.{entry_length};
+ghost use Rattle.kept_events.specs.Replies.{reply_in, reply_length};
 ghost use Rattle.event_log.specs.Logs.{AllFit, HasSame, entries_at};
 ghost use Rattle.event_log.specs.Logs as spec;
 
 use crate::logs::Log;
-use chan_events::reply::Entry;
+use chan_events::reply::{Entry, Reply};
 use kept_events::entries::KeptEntry;
+use kept_events::replies::KeptReply;
 use kept_events::same::{same_event, same_reply};
 use std::marker::Model;
 
@@ -29,6 +32,42 @@ impl<'a> Model for History<'a> {
     ghost view = { λ h. entries_at h.bytes.now h.entries.now };
 
     ghost invariant = { λ h. AllFit h.bytes.now h.entries.now };
+}
+
+/// A reply as it is kept, its bytes lent.
+#[derive(Drop)]
+pub struct LentReply<'a> {
+    kept: &'a KeptReply,
+    bytes: &'a [u8],
+}
+
+impl<'a> Model for LentReply<'a> {
+    ghost use Rattle.std.specs.Prelude.{◌≤◌, length};
+    ghost use Rattle.chan_events.specs.declared.reply.Reply.{Reply};
+    ghost use Rattle.kept_events.specs.Replies.{reply_in, reply_length};
+
+    ghost Value = { Reply };
+
+    ghost view = { λ r. reply_in r.kept.now r.bytes.now };
+
+    ghost invariant = { λ r. reply_length r.kept.now ≤ length r.bytes.now };
+}
+
+impl<'a> LentReply<'a> {
+    /// The same reply with bytes of its own; it takes no memory.
+    pub fn own(&self) -> Reply
+        ensures { result ≡ self.now }
+    {
+        self.kept.with(self.bytes)
+    }
+
+    /// What is kept of it, and its bytes, of which there may be more than it has.
+    pub fn parts(&self) -> (&'a KeptReply, &'a [u8])
+        ensures reply { reply_in result.0.now result.1.now ≡ self.now }
+        ensures whole { reply_length result.0.now ≤ length result.1.now }
+    {
+        (self.kept, self.bytes)
+    }
 }
 
 impl<'a> History<'a> {
@@ -76,9 +115,28 @@ impl<'a> History<'a> {
             || are_same(self, other)
     }
 
-    /// Adds the last entry, where there is one, to a log that has room for it.
+    /// The reply of the last entry; None where there is none.
+    #[inline]
+    pub fn last_reply(&self) -> Option<LentReply<'a>>
+        ensures reply { IfSome result (λ reply. reply ≡ spec.last_reply self.now) }
+        ensures none { IfNone result (self.now ≡ []) }
+    {
+        let count = self.entries.len();
+        if count == 0 {
+            return None;
+        }
+        let kept = &self.entries[count - 1];
+        Some(LentReply {
+            kept: &kept.reply,
+            bytes: bytes_of(kept, self.bytes),
+        })
+    }
+
+    /// Adds the last entry, where there is one, to a log that has room for it and in which no other is being written.
     pub fn add_last(&self, log: &mut Log)
-        requires { 1 ≤ log.old.room }
+        requires room { 1 ≤ log.old.room }
+        requires fresh { log.old.reply ≡ reply_spec.Done }
+        ensures fresh { log.new.reply ≡ reply_spec.Done }
         ensures entries { (h : List Entry) (e : Entry) → self.now ≡ h ++ e ∷ [] → log.new.entries ≡ log.old.entries ++ e ∷ [] }
         ensures none { self.now ≡ [] → log.new.entries ≡ log.old.entries }
         ensures room { log.old.room ≤ log.new.room + 1 }

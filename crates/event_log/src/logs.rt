@@ -1,19 +1,23 @@
 //! A log that grows at its end.
 
-ghost use Rattle.std.specs.Prelude.{◌≡◌, ◌≤◌, ◌<◌, ◌+◌, ◌++◌, ◌∷◌, [], ℕ, List, OnOk, OnErr, IsTrue, true, length, vec_len, vec_capacity};
-ghost use Rattle.kept_events.specs.Entries.{entry_bytes, entry_in, entry_length};
-ghost use Rattle.signal_places.specs.Answers.{reply_at};
+ghost use Rattle.std.specs.Prelude.{◌≡◌, ◌≤◌, ◌<◌, ◌+◌, ◌++◌, ◌∷◌, [], OnOk, OnErr, IsTrue, true, length, vec_len, vec_capacity};
+ghost use Rattle.chan_events.specs.declared.reply.Reply.TheVariants as reply_spec;
+ghost use Rattle.chan_model.specs.Signals.{lent_down, lent_up, map_sent};
+ghost use Rattle.event_log.specs.Logs.{IsKept, IsPacked, answer_in};
+ghost use Rattle.kept_events.specs.Entries.{entry_in, entry_length};
+ghost use Rattle.signal_places.specs.Plain.{plain_outcome};
 
-use crate::answers::pack;
-use crate::arena::{add_bytes, add_entry, add_some};
+use crate::arena::add_bytes;
 use crate::history::History;
 use chan_events::event::Event;
-use chan_events::reply::Reply;
+use chan_model::chunk::ChunkLength;
+use chan_model::fault::Fault;
+use chan_model::signal::{LentDown, LentUp, OnPath};
 use kept_events::bytes::event_bytes;
 use kept_events::entries::KeptEntry;
 use kept_events::events::KeptEvent;
 use kept_events::replies::KeptReply;
-use signal_places::answers::AnswerPlace;
+use signal_places::plain::PlainReply;
 use std::alloc::{AllocError, Global};
 use std::marker::Model;
 use supply::{Given, Supply, ensure_room};
@@ -21,36 +25,42 @@ use supply::{Given, Supply, ensure_room};
 /// As many bytes as an entry may have: a chunk of its event and two of its reply.
 pub const ENTRY_BYTES: usize = 768;
 
-/// Entries, the oldest first, with the bytes of all.
+/// Entries, the oldest first, with the bytes of all, and the reply of the entry that is being written: Done, until a step answers.
 #[derive(Drop)]
 pub struct Log {
     entries: Vec<KeptEntry>,
     bytes: Vec<u8>,
+    /// Where the bytes of the entry that is being written begin.
+    start: usize,
+    reply: KeptReply,
 }
 
 impl Model for Log {
-    ghost use Rattle.std.specs.Prelude.{◌-◌, vec_len, vec_capacity};
-    ghost use Rattle.event_log.specs.Logs.{Logged, AllFit, entries_at, room_of};
+    ghost use Rattle.std.specs.Prelude.{◌-◌, drop, vec_len, vec_capacity};
+    ghost use Rattle.kept_events.specs.Replies.{reply_in};
+    ghost use Rattle.event_log.specs.Logs.{IsWritten, Logged, entries_at, room_of};
 
     ghost Value = { Logged };
 
     ghost view = { λ l. record {
       entries = entries_at l.bytes.items l.entries.items;
-      room = room_of (vec_capacity l.entries - vec_len l.entries) (vec_capacity l.bytes - vec_len l.bytes);
+      room = room_of (vec_capacity l.entries - vec_len l.entries) (vec_capacity l.bytes - l.start);
+      reply = reply_in l.reply (drop l.start l.bytes.items);
     } };
 
-    ghost invariant = { λ l. AllFit l.bytes.items l.entries.items };
+    ghost invariant = { λ l. IsWritten l.bytes.items l.entries.items l.start l.reply };
 }
 
 impl Log {
     /// No entries.
     pub fn new(alloc: Global) -> Self
-        ensures entries { result.entries ≡ [] }
-        ensures room { result.room ≡ 0 }
+        ensures { result ≡ record { entries = []; room = 0; reply = reply_spec.Done } }
     {
         Log {
             entries: Vec::new(alloc),
             bytes: Vec::new(alloc),
+            start: 0,
+            reply: KeptReply::Done,
         }
     }
 
@@ -64,8 +74,8 @@ impl Log {
     /// Makes room for one entry. It is refused only where there was none and a growth was refused, and changes nothing then.
     #[inline(always)]
     pub fn make_room(&mut self) -> Result<(), AllocError>
-        ensures entries { self.new.entries ≡ self.old.entries }
-        ensures kept { self.old.room ≤ self.new.room }
+        ensures kept { IsKept self.old self.new }
+        ensures reply { self.new.reply ≡ self.old.reply }
         ensures made { OnOk result (1 ≤ self.new.room) }
         ensures refused { OnErr result (self.new ≡ self.old) }
         ensures spent { OnErr result (self.old.room ≡ 0) }
@@ -77,8 +87,8 @@ impl Log {
     /// it, and changes nothing then.
     #[inline(always)]
     pub fn make_room_with<S: Supply>(&mut self, supply: &mut S) -> Result<(), AllocError>
-        ensures entries { self.new.entries ≡ self.old.entries }
-        ensures kept { self.old.room ≤ self.new.room }
+        ensures kept { IsKept self.old self.new }
+        ensures reply { self.new.reply ≡ self.old.reply }
         ensures made { OnOk result (1 ≤ self.new.room) }
         ensures refused { OnErr result (self.new ≡ self.old) }
         ensures spent { OnErr result (self.old.room ≡ 0) }
@@ -97,15 +107,15 @@ impl Log {
         ensures { IsTrue result → 1 ≤ self.now.room }
     {
         self.entries.len() < self.entries.capacity()
-            && ENTRY_BYTES <= self.bytes.capacity() - self.bytes.len()
+            && ENTRY_BYTES <= self.bytes.capacity() - self.start
     }
 
     /// `make_room_with`, where there may be none: apart, as it is rare.
     #[cold]
     #[inline(never)]
     fn grow<S: Supply>(&mut self, supply: &mut S) -> Result<(), AllocError>
-        ensures entries { self.new.entries ≡ self.old.entries }
-        ensures kept { self.old.room ≤ self.new.room }
+        ensures kept { IsKept self.old self.new }
+        ensures reply { self.new.reply ≡ self.old.reply }
         ensures made { OnOk result (1 ≤ self.new.room) }
         ensures refused { OnErr result (self.new ≡ self.old) }
         ensures spent { OnErr result (self.old.room ≡ 0) }
@@ -113,47 +123,94 @@ impl Log {
         ensures memory { OnErr result (S.refused supply.new ≡ true) }
     {
         ensure_room(supply, &mut self.entries, 1)?;
-        ensure_room(supply, &mut self.bytes, ENTRY_BYTES)
+        let written = self.bytes.len() - self.start;
+        ensure_room(supply, &mut self.bytes, ENTRY_BYTES - written)
     }
 
-    /// Adds an event with its reply, for which there is room.
-    pub fn append(&mut self, event: &Event, reply: &Reply)
-        requires { 1 ≤ self.old.room }
-        ensures entries { self.new.entries ≡ self.old.entries ++ record { event = event.now; reply = reply.now } ∷ [] }
-        ensures room { self.old.room ≤ self.new.room + 1 }
+    /// The reply of the entry that is being written is this one, which has no bytes; a refusal changes nothing.
+    #[inline(always)]
+    pub fn tell(&mut self, answer: Result<PlainReply, Fault>) -> Result<(), Fault>
+        requires fresh { self.old.reply ≡ reply_spec.Done }
+        ensures told { answer_in result self.new ≡ plain_outcome answer }
+        ensures kept { IsKept self.old self.new }
+        ensures refused { OnErr result (self.new ≡ self.old) }
     {
-        let entry = KeptEntry::of(self.bytes.len(), event, reply);
-        add_entry(&mut self.bytes, event, reply);
-        push(&mut self.entries, entry.start, entry.event, entry.reply);
+        self.reply = answer?.keep();
+        Ok(())
     }
 
-    /// Adds an event with the reply that stands in a place, for which there is room.
-    pub fn append_answer(&mut self, event: &Event, place: &AnswerPlace)
-        requires { 1 ≤ self.old.room }
-        ensures entries { self.new.entries ≡ self.old.entries ++ record { event = event.now; reply = reply_at place.now } ∷ [] }
-        ensures room { self.old.room ≤ self.new.room + 1 }
+    /// It shows bytes of storage.
+    pub fn show(&mut self, bytes: &[u8])
+        requires room { 1 ≤ self.old.room }
+        requires fresh { self.old.reply ≡ reply_spec.Done }
+        requires bound { length bytes.now ≤ 256 }
+        ensures reply { self.new.reply ≡ reply_spec.Shown bytes.now }
+        ensures kept { IsKept self.old self.new }
     {
-        let number = self.entries.len();
+        self.reply = KeptReply::Shown {
+            length: ChunkLength::of(bytes),
+        };
+        add_bytes(&mut self.bytes, bytes);
+    }
+
+    /// A subchannel met a signal up, and may have sent one down.
+    #[inline]
+    pub fn meet_up(&mut self, signal: &LentUp<'_>, taken: bool, sent: &Option<OnPath<LentDown<'_>>>)
+        requires room { 1 ≤ self.old.room }
+        requires fresh { self.old.reply ≡ reply_spec.Done }
+        ensures reply { self.new.reply ≡ reply_spec.Up (lent_up signal.now) taken (map_sent lent_down sent.now) }
+        ensures kept { IsKept self.old self.new }
+    {
+        self.reply = pack_up(&mut self.bytes, signal, taken, sent);
+    }
+
+    /// A unit met a signal down, and may have sent one up.
+    #[inline]
+    pub fn meet_down(
+        &mut self,
+        signal: &LentDown<'_>,
+        taken: bool,
+        sent: &Option<OnPath<LentUp<'_>>>,
+    )
+        requires room { 1 ≤ self.old.room }
+        requires fresh { self.old.reply ≡ reply_spec.Done }
+        ensures reply { self.new.reply ≡ reply_spec.Down (lent_down signal.now) taken (map_sent lent_up sent.now) }
+        ensures kept { IsKept self.old self.new }
+    {
+        self.reply = pack_down(&mut self.bytes, signal, taken, sent);
+    }
+
+    /// The entry that is being written ends: it is of this event, with its reply.
+    pub fn finish(&mut self, event: &Event)
+        requires { 1 ≤ self.old.room }
+        ensures entries { self.new.entries ≡ self.old.entries ++ record { event = event.now; reply = self.old.reply } ∷ [] }
+        ensures room { self.old.room ≤ self.new.room + 1 }
+        ensures fresh { self.new.reply ≡ reply_spec.Done }
+    {
         push(
             &mut self.entries,
-            self.bytes.len(),
-            KeptEvent::SystemReset,
-            KeptReply::Done,
+            self.start,
+            KeptEvent::of(event),
+            self.reply,
         );
-        fill(&mut self.entries[number], &mut self.bytes, event, place);
+        add_bytes(&mut self.bytes, event_bytes(event));
+        self.start = self.bytes.len();
+        self.reply = KeptReply::Done;
     }
 
     /// Adds an entry that is kept with these bytes, for which there is room.
     pub fn append_kept(&mut self, kept: &KeptEntry, bytes: &[u8])
         requires room { 1 ≤ self.old.room }
+        requires fresh { self.old.reply ≡ reply_spec.Done }
         requires whole { entry_length kept.now ≡ length bytes.now }
         requires bound { length bytes.now ≤ 768 }
         ensures entries { self.new.entries ≡ self.old.entries ++ entry_in kept.now bytes.now ∷ [] }
         ensures room { self.old.room ≤ self.new.room + 1 }
+        ensures fresh { self.new.reply ≡ reply_spec.Done }
     {
-        let start = self.bytes.len();
-        push_same(&mut self.entries, start, kept);
+        push_same(&mut self.entries, self.start, kept);
         add_bytes(&mut self.bytes, bytes);
+        self.start = self.bytes.len();
     }
 
     /// The entries.
@@ -164,21 +221,40 @@ impl Log {
     }
 }
 
-/// Writes the numbers of an event and of the reply that stands in a place, and adds their bytes.
-fn fill(entry: &mut KeptEntry, arena: &mut Vec<u8>, event: &Event, place: &AnswerPlace)
-    requires { vec_len arena.old + 768 ≤ vec_capacity arena.old }
-    ensures start { entry.new.start ≡ entry.old.start }
-    ensures kept { (rest : List ℕ) → entry_in entry.new (entry_bytes (record { event = event.now; reply = reply_at place.now }) ++ rest) ≡ record { event = event.now; reply = reply_at place.now } }
-    ensures length { entry_length entry.new ≡ length (entry_bytes (record { event = event.now; reply = reply_at place.now })) }
-    ensures items { arena.new.items ≡ arena.old.items ++ entry_bytes (record { event = event.now; reply = reply_at place.now }) }
-    ensures len { vec_len arena.new ≤ vec_len arena.old + 768 }
-    ensures capacity { vec_capacity arena.old ≤ vec_capacity arena.new }
+/// The reply to a signal up that was met, as it is kept; its bytes are added.
+#[inline]
+fn pack_up(
+    arena: &mut Vec<u8>,
+    signal: &LentUp<'_>,
+    taken: bool,
+    sent: &Option<OnPath<LentDown<'_>>>,
+) -> KeptReply
+    requires { vec_len arena.old + 512 ≤ vec_capacity arena.old }
+    ensures { IsPacked arena.old arena.new result (reply_spec.Up (lent_up signal.now) taken (map_sent lent_down sent.now)) }
 {
-    entry.event.put(event);
-    if entry.event.length() > 0 {
-        add_some(arena, event_bytes(event));
+    add_bytes(arena, signal.bytes());
+    if let Some(sent) = sent {
+        add_bytes(arena, sent.signal.bytes());
     }
-    pack(&mut entry.reply, arena, place);
+    KeptReply::met_up(signal, taken, sent)
+}
+
+/// The reply to a signal down that was met, as it is kept; its bytes are added.
+#[inline]
+fn pack_down(
+    arena: &mut Vec<u8>,
+    signal: &LentDown<'_>,
+    taken: bool,
+    sent: &Option<OnPath<LentUp<'_>>>,
+) -> KeptReply
+    requires { vec_len arena.old + 512 ≤ vec_capacity arena.old }
+    ensures { IsPacked arena.old arena.new result (reply_spec.Down (lent_down signal.now) taken (map_sent lent_up sent.now)) }
+{
+    add_bytes(arena, signal.bytes());
+    if let Some(sent) = sent {
+        add_bytes(arena, sent.signal.bytes());
+    }
+    KeptReply::met_down(signal, taken, sent)
 }
 
 /// Adds an entry of these parts, for which there is room.

@@ -1,5 +1,6 @@
 -- An entry that is kept is told by the entry that it is: by its numbers and by its bytes.
 use Rattle.std.proofs.Common.{◌≡◌, ◌≤◌, ℕ, ◌∙◌, refl, sym, ap, ap₂, arith, List, ◌++◌, None, Some, length, take, drop, take-add, length-drop, length-take-le}
+use Rattle.std.proofs.lemmas.List.{drop-append-le, take-append-le}
 use Rattle.chan_model.specs.declared.names.Side.{Side}
 use Rattle.chan_model.specs.declared.report.DeviceAnswer.{DeviceAnswer}
 use Rattle.chan_model.specs.declared.report.DeviceAnswer.TheVariants as answer
@@ -18,7 +19,7 @@ use Rattle.kept_events.specs.declared.replies.KeptReply.{KeptReply}
 use Rattle.kept_events.specs.declared.replies.KeptReply.TheVariants as kept_reply
 use Rattle.kept_events.specs.Entries.{entry_in, entry_length, entry_bytes}
 use Rattle.kept_events.specs.Events.{event_in, event_length, event_bytes}
-use Rattle.kept_events.specs.Replies.{reply_in, reply_length, reply_bytes}
+use Rattle.kept_events.specs.Replies.{down_met, reply_in, reply_length, reply_bytes, up_met}
 use Rattle.chan_model.specs.Signals.{Down, KeptDown, KeptUp, Up, map_down, map_load, map_up, down_in, down_length, down_bytes, up_in, up_length, up_bytes}
 
 -- what is kept of signals, events and replies
@@ -217,7 +218,7 @@ reply-bytes (kept_reply.DownSent taken path signal sent) bytes =
 
 entry-bytes : (k : KeptEntry) (bytes : List ℕ) → entry_bytes (entry_in k bytes) ≡ take (entry_length k) bytes
 entry-bytes k bytes =
-    ap₂ (λ (a b : List ℕ). a ++ b) (event-bytes k.event bytes) (reply-bytes k.reply (drop (event_length k.event) bytes)) ∙ sym (take-add (event_length k.event) (reply_length k.reply) bytes)
+    ap₂ (λ (a b : List ℕ). a ++ b) (reply-bytes k.reply bytes) (event-bytes k.event (drop (reply_length k.reply) bytes)) ∙ sym (take-add (reply_length k.reply) (event_length k.event) bytes)
 
 -- two entries that are the same are kept with the same numbers, and have the same bytes
 pub record IsKeptAs (k l : KeptEntry) (a b : List ℕ) : Type 0 where
@@ -227,13 +228,68 @@ pub record IsKeptAs (k l : KeptEntry) (a b : List ℕ) : Type 0 where
 
 pub same-kept : (k l : KeptEntry) (a b : List ℕ) → entry_length k ≤ length a → entry_length l ≤ length b → entry_in k a ≡ entry_in l b → IsKeptAs k l a b
 same-kept k l a b here there same = record {
-  event = sym (event-kept k.event a (omega (arith, here))) ∙ ap (λ (e : Entry). kept_of_event e.event) same ∙ event-kept l.event b (omega (arith, there));
-  reply = sym (reply-kept k.reply (drop (event_length k.event) a) (omega (arith, here, length-drop (event_length k.event) a)))
-      ∙ ap (λ (e : Entry). kept_of_reply e.reply) same
-      ∙ reply-kept l.reply (drop (event_length l.event) b) (omega (arith, there, length-drop (event_length l.event) b));
+  event = sym (event-kept k.event (drop (reply_length k.reply) a) (omega (arith, here, length-drop (reply_length k.reply) a)))
+      ∙ ap (λ (e : Entry). kept_of_event e.event) same
+      ∙ event-kept l.event (drop (reply_length l.reply) b) (omega (arith, there, length-drop (reply_length l.reply) b));
+  reply = sym (reply-kept k.reply a (omega (arith, here))) ∙ ap (λ (e : Entry). kept_of_reply e.reply) same ∙ reply-kept l.reply b (omega (arith, there));
   bytes = sym (entry-bytes k a) ∙ ap entry_bytes same ∙ entry-bytes l b;
 }
 
 -- and those that are kept so are the same
 pub kept-same : (k l : KeptEntry) (a b : List ℕ) → k.event ≡ l.event → k.reply ≡ l.reply → a ≡ b → entry_in k a ≡ entry_in l b
-kept-same k l a b event reply bytes i = record { event = event_in (event i) (bytes i); reply = reply_in (reply i) (drop (event_length (event i)) (bytes i)) }
+kept-same k l a b event reply bytes i = record { event = event_in (event i) (drop (reply_length (reply i)) (bytes i)); reply = reply_in (reply i) (bytes i) }
+
+-- a reply that is Done has no bytes
+pub reply-done : (k : KeptReply) (bytes : List ℕ) → reply_length k ≤ length bytes → reply_in k bytes ≡ reply.Done → reply_length k ≡ 0
+reply-done k bytes fits is = ap reply_length (sym (reply-kept k bytes fits) ∙ ap kept_of_reply is)
+
+-- what follows the bytes of a signal or of a reply makes no difference
+down-front : (k : KeptDown) (bytes rest : List ℕ) → down_length k ≤ length bytes → down_in k (bytes ++ rest) ≡ down_in k bytes
+down-front (down.Select number) bytes rest fits = refl
+down-front (down.Command number command code room) bytes rest fits = refl
+down-front (down.Grant number connection) bytes rest fits = refl
+down-front (down.Refuse number connection) bytes rest fits = refl
+down-front (down.Took number command sequence room) bytes rest fits = refl
+down-front (down.Give number connection command sequence count) bytes rest fits = ap (λ bs. down.Give number connection command sequence bs) (take-append-le count bytes rest fits)
+down-front (down.Halt number) bytes rest fits = refl
+down-front (down.Release number) bytes rest fits = refl
+down-front (down.Reset number restarts) bytes rest fits = refl
+down-front (down.Got attention) bytes rest fits = refl
+
+up-front : (k : KeptUp) (bytes rest : List ℕ) → up_length k ≤ length bytes → up_in k (bytes ++ rest) ≡ up_in k bytes
+up-front (up.Accept number) bytes rest fits = refl
+up-front (up.Busy number) bytes rest fits = refl
+up-front (up.Leave number connection) bytes rest fits = refl
+up-front (up.Back number connection) bytes rest fits = refl
+up-front (up.Data number connection command sequence (load.Absorbed count)) bytes rest fits = refl
+up-front (up.Data number connection command sequence (load.Bytes count)) bytes rest fits = ap (λ bs. up.Data number connection command sequence (load.Bytes bs)) (take-append-le count bytes rest fits)
+up-front (up.End number command status more) bytes rest fits = refl
+up-front (up.Released number) bytes rest fits = refl
+up-front (up.Cleared number) bytes rest fits = refl
+up-front (up.Notice restarts) bytes rest fits = refl
+up-front (up.Attn attention status) bytes rest fits = refl
+
+pub reply-front : (k : KeptReply) (bytes rest : List ℕ) → reply_length k ≤ length bytes → reply_in k (bytes ++ rest) ≡ reply_in k bytes
+reply-front kept_reply.Done bytes rest fits = refl
+reply-front (kept_reply.Shown count) bytes rest fits = ap reply.Shown (take-append-le count bytes rest fits)
+reply-front (kept_reply.Code a) bytes rest fits = refl
+reply-front (kept_reply.Status a scsw) bytes rest fits = refl
+reply-front (kept_reply.Interruption code) bytes rest fits = refl
+reply-front (kept_reply.PathReset code) bytes rest fits = refl
+reply-front (kept_reply.ChannelReport report) bytes rest fits = refl
+reply-front (kept_reply.Paths engaged) bytes rest fits = refl
+reply-front (kept_reply.Offered path resumed number) bytes rest fits = refl
+reply-front (kept_reply.ResetSent path number) bytes rest fits = refl
+reply-front (kept_reply.HaltSent path number) bytes rest fits = refl
+reply-front kept_reply.Pending bytes rest fits = refl
+reply-front kept_reply.Idle bytes rest fits = refl
+reply-front (kept_reply.Up taken signal) bytes rest fits = ap (λ x. reply.Up x taken None) (up-front signal bytes rest fits)
+reply-front (kept_reply.UpSent taken path signal sent) bytes rest fits =
+    ap₂ (λ x y. up_met taken path x y) (up-front signal bytes rest (omega (arith, fits)))
+    (ap (down_in sent) (drop-append-le (up_length signal) bytes rest (omega (arith, fits)))
+    ∙ down-front sent (drop (up_length signal) bytes) rest (omega (arith, fits, length-drop (up_length signal) bytes)))
+reply-front (kept_reply.Down taken signal) bytes rest fits = ap (λ x. reply.Down x taken None) (down-front signal bytes rest fits)
+reply-front (kept_reply.DownSent taken path signal sent) bytes rest fits =
+    ap₂ (λ x y. down_met taken path x y) (down-front signal bytes rest (omega (arith, fits)))
+    (ap (up_in sent) (drop-append-le (down_length signal) bytes rest (omega (arith, fits)))
+    ∙ up-front sent (drop (down_length signal) bytes) rest (omega (arith, fits, length-drop (down_length signal) bytes)))

@@ -8,7 +8,7 @@ use crate::replies::KeptReply;
 use chan_events::event::Event;
 use chan_events::reply::{Entry, Reply};
 
-/// An entry: its bytes stand from `start` on, those of the event first.
+/// An entry: its bytes stand from `start` on, those of the reply first.
 #[derive(Clone, Copy)]
 pub struct KeptEntry {
     pub start: usize,
@@ -36,7 +36,7 @@ impl KeptEntry {
         ensures value { result ≡ spec.entry_length self.now }
         ensures bound { result ≤ 768 }
     {
-        self.event.length() + self.reply.length()
+        self.reply.length() + self.event.length()
     }
 
     /// The entry with the first of these bytes.
@@ -45,8 +45,8 @@ impl KeptEntry {
         ensures { result ≡ spec.entry_in self.now bytes.now }
     {
         Entry {
-            event: self.event.with(bytes),
-            reply: self.reply.with(&bytes[self.event.length()..]),
+            event: self.event.with(&bytes[self.reply.length()..]),
+            reply: self.reply.with(bytes),
         }
     }
 }

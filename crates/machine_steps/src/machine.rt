@@ -1,7 +1,6 @@
 //! A channel subsystem without its history: what each event does to the whole.
 
-ghost use Rattle.std.specs.Prelude.{◌≡◌, ◌<◌, ◌≤◌, All, Ok, Err, IfErr, OnOk, None, Some, IfSome, length, slice_get};
-ghost use Rattle.signal_places.specs.declared.answers.Outcome.TheVariants as outcome_spec;
+ghost use Rattle.std.specs.Prelude.{◌≡◌, ◌<◌, ◌≤◌, All, Ok, Err, IfErr, OnErr, OnOk, None, Some, IfSome, length, slice_get};
 ghost use Rattle.signal_places.specs.declared.plain.PlainReply.TheVariants as plain_spec;
 ghost use Rattle.chan_model.specs.declared.fault.Fault.TheVariants as fault_spec;
 ghost use Rattle.subchannel_model.specs.declared.state.Subchannel.{Subchannel};
@@ -17,7 +16,9 @@ ghost use Rattle.machine_model.specs.Bounds.{IsRoomy, IsUnitRoomy};
 ghost use Rattle.machine_steps.specs.Postable.{IsPostable};
 ghost use Rattle.chan_events.specs.declared.event.Event.TheVariants as event_spec;
 ghost use Rattle.finding.specs.Tables.{Fits};
-ghost use Rattle.signal_places.specs.Answers.{answer_at};
+ghost use Rattle.chan_events.specs.declared.reply.Reply.TheVariants as reply_spec;
+ghost use Rattle.event_log.specs.Logs.{IsKept, answer_in};
+ghost use Rattle.signal_places.specs.Plain.{plain_outcome};
 
 use chan_events::event::{Event, Instruction, OtherInstruction, UnitAct};
 use chan_model::chunk::{Chunk, ChunkLength};
@@ -27,6 +28,7 @@ use chan_model::report::Report;
 use channel_config::names::subchannel_named;
 use channel_reports::Reports;
 use control_units::sharing::Sharing;
+use event_log::logs::Log;
 use finding::engines::{Counted, Engines, engaged};
 use finding::tables::Places;
 use interruptions::Pending;
@@ -34,8 +36,8 @@ use io_step::{ChannelPaths, PathTable, execute_absent, perform_other, perform_pr
 use machine_model::state::UnitTurn;
 use path_select::PathChoice;
 use scsw_irb::serials::Serials;
-use signal_places::answers::{AnswerPlace, Outcome};
 use signal_places::plain::PlainReply;
+use signal_places::sent::SentDown;
 use std::marker::Model;
 use storage_keys::key::Key;
 use storage_keys::{Storage, StorageFault};
@@ -69,13 +71,13 @@ fn word_of(instruction: Instruction) -> u32
 }
 
 /// The answer of an event that storage has done or refused.
-fn done(came: Result<(), StorageFault>) -> Outcome
-    ensures done { OnOk came (result ≡ outcome_spec.Replied plain_spec.Done) }
-    ensures refused { IfErr came (λ f. result ≡ outcome_spec.Refused (fault_spec.Storage f)) }
+fn done(came: Result<(), StorageFault>) -> Result<PlainReply, Fault>
+    ensures done { OnOk came (result ≡ Ok plain_spec.Done) }
+    ensures refused { IfErr came (λ f. result ≡ Err (fault_spec.Storage f)) }
 {
     match came {
-        Ok(()) => Outcome::Replied(PlainReply::Done),
-        Err(fault) => Outcome::Refused(Fault::Storage(fault)),
+        Ok(()) => Ok(PlainReply::Done),
+        Err(fault) => Err(Fault::Storage(fault)),
     }
 }
 
@@ -93,6 +95,8 @@ pub struct Machine {
     pub(crate) pending: Pending,
     pub(crate) reports: Reports,
     pub(crate) engines: Engines,
+    /// What a subchannel sends for a signal, before it is on its wire.
+    pub(crate) sent: SentDown,
 }
 
 impl Model for Machine {
@@ -200,34 +204,39 @@ impl Machine {
     }
 
     #[inline(never)]
-    fn put(&mut self, address: u32, bytes: &Chunk, answer: &mut AnswerPlace)
-        ensures { giving_spec.Gives self.old (storage_spec.put_turn self.old address bytes.now) (answer_at answer.new) self.new }
+    fn put(&mut self, address: u32, bytes: &Chunk) -> Result<PlainReply, Fault>
+        ensures { giving_spec.Gives self.old (storage_spec.put_turn self.old address bytes.now) (plain_outcome result) self.new }
     {
-        answer.outcome = done(self.storage.put(address, bytes.as_slice()));
+        done(self.storage.put(address, bytes.as_slice()))
     }
 
     #[inline(never)]
-    fn set_key(&mut self, address: u32, key: Key, answer: &mut AnswerPlace)
-        ensures { giving_spec.Gives self.old (storage_spec.key_turn self.old address key) (answer_at answer.new) self.new }
+    fn set_key(&mut self, address: u32, key: Key) -> Result<PlainReply, Fault>
+        ensures { giving_spec.Gives self.old (storage_spec.key_turn self.old address key) (plain_outcome result) self.new }
     {
-        answer.outcome = done(self.storage.set_key(address, key));
+        done(self.storage.set_key(address, key))
     }
 
     #[inline(never)]
-    fn set_prefix(&mut self, cpu: Cpu, address: u32, answer: &mut AnswerPlace)
-        ensures { giving_spec.Gives self.old (storage_spec.prefix_turn self.old cpu address) (answer_at answer.new) self.new }
+    fn set_prefix(&mut self, cpu: Cpu, address: u32) -> Result<PlainReply, Fault>
+        ensures { giving_spec.Gives self.old (storage_spec.prefix_turn self.old cpu address) (plain_outcome result) self.new }
     {
-        answer.outcome = done(self.storage.set_prefix(cpu.number(), address));
+        done(self.storage.set_prefix(cpu.number(), address))
     }
 
     #[inline(never)]
-    fn show(&self, address: u32, length: ChunkLength, answer: &mut AnswerPlace)
-        ensures { giving_spec.Gives self.now (storage_spec.show_turn self.now address length) (answer_at answer.new) self.now }
+    fn show(&self, address: u32, length: ChunkLength, log: &mut Log) -> Result<(), Fault>
+        requires room { 1 ≤ log.old.room }
+        requires fresh { log.old.reply ≡ reply_spec.Done }
+        ensures gives { giving_spec.Gives self.now (storage_spec.show_turn self.now address length) (answer_in result log.new) self.now }
+        ensures kept { IsKept log.old log.new }
+        ensures refused { OnErr result (log.new ≡ log.old) }
     {
         match self.storage.show(address, length.get()) {
-            Ok(shown) => answer.show(shown),
-            Err(fault) => answer.outcome = Outcome::Refused(Fault::Storage(fault)),
+            Ok(shown) => log.show(shown),
+            Err(fault) => return Err(Fault::Storage(fault)),
         }
+        Ok(())
     }
 
     #[inline(never)]
@@ -236,52 +245,49 @@ impl Machine {
         places: &Places,
         cpu: Cpu,
         instruction: &Instruction,
-        answer: &mut AnswerPlace,
-    )
+    ) -> Result<PlainReply, Fault>
         requires fits { Fits places.now self.old.subs }
         requires roomy { All IsRoomy self.old.subs }
         requires postable { All IsPostable self.old.subs }
         requires requests { self.old.requests.numbers ≡ 0x100 }
-        ensures { spec.Performs self.old (event_spec.Execute cpu instruction.now) (answer_at answer.new) self.new }
+        ensures { spec.Performs self.old (event_spec.Execute cpu instruction.now) (plain_outcome result) self.new }
     {
         let instruction = *instruction;
-        let Some(id) = subchannel_named(self.sets, word_of(instruction)) else {
-            answer.outcome = Outcome::Refused(Fault::Operand);
-            return;
-        };
+        let id = subchannel_named(self.sets, word_of(instruction)).ok_or(Fault::Operand)?;
         let Some(place) = places.place_in(id, self.subs.as_slice()) else {
-            let came = execute_absent(&mut self.storage, cpu, instruction);
-            answer.tell(came);
-            return;
+            return execute_absent(&mut self.storage, cpu, instruction);
         };
         let sub = &mut self.subs[place];
         let before = engaged(sub);
         let made = sub.state.serials.made;
-        let came = perform_provided(&mut self.storage, sub, &mut self.pending, cpu, instruction);
-        answer.tell(came);
+        let answer = perform_provided(&mut self.storage, sub, &mut self.pending, cpu, instruction);
         post(&mut self.pending, sub, made);
         let after = engaged(sub);
         self.engines.change(before, after);
+        answer
     }
 
     #[inline(never)]
-    fn execute_other(&mut self, cpu: Cpu, instruction: OtherInstruction, answer: &mut AnswerPlace)
-        ensures { spec.Performs self.old (event_spec.ExecuteOther cpu instruction) (answer_at answer.new) self.new }
+    fn execute_other(
+        &mut self,
+        cpu: Cpu,
+        instruction: OtherInstruction,
+    ) -> Result<PlainReply, Fault>
+        ensures { spec.Performs self.old (event_spec.ExecuteOther cpu instruction) (plain_outcome result) self.new }
     {
         let counted = Counted::of(self.subs.as_slice(), &self.engines);
         let paths = ChannelPaths {
             up: self.up,
             engaged: engaged_for(&counted, instruction),
         };
-        let came = perform_other(
+        perform_other(
             &mut self.storage,
             &mut self.pending,
             &mut self.reports,
             &paths,
             cpu,
             instruction,
-        );
-        answer.tell(came);
+        )
     }
 
     #[inline(never)]
@@ -290,19 +296,15 @@ impl Machine {
         places: &Places,
         choice: &P,
         word: u32,
-        answer: &mut AnswerPlace,
-    )
+    ) -> Result<PlainReply, Fault>
         requires fits { Fits places.now self.old.subs }
         requires roomy { All IsRoomy self.old.subs }
         requires postable { All IsPostable self.old.subs }
         requires requests { self.old.requests.numbers ≡ 0x100 }
-        ensures performs { spec.Performs self.old (event_spec.Choose word) (answer_at answer.new) self.new }
-        ensures ruled { GoesByRule P.picks self.old (event_spec.Choose word) (answer_at answer.new) self.new }
+        ensures performs { spec.Performs self.old (event_spec.Choose word) (plain_outcome result) self.new }
+        ensures ruled { GoesByRule P.picks self.old (event_spec.Choose word) (plain_outcome result) self.new }
     {
-        let Some(place) = self.place_of(places, word) else {
-            answer.outcome = Outcome::Refused(Fault::NoSuchSubchannel);
-            return;
-        };
+        let place = self.place_of(places, word).ok_or(Fault::NoSuchSubchannel)?;
         let counted = Counted::of(self.subs.as_slice(), &self.engines);
         let paths = paths_to_choose(&counted, &self.subs[place]);
         let sub = &mut self.subs[place];
@@ -310,140 +312,141 @@ impl Machine {
         let what = chosen(sub, path);
         let before = engaged(sub);
         let made = sub.state.serials.made;
-        choose_sub(sub, &path, what, answer);
+        let answer = choose_sub(sub, &path, what);
         let after = engaged(sub);
         self.engines.change(before, after);
         post(&mut self.pending, sub, made);
+        answer
     }
 
     #[inline(never)]
-    fn up(&mut self, places: &Places, word: u32, path: u32, answer: &mut AnswerPlace)
+    fn up(&mut self, places: &Places, word: u32, path: u32, log: &mut Log) -> Result<(), Fault>
         requires fits { Fits places.now self.old.subs }
         requires roomy { All IsRoomy self.old.subs }
         requires postable { All IsPostable self.old.subs }
         requires requests { self.old.requests.numbers ≡ 0x100 }
-        ensures { spec.Performs self.old (event_spec.Up word path) (answer_at answer.new) self.new }
+        requires room { 1 ≤ log.old.room }
+        requires fresh { log.old.reply ≡ reply_spec.Done }
+        ensures performs { spec.Performs self.old (event_spec.Up word path) (answer_in result log.new) self.new }
+        ensures kept { IsKept log.old log.new }
+        ensures refused { OnErr result (log.new ≡ log.old) }
     {
-        let Some(place) = self.place_of(places, word) else {
-            answer.outcome = Outcome::Refused(Fault::NoSuchSubchannel);
-            return;
-        };
-        let Some(path) = path_of(&self.subs[place], path) else {
-            answer.outcome = Outcome::Refused(Fault::NoSuchPath);
-            return;
-        };
+        let place = self.place_of(places, word).ok_or(Fault::NoSuchSubchannel)?;
+        let path = path_of(&self.subs[place], path).ok_or(Fault::NoSuchPath)?;
         let counted = Counted::of(self.subs.as_slice(), &self.engines);
         let returns = returns_at(&counted, &self.subs[place], path);
         let sub = &mut self.subs[place];
         let before = engaged(sub);
         let made = sub.state.serials.made;
-        up_sub(&mut self.storage, sub, path, returns, answer);
+        let answer = up_sub(&mut self.storage, sub, path, returns, &mut self.sent, log);
         post(&mut self.pending, sub, made);
         let after = engaged(sub);
         self.engines.change(before, after);
+        answer
     }
 
     #[inline(never)]
-    fn down(&mut self, places: &Places, word: u32, path: u32, answer: &mut AnswerPlace)
+    fn down(&mut self, places: &Places, word: u32, path: u32, log: &mut Log) -> Result<(), Fault>
         requires fits { Fits places.now self.old.subs }
-        ensures { spec.Performs self.old (event_spec.Down word path) (answer_at answer.new) self.new }
+        requires room { 1 ≤ log.old.room }
+        requires fresh { log.old.reply ≡ reply_spec.Done }
+        ensures performs { spec.Performs self.old (event_spec.Down word path) (answer_in result log.new) self.new }
+        ensures kept { IsKept log.old log.new }
+        ensures refused { OnErr result (log.new ≡ log.old) }
     {
-        let Some(place) = self.place_of(places, word) else {
-            answer.outcome = Outcome::Refused(Fault::NoSuchSubchannel);
-            return;
-        };
+        let place = self.place_of(places, word).ok_or(Fault::NoSuchSubchannel)?;
         let number = self.subs[place].setup.unit as usize;
         if number >= self.units.len() {
-            answer.outcome = Outcome::Refused(Fault::NoSuchUnit);
-            return;
+            return Err(Fault::NoSuchUnit);
         }
         let sub = &mut self.subs[place];
         let unit = &mut self.units[number];
-        down_sub(sub, unit, &mut self.sharing, path, answer);
+        down_sub(sub, unit, &mut self.sharing, path, log)
     }
 
     #[inline(never)]
-    fn report(&mut self, places: &Places, number: u32, report: &Report, answer: &mut AnswerPlace)
+    fn report(&mut self, places: &Places, number: u32, report: &Report) -> Result<PlainReply, Fault>
         requires fits { Fits places.now self.old.subs }
         requires roomy { All IsUnitRoomy self.old.units }
-        ensures { spec.Performs self.old (event_spec.Report number report.now) (answer_at answer.new) self.new }
+        ensures { spec.Performs self.old (event_spec.Report number report.now) (plain_outcome result) self.new }
     {
         let number = number as usize;
         if number >= self.units.len() {
-            answer.outcome = Outcome::Refused(Fault::NoSuchUnit);
-            return;
+            return Err(Fault::NoSuchUnit);
         }
-        let Some(place) = places.reached_in(number, report.side, self.subs.as_slice()) else {
-            answer.outcome = Outcome::Refused(Fault::NotNow);
-            return;
-        };
+        let place = places
+            .reached_in(number, report.side, self.subs.as_slice())
+            .ok_or(Fault::NotNow)?;
         let sub = &mut self.subs[place];
         let unit = &mut self.units[number];
-        report_sub(sub, unit, report, answer);
+        report_sub(sub, unit, report)
     }
 
     #[inline(never)]
-    fn act(&mut self, places: &Places, number: u32, act: UnitAct, answer: &mut AnswerPlace)
+    fn act(&mut self, places: &Places, number: u32, act: UnitAct) -> Result<PlainReply, Fault>
         requires fits { Fits places.now self.old.subs }
         requires roomy { All IsUnitRoomy self.old.units }
-        ensures { spec.Performs self.old (event_spec.Act number act) (answer_at answer.new) self.new }
+        ensures { spec.Performs self.old (event_spec.Act number act) (plain_outcome result) self.new }
     {
         let number = number as usize;
         if number >= self.units.len() {
-            answer.outcome = Outcome::Refused(Fault::NoSuchUnit);
-            return;
+            return Err(Fault::NoSuchUnit);
         }
         let Some(side) = side_of_act(&self.units[number], act) else {
-            answer.outcome = Outcome::Refused(not_held(places, number, act, self.subs.as_slice()));
-            return;
+            return Err(not_held(places, number, act, self.subs.as_slice()));
         };
-        let Some(place) = places.reached_in(number, side, self.subs.as_slice()) else {
-            answer.outcome = Outcome::Refused(Fault::NotNow);
-            return;
-        };
+        let place = places
+            .reached_in(number, side, self.subs.as_slice())
+            .ok_or(Fault::NotNow)?;
         let sub = &mut self.subs[place];
         let unit = &mut self.units[number];
-        act_sub(sub, unit, act, answer);
+        act_sub(sub, unit, act)
     }
 
     #[inline(never)]
-    fn restart(&mut self, number: u32, answer: &mut AnswerPlace)
+    fn restart(&mut self, number: u32) -> Result<PlainReply, Fault>
         requires { All IsUnitRoomy self.old.units }
-        ensures { spec.Performs self.old (event_spec.Restart number) (answer_at answer.new) self.new }
+        ensures { spec.Performs self.old (event_spec.Restart number) (plain_outcome result) self.new }
     {
         if number as usize >= self.units.len() {
-            answer.outcome = Outcome::Refused(Fault::NoSuchUnit);
-            return;
+            return Err(Fault::NoSuchUnit);
         }
         let unit = &mut self.units[number as usize];
         restart(&mut self.sharing, number as u16, unit);
-        answer.outcome = Outcome::Replied(PlainReply::Done);
+        Ok(PlainReply::Done)
     }
 
-    /// Performs one event, its answer in a place; a refusal changes nothing. Those of a channel program are told apart here.
+    /// Performs one event, with its reply in the log, where it begins an entry; a refusal changes nothing. Those of a channel program
+    /// are told apart here.
     #[inline(always)]
     pub fn perform<P: PathChoice>(
         &mut self,
         places: &Places,
         choice: &P,
         event: &Event,
-        answer: &mut AnswerPlace,
-    )
+        log: &mut Log,
+    ) -> Result<(), Fault>
         requires fits { Fits places.now self.old.subs }
         requires subs { All IsRoomy self.old.subs }
         requires units { All IsUnitRoomy self.old.units }
         requires postable { All IsPostable self.old.subs }
         requires requests { self.old.requests.numbers ≡ 0x100 }
-        ensures performs { spec.Performs self.old event.now (answer_at answer.new) self.new }
-        ensures ruled { GoesByRule P.picks self.old event.now (answer_at answer.new) self.new }
+        requires room { 1 ≤ log.old.room }
+        requires fresh { log.old.reply ≡ reply_spec.Done }
+        ensures performs { spec.Performs self.old event.now (answer_in result log.new) self.new }
+        ensures ruled { GoesByRule P.picks self.old event.now (answer_in result log.new) self.new }
+        ensures kept { IsKept log.old log.new }
+        ensures refused { OnErr result (log.new ≡ log.old) }
     {
         match event {
-            Event::Up { subchannel, path } => self.up(places, *subchannel, *path, answer),
-            Event::Down { subchannel, path } => self.down(places, *subchannel, *path, answer),
-            Event::Report { unit, report } => self.report(places, *unit, report, answer),
-            Event::Choose { subchannel } => self.choose(places, choice, *subchannel, answer),
-            Event::Execute { cpu, instruction } => self.execute(places, *cpu, instruction, answer),
-            _ => self.perform_other(places, choice, event, answer),
+            Event::Up { subchannel, path } => self.up(places, *subchannel, *path, log),
+            Event::Down { subchannel, path } => self.down(places, *subchannel, *path, log),
+            Event::Report { unit, report } => log.tell(self.report(places, *unit, report)),
+            Event::Choose { subchannel } => log.tell(self.choose(places, choice, *subchannel)),
+            Event::Execute { cpu, instruction } => {
+                log.tell(self.execute(places, *cpu, instruction))
+            }
+            _ => self.perform_other(places, choice, event, log),
         }
     }
 
@@ -455,35 +458,38 @@ impl Machine {
         places: &Places,
         choice: &P,
         event: &Event,
-        answer: &mut AnswerPlace,
-    )
+        log: &mut Log,
+    ) -> Result<(), Fault>
         requires fits { Fits places.now self.old.subs }
         requires subs { All IsRoomy self.old.subs }
         requires units { All IsUnitRoomy self.old.units }
         requires postable { All IsPostable self.old.subs }
         requires requests { self.old.requests.numbers ≡ 0x100 }
-        ensures performs { spec.Performs self.old event.now (answer_at answer.new) self.new }
-        ensures ruled { GoesByRule P.picks self.old event.now (answer_at answer.new) self.new }
+        requires room { 1 ≤ log.old.room }
+        requires fresh { log.old.reply ≡ reply_spec.Done }
+        ensures performs { spec.Performs self.old event.now (answer_in result log.new) self.new }
+        ensures ruled { GoesByRule P.picks self.old event.now (answer_in result log.new) self.new }
+        ensures kept { IsKept log.old log.new }
+        ensures refused { OnErr result (log.new ≡ log.old) }
     {
-        match event {
-            Event::Execute { cpu, instruction } => self.execute(places, *cpu, instruction, answer),
-            Event::Choose { subchannel } => self.choose(places, choice, *subchannel, answer),
-            Event::Up { subchannel, path } => self.up(places, *subchannel, *path, answer),
-            Event::Down { subchannel, path } => self.down(places, *subchannel, *path, answer),
-            Event::Report { unit, report } => self.report(places, *unit, report, answer),
-            Event::Act { unit, act } => self.act(places, *unit, *act, answer),
-            Event::Put { address, bytes } => self.put(*address, bytes, answer),
-            Event::SetKey { address, key } => self.set_key(*address, *key, answer),
-            Event::SetPrefix { cpu, address } => self.set_prefix(*cpu, *address, answer),
-            Event::Show { address, length } => self.show(*address, *length, answer),
-            Event::ExecuteOther { cpu, instruction } => {
-                self.execute_other(*cpu, *instruction, answer)
-            }
-            Event::Restart { unit } => self.restart(*unit, answer),
-            Event::PathDown { chpid } => self.path_down(*chpid, answer),
-            Event::PathUp { chpid } => self.path_up(*chpid, answer),
-            Event::PathReset { chpid } => self.path_reset(*chpid, answer),
-            Event::SystemReset => self.system_reset(answer),
-        }
+        let answer = match event {
+            Event::Up { subchannel, path } => return self.up(places, *subchannel, *path, log),
+            Event::Down { subchannel, path } => return self.down(places, *subchannel, *path, log),
+            Event::Show { address, length } => return self.show(*address, *length, log),
+            Event::Execute { cpu, instruction } => self.execute(places, *cpu, instruction),
+            Event::Choose { subchannel } => self.choose(places, choice, *subchannel),
+            Event::Report { unit, report } => self.report(places, *unit, report),
+            Event::Act { unit, act } => self.act(places, *unit, *act),
+            Event::Put { address, bytes } => self.put(*address, bytes),
+            Event::SetKey { address, key } => self.set_key(*address, *key),
+            Event::SetPrefix { cpu, address } => self.set_prefix(*cpu, *address),
+            Event::ExecuteOther { cpu, instruction } => self.execute_other(*cpu, *instruction),
+            Event::Restart { unit } => self.restart(*unit),
+            Event::PathDown { chpid } => self.path_down(*chpid),
+            Event::PathUp { chpid } => self.path_up(*chpid),
+            Event::PathReset { chpid } => self.path_reset(*chpid),
+            Event::SystemReset => self.system_reset(),
+        };
+        log.tell(answer)
     }
 }

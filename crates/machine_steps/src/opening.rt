@@ -21,6 +21,7 @@ use hold::Hold;
 use interruptions::Pending;
 use scsw_irb::scsw::Scsw;
 use scsw_irb::serials::Serials;
+use signal_places::sent::SentDown;
 use std::alloc::{AllocError, Global};
 use storage_keys::Storage;
 use subchannel::opening::opening_pmcw;
@@ -214,6 +215,7 @@ pub fn opened_machine<S: Supply>(
         pending,
         reports: Reports::new(),
         engines,
+        sent: SentDown::new(),
     };
     Ok((places, machine))
 }

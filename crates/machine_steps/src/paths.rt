@@ -9,7 +9,7 @@ ghost use Rattle.machine_model.specs.Requests as requests_spec;
 ghost use Rattle.machine_model.specs.Steps as spec;
 ghost use Rattle.subchannel_steps.specs.Giving as giving_spec;
 ghost use Rattle.machine_steps.specs.Postable.{IsPostable};
-ghost use Rattle.signal_places.specs.Answers.{answer_at};
+ghost use Rattle.signal_places.specs.Plain.{plain_outcome};
 
 use crate::machine::Machine;
 use chan_model::fault::Fault;
@@ -17,7 +17,6 @@ use channel_reports::Reports;
 use finding::engines::{Engines, engaged};
 use interruptions::Pending;
 use machine_model::state::Sweep;
-use signal_places::answers::{AnswerPlace, Outcome};
 use signal_places::plain::PlainReply;
 use subchannel::losing::{go_down, lose_path, show_path};
 use subchannel::system_reset::reset_by_system;
@@ -86,83 +85,71 @@ fn sweep_all(subs: &mut Vec<Subchannel>, pending: &mut Pending, engines: &mut En
 impl Machine {
     /// A channel path goes down.
     #[inline(never)]
-    pub(crate) fn path_down(&mut self, number: u32, answer: &mut AnswerPlace)
+    pub(crate) fn path_down(&mut self, number: u32) -> Result<PlainReply, Fault>
         requires roomy { All IsRoomy self.old.subs }
         requires postable { All IsPostable self.old.subs }
         requires requests { self.old.requests.numbers ≡ 0x100 }
-        ensures { spec.Performs self.old (event_spec.PathDown number) (answer_at answer.new) self.new }
+        ensures { spec.Performs self.old (event_spec.PathDown number) (plain_outcome result) self.new }
     {
-        let Some(chpid) = chpid_of(self.chpids.as_slice(), number) else {
-            answer.outcome = Outcome::Refused(Fault::NoSuchPath);
-            return;
-        };
+        let chpid = chpid_of(self.chpids.as_slice(), number).ok_or(Fault::NoSuchPath)?;
         if !self.up[usize::from(chpid)] {
-            answer.outcome = Outcome::Refused(Fault::NotNow);
-            return;
+            return Err(Fault::NotNow);
         }
         let what = Sweep::GoesDown { chpid };
         sweep_all(&mut self.subs, &mut self.pending, &mut self.engines, what);
         self.up[usize::from(chpid)] = false;
         self.reports.path_lost(chpid);
-        answer.outcome = Outcome::Replied(PlainReply::Done);
+        Ok(PlainReply::Done)
     }
 
     /// A channel path that was down comes up.
     #[inline(never)]
-    pub(crate) fn path_up(&mut self, number: u32, answer: &mut AnswerPlace)
+    pub(crate) fn path_up(&mut self, number: u32) -> Result<PlainReply, Fault>
         requires roomy { All IsRoomy self.old.subs }
         requires postable { All IsPostable self.old.subs }
         requires requests { self.old.requests.numbers ≡ 0x100 }
-        ensures { spec.Performs self.old (event_spec.PathUp number) (answer_at answer.new) self.new }
+        ensures { spec.Performs self.old (event_spec.PathUp number) (plain_outcome result) self.new }
     {
-        let Some(chpid) = chpid_of(self.chpids.as_slice(), number) else {
-            answer.outcome = Outcome::Refused(Fault::NoSuchPath);
-            return;
-        };
+        let chpid = chpid_of(self.chpids.as_slice(), number).ok_or(Fault::NoSuchPath)?;
         if self.up[usize::from(chpid)] {
-            answer.outcome = Outcome::Refused(Fault::NotNow);
-            return;
+            return Err(Fault::NotNow);
         }
         let what = Sweep::ComesUp { chpid };
         sweep_all(&mut self.subs, &mut self.pending, &mut self.engines, what);
         self.up[usize::from(chpid)] = true;
         self.reports.path_back(chpid);
-        answer.outcome = Outcome::Replied(PlainReply::Done);
+        Ok(PlainReply::Done)
     }
 
     /// A channel path whose reset is asked for is reset.
     #[inline(never)]
-    pub(crate) fn path_reset(&mut self, number: u32, answer: &mut AnswerPlace)
+    pub(crate) fn path_reset(&mut self, number: u32) -> Result<PlainReply, Fault>
         requires roomy { All IsRoomy self.old.subs }
         requires postable { All IsPostable self.old.subs }
         requires requests { self.old.requests.numbers ≡ 0x100 }
-        ensures { spec.Performs self.old (event_spec.PathReset number) (answer_at answer.new) self.new }
+        ensures { spec.Performs self.old (event_spec.PathReset number) (plain_outcome result) self.new }
     {
-        let Some(chpid) = chpid_of(self.chpids.as_slice(), number) else {
-            answer.outcome = Outcome::Refused(Fault::NoSuchPath);
-            return;
-        };
+        let chpid = chpid_of(self.chpids.as_slice(), number).ok_or(Fault::NoSuchPath)?;
         if !self.reports.reset_done(chpid) {
-            answer.outcome = Outcome::Refused(Fault::NotNow);
-            return;
+            return Err(Fault::NotNow);
         }
         let what = Sweep::PathReset { chpid };
         sweep_all(&mut self.subs, &mut self.pending, &mut self.engines, what);
-        answer.outcome = Outcome::Replied(PlainReply::Done);
+        Ok(PlainReply::Done)
     }
 
     /// The channel subsystem is reset.
     #[inline(never)]
-    pub(crate) fn system_reset(&mut self, answer: &mut AnswerPlace)
+    pub(crate) fn system_reset(&mut self) -> Result<PlainReply, Fault>
         requires roomy { All IsRoomy self.old.subs }
         requires postable { All IsPostable self.old.subs }
         requires requests { self.old.requests.numbers ≡ 0x100 }
-        ensures { spec.Performs self.old event_spec.SystemReset (answer_at answer.new) self.new }
+        ensures { spec.Performs self.old event_spec.SystemReset (plain_outcome result) self.new }
     {
         self.pending.drop_all();
         self.reports = Reports::new();
         let what = Sweep::SystemReset;
         sweep_all(&mut self.subs, &mut self.pending, &mut self.engines, what);
-        answer.outcome = Outcome::Replied(PlainReply::Done);
+        Ok(PlainReply::Done)
     }
 }

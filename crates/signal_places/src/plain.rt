@@ -4,7 +4,7 @@ ghost use Rattle.std.specs.Prelude.{◌≡◌, ℕ, List};
 ghost use Rattle.kept_events.specs.Replies as kept_spec;
 ghost use Rattle.signal_places.specs.Plain.{reply_of};
 
-use chan_events::reply::{PATH_STATUS_BYTES, Reply};
+use chan_events::reply::PATH_STATUS_BYTES;
 use chan_model::answer::{Answer, ConditionCode};
 use chan_model::names::Path;
 use kept_events::replies::KeptReply;
@@ -45,78 +45,41 @@ pub enum PlainReply {
 }
 
 impl PlainReply {
-    /// Writes the reply as it is kept, where it is to stand.
-    pub fn keep(&self, kept: &mut KeptReply)
-        ensures kept { (rest : List ℕ) → kept_spec.reply_in kept.new rest ≡ reply_of self.now }
-        ensures length { kept_spec.reply_length kept.new ≡ 0 }
+    /// The reply as it is kept.
+    pub fn keep(&self) -> KeptReply
+        ensures kept { (rest : List ℕ) → kept_spec.reply_in result rest ≡ reply_of self.now }
+        ensures length { kept_spec.reply_length result ≡ 0 }
     {
         match self {
-            PlainReply::Done => *kept = KeptReply::Done,
-            PlainReply::Code(answer) => *kept = KeptReply::Code(*answer),
-            PlainReply::Status { answer, scsw } => *kept = KeptReply::Status {
+            PlainReply::Done => KeptReply::Done,
+            PlainReply::Code(answer) => KeptReply::Code(*answer),
+            PlainReply::Status { answer, scsw } => KeptReply::Status {
                 answer: *answer,
                 scsw: *scsw,
             },
-            PlainReply::Interruption(code) => *kept = KeptReply::Interruption(*code),
-            PlainReply::PathReset(code) => *kept = KeptReply::PathReset(*code),
-            PlainReply::ChannelReport(report) => *kept = KeptReply::ChannelReport(*report),
-            PlainReply::Paths { engaged } => *kept = KeptReply::Paths { engaged: *engaged },
+            PlainReply::Interruption(code) => KeptReply::Interruption(*code),
+            PlainReply::PathReset(code) => KeptReply::PathReset(*code),
+            PlainReply::ChannelReport(report) => KeptReply::ChannelReport(*report),
+            PlainReply::Paths { engaged } => KeptReply::Paths { engaged: *engaged },
             PlainReply::Offered {
                 path,
                 resumed,
                 number,
-            } => *kept = KeptReply::Offered {
+            } => KeptReply::Offered {
                 path: *path,
                 resumed: *resumed,
                 number: *number,
             },
-            PlainReply::ResetSent { path, number } => *kept = KeptReply::ResetSent {
+            PlainReply::ResetSent { path, number } => KeptReply::ResetSent {
                 path: *path,
                 number: *number,
             },
-            PlainReply::HaltSent { path, number } => *kept = KeptReply::HaltSent {
+            PlainReply::HaltSent { path, number } => KeptReply::HaltSent {
                 path: *path,
                 number: *number,
             },
-            PlainReply::Pending => *kept = KeptReply::Pending,
-            PlainReply::Idle => *kept = KeptReply::Idle,
-        }
-    }
-
-    /// The reply.
-    pub fn reply(&self) -> Reply
-        ensures { result ≡ reply_of self.now }
-    {
-        match self {
-            PlainReply::Done => Reply::Done,
-            PlainReply::Code(code) => Reply::Code(*code),
-            PlainReply::Status { answer: code, scsw } => Reply::Status {
-                answer: *code,
-                scsw: *scsw,
-            },
-            PlainReply::Interruption(code) => Reply::Interruption(*code),
-            PlainReply::PathReset(code) => Reply::PathReset(*code),
-            PlainReply::ChannelReport(report) => Reply::ChannelReport(*report),
-            PlainReply::Paths { engaged } => Reply::Paths { engaged: *engaged },
-            PlainReply::Offered {
-                path,
-                resumed,
-                number,
-            } => Reply::Offered {
-                number: *number,
-                path: *path,
-                resumed: *resumed,
-            },
-            PlainReply::ResetSent { path, number } => Reply::ResetSent {
-                number: *number,
-                path: *path,
-            },
-            PlainReply::HaltSent { path, number } => Reply::HaltSent {
-                number: *number,
-                path: *path,
-            },
-            PlainReply::Pending => Reply::Pending,
-            PlainReply::Idle => Reply::Idle,
+            PlainReply::Pending => KeptReply::Pending,
+            PlainReply::Idle => KeptReply::Idle,
         }
     }
 }

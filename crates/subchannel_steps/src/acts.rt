@@ -8,7 +8,7 @@ ghost use Rattle.machine_model.specs.Bounds.{IsUnitRoomy};
 ghost use Rattle.machine_model.specs.ReportSteps as report_spec;
 ghost use Rattle.subchannel_steps.specs.Giving as giving_spec;
 ghost use Rattle.subchannel_model.specs.Places as place_spec;
-ghost use Rattle.signal_places.specs.Answers.{answer_at};
+ghost use Rattle.signal_places.specs.Plain.{plain_outcome};
 
 use crate::sending::{finds_up_full, send_any_up};
 use crate::sharing::side_of;
@@ -19,7 +19,6 @@ use chan_model::fault::Fault;
 use chan_model::names::{Path, Side};
 use chan_model::unit_state::{Own, Place};
 use finding::tables::Places;
-use signal_places::answers::{AnswerPlace, Outcome};
 use signal_places::plain::PlainReply;
 use subchannel_model::state::Subchannel;
 use unit::Unit;
@@ -59,117 +58,101 @@ fn is_without_path(own: Own) -> bool
 
 /// The program that is connected leaves its path.
 #[inline(never)]
-fn leave(sub: &mut Subchannel, unit: &mut Unit, answer: &mut AnswerPlace)
+fn leave(sub: &mut Subchannel, unit: &mut Unit) -> Result<PlainReply, Fault>
     ensures engaged { engaged sub.new ≡ engaged sub.old }
     ensures state { sub.new.state ≡ sub.old.state }
     ensures gives { giving_spec.GivesBoth sub.old «unit».old
-        (report_spec.report_taken sub.old (unit_spec.leaving «unit».old «unit».old.own)) (answer_at answer.new) sub.new «unit».new }
+        (report_spec.report_taken sub.old (unit_spec.leaving «unit».old «unit».old.own)) (plain_outcome result) sub.new «unit».new }
 {
-    let Some(path) = connected_path(unit.own()) else {
-        answer.outcome = Outcome::Refused(Fault::NotNow);
-        return;
-    };
+    let path = connected_path(unit.own()).ok_or(Fault::NotNow)?;
     if finds_up_full(sub, path) {
-        answer.outcome = Outcome::Refused(Fault::WireFull);
-        return;
+        return Err(Fault::WireFull);
     }
     let sent = unit.leave();
     send_any_up(sub, &sent);
-    answer.outcome = Outcome::Replied(PlainReply::Done);
+    Ok(PlainReply::Done)
 }
 
 /// The program that is without a path asks for this one.
 #[inline(never)]
-fn ask(sub: &mut Subchannel, unit: &mut Unit, path: Path, answer: &mut AnswerPlace)
+fn ask(sub: &mut Subchannel, unit: &mut Unit, path: Path) -> Result<PlainReply, Fault>
     requires { IsUnitRoomy «unit».old }
     ensures engaged { engaged sub.new ≡ engaged sub.old }
     ensures state { sub.new.state ≡ sub.old.state }
     ensures gives { giving_spec.GivesBoth sub.old «unit».old
-        (report_spec.report_taken sub.old (unit_spec.asking «unit».old «unit».old.own path)) (answer_at answer.new) sub.new «unit».new }
+        (report_spec.report_taken sub.old (unit_spec.asking «unit».old «unit».old.own path)) (plain_outcome result) sub.new «unit».new }
 {
     if !is_without_path(unit.own()) {
-        answer.outcome = Outcome::Refused(Fault::NotNow);
-        return;
+        return Err(Fault::NotNow);
     }
     if finds_up_full(sub, path) {
-        answer.outcome = Outcome::Refused(Fault::WireFull);
-        return;
+        return Err(Fault::WireFull);
     }
     let sent = unit.ask(path);
     send_any_up(sub, &sent);
-    answer.outcome = Outcome::Replied(PlainReply::Done);
+    Ok(PlainReply::Done)
 }
 
 /// The unit, which no program holds, asks the side of the subchannel for attention.
 #[inline(never)]
-fn attend(sub: &mut Subchannel, unit: &mut Unit, path: Path, answer: &mut AnswerPlace)
+fn attend(sub: &mut Subchannel, unit: &mut Unit, path: Path) -> Result<PlainReply, Fault>
     requires { IsUnitRoomy «unit».old }
     ensures engaged { engaged sub.new ≡ engaged sub.old }
     ensures state { sub.new.state ≡ sub.old.state }
     ensures gives { giving_spec.GivesBoth sub.old «unit».old
-        (report_spec.report_taken sub.old (unit_spec.attending «unit».old sub.old.setup.side path)) (answer_at answer.new) sub.new «unit».new }
+        (report_spec.report_taken sub.old (unit_spec.attending «unit».old sub.old.setup.side path)) (plain_outcome result) sub.new «unit».new }
 {
     let side = sub.setup.side;
     if !unit.is_idle() || side_of(unit.state(), side).fresh {
-        answer.outcome = Outcome::Refused(Fault::NotNow);
-        return;
+        return Err(Fault::NotNow);
     }
     if finds_up_full(sub, path) {
-        answer.outcome = Outcome::Refused(Fault::WireFull);
-        return;
+        return Err(Fault::WireFull);
     }
     let sent = unit.attention(side, path);
     send_any_up(sub, &sent);
-    answer.outcome = Outcome::Replied(PlainReply::Done);
+    Ok(PlainReply::Done)
 }
 
 /// The side of the subchannel, which was not reset since the last restart, is told how often the unit was restarted.
 #[inline(never)]
-fn notice(sub: &mut Subchannel, unit: &Unit, path: Path, answer: &mut AnswerPlace)
+fn notice(sub: &mut Subchannel, unit: &Unit, path: Path) -> Result<PlainReply, Fault>
     ensures engaged { engaged sub.new ≡ engaged sub.old }
     ensures state { sub.new.state ≡ sub.old.state }
     ensures gives { giving_spec.GivesBoth sub.old «unit».now
-        (report_spec.report_taken sub.old (unit_spec.noticing «unit».now sub.old.setup.side path)) (answer_at answer.new) sub.new «unit».now }
+        (report_spec.report_taken sub.old (unit_spec.noticing «unit».now sub.old.setup.side path)) (plain_outcome result) sub.new «unit».now }
 {
     let side = sub.setup.side;
     if !side_of(unit.state(), side).fresh {
-        answer.outcome = Outcome::Refused(Fault::NotNow);
-        return;
+        return Err(Fault::NotNow);
     }
     if finds_up_full(sub, path) {
-        answer.outcome = Outcome::Refused(Fault::WireFull);
-        return;
+        return Err(Fault::WireFull);
     }
     let sent = unit.notice(side, path);
     send_any_up(sub, &sent);
-    answer.outcome = Outcome::Replied(PlainReply::Done);
+    Ok(PlainReply::Done)
 }
 
 /// A unit acts at the subchannel of a side: what it does is sent by the path that is named, and Leave by that of its
 /// program.
-pub fn act_sub(sub: &mut Subchannel, unit: &mut Unit, act: UnitAct, answer: &mut AnswerPlace)
+pub fn act_sub(sub: &mut Subchannel, unit: &mut Unit, act: UnitAct) -> Result<PlainReply, Fault>
     requires { IsUnitRoomy «unit».old }
     ensures engaged { engaged sub.new ≡ engaged sub.old }
     ensures state { sub.new.state ≡ sub.old.state }
     ensures gives { giving_spec.GivesBoth sub.old «unit».old (spec.act_sub sub.old «unit».old act)
-        (answer_at answer.new) sub.new «unit».new }
+        (plain_outcome result) sub.new «unit».new }
 {
     let index = match act {
-        UnitAct::Leave => {
-            leave(sub, unit, answer);
-            return;
-        }
+        UnitAct::Leave => return leave(sub, unit),
         UnitAct::Ask { path } | UnitAct::Attention { path, .. } | UnitAct::Notice { path, .. } =>
             path,
     };
-    let Some(path) = path_of(sub, index) else {
-        answer.outcome = Outcome::Refused(Fault::NoSuchPath);
-        return;
-    };
+    let path = path_of(sub, index).ok_or(Fault::NoSuchPath)?;
     match act {
-        UnitAct::Leave | UnitAct::Ask { .. } => ask(sub, unit, path, answer),
-        UnitAct::Attention { .. } => attend(sub, unit, path, answer),
-        UnitAct::Notice { .. } => notice(sub, unit, path, answer),
+        UnitAct::Leave | UnitAct::Ask { .. } => ask(sub, unit, path),
+        UnitAct::Attention { .. } => attend(sub, unit, path),
+        UnitAct::Notice { .. } => notice(sub, unit, path),
     }
 }
 

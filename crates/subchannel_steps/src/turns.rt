@@ -1,6 +1,6 @@
 //! What an event does at one subchannel.
 
-ghost use Rattle.std.specs.Prelude.{◌≡◌, ◌<◌, ◌^◌, Bool, Option, Some, false, length, nat_lt, true};
+ghost use Rattle.std.specs.Prelude.{◌≡◌, ◌<◌, ◌≤◌, ◌^◌, Bool, OnErr, Option, Some, false, length, nat_lt, true};
 ghost use Rattle.subchannel_steps.specs.Giving as giving_spec;
 ghost use Rattle.machine_model.specs.ChooseSteps as choose_spec;
 ghost use Rattle.subchannel_model.specs.Sending as sending_spec;
@@ -20,8 +20,9 @@ ghost use Rattle.chan_model.specs.UnitReports as reports_spec;
 ghost use Rattle.chan_model.specs.UnitTable as unit_spec;
 ghost use Rattle.chan_model.specs.UnitTable.{UnitStep};
 ghost use Rattle.finding.specs.Tables.{engaged};
-ghost use Rattle.signal_places.specs.Answers.{answer_at};
-ghost use Rattle.signal_places.specs.Plain.{reply_of};
+ghost use Rattle.chan_events.specs.declared.reply.Reply.TheVariants as reply_spec;
+ghost use Rattle.event_log.specs.Logs.{IsKept, answer_in};
+ghost use Rattle.signal_places.specs.Plain.{plain_outcome, reply_of};
 ghost use Rattle.unit.specs.UnitWords.{IsAllowed};
 
 use crate::sending::{finds_down_full, finds_up_full, send_any_down, send_any_up};
@@ -32,9 +33,10 @@ use chan_model::report::{Report, ReportPath};
 use chan_model::signal::{Down, LentDown, LentUp, OnPath, Up};
 use chan_model::unit_state::Place;
 use control_units::sharing::Sharing;
+use event_log::logs::Log;
 use finding::engines::Counted;
-use signal_places::answers::{AnswerPlace, Outcome};
 use signal_places::plain::PlainReply;
+use signal_places::sent::SentDown;
 use status::make_pending;
 use storage_keys::Storage;
 use subchannel::answering::{answer_path, answer_paths, standing_path};
@@ -144,21 +146,18 @@ pub fn choose_sub(
     sub: &mut Subchannel,
     choice: &Option<Path>,
     chosen: Chosen,
-    answer: &mut AnswerPlace,
-)
+) -> Result<PlainReply, Fault>
     requires roomy { IsRoomy sub.old }
     requires fits { choosing_spec.IsFitFor chosen sub.old.state.hold }
     ensures gives { giving_spec.GivesSub sub.old
-        (choose_spec.choose_sub (choosing_spec.marked_sub sub.old choice.now) chosen) (answer_at answer.new) sub.new }
+        (choose_spec.choose_sub (choosing_spec.marked_sub sub.old choice.now) chosen) (plain_outcome result) sub.new }
     ensures setup { sub.new.setup ≡ sub.old.setup }
 {
     if chosen_finds_full(sub, &chosen) {
-        answer.outcome = Outcome::Refused(Fault::WireFull);
-        return;
+        return Err(Fault::WireFull);
     }
     mark_lost_paths(sub, choice);
-    let reply = act_on_choice(sub, chosen);
-    answer.outcome = Outcome::Replied(reply);
+    Ok(act_on_choice(sub, chosen))
 }
 
 /// Whether the wire down of the program that is offered or connected is full.
@@ -230,35 +229,31 @@ pub fn up_sub(
     sub: &mut Subchannel,
     path: Path,
     returns: bool,
-    answer: &mut AnswerPlace,
-)
+    sent: &mut SentDown,
+    log: &mut Log,
+) -> Result<(), Fault>
     requires roomy { IsRoomy sub.old }
     requires inside { nat_lt path (length sub.old.setup.paths) ≡ true }
+    requires room { 1 ≤ log.old.room }
+    requires fresh { log.old.reply ≡ reply_spec.Done }
     ensures setup { sub.new.setup ≡ sub.old.setup }
     ensures gives { giving_spec.GivesStorage storage.old sub.old (up_spec.up_sub returns storage.old sub.old path)
-        (answer_at answer.new) storage.new sub.new }
+        (answer_in result log.new) storage.new sub.new }
+    ensures kept { IsKept log.old log.new }
+    ensures refused { OnErr result (log.new ≡ log.old) }
 {
     let Some(front) = sub.wires.front_up(path) else {
-        answer.outcome = Outcome::Refused(Fault::NotSent);
-        return;
+        return Err(Fault::NotSent);
     };
     if up_finds_full(storage, sub, path, &front, returns) {
-        answer.outcome = Outcome::Refused(Fault::WireFull);
-        return;
+        return Err(Fault::WireFull);
     }
-    answer.up.put(&front);
-    sub.wires.drop_up(path);
     let available = sub.state.pmcw.available;
-    let taken = take_up(
-        storage,
-        &mut sub.state,
-        path,
-        &answer.up.lend(),
-        returns,
-        &mut answer.sent_down,
-    );
-    send_any_down(&mut sub.wires, &available, &answer.sent_down.get());
-    answer.outcome = Outcome::MetUp { taken };
+    let taken = take_up(storage, &mut sub.state, path, &front, returns, sent);
+    log.meet_up(&front, taken, &sent.get());
+    sub.wires.drop_up(path);
+    send_any_down(&mut sub.wires, &available, &sent.get());
+    Ok(())
 }
 
 /// Whether the answer of a unit to a signal finds its wire full. What the control unit may do makes no difference.
@@ -276,39 +271,30 @@ pub fn down_sub(
     unit: &mut Unit,
     sharing: &mut Sharing,
     path: u32,
-    answer: &mut AnswerPlace,
-)
+    log: &mut Log,
+) -> Result<(), Fault>
+    requires room { 1 ≤ log.old.room }
+    requires fresh { log.old.reply ≡ reply_spec.Done }
     ensures engaged { engaged sub.new ≡ engaged sub.old }
     ensures state { sub.new.state ≡ sub.old.state }
     ensures gives { giving_spec.GivesShared sub.old «unit».old sharing.old
-        (down_spec.down_shared sharing.old sub.old path «unit».old) (answer_at answer.new) sub.new «unit».new sharing.new }
+        (down_spec.down_shared sharing.old sub.old path «unit».old) (answer_in result log.new) sub.new «unit».new sharing.new }
+    ensures kept { IsKept log.old log.new }
+    ensures refused { OnErr result (log.new ≡ log.old) }
 {
-    let Some(path) = path_of(sub, path) else {
-        answer.outcome = Outcome::Refused(Fault::NoSuchPath);
-        return;
-    };
+    let path = path_of(sub, path).ok_or(Fault::NoSuchPath)?;
     let Some(front) = sub.wires.front_down(path) else {
-        answer.outcome = Outcome::Refused(Fault::NotSent);
-        return;
+        return Err(Fault::NotSent);
     };
     if answer_finds_full(sub, unit, path, &front) {
-        answer.outcome = Outcome::Refused(Fault::WireFull);
-        return;
+        return Err(Fault::WireFull);
     }
-    answer.down.put(&front);
-    sub.wires.drop_down(path);
     let side = sub.setup.side;
-    let came = take(
-        sharing,
-        sub.setup.unit,
-        unit,
-        side,
-        path,
-        &answer.down.lend(),
-    );
+    let came = take(sharing, sub.setup.unit, unit, side, path, &front);
+    log.meet_down(&front, came.taken, &came.sent);
+    sub.wires.drop_down(path);
     send_any_up(sub, &came.sent);
-    answer.sent_up.put_any(&came.sent);
-    answer.outcome = Outcome::MetDown { taken: came.taken };
+    Ok(())
 }
 
 /// Whether what comes of a report, whose path is this, finds its wire full.
@@ -328,41 +314,42 @@ fn report_from(
     unit: &mut Unit,
     place: &Place,
     report: &Report,
-    answer: &mut AnswerPlace,
-)
+) -> Result<PlainReply, Fault>
     requires roomy { IsUnitRoomy «unit».old }
     requires allowed { IsAllowed «unit».old report.now }
     ensures engaged { engaged sub.new ≡ engaged sub.old }
     ensures state { sub.new.state ≡ sub.old.state }
     ensures gives { giving_spec.GivesBoth sub.old «unit».old (report_spec.report_taken sub.old
         (reports_spec.report_on «unit».old report.now.number place.now «unit».old.at_hand report.now))
-        (answer_at answer.new) sub.new «unit».new }
+        (plain_outcome result) sub.new «unit».new }
 {
     let path = unit.path_from(place, report);
     if let ReportPath::Refused = path {
-        answer.outcome = Outcome::Refused(Fault::NotNow);
-        return;
+        return Err(Fault::NotNow);
     }
     if report_finds_full(sub, &path) {
-        answer.outcome = Outcome::Refused(Fault::WireFull);
-        return;
+        return Err(Fault::WireFull);
     }
     let reported = unit.report_from(place, report);
     let came = unit.lend(&reported);
     send_any_up(sub, &came.sent);
-    answer.outcome = Outcome::Replied(PlainReply::Done);
+    Ok(PlainReply::Done)
 }
 
 /// The unit takes its device's answer, and sends what comes of it to the subchannel.
-pub fn report_sub(sub: &mut Subchannel, unit: &mut Unit, report: &Report, answer: &mut AnswerPlace)
+pub fn report_sub(
+    sub: &mut Subchannel,
+    unit: &mut Unit,
+    report: &Report,
+) -> Result<PlainReply, Fault>
     requires { IsUnitRoomy «unit».old }
     ensures engaged { engaged sub.new ≡ engaged sub.old }
     ensures state { sub.new.state ≡ sub.old.state }
     ensures gives { giving_spec.GivesBoth sub.old «unit».old (report_spec.report_sub sub.old «unit».old report.now)
-        (answer_at answer.new) sub.new «unit».new }
+        (plain_outcome result) sub.new «unit».new }
 {
     match unit.reporting(report) {
-        None => answer.outcome = Outcome::Refused(Fault::NotNow),
-        Some(place) => report_from(sub, unit, &place, report, answer),
+        None => Err(Fault::NotNow),
+        Some(place) => report_from(sub, unit, &place, report),
     }
 }
