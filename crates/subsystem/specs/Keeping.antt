@@ -1,15 +1,22 @@
 -- What every step and every run keeps.
-use Rattle.std.specs.Prelude.{◌≡◌, ◌≤◌, ℕ, IfSome, List, length, map, Option, None, Some, slice_get}
+use Rattle.std.specs.Prelude.{◌≡◌, ◌≢◌, ◌⊎◌, ◌+◌, ◌≤◌, ◌++◌, ◌∷◌, [], ℕ, IfErr, IfOk, IfSome, List, OnErr, length, map, Option, None, Some, Result, Ok, Err, slice_get}
 use Rattle.scsw_irb.specs.declared.serials.Serials.{Serials}
 use Rattle.chan_model.specs.declared.answer.Answer.{Answer}
 use Rattle.chan_model.specs.declared.answer.Answer.TheVariants as answer
+use Rattle.chan_model.specs.declared.fault.Fault.{Fault}
+use Rattle.chan_model.specs.declared.fault.Fault.TheVariants as fault
 use Rattle.chan_events.specs.declared.event.Event.{Event}
 use Rattle.chan_events.specs.declared.event.Event.TheVariants as event
+use Rattle.chan_events.specs.declared.reply.Entry.{Entry}
 use Rattle.chan_events.specs.declared.reply.Reply.{Reply}
 use Rattle.channel_config.specs.Setup.{Setup}
 use Rattle.event_laws.specs.Codes.{answer_in}
-use Rattle.machine_model.specs.State.{State}
+use Rattle.event_log.specs.Logs.{last_reply}
+use Rattle.machine_model.specs.Ruled.{GoesByRule}
+use Rattle.machine_model.specs.State.{IsAsBefore, LacksRoom, Past, State}
 use Rattle.machine_model.specs.Setups.{IsSetUp}
+use Rattle.machine_model.specs.Steps.{IsRefused, Step}
+use Rattle.path_select.specs.Choice.{Rule}
 
 -- it stays as it was set up
 abbrev pub StaysSetUp : State → State → Type 0
@@ -43,3 +50,26 @@ serials_brought (Some answer) = serials_with answer
 abbrev pub BringsOrdered : Event → Reply → Type 0
 BringsOrdered (event.Execute cpu i) r = IfSome (serials_brought (answer_in r)) IsOrdered
 BringsOrdered e r = Unit {0}
+
+-- what an event came to, by the history that it left: its refusal, or the reply of the last entry
+abbrev pub answer_of : {A : Type 0} → Result A Fault → List Entry → Result Reply Fault
+answer_of (Ok _) h = Ok (last_reply h)
+answer_of (Err f) h = Err f
+
+-- one event and its answer, between what a subsystem is before and after
+pub record IsStep (picks : Rule) (old : Past) (e : Event) (answer : Result Reply Fault) (new : Past) : Type 0 where
+  -- an accepted event is a step with its reply, and one entry more
+  pub step : IfOk answer (λ reply. Step old.state e reply new.state)
+  pub history : IfOk answer (λ reply. new.history ≡ old.history ++ record { event = e; reply = reply } ∷ [])
+  -- a path is chosen by the rule
+  pub ruled : answer ≢ Err fault.NoMemory → GoesByRule picks old.state e answer new.state
+  -- a refusal changes nothing, and is as the machine's; or there is no room for the entry, or no number
+  pub refused : OnErr answer (IsAsBefore old new)
+  pub refusal : IfErr answer (λ f. (f ≡ fault.NoMemory) ⊎ IsRefused old.state e f)
+  pub spent : answer ≡ Err fault.NoMemory → LacksRoom old new
+  pub room : old.room ≤ new.room + 1
+  -- whatever the outcome, the subsystem stays set up, no subchannel comes or goes, and no serial falls
+  pub set_up : StaysSetUp old.state new.state
+  pub rises : Rises (all_serials old.state) (all_serials new.state)
+  -- the serials that a reply brings are in order
+  pub ordered : IfOk answer (λ reply. BringsOrdered e reply)

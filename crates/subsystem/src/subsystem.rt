@@ -4,10 +4,8 @@ ghost use Rattle.std.specs.Prelude.{◌≡◌, ◌≢◌, ◌⊎◌, ◌+◌, �
 ghost use Rattle.chan_events.specs.declared.reply.Entry.{Entry};
 ghost use Rattle.chan_model.specs.declared.fault.Fault.TheVariants as fault_spec;
 ghost use Rattle.machine_model.specs.State as state_spec;
-ghost use Rattle.machine_model.specs.Ruled.{GoesByRule};
-ghost use Rattle.machine_model.specs.State.{IsAsBefore, LacksRoom};
 ghost use Rattle.machine_model.specs.Setups.{IsSetUp};
-ghost use Rattle.machine_model.specs.Steps.{Step, IsRefused, HasRun};
+ghost use Rattle.machine_model.specs.Steps.{HasRun};
 ghost use Rattle.machine_model.specs.Answering.{HasAnswered, HasBegun};
 ghost use Rattle.std.specs.Bool.{OnTrue, OnFalse};
 ghost use Rattle.finding.specs.Tables.{Fits};
@@ -15,10 +13,11 @@ ghost use Rattle.subchannel_steps.specs.KeptTurns.{given_of, turns_in};
 ghost use Rattle.subchannel_steps.specs.PathTurns as path_spec;
 ghost use Rattle.machine_laws.specs.Agreeing.{AllAgree};
 ghost use Rattle.subsystem.specs.Headline.{HasHeld};
-ghost use Rattle.subsystem.specs.Keeping.{BringsOrdered, IsOrdered, Rises, StaysSetUp, all_serials};
+ghost use Rattle.subsystem.specs.Keeping.{IsOrdered, IsStep, StaysSetUp, all_serials, answer_of};
 ghost use Rattle.machine_laws.specs.Claims.{IsClearedOnce};
 ghost use Rattle.machine_laws.specs.Beginnings.{IsBegunOnce};
-ghost use Rattle.signal_places.specs.Answers.{answer_at};
+ghost use Rattle.chan_events.specs.declared.reply.Reply.TheVariants as reply_spec;
+ghost use Rattle.event_log.specs.Logs.{last_reply};
 
 use crate::seen::headline;
 use crate::stepping::keep_step;
@@ -27,7 +26,7 @@ use chan_events::reply::Reply;
 use chan_model::fault::Fault;
 use channel_config::config::Config;
 use event_laws::codes;
-use event_log::history::History;
+use event_log::history::{History, LentReply};
 use event_log::logs::Log;
 use finding::tables::Places;
 use machine_laws::{agreements, beginnings, numbers, serials};
@@ -37,7 +36,6 @@ use machine_steps::opening::opened_machine;
 use path_select::PathChoice;
 use program_laws::programs;
 use scsw_irb::serials::Serials;
-use signal_places::answers::AnswerPlace;
 use std::alloc::Global;
 use std::marker::Model;
 use subchannel_steps::kept_turns::KeptTurn;
@@ -50,11 +48,11 @@ pub struct Subsystem<P: Drop> {
     places: Places,
     machine: Machine,
     history: Log,
-    /// For the answer of an event whose caller has no place for it.
-    answer: AnswerPlace,
 }
 
 impl<P: Drop> Model for Subsystem<P> {
+    ghost use Rattle.std.specs.Prelude.{◌≡◌};
+    ghost use Rattle.chan_events.specs.declared.reply.Reply.TheVariants as reply_spec;
     ghost use Rattle.machine_model.specs.State.{Past};
     ghost use Rattle.machine_model.specs.Steps.{HasRun};
     ghost use Rattle.finding.specs.Tables.{Fits};
@@ -67,7 +65,7 @@ impl<P: Drop> Model for Subsystem<P> {
       room = s.history.room;
     } };
 
-    ghost invariant = { λ s. HasRun s.history.entries s.machine × Fits s.places s.machine.subs };
+    ghost invariant = { λ s. HasRun s.history.entries s.machine × (Fits s.places s.machine.subs × (s.history.reply ≡ reply_spec.Done)) };
 }
 
 /// There was no memory for a subsystem: what it was to be made of.
@@ -109,7 +107,6 @@ impl<P: PathChoice + Drop> Subsystem<P> {
                 places,
                 machine,
                 history: Log::new(alloc),
-                answer: AnswerPlace::new(),
             }),
             Err(_) => Err(NotMade { config, choice }),
         }
@@ -119,19 +116,7 @@ impl<P: PathChoice + Drop> Subsystem<P> {
     /// up; a refusal changes nothing.
     #[inline]
     pub fn step(&mut self, event: &Event) -> Result<Reply, Fault>
-        ensures step { IfOk result (λ reply. Step self.old.state event.now reply self.new.state) }
-        ensures history { IfOk result (λ reply. self.new.history ≡
-            self.old.history ++ record { event = event.now; reply = reply } ∷ []) }
-        ensures set_up { StaysSetUp self.old.state self.new.state }
-        ensures ruled { result ≢ Err fault_spec.NoMemory →
-            GoesByRule P.picks self.old.state event.now result self.new.state }
-        ensures room { self.old.room ≤ self.new.room + 1 }
-        ensures refused { OnErr result (IsAsBefore self.old self.new) }
-        ensures refusal { IfErr result (λ f. (f ≡ fault_spec.NoMemory) ⊎ IsRefused self.old.state event.now f) }
-        ensures spent { result ≡ Err fault_spec.NoMemory → LacksRoom self.old self.new }
-        // Whatever the outcome, no subchannel comes or goes, and no serial falls.
-        ensures rises { Rises (all_serials self.old.state) (all_serials self.new.state) }
-        ensures ordered { IfOk result (λ reply. BringsOrdered event.now reply) }
+        ensures { IsStep P.picks self.old event.now result self.new }
     {
         self.step_with(&mut Given { refused: false }, event)
     }
@@ -140,68 +125,33 @@ impl<P: PathChoice + Drop> Subsystem<P> {
     /// no room and the supply refuses it, or the numbers are used up.
     #[inline]
     pub fn step_with<S: Supply>(&mut self, supply: &mut S, event: &Event) -> Result<Reply, Fault>
-        ensures step { IfOk result (λ reply. Step self.old.state event.now reply self.new.state) }
-        ensures history { IfOk result (λ reply. self.new.history ≡
-            self.old.history ++ record { event = event.now; reply = reply } ∷ []) }
-        ensures set_up { StaysSetUp self.old.state self.new.state }
-        ensures ruled { result ≢ Err fault_spec.NoMemory →
-            GoesByRule P.picks self.old.state event.now result self.new.state }
-        ensures room { self.old.room ≤ self.new.room + 1 }
-        ensures refused { OnErr result (IsAsBefore self.old self.new) }
-        ensures refusal { IfErr result (λ f. (f ≡ fault_spec.NoMemory) ⊎ IsRefused self.old.state event.now f) }
-        ensures spent { result ≡ Err fault_spec.NoMemory → LacksRoom self.old self.new }
-        // Whatever the outcome, no subchannel comes or goes, and no serial falls.
-        ensures rises { Rises (all_serials self.old.state) (all_serials self.new.state) }
-        ensures ordered { IfOk result (λ reply. BringsOrdered event.now reply) }
+        ensures answered { IsStep P.picks self.old event.now result self.new }
         ensures given { result ≢ Err fault_spec.NoMemory → S.refused supply.new ≡ S.refused supply.old }
         ensures memory { result ≡ Err fault_spec.NoMemory →
             (S.refused supply.new ≡ true) ⊎ (2 ^ 62 ≤ length self.old.history + 1) }
     {
-        let mut answer = Err(Fault::NoMemory);
-        self.step_to_with(supply, event, &mut answer);
-        answer
+        self.perform_with(supply, event)?;
+        match self.last_reply() {
+            Some(reply) => Ok(reply.own()),
+            None => Ok(Reply::Done),
+        }
     }
 
-    /// One event, as `step` has it, with its answer written where the caller has it.
-    pub fn step_to(&mut self, event: &Event, answer: &mut Result<Reply, Fault>)
-        ensures step { IfOk answer.new (λ reply. Step self.old.state event.now reply self.new.state) }
-        ensures history { IfOk answer.new (λ reply. self.new.history ≡
-            self.old.history ++ record { event = event.now; reply = reply } ∷ []) }
-        ensures set_up { StaysSetUp self.old.state self.new.state }
-        ensures ruled { answer.new ≢ Err fault_spec.NoMemory →
-            GoesByRule P.picks self.old.state event.now answer.new self.new.state }
-        ensures room { self.old.room ≤ self.new.room + 1 }
-        ensures refused { OnErr answer.new (IsAsBefore self.old self.new) }
-        ensures refusal { IfErr answer.new (λ f. (f ≡ fault_spec.NoMemory) ⊎ IsRefused self.old.state event.now f) }
-        ensures spent { answer.new ≡ Err fault_spec.NoMemory → LacksRoom self.old self.new }
-        ensures rises { Rises (all_serials self.old.state) (all_serials self.new.state) }
-        ensures ordered { IfOk answer.new (λ reply. BringsOrdered event.now reply) }
+    /// One event, as `step` has it; its reply is that of the entry which it added, and `last_reply` lends it. Nothing is copied
+    /// for those who do not look.
+    #[inline]
+    pub fn perform(&mut self, event: &Event) -> Result<(), Fault>
+        ensures { IsStep P.picks self.old event.now (answer_of result self.new.history) self.new }
     {
-        self.step_to_with(&mut Given { refused: false }, event, answer);
+        self.perform_with(&mut Given { refused: false }, event)
     }
 
-    /// One event, as `step_with` has it, with its answer written where the caller has it.
-    #[inline(never)]
-    pub fn step_to_with<S: Supply>(
-        &mut self,
-        supply: &mut S,
-        event: &Event,
-        answer: &mut Result<Reply, Fault>,
-    )
-        ensures step { IfOk answer.new (λ reply. Step self.old.state event.now reply self.new.state) }
-        ensures history { IfOk answer.new (λ reply. self.new.history ≡
-            self.old.history ++ record { event = event.now; reply = reply } ∷ []) }
-        ensures set_up { StaysSetUp self.old.state self.new.state }
-        ensures ruled { answer.new ≢ Err fault_spec.NoMemory →
-            GoesByRule P.picks self.old.state event.now answer.new self.new.state }
-        ensures room { self.old.room ≤ self.new.room + 1 }
-        ensures refused { OnErr answer.new (IsAsBefore self.old self.new) }
-        ensures refusal { IfErr answer.new (λ f. (f ≡ fault_spec.NoMemory) ⊎ IsRefused self.old.state event.now f) }
-        ensures spent { answer.new ≡ Err fault_spec.NoMemory → LacksRoom self.old self.new }
-        ensures rises { Rises (all_serials self.old.state) (all_serials self.new.state) }
-        ensures ordered { IfOk answer.new (λ reply. BringsOrdered event.now reply) }
-        ensures given { answer.new ≢ Err fault_spec.NoMemory → S.refused supply.new ≡ S.refused supply.old }
-        ensures memory { answer.new ≡ Err fault_spec.NoMemory →
+    /// One event, as `perform` has it, with room for its entry from a supply, as `step_with` says.
+    #[inline]
+    pub fn perform_with<S: Supply>(&mut self, supply: &mut S, event: &Event) -> Result<(), Fault>
+        ensures answered { IsStep P.picks self.old event.now (answer_of result self.new.history) self.new }
+        ensures given { result ≢ Err fault_spec.NoMemory → S.refused supply.new ≡ S.refused supply.old }
+        ensures memory { result ≡ Err fault_spec.NoMemory →
             (S.refused supply.new ≡ true) ⊎ (2 ^ 62 ≤ length self.old.history + 1) }
     {
         keep_step(
@@ -211,66 +161,23 @@ impl<P: PathChoice + Drop> Subsystem<P> {
             &self.places,
             &self.choice,
             event,
-            &mut self.answer,
-        );
-        *answer = self.answer.answer();
+        )
     }
 
-    /// One event, as `step` has it, with its answer in a place that is made once: no more bytes move than its signals have.
-    pub fn step_place(&mut self, event: &Event, place: &mut AnswerPlace)
-        ensures step { IfOk (answer_at place.new) (λ reply. Step self.old.state event.now reply self.new.state) }
-        ensures history { IfOk (answer_at place.new) (λ reply. self.new.history ≡
-            self.old.history ++ record { event = event.now; reply = reply } ∷ []) }
-        ensures set_up { StaysSetUp self.old.state self.new.state }
-        ensures ruled { (answer_at place.new) ≢ Err fault_spec.NoMemory →
-            GoesByRule P.picks self.old.state event.now (answer_at place.new) self.new.state }
-        ensures room { self.old.room ≤ self.new.room + 1 }
-        ensures refused { OnErr (answer_at place.new) (IsAsBefore self.old self.new) }
-        ensures refusal { IfErr (answer_at place.new) (λ f. (f ≡ fault_spec.NoMemory) ⊎ IsRefused self.old.state event.now f) }
-        ensures spent { (answer_at place.new) ≡ Err fault_spec.NoMemory → LacksRoom self.old self.new }
-        ensures rises { Rises (all_serials self.old.state) (all_serials self.new.state) }
-        ensures ordered { IfOk (answer_at place.new) (λ reply. BringsOrdered event.now reply) }
+    /// The reply to the event that was accepted last; None where none was.
+    #[inline]
+    pub fn last_reply(&self) -> Option<LentReply<'_>>
+        ensures reply { IfSome result (λ reply. reply ≡ last_reply self.now.history) }
+        ensures none { IfNone result (self.now.history ≡ []) }
     {
-        self.step_place_with(&mut Given { refused: false }, event, place);
+        self.history.history().last_reply()
     }
 
-    /// One event, as `step_with` has it, with its answer in a place that is made once.
-    pub fn step_place_with<S: Supply>(
-        &mut self,
-        supply: &mut S,
-        event: &Event,
-        place: &mut AnswerPlace,
-    )
-        ensures step { IfOk (answer_at place.new) (λ reply. Step self.old.state event.now reply self.new.state) }
-        ensures history { IfOk (answer_at place.new) (λ reply. self.new.history ≡
-            self.old.history ++ record { event = event.now; reply = reply } ∷ []) }
-        ensures set_up { StaysSetUp self.old.state self.new.state }
-        ensures ruled { (answer_at place.new) ≢ Err fault_spec.NoMemory →
-            GoesByRule P.picks self.old.state event.now (answer_at place.new) self.new.state }
-        ensures room { self.old.room ≤ self.new.room + 1 }
-        ensures refused { OnErr (answer_at place.new) (IsAsBefore self.old self.new) }
-        ensures refusal { IfErr (answer_at place.new) (λ f. (f ≡ fault_spec.NoMemory) ⊎ IsRefused self.old.state event.now f) }
-        ensures spent { (answer_at place.new) ≡ Err fault_spec.NoMemory → LacksRoom self.old self.new }
-        ensures rises { Rises (all_serials self.old.state) (all_serials self.new.state) }
-        ensures ordered { IfOk (answer_at place.new) (λ reply. BringsOrdered event.now reply) }
-        ensures given { (answer_at place.new) ≢ Err fault_spec.NoMemory → S.refused supply.new ≡ S.refused supply.old }
-        ensures memory { (answer_at place.new) ≡ Err fault_spec.NoMemory →
-            (S.refused supply.new ≡ true) ⊎ (2 ^ 62 ≤ length self.old.history + 1) }
-    {
-        keep_step(
-            &mut self.machine,
-            &mut self.history,
-            supply,
-            &self.places,
-            &self.choice,
-            event,
-            place,
-        );
-    }
-
-    /// Adds what was accepted last, where there is any, to a log that has room for it.
+    /// Adds what was accepted last, where there is any, to a log that has room for it and in which no entry is being written.
     pub fn add_last(&self, log: &mut Log)
-        requires { 1 ≤ log.old.room }
+        requires room { 1 ≤ log.old.room }
+        requires fresh { log.old.reply ≡ reply_spec.Done }
+        ensures fresh { log.new.reply ≡ reply_spec.Done }
         ensures entries { (h : List Entry) (e : Entry) → self.now.history ≡ h ++ e ∷ [] → log.new.entries ≡ log.old.entries ++ e ∷ [] }
         ensures none { self.now.history ≡ [] → log.new.entries ≡ log.old.entries }
         ensures room { log.old.room ≤ log.new.room + 1 }
