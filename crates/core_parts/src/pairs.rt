@@ -3,7 +3,7 @@
 ghost use Rattle.std.specs.Prelude.{◌≡◌, ◌<◌, ◌≤◌, ℕ, true, All, IfOk, OnErr, OnOk, Some, length, slice_get, slice_set, vec_len};
 ghost use Rattle.scsw_irb.specs.declared.serials.Serials.{Serials};
 ghost use Rattle.event_laws.specs.Codes.{answer_in};
-ghost use Rattle.signal_places.specs.Answers.{reply_at};
+ghost use Rattle.event_log.specs.Logs.{last_reply};
 ghost use Rattle.subsystem.specs.Keeping as keeping;
 ghost use Rattle.subsystem.specs.Keeping.{IsOrdered, Rises, all_serials};
 ghost use Rattle.core_parts.specs.Named.{cells_of, shown};
@@ -14,12 +14,12 @@ use crate::directory::Directory;
 use crate::touching::Touched;
 use chan_events::event::{Event, Instruction};
 use chan_model::answer::Answer;
+use event_log::history::LentReply;
 use glance_cell::cell::{Reader, Writer};
 use glance_cell::supplies::CellSupply;
+use kept_events::replies::KeptReply;
 use path_select::PathChoice;
 use scsw_irb::serials::Serials;
-use signal_places::answers::{AnswerPlace, Outcome};
-use signal_places::plain::PlainReply;
 use std::alloc::{AllocError, Global};
 use subsystem::subsystem::Subsystem;
 use supply::{Supply, push};
@@ -126,15 +126,24 @@ fn serials_with(answer: Answer) -> Option<Serials>
     }
 }
 
-/// The serials that the reply to an instruction brings, by the place where it stands.
-fn serials_brought(place: &AnswerPlace) -> Option<Serials>
-    ensures { result ≡ keeping.serials_brought (answer_in (reply_at place.now)) }
+/// The serials that the reply to an instruction brings.
+fn serials_brought(reply: &LentReply<'_>) -> Option<Serials>
+    ensures { result ≡ keeping.serials_brought (answer_in reply.now) }
 {
-    match &place.outcome {
-        Outcome::Replied(PlainReply::Code(answer) | PlainReply::Status { answer, .. }) => {
-            serials_with(*answer)
-        }
+    let (kept, _) = reply.parts();
+    match kept {
+        KeptReply::Code(answer) | KeptReply::Status { answer, .. } => serials_with(*answer),
         _ => None,
+    }
+}
+
+/// The serials that the last reply of a subsystem brings.
+fn last_brought<P: PathChoice + Drop>(subsystem: &Subsystem<P>) -> Option<Serials>
+    ensures { result ≡ keeping.serials_brought (answer_in (last_reply subsystem.now.history)) }
+{
+    match subsystem.last_reply() {
+        Some(reply) => serials_brought(&reply),
+        None => None,
     }
 }
 
@@ -161,9 +170,15 @@ pub fn greater(one: Serials, other: Serials) -> Serials
     }
 }
 
-/// TEST SUBCHANNEL with code 0 or 1 ends by raising the pair of its subchannel.
-pub fn raise(pairs: &mut Vec<Serials>, directory: &Directory, event: &Event, place: &AnswerPlace)
-    ensures { pairs.new.items ≡ spec.raised_among pairs.old.items directory.now event.now (reply_at place.now) }
+/// TEST SUBCHANNEL with code 0 or 1 ends by raising the pair of its subchannel, to the serials that its reply, the last one of the
+/// subsystem, brings.
+pub fn raise<P: PathChoice + Drop>(
+    pairs: &mut Vec<Serials>,
+    directory: &Directory,
+    event: &Event,
+    subsystem: &Subsystem<P>,
+)
+    ensures { pairs.new.items ≡ spec.raised_among pairs.old.items directory.now event.now (last_reply subsystem.now.history) }
 {
     let Event::Execute {
         instruction: Instruction::Tsch { subchannel, .. },
@@ -172,7 +187,7 @@ pub fn raise(pairs: &mut Vec<Serials>, directory: &Directory, event: &Event, pla
     else {
         return;
     };
-    if let Some(found) = serials_brought(place) {
+    if let Some(found) = last_brought(subsystem) {
         raise_at(pairs, directory.place(*subchannel), found);
     }
 }

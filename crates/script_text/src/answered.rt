@@ -1,76 +1,49 @@
-//! The line of an event whose answer stands in a place.
+//! The line of an event, by the reply that is kept of it.
 
-ghost use Rattle.std.specs.Prelude.{◌≡◌, ◌++◌, ◌∷◌, [], decimal, true};
+ghost use Rattle.std.specs.Prelude.{◌≡◌, ◌≤◌, ◌++◌, ◌∷◌, [], Ok, length, true};
 ghost use Rattle.chan_model.specs.Signals.{lent_down, lent_up};
-ghost use Rattle.signal_places.specs.Answers.{answer_at};
-ghost use Rattle.signal_places.specs.Plain.{reply_of};
+ghost use Rattle.kept_events.specs.Replies.{reply_in, reply_length};
 ghost use Rattle.script_text.specs.Text as spec;
+ghost use Rattle.script_text.specs.declared.ActionResult.TheVariants as told;
 ghost use Rattle.streams.specs.Sinks.{Puts};
 
 use crate::held::Held;
 use crate::{
-    put_answer, put_bytes, put_code, put_decimal, put_down, put_interruption, put_named, put_paths,
-    put_refusal, put_report, put_status, put_up,
+    ActionResult, put_answer, put_bytes, put_code, put_down, put_interruption, put_named,
+    put_paths, put_pieces, put_report, put_status, put_up,
 };
 use chan_model::signal::{Down, LentDown, LentUp, Up};
-use signal_places::answers::{AnswerPlace, Outcome};
-use signal_places::plain::PlainReply;
+use event_log::history::LentReply;
+use kept_events::replies::KeptReply;
 use streams::Sink;
 
-/// What a reply without signals and bytes prints.
-fn put_plain<S: Sink>(sink: &mut S, reply: &PlainReply) -> bool
-    ensures { Puts (S.seen sink.old) (spec.reply_text (reply_of reply.now)) (S.seen sink.new) result }
+/// What a reply prints that is kept so, with these bytes.
+#[inline(never)]
+fn put_kept<S: Sink>(sink: &mut S, reply: &KeptReply, bytes: &[u8]) -> bool
+    requires { reply_length reply.now ≤ length bytes.now }
+    ensures { Puts (S.seen sink.old) (spec.reply_text (reply_in reply.now bytes.now)) (S.seen sink.new) result }
 {
     match reply {
-        PlainReply::Done => sink.put(b"done"),
-        PlainReply::Code(answer) => put_answer(sink, *answer),
-        PlainReply::Status { answer, scsw } => put_status(sink, *answer, scsw),
-        PlainReply::Interruption(found) => put_interruption(sink, found),
-        PlainReply::PathReset(code) => put_code(sink, *code),
-        PlainReply::ChannelReport(report) => put_report(sink, *report),
-        PlainReply::Paths { engaged } => put_paths(sink, engaged),
-        PlainReply::Offered { path, .. } => put_named(sink, b"offer ", path.index() as u64),
-        PlainReply::ResetSent { path, .. } => put_named(sink, b"reset ", path.index() as u64),
-        PlainReply::HaltSent { path, .. } => put_named(sink, b"halt ", path.index() as u64),
-        PlainReply::Pending => sink.put(b"status"),
-        PlainReply::Idle => sink.put(b"idle"),
+        KeptReply::Done => sink.put(b"done"),
+        KeptReply::Shown { length } => put_bytes(sink, &bytes[..length.get()]),
+        KeptReply::Code(answer) => put_answer(sink, *answer),
+        KeptReply::Status { answer, scsw } => put_status(sink, *answer, scsw),
+        KeptReply::Interruption(found) => put_interruption(sink, found),
+        KeptReply::PathReset(code) => put_code(sink, *code),
+        KeptReply::ChannelReport(report) => put_report(sink, *report),
+        KeptReply::Paths { engaged } => put_paths(sink, engaged),
+        KeptReply::Offered { path, .. } => put_named(sink, b"offer ", path.index() as u64),
+        KeptReply::ResetSent { path, .. } => put_named(sink, b"reset ", path.index() as u64),
+        KeptReply::HaltSent { path, .. } => put_named(sink, b"halt ", path.index() as u64),
+        KeptReply::Pending => sink.put(b"status"),
+        KeptReply::Idle => sink.put(b"idle"),
+        KeptReply::Up { taken, signal } | KeptReply::UpSent { taken, signal, .. } => {
+            put_up(sink, *taken, &signal.lend(bytes))
+        }
+        KeptReply::Down { taken, signal } | KeptReply::DownSent { taken, signal, .. } => {
+            put_down(sink, *taken, &signal.lend(bytes))
+        }
     }
-}
-
-/// What an answer prints.
-#[inline(never)]
-fn put_came<S: Sink>(sink: &mut S, place: &AnswerPlace) -> bool
-    ensures { Puts (S.seen sink.old) (spec.outcome_text (spec.told_of (answer_at place.now))) (S.seen sink.new) result }
-{
-    match &place.outcome {
-        Outcome::Refused(fault) => put_refusal(sink, fault),
-        Outcome::Replied(plain) => put_plain(sink, plain),
-        Outcome::Shown { length } => put_bytes(sink, &place.shown[..length.get()]),
-        Outcome::MetUp { taken } => put_up(sink, *taken, &place.up.lend()),
-        Outcome::MetDown { taken } => put_down(sink, *taken, &place.down.lend()),
-    }
-}
-
-/// What an event came to, after a space.
-fn put_spaced<S: Sink>(sink: &mut S, place: &AnswerPlace) -> bool
-    ensures { Puts (S.seen sink.old) (32 ∷ spec.outcome_text (spec.told_of (answer_at place.now))) (S.seen sink.new) result }
-{
-    sink.put(b" ") && put_came(sink, place)
-}
-
-/// The number of a line before that.
-#[tactic(auto, using(streams::proofs::Sinking::takes_then, streams::proofs::Sinking::fails_then))]
-fn put_numbered<S: Sink>(sink: &mut S, line: u64, place: &AnswerPlace) -> bool
-    ensures { Puts (S.seen sink.old) (decimal line ++ 32 ∷ spec.outcome_text (spec.told_of (answer_at place.now))) (S.seen sink.new) result }
-{
-    put_decimal(sink, line) && put_spaced(sink, place)
-}
-
-/// The line of one event, piece by piece.
-fn put_pieces<S: Sink>(sink: &mut S, line: u64, place: &AnswerPlace) -> bool
-    ensures { Puts (S.seen sink.old) (spec.event_line line (spec.told_of (answer_at place.now))) (S.seen sink.new) result }
-{
-    put_numbered(sink, line, place) && sink.put(b"\n")
 }
 
 /// The rest of the line of a signal that was taken on its way down.
@@ -110,39 +83,57 @@ fn put_up_taken<S: Sink>(sink: &mut S, signal: &LentUp<'_>) -> bool
 }
 
 /// The rest of a line after its number and a space: what occurs most is put at once.
-fn put_rest<S: Sink>(sink: &mut S, place: &AnswerPlace) -> bool
-    ensures { Puts (S.seen sink.old) (spec.outcome_text (spec.told_of (answer_at place.now)) ++ 10 ∷ []) (S.seen sink.new) result }
+fn put_rest<S: Sink>(sink: &mut S, reply: &KeptReply, bytes: &[u8]) -> bool
+    requires { reply_length reply.now ≤ length bytes.now }
+    ensures { Puts (S.seen sink.old) (spec.reply_text (reply_in reply.now bytes.now) ++ 10 ∷ []) (S.seen sink.new) result }
 {
-    match &place.outcome {
-        Outcome::MetUp { taken: true } => put_up_taken(sink, &place.up.lend()),
-        Outcome::MetDown { taken: true } => put_down_taken(sink, &place.down.lend()),
-        Outcome::Replied(PlainReply::Done) => sink.put(b"done\n"),
-        _ => put_came(sink, place) && sink.put(b"\n"),
+    match reply {
+        KeptReply::Up {
+            taken: true,
+            signal,
+        }
+        | KeptReply::UpSent {
+            taken: true,
+            signal,
+            ..
+        } => put_up_taken(sink, &signal.lend(bytes)),
+        KeptReply::Down {
+            taken: true,
+            signal,
+        }
+        | KeptReply::DownSent {
+            taken: true,
+            signal,
+            ..
+        } => put_down_taken(sink, &signal.lend(bytes)),
+        KeptReply::Done => sink.put(b"done\n"),
+        _ => put_kept(sink, reply, bytes) && sink.put(b"\n"),
     }
 }
 
-/// The line of an event, as `put_event_line_at_once` writes it, by the place where its answer stands.
-pub fn put_answer_line_at_once<S: Sink>(
+/// The line of an event that was accepted, as `put_event_line_at_once` writes it, by the reply that is lent.
+pub fn put_reply_line_at_once<S: Sink>(
     sink: &mut S,
     held: &mut Held,
     line: u64,
-    place: &AnswerPlace,
+    reply: &LentReply<'_>,
 ) -> bool
-    ensures { Puts (S.seen sink.old) (spec.event_line line (spec.told_of (answer_at place.now))) (S.seen sink.new) result }
+    ensures { Puts (S.seen sink.old) (spec.event_line line (Ok (told.Reply reply.now))) (S.seen sink.new) result }
 {
+    let (kept, bytes) = reply.parts();
     held.begin(line);
-    if put_rest(held, place) {
+    if put_rest(held, kept, bytes) {
         sink.put(held.bytes())
     } else {
-        put_long(sink, line, place)
+        put_long(sink, line, reply)
     }
 }
 
 /// The line of one event that is longer: apart, as it is rare.
 #[cold]
 #[inline(never)]
-fn put_long<S: Sink>(sink: &mut S, line: u64, place: &AnswerPlace) -> bool
-    ensures { Puts (S.seen sink.old) (spec.event_line line (spec.told_of (answer_at place.now))) (S.seen sink.new) result }
+fn put_long<S: Sink>(sink: &mut S, line: u64, reply: &LentReply<'_>) -> bool
+    ensures { Puts (S.seen sink.old) (spec.event_line line (Ok (told.Reply reply.now))) (S.seen sink.new) result }
 {
-    put_pieces(sink, line, place)
+    put_pieces(sink, line, &Ok(ActionResult::Reply(reply.own())))
 }

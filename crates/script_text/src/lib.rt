@@ -16,7 +16,7 @@ pub mod held;
 mod number;
 mod race;
 
-pub use crate::answered::put_answer_line_at_once;
+pub use crate::answered::put_reply_line_at_once;
 use crate::held::Held;
 use crate::race::put_race;
 use chan_events::reply::{PATH_STATUS_BYTES, Reply, report_word};
