@@ -1,7 +1,6 @@
 //! What events are performed at: a channel subsystem by itself, or one in a core, by a seat of it.
 
 use chan_events::event::Event;
-use chan_model::fault::Fault;
 use chan_model::names::Side;
 use chan_model::report::{DeviceAnswer, Report};
 use core_lock::locked::{Core, Seat};
@@ -10,7 +9,6 @@ use device_law::answering::answer_to;
 use device_models::any_device::AnyDevice;
 use kept_work::works::Task;
 use path_select::Rotating;
-use signal_places::answers::AnswerPlace;
 use subchannel_steps::kept_turns::KeptTurn;
 use subsystem::subsystem::Subsystem;
 
@@ -104,38 +102,33 @@ impl Floor for Answering {
     }
 }
 
-/// A channel subsystem with a place for the answer of each event.
+/// A channel subsystem whose answers stay in its history.
 #[derive(Drop)]
-pub struct Placed {
+pub struct Performing {
     subsystem: Subsystem<Rotating>,
-    answer: AnswerPlace,
     report: ReportPlace,
 }
 
-impl Placed {
-    /// This subsystem, with its place.
+impl Performing {
+    /// This subsystem.
     pub fn of(subsystem: Subsystem<Rotating>) -> Self {
-        Placed {
+        Performing {
             subsystem,
-            answer: AnswerPlace::new(),
             report: ReportPlace::new(),
         }
     }
 }
 
-impl Floor for Placed {
+impl Floor for Performing {
     fn accepts(&mut self, event: &Event) -> bool {
-        self.subsystem.step_place(event, &mut self.answer);
-        self.answer.is_reply()
+        self.subsystem.perform(event).is_ok()
     }
 
     fn reports(&mut self, unit: u32, device: &mut AnyDevice) -> bool {
         if !self.report.write(&self.subsystem, unit, device) {
             return false;
         }
-        self.subsystem
-            .step_place(&self.report.event, &mut self.answer);
-        self.answer.is_reply()
+        self.subsystem.perform(&self.report.event).is_ok()
     }
 
     fn subsystem(&self) -> &Subsystem<Rotating> {
@@ -151,23 +144,18 @@ pub struct Seated<J: Naming> {
     pub report: ReportPlace,
 }
 
-/// Whether an event is accepted; as `Core::enter` does it, with an answer of its own, but for an event that stays.
-fn enters<J: Naming>(core: &mut Core<J, Rotating>, seat: &mut Seat<J>, event: &Event) -> bool {
-    let mut answer = Err(Fault::NotNow);
-    core.enter_to(seat, event, &mut answer);
-    answer.is_ok()
-}
-
 impl<J: Naming> Floor for Seated<J> {
     fn accepts(&mut self, event: &Event) -> bool {
-        enters(&mut self.core, &mut self.seat, event)
+        self.core.perform(&mut self.seat, event).is_ok()
     }
 
     fn reports(&mut self, unit: u32, device: &mut AnyDevice) -> bool {
         if !self.report.write(self.core.subsystem(), unit, device) {
             return false;
         }
-        enters(&mut self.core, &mut self.seat, &self.report.event)
+        self.core
+            .perform(&mut self.seat, &self.report.event)
+            .is_ok()
     }
 
     fn subsystem(&self) -> &Subsystem<Rotating> {

@@ -36,7 +36,7 @@ pub fn serve<'a, T: Threads + Wait + Sync, M: CoreSupply + TextSupply, R: Source
     reader: &mut R,
     sink: &mut S,
 ) -> Outcome
-    ensures served { IsServed M.tells (map (λ w. w.now) words.now) (R.left reader.old) (S.seen sink.old) (S.seen sink.new) result }
+    ensures served { IsServed (M.refused supply.new) M.tells (map (λ w. w.now) words.now) (R.left reader.old) (S.seen sink.old) (S.seen sink.new) result }
     ensures unread { IsTrue (is_none (plain (map (λ w. w.now) words.now))) → R.left reader.new ≡ R.left reader.old }
     ensures memory { LacksMemory result → M.refused supply.new ≡ true }
     ensures status { plain (map (λ w. w.now) words.now) ≡ None → (outcome_spec.exit_status result ≡ 2) ⊎ (M.refused supply.new ≡ true) }

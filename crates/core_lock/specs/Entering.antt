@@ -1,5 +1,5 @@
 -- What entering an event leaves, and what a look finds (own).
-use Rattle.std.specs.Prelude.{◌≡◌, ◌≤◌, ◌^◌, ◌⊎◌, ℕ, ◌+◌, ◌-◌, List, [], ◌∷◌, ◌++◌, length, min, Some, Result, Ok, Err, Vec, vec_capacity, vec_len, slice_get, slice_set}
+use Rattle.std.specs.Prelude.{◌≡◌, ◌≢◌, ◌≤◌, ◌^◌, ◌⊎◌, ℕ, ◌+◌, ◌-◌, List, [], ◌∷◌, ◌++◌, length, min, IfErr, IfOk, OnErr, Some, Result, Ok, Err, Vec, vec_capacity, vec_len, slice_get, slice_set}
 use Rattle.scsw_irb.specs.declared.serials.Serials.{Serials}
 use Rattle.chan_model.specs.declared.fault.Fault.{Fault}
 use Rattle.chan_model.specs.declared.fault.Fault.TheVariants as fault
@@ -7,8 +7,10 @@ use Rattle.chan_events.specs.declared.event.Event.{Event}
 use Rattle.chan_events.specs.declared.event.Event.TheVariants as event
 use Rattle.chan_events.specs.declared.reply.Reply.{Reply}
 use Rattle.glance_cell.specs.Shown.{Words}
+use Rattle.machine_model.specs.Ruled.{GoesByRule}
 use Rattle.machine_model.specs.State.{Past, State, serials_in, sub_of}
 use Rattle.machine_model.specs.Steps.{Step, IsRefused}
+use Rattle.path_select.specs.Choice.{Rule}
 use Rattle.core_lock.specs.declared.executing.CpuInstruction.{CpuInstruction}
 use Rattle.core_lock.specs.declared.executing.CpuInstruction.TheVariants as cpu_instruction
 use Rattle.core_parts.specs.Directory.{place_named}
@@ -39,6 +41,10 @@ MayRefuse s e f = (f ≡ fault.NoMemory) ⊎ IsRefused s e f
 abbrev pub room_of : {A Z : Type 0} → Past → Vec A Z → ℕ
 room_of past by = min past.room (vec_capacity by - vec_len by)
 
+-- what a lock guards: a past, and the seat of each entry of its history
+abbrev pub core_of : {Z : Type 0} → Past → Vec ℕ Z → GuardedCore
+core_of past by = record { value = record { state = past.state; history = past.history; by = by.items }; room = room_of past by }
+
 -- there is no room for another entry, in the history, beside it or in the log of the seat, or no number for it is left
 abbrev pub LacksSpace : ℕ → ℕ → ℕ → Type 0
 LacksSpace core seat entries = (min core seat ≡ 0) ⊎ (2 ^ 62 ≤ entries + 1)
@@ -46,14 +52,40 @@ LacksSpace core seat entries = (min core seat ≡ 0) ⊎ (2 ^ 62 ≤ entries + 1
 abbrev pub LacksRoom : GuardedCore → HeldSeat → Type 0
 LacksRoom core seat = LacksSpace core.room seat.room (length core.value.history)
 
-abbrev pub HasNoRoom : LockedCore → HeldSeat → Type 0
-HasNoRoom core seat = LacksRoom (guarded_in core) seat
-
 -- how often an event was refused a seat for want of memory, after this answer; the greatest number of 64 bits stays
-abbrev pub starved_after : Result Reply Fault → ℕ → ℕ
+abbrev pub starved_after : {A : Type 0} → Result A Fault → ℕ → ℕ
 starved_after (Ok r) starved = starved
 starved_after (Err fault.NoMemory) starved = min (starved + 1) 0xFFFFFFFFFFFFFFFF
 starved_after (Err f) starved = starved
+
+-- one event that is entered from a seat, and its answer, between what a lock guards before and after
+pub record IsEntered (picks : Rule) (old : GuardedCore) (held : HeldSeat) (e : Event) (answer : Result Reply Fault) (new : GuardedCore) (after : HeldSeat) : Type 0 where
+  -- an accepted event is a step with its reply
+  pub step : IfOk answer (λ reply. Step old.value.state e reply new.value.state)
+  -- the history has one entry more
+  pub history : IfOk answer (λ reply. new.value.history ≡ old.value.history ++ entry e reply ∷ [])
+  -- the number of the seat stands beside it
+  pub by : IfOk answer (λ reply. new.value.by ≡ old.value.by ++ held.value.number ∷ [])
+  -- the log of the seat has the same entry, and its pairs are raised by it
+  pub logged : IfOk answer (λ reply. after.value ≡ entered held.value e reply)
+  -- a path is chosen by the rule
+  pub ruled : answer ≢ Err fault.NoMemory → GoesByRule picks old.value.state e answer new.value.state
+  -- a refusal is the machine's, or for want of memory
+  pub refusal : IfErr answer (λ f. MayRefuse old.value.state e f)
+  -- memory is wanting only where there is no room, or no number is left
+  pub spent : answer ≡ Err fault.NoMemory → LacksRoom old held
+  -- a refusal leaves what the lock guards as it was
+  pub core : OnErr answer (new.value ≡ old.value)
+  -- a refusal leaves the seat as it was
+  pub seat : OnErr answer (after.value ≡ held.value)
+  -- a refusal for want of memory alone is counted
+  pub starved : after.starved ≡ starved_after answer held.starved
+  -- one event takes the room of one entry
+  pub room : old.room ≤ new.room + 1
+  -- and so in the log of the seat
+  pub seat_room : held.room ≤ after.room + 1
+  -- a refusal loses no room
+  pub kept : OnErr answer ((old.room ≤ new.room) × (held.room ≤ after.room))
 
 -- the event of an instruction
 abbrev pub event_of : ℕ → CpuInstruction → Event

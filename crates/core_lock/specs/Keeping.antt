@@ -1,8 +1,9 @@
 -- What a locked machine and a seat keep, whenever no call is at work on them (own).
 use Rattle.std.specs.Prelude.{◌≡◌, ◌≤◌, ℕ, ◌+◌, All, List, length}
 use Rattle.scsw_irb.specs.declared.serials.Serials.{Serials}
-use Rattle.chan_events.specs.declared.reply.Entry.{Entry}
+use Rattle.chan_events.specs.declared.reply.Reply.TheVariants as reply
 use Rattle.channel_config.specs.Setup.{Setup}
+use Rattle.event_log.specs.Logs.{Logged}
 use Rattle.glance_cell.specs.Shown.{Words}
 use Rattle.machine_model.specs.State.{Past}
 use Rattle.machine_model.specs.Setups.{IsSetUp}
@@ -36,11 +37,13 @@ pub record IsStock (made : ℕ) (left turns_left : Part) : Type 0 where
   pub rest : IsRest left made
   pub turns : IsRest turns_left made
 
--- a seat: its share is the length of its log; it has a pair, in order, and a reader for each subchannel
-pub record IsSeat (counted : Part) (turn_parts : ℕ) (log : List Entry) (pairs : List Serials) (readers : List Words) (held : Directory) (name : MachineName) : Type 0 where
+-- a seat: its share is the length of its log, in which no entry is being written; it has a pair, in order, and a reader for each
+-- subchannel
+pub record IsSeat (counted : Part) (turn_parts : ℕ) (log : Logged) (pairs : List Serials) (readers : List Words) (held : Directory) (name : MachineName) : Type 0 where
   pub share : counted.parts ≡ 1
   pub turns : turn_parts ≡ 1
-  pub entries : counted.amount ≡ length log
+  pub entries : counted.amount ≡ length log.entries
+  pub fresh : log.reply ≡ reply.Done
   pub beside : length pairs ≡ length readers
   pub ordered : All IsOrdered pairs
   pub cells : cells_of readers ≡ name.cells

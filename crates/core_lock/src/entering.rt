@@ -1,14 +1,11 @@
 //! One event at a subsystem, entered from a seat. This module alone adds to the history and to the log of a seat.
 
-ghost use Rattle.std.specs.Prelude.{◌≡◌, ◌≢◌, ◌⊎◌, ◌+◌, ◌^◌, ◌≤◌, [], ◌∷◌, ◌++◌, length, IfOk, IfErr, OnErr, OnOk, Ok, Err, true};
+ghost use Rattle.std.specs.Prelude.{◌≡◌, ◌≢◌, ◌⊎◌, ◌+◌, ◌^◌, ◌<◌, ◌≤◌, length, vec_capacity, vec_len, Err, OnErr, OnOk, true};
 ghost use Rattle.chan_model.specs.declared.fault.Fault.TheVariants as fault_spec;
-ghost use Rattle.machine_model.specs.Ruled.{GoesByRule};
-ghost use Rattle.machine_model.specs.Steps.{Step};
-ghost use Rattle.signal_places.specs.Answers.{answer_at, reply_at};
-ghost use Rattle.subsystem.specs.Keeping.{StaysSetUp, all_serials};
-ghost use Rattle.core_lock.specs.Entering.{LacksSpace, MayRefuse, entered, room_of, starved_after};
+ghost use Rattle.event_log.specs.Logs.{IsKept};
+ghost use Rattle.subsystem.specs.Keeping.{StaysSetUp, all_serials, answer_of};
+ghost use Rattle.core_lock.specs.Entering.{IsEntered, core_of, starved_after};
 ghost use Rattle.core_parts.specs.Named.{cells_of, shown};
-ghost use Rattle.core_parts.specs.Seats.{entry};
 
 use crate::locked::Seat;
 use chan_events::event::Event;
@@ -16,50 +13,40 @@ use chan_model::fault::Fault;
 use core_parts::naming::{Entries, Naming};
 use core_parts::pairs::{publish, raise};
 use core_parts::touching::{touched_by, touches};
+use event_log::logs::Log;
 use glance_cell::cell::Writer;
 use path_select::PathChoice;
-use signal_places::answers::{AnswerPlace, Outcome};
 use std::sync::ledger::Book;
 use subsystem::subsystem::Subsystem;
 use supply::{Supply, ensure_room};
 
-/// What is told of the answer that stands in a place, without its reply.
-pub(crate) fn came(place: &AnswerPlace) -> Result<(), Fault>
-    ensures replied { OnOk result (answer_at place.now ≡ Ok (reply_at place.now)) }
-    ensures refused { IfErr result (λ f. answer_at place.now ≡ Err f) }
+/// Makes room for one entry, beside a history and in the log of a seat.
+#[inline(always)]
+fn make_room<S: Supply>(supply: &mut S, by: &mut Vec<u16>, log: &mut Log) -> Result<(), Fault>
+    ensures refusal { OnErr result (result ≡ Err fault_spec.NoMemory) }
+    ensures spent { OnErr result ((vec_capacity by.old ≡ vec_len by.old) ⊎ (log.old.room ≡ 0)) }
+    ensures made { OnOk result ((vec_len by.new < vec_capacity by.new) × (1 ≤ log.new.room)) }
+    ensures numbers { (by.new.items ≡ by.old.items) × (vec_capacity by.old ≤ vec_capacity by.new) }
+    ensures log { IsKept log.old log.new × (log.new.reply ≡ log.old.reply) }
+    ensures given { OnOk result (S.refused supply.new ≡ S.refused supply.old) }
+    ensures memory { OnErr result (S.refused supply.new ≡ true) }
 {
-    match place.outcome {
-        Outcome::Refused(fault) => Err(fault),
-        _ => Ok(()),
+    if ensure_room(supply, by, 1).is_err() || log.make_room_with(supply).is_err() {
+        return Err(Fault::NoMemory);
     }
+    Ok(())
 }
 
-/// Whether an event was entered, by the answer that stands in a place.
-pub(crate) fn entered_in(place: &AnswerPlace) -> Result<bool, Fault>
-    ensures entered { IfOk result (λ did. (did ≡ true) × (answer_at place.now ≡ Ok (reply_at place.now))) }
-    ensures refused { IfErr result (λ f. answer_at place.now ≡ Err f) }
+/// The same answer, which is counted where it is a refusal for want of memory.
+#[inline(always)]
+fn counted(answer: Result<(), Fault>, starved: &mut u64) -> Result<(), Fault>
+    ensures same { result ≡ answer }
+    ensures starved { starved.new ≡ starved_after answer starved.old }
 {
-    came(place)?;
-    Ok(true)
-}
-
-/// Counts a refusal, where it is for want of memory.
-fn starved_by(fault: Fault, starved: u64) -> u64
-    ensures { result ≡ starved_after (Err fault) starved }
-{
-    match fault {
-        Fault::NoMemory => starved.saturating_add(1),
-        _ => starved,
+    if let Err(Fault::NoMemory) = answer {
+        *starved = starved.saturating_add(1);
     }
-}
-
-/// Counts an answer that stands in a place, where it is a refusal for want of memory.
-fn count_starved(starved: &mut u64, place: &AnswerPlace)
-    ensures { starved.new ≡ starved_after (answer_at place.now) starved.old }
-{
-    if let Outcome::Refused(fault) = place.outcome {
-        *starved = starved_by(fault, *starved);
-    }
+    answer
 }
 
 /// One step at a subsystem, entered from a seat: its entry in the history with the number of its seat beside it, and in the
@@ -73,8 +60,7 @@ pub(crate) fn keep_entry<S: Supply, J: Naming, P: PathChoice + Drop>(
     supply: &mut S,
     seat: &mut Seat<J>,
     event: &Event,
-    place: &mut AnswerPlace,
-)
+) -> Result<(), Fault>
     requires beside { length by.old.items ≡ length subsystem.old.history }
     requires entries { entries.old.total ≡ length subsystem.old.history }
     requires shown { shown writers.old.items ≡ all_serials subsystem.old.state }
@@ -83,40 +69,20 @@ pub(crate) fn keep_entry<S: Supply, J: Naming, P: PathChoice + Drop>(
     ensures shown { shown writers.new.items ≡ all_serials subsystem.new.state }
     ensures cells { cells_of writers.new.items ≡ cells_of writers.old.items }
     ensures set_up { StaysSetUp subsystem.old.state subsystem.new.state }
-    ensures step { IfOk (answer_at place.new) (λ reply. Step subsystem.old.state event.now reply subsystem.new.state) }
-    ensures history { IfOk (answer_at place.new) (λ reply. subsystem.new.history ≡ subsystem.old.history ++ entry event.now reply ∷ []) }
-    ensures by { IfOk (answer_at place.new) (λ reply. by.new.items ≡ by.old.items ++ seat.old.value.number ∷ []) }
-    ensures logged { IfOk (answer_at place.new) (λ reply. seat.new.value ≡ entered seat.old.value event.now reply) }
-    ensures ruled { answer_at place.new ≢ Err fault_spec.NoMemory →
-        GoesByRule P.picks subsystem.old.state event.now (answer_at place.new) subsystem.new.state }
-    ensures refusal { IfErr (answer_at place.new) (λ f. MayRefuse subsystem.old.state event.now f) }
-    ensures spent { answer_at place.new ≡ Err fault_spec.NoMemory → LacksSpace (room_of subsystem.old by.old) seat.old.room (length subsystem.old.history) }
-    ensures given { answer_at place.new ≢ Err fault_spec.NoMemory → S.refused supply.new ≡ S.refused supply.old }
-    ensures memory { answer_at place.new ≡ Err fault_spec.NoMemory →
+    ensures entered { IsEntered P.picks (core_of subsystem.old by.old) seat.old event.now (answer_of result subsystem.new.history)
+        (core_of subsystem.new by.new) seat.new }
+    ensures given { result ≢ Err fault_spec.NoMemory → S.refused supply.new ≡ S.refused supply.old }
+    ensures memory { result ≡ Err fault_spec.NoMemory →
         (S.refused supply.new ≡ true) ⊎ (2 ^ 62 ≤ length subsystem.old.history + 1) }
-    ensures state { OnErr (answer_at place.new) (subsystem.new.state ≡ subsystem.old.state) }
-    ensures past { OnErr (answer_at place.new) (subsystem.new.history ≡ subsystem.old.history) }
-    ensures numbers { OnErr (answer_at place.new) (by.new.items ≡ by.old.items) }
-    ensures seat { OnErr (answer_at place.new) (seat.new.value ≡ seat.old.value) }
-    ensures starved { seat.new.starved ≡ starved_after (answer_at place.new) seat.old.starved }
-    ensures room { room_of subsystem.old by.old ≤ room_of subsystem.new by.new + 1 }
-    ensures seat_room { seat.old.room ≤ seat.new.room + 1 }
-    ensures kept { OnErr (answer_at place.new) ((room_of subsystem.old by.old ≤ room_of subsystem.new by.new) × (seat.old.room ≤ seat.new.room)) }
 {
     let touched = touched_by(subsystem, event);
-    if ensure_room(supply, by, 1).is_err() || seat.log.make_room_with(supply).is_err() {
-        place.outcome = Outcome::Refused(Fault::NoMemory);
-        count_starved(&mut seat.starved, place);
-        return;
-    }
+    counted(make_room(supply, by, &mut seat.log), &mut seat.starved)?;
     touches();
-    subsystem.step_place_with(supply, event, place);
-    count_starved(&mut seat.starved, place);
-    if place.is_reply() {
-        publish(writers, subsystem, touched);
-        entries.add(&mut seat.share, 1);
-        by.push_reserved(seat.number);
-        raise(&mut seat.pairs, &seat.directory, event, place);
-        subsystem.add_last(&mut seat.log);
-    }
+    counted(subsystem.perform_with(supply, event), &mut seat.starved)?;
+    publish(writers, subsystem, touched);
+    entries.add(&mut seat.share, 1);
+    by.push_reserved(seat.number);
+    raise(&mut seat.pairs, &seat.directory, event, subsystem);
+    subsystem.add_last(&mut seat.log);
+    Ok(())
 }

@@ -7,19 +7,17 @@ ghost use Rattle.chan_model.specs.declared.fault.Fault.TheVariants as fault_spec
 ghost use Rattle.machine_laws.specs.Agreeing.{AllAgree};
 ghost use Rattle.machine_laws.specs.Beginnings.{IsBegunOnce};
 ghost use Rattle.machine_laws.specs.Claims.{IsClearedOnce};
-ghost use Rattle.machine_model.specs.Ruled.{GoesByRule};
 ghost use Rattle.machine_model.specs.Setups.{IsSetUp};
-ghost use Rattle.machine_model.specs.Steps.{HasRun, Step};
+ghost use Rattle.machine_model.specs.Steps.{HasRun};
 ghost use Rattle.subsystem.specs.Headline.{HasHeld};
-ghost use Rattle.subsystem.specs.Keeping.{IsOrdered, all_serials};
-ghost use Rattle.signal_places.specs.Answers.{answer_at, reply_at};
+ghost use Rattle.subsystem.specs.Keeping.{IsOrdered, all_serials, answer_of};
 ghost use Rattle.core_parts.specs.Directory.{directory_of};
 ghost use Rattle.core_parts.specs.Named.{cells_of, shown};
-ghost use Rattle.core_parts.specs.Seats.{entries_by, entry};
-ghost use Rattle.core_lock.specs.Entering.{LacksRoom, MayRefuse, entered, starved_after};
+ghost use Rattle.core_parts.specs.Seats.{entries_by};
+ghost use Rattle.core_lock.specs.Entering.{IsEntered};
 ghost use Rattle.core_lock.specs.Turns as turn_spec;
 
-use crate::entering::{came, entered_in, keep_entry};
+use crate::entering::keep_entry;
 use crate::locked::Seat;
 use crate::parts::Parts;
 use crate::same_log::is_log;
@@ -34,7 +32,6 @@ use core_parts::supplies::CoreSupply;
 use glance_cell::cell::{Reader, Writer};
 use path_select::PathChoice;
 use scsw_irb::serials::Serials;
-use signal_places::answers::AnswerPlace;
 use std::alloc::{AllocError, Global};
 use std::marker::Model;
 use std::sync::Arc;
@@ -52,22 +49,17 @@ pub struct Guarded<J: Naming, P: PathChoice + Drop> {
     pub(crate) directory: Arc<Directory>,
     entries: Book<Entries<J>>,
     pub(crate) turns: Book<Turns<J>>,
-    /// For the answer of an event whose caller has no place for it.
-    answer: AnswerPlace,
 }
 
 impl<J: Naming, P: PathChoice + Drop> Model for Guarded<J, P> {
     ghost use Rattle.std.specs.Arc.{arc_value};
     ghost use Rattle.core_parts.specs.Seats.{GuardedCore};
-    ghost use Rattle.core_lock.specs.Entering.{room_of};
+    ghost use Rattle.core_lock.specs.Entering.{core_of};
     ghost use Rattle.core_lock.specs.Keeping.{IsGuarded};
 
     ghost Value = { GuardedCore };
 
-    ghost view = { λ c. record {
-      value = record { state = c.subsystem.state; history = c.subsystem.history; by = c.by.items };
-      room = room_of c.subsystem c.by;
-    } };
+    ghost view = { λ c. core_of c.subsystem c.by };
 
     ghost invariant = { λ c. IsGuarded c.subsystem c.by.items c.entries.total c.writers.items (arc_value c.directory) J.setup J.name };
 }
@@ -113,7 +105,6 @@ pub(crate) fn open<J: Naming, P: PathChoice + Drop>(
         directory,
         entries,
         turns,
-        answer: AnswerPlace::new(),
     };
     (guarded, SeatStock::new(alloc, rest, turns_left))
 }
@@ -186,83 +177,22 @@ impl<J: Naming, P: PathChoice + Drop> Guarded<J, P> {
             directory: _,
             entries,
             turns: _,
-            answer: _,
         } = self;
         (count, entries)
     }
 
-    /// One step, entered from a seat, with room for its entries from a supply and its answer in a place: its reply, with the
-    /// entry in the history and in the seat's log. Where it is refused all is as before; it is refused as `Core::enter_with` says.
-    #[inline(never)]
-    pub(crate) fn enter_to_with<S: Supply>(
-        &mut self,
-        supply: &mut S,
-        seat: &mut Seat<J>,
-        event: &Event,
-        answer: &mut Result<Reply, Fault>,
-    )
-        ensures step { IfOk answer.new (λ reply. Step self.old.value.state event.now reply self.new.value.state) }
-        ensures history { IfOk answer.new (λ reply. self.new.value.history ≡ self.old.value.history ++ entry event.now reply ∷ []) }
-        ensures by { IfOk answer.new (λ reply. self.new.value.by ≡ self.old.value.by ++ seat.old.value.number ∷ []) }
-        ensures logged { IfOk answer.new (λ reply. seat.new.value ≡ entered seat.old.value event.now reply) }
-        ensures ruled { answer.new ≢ Err fault_spec.NoMemory →
-            GoesByRule P.picks self.old.value.state event.now answer.new self.new.value.state }
-        ensures refusal { IfErr answer.new (λ f. MayRefuse self.old.value.state event.now f) }
-        ensures spent { answer.new ≡ Err fault_spec.NoMemory → LacksRoom self.old seat.old }
-        ensures core { OnErr answer.new (self.new.value ≡ self.old.value) }
-        ensures seat { OnErr answer.new (seat.new.value ≡ seat.old.value) }
-        ensures starved { seat.new.starved ≡ starved_after answer.new seat.old.starved }
-        ensures room { self.old.room ≤ self.new.room + 1 }
-        ensures seat_room { seat.old.room ≤ seat.new.room + 1 }
-        // Where it is refused no room is lost.
-        ensures kept { OnErr answer.new ((self.old.room ≤ self.new.room) × (seat.old.room ≤ seat.new.room)) }
-        ensures given { answer.new ≢ Err fault_spec.NoMemory → S.refused supply.new ≡ S.refused supply.old }
-        ensures memory { answer.new ≡ Err fault_spec.NoMemory →
-            (S.refused supply.new ≡ true) ⊎ (2 ^ 62 ≤ length self.old.value.history + 1) }
-    {
-        keep_entry(
-            &mut self.subsystem,
-            &mut self.by,
-            &mut self.writers,
-            &mut self.entries,
-            supply,
-            seat,
-            event,
-            &mut self.answer,
-        );
-        *answer = self.answer.answer();
-    }
-
-    /// One step, as `enter_to_with` has it, with its answer in a place that is made once: no more bytes move than its signals
-    /// have.
+    /// One step, entered from a seat, with room for its entries from a supply: its entry in the history and in the seat's log. Where
+    /// it is refused all is as before; it is refused as `Core::enter_with` says. Its reply is that of the last entry.
     #[inline(always)]
-    pub(crate) fn enter_place_with<S: Supply>(
+    pub(crate) fn perform_with<S: Supply>(
         &mut self,
         supply: &mut S,
         seat: &mut Seat<J>,
         event: &Event,
-        place: &mut AnswerPlace,
     ) -> Result<(), Fault>
-        ensures step { IfOk (answer_at place.new) (λ reply. Step self.old.value.state event.now reply self.new.value.state) }
-        ensures history { IfOk (answer_at place.new) (λ reply. self.new.value.history ≡ self.old.value.history ++ entry event.now reply ∷ []) }
-        ensures by { IfOk (answer_at place.new) (λ reply. self.new.value.by ≡ self.old.value.by ++ seat.old.value.number ∷ []) }
-        ensures logged { IfOk (answer_at place.new) (λ reply. seat.new.value ≡ entered seat.old.value event.now reply) }
-        ensures ruled { answer_at place.new ≢ Err fault_spec.NoMemory →
-            GoesByRule P.picks self.old.value.state event.now (answer_at place.new) self.new.value.state }
-        ensures refusal { IfErr (answer_at place.new) (λ f. MayRefuse self.old.value.state event.now f) }
-        ensures spent { answer_at place.new ≡ Err fault_spec.NoMemory → LacksRoom self.old seat.old }
-        ensures core { OnErr (answer_at place.new) (self.new.value ≡ self.old.value) }
-        ensures seat { OnErr (answer_at place.new) (seat.new.value ≡ seat.old.value) }
-        ensures starved { seat.new.starved ≡ starved_after (answer_at place.new) seat.old.starved }
-        ensures room { self.old.room ≤ self.new.room + 1 }
-        ensures seat_room { seat.old.room ≤ seat.new.room + 1 }
-        // Where it is refused no room is lost.
-        ensures kept { OnErr (answer_at place.new) ((self.old.room ≤ self.new.room) × (seat.old.room ≤ seat.new.room)) }
-        // It is told which of both stands in the place: a reply, or this refusal.
-        ensures replied { OnOk result (answer_at place.new ≡ Ok (reply_at place.new)) }
-        ensures refused { IfErr result (λ f. answer_at place.new ≡ Err f) }
-        ensures given { answer_at place.new ≢ Err fault_spec.NoMemory → S.refused supply.new ≡ S.refused supply.old }
-        ensures memory { answer_at place.new ≡ Err fault_spec.NoMemory →
+        ensures entered { IsEntered P.picks self.old seat.old event.now (answer_of result self.new.value.history) self.new seat.new }
+        ensures given { result ≢ Err fault_spec.NoMemory → S.refused supply.new ≡ S.refused supply.old }
+        ensures memory { result ≡ Err fault_spec.NoMemory →
             (S.refused supply.new ≡ true) ⊎ (2 ^ 62 ≤ length self.old.value.history + 1) }
     {
         keep_entry(
@@ -273,25 +203,34 @@ impl<J: Naming, P: PathChoice + Drop> Guarded<J, P> {
             supply,
             seat,
             event,
-            place,
-        );
-        came(place)
+        )
     }
 
-    /// One step, as `enter_to_with` has it in what memory there is, whose reply nobody looks at.
+    /// One step, as `perform_with` has it, with its reply.
+    #[inline(never)]
+    pub(crate) fn enter_with<S: Supply>(
+        &mut self,
+        supply: &mut S,
+        seat: &mut Seat<J>,
+        event: &Event,
+    ) -> Result<Reply, Fault>
+        ensures entered { IsEntered P.picks self.old seat.old event.now result self.new seat.new }
+        ensures given { result ≢ Err fault_spec.NoMemory → S.refused supply.new ≡ S.refused supply.old }
+        ensures memory { result ≡ Err fault_spec.NoMemory →
+            (S.refused supply.new ≡ true) ⊎ (2 ^ 62 ≤ length self.old.value.history + 1) }
+    {
+        self.perform_with(supply, seat, event)?;
+        match self.subsystem.last_reply() {
+            Some(reply) => Ok(reply.own()),
+            None => Ok(Reply::Done),
+        }
+    }
+
+    /// One step, as `perform_with` has it in what memory there is, whose reply nobody looks at.
     pub(crate) fn try_enter(&mut self, seat: &mut Seat<J>, event: &Event) -> Result<bool, Fault>
         ensures { turn_spec.Tries P.picks self.old seat.old seat.old.value event.now result self.new.value seat.new.value }
     {
-        keep_entry(
-            &mut self.subsystem,
-            &mut self.by,
-            &mut self.writers,
-            &mut self.entries,
-            &mut Given { refused: false },
-            seat,
-            event,
-            &mut self.answer,
-        );
-        entered_in(&self.answer)
+        self.perform_with(&mut Given { refused: false }, seat, event)?;
+        Ok(true)
     }
 }

@@ -7,23 +7,19 @@ ghost use Rattle.chan_model.specs.declared.fault.Fault.TheVariants as fault_spec
 ghost use Rattle.machine_laws.specs.Agreeing.{AllAgree};
 ghost use Rattle.machine_laws.specs.Beginnings.{IsBegunOnce};
 ghost use Rattle.machine_laws.specs.Claims.{IsClearedOnce};
-ghost use Rattle.machine_model.specs.Ruled.{GoesByRule};
 ghost use Rattle.machine_model.specs.Setups.{IsSetUp};
 ghost use Rattle.machine_model.specs.State.{place_of};
-ghost use Rattle.machine_model.specs.Steps.{HasRun, Step};
+ghost use Rattle.machine_model.specs.Steps.{HasRun};
 ghost use Rattle.subsystem.specs.Headline.{HasHeld};
-ghost use Rattle.signal_places.specs.Answers.{answer_at, reply_at};
 ghost use Rattle.subsystem.specs.Keeping.{all_serials};
 ghost use Rattle.core_parts.specs.Directory.{directory_of, place_named};
-ghost use Rattle.core_lock.specs.Entering.{HasNoRoom, MayRefuse, entered, guarded_in, starved_after};
+ghost use Rattle.core_lock.specs.Entering.{guarded_in};
 ghost use Rattle.core_parts.specs.Named.{shown};
-ghost use Rattle.core_parts.specs.Seats.{entries_by, entry};
+ghost use Rattle.core_parts.specs.Seats.{entries_by};
 
 use crate::guarded::{FirstLook, Guarded, open};
 use crate::parts::Parts;
 use crate::stock::SeatStock;
-use chan_events::event::Event;
-use chan_events::reply::Reply;
 use chan_model::fault::Fault;
 use core_parts::directory::Directory;
 use core_parts::naming::{Entries, Naming, Turns};
@@ -33,7 +29,6 @@ use event_log::logs::Log;
 use glance_cell::cell::Reader;
 use path_select::PathChoice;
 use scsw_irb::serials::Serials;
-use signal_places::answers::AnswerPlace;
 use std::alloc::Global;
 use std::marker::Model;
 use std::sync::Arc;
@@ -112,7 +107,7 @@ impl<J: Naming> Model for Seat<J> {
       starved = s.starved;
     } };
 
-    ghost invariant = { λ s. IsSeat (record { parts = s.share.parts; amount = s.share.amount }) s.turns.parts s.log.entries s.pairs.items s.readers.items (arc_value s.directory) J.name };
+    ghost invariant = { λ s. IsSeat (record { parts = s.share.parts; amount = s.share.amount }) s.turns.parts s.log s.pairs.items s.readers.items (arc_value s.directory) J.name };
 }
 
 impl<J: Naming, P: PathChoice + Drop> Core<J, P> {
@@ -295,84 +290,6 @@ impl<J: Naming, P: PathChoice + Drop> Core<J, P> {
     {
         let _ = guarded.subsystem();
         Core { guarded, stock }
-    }
-
-    /// One step, entered from a seat: its reply, with the entry in the history and in the seat's log. Where it is refused all
-    /// is as before; it is refused `NoMemory` only where the history, the seats beside it or the log can't grow, or the steps
-    /// are used up.
-    #[inline(always)]
-    pub fn enter(&mut self, seat: &mut Seat<J>, event: Event) -> Result<Reply, Fault>
-        ensures step { IfOk result (λ reply. Step self.old.value.state event reply self.new.value.state) }
-        ensures history { IfOk result (λ reply. self.new.value.history ≡ self.old.value.history ++ entry event reply ∷ []) }
-        ensures by { IfOk result (λ reply. self.new.value.by ≡ self.old.value.by ++ seat.old.value.number ∷ []) }
-        ensures seats { self.new.value.seats ≡ self.old.value.seats }
-        ensures logged { IfOk result (λ reply. seat.new.value ≡ entered seat.old.value event reply) }
-        ensures ruled { result ≢ Err fault_spec.NoMemory →
-            GoesByRule P.picks self.old.value.state event result self.new.value.state }
-        ensures refusal { IfErr result (λ f. MayRefuse self.old.value.state event f) }
-        ensures spent { result ≡ Err fault_spec.NoMemory → HasNoRoom self.old seat.old }
-        ensures core { OnErr result (self.new.value ≡ self.old.value) }
-        ensures seat { OnErr result (seat.new.value ≡ seat.old.value) }
-        ensures starved { seat.new.starved ≡ starved_after result seat.old.starved }
-        ensures room { self.old.room ≤ self.new.room + 1 }
-        ensures seat_room { seat.old.room ≤ seat.new.room + 1 }
-        // Where it is refused no room is lost.
-        ensures kept { OnErr result ((self.old.room ≤ self.new.room) × (seat.old.room ≤ seat.new.room)) }
-    {
-        self.enter_with(&mut Given { refused: false }, seat, event)
-    }
-
-    /// One step, as `enter` has it, with its answer in a place.
-    pub fn enter_to(&mut self, seat: &mut Seat<J>, event: &Event, answer: &mut Result<Reply, Fault>)
-        ensures step { IfOk answer.new (λ reply. Step self.old.value.state event.now reply self.new.value.state) }
-        ensures history { IfOk answer.new (λ reply. self.new.value.history ≡ self.old.value.history ++ entry event.now reply ∷ []) }
-        ensures by { IfOk answer.new (λ reply. self.new.value.by ≡ self.old.value.by ++ seat.old.value.number ∷ []) }
-        ensures seats { self.new.value.seats ≡ self.old.value.seats }
-        ensures logged { IfOk answer.new (λ reply. seat.new.value ≡ entered seat.old.value event.now reply) }
-        ensures ruled { answer.new ≢ Err fault_spec.NoMemory →
-            GoesByRule P.picks self.old.value.state event.now answer.new self.new.value.state }
-        ensures refusal { IfErr answer.new (λ f. MayRefuse self.old.value.state event.now f) }
-        ensures spent { answer.new ≡ Err fault_spec.NoMemory → HasNoRoom self.old seat.old }
-        ensures core { OnErr answer.new (self.new.value ≡ self.old.value) }
-        ensures seat { OnErr answer.new (seat.new.value ≡ seat.old.value) }
-        ensures starved { seat.new.starved ≡ starved_after answer.new seat.old.starved }
-        ensures room { self.old.room ≤ self.new.room + 1 }
-        ensures seat_room { seat.old.room ≤ seat.new.room + 1 }
-        // Where it is refused no room is lost.
-        ensures kept { OnErr answer.new ((self.old.room ≤ self.new.room) × (seat.old.room ≤ seat.new.room)) }
-    {
-        self.enter_to_with(&mut Given { refused: false }, seat, event, answer);
-    }
-
-    /// One step, as `enter` has it, with its answer in a place that is made once: no more bytes move than its signals have.
-    #[inline(always)]
-    pub fn enter_place(
-        &mut self,
-        seat: &mut Seat<J>,
-        event: &Event,
-        place: &mut AnswerPlace,
-    ) -> Result<(), Fault>
-        ensures step { IfOk (answer_at place.new) (λ reply. Step self.old.value.state event.now reply self.new.value.state) }
-        ensures history { IfOk (answer_at place.new) (λ reply. self.new.value.history ≡ self.old.value.history ++ entry event.now reply ∷ []) }
-        ensures by { IfOk (answer_at place.new) (λ reply. self.new.value.by ≡ self.old.value.by ++ seat.old.value.number ∷ []) }
-        ensures seats { self.new.value.seats ≡ self.old.value.seats }
-        ensures logged { IfOk (answer_at place.new) (λ reply. seat.new.value ≡ entered seat.old.value event.now reply) }
-        ensures ruled { answer_at place.new ≢ Err fault_spec.NoMemory →
-            GoesByRule P.picks self.old.value.state event.now (answer_at place.new) self.new.value.state }
-        ensures refusal { IfErr (answer_at place.new) (λ f. MayRefuse self.old.value.state event.now f) }
-        ensures spent { answer_at place.new ≡ Err fault_spec.NoMemory → HasNoRoom self.old seat.old }
-        ensures core { OnErr (answer_at place.new) (self.new.value ≡ self.old.value) }
-        ensures seat { OnErr (answer_at place.new) (seat.new.value ≡ seat.old.value) }
-        ensures starved { seat.new.starved ≡ starved_after (answer_at place.new) seat.old.starved }
-        ensures room { self.old.room ≤ self.new.room + 1 }
-        ensures seat_room { seat.old.room ≤ seat.new.room + 1 }
-        // Where it is refused no room is lost.
-        ensures kept { OnErr (answer_at place.new) ((self.old.room ≤ self.new.room) × (seat.old.room ≤ seat.new.room)) }
-        // It is told which of both stands in the place: a reply, or this refusal.
-        ensures replied { OnOk result (answer_at place.new ≡ Ok (reply_at place.new)) }
-        ensures refused { IfErr result (λ f. answer_at place.new ≡ Err f) }
-    {
-        self.enter_place_with(&mut Given { refused: false }, seat, event, place)
     }
 }
 

@@ -40,9 +40,7 @@ use Rattle.machine_model.specs.Turns.{Outcome, SubTurn, UpTurn, DownTurn, Shared
 use Rattle.machine_model.specs.Requests.{posted_all, requests_after, requests_dropped, settled}
 use Rattle.machine_model.specs.Sharing.{is_let_go, members_over, owing_after}
 use Rattle.machine_model.specs.Steps.{Does, Performs}
-use Rattle.signal_places.specs.Answers.{answer_at}
 use Rattle.signal_places.specs.Plain.{plain_outcome}
-use Rattle.signal_places.specs.declared.answers.AnswerPlace.{AnswerPlace}
 use Rattle.signal_places.specs.declared.plain.PlainReply.{PlainReply}
 use Rattle.subchannel_steps.specs.Giving.{Gives, GivesSub, GivesStorage, GivesBoth, GivesShared, MayReturn, posted_since}
 use Rattle.machine_steps.proofs.Posted.{none-made, posted-still, posted-at}
@@ -485,9 +483,3 @@ counted-in engines later subs place sub new before after stands counted was is c
 pub counted-still : (engines : List ℕ) (subs : List Subchannel) (place : ℕ) (sub new : Subchannel) → StandsAt subs place sub → Counts engines subs →
     engaged new ≡ engaged sub → Counts engines (slice_set subs place new)
 counted-still engines subs place sub new stands counted same = counts-kept engines subs place new sub stands.within counted (same ∙ ap engaged stands.there)
-
--- an event at what a state is seen as, whose reply or refusal was told
-pub told : (old seen : State) (e : Event) (new : State) (came : Result PlainReply Fault) (place : AnswerPlace) → answer_at place ≡ plain_outcome came →
-    old ≡ seen → Performs old e (plain_outcome came) new → Performs seen e (answer_at place) new
-told old seen e new came place says is performs =
-    subst (λ (s : State). Performs s e (answer_at place) new) is (subst (λ (r : Result Reply Fault). Performs old e r new) (sym says) performs)

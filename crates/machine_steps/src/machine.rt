@@ -253,7 +253,9 @@ impl Machine {
         ensures { spec.Performs self.old (event_spec.Execute cpu instruction.now) (plain_outcome result) self.new }
     {
         let instruction = *instruction;
-        let id = subchannel_named(self.sets, word_of(instruction)).ok_or(Fault::Operand)?;
+        let Some(id) = subchannel_named(self.sets, word_of(instruction)) else {
+            return Err(Fault::Operand);
+        };
         let Some(place) = places.place_in(id, self.subs.as_slice()) else {
             return execute_absent(&mut self.storage, cpu, instruction);
         };
@@ -304,7 +306,9 @@ impl Machine {
         ensures performs { spec.Performs self.old (event_spec.Choose word) (plain_outcome result) self.new }
         ensures ruled { GoesByRule P.picks self.old (event_spec.Choose word) (plain_outcome result) self.new }
     {
-        let place = self.place_of(places, word).ok_or(Fault::NoSuchSubchannel)?;
+        let Some(place) = self.place_of(places, word) else {
+            return Err(Fault::NoSuchSubchannel);
+        };
         let counted = Counted::of(self.subs.as_slice(), &self.engines);
         let paths = paths_to_choose(&counted, &self.subs[place]);
         let sub = &mut self.subs[place];
@@ -331,8 +335,12 @@ impl Machine {
         ensures kept { IsKept log.old log.new }
         ensures refused { OnErr result (log.new ≡ log.old) }
     {
-        let place = self.place_of(places, word).ok_or(Fault::NoSuchSubchannel)?;
-        let path = path_of(&self.subs[place], path).ok_or(Fault::NoSuchPath)?;
+        let Some(place) = self.place_of(places, word) else {
+            return Err(Fault::NoSuchSubchannel);
+        };
+        let Some(path) = path_of(&self.subs[place], path) else {
+            return Err(Fault::NoSuchPath);
+        };
         let counted = Counted::of(self.subs.as_slice(), &self.engines);
         let returns = returns_at(&counted, &self.subs[place], path);
         let sub = &mut self.subs[place];
@@ -354,7 +362,9 @@ impl Machine {
         ensures kept { IsKept log.old log.new }
         ensures refused { OnErr result (log.new ≡ log.old) }
     {
-        let place = self.place_of(places, word).ok_or(Fault::NoSuchSubchannel)?;
+        let Some(place) = self.place_of(places, word) else {
+            return Err(Fault::NoSuchSubchannel);
+        };
         let number = self.subs[place].setup.unit as usize;
         if number >= self.units.len() {
             return Err(Fault::NoSuchUnit);
@@ -374,9 +384,9 @@ impl Machine {
         if number >= self.units.len() {
             return Err(Fault::NoSuchUnit);
         }
-        let place = places
-            .reached_in(number, report.side, self.subs.as_slice())
-            .ok_or(Fault::NotNow)?;
+        let Some(place) = places.reached_in(number, report.side, self.subs.as_slice()) else {
+            return Err(Fault::NotNow);
+        };
         let sub = &mut self.subs[place];
         let unit = &mut self.units[number];
         report_sub(sub, unit, report)
@@ -395,9 +405,9 @@ impl Machine {
         let Some(side) = side_of_act(&self.units[number], act) else {
             return Err(not_held(places, number, act, self.subs.as_slice()));
         };
-        let place = places
-            .reached_in(number, side, self.subs.as_slice())
-            .ok_or(Fault::NotNow)?;
+        let Some(place) = places.reached_in(number, side, self.subs.as_slice()) else {
+            return Err(Fault::NotNow);
+        };
         let sub = &mut self.subs[place];
         let unit = &mut self.units[number];
         act_sub(sub, unit, act)

@@ -91,7 +91,9 @@ impl Machine {
         requires requests { self.old.requests.numbers ≡ 0x100 }
         ensures { spec.Performs self.old (event_spec.PathDown number) (plain_outcome result) self.new }
     {
-        let chpid = chpid_of(self.chpids.as_slice(), number).ok_or(Fault::NoSuchPath)?;
+        let Some(chpid) = chpid_of(self.chpids.as_slice(), number) else {
+            return Err(Fault::NoSuchPath);
+        };
         if !self.up[usize::from(chpid)] {
             return Err(Fault::NotNow);
         }
@@ -110,7 +112,9 @@ impl Machine {
         requires requests { self.old.requests.numbers ≡ 0x100 }
         ensures { spec.Performs self.old (event_spec.PathUp number) (plain_outcome result) self.new }
     {
-        let chpid = chpid_of(self.chpids.as_slice(), number).ok_or(Fault::NoSuchPath)?;
+        let Some(chpid) = chpid_of(self.chpids.as_slice(), number) else {
+            return Err(Fault::NoSuchPath);
+        };
         if self.up[usize::from(chpid)] {
             return Err(Fault::NotNow);
         }
@@ -129,7 +133,9 @@ impl Machine {
         requires requests { self.old.requests.numbers ≡ 0x100 }
         ensures { spec.Performs self.old (event_spec.PathReset number) (plain_outcome result) self.new }
     {
-        let chpid = chpid_of(self.chpids.as_slice(), number).ok_or(Fault::NoSuchPath)?;
+        let Some(chpid) = chpid_of(self.chpids.as_slice(), number) else {
+            return Err(Fault::NoSuchPath);
+        };
         if !self.reports.reset_done(chpid) {
             return Err(Fault::NotNow);
         }

@@ -23,84 +23,84 @@ of_script : (input : Option (List ℕ)) (s : ScriptContents) (P : ScriptContents
 of_script None s P is p = tt
 of_script (Some text) s P is p = (s, is, p)
 
-pub serves_script : (input : Option (List ℕ)) (s : ScriptContents) (held now : Seen) (e : Ending) → IfSome input (λ text. IsScript false (lines_of text) s) →
-    IsRun s held now e → Serves input held now e
-serves_script input s held now NotRead is h = absurd h.2
-serves_script input s held now (NoMemory whole) is h = h
-serves_script input s held now (Bad whole) is h = absurd h.2
-serves_script input s held now (Done refused) is h = of_script input s (λ t. IsRun t held now (Done refused)) is h
-serves_script input s held now (Stopped refused) is h = of_script input s (λ t. IsRun t held now (Stopped refused)) is h
-serves_script input s held now (AuditFailed whole) is h = of_script input s (λ t. IsRun t held now (AuditFailed whole)) is h
+pub serves_script : (short : Bool) (input : Option (List ℕ)) (s : ScriptContents) (held now : Seen) (e : Ending) → IfSome input (λ text. IsScript false (lines_of text) s) →
+    IsRun short s held now e → Serves short input held now e
+serves_script short input s held now NotRead is h = absurd h.2
+serves_script short input s held now (NoMemory whole) is h = h
+serves_script short input s held now (Bad whole) is h = absurd h.2
+serves_script short input s held now (Done refused) is h = of_script input s (λ t. IsRun short t held now (Done refused)) is h
+serves_script short input s held now (Stopped refused) is h = of_script input s (λ t. IsRun short t held now (Stopped refused)) is h
+serves_script short input s held now (AuditFailed whole) is h = of_script input s (λ t. IsRun short t held now (AuditFailed whole)) is h
 
 -- a run, or a race, from an opening
-pub runs_from : (setup : Setup) (lines : List Line) (held now : Seen) (e : Ending) (opening : Installed) → IsOpening setup opening → PerformsAll opening lines held now e
-    → IsRunOf setup lines held now e
-runs_from setup lines held now NotRead opening is h = absurd h
-runs_from setup lines held now (Bad whole) opening is h = absurd h
-runs_from setup lines held now (NoMemory whole) opening is h = absurd h
-runs_from setup lines held now (Done refused) opening is h = (opening, is, h)
-runs_from setup lines held now (Stopped refused) opening is h = (opening, is, h)
-runs_from setup lines held now (AuditFailed whole) opening is h = (opening, is, h)
+pub runs_from : (short : Bool) (setup : Setup) (lines : List Line) (held now : Seen) (e : Ending) (opening : Installed) → IsOpening setup opening → PerformsAll short opening lines held now e
+    → IsRunOf short setup lines held now e
+runs_from short setup lines held now NotRead opening is h = absurd h
+runs_from short setup lines held now (Bad whole) opening is h = absurd h
+runs_from short setup lines held now (NoMemory whole) opening is h = absurd h
+runs_from short setup lines held now (Done refused) opening is h = (opening, is, h)
+runs_from short setup lines held now (Stopped refused) opening is h = (opening, is, h)
+runs_from short setup lines held now (AuditFailed whole) opening is h = (opening, is, h)
 
-pub races_from : (setup : Setup) (lines : List Line) (line : RaceLine) (held now : Seen) (e : Ending) (opening : Installed) → IsOpening setup opening
-    → Races opening lines line held now e → IsRaceOf setup lines line held now e
-races_from setup lines line held now NotRead opening is h = absurd h
-races_from setup lines line held now (Bad whole) opening is h = absurd h
-races_from setup lines line held now (NoMemory whole) opening is h = absurd h
-races_from setup lines line held now (Done refused) opening is h = (opening, is, h)
-races_from setup lines line held now (Stopped refused) opening is h = (opening, is, h)
-races_from setup lines line held now (AuditFailed whole) opening is h = (opening, is, h)
+pub races_from : (short : Bool) (setup : Setup) (lines : List Line) (line : RaceLine) (held now : Seen) (e : Ending) (opening : Installed) → IsOpening setup opening
+    → Races short opening lines line held now e → IsRaceOf short setup lines line held now e
+races_from short setup lines line held now NotRead opening is h = absurd h
+races_from short setup lines line held now (Bad whole) opening is h = absurd h
+races_from short setup lines line held now (NoMemory whole) opening is h = absurd h
+races_from short setup lines line held now (Done refused) opening is h = (opening, is, h)
+races_from short setup lines line held now (Stopped refused) opening is h = (opening, is, h)
+races_from short setup lines line held now (AuditFailed whole) opening is h = (opening, is, h)
 
 -- the audit failed, and the line that says so was written or not
-fails : (old last : Installed) (lines : List Line) (held now : Seen) (whole : Bool) → TellsAudit old lines held now whole last → FailsAudit old lines held now whole last
-fails old last lines held now true h = h
-fails old last lines held now false h = inl h
+fails : (short : Bool) (old last : Installed) (lines : List Line) (held now : Seen) (whole : Bool) → TellsAudit short old lines held now whole last → FailsAudit short old lines held now whole last
+fails short old last lines held now true h = h
+fails short old last lines held now false h = inl h
 
 unaudited : (audited : Bool) (A : Type 0) → audited ≡ false → (IsTrue audited ↔ A) → A → ⊥
 unaudited audited A is both a = true≢false (sym (both.1 a) ∙ is)
 
-pub ends_all : (old last : Installed) (lines : List Line) (held between now : Seen) (whole refused audited : Bool) (e : Ending)
-    → PerformsTo whole old lines held between refused last → (IsTrue audited ↔ IsAudited last) → EndsBy audited whole refused between now e
-    → PerformsAll old lines held now e
-ends_all old last lines held between now true refused true e p both h =
-    subst (λ (x : Ending). PerformsAll old lines held now x) (sym h.1)
-    (last, subst (λ (n : Seen). HasPerformed old lines held n refused last) (sym h.0) p, both.0 refl)
-ends_all old last lines held between now false refused true e p both h =
-    subst (λ (x : Ending). PerformsAll old lines held now x) (sym h.1)
-    (last, subst (λ (n : Seen). HasStopped old lines held n refused last) (sym h.0) p, both.0 refl)
-ends_all old last lines held between now true refused false e p both h =
-    subst (λ (x : Ending). PerformsAll old lines held now x) (sym h.1)
-    (last, fails old last lines held now h.0 (record { refused = refused; between = between; performed = p; told = h.2 }), unaudited false (IsAudited last) refl both)
-ends_all old last lines held between now false refused false e p both h =
-    subst (λ (x : Ending). PerformsAll old lines held now x) (sym h.1)
-    (last, inr (refused, subst (λ (n : Seen). HasStopped old lines held n refused last) (sym h.0) p), unaudited false (IsAudited last) refl both)
+pub ends_all : (short : Bool) (old last : Installed) (lines : List Line) (held between now : Seen) (whole refused audited : Bool) (e : Ending)
+    → PerformsTo short whole old lines held between refused last → (IsTrue audited ↔ IsAudited last) → EndsBy audited whole refused between now e
+    → PerformsAll short old lines held now e
+ends_all short old last lines held between now true refused true e p both h =
+    subst (λ (x : Ending). PerformsAll short old lines held now x) (sym h.1)
+    (last, subst (λ (n : Seen). HasPerformed short old lines held n refused last) (sym h.0) p, both.0 refl)
+ends_all short old last lines held between now false refused true e p both h =
+    subst (λ (x : Ending). PerformsAll short old lines held now x) (sym h.1)
+    (last, subst (λ (n : Seen). HasStopped short old lines held n refused last) (sym h.0) p, both.0 refl)
+ends_all short old last lines held between now true refused false e p both h =
+    subst (λ (x : Ending). PerformsAll short old lines held now x) (sym h.1)
+    (last, fails short old last lines held now h.0 (record { refused = refused; between = between; performed = p; told = h.2 }), unaudited false (IsAudited last) refl both)
+ends_all short old last lines held between now false refused false e p both h =
+    subst (λ (x : Ending). PerformsAll short old lines held now x) (sym h.1)
+    (last, inr (refused, subst (λ (n : Seen). HasStopped short old lines held n refused last) (sym h.0) p), unaudited false (IsAudited last) refl both)
 
 -- the sink failed before the race
-pub stops_before : (old last : Installed) (lines : List Line) (line : RaceLine) (held between now : Seen) (refused audited : Bool) (e : Ending)
-    → HasStopped old lines held between refused last → (IsTrue audited ↔ IsAudited last) → EndsBy audited false refused between now e
-    → Races old lines line held now e
-stops_before old last lines line held between now refused true e p both h =
-    subst (λ (x : Ending). Races old lines line held now x) (sym h.1)
-    (inr (last, subst (λ (n : Seen). HasStopped old lines held n refused last) (sym h.0) p, both.0 refl))
-stops_before old last lines line held between now refused false e p both h =
-    subst (λ (x : Ending). Races old lines line held now x) (sym h.1)
-    (inr (last, refused, subst (λ (n : Seen). HasStopped old lines held n refused last) (sym h.0) p, unaudited false (IsAudited last) refl both))
+pub stops_before : (short : Bool) (old last : Installed) (lines : List Line) (line : RaceLine) (held between now : Seen) (refused audited : Bool) (e : Ending)
+    → HasStopped short old lines held between refused last → (IsTrue audited ↔ IsAudited last) → EndsBy audited false refused between now e
+    → Races short old lines line held now e
+stops_before short old last lines line held between now refused true e p both h =
+    subst (λ (x : Ending). Races short old lines line held now x) (sym h.1)
+    (inr (last, subst (λ (n : Seen). HasStopped short old lines held n refused last) (sym h.0) p, both.0 refl))
+stops_before short old last lines line held between now refused false e p both h =
+    subst (λ (x : Ending). Races short old lines line held now x) (sym h.1)
+    (inr (last, refused, subst (λ (n : Seen). HasStopped short old lines held n refused last) (sym h.0) p, unaudited false (IsAudited last) refl both))
 
 -- or the race was told
-raced_to : (old : Installed) (lines : List Line) (line : RaceLine) (held now : Seen) (audited whole refused : Bool)
-    → RacesAfter old lines line held now whole audited refused → Races old lines line held now (ending_of audited whole refused)
-raced_to old lines line held now true true refused h = h
-raced_to old lines line held now true false refused h = inl h
-raced_to old lines line held now false true refused h = (refused, h)
-raced_to old lines line held now false false refused h = inl (refused, h)
+raced_to : (short : Bool) (old : Installed) (lines : List Line) (line : RaceLine) (held now : Seen) (audited whole refused : Bool)
+    → RacesAfter short old lines line held now whole audited refused → Races short old lines line held now (ending_of audited whole refused)
+raced_to short old lines line held now true true refused h = h
+raced_to short old lines line held now true false refused h = inl h
+raced_to short old lines line held now false true refused h = (refused, h)
+raced_to short old lines line held now false false refused h = inl (refused, h)
 
-pub ends_race : (old middle : Installed) (lines : List Line) (line : RaceLine) (held between now : Seen) (earlier later whole : Bool) (count : RaceCount) (e : Ending)
-    → HasPerformed old lines held between earlier middle → IsRaced line.race middle count later
+pub ends_race : (short : Bool) (old middle : Installed) (lines : List Line) (line : RaceLine) (held between now : Seen) (earlier later whole : Bool) (count : RaceCount) (e : Ending)
+    → HasPerformed short old lines held between earlier middle → IsRaced line.race middle count later
     → Puts between (event_line line.number (Ok (told.Race count))) now whole → e ≡ ending_of count.audited whole (earlier || later)
-    → Races old lines line held now e
-ends_race old middle lines line held between now earlier later whole count e p raced puts is =
-    subst (λ (x : Ending). Races old lines line held now x) (sym is)
-    (raced_to old lines line held now count.audited whole (earlier || later)
+    → Races short old lines line held now e
+ends_race short old middle lines line held between now earlier later whole count e p raced puts is =
+    subst (λ (x : Ending). Races short old lines line held now x) (sym is)
+    (raced_to short old lines line held now count.audited whole (earlier || later)
     (record {
       middle = middle;
       between = between;

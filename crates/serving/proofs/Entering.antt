@@ -1,35 +1,22 @@
 -- What an event comes to that is entered from the one seat of a machine.
-use Rattle.std.proofs.Common.{◌≡◌, ◌≢◌, ◌≤◌, ◌+◌, List, [], ◌∷◌, ◌++◌, Result, Ok, Err, refl, sym, arith, ap, inl, inr}
-use Rattle.std.specs.Prelude.{IfOk, IfErr, OnErr}
+use Rattle.std.proofs.Common.{◌≡◌, ◌≢◌, ◌≤◌, List, Result, Ok, Err, refl, sym, arith, ap, inl, inr}
 use Rattle.chan_events.specs.declared.event.Event.{Event}
 use Rattle.chan_events.specs.declared.reply.Reply.{Reply}
 use Rattle.chan_model.specs.declared.fault.Fault.{Fault}
 use Rattle.chan_model.specs.declared.fault.Fault.TheVariants as fault
-use Rattle.core_lock.specs.Entering.{HasNoRoom, MayRefuse}
-use Rattle.core_parts.specs.Seats.{HeldSeat, Locked, LockedCore, entry}
+use Rattle.core_lock.specs.Entering.{IsEntered, MayRefuse, guarded_in}
+use Rattle.core_parts.specs.Seats.{Guarded, HeldSeat, LockedCore}
 use Rattle.machine_model.specs.Ruled.{GoesByRule}
 use Rattle.machine_model.specs.State.{IsAsBefore, State}
-use Rattle.machine_model.specs.Steps.{Step, IsRefused}
+use Rattle.machine_model.specs.Steps.{IsRefused}
 use Rattle.path_select.specs.Choice.{TakesNext}
 use Rattle.device_models.specs.declared.any_device.AnyDevice.{AnyDevice}
 use Rattle.serving.specs.Acting.{Enters, devices_left, devices_restarted, past_of}
 
--- what the core says of the answer, before and after
-pub record Came (c n : LockedCore) (s t : HeldSeat) (e : Event) (r : Result Reply Fault) : Type 0 where
-  pub step : IfOk r (λ x. Step c.value.state e x n.value.state)
-  pub history : IfOk r (λ x. n.value.history ≡ c.value.history ++ entry e x ∷ [])
-  pub ruled : r ≢ Err fault.NoMemory → GoesByRule TakesNext c.value.state e r n.value.state
-  pub refusal : IfErr r (λ f. MayRefuse c.value.state e f)
-  pub spent : r ≡ Err fault.NoMemory → HasNoRoom c s
-  pub core : OnErr r (n.value ≡ c.value)
-  pub room : c.room ≤ n.room + 1
-  pub seat_room : s.room ≤ t.room + 1
-  pub kept : OnErr r ((c.room ≤ n.room) × (s.room ≤ t.room))
-
-as_before : (c n : LockedCore) (s t : HeldSeat) → n.value ≡ c.value → (c.room ≤ n.room) × (s.room ≤ t.room) → IsAsBefore (past_of c s) (past_of n t)
+as_before : (c n : LockedCore) (s t : HeldSeat) → (guarded_in n).value ≡ (guarded_in c).value → (c.room ≤ n.room) × (s.room ≤ t.room) → IsAsBefore (past_of c s) (past_of n t)
 as_before c n s t same room = record {
-  state = ap (λ (l : Locked). l.state) same;
-  history = ap (λ (l : Locked). l.history) same;
+  state = ap (λ (l : Guarded). l.state) same;
+  history = ap (λ (l : Guarded). l.history) same;
   room = omega (arith, room.0, room.1);
 }
 
@@ -40,11 +27,11 @@ refused s e f other (inr refuses) = refuses
 abbrev refusal_of : Fault → Result Reply Fault
 refusal_of f = Err f
 
-told : (c n : LockedCore) (s t : HeldSeat) (e : Event) (f : Fault) → f ≢ fault.NoMemory → refusal_of f ≢ refusal_of fault.NoMemory → Came c n s t e (Err f)
+told : (c n : LockedCore) (s t : HeldSeat) (e : Event) (f : Fault) → f ≢ fault.NoMemory → refusal_of f ≢ refusal_of fault.NoMemory → IsEntered TakesNext (guarded_in c) s e (Err f) (guarded_in n) t
     → IsRefused c.value.state e f × GoesByRule TakesNext c.value.state e (Err f) n.value.state × IsAsBefore (past_of c s) (past_of n t)
 told c n s t e f other way came = (refused c.value.state e f other came.refusal, came.ruled way, as_before c n s t came.core came.kept)
 
-pub enters : (c n : LockedCore) (s t : HeldSeat) (e : Event) (r : Result Reply Fault) → Came c n s t e r → Enters (past_of c s) e r (past_of n t)
+pub enters : (c n : LockedCore) (s t : HeldSeat) (e : Event) (r : Result Reply Fault) → IsEntered TakesNext (guarded_in c) s e r (guarded_in n) t → Enters (past_of c s) e r (past_of n t)
 enters c n s t e (Ok x) came = (came.step, came.ruled (λ x. absurd (cc)), came.history, omega (arith, came.room, came.seat_room))
 enters c n s t e (Err fault.NoMemory) came = (as_before c n s t came.core came.kept, came.spent refl)
 enters c n s t e (Err fault.WireFull) came = told c n s t e fault.WireFull (λ x. absurd (cc)) (λ x. absurd (cc)) came

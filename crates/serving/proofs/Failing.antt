@@ -18,28 +18,28 @@ use Rattle.streams.specs.Sinks.{Seen}
 opens : (setup : Setup) (i : Installed) → IsOpening setup i → Kept i
 opens setup i opening = subst (λ (x : Installed). Kept x) (sym opening.0) (record { beside = refl; logged = sym (ap (λ (s : Seated). s.log) opening.1.0) })
 
-performed : (old last : Installed) (lines : List Line) (held now : Seen) (refused : Bool) → HasPerformed old lines held now refused last → Kept old → Kept last
-performed old last lines held now refused done k = ran old (map (λ l. l.action) lines) done.outcomes last done.runs k
+performed : (short : Bool) (old last : Installed) (lines : List Line) (held now : Seen) (refused : Bool) → HasPerformed short old lines held now refused last → Kept old → Kept last
+performed short old last lines held now refused done k = ran old (map (λ l. l.action) lines) done.outcomes last done.runs k
 
-stopped : (old last : Installed) (lines : List Line) (held now : Seen) (refused : Bool) → HasStopped old lines held now refused last → Kept old → Kept last
-stopped old last lines held now refused stop k =
-    acted stop.middle stop.last.action stop.stopped.outcome last stop.stopped.acts (performed old stop.middle _ held stop.between stop.earlier stop.performed k)
+stopped : (short : Bool) (old last : Installed) (lines : List Line) (held now : Seen) (refused : Bool) → HasStopped short old lines held now refused last → Kept old → Kept last
+stopped short old last lines held now refused stop k =
+    acted stop.middle stop.last.action stop.stopped.outcome last stop.stopped.acts (performed short old stop.middle _ held stop.between stop.earlier stop.performed k)
 
-told : (old last : Installed) (lines : List Line) (held now : Seen) (whole : Bool) → TellsAudit old lines held now whole last → Kept old → Kept last
-told old last lines held now whole tells k = performed old last lines held tells.between tells.refused tells.performed k
+told : (short : Bool) (old last : Installed) (lines : List Line) (held now : Seen) (whole : Bool) → TellsAudit short old lines held now whole last → Kept old → Kept last
+told short old last lines held now whole tells k = performed short old last lines held tells.between tells.refused tells.performed k
 
-failing : (old last : Installed) (lines : List Line) (held now : Seen) (whole : Bool) → FailsAudit old lines held now whole last → Kept old → Kept last
-failing old last lines held now true fails k = told old last lines held now true fails k
-failing old last lines held now false (inl tells) k = told old last lines held now false tells k
-failing old last lines held now false (inr stop) k = stopped old last lines held now stop.0 stop.1 k
+failing : (short : Bool) (old last : Installed) (lines : List Line) (held now : Seen) (whole : Bool) → FailsAudit short old lines held now whole last → Kept old → Kept last
+failing short old last lines held now true fails k = told short old last lines held now true fails k
+failing short old last lines held now false (inl tells) k = told short old last lines held now false tells k
+failing short old last lines held now false (inr stop) k = stopped short old last lines held now stop.0 stop.1 k
 
-no_run : (setup : Setup) (lines : List Line) (held now : Seen) (whole : Bool) → ¬ IsRunOf setup lines held now (AuditFailed whole)
-no_run setup lines held now whole run =
+no_run : (short : Bool) (setup : Setup) (lines : List Line) (held now : Seen) (whole : Bool) → ¬ IsRunOf short setup lines held now (AuditFailed whole)
+no_run short setup lines held now whole run =
     let fails = run.2 in
-    fails.2 (failing run.0 fails.0 lines held now whole fails.1 (opens setup run.0 run.1)).logged
+    fails.2 (failing short run.0 fails.0 lines held now whole fails.1 (opens setup run.0 run.1)).logged
 
-pub no_run_fails : (setup : Setup) (lines : List Line) (held now : Seen) (e : Ending) → IsRunOf setup lines held now e → (whole : Bool) → e ≢ AuditFailed whole
-no_run_fails setup lines held now e run whole is = no_run setup lines held now whole (subst (λ (x : Ending). IsRunOf setup lines held now x) is run)
+pub no_run_fails : (short : Bool) (setup : Setup) (lines : List Line) (held now : Seen) (e : Ending) → IsRunOf short setup lines held now e → (whole : Bool) → e ≢ AuditFailed whole
+no_run_fails short setup lines held now e run whole is = no_run short setup lines held now whole (subst (λ (x : Ending). IsRunOf short setup lines held now x) is run)
 
 -- nor does what ends before one
 pub no_memory_fails : (held now : Seen) (e : Ending) → TellsNoMemoryBy held now e → (whole : Bool) → e ≢ AuditFailed whole
@@ -48,23 +48,23 @@ no_memory_fails held now e tells whole is = absurd (subst (λ (x : Ending). Tell
 pub no_text_fails : (races : Bool) (input : Option (List ℕ)) (held now : Seen) (e : Ending) → HasNoScript races input held now e → (whole : Bool) → e ≢ AuditFailed whole
 no_text_fails races input held now e none whole is = absurd (subst (λ (x : Ending). HasNoScript races input held now x) is none)
 
-pub none_fails : (text : List ℕ) (held now : Seen) (whole : Bool) → ¬ Serves (Some text) held now (AuditFailed whole)
-none_fails text held now whole serves = no_run serves.0.setup serves.0.lines held now whole serves.2
+pub none_fails : (short : Bool) (text : List ℕ) (held now : Seen) (whole : Bool) → ¬ Serves short (Some text) held now (AuditFailed whole)
+none_fails short text held now whole serves = no_run short serves.0.setup serves.0.lines held now whole serves.2
 
 -- the sink failed before the race, and so no audit was of other books
-raced : (text : List ℕ) (s : ScriptContents) (line : RaceLine) (held now : Seen) (whole : Bool) → IsScript true (lines_of text) s → s.race ≡ Some line
-    → IsRaceOf s.setup s.lines line held now (AuditFailed whole) → FailsByRace text held now whole
-raced text s line held now true is asks (opening, opens_so, races) =
+raced : (short : Bool) (text : List ℕ) (s : ScriptContents) (line : RaceLine) (held now : Seen) (whole : Bool) → IsScript true (lines_of text) s → s.race ≡ Some line
+    → IsRaceOf short s.setup s.lines line held now (AuditFailed whole) → FailsByRace short text held now whole
+raced short text s line held now true is asks (opening, opens_so, races) =
     record { script = s; line = line; opening = opening; refused = races.0; is = is; asks = asks; opens = opens_so; races = races.1 }
-raced text s line held now false is asks (opening, opens_so, inl races) =
+raced short text s line held now false is asks (opening, opens_so, inl races) =
     record { script = s; line = line; opening = opening; refused = races.0; is = is; asks = asks; opens = opens_so; races = races.1 }
-raced text s line held now false is asks (opening, opens_so, inr stop) =
-    absurd (stop.3 (stopped opening stop.0 s.lines held now stop.1 stop.2 (opens s.setup opening opens_so)).logged)
+raced short text s line held now false is asks (opening, opens_so, inr stop) =
+    absurd (stop.3 (stopped short opening stop.0 s.lines held now stop.1 stop.2 (opens s.setup opening opens_so)).logged)
 
-asked : (text : List ℕ) (s : ScriptContents) (race : Option RaceLine) (held now : Seen) (whole : Bool) → s.race ≡ race → IsScript true (lines_of text) s
-    → RunsOrRaces race s.setup s.lines held now (AuditFailed whole) → FailsByRace text held now whole
-asked text s None held now whole asks is run = absurd (no_run s.setup s.lines held now whole run)
-asked text s (Some line) held now whole asks is races = raced text s line held now whole is asks races
+asked : (short : Bool) (text : List ℕ) (s : ScriptContents) (race : Option RaceLine) (held now : Seen) (whole : Bool) → s.race ≡ race → IsScript true (lines_of text) s
+    → RunsOrRaces short race s.setup s.lines held now (AuditFailed whole) → FailsByRace short text held now whole
+asked short text s None held now whole asks is run = absurd (no_run short s.setup s.lines held now whole run)
+asked short text s (Some line) held now whole asks is races = raced short text s line held now whole is asks races
 
-pub fails_only_by_race : (text : List ℕ) (held now : Seen) (whole : Bool) → ServesRace (Some text) held now (AuditFailed whole) → FailsByRace text held now whole
-fails_only_by_race text held now whole serves = asked text serves.0 serves.0.race held now whole refl serves.1 serves.2
+pub fails_only_by_race : (short : Bool) (text : List ℕ) (held now : Seen) (whole : Bool) → ServesRace short (Some text) held now (AuditFailed whole) → FailsByRace short text held now whole
+fails_only_by_race short text held now whole serves = asked short text serves.0 serves.0.race held now whole refl serves.1 serves.2

@@ -1,10 +1,11 @@
 -- What the actions of a script come to at a channel subsystem with its devices.
-use Rattle.std.specs.Prelude.{◌≡◌, ◌≤◌, ◌+◌, ℕ, Bool, true, false, min, List, [], ◌∷◌, ◌++◌, length, map, replicate, slice_get, slice_set, MatchOption, Option, None, Some, Result, Ok, Err}
+use Rattle.std.specs.Prelude.{◌≡◌, ◌≤◌, ◌+◌, ◌^◌, ℕ, Bool, true, false, min, List, [], ◌∷◌, ◌++◌, length, map, replicate, slice_get, slice_set, MatchOption, Option, None, Some, Result, Ok, Err}
 use Rattle.chan_events.specs.declared.event.Event.{Event}
 use Rattle.chan_events.specs.declared.event.Event.TheVariants as event
 use Rattle.chan_model.specs.declared.fault.Fault.{Fault}
 use Rattle.chan_model.specs.declared.fault.Fault.TheVariants as fault
 use Rattle.chan_model.specs.declared.names.Side.{Side}
+use Rattle.chan_events.specs.declared.reply.Entry.{Entry}
 use Rattle.chan_events.specs.declared.reply.Reply.{Reply}
 use Rattle.chan_model.specs.declared.report.Call.{Call}
 use Rattle.chan_model.specs.declared.report.DeviceAnswer.{DeviceAnswer}
@@ -29,10 +30,9 @@ use Rattle.script_text.specs.declared.ActionResult.{ActionResult}
 use Rattle.script_text.specs.declared.ActionResult.TheVariants as told
 use Rattle.script_text.specs.Text.{told_of}
 use Rattle.racing.specs.Racing.{IsNewSeat}
-use Rattle.signal_places.specs.Answers.{answer_at}
-use Rattle.signal_places.specs.declared.answers.AnswerPlace.{AnswerPlace}
+use Rattle.event_log.specs.Logs.{last_reply}
 use Rattle.serving.specs.declared.installation.Acted.{Acted}
-use Rattle.serving.specs.declared.installation.Acted.TheVariants.{Answered, Looked}
+use Rattle.serving.specs.declared.installation.Acted.TheVariants.{Replied, Looked}
 
 -- what an action comes to, and what an event does
 abbrev pub ActionOutcome : Type 0
@@ -97,6 +97,15 @@ Enters old e (Ok r) new =
     × (new.history ≡ old.history ++ record { event = e; reply = r } ∷ []) × (old.room ≤ new.room + 1)
 Enters old e (Err fault.NoMemory) new = IsAsBefore old new × IsSpent old
 Enters old e (Err f) new = IsRefused old.state e f × GoesByRule TakesNext old.state e (Err f) new.state × IsAsBefore old new
+
+-- no number is left for another event
+abbrev pub IsUsedUp : Past → Type 0
+IsUsedUp past = 2 ^ 62 ≤ length past.history + 1
+
+-- an action was refused for want of memory
+abbrev pub is_starved : ActionOutcome → Bool
+is_starved (Err fault.NoMemory) = true
+is_starved r = false
 
 -- A turn of a device: the report that is to be handed in, or why there is none; and the devices, of which one may be called.
 pub record DeviceTurn : Type 0 where
@@ -192,10 +201,11 @@ abbrev pub glanced : Option Serials → ActionOutcome
 glanced None = Err fault.NoSuchSubchannel
 glanced (Some serials) = Ok (told.Serials serials)
 
--- what an action came to, by what was answered and the place for an event's answer
-abbrev pub outcome_at : Acted → AnswerPlace → ActionOutcome
-outcome_at Answered place = told_of (answer_at place)
-outcome_at (Looked own) place = glanced own
+-- what an action came to, by what was answered and the history that it left: the reply of an event is that of the last entry
+abbrev pub outcome_of : Result Acted Fault → List Entry → ActionOutcome
+outcome_of (Ok Replied) h = Ok (told.Reply (last_reply h))
+outcome_of (Ok (Looked found)) h = Ok (told.Serials found)
+outcome_of (Err f) h = Err f
 
 -- a seat looks at the serials of a subchannel: where the machine has it, its reader of that subchannel's cell loads them once; else
 -- it stays as it was

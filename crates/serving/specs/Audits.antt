@@ -10,10 +10,10 @@ use Rattle.streams.specs.Sinks.{Seen}
 
 -- without a race none does: the log of the one seat is always what the history has of it
 abbrev pub NoneFails : Type 0
-NoneFails = (text : List ℕ) (held now : Seen) (whole : Bool) → ¬ Serves (Some text) held now (ending.AuditFailed whole)
+NoneFails = (short : Bool) (text : List ℕ) (held now : Seen) (whole : Bool) → ¬ Serves short (Some text) held now (ending.AuditFailed whole)
 
 -- the script of a text raced, and the audit of its race failed
-pub record FailsByRace (text : List ℕ) (held now : Seen) (whole : Bool) : Type 0 where
+pub record FailsByRace (short : Bool) (text : List ℕ) (held now : Seen) (whole : Bool) : Type 0 where
   pub script : ScriptContents
   pub line : RaceLine
   pub opening : Installed
@@ -21,8 +21,8 @@ pub record FailsByRace (text : List ℕ) (held now : Seen) (whole : Bool) : Type
   pub is : IsScript true (lines_of text) script
   pub asks : script.race ≡ Some line
   pub opens : IsOpening script.setup opening
-  pub races : RacesAfter opening script.lines line held now whole false refused
+  pub races : RacesAfter short opening script.lines line held now whole false refused
 
 -- with one, only by the race
 abbrev pub FailsOnlyByRace : Type 0
-FailsOnlyByRace = (text : List ℕ) (held now : Seen) (whole : Bool) → ServesRace (Some text) held now (ending.AuditFailed whole) → FailsByRace text held now whole
+FailsOnlyByRace = (short : Bool) (text : List ℕ) (held now : Seen) (whole : Bool) → ServesRace short (Some text) held now (ending.AuditFailed whole) → FailsByRace short text held now whole

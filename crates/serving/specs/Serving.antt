@@ -41,20 +41,22 @@ abbrev pub TellsNoMemoryBy : Seen → Seen → Ending → Type 0
 TellsNoMemoryBy held now (NoMemory whole) = TellsNoMemory held now whole
 TellsNoMemoryBy held now other = ⊥
 
+-- Below, `short` says that the supply had refused a growth by the end of the lines.
+
 -- the audit failed after the last line: the text that says so is written
 abbrev pub audit_failed_text : List ℕ
 audit_failed_text = codes "audit failed\n"
 
-pub record TellsAudit (old : Installed) (lines : List Line) (held now : Seen) (whole : Bool) (last : Installed) : Type 0 where
+pub record TellsAudit (short : Bool) (old : Installed) (lines : List Line) (held now : Seen) (whole : Bool) (last : Installed) : Type 0 where
   pub refused : Bool
   pub between : Seen
-  pub performed : HasPerformed old lines held between refused last
+  pub performed : HasPerformed short old lines held between refused last
   pub told : Puts between audit_failed_text now whole
 
 -- after the last line, or after the one within whose print the sink failed
-abbrev pub FailsAudit : Installed → List Line → Seen → Seen → Bool → Installed → Type 0
-FailsAudit old lines held now true last = TellsAudit old lines held now true last
-FailsAudit old lines held now false last = TellsAudit old lines held now false last ⊎ ((refused : Bool) × HasStopped old lines held now refused last)
+abbrev pub FailsAudit : Bool → Installed → List Line → Seen → Seen → Bool → Installed → Type 0
+FailsAudit short old lines held now true last = TellsAudit short old lines held now true last
+FailsAudit short old lines held now false last = TellsAudit short old lines held now false last ⊎ ((refused : Bool) × HasStopped short old lines held now refused last)
 
 -- how the program ends by what the audit found, where all was written, and where an event was refused
 abbrev pub ending_of : Bool → Bool → Bool → Ending
@@ -69,59 +71,59 @@ EndsBy false false refused held now ending = (now ≡ held) × (ending ≡ Audit
 EndsBy false true refused held now ending = (whole : Bool) × (ending ≡ AuditFailed whole) × Puts held audit_failed_text now whole
 
 -- lines are performed and written, all of them or those up to one within whose print the sink failed, and the audit is made
-abbrev pub PerformsAll : Installed → List Line → Seen → Seen → Ending → Type 0
-PerformsAll old lines held now NotRead = ⊥
-PerformsAll old lines held now (Bad whole) = ⊥
-PerformsAll old lines held now (NoMemory whole) = ⊥
-PerformsAll old lines held now (Done refused) = (last : Installed) × HasPerformed old lines held now refused last × IsAudited last
-PerformsAll old lines held now (Stopped refused) = (last : Installed) × HasStopped old lines held now refused last × IsAudited last
-PerformsAll old lines held now (AuditFailed whole) = (last : Installed) × FailsAudit old lines held now whole last × ¬ IsAudited last
+abbrev pub PerformsAll : Bool → Installed → List Line → Seen → Seen → Ending → Type 0
+PerformsAll short old lines held now NotRead = ⊥
+PerformsAll short old lines held now (Bad whole) = ⊥
+PerformsAll short old lines held now (NoMemory whole) = ⊥
+PerformsAll short old lines held now (Done refused) = (last : Installed) × HasPerformed short old lines held now refused last × IsAudited last
+PerformsAll short old lines held now (Stopped refused) = (last : Installed) × HasStopped short old lines held now refused last × IsAudited last
+PerformsAll short old lines held now (AuditFailed whole) = (last : Installed) × FailsAudit short old lines held now whole last × ¬ IsAudited last
 
 -- a script is run; or there was no memory before its first event
-abbrev pub IsRunOf : Setup → List Line → Seen → Seen → Ending → Type 0
-IsRunOf setup lines held now (NoMemory whole) = TellsNoMemory held now whole
-IsRunOf setup lines held now other = (opening : Installed) × IsOpening setup opening × PerformsAll opening lines held now other
+abbrev pub IsRunOf : Bool → Setup → List Line → Seen → Seen → Ending → Type 0
+IsRunOf short setup lines held now (NoMemory whole) = TellsNoMemory held now whole
+IsRunOf short setup lines held now other = (opening : Installed) × IsOpening setup opening × PerformsAll short opening lines held now other
 
-abbrev pub IsRun : ScriptContents → Seen → Seen → Ending → Type 0
-IsRun s held now ending = IsRunOf s.setup s.lines held now ending
+abbrev pub IsRun : Bool → ScriptContents → Seen → Seen → Ending → Type 0
+IsRun short s held now ending = IsRunOf short s.setup s.lines held now ending
 
 -- all lines are performed and written, and then the race of the last one, of which its line tells
-pub record RacesAfter (old : Installed) (lines : List Line) (line : RaceLine) (held now : Seen) (whole audited refused : Bool) : Type 0 where
+pub record RacesAfter (short : Bool) (old : Installed) (lines : List Line) (line : RaceLine) (held now : Seen) (whole audited refused : Bool) : Type 0 where
   pub middle : Installed
   pub between : Seen
   pub earlier : Bool
   pub count : RaceCount
   pub later : Bool
-  pub performed : HasPerformed old lines held between earlier middle
+  pub performed : HasPerformed short old lines held between earlier middle
   pub raced : IsRaced line.race middle count later
   pub prints : Puts between (event_line line.number (Ok (told.Race count))) now whole
   pub audited_is : count.audited ≡ audited
   pub refused_is : refused ≡ (earlier || later)
 
 -- how that ended; or the sink failed before the race
-abbrev pub Races : Installed → List Line → RaceLine → Seen → Seen → Ending → Type 0
-Races old lines line held now NotRead = ⊥
-Races old lines line held now (Bad whole) = ⊥
-Races old lines line held now (NoMemory whole) = ⊥
-Races old lines line held now (Done refused) = RacesAfter old lines line held now true true refused
-Races old lines line held now (Stopped refused) =
-    RacesAfter old lines line held now false true refused ⊎ ((last : Installed) × HasStopped old lines held now refused last × IsAudited last)
-Races old lines line held now (AuditFailed true) = (refused : Bool) × RacesAfter old lines line held now true false refused
-Races old lines line held now (AuditFailed false) =
-    ((refused : Bool) × RacesAfter old lines line held now false false refused)
-    ⊎ ((last : Installed) × (refused : Bool) × HasStopped old lines held now refused last × ¬ IsAudited last)
+abbrev pub Races : Bool → Installed → List Line → RaceLine → Seen → Seen → Ending → Type 0
+Races short old lines line held now NotRead = ⊥
+Races short old lines line held now (Bad whole) = ⊥
+Races short old lines line held now (NoMemory whole) = ⊥
+Races short old lines line held now (Done refused) = RacesAfter short old lines line held now true true refused
+Races short old lines line held now (Stopped refused) =
+    RacesAfter short old lines line held now false true refused ⊎ ((last : Installed) × HasStopped short old lines held now refused last × IsAudited last)
+Races short old lines line held now (AuditFailed true) = (refused : Bool) × RacesAfter short old lines line held now true false refused
+Races short old lines line held now (AuditFailed false) =
+    ((refused : Bool) × RacesAfter short old lines line held now false false refused)
+    ⊎ ((last : Installed) × (refused : Bool) × HasStopped short old lines held now refused last × ¬ IsAudited last)
 
-abbrev pub IsRaceOf : Setup → List Line → RaceLine → Seen → Seen → Ending → Type 0
-IsRaceOf setup lines line held now (NoMemory whole) = TellsNoMemory held now whole
-IsRaceOf setup lines line held now other = (opening : Installed) × IsOpening setup opening × Races opening lines line held now other
+abbrev pub IsRaceOf : Bool → Setup → List Line → RaceLine → Seen → Seen → Ending → Type 0
+IsRaceOf short setup lines line held now (NoMemory whole) = TellsNoMemory held now whole
+IsRaceOf short setup lines line held now other = (opening : Installed) × IsOpening setup opening × Races short opening lines line held now other
 
 -- a script is run, with the race of its last line where it asks for one
-abbrev pub RunsOrRaces : Option RaceLine → Setup → List Line → Seen → Seen → Ending → Type 0
-RunsOrRaces None setup lines held now ending = IsRunOf setup lines held now ending
-RunsOrRaces (Some line) setup lines held now ending = IsRaceOf setup lines line held now ending
+abbrev pub RunsOrRaces : Bool → Option RaceLine → Setup → List Line → Seen → Seen → Ending → Type 0
+RunsOrRaces short None setup lines held now ending = IsRunOf short setup lines held now ending
+RunsOrRaces short (Some line) setup lines held now ending = IsRaceOf short setup lines line held now ending
 
-abbrev pub IsRunOrRaced : ScriptContents → Seen → Seen → Ending → Type 0
-IsRunOrRaced s held now ending = RunsOrRaces s.race s.setup s.lines held now ending
+abbrev pub IsRunOrRaced : Bool → ScriptContents → Seen → Seen → Ending → Type 0
+IsRunOrRaced short s held now ending = RunsOrRaces short s.race s.setup s.lines held now ending
 
 -- a script is good: the text that says so is written
 abbrev pub ok_text : List ℕ
@@ -161,13 +163,13 @@ DoesWith races does input held now (AuditFailed whole) =
     IfSome input (λ text. (s : ScriptContents) × IsScript races (lines_of text) s × does s held now (AuditFailed whole))
 
 -- the command `run`
-abbrev pub Serves : Option (List ℕ) → Seen → Seen → Ending → Type 0
-Serves input held now ending = DoesWith false IsRun input held now ending
+abbrev pub Serves : Bool → Option (List ℕ) → Seen → Seen → Ending → Type 0
+Serves short input held now ending = DoesWith false (IsRun short) input held now ending
 
 -- the command `check`
 abbrev pub Checks : Option (List ℕ) → Seen → Seen → Ending → Type 0
 Checks input held now ending = DoesWith false (λ s. IsApproved) input held now ending
 
 -- the command `race`
-abbrev pub ServesRace : Option (List ℕ) → Seen → Seen → Ending → Type 0
-ServesRace input held now ending = DoesWith true IsRunOrRaced input held now ending
+abbrev pub ServesRace : Bool → Option (List ℕ) → Seen → Seen → Ending → Type 0
+ServesRace short input held now ending = DoesWith true (IsRunOrRaced short) input held now ending

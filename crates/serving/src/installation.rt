@@ -1,17 +1,18 @@
 //! A channel subsystem with a device for each of its units, a seat from which its events are entered, and seats of CPUs that
 //! are to race.
 
-ghost use Rattle.std.specs.Prelude.{◌≡◌, ◌+◌, IsTrue, IfOk, List, None, Some, OnErr, OnOk, length, slice_get, true, ◌↔◌, ◌≤◌, ℕ};
+ghost use Rattle.std.specs.Prelude.{◌≡◌, ◌≢◌, ◌⊎◌, ◌+◌, IsTrue, Err, IfOk, IfNone, IfSome, List, [], None, Some, OnErr, OnOk, length, slice_get, true, ◌↔◌, ◌≤◌, ℕ};
+ghost use Rattle.chan_model.specs.declared.fault.Fault.TheVariants as fault_spec;
 ghost use Rattle.serving.specs.Acting as spec;
 ghost use Rattle.racing.specs.Racing.{AreMade, HasLogs};
 ghost use Rattle.serving.specs.Racing.{HasAll, IsRaced};
 ghost use Rattle.machine_model.specs.Setups.{IsSetUp};
 ghost use Rattle.machine_model.specs.Steps.{HasRun};
 ghost use Rattle.subsystem.specs.Headline.{HasHeld};
-ghost use Rattle.serving.specs.Acting.{books_of, past_of, PerformsAction, Happens, IsAudited, IsOpening, LooksFrom, TakesTurn, HandsIn, outcome_at};
+ghost use Rattle.serving.specs.Acting.{books_of, past_of, PerformsAction, Happens, IsAudited, IsOpening, LooksFrom, TakesTurn, HandsIn, outcome_of};
 ghost use Rattle.machine_model.specs.State.{opening_of, sub_of, serials_in, unit_turn_of};
-ghost use Rattle.subsystem.specs.Keeping.{all_serials};
-ghost use Rattle.signal_places.specs.Answers.{answer_at};
+ghost use Rattle.event_log.specs.Logs.{last_reply};
+ghost use Rattle.subsystem.specs.Keeping.{all_serials, answer_of};
 ghost use Rattle.core_parts.specs.Directory.{directory_of};
 ghost use Rattle.core_parts.specs.Seats.{entries_by};
 ghost use Rattle.device_models.specs.declared.any_device.AnyDevice.{AnyDevice};
@@ -33,6 +34,7 @@ use core_parts::naming::Naming;
 use core_parts::supplies::CoreSupply;
 use device_law::Device;
 use device_models::any_device::AnyDevice;
+use event_log::history::LentReply;
 use kept_events::events::KeptEvent;
 use path_select::Rotating;
 use racing::racers::Racers;
@@ -40,12 +42,12 @@ use script_rows::places::KeptAction;
 use script_rows::race::Race;
 use script_text::RaceCount;
 use scsw_irb::serials::Serials;
-use signal_places::answers::{AnswerPlace, Outcome};
 use std::alloc::{AllocError, Global};
 use std::marker::Model;
 use std::sync::Wait;
 use std::thread::Threads;
 use subsystem::subsystem::Subsystem;
+use supply::Supply;
 
 /// A channel subsystem that no lock guards, with the seat from which its events are entered, a device for each unit, and by
 /// unit the report that is still to be handed in: one for which there was no memory or no room on a wire.
@@ -57,13 +59,13 @@ pub struct Installation<J: Naming> {
     kept: Vec<Option<Report>>,
 }
 
-/// Where it stands what an action came to.
+/// What an action came to that was not refused.
 #[derive(Clone, Copy)]
 pub enum Acted {
-    /// In the place for the answer of an event.
-    Answered,
-    /// Here, for a look at serials: those that the subsystem has, None where the subchannel is not configured.
-    Looked(Option<Serials>),
+    /// An event was accepted: its reply is that of the last entry.
+    Replied,
+    /// A look found these serials, which the subsystem has.
+    Looked(Serials),
 }
 
 impl<J: Naming> Model for Installation<J> {
@@ -114,60 +116,96 @@ impl<J: Naming> Installation<J> {
     /// the report that is kept for its unit, else the one of the unit's next work. It is refused NoSuchUnit where the unit
     /// is not configured, and NotNow where no report is kept and a signal waits for the unit, its program may ask for a
     /// path, or it has nothing to do. A look at serials goes by the seat, whose reader loads what the
-    /// subsystem has. It is refused NoSuchSubchannel where the subchannel is not configured. The answer of an event is written
-    /// into a place.
-    pub fn act(&mut self, action: &KeptAction, bytes: &[u8], places: &mut Places) -> Acted
+    /// subsystem has. It is refused NoSuchSubchannel where the subchannel is not configured. Room for the entry of an event is
+    /// from a supply: it is refused NoMemory only where the supply refused it, or no number is left. The reply of an event is
+    /// that of the last entry.
+    pub fn act<M: Supply>(
+        &mut self,
+        supply: &mut M,
+        action: &KeptAction,
+        bytes: &[u8],
+        places: &mut Places,
+    ) -> Result<Acted, Fault>
         requires { action_length action.now ≤ length bytes.now }
-        ensures { PerformsAction self.old (action_in action.now bytes.now) (outcome_at result places.new.answer) self.new }
+        ensures performs { PerformsAction self.old (action_in action.now bytes.now) (outcome_of result self.new.past.history) self.new }
+        ensures given { result ≢ Err fault_spec.NoMemory → M.refused supply.new ≡ M.refused supply.old }
+        ensures memory { result ≡ Err fault_spec.NoMemory → (M.refused supply.new ≡ true) ⊎ spec.IsUsedUp self.old.past }
     {
         match action {
             KeptAction::Event(event) => {
-                self.perform(event, bytes, places);
-                Acted::Answered
+                self.perform(supply, event, bytes, places)?;
+                Ok(Acted::Replied)
             }
             KeptAction::Dev(unit) => {
-                self.take_turn(*unit, &mut places.report, &mut places.answer);
-                Acted::Answered
+                self.take_turn(supply, *unit, &mut places.report)?;
+                Ok(Acted::Replied)
             }
-            KeptAction::Glance(subchannel) => Acted::Looked(self.look(*subchannel)),
+            KeptAction::Glance(subchannel) => match self.look(*subchannel) {
+                Some(found) => Ok(Acted::Looked(found)),
+                None => Err(Fault::NoSuchSubchannel),
+            },
         }
     }
 
+    /// The reply to the event that was accepted last; None where none was.
+    pub fn last_reply(&self) -> Option<LentReply<'_>>
+        ensures reply { IfSome result (λ reply. reply ≡ last_reply self.now.past.history) }
+        ensures none { IfNone result (self.now.past.history ≡ []) }
+    {
+        self.core.subsystem().last_reply()
+    }
+
     /// Performs the event that is kept so, whose bytes stand there, from its place.
-    fn perform(&mut self, event: &KeptEvent, bytes: &[u8], places: &mut Places)
+    fn perform<M: Supply>(
+        &mut self,
+        supply: &mut M,
+        event: &KeptEvent,
+        bytes: &[u8],
+        places: &mut Places,
+    ) -> Result<(), Fault>
         requires { event_length event.now ≤ length bytes.now }
-        ensures { Happens self.old (event_in event.now bytes.now) (answer_at places.new.answer) self.new }
+        ensures happens { Happens self.old (event_in event.now bytes.now) (answer_of result self.new.past.history) self.new }
+        ensures given { result ≢ Err fault_spec.NoMemory → M.refused supply.new ≡ M.refused supply.old }
+        ensures memory { result ≡ Err fault_spec.NoMemory → (M.refused supply.new ≡ true) ⊎ spec.IsUsedUp self.old.past }
     {
         match event {
             KeptEvent::Up { subchannel, path } => {
                 write_up(&mut places.up, *subchannel, *path);
-                self.enter_plain(&places.up, &mut places.answer);
+                self.enter_plain(supply, &places.up)
             }
             KeptEvent::Down { subchannel, path } => {
                 write_down(&mut places.down, *subchannel, *path);
-                self.enter_plain(&places.down, &mut places.answer);
+                self.enter_plain(supply, &places.down)
             }
             KeptEvent::Choose { subchannel } => {
                 write_choose(&mut places.choose, *subchannel);
-                self.enter_plain(&places.choose, &mut places.answer);
+                self.enter_plain(supply, &places.choose)
             }
             KeptEvent::Execute { cpu, instruction } => {
                 write_execute(&mut places.execute, *cpu, *instruction);
-                self.enter_plain(&places.execute, &mut places.answer);
+                self.enter_plain(supply, &places.execute)
             }
-            _ => self.perform_other(event, bytes, places),
+            _ => self.perform_other(supply, event, bytes, places),
         }
     }
 
     /// The same, apart, as it is rare.
     #[cold]
     #[inline(never)]
-    fn perform_other(&mut self, event: &KeptEvent, bytes: &[u8], places: &mut Places)
+    fn perform_other<M: Supply>(
+        &mut self,
+        supply: &mut M,
+        event: &KeptEvent,
+        bytes: &[u8],
+        places: &mut Places,
+    ) -> Result<(), Fault>
         requires { event_length event.now ≤ length bytes.now }
-        ensures { Happens self.old (event_in event.now bytes.now) (answer_at places.new.answer) self.new }
+        ensures happens { Happens self.old (event_in event.now bytes.now) (answer_of result self.new.past.history) self.new }
+        ensures given { result ≢ Err fault_spec.NoMemory → M.refused supply.new ≡ M.refused supply.old }
+        ensures memory { result ≡ Err fault_spec.NoMemory → (M.refused supply.new ≡ true) ⊎ spec.IsUsedUp self.old.past }
     {
         places.event = event.with(bytes);
-        self.enter(&places.event, &mut places.answer);
+        self.enter(supply, &places.event)
     }
 
     /// Whether the seat's log is what the history has of it.
@@ -184,7 +222,8 @@ impl<J: Naming> Installation<J> {
     }
 
     /// CPUs race at it, and it is given up: what is told of the race, and whether an instruction was refused. The audit is of all
-    /// seats, and counts those as missing that are not given.
+    /// seats, and counts those as missing that are not given. Threads share no supply: room for what they enter is the
+    /// allocator's.
     pub fn race<R: Threads + Wait + Sync>(
         self,
         rt: &R,
@@ -210,27 +249,30 @@ impl<J: Naming> Installation<J> {
     }
 
     /// Performs an event.
-    fn enter(&mut self, event: &Event, place: &mut AnswerPlace)
-        ensures { Happens self.old event.now (answer_at place.new) self.new }
+    fn enter<M: Supply>(&mut self, supply: &mut M, event: &Event) -> Result<(), Fault>
+        ensures happens { Happens self.old event.now (answer_of result self.new.past.history) self.new }
+        ensures given { result ≢ Err fault_spec.NoMemory → M.refused supply.new ≡ M.refused supply.old }
+        ensures memory { result ≡ Err fault_spec.NoMemory → (M.refused supply.new ≡ true) ⊎ spec.IsUsedUp self.old.past }
     {
-        enter_from(&mut self.core, &mut self.seat, event, place);
-        if place.is_reply() {
-            restart_device(&mut self.devices, event);
-        }
+        enter_from(&mut self.core, &mut self.seat, supply, event)?;
+        restart_device(&mut self.devices, event);
+        Ok(())
     }
 
     /// Performs an event that restarts no unit.
     #[inline(always)]
     #[tactic(auto, using(crate::proofs::Entering::left_alone))]
-    fn enter_plain(&mut self, event: &Event, place: &mut AnswerPlace)
+    fn enter_plain<M: Supply>(&mut self, supply: &mut M, event: &Event) -> Result<(), Fault>
         requires { (devices : List AnyDevice) → spec.devices_restarted devices event.now ≡ devices }
-        ensures { Happens self.old event.now (answer_at place.new) self.new }
+        ensures happens { Happens self.old event.now (answer_of result self.new.past.history) self.new }
+        ensures given { result ≢ Err fault_spec.NoMemory → M.refused supply.new ≡ M.refused supply.old }
+        ensures memory { result ≡ Err fault_spec.NoMemory → (M.refused supply.new ≡ true) ⊎ spec.IsUsedUp self.old.past }
     {
-        enter_from(&mut self.core, &mut self.seat, event, place);
+        enter_from(&mut self.core, &mut self.seat, supply, event)
     }
 
     /// Looks from the seat at the serials of the subchannel that a word names, which are those that the subsystem has.
-    pub(crate) fn look(&mut self, subchannel: u32) -> Option<Serials>
+    fn look(&mut self, subchannel: u32) -> Option<Serials>
         ensures { LooksFrom self.old subchannel (serials_in (sub_of self.old.past.state subchannel)) (spec.glanced result) self.new }
     {
         match self.core.look(&mut self.seat, subchannel) {
@@ -240,13 +282,18 @@ impl<J: Naming> Installation<J> {
     }
 
     /// Takes a turn of a unit's device, whose report is written into a place.
-    fn take_turn(&mut self, unit: u32, event: &mut Event, place: &mut AnswerPlace)
-        ensures { TakesTurn self.old «unit» (answer_at place.new) self.new }
+    fn take_turn<M: Supply>(
+        &mut self,
+        supply: &mut M,
+        unit: u32,
+        event: &mut Event,
+    ) -> Result<(), Fault>
+        ensures turn { TakesTurn self.old «unit» (answer_of result self.new.past.history) self.new }
+        ensures given { result ≢ Err fault_spec.NoMemory → M.refused supply.new ≡ M.refused supply.old }
+        ensures memory { result ≡ Err fault_spec.NoMemory → (M.refused supply.new ≡ true) ⊎ spec.IsUsedUp self.old.past }
     {
-        match self.write_report(unit, event) {
-            Ok(()) => self.hand_in(unit, event, place),
-            Err(fault) => place.outcome = Outcome::Refused(fault),
-        }
+        self.write_report(unit, event)?;
+        self.hand_in(supply, unit, event)
     }
 
     /// Writes the event of the report of a unit into a place.
@@ -285,16 +332,20 @@ impl<J: Naming> Installation<J> {
     }
 
     /// Hands in a report. It is kept where it is refused for want of memory or of room on a wire, and only there.
-    fn hand_in(&mut self, unit: u32, event: &Event, place: &mut AnswerPlace)
-        ensures { (report : Report) → event.now ≡ event_spec.Report «unit» report → HandsIn self.old «unit» report (answer_at place.new) self.new }
+    fn hand_in<M: Supply>(&mut self, supply: &mut M, unit: u32, event: &Event) -> Result<(), Fault>
+        ensures handed { (report : Report) → event.now ≡ event_spec.Report «unit» report →
+            HandsIn self.old «unit» report (answer_of result self.new.past.history) self.new }
+        ensures given { result ≢ Err fault_spec.NoMemory → M.refused supply.new ≡ M.refused supply.old }
+        ensures memory { result ≡ Err fault_spec.NoMemory → (M.refused supply.new ≡ true) ⊎ spec.IsUsedUp self.old.past }
     {
-        enter_from(&mut self.core, &mut self.seat, event, place);
+        let answer = enter_from(&mut self.core, &mut self.seat, supply, event);
         if let Some(kept) = self.kept.get_mut(unit as usize) {
-            match &place.outcome {
-                Outcome::Refused(Fault::NoMemory | Fault::WireFull) => keep(kept, event),
+            match answer {
+                Err(Fault::NoMemory | Fault::WireFull) => keep(kept, event),
                 _ => forget(kept),
             }
         }
+        answer
     }
 }
 
@@ -327,18 +378,20 @@ fn has_its_log<J: Naming>(core: &Core<J, Rotating>, seat: Seat<J>) -> bool
     audit(core, &seats)
 }
 
-/// An event is entered from a seat.
+/// An event is entered from a seat, with room for its entries from a supply.
 #[inline(always)]
-fn enter_from<J: Naming>(
+fn enter_from<J: Naming, M: Supply>(
     core: &mut Core<J, Rotating>,
     seat: &mut Seat<J>,
+    supply: &mut M,
     event: &Event,
-    place: &mut AnswerPlace,
-)
-    ensures past { spec.Enters (past_of core.old seat.old) event.now (answer_at place.new) (past_of core.new seat.new) }
-    ensures books { books_of core.new seat.new ≡ spec.booked (books_of core.old seat.old) event.now (answer_at place.new) }
+) -> Result<(), Fault>
+    ensures past { spec.Enters (past_of core.old seat.old) event.now (answer_of result core.new.value.history) (past_of core.new seat.new) }
+    ensures books { books_of core.new seat.new ≡ spec.booked (books_of core.old seat.old) event.now (answer_of result core.new.value.history) }
+    ensures given { result ≢ Err fault_spec.NoMemory → M.refused supply.new ≡ M.refused supply.old }
+    ensures memory { result ≡ Err fault_spec.NoMemory → (M.refused supply.new ≡ true) ⊎ spec.IsUsedUp (past_of core.old seat.old) }
 {
-    let _ = core.enter_place(seat, event, place);
+    core.perform_with(supply, seat, event)
 }
 
 /// What a core has, whoever was at work on it.

@@ -59,7 +59,9 @@ impl Ending {
 }
 
 /// Reads a script and performs its actions from one seat, each of which prints one line. Where there is no memory before the first
-/// event, and only where the supply refused a growth, `refused 1` is written alone, without a line's number. At the end the seat's
+/// event, and only where the supply refused a growth, `refused 1` is written alone, without a line's number. Room for each entry is
+/// asked of the same supply: where it refuses, the line says `refused 1` and the next is performed; no line says so but where the
+/// supply refused a growth, or no number is left. At the end the seat's
 /// log is compared with the history: `audit failed` would be written where it is another, which never comes.
 #[tactic(auto, using(crate::proofs::Failing::no_text_fails))]
 pub fn serve_script_with<M: CoreSupply, R: Source, S: Sink>(
@@ -68,7 +70,7 @@ pub fn serve_script_with<M: CoreSupply, R: Source, S: Sink>(
     reader: &mut R,
     sink: &mut S,
 ) -> Ending
-    ensures ends { Serves (R.left reader.old) (S.seen sink.old) (S.seen sink.new) result }
+    ensures ends { Serves (M.refused supply.new) (R.left reader.old) (S.seen sink.old) (S.seen sink.new) result }
     ensures read { result ≡ ending.NotRead → R.broken reader.new ≡ true }
     ensures memory { IsForMemory result → M.refused supply.new ≡ true }
     ensures audited { (whole : Bool) → result ≢ ending.AuditFailed whole }
@@ -81,7 +83,7 @@ pub fn serve_script_with<M: CoreSupply, R: Source, S: Sink>(
 
 /// Reads a script and performs its actions as `serve_script_with` does. Where the last line is a race, the subsystem is then put
 /// under its lock, as many CPUs execute TEST SUBCHANNEL as often as that line says, each on a thread and from a seat of its own,
-/// and the audit is of all seats; its line is the last.
+/// and the audit is of all seats; its line is the last. Threads share no supply: room for what they enter is the allocator's.
 pub fn race_script_with<T: Threads + Wait + Sync, M: CoreSupply, R: Source, S: Sink>(
     rt: &T,
     alloc: Global,
@@ -89,7 +91,7 @@ pub fn race_script_with<T: Threads + Wait + Sync, M: CoreSupply, R: Source, S: S
     reader: &mut R,
     sink: &mut S,
 ) -> Ending
-    ensures ends { ServesRace (R.left reader.old) (S.seen sink.old) (S.seen sink.new) result }
+    ensures ends { ServesRace (M.refused supply.new) (R.left reader.old) (S.seen sink.old) (S.seen sink.new) result }
     ensures read { result ≡ ending.NotRead → R.broken reader.new ≡ true }
     ensures memory { IsForMemory result → M.refused supply.new ≡ true }
 {

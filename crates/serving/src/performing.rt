@@ -1,24 +1,25 @@
 //! Performing the actions of a script, line by line.
 
-ghost use Rattle.std.specs.Prelude.{◌≡◌, ◌≤◌, is_err, length};
+ghost use Rattle.std.specs.Prelude.{◌≡◌, ◌≤◌, Ok, false, is_err, length};
+ghost use Rattle.event_log.specs.Logs.{last_reply};
 ghost use Rattle.script_rows.specs.Places.{action_in, action_length};
-ghost use Rattle.script_rows.specs.declared.Action.TheVariants as action_spec;
 ghost use Rattle.script_text.specs.Text.{event_line};
-ghost use Rattle.serving.specs.Acting as acting_spec;
+ghost use Rattle.script_text.specs.declared.ActionResult.TheVariants as told;
+ghost use Rattle.serving.specs.Acting.{outcome_of};
 ghost use Rattle.serving.specs.Performing.{IsDone, PerformsLines};
 ghost use Rattle.streams.specs.Sinks.{Puts};
 
 use crate::installation::{Acted, Installation};
 use crate::places::Places;
+use chan_events::reply::Reply;
 use chan_model::fault::Fault;
 use core_parts::naming::Naming;
 use script::lines::Lines;
 use script_rows::places::KeptAction;
 use script_text::held::Held;
-use script_text::{ActionResult, put_answer_line_at_once, put_event_line_at_once};
-use scsw_irb::serials::Serials;
-use signal_places::answers::AnswerPlace;
+use script_text::{ActionResult, put_event_line_at_once, put_reply_line_at_once};
 use streams::Sink;
+use supply::Supply;
 
 /// What came of the line of an action.
 #[derive(Clone, Copy, Debug)]
@@ -39,99 +40,93 @@ pub struct PerformedLines {
     pub refused: bool,
 }
 
-/// What a look comes to, as an action.
-fn glanced(own: Option<Serials>) -> Result<ActionResult, Fault>
-    ensures { result ≡ acting_spec.glanced own }
+/// Writes what an action came to that was refused or was a look, through a place of its own: apart, as it is rare.
+#[cold]
+#[inline(never)]
+fn write_outcome<S: Sink>(
+    outcome: &Result<ActionResult, Fault>,
+    number: u64,
+    held: &mut Held,
+    sink: &mut S,
+) -> Written
+    ensures refused { result.refused ≡ is_err outcome.now }
+    ensures prints { Puts (S.seen sink.old) (event_line number outcome.now) (S.seen sink.new) result.whole }
 {
-    match own {
-        Some(serials) => Ok(ActionResult::Serials(serials)),
-        None => Err(Fault::NoSuchSubchannel),
-    }
-}
-
-/// Writes what a look came to, through a place of its own.
-fn write_look<S: Sink>(sink: &mut S, held: &mut Held, number: u64, own: Option<Serials>) -> Written
-    ensures refused { result.refused ≡ is_err (acting_spec.glanced own) }
-    ensures prints { Puts (S.seen sink.old) (event_line number (acting_spec.glanced own)) (S.seen sink.new) result.whole }
-{
-    let outcome = glanced(own);
     Written {
-        whole: put_event_line_at_once(sink, held, number, &outcome),
+        whole: put_event_line_at_once(sink, held, number, outcome),
         refused: outcome.is_err(),
     }
 }
 
-/// Writes what an action came to, through a place of its own.
-#[inline(always)]
-fn write<S: Sink>(
-    sink: &mut S,
-    held: &mut Held,
+/// Writes what an event came to that was accepted, through a place of its own: its reply is that of the last entry.
+fn write_reply<J: Naming, S: Sink>(
+    installation: &Installation<J>,
     number: u64,
-    acted: Acted,
-    place: &AnswerPlace,
+    held: &mut Held,
+    sink: &mut S,
 ) -> Written
-    ensures refused { result.refused ≡ is_err (acting_spec.outcome_at acted place.now) }
-    ensures prints { Puts (S.seen sink.old) (event_line number (acting_spec.outcome_at acted place.now)) (S.seen sink.new) result.whole }
+    ensures refused { result.refused ≡ false }
+    ensures prints { Puts (S.seen sink.old) (event_line number (Ok (told.Reply (last_reply installation.now.past.history)))) (S.seen sink.new) result.whole }
 {
-    match acted {
-        Acted::Answered => Written {
-            whole: put_answer_line_at_once(sink, held, number, place),
-            refused: !place.is_reply(),
+    match installation.last_reply() {
+        Some(reply) => Written {
+            whole: put_reply_line_at_once(sink, held, number, &reply),
+            refused: false,
         },
-        Acted::Looked(own) => write_look(sink, held, number, own),
+        None => write_outcome(&Ok(ActionResult::Reply(Reply::Done)), number, held, sink),
     }
 }
 
-/// Performs a look and writes what it prints: apart, as it is rare.
-#[cold]
-#[inline(never)]
-fn perform_look<J: Naming, S: Sink>(
-    installation: &mut Installation<J>,
+/// Writes what an action came to, through a place of its own.
+fn write<J: Naming, S: Sink>(
+    installation: &Installation<J>,
+    acted: Result<Acted, Fault>,
     number: u64,
-    subchannel: u32,
     held: &mut Held,
     sink: &mut S,
 ) -> Written
-    ensures { IsDone installation.old (record { number = number; action = action_spec.Glance subchannel }) (S.seen sink.old) (S.seen sink.new) result installation.new }
+    ensures refused { result.refused ≡ is_err (outcome_of acted installation.now.past.history) }
+    ensures prints { Puts (S.seen sink.old) (event_line number (outcome_of acted installation.now.past.history)) (S.seen sink.new) result.whole }
 {
-    let own = installation.look(subchannel);
-    write_look(sink, held, number, own)
+    match acted {
+        Ok(Acted::Replied) => write_reply(installation, number, held, sink),
+        Ok(Acted::Looked(found)) => {
+            write_outcome(&Ok(ActionResult::Serials(found)), number, held, sink)
+        }
+        Err(fault) => write_outcome(&Err(fault), number, held, sink),
+    }
 }
 
 /// Performs one line, whose action stands there, and writes what it prints, through places of their own.
-fn perform_one<J: Naming, S: Sink>(
+fn perform_one<J: Naming, M: Supply, S: Sink>(
     installation: &mut Installation<J>,
+    supply: &mut M,
     number: u64,
     action: &KeptAction,
     bytes: &[u8],
     places: &mut Places,
-    held: &mut Held,
     sink: &mut S,
 ) -> Written
     requires { action_length action.now ≤ length bytes.now }
-    ensures { IsDone installation.old (record { number = number; action = action_in action.now bytes.now }) (S.seen sink.old) (S.seen sink.new) result installation.new }
+    ensures { IsDone (M.refused supply.old) (M.refused supply.new) installation.old (record { number = number; action = action_in action.now bytes.now })
+        (S.seen sink.old) (S.seen sink.new) result installation.new }
 {
-    match action {
-        KeptAction::Glance(subchannel) => {
-            perform_look(installation, number, *subchannel, held, sink)
-        }
-        _ => {
-            let acted = installation.act(action, bytes, places);
-            write(sink, held, number, acted, &places.answer)
-        }
-    }
+    let acted = installation.act(supply, action, bytes, places);
+    write(installation, acted, number, &mut places.held, sink)
 }
 
-/// Performs the lines in order, up to the first whose print is not written whole.
-pub fn perform<J: Naming, S: Sink>(
+/// Performs the lines in order, up to the first whose print is not written whole. Room for what is entered is from a supply: a line
+/// is refused NoMemory only where the supply refused it, or no number is left, and those after it are performed all the same.
+pub fn perform<J: Naming, M: Supply, S: Sink>(
     installation: &mut Installation<J>,
+    supply: &mut M,
     lines: &Lines,
     sink: &mut S,
 ) -> PerformedLines
-    ensures { PerformsLines installation.old lines.now (S.seen sink.old) (S.seen sink.new) result installation.new }
+    ensures performs { PerformsLines (M.refused supply.new) installation.old lines.now (S.seen sink.old) (S.seen sink.new) result installation.new }
+    ensures given { result.refused ≡ false → M.refused supply.new ≡ M.refused supply.old }
 {
     let mut places = Places::new();
-    let mut held = Held::new();
     let mut refused = false;
     for place in 0..lines.len() {
         let Some((number, action, bytes)) = lines.kept(place) else {
@@ -139,11 +134,11 @@ pub fn perform<J: Naming, S: Sink>(
         };
         let written = perform_one(
             installation,
+            supply,
             number,
             action,
             bytes,
             &mut places,
-            &mut held,
             sink,
         );
         refused = refused | written.refused;

@@ -1,4 +1,4 @@
-//! Places for the events that are entered and for their answers, made once.
+//! Places for the events that are entered and for the lines that are written, made once.
 
 ghost use Rattle.std.specs.Prelude.{◌≡◌, ◌≤◌, length};
 ghost use Rattle.chan_events.specs.declared.event.Event.TheVariants as event_spec;
@@ -6,10 +6,10 @@ ghost use Rattle.chan_events.specs.declared.event.Event.TheVariants as event_spe
 use chan_events::event::{Event, Instruction};
 use chan_model::names::{Cpu, Side};
 use chan_model::report::{DeviceAnswer, Report};
-use signal_places::answers::AnswerPlace;
+use script_text::held::Held;
 
-/// Places for the events of lines, by what is common among them, one for the event of a report, and one for an answer. An event
-/// that is of the kind that stood in its place moves no more than its numbers.
+/// Places for the events of lines, by what is common among them, one for the event of a report, and one for the line that is
+/// written. An event that is of the kind that stood in its place moves no more than its numbers.
 #[derive(Drop)]
 pub struct Places {
     pub up: Event,
@@ -18,7 +18,7 @@ pub struct Places {
     pub execute: Event,
     pub event: Event,
     pub report: Event,
-    pub answer: AnswerPlace,
+    pub held: Held,
 }
 
 impl Places {
@@ -34,7 +34,7 @@ impl Places {
                 unit: 0,
                 report: no_report(),
             },
-            answer: AnswerPlace::new(),
+            held: Held::new(),
         }
     }
 }

@@ -34,7 +34,7 @@ pub fn run_script<M: CoreSupply, S: Sink>(
     script: Script,
     sink: &mut S,
 ) -> Ending
-    ensures ends { IsRun script (S.seen sink.old) (S.seen sink.new) result }
+    ensures ends { IsRun (M.refused supply.new) script (S.seen sink.old) (S.seen sink.new) result }
     ensures memory { IsForMemory result → M.refused supply.new ≡ true }
     ensures audited { (whole : Bool) → result ≢ ending.AuditFailed whole }
 {
@@ -53,7 +53,7 @@ pub fn race_script<T: Threads + Wait + Sync, M: CoreSupply, S: Sink>(
     script: Script,
     sink: &mut S,
 ) -> Ending
-    ensures ends { IsRunOrRaced script (S.seen sink.old) (S.seen sink.new) result }
+    ensures ends { IsRunOrRaced (M.refused supply.new) script (S.seen sink.old) (S.seen sink.new) result }
     ensures memory { IsForMemory result → M.refused supply.new ≡ true }
 {
     let race = script.race();
@@ -83,11 +83,11 @@ fn run_named<J: Naming, M: CoreSupply, S: Sink>(
     requires set_up { J.setup ≡ config }
     requires directory { parts.name.directory ≡ directory_of (opening_of config) }
     requires serials { parts.serials ≡ all_serials (opening_of config) }
-    ensures ends { IsRunOf config lines.now (S.seen sink.old) (S.seen sink.new) result }
+    ensures ends { IsRunOf (M.refused supply.new) config lines.now (S.seen sink.old) (S.seen sink.new) result }
     ensures memory { IsForMemory result → M.refused supply.new ≡ true }
 {
     match Installation::<J>::new(alloc, supply, config, parts, 0) {
-        Ok((installation, _)) => perform_all(installation, lines, sink),
+        Ok((installation, _)) => perform_all(installation, supply, lines, sink),
         Err(_) => no_memory(sink),
     }
 }
@@ -108,42 +108,46 @@ fn race_named<J: Naming + Send + Sync, T: Threads + Wait + Sync, M: CoreSupply, 
     requires set_up { J.setup ≡ config }
     requires directory { parts.name.directory ≡ directory_of (opening_of config) }
     requires serials { parts.serials ≡ all_serials (opening_of config) }
-    ensures ends { IsRaceOf config lines.now race (S.seen sink.old) (S.seen sink.new) result }
+    ensures ends { IsRaceOf (M.refused supply.new) config lines.now race (S.seen sink.old) (S.seen sink.new) result }
     ensures memory { IsForMemory result → M.refused supply.new ≡ true }
 {
     match Installation::<J>::new(alloc, supply, config, parts, race.race.cpus) {
-        Ok((installation, racers)) => perform_race(rt, installation, racers, lines, race, sink),
+        Ok((installation, racers)) => {
+            perform_race(rt, installation, supply, racers, lines, race, sink)
+        }
         Err(_) => no_memory(sink),
     }
 }
 
-/// Performs lines, and audits.
-fn perform_all<J: Naming, S: Sink>(
+/// Performs lines, with room for what is entered from a supply, and audits.
+fn perform_all<J: Naming, M: CoreSupply, S: Sink>(
     installation: Installation<J>,
+    supply: &mut M,
     lines: &Lines,
     sink: &mut S,
 ) -> Ending
-    ensures { PerformsAll installation lines.now (S.seen sink.old) (S.seen sink.new) result }
+    ensures { PerformsAll (M.refused supply.new) installation lines.now (S.seen sink.old) (S.seen sink.new) result }
 {
     let mut installation = installation;
-    let done = perform(&mut installation, lines, sink);
+    let done = perform(&mut installation, supply, lines, sink);
     end(installation.audited(), done, sink)
 }
 
-/// Performs lines, and then a race; audits.
-fn perform_race<J: Naming + Send + Sync, T: Threads + Wait + Sync, S: Sink>(
+/// Performs lines, with room for what is entered from a supply, and then a race, which asks the allocator; audits.
+fn perform_race<J: Naming + Send + Sync, T: Threads + Wait + Sync, M: CoreSupply, S: Sink>(
     rt: &T,
     installation: Installation<J>,
+    supply: &mut M,
     racers: Racers<J>,
     lines: &Lines,
     line: RaceLine,
     sink: &mut S,
 ) -> Ending
     requires { AreMade line.race.cpus racers }
-    ensures { Races installation lines.now line (S.seen sink.old) (S.seen sink.new) result }
+    ensures { Races (M.refused supply.new) installation lines.now line (S.seen sink.old) (S.seen sink.new) result }
 {
     let mut installation = installation;
-    let done = perform(&mut installation, lines, sink);
+    let done = perform(&mut installation, supply, lines, sink);
     if !done.whole {
         return end(installation.audited(), done, sink);
     }

@@ -64,7 +64,9 @@ fn leave(sub: &mut Subchannel, unit: &mut Unit) -> Result<PlainReply, Fault>
     ensures gives { giving_spec.GivesBoth sub.old «unit».old
         (report_spec.report_taken sub.old (unit_spec.leaving «unit».old «unit».old.own)) (plain_outcome result) sub.new «unit».new }
 {
-    let path = connected_path(unit.own()).ok_or(Fault::NotNow)?;
+    let Some(path) = connected_path(unit.own()) else {
+        return Err(Fault::NotNow);
+    };
     if finds_up_full(sub, path) {
         return Err(Fault::WireFull);
     }
@@ -148,7 +150,9 @@ pub fn act_sub(sub: &mut Subchannel, unit: &mut Unit, act: UnitAct) -> Result<Pl
         UnitAct::Ask { path } | UnitAct::Attention { path, .. } | UnitAct::Notice { path, .. } =>
             path,
     };
-    let path = path_of(sub, index).ok_or(Fault::NoSuchPath)?;
+    let Some(path) = path_of(sub, index) else {
+        return Err(Fault::NoSuchPath);
+    };
     match act {
         UnitAct::Leave | UnitAct::Ask { .. } => ask(sub, unit, path),
         UnitAct::Attention { .. } => attend(sub, unit, path),

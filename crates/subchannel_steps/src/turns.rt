@@ -282,7 +282,9 @@ pub fn down_sub(
     ensures kept { IsKept log.old log.new }
     ensures refused { OnErr result (log.new ≡ log.old) }
 {
-    let path = path_of(sub, path).ok_or(Fault::NoSuchPath)?;
+    let Some(path) = path_of(sub, path) else {
+        return Err(Fault::NoSuchPath);
+    };
     let Some(front) = sub.wires.front_down(path) else {
         return Err(Fault::NotSent);
     };

@@ -43,6 +43,7 @@ invariant_of-seat g c =
       share = i.share;
       turns = i.turns;
       entries = i.entries;
+      fresh = i.fresh;
       beside = length-set pairs k now ∙ i.beside ∙ sym (same_count readers loaded k found loads);
       ordered = set_ordered pairs k now i.ordered (subst IsOrdered (sym c.greater-raised.ensures) le);
       cells = look.same_cells readers loaded k found loads ∙ i.cells;

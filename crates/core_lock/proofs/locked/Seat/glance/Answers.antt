@@ -25,6 +25,7 @@ invariant_of-self g c =
       share = i.share;
       turns = i.turns;
       entries = i.entries;
+      fresh = i.fresh;
       beside = length-set pairs k now ∙ i.beside ∙ sym (length-set readers k c.load-loaded.new.self);
       ordered = set_ordered pairs k now i.ordered (subst IsOrdered (sym c.greater-found.ensures) le);
       cells = map-set_same cell_of readers k c.load-loaded.new.self c.index_mut-reader.result.now (c.load-loaded.ensures.cell ∙ ap cell_of c.index_mut-reader.ensures.value) ∙ i.cells;

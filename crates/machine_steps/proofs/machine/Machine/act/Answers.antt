@@ -5,7 +5,7 @@ use Rattle.machine_model.specs.State.{State, with_sub, state_with_unit}
 use Rattle.machine_model.specs.ActSteps.{side_of_act}
 use Rattle.subchannel_model.specs.Places.{reached_in}
 use Rattle.machine_model.specs.Steps.{Performs}
-use Rattle.signal_places.specs.Answers.{answer_at}
+use Rattle.signal_places.specs.Plain.{plain_outcome}
 use Rattle.machine_steps.specs.contracts.machine.Machine.{the_view}
 use Rattle.machine_steps.proofs.Lifting.{at_seen, act-performs, counted-still}
 use Rattle.machine_steps.proofs.machine.Machine.act.Goals as goal
@@ -19,10 +19,10 @@ returns c =
     ap (reached_in c.args.number c.in-Some.side) (sym subs) ∙ (sym c.reached_in.ensures.place ∙ c.in-Some-reached_in.is) in
     let stands = at_seen old.subs c.as_slice-2.result.now c.in-Some-reached_in.place c.index_mut-sub.result.now (sym subs) c.in-Some-reached_in.ensures.bound c.index_mut-sub.ensures.value in
     let inside : c.args.number < length old.units = omega (arith, c.if-number-len.false, c.len.ensures) in
-    subst (λ (s : State). Performs s (event.Act c.args.number c.args.act) (answer_at c.act_sub.new.answer)
+    subst (λ (s : State). Performs s (event.Act c.args.number c.args.act) (plain_outcome c.act_sub.result)
     (state_with_unit (with_sub old c.in-Some-reached_in.place c.act_sub.new.sub) c.args.number c.act_sub.new.«unit»)) c.self.view_is
     (act-performs old c.args.number c.in-Some-reached_in.place c.args.act c.in-Some.side c.index_mut-sub.result.now c.act_sub.new.sub c.index.result.now
-    c.index_mut-unit.result.now c.act_sub.new.«unit» (answer_at c.act_sub.new.answer) inside c.index.ensures of at stands c.index_mut-unit.ensures.value c.act_sub.ensures.state c.act_sub.ensures.gives)
+    c.index_mut-unit.result.now c.act_sub.new.«unit» (plain_outcome c.act_sub.result) inside c.index.ensures of at stands c.index_mut-unit.ensures.value c.act_sub.ensures.state c.act_sub.ensures.gives)
 
 pub invariant_of-self : goal.invariant_of-self
 invariant_of-self c =

@@ -1,6 +1,6 @@
 use Rattle.std.proofs.Common.{arith, ◌∙◌, ap, subst, sym, List}
 use Rattle.std.specs.Prelude.{All}
-use Rattle.signal_places.specs.Answers.{answer_at}
+use Rattle.signal_places.specs.Plain.{plain_outcome}
 use Rattle.machine_steps.specs.Postable.{IsPostable}
 use Rattle.machine_model.specs.State.{State}
 use Rattle.subchannel_model.specs.Choosing.{paths_to_choose}
@@ -14,10 +14,10 @@ returns g c =
     let old = the_view c.self.inside in
     let at = named_at old c.args.self.now c.args.word c.in-Some.place c.place_of.result c.self.view_is c.place_of.ensures.place c.in-Some.is in
     let stands = at_seen old.subs c.args.self.now.subs c.in-Some.place c.index_mut-sub.result.now (ap (λ (s : State). s.subs) c.self.view_is) c.in-Some.ensures.bound c.index_mut-sub.ensures.value in
-    let both = chooses g.P.PathChoice.picks old c.args.self.now c.args.word c.in-Some.place c.index_mut-sub.result.now c.index.result.now c.choose_sub.new.sub
-    c.paths_to_choose-paths.result c.choose-path.result c.chosen-what.result (answer_at c.choose_sub.new.answer) c.post.new.pending c.self.view_is at stands c.index.ensures
+    let both = chooses g.P.PathChoice.picks old c.args.self.now c.args.word c.in-Some.place c.index_mut-sub.result.now c.index.result.now c.choose_sub-answer.new.sub
+    c.paths_to_choose-paths.result c.choose-path.result c.chosen-what.result (plain_outcome c.choose_sub-answer.result) c.post.new.pending c.self.view_is at stands c.index.ensures
     (c.paths_to_choose-paths.ensures ∙ ap (λ (subs : List Subchannel). paths_to_choose subs c.index.result.now) (c.of-counted.ensures ∙ c.as_slice.ensures.value))
-    c.choose-path.ensures.law c.choose-path.ensures.rule c.chosen-what.ensures.chosen c.choose_sub.ensures.gives c.post.ensures in
+    c.choose-path.ensures.law c.choose-path.ensures.rule c.chosen-what.ensures.chosen c.choose_sub-answer.ensures.gives c.post.ensures in
     record { performs = both.0; ruled = both.1 }
 
 pub returns-in_default : goal.returns-in_default
@@ -35,7 +35,7 @@ pub invariant_of-self : goal.invariant_of-self
 invariant_of-self g c =
     let subs = c.self.inside.subs.items in
     let stands = at_seen subs c.args.self.now.subs c.in-Some.place c.index_mut-sub.result.now (ap (λ (s : State). s.subs) c.self.view_is) c.in-Some.ensures.bound c.index_mut-sub.ensures.value in (
-      counted-in c.self.inside.engines c.change.new.self subs c.in-Some.place c.index_mut-sub.result.now c.choose_sub.new.sub c.engaged-before.result c.engaged-after.result stands c.self.invariant.0
+      counted-in c.self.inside.engines c.change.new.self subs c.in-Some.place c.index_mut-sub.result.now c.choose_sub-answer.new.sub c.engaged-before.result c.engaged-after.result stands c.self.invariant.0
           c.engaged-before.ensures.value c.engaged-after.ensures.value c.change.ensures,
       c.self.invariant.1,
     )
@@ -44,8 +44,8 @@ pub post-requires : goal.post-requires
 post-requires g c =
     let old = the_view c.self.inside in
     let stands = at_seen old.subs c.args.self.now.subs c.in-Some.place c.index_mut-sub.result.now (ap (λ (s : State). s.subs) c.self.view_is) c.in-Some.ensures.bound c.index_mut-sub.ensures.value in
-    postable-at old.subs c.in-Some.place c.index_mut-sub.result.now c.choose_sub.new.sub c.self.inside.pending.numbers stands
-    (subst (λ (s : State). All IsPostable s.subs) (sym c.self.view_is) c.requires.postable) c.choose_sub.ensures.setup
+    postable-at old.subs c.in-Some.place c.index_mut-sub.result.now c.choose_sub-answer.new.sub c.self.inside.pending.numbers stands
+    (subst (λ (s : State). All IsPostable s.subs) (sym c.self.view_is) c.requires.postable) c.choose_sub-answer.ensures.setup
     (ap (λ (s : State). s.requests.numbers) c.self.view_is ∙ c.requires.requests)
 
 pub change-requires-clause-room : goal.change-requires-clause-room

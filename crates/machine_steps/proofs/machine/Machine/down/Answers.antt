@@ -3,22 +3,22 @@ use Rattle.std.proofs.lemmas.List.{length-set}
 use Rattle.chan_events.specs.declared.event.Event.TheVariants as event
 use Rattle.machine_model.specs.State.{State, with_sub, state_with_unit}
 use Rattle.machine_model.specs.Steps.{Performs}
-use Rattle.signal_places.specs.Answers.{answer_at}
+use Rattle.event_log.specs.Logs.{answer_in}
 use Rattle.machine_steps.specs.contracts.machine.Machine.{the_view}
 use Rattle.machine_steps.proofs.Lifting.{at_seen, named_at, down-performs-at, counted-still}
 use Rattle.machine_steps.proofs.machine.Machine.down.Goals as goal
 
-pub returns : goal.returns
-returns c =
+pub returns-clause-performs : goal.returns-clause-performs
+returns-clause-performs c =
     let old = the_view c.self.inside in
     let k = c.index.result.now.setup.«unit» in
     let at = named_at old c.args.self.now c.args.word c.in-Some.place c.place_of.result c.self.view_is c.place_of.ensures.place c.in-Some.is in
     let stands = at_seen old.subs c.args.self.now.subs c.in-Some.place c.index_mut-sub.result.now (ap (λ (s : State). s.subs) c.self.view_is) c.in-Some.ensures.bound c.index_mut-sub.ensures.value in
     let inside : k < length old.units = omega (arith, c.if-number-len.false, c.len.ensures) in
-    subst (λ (s : State). Performs s (event.Down c.args.word c.args.path) (answer_at c.down_sub.new.answer)
+    subst (λ (s : State). Performs s (event.Down c.args.word c.args.path) (answer_in c.down_sub.result c.down_sub.new.log)
     (state_with_unit (with_sub (record old { members = c.down_sub.new.sharing }) c.in-Some.place c.down_sub.new.sub) k c.down_sub.new.«unit»)) c.self.view_is
     (down-performs-at old c.args.word c.args.path c.in-Some.place c.index.result.now c.index_mut-sub.result.now c.down_sub.new.sub c.index_mut-unit.result.now c.down_sub.new.«unit»
-    c.down_sub.new.sharing (answer_at c.down_sub.new.answer) c.index.ensures at stands inside c.index_mut-unit.ensures.value c.down_sub.ensures.state c.down_sub.ensures.gives)
+    c.down_sub.new.sharing (answer_in c.down_sub.result c.down_sub.new.log) c.index.ensures at stands inside c.index_mut-unit.ensures.value c.down_sub.ensures.state c.down_sub.ensures.gives)
 
 pub invariant_of-self : goal.invariant_of-self
 invariant_of-self c =

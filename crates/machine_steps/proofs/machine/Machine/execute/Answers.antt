@@ -1,12 +1,13 @@
-use Rattle.std.proofs.Common.{arith, ◌≡◌, ap, sym, ◌∙◌, None, Some}
+use Rattle.std.proofs.Common.{arith, ◌≡◌, ap, sym, ◌∙◌, subst, None, Some}
 use Rattle.channel_config.specs.SubchannelWords.{subchannel_named}
 use Rattle.chan_events.specs.declared.event.Event.TheVariants as event
-use Rattle.machine_model.specs.State.{with_sub}
+use Rattle.machine_model.specs.State.{State, with_sub}
+use Rattle.machine_model.specs.Steps.{Performs}
 use Rattle.subchannel_model.specs.Places.{place_in}
 use Rattle.machine_model.specs.InstructionSteps.{subchannel_word}
 use Rattle.signal_places.specs.Plain.{plain_outcome}
 use Rattle.machine_steps.specs.contracts.machine.Machine.{the_view}
-use Rattle.machine_steps.proofs.Lifting.{at_seen, executes, executes-absent, executes-unnamed, counted-room, counted-out, counted-in, told}
+use Rattle.machine_steps.proofs.Lifting.{at_seen, executes, executes-absent, executes-unnamed, counted-room, counted-out, counted-in}
 use Rattle.machine_steps.proofs.machine.Machine.execute.Goals as goal
 
 pub returns-in_default : goal.returns-in_default
@@ -23,8 +24,8 @@ returns-in_default-place_in c =
     ap (subchannel_named old.sets) (sym c.word_of.ensures) ∙ (sym c.subchannel_named.ensures.value ∙ c.in-Some.is) in
     let placed : place_in c.in-Some.id old.subs ≡ None =
     ap (place_in c.in-Some.id) (sym c.as_slice.ensures.value) ∙ (sym c.place_in.ensures.place ∙ c.in_default-place_in.is) in
-    told old c.args.self.now (event.Execute c.args.cpu c.args.instruction.now) (record old { storage = c.execute_absent-came.new.storage }) c.execute_absent-came.result c.tell.new.self c.tell.ensures c.self.view_is
-    (executes-absent old c.args.cpu c.args.instruction.now c.in-Some.id c.execute_absent-came.new.storage (plain_outcome c.execute_absent-came.result) named placed c.execute_absent-came.ensures)
+    subst (λ (s : State). Performs s (event.Execute c.args.cpu c.args.instruction.now) (plain_outcome c.execute_absent.result) (record old { storage = c.execute_absent.new.storage })) c.self.view_is
+    (executes-absent old c.args.cpu c.args.instruction.now c.in-Some.id c.execute_absent.new.storage (plain_outcome c.execute_absent.result) named placed c.execute_absent.ensures)
 
 pub returns : goal.returns
 returns c =
@@ -35,10 +36,10 @@ returns c =
     let placed : place_in c.in-Some.id old.subs ≡ Some c.in-Some-place_in.place =
     ap (place_in c.in-Some.id) (sym subs) ∙ (sym c.place_in.ensures.place ∙ c.in-Some-place_in.is) in
     let stands = at_seen old.subs c.as_slice.result.now c.in-Some-place_in.place c.index_mut-sub.result.now (sym subs) c.in-Some-place_in.ensures.bound c.index_mut-sub.ensures.value in
-    told old c.args.self.now (event.Execute c.args.cpu c.args.instruction.now)
-    (record (with_sub (record old { storage = c.perform_provided-came.new.storage }) c.in-Some-place_in.place c.perform_provided-came.new.sub) { requests = c.post.new.pending }) c.perform_provided-came.result c.tell-2.new.self c.tell-2.ensures c.self.view_is
-    (executes old c.args.cpu c.in-Some-place_in.place c.args.instruction.now c.in-Some.id c.index_mut-sub.result.now c.perform_provided-came.new.sub c.perform_provided-came.new.storage
-    c.perform_provided-came.new.pending c.post.new.pending (plain_outcome c.perform_provided-came.result) named placed stands c.perform_provided-came.ensures.done c.post.ensures)
+    subst (λ (s : State). Performs s (event.Execute c.args.cpu c.args.instruction.now) (plain_outcome c.perform_provided-answer.result)
+    (record (with_sub (record old { storage = c.perform_provided-answer.new.storage }) c.in-Some-place_in.place c.perform_provided-answer.new.sub) { requests = c.post.new.pending })) c.self.view_is
+    (executes old c.args.cpu c.in-Some-place_in.place c.args.instruction.now c.in-Some.id c.index_mut-sub.result.now c.perform_provided-answer.new.sub c.perform_provided-answer.new.storage
+    c.perform_provided-answer.new.pending c.post.new.pending (plain_outcome c.perform_provided-answer.result) named placed stands c.perform_provided-answer.ensures.done c.post.ensures)
 
 pub change-requires-clause-some : goal.change-requires-clause-some
 change-requires-clause-some c =
@@ -50,7 +51,7 @@ pub invariant_of-self-2 : goal.invariant_of-self-2
 invariant_of-self-2 c =
     let subs = c.self.inside.subs.items in
     let stands = at_seen subs c.as_slice.result.now c.in-Some-place_in.place c.index_mut-sub.result.now (sym c.as_slice.ensures.value) c.in-Some-place_in.ensures.bound c.index_mut-sub.ensures.value in (
-      counted-in c.self.inside.engines c.change.new.self subs c.in-Some-place_in.place c.index_mut-sub.result.now c.perform_provided-came.new.sub c.engaged-before.result c.engaged-after.result stands c.self.invariant.0
+      counted-in c.self.inside.engines c.change.new.self subs c.in-Some-place_in.place c.index_mut-sub.result.now c.perform_provided-answer.new.sub c.engaged-before.result c.engaged-after.result stands c.self.invariant.0
           c.engaged-before.ensures.value c.engaged-after.ensures.value c.change.ensures,
       c.self.invariant.1,
     )

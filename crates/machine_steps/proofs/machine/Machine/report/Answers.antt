@@ -4,7 +4,7 @@ use Rattle.chan_events.specs.declared.event.Event.TheVariants as event
 use Rattle.machine_model.specs.State.{State, with_sub, state_with_unit}
 use Rattle.subchannel_model.specs.Places.{reached_in}
 use Rattle.machine_model.specs.Steps.{Performs}
-use Rattle.signal_places.specs.Answers.{answer_at}
+use Rattle.signal_places.specs.Plain.{plain_outcome}
 use Rattle.machine_steps.specs.contracts.machine.Machine.{the_view}
 use Rattle.machine_steps.proofs.Lifting.{at_seen, report-performs, counted-still}
 use Rattle.machine_steps.proofs.machine.Machine.report.Goals as goal
@@ -17,10 +17,10 @@ returns c =
     ap (reached_in c.args.number c.args.report.now.side) (sym subs) ∙ (sym c.reached_in.ensures.place ∙ c.in-Some.is) in
     let stands = at_seen old.subs c.as_slice.result.now c.in-Some.place c.index_mut-sub.result.now (sym subs) c.in-Some.ensures.bound c.index_mut-sub.ensures.value in
     let inside : c.args.number < length old.units = omega (arith, c.if-number-len.false, c.len.ensures) in
-    subst (λ (s : State). Performs s (event.Report c.args.number c.args.report.now) (answer_at c.report_sub.new.answer)
+    subst (λ (s : State). Performs s (event.Report c.args.number c.args.report.now) (plain_outcome c.report_sub.result)
     (state_with_unit (with_sub old c.in-Some.place c.report_sub.new.sub) c.args.number c.report_sub.new.«unit»)) c.self.view_is
     (report-performs old c.args.number c.in-Some.place c.args.report.now c.index_mut-sub.result.now c.report_sub.new.sub
-    c.index_mut-unit.result.now c.report_sub.new.«unit» (answer_at c.report_sub.new.answer) at stands inside c.index_mut-unit.ensures.value c.report_sub.ensures.state c.report_sub.ensures.gives)
+    c.index_mut-unit.result.now c.report_sub.new.«unit» (plain_outcome c.report_sub.result) at stands inside c.index_mut-unit.ensures.value c.report_sub.ensures.state c.report_sub.ensures.gives)
 
 pub invariant_of-self : goal.invariant_of-self
 invariant_of-self c =

@@ -4,37 +4,37 @@ use Rattle.chan_events.specs.declared.event.Event.TheVariants as event
 use Rattle.subchannel_model.specs.declared.state.Subchannel.{Subchannel}
 use Rattle.machine_model.specs.State.{State, with_sub}
 use Rattle.machine_model.specs.Steps.{Performs}
-use Rattle.signal_places.specs.Answers.{answer_at}
+use Rattle.event_log.specs.Logs.{answer_in}
 use Rattle.subchannel_steps.specs.Giving.{MayReturn}
 use Rattle.machine_steps.specs.contracts.machine.Machine.{the_view}
 use Rattle.machine_steps.proofs.Lifting.{at_seen, named_at, one_there, up-pathless, up-performs, counted-room, counted-out, counted-in}
 use Rattle.machine_steps.proofs.machine.Machine.up.Goals as goal
 
-pub returns-in_default-path_of : goal.returns-in_default-path_of
-returns-in_default-path_of c =
+pub returns-in_default-path_of-clause-performs : goal.returns-in_default-path_of-clause-performs
+returns-in_default-path_of-clause-performs c =
     let old = the_view c.self.inside in
     let at = named_at old c.args.self.now c.args.word c.in-Some.place c.place_of.result c.self.view_is c.place_of.ensures.place c.in-Some.is in
     let stands = at_seen old.subs c.args.self.now.subs c.in-Some.place c.index.result.now (ap (λ (s : State). s.subs) c.self.view_is) c.in-Some.ensures.bound c.index.ensures in
     subst (λ (s : State). Performs s (event.Up c.args.word c.args.path) (Err fault.NoSuchPath) s) c.self.view_is
     (up-pathless old c.args.word c.args.path c.in-Some.place c.index.result.now at stands c.in_default-path_of.ensures)
 
-pub returns : goal.returns
-returns c =
+pub returns-clause-performs : goal.returns-clause-performs
+returns-clause-performs c =
     let old = the_view c.self.inside in
     let path = c.in-Some-path_of.path in
     let at = named_at old c.args.self.now c.args.word c.in-Some.place c.place_of.result c.self.view_is c.place_of.ensures.place c.in-Some.is in
     let stands = at_seen old.subs c.args.self.now.subs c.in-Some.place c.index_mut-sub.result.now (ap (λ (s : State). s.subs) c.self.view_is) c.in-Some.ensures.bound c.index_mut-sub.ensures.value in
     let may : MayReturn old.subs c.index-2.result.now path c.returns_at-returns.result =
     subst (λ (subs : List Subchannel). MayReturn subs c.index-2.result.now path c.returns_at-returns.result) (c.of-counted.ensures ∙ c.as_slice.ensures.value) c.returns_at-returns.ensures in
-    subst (λ (s : State). Performs s (event.Up c.args.word c.args.path) (answer_at c.up_sub.new.answer)
-    (record (with_sub (record old { storage = c.up_sub.new.storage }) c.in-Some.place c.up_sub.new.sub) { requests = c.post.new.pending })) c.self.view_is
-    (subst (λ (p : ℕ). Performs old (event.Up c.args.word p) (answer_at c.up_sub.new.answer)
-    (record (with_sub (record old { storage = c.up_sub.new.storage }) c.in-Some.place c.up_sub.new.sub) { requests = c.post.new.pending })) c.in-Some-path_of.ensures.1
-    (up-performs old c.args.word path c.in-Some.place c.index-2.result.now c.index_mut-sub.result.now c.up_sub.new.sub c.up_sub.new.storage
-    c.returns_at-returns.result (answer_at c.up_sub.new.answer) c.post.new.pending at stands c.index-2.ensures may c.up_sub.ensures.gives c.post.ensures))
+    subst (λ (s : State). Performs s (event.Up c.args.word c.args.path) (answer_in c.up_sub-answer.result c.up_sub-answer.new.log)
+    (record (with_sub (record old { storage = c.up_sub-answer.new.storage }) c.in-Some.place c.up_sub-answer.new.sub) { requests = c.post.new.pending })) c.self.view_is
+    (subst (λ (p : ℕ). Performs old (event.Up c.args.word p) (answer_in c.up_sub-answer.result c.up_sub-answer.new.log)
+    (record (with_sub (record old { storage = c.up_sub-answer.new.storage }) c.in-Some.place c.up_sub-answer.new.sub) { requests = c.post.new.pending })) c.in-Some-path_of.ensures.1
+    (up-performs old c.args.word path c.in-Some.place c.index-2.result.now c.index_mut-sub.result.now c.up_sub-answer.new.sub c.up_sub-answer.new.storage
+    c.returns_at-returns.result (answer_in c.up_sub-answer.result c.up_sub-answer.new.log) c.post.new.pending at stands c.index-2.ensures may c.up_sub-answer.ensures.gives c.post.ensures))
 
-pub up_sub-requires-clause-inside : goal.up_sub-requires-clause-inside
-up_sub-requires-clause-inside c =
+pub up_sub-answer-requires-clause-inside : goal.up_sub-answer-requires-clause-inside
+up_sub-answer-requires-clause-inside c =
     let old = the_view c.self.inside in
     let stands = at_seen old.subs c.args.self.now.subs c.in-Some.place c.index_mut-sub.result.now (ap (λ (s : State). s.subs) c.self.view_is) c.in-Some.ensures.bound c.index_mut-sub.ensures.value in
     let same = one_there old.subs c.in-Some.place c.index.result.now c.index_mut-sub.result.now c.index.ensures stands in
@@ -51,7 +51,7 @@ pub invariant_of-self : goal.invariant_of-self
 invariant_of-self c =
     let subs = c.self.inside.subs.items in
     let stands = at_seen subs c.args.self.now.subs c.in-Some.place c.index_mut-sub.result.now (ap (λ (s : State). s.subs) c.self.view_is) c.in-Some.ensures.bound c.index_mut-sub.ensures.value in (
-      counted-in c.self.inside.engines c.change.new.self subs c.in-Some.place c.index_mut-sub.result.now c.up_sub.new.sub c.engaged-before.result c.engaged-after.result stands c.self.invariant.0
+      counted-in c.self.inside.engines c.change.new.self subs c.in-Some.place c.index_mut-sub.result.now c.up_sub-answer.new.sub c.engaged-before.result c.engaged-after.result stands c.self.invariant.0
           c.engaged-before.ensures.value c.engaged-after.ensures.value c.change.ensures,
       c.self.invariant.1,
     )

@@ -1,5 +1,5 @@
 use Rattle.core_lock.proofs.Lasting.{stays_guarded}
-use Rattle.core_lock.proofs.guarded.Guarded.enter_to_with.Goals as goal
+use Rattle.core_lock.proofs.guarded.Guarded.perform_with.Goals as goal
 
 pub invariant_of-self : goal.invariant_of-self
 invariant_of-self g c =
