@@ -3,7 +3,9 @@
 use chan_events::event::Event;
 use chan_model::names::Side;
 use chan_model::report::{DeviceAnswer, Report};
-use core_lock::locked::{Core, Seat};
+use core_lock::guarded::Guarded;
+use core_lock::locked::Seat;
+use core_lock::stock::SeatStock;
 use core_parts::naming::Naming;
 use device_law::answering::answer_to;
 use device_models::any_device::AnyDevice;
@@ -136,29 +138,30 @@ impl Floor for Performing {
     }
 }
 
-/// A core that no lock guards, and a seat of it.
+/// What a lock would guard, the seats that can still be made, and one that was made: what is entered stays with the benchmark.
 #[derive(Drop)]
 pub struct Seated<J: Naming> {
-    pub core: Core<J, Rotating>,
+    pub guarded: Guarded<J, Rotating>,
+    pub stock: SeatStock<J>,
     pub seat: Seat<J>,
     pub report: ReportPlace,
 }
 
 impl<J: Naming> Floor for Seated<J> {
     fn accepts(&mut self, event: &Event) -> bool {
-        self.core.perform(&mut self.seat, event).is_ok()
+        self.guarded.enter(&mut self.seat, event).is_ok()
     }
 
     fn reports(&mut self, unit: u32, device: &mut AnyDevice) -> bool {
-        if !self.report.write(self.core.subsystem(), unit, device) {
+        if !self.report.write(self.guarded.subsystem(), unit, device) {
             return false;
         }
-        self.core
-            .perform(&mut self.seat, &self.report.event)
+        self.guarded
+            .enter(&mut self.seat, &self.report.event)
             .is_ok()
     }
 
     fn subsystem(&self) -> &Subsystem<Rotating> {
-        self.core.subsystem()
+        self.guarded.subsystem()
     }
 }

@@ -5,9 +5,9 @@
 //!
 //! - `step KIND SUBCHANNELS CYCLES`: so many cycles by `Subsystem::step`, at the last of so many subchannels. The kind is
 //!   `write`, `read`, `chain`, `reconnect`, or `test`, which is one TEST SUBCHANNEL.
-//! - `place KIND SUBCHANNELS CYCLES`: the same by `Subsystem::step_place`, with one place for all answers.
-//! - `enter KIND SUBCHANNELS CYCLES`: the same by `Core::enter_to`, of which `Core::enter` is a thin call that takes its event
-//!   with it, from the first seat of a core that no lock guards.
+//! - `perform KIND SUBCHANNELS CYCLES`: the same by `Subsystem::perform`, whose answers stay in the history.
+//! - `enter KIND SUBCHANNELS CYCLES`: the same by `Guarded::enter`, from the first seat of a core that no lock guards; `Core::enter`
+//!   does the same with an event that it takes.
 //! - `race CPUS LOOKERS TIMES`: so many CPUs, each on a thread of its own, execute TEST SUBCHANNEL under the lock, so many times
 //!   each, while so many lookers look at the serials of the same subchannel, 64 times as often.
 //!
@@ -23,7 +23,7 @@ mod seats;
 
 use crate::bench::{Bench, Count, config_of};
 use crate::cycle::Kind;
-use crate::floor::{Answering, Placed};
+use crate::floor::{Answering, Performing};
 use crate::race::{Race, RaceCount};
 use crate::seats::{Outcome, Task};
 use path_select::Rotating;
@@ -37,9 +37,9 @@ use subsystem::subsystem::Subsystem;
 /// What a group of words asks for.
 #[derive(Clone, Copy)]
 enum Wanted {
-    /// Cycles at a subsystem by itself; `placed`: the answers in one place.
+    /// Cycles at a subsystem by itself; `stays`: the answers stay in the history.
     Step {
-        placed: bool,
+        stays: bool,
         kind: Kind,
         subchannels: u32,
         cycles: u64,
@@ -71,9 +71,9 @@ impl Wanted {
 
     /// What is asked for by its name.
     fn named(name: &str, second: &str, third: u32, times: u64) -> Option<Wanted> {
-        if name == "step" || name == "place" {
+        if name == "step" || name == "perform" {
             Some(Wanted::Step {
-                placed: name == "place",
+                stays: name == "perform",
                 kind: Kind::named(second)?,
                 subchannels: third,
                 cycles: times,
@@ -99,17 +99,17 @@ impl Wanted {
     fn perform<R: Threads + Wait + Sync>(self, rt: &R, alloc: Global) -> Option<Outcome> {
         match self {
             Wanted::Step {
-                placed: false,
+                stays: false,
                 kind,
                 subchannels,
                 cycles,
             } => Some(Outcome::Count(stepped(alloc, kind, subchannels, cycles)?)),
             Wanted::Step {
-                placed: true,
+                stays: true,
                 kind,
                 subchannels,
                 cycles,
-            } => Some(Outcome::Count(placed(alloc, kind, subchannels, cycles)?)),
+            } => Some(Outcome::Count(performed(alloc, kind, subchannels, cycles)?)),
             Wanted::AtCore(task) => seats::perform(rt, alloc, task),
         }
     }
@@ -128,9 +128,9 @@ fn stepped(alloc: Global, kind: Kind, subchannels: u32, cycles: u64) -> Option<C
     bench.measure(alloc, kind, cycles).ok()
 }
 
-/// The same, with one place for all answers.
-fn placed(alloc: Global, kind: Kind, subchannels: u32, cycles: u64) -> Option<Count> {
-    let floor = Placed::of(opened(alloc, kind, subchannels)?);
+/// The same, whose answers stay in the history.
+fn performed(alloc: Global, kind: Kind, subchannels: u32, cycles: u64) -> Option<Count> {
+    let floor = Performing::of(opened(alloc, kind, subchannels)?);
     let mut bench = Bench::at(alloc, floor, kind, subchannels)?;
     bench.measure(alloc, kind, cycles).ok()
 }
@@ -182,7 +182,7 @@ fn main(rt: HostRuntime) -> io::Result<ExitCode> {
     for group in words.as_slice().chunks(4) {
         let Some(wanted) = Wanted::of(group) else {
             println!(rt;
-                "chbench: step|place|enter KIND SUBCHANNELS CYCLES | race CPUS LOOKERS TIMES .."
+                "chbench: step|perform|enter KIND SUBCHANNELS CYCLES | race CPUS LOOKERS TIMES .."
             )?;
             return Ok(ExitCode::from(2));
         };

@@ -216,9 +216,10 @@ pub fn run_race<J: Naming + Send + Sync, R: Threads + Wait + Sync>(
 ) -> Option<RaceCount> {
     let bench = Bench::at(alloc, seated, Kind::Test, 1)?;
     let Seated {
-        core,
+        guarded,
+        stock,
         seat,
         report: _,
     } = bench.into_floor();
-    race_from(rt, alloc, core, seat, race)
+    race_from(rt, alloc, Core::join(guarded, stock), seat, race)
 }

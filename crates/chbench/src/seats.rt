@@ -60,8 +60,10 @@ impl Task {
 fn with_seat<J: Naming>(core: Core<J, Rotating>) -> Option<Seated<J>> {
     let mut core = core;
     let seat = core.seat().ok()?;
+    let (guarded, stock) = core.split();
     Some(Seated {
-        core,
+        guarded,
+        stock,
         seat,
         report: ReportPlace::new(),
     })

@@ -173,44 +173,70 @@ fn served_with<R: Threads + Wait + Sync + AllocGlobal>(
     (sink.writer, outcome, supply.refused)
 }
 
+/// How many lines a text has.
+fn lines_in(text: &[u8]) -> usize {
+    let mut lines = 0usize;
+    for byte in text {
+        if *byte == b'\n' {
+            lines = lines.saturating_add(1);
+        }
+    }
+    lines
+}
+
+/// Whether a line says that its event was refused for want of memory, and there is a line for each event all the same.
+fn is_told_at_a_line(out: &[u8], printed: &[u8]) -> bool {
+    let told = b" refused 1\n".as_slice();
+    lines_in(out) == lines_in(printed) && out.windows(told.len()).any(|piece| piece == told)
+}
+
 /// Whether a command ends for want of memory, of which it writes a line alone, where just these requests are granted, from none
-/// to the answer's number less one, and otherwise well, with this printed.
+/// to the first number less one; goes on with a line that says so, where they are from there to the second number less one; and
+/// otherwise ends well, with this printed.
 fn refusals<R: Threads + Wait + Sync + AllocGlobal>(
     rt: &R,
     word: &str,
     text: &[u8],
     printed: &[u8],
-) -> Option<u64> {
-    let mut refusals = 0u64;
+) -> Option<(u64, u64)> {
+    let mut before = 0u64;
+    let mut all = 0u64;
     for left in 0..1_000u64 {
         let (out, outcome, refused) = served_with(rt, word, text, left);
-        let (ending, told): (Ending, &[u8]) = if refused {
-            (Ending::NoMemory { whole: true }, b"refused 1\n")
-        } else {
-            (Ending::Done { refused: false }, printed)
+        let out = out.as_slice();
+        let right = match outcome {
+            Outcome::Ended(Ending::NoMemory { whole: true }) => {
+                let first = before == left;
+                before = left + 1;
+                first && refused && out == b"refused 1\n".as_slice()
+            }
+            Outcome::Ended(Ending::Done { refused: true }) => {
+                refused && is_told_at_a_line(out, printed)
+            }
+            Outcome::Ended(Ending::Done { refused: false }) => !refused && out == printed,
+            _ => false,
         };
-        if outcome != Outcome::Ended(ending) || out.as_slice() != told {
+        if !right || (refused && all != left) {
             return None;
         }
         if refused {
-            if refusals != left {
-                return None;
-            }
-            refusals = left + 1;
+            all = left + 1;
         }
     }
-    Some(refusals)
+    Some((before, all))
 }
 
 #[test]
-fn each_request_before_the_first_event_is_refused_in_turn(rt: HostRuntime) {
+fn each_request_is_refused_in_turn(rt: HostRuntime) {
     let write = Scene::of_a_write(&rt);
-    // The text, its 22 lines, and the nine requests of the machine and its device at least.
+    // The text, its 22 lines, and the nine requests of the machine and its device at least; and room for what is entered.
     let run = refusals(&rt, "run", write.text(), write.printed());
-    assert!(rt; matches!(run, Some(33..=999)));
+    assert!(rt; matches!(run, Some((before, all)) if before >= 33 && before < all && all < 1_000));
     // The text and its lines.
     let check = refusals(&rt, "check", write.text(), b"script ok\n");
-    assert!(rt; matches!(check, Some(23..=999)));
+    assert!(rt;
+        matches!(check, Some((before, all)) if before >= 23 && before == all && all < 1_000)
+    );
 }
 
 #[test]
