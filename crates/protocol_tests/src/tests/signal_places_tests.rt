@@ -1,12 +1,8 @@
 //! What is written into a place stands there, bytes and all, whatever stood there before.
 
-use chan_events::reply::Reply;
 use chan_model::chunk::Bytes;
-use chan_model::fault::Fault;
 use chan_model::names::Path;
 use chan_model::signal::{Down, LentDown, Load, OnPath, Up};
-use signal_places::answers::{AnswerPlace, Outcome};
-use signal_places::plain::PlainReply;
 use signal_places::sent::{SentDown, SentUp};
 
 /// A Give of these bytes.
@@ -77,32 +73,4 @@ fn bytes_come_up_from_their_place(rt: HostRuntime) {
         matches!(&signal, Some(Up::Data { load: Load::Bytes(bytes), .. }) if bytes.as_slice() == [7, 8].as_slice()),
         "both bytes"
     );
-}
-
-#[test]
-fn an_answer_is_read_off_its_place(rt: HostRuntime) {
-    let mut place = AnswerPlace::new();
-    place.tell(Err(Fault::WireFull));
-    let full = matches!(place.answer(), Err(Fault::WireFull));
-    place.tell(Ok(PlainReply::Pending));
-    let replied = place.is_reply();
-    let pending = matches!(place.answer(), Ok(Reply::Pending));
-    place.show(&[1, 2, 3]);
-    let answer = place.answer();
-    let shown =
-        matches!(&answer, Ok(Reply::Shown { bytes }) if bytes.as_slice() == [1, 2, 3].as_slice());
-    place.outcome = Outcome::MetDown { taken: false };
-    let met = matches!(
-        place.answer(),
-        Ok(Reply::Down {
-            taken: false,
-            sent: None,
-            ..
-        })
-    );
-    drop(place);
-    drop(answer);
-    assert!(rt; full && replied && pending);
-    assert!(rt; shown, "the bytes that were shown");
-    assert!(rt; met);
 }
