@@ -1,17 +1,30 @@
 //! Signals that are put on the wires of a subchannel: one that is sent on a path that is down vanishes.
 
-ghost use Rattle.std.specs.Prelude.{◌≡◌, Some, false};
+ghost use Rattle.std.specs.Prelude.{◌≡◌, ◌<◌, Some, false, length};
 ghost use Rattle.chan_model.specs.Signals as signals;
 ghost use Rattle.chan_model.specs.declared.signal.OnPath as on_path;
 ghost use Rattle.machine_model.specs.ReportSteps as report_spec;
 ghost use Rattle.subchannel_steps.specs.Giving as giving_spec;
 ghost use Rattle.subchannel_model.specs.Sending as spec;
+ghost use Rattle.wires.specs.Queues.{first_of, queue};
 
 use chan_model::names::Path;
 use chan_model::paths::PathSet;
 use chan_model::signal::{LentDown, LentUp, OnPath};
 use subchannel_model::state::Subchannel;
 use wires::Wires;
+
+/// The signal that waits longest on the wire up of a path, where one waits.
+#[inline(always)]
+pub fn first_up(wires: &Wires, path: Path) -> LentUp<'_>
+    requires { 0 < length (queue wires.now.up path) }
+    ensures { first_of wires.now.up path ≡ Some (signals.lent_up result) }
+{
+    match wires.front_up(path) {
+        Some(front) => front,
+        None => unreachable!(),
+    }
+}
 
 /// Whether a signal that is sent down on a path finds its wire full. On a path that is down it finds none.
 pub fn finds_down_full(sub: &Subchannel, path: Path) -> bool

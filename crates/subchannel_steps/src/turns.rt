@@ -1,6 +1,6 @@
 //! What an event does at one subchannel.
 
-ghost use Rattle.std.specs.Prelude.{◌≡◌, ◌<◌, ◌≤◌, ◌^◌, Bool, OnErr, Option, Some, false, length, nat_lt, true};
+ghost use Rattle.std.specs.Prelude.{◌≡◌, ◌<◌, ◌≤◌, ◌^◌, Bool, Err, IfErr, OnErr, OnOk, Option, Some, false, length, nat_lt, true};
 ghost use Rattle.subchannel_steps.specs.Giving as giving_spec;
 ghost use Rattle.machine_model.specs.ChooseSteps as choose_spec;
 ghost use Rattle.subchannel_model.specs.Sending as sending_spec;
@@ -24,8 +24,9 @@ ghost use Rattle.chan_events.specs.declared.reply.Reply.TheVariants as reply_spe
 ghost use Rattle.event_log.specs.Logs.{IsKept, answer_in};
 ghost use Rattle.signal_places.specs.Plain.{plain_outcome, reply_of};
 ghost use Rattle.unit.specs.UnitWords.{IsAllowed};
+ghost use Rattle.wires.specs.Queues.{first_of, queue};
 
-use crate::sending::{finds_down_full, finds_up_full, send_any_down, send_any_up};
+use crate::sending::{finds_down_full, finds_up_full, first_up, send_any_down, send_any_up};
 use crate::sharing::take;
 use chan_model::fault::Fault;
 use chan_model::names::Path;
@@ -222,6 +223,25 @@ pub fn returns_at(subs: &Counted<'_>, sub: &Subchannel, path: Path) -> bool
     }
 }
 
+/// Whether a signal waits on the wire up of a path, and what comes of it finds room. A refusal is that of the event.
+fn may_come_up(storage: &Storage, sub: &Subchannel, path: Path, returns: bool) -> Result<(), Fault>
+    requires roomy { IsRoomy sub.now }
+    requires inside { nat_lt path (length sub.now.setup.paths) ≡ true }
+    ensures waits { OnOk result (0 < length (queue sub.now.wires.up path)) }
+    ensures room { OnOk result ((signal : signals.Up) → first_of sub.now.wires.up path ≡ Some signal →
+        giving_spec.TellsFull sub.now.wires.down (sending_spec.carried_by sub.now
+        (takes_up returns storage.now sub.now.state path signal).step.came.sent) false) }
+    ensures refused { IfErr result (λ f. up_spec.up_sub returns storage.now sub.now path ≡ Err f) }
+{
+    let Some(front) = sub.wires.front_up(path) else {
+        return Err(Fault::NotSent);
+    };
+    if up_finds_full(storage, sub, path, &front, returns) {
+        return Err(Fault::WireFull);
+    }
+    Ok(())
+}
+
 /// The subchannel takes the signal that waits longest on the wire up of a path that it has, once it is known that what comes
 /// of it finds room. `returns`: a program that is away may come back by the path.
 pub fn up_sub(
@@ -242,15 +262,11 @@ pub fn up_sub(
     ensures kept { IsKept log.old log.new }
     ensures refused { OnErr result (log.new ≡ log.old) }
 {
-    let Some(front) = sub.wires.front_up(path) else {
-        return Err(Fault::NotSent);
-    };
-    if up_finds_full(storage, sub, path, &front, returns) {
-        return Err(Fault::WireFull);
-    }
+    may_come_up(storage, sub, path, returns)?;
     let available = sub.state.pmcw.available;
-    let taken = take_up(storage, &mut sub.state, path, &front, returns, sent);
-    log.meet_up(&front, taken, &sent.get());
+    let first = first_up(&sub.wires, path);
+    let taken = take_up(storage, &mut sub.state, path, &first, returns, sent);
+    log.meet_up(&first, taken, &sent.get());
     sub.wires.drop_up(path);
     send_any_down(&mut sub.wires, &available, &sent.get());
     Ok(())

@@ -2,4 +2,5 @@ mod Pasts
 mod Rising
 mod Answering
 mod Never
+mod Stepping
 mod Headlines

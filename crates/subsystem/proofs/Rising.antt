@@ -63,7 +63,7 @@ later-rises old new z = record {
   cleared = λ place a b p q. (one-later old.subs new.subs place a b z p q).1;
 }
 
-same-rises : (xs : List Serials) → Rises xs xs
+pub same-rises : (xs : List Serials) → Rises xs xs
 same-rises xs = record {
   count = refl;
   made = λ place a b p q. omega (arith, ap (λ (u : Serials). u.made) (same_Some a b (sym p ∙ q)));
