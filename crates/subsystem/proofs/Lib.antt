@@ -2,5 +2,5 @@ mod Pasts
 mod Rising
 mod Answering
 mod Never
-mod Stepping
+mod Accepting
 mod Headlines

@@ -20,6 +20,7 @@ use supply::Supply;
 
 /// One event at a machine, and its entry in the history that led there.
 #[inline(never)]
+#[tactic(auto, using(crate::proofs::Accepting::starved))]
 pub fn keep_step<S: Supply, P: PathChoice + Drop>(
     machine: &mut Machine,
     history: &mut Log,
@@ -49,7 +50,11 @@ pub fn keep_step<S: Supply, P: PathChoice + Drop>(
     if history.make_room_with(supply).is_err() {
         return Err(Fault::NoMemory);
     }
-    machine.perform(places, choice, event, history)?;
-    history.finish(event);
-    Ok(())
+    match machine.perform(places, choice, event, history) {
+        Ok(()) => {
+            history.finish(event);
+            Ok(())
+        }
+        Err(fault) => Err(fault),
+    }
 }
