@@ -1,5 +1,6 @@
 pub mod Auditing
 pub mod Directories
+pub mod Entered
 pub mod Growing
 pub mod Raising
 pub mod Handing

@@ -1,6 +1,6 @@
 //! One event at a subsystem, entered from a seat. This module alone adds to the history and to the log of a seat.
 
-ghost use Rattle.std.specs.Prelude.{◌≡◌, ◌≢◌, ◌⊎◌, ◌+◌, ◌^◌, ◌<◌, ◌≤◌, length, vec_capacity, vec_len, Err, OnErr, OnOk, true};
+ghost use Rattle.std.specs.Prelude.{◌≡◌, ◌≢◌, ◌⊎◌, ◌+◌, ◌-◌, ◌^◌, ◌<◌, ◌≤◌, length, min, vec_capacity, vec_len, Err, IfErr, OnErr, OnOk, true};
 ghost use Rattle.chan_model.specs.declared.fault.Fault.TheVariants as fault_spec;
 ghost use Rattle.event_log.specs.Logs.{IsKept};
 ghost use Rattle.subsystem.specs.Keeping.{StaysSetUp, all_serials, answer_of};
@@ -23,11 +23,14 @@ use supply::{Supply, ensure_room};
 /// Makes room for one entry, beside a history and in the log of a seat.
 #[inline(always)]
 fn make_room<S: Supply>(supply: &mut S, by: &mut Vec<u16>, log: &mut Log) -> Result<(), Fault>
-    ensures refusal { OnErr result (result ≡ Err fault_spec.NoMemory) }
-    ensures spent { OnErr result ((vec_capacity by.old ≡ vec_len by.old) ⊎ (log.old.room ≡ 0)) }
+    ensures refusal { IfErr result (λ f. f ≡ fault_spec.NoMemory) }
+    ensures spent { OnErr result (min (vec_capacity by.old - vec_len by.old) log.old.room ≡ 0) }
     ensures made { OnOk result ((vec_len by.new < vec_capacity by.new) × (1 ≤ log.new.room)) }
-    ensures numbers { (by.new.items ≡ by.old.items) × (vec_capacity by.old ≤ vec_capacity by.new) }
-    ensures log { IsKept log.old log.new × (log.new.reply ≡ log.old.reply) }
+    ensures items { by.new.items ≡ by.old.items }
+    ensures len { vec_len by.new ≡ vec_len by.old }
+    ensures capacity { vec_capacity by.old ≤ vec_capacity by.new }
+    ensures log { IsKept log.old log.new }
+    ensures reply { log.new.reply ≡ log.old.reply }
     ensures given { OnOk result (S.refused supply.new ≡ S.refused supply.old) }
     ensures memory { OnErr result (S.refused supply.new ≡ true) }
 {
