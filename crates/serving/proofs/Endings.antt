@@ -15,22 +15,44 @@ use Rattle.channel_config.specs.Setup.{Setup}
 use Rattle.serving.specs.Acting.{Installed, IsAudited, IsOpening}
 use Rattle.serving.specs.Performing.{HasPerformed, HasStopped, PerformsTo}
 use Rattle.serving.specs.Racing.{IsRaced}
-use Rattle.serving.specs.Serving.{EndsBy, FailsAudit, PerformsAll, Races, RacesAfter, TellsAudit, ending_of, IsRaceOf, IsRun, IsRunOf, Serves}
+use Rattle.serving.specs.Serving.{EndsBy, FailsAudit, PerformsAll, Races, RacesAfter, TellsAudit, ending_of, IsRaceOf, IsRun, IsRunOf, IsRunOrRaced, RunsOrRaces, Serves, ServesRace, TellsNoMemory}
 
 -- what is so of the script that was read is so of a script of the text, where the text is known
-of_script : (input : Option (List ℕ)) (s : ScriptContents) (P : ScriptContents → Type 0) → IfSome input (λ text. IsScript false (lines_of text) s) → P s →
-    IfSome input (λ text. (t : ScriptContents) × IsScript false (lines_of text) t × P t)
-of_script None s P is p = tt
-of_script (Some text) s P is p = (s, is, p)
+of_script : (races : Bool) (input : Option (List ℕ)) (s : ScriptContents) (P : ScriptContents → Type 0) → IfSome input (λ text. IsScript races (lines_of text) s) → P s →
+    IfSome input (λ text. (t : ScriptContents) × IsScript races (lines_of text) t × P t)
+of_script races None s P is p = tt
+of_script races (Some text) s P is p = (s, is, p)
 
 pub serves_script : (short : Bool) (input : Option (List ℕ)) (s : ScriptContents) (held now : Seen) (e : Ending) → IfSome input (λ text. IsScript false (lines_of text) s) →
     IsRun short s held now e → Serves short input held now e
 serves_script short input s held now NotRead is h = absurd h.2
 serves_script short input s held now (NoMemory whole) is h = h
 serves_script short input s held now (Bad whole) is h = absurd h.2
-serves_script short input s held now (Done refused) is h = of_script input s (λ t. IsRun short t held now (Done refused)) is h
-serves_script short input s held now (Stopped refused) is h = of_script input s (λ t. IsRun short t held now (Stopped refused)) is h
-serves_script short input s held now (AuditFailed whole) is h = of_script input s (λ t. IsRun short t held now (AuditFailed whole)) is h
+serves_script short input s held now (Done refused) is h = of_script false input s (λ t. IsRun short t held now (Done refused)) is h
+serves_script short input s held now (Stopped refused) is h = of_script false input s (λ t. IsRun short t held now (Stopped refused)) is h
+serves_script short input s held now (AuditFailed whole) is h = of_script false input s (λ t. IsRun short t held now (AuditFailed whole)) is h
+
+-- and so with a race
+not_unread : (short : Bool) (race : Option RaceLine) (setup : Setup) (lines : List Line) (held now : Seen) → ¬ RunsOrRaces short race setup lines held now NotRead
+not_unread short None setup lines held now h = h.2
+not_unread short (Some line) setup lines held now h = h.2
+
+not_bad : (short : Bool) (race : Option RaceLine) (setup : Setup) (lines : List Line) (held now : Seen) (whole : Bool) → ¬ RunsOrRaces short race setup lines held now (Bad whole)
+not_bad short None setup lines held now whole h = h.2
+not_bad short (Some line) setup lines held now whole h = h.2
+
+no_room : (short : Bool) (race : Option RaceLine) (setup : Setup) (lines : List Line) (held now : Seen) (whole : Bool) → RunsOrRaces short race setup lines held now (NoMemory whole) → TellsNoMemory held now whole
+no_room short None setup lines held now whole h = h
+no_room short (Some line) setup lines held now whole h = h
+
+pub serves_race : (short : Bool) (input : Option (List ℕ)) (s : ScriptContents) (held now : Seen) (e : Ending) → IfSome input (λ text. IsScript true (lines_of text) s) →
+    IsRunOrRaced short s held now e → ServesRace short input held now e
+serves_race short input s held now NotRead is h = absurd (not_unread short s.race s.setup s.lines held now h)
+serves_race short input s held now (NoMemory whole) is h = no_room short s.race s.setup s.lines held now whole h
+serves_race short input s held now (Bad whole) is h = absurd (not_bad short s.race s.setup s.lines held now whole h)
+serves_race short input s held now (Done refused) is h = of_script true input s (λ t. IsRunOrRaced short t held now (Done refused)) is h
+serves_race short input s held now (Stopped refused) is h = of_script true input s (λ t. IsRunOrRaced short t held now (Stopped refused)) is h
+serves_race short input s held now (AuditFailed whole) is h = of_script true input s (λ t. IsRunOrRaced short t held now (AuditFailed whole)) is h
 
 -- a run, or a race, from an opening
 pub runs_from : (short : Bool) (setup : Setup) (lines : List Line) (held now : Seen) (e : Ending) (opening : Installed) → IsOpening setup opening → PerformsAll short opening lines held now e

@@ -111,3 +111,17 @@ starved_by (Err fault.Operand) h e = absurd (true≢false (sym e))
 
 pub unstarved_by : (r : Result Acted Fault) (h : List Entry) → is_starved (outcome_of r h) ≡ false → r ≢ Err fault.NoMemory
 unstarved_by r h e is = absurd (true≢false (sym (ap (λ (x : Result Acted Fault). is_starved (outcome_of x h)) is) ∙ e))
+
+abbrev fault_in : Result (Unit {0}) Fault → Fault
+fault_in (Ok done) = fault.NotNow
+fault_in (Err f) = f
+
+abbrev refusal : Fault → Result (Unit {0}) Fault
+refusal f = Err f
+
+abbrev no_report : Fault → Result Report Fault
+no_report f = Err f
+
+-- where a unit has no report, its turn is not refused for want of memory
+pub turn_has_memory : (devices : List AnyDevice) (place : ℕ) (kept : Option (Option Report)) (turn : Option UnitTurn) (f : Fault) → (turn_by devices place kept turn).report ≡ no_report f → refusal f ≢ refusal fault.NoMemory
+turn_has_memory devices place kept turn f is same = turn_lacks devices place kept turn (is ∙ ap no_report (ap fault_in same))

@@ -27,7 +27,7 @@ use std::thread::Threads;
 use streams::Sink;
 
 /// Performs a good script.
-#[tactic(auto, using(crate::proofs::Failing::no_run_fails, crate::proofs::Failing::no_memory_fails))]
+#[tactic(auto, using(crate::proofs::Failing::no_memory_fails))]
 pub fn run_script<M: CoreSupply, S: Sink>(
     alloc: Global,
     supply: &mut M,

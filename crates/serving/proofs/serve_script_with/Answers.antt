@@ -6,7 +6,7 @@ use Rattle.serving.proofs.serve_script_with.Goals as goal
 
 pub returns-in-Ok-clause-ends : goal.returns-in-Ok-clause-ends
 returns-in-Ok-clause-ends g c =
-    let short = g.M.CoreSupply.Supply.refused c.run_script.new.supply in
+    let short = g.M.Supply.refused c.run_script.new.supply in
     let held = g.S.Sink.seen c.args.sink.now in
     let now = g.S.Sink.seen c.run_script.new.sink in
     let ran : IsRun short c.in-Ok.script held now c.run_script.result =

@@ -7,7 +7,7 @@ use Rattle.serving.proofs.running.perform_race.Goals as goal
 pub returns-then-not-done : goal.returns-then-not-done
 returns-then-not-done g c =
     let done = c.perform-done in
-    let short = g.M.CoreSupply.Supply.refused done.new.supply in
+    let short = g.M.Supply.refused done.new.supply in
     let held = g.S.Sink.seen c.args.sink.now in
     let between = g.S.Sink.seen done.new.sink in
     let now = g.S.Sink.seen c.end.new.sink in
@@ -20,7 +20,7 @@ returns-then-not-done g c =
 pub returns : goal.returns
 returns g c =
     let done = c.perform-done in
-    let short = g.M.CoreSupply.Supply.refused done.new.supply in
+    let short = g.M.Supply.refused done.new.supply in
     let held = g.S.Sink.seen c.args.sink.now in
     let between = g.S.Sink.seen done.new.sink in
     let race = c.race-refused in
