@@ -1,4 +1,4 @@
-//! The instructions of CPUs.
+//! What is entered under the lock at once: any event, and the instructions of CPUs.
 
 ghost use Rattle.std.specs.Prelude.{◌≡◌, IfErr, MatchResult};
 ghost use Rattle.machine_model.specs.State.{State};
@@ -27,8 +27,22 @@ pub enum CpuInstruction {
 }
 
 impl<J: Naming, P: PathChoice + Drop> Guarded<J, P> {
-    /// A CPU executes an instruction: its event is entered from the seat. Where it is refused all is as before; it is refused
-    /// `NoMemory` only where there is no room for the entry, and otherwise as the machine refuses it.
+    /// One event is entered from the seat. Where it is refused all is as before; it is refused `NoMemory` only where there is no
+    /// room for the entry, and otherwise as the machine refuses it.
+    pub fn enter(&mut self, seat: &mut Seat<J>, event: &Event) -> Result<Reply, Fault>
+        ensures executes { Executes P.picks self.old seat.old event.now result self.new.value seat.new.value }
+        ensures starved { seat.new.starved ≡ spec.starved_after result seat.old.starved }
+        ensures executed { IsExecuted P.picks seat.old event.now result seat.new.value }
+        ensures logged { MatchResult result (λ reply. seat.new.value ≡ entered seat.old.value event.now reply) (λ _. seat.new.value ≡ seat.old.value) }
+        ensures refusal { IfErr result (λ f. (s : State) × MayStand seat.old.value.setup s × spec.MayRefuse s event.now f) }
+    {
+        self.stands(seat);
+        let mut answer = Err(Fault::NoMemory);
+        self.enter_to_with(&mut Given { refused: false }, seat, event, &mut answer);
+        answer
+    }
+
+    /// A CPU executes an instruction: its event is entered from the seat, as `enter` has it.
     pub fn execute(
         &mut self,
         seat: &mut Seat<J>,
@@ -41,11 +55,8 @@ impl<J: Naming, P: PathChoice + Drop> Guarded<J, P> {
         ensures logged { MatchResult result (λ reply. seat.new.value ≡ entered seat.old.value (spec.event_of cpu instruction) reply) (λ _. seat.new.value ≡ seat.old.value) }
         ensures refusal { IfErr result (λ f. (s : State) × MayStand seat.old.value.setup s × spec.MayRefuse s (spec.event_of cpu instruction) f) }
     {
-        self.stands(seat);
         let event = event_of(cpu, instruction);
-        let mut answer = Err(Fault::NoMemory);
-        self.enter_to_with(&mut Given { refused: false }, seat, &event, &mut answer);
-        answer
+        self.enter(seat, &event)
     }
 }
 

@@ -1,39 +1,24 @@
-use Rattle.std.proofs.Common.{subst}
+use Rattle.std.proofs.Common.{◌≡◌, subst}
+use Rattle.std.specs.Prelude.{IfErr, MatchResult}
 use Rattle.chan_events.specs.declared.event.Event.{Event}
-use Rattle.core_lock.specs.Entering.{event_of}
-use Rattle.core_lock.specs.Turns.{Executes}
-use Rattle.core_lock.proofs.Answering.{logged_by, refused_by}
-use Rattle.core_lock.proofs.Trying.{executes}
+use Rattle.machine_model.specs.State.{State}
+use Rattle.core_lock.specs.Entering.{MayRefuse, entered}
+use Rattle.core_lock.specs.Outside.{IsExecuted}
+use Rattle.core_lock.specs.Turns.{Executes, MayStand}
 use Rattle.core_lock.proofs.guarded.Guarded.execute.Goals as goal
 
 pub returns-clause-executes : goal.returns-clause-executes
 returns-clause-executes g c =
-    let e = c.enter_to_with.ensures in
-    subst (λ (x : Event). Executes g.P.PathChoice.picks c.args.self.now c.args.seat.now x c.enter_to_with.new.answer c.enter_to_with.new.self.value c.enter_to_with.new.seat.value) c.event_of-event.ensures
-    (executes g.P.PathChoice.picks c.args.self.now c.enter_to_with.new.self c.args.seat.now c.enter_to_with.new.seat c.event_of-event.result c.enter_to_with.new.answer (record {
-      step = e.step;
-      history = e.history;
-      by = e.by;
-      logged = e.logged;
-      ruled = e.ruled;
-      refusal = e.refusal;
-      spent = e.spent;
-      core_is = e.core;
-      seat_is = e.seat;
-    }))
+    subst (λ (x : Event). Executes g.P.PathChoice.picks c.args.self.now c.args.seat.now x c.enter.result c.enter.new.self.value c.enter.new.seat.value) c.event_of-event.ensures c.enter.ensures.executes
 
 pub returns-clause-executed : goal.returns-clause-executed
-returns-clause-executed g c = record {
-  core = c.args.self.now;
-  left = c.enter_to_with.new.self.value;
-  of_machine = c.stands.ensures;
-  executes = returns-clause-executes g c;
-}
+returns-clause-executed g c =
+    subst (λ (x : Event). IsExecuted g.P.PathChoice.picks c.args.seat.now x c.enter.result c.enter.new.seat.value) c.event_of-event.ensures c.enter.ensures.executed
 
 pub returns-clause-logged : goal.returns-clause-logged
 returns-clause-logged g c =
-    logged_by g.P.PathChoice.picks c.args.self.now c.args.seat.now (event_of c.args.cpu c.args.instruction) c.enter_to_with.new.answer c.enter_to_with.new.self.value c.enter_to_with.new.seat.value (returns-clause-executes g c)
+    subst (λ (x : Event). MatchResult c.enter.result (λ reply. c.enter.new.seat.value ≡ entered c.args.seat.now.value x reply) (λ _. c.enter.new.seat.value ≡ c.args.seat.now.value)) c.event_of-event.ensures c.enter.ensures.logged
 
 pub returns-clause-refusal : goal.returns-clause-refusal
 returns-clause-refusal g c =
-    refused_by g.P.PathChoice.picks c.args.self.now c.args.seat.now (event_of c.args.cpu c.args.instruction) c.enter_to_with.new.answer c.enter_to_with.new.self.value c.enter_to_with.new.seat.value c.stands.ensures (returns-clause-executes g c)
+    subst (λ (x : Event). IfErr c.enter.result (λ f. (s : State) × MayStand c.args.seat.now.value.setup s × MayRefuse s x f)) c.event_of-event.ensures c.enter.ensures.refusal
