@@ -11,6 +11,7 @@ ghost use Rattle.core_lock.specs.Turns as turn_spec;
 ghost use Rattle.core_lock.specs.Turns.{IsOwedBy, MayStand, WorksPath, WorksUnit};
 ghost use Rattle.core_lock.specs.Outside.{IsExecuted, IsPathTurn, IsUnitTurn};
 
+use chan_events::event::Event;
 use chan_events::reply::Reply;
 use chan_model::fault::Fault;
 use chan_model::names::Cpu;
@@ -46,6 +47,24 @@ impl<J: Naming, P: PathChoice + Drop> Machine<J, P> {
     {
         let Machine { lock } = self;
         Core::join(lock.into_inner(), stock)
+    }
+
+    /// One event is entered under the lock, as an operator or an act of a unit of itself: the seat's log grows by it and its
+    /// reply. Where it is refused, the log is as before; it is refused `NoMemory` only where there is no room for the entry, and
+    /// otherwise as the machine refuses it.
+    pub fn enter<R: Wait>(
+        &self,
+        rt: &R,
+        seat: &mut Seat<J>,
+        event: &Event,
+    ) -> Result<Reply, Fault>
+        // Only a refusal by the machine itself counts so.
+        ensures starved { seat.new.starved ≡ spec.starved_after result seat.old.starved }
+        ensures executed { IsExecuted P.picks seat.old event.now result seat.new.value }
+        ensures logged { MatchResult result (λ reply. seat.new.value ≡ entered seat.old.value event.now reply) (λ _. seat.new.value ≡ seat.old.value) }
+        ensures refusal { IfErr result (λ f. (s : State) × MayStand seat.old.value.setup s × spec.MayRefuse s event.now f) }
+    {
+        self.lock.lock(rt).enter(seat, event)
     }
 
     /// A CPU executes an instruction, under the lock: its log grows by the instruction and its reply. Where it is refused, the
