@@ -2,6 +2,7 @@
 
 mod crowd_tests;
 mod crowds;
+mod draws;
 mod gate_tests;
 mod growths_tests;
 mod hands;
@@ -13,4 +14,5 @@ mod replaying;
 mod seats_tests;
 mod stale_tests;
 mod stories;
+mod storm_tests;
 mod workers_tests;

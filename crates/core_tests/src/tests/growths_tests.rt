@@ -3,13 +3,16 @@
 ghost use Rattle.std.specs.Prelude.{◌≡◌, IfSome, None};
 
 use crate::tests::hands::{Hand, Task, hold};
+use crate::tests::machines::{WORD, enable, tsch};
 use crate::tests::stories::{Story, goes, setting};
-use chan_events::event::Event;
+use chan_events::event::{Event, Instruction};
 use chan_model::fault::Fault;
+use chan_model::names::Cpu;
 use core_lock::locked::{Core, Seat};
 use core_lock::parts::Parts;
 use core_parts::naming::Naming;
 use path_select::Rotating;
+use std::alloc::Global;
 use supply::Refusing;
 
 /// More requests than there are.
@@ -45,21 +48,86 @@ fn seat_in_turn<J: Naming>(core: &mut Core<J, Rotating>) -> Option<(Seat<J>, u64
     None
 }
 
-/// How many requests an event makes that is entered: it is refused each in turn, and then accepted. A list keeps the room that
-/// it was given before another was refused it.
-fn requests_of<J: Naming>(core: &mut Core<J, Rotating>, seat: &mut Seat<J>) -> Option<u64> {
+/// What is seen of a core: how many entries there are, and how many statuses were made and cleared, by the machine and by a seat.
+fn sight<J: Naming>(core: &Core<J, Rotating>, seat: &mut Seat<J>) -> Option<[u64; 5]> {
+    let subsystem = core.subsystem();
+    let serials = subsystem.serials(WORD)?;
+    let glance = seat.glance(WORD).ok()?;
+    Some([
+        subsystem.history().len() as u64,
+        serials.made,
+        serials.cleared,
+        glance.made,
+        glance.cleared,
+    ])
+}
+
+/// How many requests an event makes that is entered: it is refused each in turn, after which all is seen as before, and then
+/// accepted. A list keeps the room that it was given before another was refused it.
+fn requests_of<J: Naming>(
+    core: &mut Core<J, Rotating>,
+    seat: &mut Seat<J>,
+    event: &Event,
+) -> Option<u64> {
+    let before = sight(core, seat)?;
     for left in 0..MANY {
         let mut supply = granting(left);
-        match core.enter_with(&mut supply, seat, Event::SystemReset) {
+        match core.enter_with(&mut supply, seat, event.copy()) {
             Ok(_) => return if supply.refused { None } else { Some(left) },
             Err(fault) => {
-                if !supply.refused || !matches!(fault, Fault::NoMemory) {
+                let same = sight(core, seat) == Some(before);
+                if !supply.refused || !same || !matches!(fault, Fault::NoMemory) {
                     return None;
                 }
             }
         }
     }
     None
+}
+
+/// How many statuses are made and cleared while requests are refused: lists grow more than once.
+const STATUSES: u64 = 100;
+
+/// How many entries that makes: the subchannel is enabled, its path goes down, and each status is of a CLEAR SUBCHANNEL, of which no
+/// path tells the unit, a choice, and a TEST SUBCHANNEL.
+pub const STARVED: u64 = 2 + 3 * STATUSES;
+
+/// All these events are refused each of their requests in turn, and then accepted: of the entries and the bytes of the history and of
+/// the seat's log, and of the list of seats, each asks once or more.
+pub fn starves<J: Naming>(core: &mut Core<J, Rotating>, seat: &mut Seat<J>) -> bool {
+    match starved(core, seat) {
+        Some(requests) => {
+            requests >= 5
+                && sight(core, seat) == Some([STARVED, STATUSES, STATUSES, STATUSES, STATUSES])
+        }
+        None => false,
+    }
+}
+
+/// How many requests all of them make.
+fn starved<J: Naming>(core: &mut Core<J, Rotating>, seat: &mut Seat<J>) -> Option<u64> {
+    let cpu = Cpu::new(0)?;
+    let instruction = enable(WORD, false);
+    let mut requests = requests_of(core, seat, &Event::Execute { cpu, instruction })?;
+    let lost = requests_of(core, seat, &Event::PathDown { chpid: 0x10 })?;
+    requests = requests.saturating_add(lost);
+    let cycle = [
+        Event::Execute {
+            cpu,
+            instruction: Instruction::Csch { subchannel: WORD },
+        },
+        Event::Choose { subchannel: WORD },
+        Event::Execute {
+            cpu,
+            instruction: tsch(WORD),
+        },
+    ];
+    for _status in 0..STATUSES {
+        for event in &cycle {
+            requests = requests.saturating_add(requests_of(core, seat, event)?);
+        }
+    }
+    Some(requests)
 }
 
 /// A seat makes a request for the directory, one for each list of it, and one for the reader of its subchannel's cell. A refused
@@ -70,7 +138,11 @@ pub fn grows<J: Naming>(
     first: &mut Seat<J>,
     hands: &mut Vec<Hand<J>>,
 ) -> bool {
-    let entered = (requests_of(core, first), requests_of(core, first));
+    let event = Event::SystemReset;
+    let entered = (
+        requests_of(core, first, &event),
+        requests_of(core, first, &event),
+    );
     match seat_in_turn(core) {
         Some((seat, requests)) => {
             hold(hands, seat, Task::Looks) && requests == 4 && entered == (Some(3), Some(0))
@@ -85,17 +157,29 @@ fn each_request_of_a_core_and_of_a_seat_is_refused_in_turn(rt: HostRuntime) {
 }
 
 #[test]
-fn each_request_of_parts_is_refused_in_turn(rt: HostRuntime) {
-    let config = setting(rt.alloc(), Story::Grows);
+fn each_request_of_many_entries_is_refused_in_turn(rt: HostRuntime) {
+    assert!(rt; goes(&rt, rt.alloc(), Story::Starves));
+}
+
+/// How many requests the parts of a machine make, which are refused each in turn and then made; None where it is otherwise.
+fn requests_of_parts(alloc: Global) -> Option<u64> {
+    let config = setting(alloc, Story::Grows);
     for left in 0..MANY {
         let mut supply = granting(left);
-        match Parts::new_with(rt.alloc(), &mut supply, &config) {
-            Ok(_) => {
-                assert!(rt; !supply.refused && left > 3);
-                return;
-            }
-            Err(_) => assert!(rt; supply.refused),
+        let made = Parts::new_with(alloc, &mut supply, &config).is_ok();
+        if made == supply.refused {
+            return None;
+        }
+        if made {
+            return Some(left);
         }
     }
-    assert!(rt; false, "there are not so many requests");
+    None
+}
+
+/// One for the list of subchannels, one for the cell of the only one, one for the list of cells, and one for the directory that is
+/// shared.
+#[test]
+fn each_request_of_parts_is_refused_in_turn(rt: HostRuntime) {
+    assert!(rt; requests_of_parts(rt.alloc()) == Some(4));
 }

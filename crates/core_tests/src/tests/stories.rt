@@ -7,8 +7,9 @@ ghost use Rattle.subsystem.specs.Keeping.{all_serials};
 ghost use Rattle.core_parts.specs.Directory.{directory_of};
 
 use crate::tests::crowd_tests::{answered, are_enough, begins_crowd, crowds};
+use crate::tests::draws::config;
 use crate::tests::gate_tests::{begins_both, meets};
-use crate::tests::growths_tests::{granting, grows};
+use crate::tests::growths_tests::{STARVED, granting, grows, starves};
 use crate::tests::hands::{Hand, seats_of};
 use crate::tests::idle_tests::{are_beside, begins_idle, idles};
 use crate::tests::looking_tests::{begins_looks, has_made, looks};
@@ -16,6 +17,7 @@ use crate::tests::machines::{apart, config_of};
 use crate::tests::replaying::replays;
 use crate::tests::seats_tests::{answers, fills, leaves_out, sees};
 use crate::tests::stale_tests::{begins_late, comes_late, has_dropped, is_refused};
+use crate::tests::storm_tests::{are_all, has_stormed, storms};
 use crate::tests::workers_tests::{begins_work, has_roamed, roams};
 use channel_config::config::Config;
 use core_lock::locked::{Core, NotMade, Seat, audit};
@@ -50,8 +52,12 @@ pub enum Story {
     Roams,
     /// Many threads enter many events.
     Crowds,
+    /// A million events are drawn.
+    Storms,
     /// Requests for memory are refused.
     Grows,
+    /// The same of many entries.
+    Starves,
     /// A CPU executes beside a worker that has nothing to do.
     Idles,
 }
@@ -65,9 +71,11 @@ pub fn setting(alloc: Global, story: Story) -> Config {
         | Story::Fills
         | Story::Looks
         | Story::Grows
+        | Story::Starves
         | Story::Idles
         | Story::ComesLate => config_of(alloc, 1, &[0x10]),
         Story::Meets => apart(alloc, 2),
+        Story::Storms => config(alloc),
         Story::Roams => config_of(alloc, 1, &[0x10, 0x11, 0x12, 0x13, 0x14, 0x15, 0x16, 0x17]),
         Story::Crowds => config_of(alloc, 64, &[0x10, 0x11, 0x12, 0x13]),
     }
@@ -107,7 +115,9 @@ fn enters<J: Naming>(
         Story::Looks => begins_looks(core, first, hands),
         Story::Roams => begins_work(alloc, core, first, hands),
         Story::Crowds => begins_crowd(alloc, core, first, hands),
+        Story::Storms => storms(core, first),
         Story::Grows => grows(core, first, hands),
+        Story::Starves => starves(core, first),
         Story::Idles => begins_idle(core, hands),
     }
 }
@@ -193,7 +203,10 @@ fn is_shown<J: Naming>(
         && match story {
             Story::Roams => has_roamed(&history),
             Story::ComesLate => has_dropped(&history),
-            Story::Crowds => replays(alloc, setting(alloc, story), &history),
+            Story::Crowds | Story::Starves => replays(alloc, setting(alloc, story), &history),
+            Story::Storms => {
+                has_stormed(&history) && replays(alloc, setting(alloc, story), &history)
+            }
             _ => true,
         }
 }
@@ -206,9 +219,11 @@ fn are_due(story: Story, answered: u64, entries: Option<u64>) -> bool {
         Story::LeavesOut => entries.is_none(),
         Story::Fills => entries == Some(0),
         Story::Grows => entries == Some(2),
+        Story::Starves => entries == Some(STARVED),
         Story::Meets | Story::Roams | Story::ComesLate => entries.is_some(),
         Story::Looks => has_made(entries),
         Story::Crowds => are_enough(answered, entries),
+        Story::Storms => are_all(entries),
         Story::Idles => are_beside(answered, entries),
     }
 }
@@ -253,7 +268,7 @@ fn tell<J: Naming + Send + Sync, R: Threads + Wait + Sync>(
     ends(alloc, machine.into_core(stock), acted, story)
 }
 
-/// The same, on a core that is made of what was handed back.
+/// The same, on a core that is made of what was handed back, where one request is granted.
 fn make_and_tell<J: Naming + Send + Sync, R: Threads + Wait + Sync>(
     rt: &R,
     alloc: Global,
@@ -267,8 +282,9 @@ fn make_and_tell<J: Naming + Send + Sync, R: Threads + Wait + Sync>(
     requires serials { given.parts.serials ≡ all_serials given.subsystem.state }
 {
     let NotMade { subsystem, parts } = given;
-    match Core::<J, Rotating>::new(alloc, subsystem, parts) {
-        Ok(core) => tell(rt, alloc, core, story),
+    let mut supply = granting(1);
+    match Core::<J, Rotating>::new_with(alloc, &mut supply, subsystem, parts) {
+        Ok(core) => !supply.refused && tell(rt, alloc, core, story),
         Err(_) => false,
     }
 }

@@ -19,21 +19,33 @@ fn state(phase: HoldPhase) -> SubchannelState {
 }
 
 /// A subchannel of this name on this side of a unit, with two paths: 10 and 20 in hexadecimal.
-fn subchannel(set: u8, number: u16, unit: u16, side: Side, phase: HoldPhase) -> Subchannel {
+fn subchannel(
+    alloc: Global,
+    id: SubchannelId,
+    unit: u16,
+    side: Side,
+    phase: HoldPhase,
+) -> Result<Subchannel, AllocError> {
+    let wires = Wires::new(alloc)?;
     let mut paths = ChpidList::new();
     paths.push(0x10);
     paths.push(0x20);
-    Subchannel {
+    Ok(Subchannel {
         setup: SubchannelSetup {
-            id: SubchannelId { set, number },
+            id,
             device: 0x100,
             unit,
             side,
             paths,
         },
         state: state(phase),
-        wires: Wires::new(),
-    }
+        wires,
+    })
+}
+
+/// The name of a subchannel.
+fn named(set: u8, number: u16) -> SubchannelId {
+    SubchannelId { set, number }
 }
 
 /// A program is offered on the second path.
@@ -45,22 +57,32 @@ fn offered() -> HoldPhase {
 }
 
 /// The subchannels and one more.
-fn with(subs: Vec<Subchannel>, sub: Subchannel) -> Result<Vec<Subchannel>, AllocError> {
+fn with(
+    subs: Vec<Subchannel>,
+    sub: Result<Subchannel, AllocError>,
+) -> Result<Vec<Subchannel>, AllocError> {
     let mut subs = subs;
-    subs.push(sub)?;
+    subs.push(sub?)?;
     Ok(subs)
 }
 
 /// Four subchannels of two sets. Both sides of unit 0 and one of unit 2 are reached, and no subchannel reaches unit 1. The
 /// last has the name of the first, and reaches a unit beyond three units. The first and the third engage path 20.
 fn four(alloc: Global) -> Result<Vec<Subchannel>, AllocError> {
-    let subs = with(Vec::new(alloc), subchannel(0, 5, 2, Side::First, offered()))?;
-    let subs = with(subs, subchannel(1, 0, 0, Side::First, HoldPhase::Free))?;
-    let subs = with(subs, subchannel(1, 0xFF, 0, Side::Second, offered()))?;
-    with(
+    let away = HoldPhase::Away { number: 1 };
+    let subs = with(
+        Vec::new(alloc),
+        subchannel(alloc, named(0, 5), 2, Side::First, offered()),
+    )?;
+    let subs = with(
         subs,
-        subchannel(0, 5, 9, Side::Second, HoldPhase::Away { number: 1 }),
-    )
+        subchannel(alloc, named(1, 0), 0, Side::First, HoldPhase::Free),
+    )?;
+    let subs = with(
+        subs,
+        subchannel(alloc, named(1, 0xFF), 0, Side::Second, offered()),
+    )?;
+    with(subs, subchannel(alloc, named(0, 5), 9, Side::Second, away))
 }
 
 #[test]
@@ -115,14 +137,19 @@ fn the_subchannel_of_a_side_is_found(rt: HostRuntime) -> Result<(), AllocError> 
     Ok(())
 }
 
+/// The engine that a subchannel in this phase engages.
+fn engaged_in(alloc: Global, phase: HoldPhase) -> Result<Option<u8>, AllocError> {
+    let sub = subchannel(alloc, named(0, 5), 2, Side::First, phase)?;
+    Ok(engaged(&sub))
+}
+
 #[test]
 fn an_engine_is_engaged_while_some_subchannel_engages_it(
     rt: HostRuntime,
 ) -> Result<(), AllocError> {
-    assert!(rt;
-        engaged(&subchannel(0, 5, 2, Side::First, offered())) == Some(0x20)
-            && engaged(&subchannel(1, 0, 0, Side::First, HoldPhase::Free)) == None
-    );
+    let of_offered = engaged_in(rt.alloc(), offered())?;
+    let of_free = engaged_in(rt.alloc(), HoldPhase::Free)?;
+    assert!(rt; of_offered == Some(0x20) && of_free == None);
     let mut subs = four(rt.alloc())?;
     for want in [true, true, true, true, false] {
         let engines = Engines::of(&subs);

@@ -45,6 +45,7 @@ fn state(enabled: bool) -> SubchannelState {
 fn made(alloc: Global) -> Option<Lent> {
     let storage = Storage::new(alloc, 16).ok()?;
     let pending = Pending::new(alloc, 2).ok()?;
+    let wires = Wires::new(alloc).ok()?;
     let mut paths = ChpidList::new();
     paths.push(0x10);
     let setup = SubchannelSetup {
@@ -63,7 +64,7 @@ fn made(alloc: Global) -> Option<Lent> {
         sub: Subchannel {
             setup,
             state: state(true),
-            wires: Wires::new(),
+            wires,
         },
         pending,
         reports: Reports::new(),

@@ -8,6 +8,7 @@ use chan_model::signal::{Down, Up};
 use channel_config::names::SubchannelId;
 use channel_config::parts::{ChpidList, SubchannelSetup};
 use functions::blocks::pmcw_of;
+use std::alloc::{AllocError, Global};
 use subchannel::choosing::mark_lost_paths;
 use subchannel::losing::{go_down, lose_path, show_path};
 use subchannel::system_reset::reset_by_system;
@@ -39,14 +40,18 @@ fn waits(sub: &Subchannel, path: Path) -> bool {
 
 /// A subchannel in this state whose number 1 was drawn last, with two paths, 10 and 11 in hexadecimal, and signals on both. Its
 /// hold is in this phase, in single-path mode, and the first path of its program is 10.
-fn subchannel(state: SubchannelState, phase: HoldPhase) -> Subchannel {
+fn subchannel(
+    alloc: Global,
+    state: SubchannelState,
+    phase: HoldPhase,
+) -> Result<Subchannel, AllocError> {
+    let mut wires = Wires::new(alloc)?;
+    send(&mut wires, first_path());
+    send(&mut wires, second_path());
     let mut paths = ChpidList::new();
     paths.push(0x10);
     paths.push(0x11);
-    let mut wires = Wires::new();
-    send(&mut wires, first_path());
-    send(&mut wires, second_path());
-    Subchannel {
+    Ok(Subchannel {
         setup: SubchannelSetup {
             id: SubchannelId { set: 0, number: 0 },
             device: 0x100,
@@ -64,7 +69,7 @@ fn subchannel(state: SubchannelState, phase: HoldPhase) -> Subchannel {
             ..state
         },
         wires,
-    }
+    })
 }
 
 fn lose(sub: &mut Subchannel, chpid: u8) {
@@ -113,6 +118,25 @@ fn connected() -> HoldPhase {
     }
 }
 
+/// Whether a program in this state is over as its path is lost: these words of status and another status are made, and the signals
+/// on that path are lost, those on the other not.
+fn is_over_with_path(
+    alloc: Global,
+    state: &SubchannelState,
+    phase: HoldPhase,
+    words: [u32; 3],
+) -> bool {
+    let Ok(mut sub) = subchannel(alloc, *state, phase) else {
+        return false;
+    };
+    lose(&mut sub, 0x10);
+    is_same_words(&sub.state, words)
+        && is_reset(&sub, 9)
+        && is_over(&sub)
+        && !waits(&sub, first_path())
+        && waits(&sub, second_path())
+}
+
 #[test]
 fn a_program_is_over_as_its_path_is_lost(rt: HostRuntime) {
     let start = waiting([0x0080_4400, 0x1000, 0]);
@@ -124,26 +148,30 @@ fn a_program_is_over_as_its_path_is_lost(rt: HostRuntime) {
         begun: begun(rt.alloc(), 3, true),
         ..state_of_words([0x0080_0040, 0x1008, 0x0800_0004])
     };
-    for (state, phase, words) in [
-        (start, offered(), [0x0080_4017, 0x1000, 0x0002_0000]),
-        (active, connected(), [0x0080_4017, 0x1008, 0x0002_0004]),
-        (
-            active,
-            HoldPhase::Away { number: 1 },
-            [0x0080_4017, 0x1008, 0x0002_0004],
-        ),
-        (ended, connected(), [0x0080_0013, 0x1008, 0x0002_0004]),
-    ] {
-        let mut sub = subchannel(state, phase);
-        lose(&mut sub, 0x10);
-        assert!(rt;
-            is_same_words(&sub.state, words)
-                && is_reset(&sub, 9)
-                && is_over(&sub)
-                && !waits(&sub, first_path())
-                && waits(&sub, second_path())
-        );
-    }
+    let checked = [0x0080_4017, 0x1008, 0x0002_0004];
+    let away = HoldPhase::Away { number: 1 };
+    let offered_words = [0x0080_4017, 0x1000, 0x0002_0000];
+    let ended_words = [0x0080_0013, 0x1008, 0x0002_0004];
+    let of_start = is_over_with_path(rt.alloc(), &start, offered(), offered_words);
+    let of_active = is_over_with_path(rt.alloc(), &active, connected(), checked);
+    let of_away = is_over_with_path(rt.alloc(), &active, away, checked);
+    let of_ended = is_over_with_path(rt.alloc(), &ended, connected(), ended_words);
+    assert!(rt; of_start, "offered");
+    assert!(rt; of_active, "connected");
+    assert!(rt; of_away, "away");
+    assert!(rt; of_ended, "ended");
+}
+
+/// Whether a start in this state waits on as the path is lost by which the hold was offered before it.
+fn waits_behind_path(alloc: Global, start: &SubchannelState, phase: HoldPhase) -> bool {
+    let Ok(mut sub) = subchannel(alloc, *start, phase) else {
+        return false;
+    };
+    sub.state.hold.reset_path = Some(first_path());
+    lose(&mut sub, 0x10);
+    is_same_words(&sub.state, [0x0080_4400, 0x1000, 0])
+        && is_reset(&sub, 8)
+        && sub.state.waiting.is_some()
 }
 
 #[test]
@@ -154,24 +182,18 @@ fn a_start_behind_a_lost_path_waits_on(rt: HostRuntime) {
         path: first_path(),
     };
     for phase in [letting, HoldPhase::Reset { number: 1 }] {
-        let mut sub = subchannel(start, phase);
-        sub.state.hold.reset_path = Some(first_path());
-        lose(&mut sub, 0x10);
-        assert!(rt;
-            is_same_words(&sub.state, [0x0080_4400, 0x1000, 0])
-                && is_reset(&sub, 8)
-                && sub.state.waiting.is_some()
-        );
+        let waits_on = waits_behind_path(rt.alloc(), &start, phase);
+        assert!(rt; waits_on);
     }
 }
 
 #[test]
-fn a_path_that_no_program_is_on_goes_down_and_up(rt: HostRuntime) {
+fn a_path_that_no_program_is_on_goes_down_and_up(rt: HostRuntime) -> Result<(), AllocError> {
     let active = SubchannelState {
         begun: begun(rt.alloc(), 1, false),
         ..state_of_words([0x0080_40C0, 0x1000, 0])
     };
-    let mut sub = subchannel(active, connected());
+    let mut sub = subchannel(rt.alloc(), active, connected())?;
     down(&mut sub, 0x11);
     let kept = is_same_words(&sub.state, [0x0080_40C0, 0x1000, 0]);
     let works = is_on(&sub) && !is_over(&sub);
@@ -199,13 +221,14 @@ fn a_path_that_no_program_is_on_goes_down_and_up(rt: HostRuntime) {
             && over
             && other_gone.available == 0x40
     );
+    Ok(())
 }
 
 /// The subchannel in this state, with its hold offered, whose first path is down.
-fn with_first_down(state: SubchannelState) -> Subchannel {
-    let mut sub = subchannel(state, offered());
+fn with_first_down(alloc: Global, state: SubchannelState) -> Result<Subchannel, AllocError> {
+    let mut sub = subchannel(alloc, state, offered())?;
     show_path(&mut sub, 0x10, false);
-    sub
+    Ok(sub)
 }
 
 /// The state of the subchannel once its lost paths are marked at this choice.
@@ -216,15 +239,15 @@ fn marked(sub: Subchannel, choice: &Option<Path>) -> SubchannelState {
 }
 
 #[test]
-fn a_path_that_is_down_is_found_once(rt: HostRuntime) {
-    let halted = with_first_down(waiting([0x0080_6600, 0x1000, 0]));
+fn a_path_that_is_down_is_found_once(rt: HostRuntime) -> Result<(), AllocError> {
+    let halted = with_first_down(rt.alloc(), waiting([0x0080_6600, 0x1000, 0]))?;
     let halted = marked(halted, &None);
     assert!(rt;
         is_same_words(&halted, [0x0080_6600, 0x1000, 0])
             && mask_of_paths(halted.pmcw.operational) == 0xFF
     );
     for choice in [None, Some(second_path())] {
-        let start = with_first_down(waiting([0x0080_4400, 0x1000, 0]));
+        let start = with_first_down(rt.alloc(), waiting([0x0080_4400, 0x1000, 0]))?;
         let found = marked(start, &choice);
         assert!(rt;
             is_same_words(&found, [0x0081_4400, 0x1000, 0])
@@ -235,13 +258,14 @@ fn a_path_that_is_down_is_found_once(rt: HostRuntime) {
             pmcw: found.pmcw,
             ..waiting([0x0080_4400, 0x1000, 0])
         };
-        let known = marked(subchannel(again, offered()), &choice);
+        let known = marked(subchannel(rt.alloc(), again, offered())?, &choice);
         assert!(rt; is_same_words(&known, [0x0080_4400, 0x1000, 0]));
     }
+    Ok(())
 }
 
 #[test]
-fn a_reset_of_the_subsystem_keeps_what_is_up(rt: HostRuntime) {
+fn a_reset_of_the_subsystem_keeps_what_is_up(rt: HostRuntime) -> Result<(), AllocError> {
     let mut active = SubchannelState {
         begun: begun(rt.alloc(), 1, false),
         last_path: Some(first_path()),
@@ -251,7 +275,7 @@ fn a_reset_of_the_subsystem_keeps_what_is_up(rt: HostRuntime) {
     active.serials.made = 9;
     active.pmcw.parameter = 7;
     active.pmcw.multipath = true;
-    let mut sub = subchannel(active, connected());
+    let mut sub = subchannel(rt.alloc(), active, connected())?;
     show_path(&mut sub, 0x11, false);
     if sub.state.drawn < 9 {
         reset_by_system(&mut sub);
@@ -276,4 +300,5 @@ fn a_reset_of_the_subsystem_keeps_what_is_up(rt: HostRuntime) {
             && state.dedicated.is_none()
     );
     assert!(rt; waiting_on_both, "the signals are kept");
+    Ok(())
 }

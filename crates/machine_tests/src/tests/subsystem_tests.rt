@@ -18,7 +18,7 @@ use std::alloc::Global;
 use subsystem::subsystem::{NotMade, Subsystem};
 use supply::Refusing;
 
-const WORD: u32 = 0x0001_0000;
+pub const WORD: u32 = 0x0001_0000;
 
 fn one_path(alloc: Global) -> Config {
     let mut config = Config::new(alloc);
@@ -74,7 +74,8 @@ fn up() -> Event {
     }
 }
 
-fn script(alloc: Global) -> Vec<Event> {
+/// The events of a write, to the status that is not cleared yet.
+pub fn script(alloc: Global) -> Vec<Event> {
     let mut events = Vec::new(alloc);
     let _ = events.push(put(0x500, &[0, 0, 0, 0, 0, 0x80, 0xFF, 0, 0, 0, 0x10, 0]));
     let _ = events.push(put(0x1000, &[1, 0x20, 0, 4, 0, 0, 0x20, 0]));
@@ -116,7 +117,7 @@ fn script(alloc: Global) -> Vec<Event> {
 }
 
 /// A subsystem of one path that nothing happened to; None where there is no memory.
-fn opened(alloc: Global) -> Option<Subsystem<Rotating>> {
+pub fn opened(alloc: Global) -> Option<Subsystem<Rotating>> {
     Subsystem::new(alloc, one_path(alloc), Rotating {}).ok()
 }
 
@@ -290,7 +291,7 @@ fn a_unit_asks_for_its_turns(rt: HostRuntime) {
 }
 
 /// A subsystem after the first of the events of a write.
-fn begun(alloc: Global, count: usize) -> Option<Subsystem<Rotating>> {
+pub fn begun(alloc: Global, count: usize) -> Option<Subsystem<Rotating>> {
     let mut subsystem = opened(alloc)?;
     if performs(alloc, &mut subsystem, 0, count) {
         Some(subsystem)
@@ -299,13 +300,13 @@ fn begun(alloc: Global, count: usize) -> Option<Subsystem<Rotating>> {
     }
 }
 
-/// The requests for room as a subsystem of one unit and one subchannel is made: one for each of both, three for the tables of
-/// places, two for storage, one for the identifiers of the channel paths, three for what control units keep, and one for
-/// the requests for interruptions.
-const REQUESTS: u64 = 12;
+/// The requests for room as a subsystem of one unit and one subchannel is made: one for each of both, eighteen for the wires of the
+/// subchannel, each way one for eight of them and one for each, three for the tables of places, two for storage, one for the
+/// identifiers of the channel paths, three for what control units keep, and one for the requests for interruptions.
+const REQUESTS: u64 = 30;
 
 /// Grants so many requests, and no more.
-fn granting(left: u64) -> Refusing {
+pub fn granting(left: u64) -> Refusing {
     Refusing {
         left,
         refused: false,

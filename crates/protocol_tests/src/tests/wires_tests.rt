@@ -2,6 +2,7 @@
 
 use chan_model::names::Path;
 use chan_model::signal::{Down, Up};
+use std::alloc::AllocError;
 use wires::Wires;
 
 /// The signal that waits longest on the way down.
@@ -58,8 +59,8 @@ fn wrong_turn_down(wires: &mut Wires, path: Path) -> Option<u64> {
 }
 
 #[test]
-fn signals_arrive_in_order(rt: HostRuntime) {
-    let mut wires = Wires::new();
+fn signals_arrive_in_order(rt: HostRuntime) -> Result<(), AllocError> {
+    let mut wires = Wires::new(rt.alloc())?;
     let path = Path::new(7).unwrap();
     let wrong_room = wrong_room_down(&mut wires, path);
     let wrong_turn = wrong_turn_down(&mut wires, path);
@@ -68,6 +69,7 @@ fn signals_arrive_in_order(rt: HostRuntime) {
     assert!(rt; wrong_room == None, "room for eight");
     assert!(rt; wrong_turn == None, "each waits, and is first in its turn");
     assert!(rt; empty);
+    Ok(())
 }
 
 /// Whether a Busy of this number is sent up, where there is room.
@@ -113,12 +115,13 @@ fn wrong_round_up(wires: &mut Wires, path: Path) -> Option<u64> {
 }
 
 #[test]
-fn signals_go_round(rt: HostRuntime) {
-    let mut wires = Wires::new();
+fn signals_go_round(rt: HostRuntime) -> Result<(), AllocError> {
+    let mut wires = Wires::new(rt.alloc())?;
     let path = Path::new(3).unwrap();
     let wrong = wrong_round_up(&mut wires, path);
     drop(wires);
     assert!(rt; wrong == None, "room for each, and five before it is first");
+    Ok(())
 }
 
 /// Whether a Halt is sent down, where there is room.
@@ -131,8 +134,8 @@ fn sends_halt(wires: &mut Wires, path: Path) -> bool {
 }
 
 #[test]
-fn signals_are_lost_with_their_path(rt: HostRuntime) {
-    let mut wires = Wires::new();
+fn signals_are_lost_with_their_path(rt: HostRuntime) -> Result<(), AllocError> {
+    let mut wires = Wires::new(rt.alloc())?;
     let path = Path::new(0).unwrap();
     let room_up = sends_up(&mut wires, path, 5);
     let came_first = is_first_up(&mut wires, path, 5);
@@ -145,4 +148,5 @@ fn signals_are_lost_with_their_path(rt: HostRuntime) {
     drop(wires);
     assert!(rt; room_up && came_first && none_waits && room_again);
     assert!(rt; room_down && up_lost && down_lost);
+    Ok(())
 }
