@@ -29,30 +29,43 @@ fn each_read_fails_in_turn(rt: HostRuntime) {
     }
 }
 
-/// Lengths of pieces that a writer takes as each of its calls fails: a byte, a part of a line, a line.
-const PIECES: [usize; 3] = [1, 7, LONGEST];
-
-/// The same of the writer: for each length of a piece the whole text is written without a failure; for some, each call that it had
-/// fails, and a beginning of the text is written, the writer is not called again, and the status is 1, or 2 where the text is no
-/// script.
-#[test]
-fn each_write_fails_in_turn(rt: HostRuntime) {
-    let write = first_write(&rt);
-    let race = raced_write(&rt);
+/// The same of the writer, for pieces of so many bytes: the whole text is written without a failure; then each call that it had fails,
+/// and a beginning of the text is written, the writer is not called again, and the status is 1, or 2 where the text is no script. The
+/// length of the pieces and the call of which that is not so, call 0 being none; None where it is so of all.
+fn first_wrong<R: Threads + Wait + Sync + AllocGlobal>(
+    rt: &R,
+    shortest: usize,
+    longest: usize,
+) -> Option<(usize, u64)> {
+    let write = first_write(rt);
+    let race = raced_write(rt);
     for case in cases(&write, &race) {
-        for most in 1..=LONGEST {
-            let calls = case.calls(&rt, most, most).unwrap_or((0, 0));
-            assert!(rt; case.are_enough(most, calls), "{most} bytes a call");
-            if PIECES.contains(&most) {
-                for fails_at in 1..=calls.1 {
-                    assert!(rt;
-                        case.is_unwritten(&rt, most, fails_at),
-                        "{most} bytes, call {fails_at}"
-                    );
+        for most in shortest..=longest {
+            let calls = case.calls(rt, most, most).unwrap_or((0, 0));
+            if !case.are_enough(most, calls) {
+                return Some((most, 0));
+            }
+            for fails_at in 1..=calls.1 {
+                if !case.is_unwritten(rt, most, fails_at) {
+                    return Some((most, fails_at));
                 }
             }
         }
     }
+    None
+}
+
+/// Pieces of at most so many bytes are short.
+const SHORT: usize = 6;
+
+#[test]
+fn each_write_of_short_pieces_fails_in_turn(rt: HostRuntime) {
+    assert!(rt; first_wrong(&rt, 1, SHORT) == None);
+}
+
+#[test]
+fn each_write_of_longer_pieces_fails_in_turn(rt: HostRuntime) {
+    assert!(rt; first_wrong(&rt, SHORT + 1, LONGEST) == None);
 }
 
 /// How many lines are whole.

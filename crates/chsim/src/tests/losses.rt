@@ -33,7 +33,7 @@ fn resets(scene: &mut Scene, path: u8) {
 }
 
 /// A write by this path, from its start to its release, whose status begins so and has channel end and device end.
-fn writes_again<R: AllocGlobal>(rt: &R, scene: &mut Scene, marked: &'static [u8], path: u8) {
+pub fn writes_again<R: AllocGlobal>(rt: &R, scene: &mut Scene, marked: &'static [u8], path: u8) {
     for line in WRITE.puts {
         scene.says(line, b"done");
     }
