@@ -1,13 +1,19 @@
 //! Many threads enter many events, and nothing is lost.
 
-use crate::tests::crowds::instruction_of;
+use crate::tests::crowds::{
+    KINDS, LEAST, Mind, disturbance_of, glances_in_order, instruction_of, kind_of,
+};
 use crate::tests::hands::{Hand, Task, add_hand, add_worker};
 use crate::tests::machines::{accepts, accepts_all, enable, loads, word_of};
 use crate::tests::stories::{Story, goes};
+use chan_events::reply::Reply;
+use chan_model::fault::Fault;
 use chan_model::names::Cpu;
 use core_lock::locked::{Core, Seat};
 use core_parts::gate::Open;
 use core_parts::naming::Naming;
+use crossbeam_utils::Backoff;
+use event_log::history::History;
 use machine_lock::machine::Machine;
 use path_select::Rotating;
 use std::alloc::Global;
@@ -17,27 +23,25 @@ use std::thread;
 use std::thread::Threads;
 
 /// How many entries there are to be, at least.
-const ENTRIES: u64 = 100_000;
+const ENTRIES: u64 = 1_000_000;
 
 /// How many rounds a thread has at most.
 const ROUNDS: u64 = 10_000_000;
 
 /// How many turns a worker takes in a round.
-const TURNS: u64 = 4;
+const TURNS: u64 = 1;
 
 const CPUS: u32 = 16;
 
-const PATHS: u8 = 4;
+const PATHS: u8 = 8;
 
-const WORKERS: u32 = 4;
-
-const UNITS_EACH: u32 = 16;
+const WORKERS: u32 = 64;
 
 /// How many entries the first seat makes: a program lies in storage, and all subchannels are enabled.
-const FIRST: u64 = 3 + (WORKERS * UNITS_EACH) as u64;
+const FIRST: u64 = 3 + WORKERS as u64;
 
-/// How many hands there are: of the CPUs, of the workers of all channel paths and of all units.
-const HANDS: u64 = 24;
+/// How many hands there are: of the CPUs, of the workers of all channel paths and of all units, and of the operator.
+const HANDS: u64 = 89;
 
 /// What all hands did.
 #[derive(Drop)]
@@ -46,6 +50,8 @@ pub struct Done {
     entries: AtomicU64,
     /// How many hands had one answered.
     hands: AtomicU64,
+    /// Of how many kinds the operator had enough accepted.
+    kinds: AtomicU64,
 }
 
 impl Done {
@@ -54,58 +60,108 @@ impl Done {
         Done {
             entries: AtomicU64::new(0),
             hands: AtomicU64::new(0),
+            kinds: AtomicU64::new(0),
         }
     }
 
-    /// Whether there are entries enough, and each hand has one.
+    /// Whether there are entries enough, each hand has one, and the operator has enough of each kind.
     fn is_enough(&self) -> bool {
-        self.entries.load(Ordering::SeqCst) >= ENTRIES && self.hands.load(Ordering::SeqCst) >= HANDS
+        self.entries.load(Ordering::SeqCst) >= ENTRIES
+            && self.hands.load(Ordering::SeqCst) >= HANDS
+            && self.kinds.load(Ordering::SeqCst) >= KINDS as u64
+    }
+}
+
+/// How many entries an answer is.
+fn count_of(answer: &Result<Reply, Fault>) -> u64 {
+    match answer {
+        Ok(_) => 1,
+        Err(_) => 0,
     }
 }
 
 impl<J: Naming> Hand<J> {
-    /// What it does in a round: how many entries were answered.
-    fn round<R: Wait>(&mut self, rt: &R, machine: &Machine<J, Rotating>, round: u64) -> u64 {
+    /// What a CPU does in a round: an instruction, and then a glance at its subchannel. How many entries were answered, and whether
+    /// the glance is in order.
+    fn instructs<R: Wait>(
+        &mut self,
+        rt: &R,
+        machine: &Machine<J, Rotating>,
+        cpu: Cpu,
+        round: u64,
+        mind: &mut Mind,
+    ) -> (u64, bool) {
+        let instruction = instruction_of(cpu, round);
+        let answer = machine.instruct(rt, &mut self.seat, cpu, instruction);
+        let in_order = glances_in_order(&mut self.seat, cpu, round, mind);
+        (count_of(&answer), in_order)
+    }
+
+    /// What it does in a round: how many entries were answered, and whether what it saw is in order. Units roam.
+    fn round<R: Wait>(
+        &mut self,
+        rt: &R,
+        machine: &Machine<J, Rotating>,
+        round: u64,
+        mind: &mut Mind,
+    ) -> (u64, bool) {
         match &self.task {
             Task::Program(cpu) => {
-                let instruction = instruction_of(*cpu, round);
-                match machine.instruct(rt, &mut self.seat, *cpu, instruction) {
-                    Ok(_) => 1,
-                    Err(_) => 0,
-                }
+                let cpu = *cpu;
+                self.instructs(rt, machine, cpu, round, mind)
             }
-            _ => self.turns(rt, machine, &Open, false, TURNS),
+            Task::Operator => {
+                let event = disturbance_of(round);
+                let count = count_of(&machine.enter(rt, &mut self.seat, &event));
+                if count > 0 {
+                    mind.accepts(&event);
+                }
+                (count, true)
+            }
+            _ => (self.turns(rt, machine, &Open, true, TURNS), true),
         }
     }
 
-    /// A round, whose entries are counted, and so is the hand as its first entry is answered.
+    /// A round, whose entries are counted, and so is the hand as its first entry is answered. How many entries it made.
     fn counted<R: Wait>(
         &mut self,
         rt: &R,
         machine: &Machine<J, Rotating>,
         round: u64,
+        mind: &mut Mind,
         done: &Done,
-    ) {
-        let more = self.round(rt, machine, round);
+    ) -> u64 {
+        let (more, in_order) = self.round(rt, machine, round, mind);
+        self.well = self.well && in_order;
         if self.answered == 0 && more > 0 {
             done.hands.fetch_add(1, Ordering::SeqCst);
         }
         self.answered = self.answered.saturating_add(more);
         done.entries.fetch_add(more, Ordering::SeqCst);
+        let kinds = mind.kinds();
+        if kinds > 0 {
+            done.kinds.store(kinds, Ordering::SeqCst);
+        }
+        more
     }
 
-    /// Works until there are entries enough, and each hand has one: which thread comes to run is nobody's promise.
+    /// Works until there are entries enough, each hand has one and the operator many: which thread comes to run is nobody's promise. After a round that
+    /// made no entry it lets others go first.
     fn works<R: Wait>(&mut self, rt: &R, machine: &Machine<J, Rotating>, done: &Done) {
+        let mut mind = Mind::new();
+        let backoff = Backoff::new();
         for round in 0..ROUNDS {
             if done.is_enough() {
                 return;
             }
-            self.counted(rt, machine, round, done);
+            if self.counted(rt, machine, round, &mut mind, done) == 0 {
+                backoff.snooze();
+            }
         }
     }
 }
 
-/// The hands of all CPUs, of the workers of all channel paths and of all units.
+/// The hands of all CPUs, of the workers of all channel paths and of all units, and of the operator.
 fn add_all<J: Naming>(
     alloc: Global,
     core: &mut Core<J, Rotating>,
@@ -125,11 +181,11 @@ fn add_all<J: Naming>(
         }
     }
     for worker in 0..WORKERS {
-        if !add_worker(alloc, core, hands, UNITS_EACH * worker, UNITS_EACH) {
+        if !add_worker(alloc, core, hands, worker, 1) {
             return false;
         }
     }
-    true
+    add_hand(core, hands, Task::Operator)
 }
 
 /// A program lies in storage, and all subchannels are enabled.
@@ -140,8 +196,8 @@ fn begins<J: Naming>(core: &mut Core<J, Rotating>, seat: &mut Seat<J>) -> bool {
     if !accepts_all(core, seat, &loads()) {
         return false;
     }
-    for number in 0..WORKERS * UNITS_EACH {
-        if !accepts(core, seat, cpu, &[enable(word_of(number), false)]) {
+    for number in 0..WORKERS {
+        if !accepts(core, seat, cpu, &[enable(word_of(number), true)]) {
             return false;
         }
     }
@@ -173,10 +229,36 @@ pub fn are_enough(answered: u64, entries: Option<u64>) -> bool {
     counted >= ENTRIES && entries == Some(counted)
 }
 
-/// Whether each hand has an entry.
+/// Whether each hand has an entry, and all glances were in order.
 fn have_all<J: Naming>(hands: &[Hand<J>]) -> bool {
     for hand in hands {
-        if hand.answered == 0 {
+        if hand.answered == 0 || !hand.well {
+            return false;
+        }
+    }
+    true
+}
+
+/// How many events of each kind of an operator a history has.
+fn kinds_of(history: &History<'_>) -> [u64; KINDS] {
+    let mut kinds = [0u64; KINDS];
+    for number in 0..history.len() {
+        let Some(entry) = history.get(number) else {
+            return [0; KINDS];
+        };
+        if let Some(kind) = kind_of(&entry.event) {
+            if let Some(count) = kinds.get_mut(kind) {
+                *count = count.saturating_add(1);
+            }
+        }
+    }
+    kinds
+}
+
+/// Whether a history has many events of each kind of an operator.
+pub fn has_been_disturbed(history: &History<'_>) -> bool {
+    for count in kinds_of(history) {
+        if count < LEAST {
             return false;
         }
     }

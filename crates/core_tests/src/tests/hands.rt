@@ -24,6 +24,8 @@ pub enum Task {
     Units { first: u32, devices: Vec<AnyDevice> },
     /// Looks at the serials of a subchannel.
     Looks,
+    /// Paths that go down and come up, units that are restarted, and attentions.
+    Operator,
 }
 
 /// A seat that owes no call, and what it is for.
@@ -108,7 +110,7 @@ impl<J: Naming> Hand<J> {
         turns: u64,
     ) -> u64 {
         match &mut self.task {
-            Task::Program(_) | Task::Looks => 0,
+            Task::Program(_) | Task::Looks | Task::Operator => 0,
             Task::Path(chpid) => machine.path_worker(rt, &mut self.seat, *chpid, turns),
             Task::Units { first, devices } => {
                 unit_turns(

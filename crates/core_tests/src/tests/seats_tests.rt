@@ -6,12 +6,13 @@ use crate::tests::hands::{Hand, Task, add_hand};
 use crate::tests::machines::{WORD, accepts, accepts_all, enable, tsch};
 use crate::tests::stories::{Story, goes};
 use chan_events::event::{Event, Instruction};
+use chan_events::reply::Reply;
+use chan_model::answer::Answer;
 use chan_model::fault::Fault;
 use chan_model::names::Cpu;
 use core_lock::locked::{Core, MOST_SEATS, Seat};
 use core_parts::naming::Naming;
 use path_select::Rotating;
-use signal_places::answers::AnswerPlace;
 
 /// Makes a status and clears it from one seat.
 fn makes_and_clears<J: Naming>(core: &mut Core<J, Rotating>, seat: &mut Seat<J>) -> bool {
@@ -66,18 +67,26 @@ pub fn sees<J: Naming>(
     }
 }
 
-/// One place has the reply of an event that is accepted, and then the refusal of another.
+/// Whether the reply that is lent is condition code 3.
+fn has_code_three<J: Naming>(core: &Core<J, Rotating>) -> bool {
+    match core.subsystem().last_reply() {
+        Some(reply) => matches!(reply.own(), Reply::Code(Answer::Three)),
+        None => false,
+    }
+}
+
+/// The reply of an event that is accepted is lent from then on, also where another is refused.
 pub fn answers<J: Naming>(core: &mut Core<J, Rotating>, seat: &mut Seat<J>) -> bool {
     let Some(cpu) = Cpu::new(0) else {
         return false;
     };
-    let mut place = AnswerPlace::new();
+    let none = core.subsystem().last_reply().is_none();
     let instruction = tsch(WORD);
-    let tested = core.enter_place(seat, &Event::Execute { cpu, instruction }, &mut place);
-    let replied = tested.is_ok() && place.is_reply();
+    let tested = core.perform(seat, &Event::Execute { cpu, instruction });
+    let replied = tested.is_ok() && has_code_three(core);
     let subchannel = WORD + 1;
-    let refusal = core.enter_place(seat, &Event::Choose { subchannel }, &mut place);
-    replied && matches!(refusal, Err(Fault::NoSuchSubchannel)) && !place.is_reply()
+    let refusal = core.perform(seat, &Event::Choose { subchannel });
+    none && replied && matches!(refusal, Err(Fault::NoSuchSubchannel)) && has_code_three(core)
 }
 
 /// One seat more is made, and given up.
@@ -101,7 +110,7 @@ fn one_seat_sees_what_another_made_and_cleared(rt: HostRuntime) {
 }
 
 #[test]
-fn one_place_takes_a_reply_and_then_a_refusal(rt: HostRuntime) {
+fn the_last_reply_is_lent_and_stays_where_another_event_is_refused(rt: HostRuntime) {
     assert!(rt; goes(&rt, rt.alloc(), Story::Answers));
 }
 

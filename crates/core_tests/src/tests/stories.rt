@@ -6,7 +6,7 @@ ghost use Rattle.machine_model.specs.State.{opening_of};
 ghost use Rattle.subsystem.specs.Keeping.{all_serials};
 ghost use Rattle.core_parts.specs.Directory.{directory_of};
 
-use crate::tests::crowd_tests::{answered, are_enough, begins_crowd, crowds};
+use crate::tests::crowd_tests::{answered, are_enough, begins_crowd, crowds, has_been_disturbed};
 use crate::tests::draws::config;
 use crate::tests::gate_tests::{begins_both, meets};
 use crate::tests::growths_tests::{STARVED, granting, grows, starves};
@@ -36,7 +36,7 @@ use subsystem::subsystem::Subsystem;
 pub enum Story {
     /// A seat sees what another made and cleared.
     Sees,
-    /// One place takes the answers of two events.
+    /// A reply is lent, and an event refused after it.
     Answers,
     /// A seat is left out at the end.
     LeavesOut,
@@ -77,7 +77,7 @@ pub fn setting(alloc: Global, story: Story) -> Config {
         Story::Meets => apart(alloc, 2),
         Story::Storms => config(alloc),
         Story::Roams => config_of(alloc, 1, &[0x10, 0x11, 0x12, 0x13, 0x14, 0x15, 0x16, 0x17]),
-        Story::Crowds => config_of(alloc, 64, &[0x10, 0x11, 0x12, 0x13]),
+        Story::Crowds => config_of(alloc, 64, &[0x10, 0x11, 0x12, 0x13, 0x14, 0x15, 0x16, 0x17]),
     }
 }
 
@@ -203,9 +203,12 @@ fn is_shown<J: Naming>(
         && match story {
             Story::Roams => has_roamed(&history),
             Story::ComesLate => has_dropped(&history),
-            Story::Crowds | Story::Starves => replays(alloc, setting(alloc, story), &history),
+            Story::Starves => replays(alloc, setting(alloc, story), &history),
             Story::Storms => {
                 has_stormed(&history) && replays(alloc, setting(alloc, story), &history)
+            }
+            Story::Crowds => {
+                has_been_disturbed(&history) && replays(alloc, setting(alloc, story), &history)
             }
             _ => true,
         }

@@ -1,7 +1,6 @@
 //! Entries of two histories side by side.
 
 use chan_events::event::Event;
-use chan_events::reply::Reply;
 use chan_model::chunk::Chunk;
 use event_log::logs::Log;
 use std::alloc::Global;
@@ -13,7 +12,7 @@ fn add_put(log: &mut Log, address: u32, bytes: &[u8; 4]) {
         bytes: Chunk::of(bytes),
     };
     if log.make_room().is_ok() {
-        log.append(&event, &Reply::Done);
+        log.finish(&event);
     }
 }
 

@@ -2,7 +2,6 @@
 //! in turn.
 
 use chan_events::event::{Event, OtherInstruction};
-use chan_events::reply::Reply;
 use chan_model::fault::Fault;
 use chan_model::names::Cpu;
 use channel_config::config::Config;
@@ -56,7 +55,7 @@ fn logged(alloc: Global, count: usize) -> Option<usize> {
     let mut log = Log::new(alloc);
     for _entry in 0..count {
         log.make_room().ok()?;
-        log.append(&event, &Reply::Done);
+        log.finish(&event);
     }
     Some(log.len())
 }
