@@ -12,7 +12,7 @@ use Rattle.chan_model.specs.declared.report.Work.{Work}
 use Rattle.chan_model.specs.declared.report.Work.TheVariants as work
 use Rattle.core_parts.specs.Seats.{entry}
 use Rattle.device_models.specs.declared.any_device.AnyDevice.{AnyDevice}
-use Rattle.machine_model.specs.State.{IsAsBefore, Past}
+use Rattle.machine_model.specs.State.{Past}
 use Rattle.machine_model.specs.declared.state.UnitTurn.{UnitTurn}
 use Rattle.machine_model.specs.declared.state.UnitTurn.TheVariants.{Takes, Works, Away, Rests}
 use Rattle.script_rows.specs.declared.Action.{Action}
