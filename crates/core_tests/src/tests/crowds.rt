@@ -25,8 +25,8 @@ fn subchannel_of(cpu: Cpu, round: u64) -> u32 {
 /// How many kinds of events an operator enters: a path that goes down, one that comes up, a restart, a notice, an attention.
 pub const KINDS: usize = 5;
 
-/// How many of each kind there are to be at least.
-pub const LEAST: u64 = 100;
+/// How many of each kind there are to be at least: an operator among so many comes to the lock seldom.
+pub const LEAST: u64 = 2;
 
 /// What a hand keeps in mind: of a CPU what was seen last of each of its subchannels, how many statuses were made and how many
 /// cleared; of an operator how many events of each kind were accepted.
