@@ -46,5 +46,8 @@ fn each_request_before_a_race_is_refused_in_turn(rt: HostRuntime) {
     let (run, two) = requests_of(&rt, b"race 2 3 tsch 0").unwrap_or((0, 0));
     let (_, six) = requests_of(&rt, b"race 6 3 tsch 0").unwrap_or((0, 0));
     assert!(rt; run > LINES + 23, "{run}");
-    assert!(rt; two > LINES + 23 && six >= two + 16, "{two} {six}");
+    assert!(rt;
+        two > LINES + 23 && six >= two.saturating_add(16),
+        "{two} {six}"
+    );
 }
