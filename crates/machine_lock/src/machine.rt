@@ -52,12 +52,7 @@ impl<J: Naming, P: PathChoice + Drop> Machine<J, P> {
     /// One event is entered under the lock, as an operator or an act of a unit of itself: the seat's log grows by it and its
     /// reply. Where it is refused, the log is as before; it is refused `NoMemory` only where there is no room for the entry, and
     /// otherwise as the machine refuses it.
-    pub fn enter<R: Wait>(
-        &self,
-        rt: &R,
-        seat: &mut Seat<J>,
-        event: &Event,
-    ) -> Result<Reply, Fault>
+    pub fn enter<R: Wait>(&self, rt: &R, seat: &mut Seat<J>, event: &Event) -> Result<Reply, Fault>
         // Only a refusal by the machine itself counts so.
         ensures starved { seat.new.starved ≡ spec.starved_after result seat.old.starved }
         ensures executed { IsExecuted P.picks seat.old event.now result seat.new.value }

@@ -40,8 +40,6 @@ use Rattle.machine_model.specs.Turns.{Outcome, SubTurn, UpTurn, DownTurn, Shared
 use Rattle.machine_model.specs.Requests.{posted_all, requests_after, requests_dropped, settled}
 use Rattle.machine_model.specs.Sharing.{is_let_go, members_over, owing_after}
 use Rattle.machine_model.specs.Steps.{Does, Performs}
-use Rattle.signal_places.specs.Plain.{plain_outcome}
-use Rattle.signal_places.specs.declared.plain.PlainReply.{PlainReply}
 use Rattle.subchannel_steps.specs.Giving.{Gives, GivesSub, GivesStorage, GivesBoth, GivesShared, MayReturn, posted_since}
 use Rattle.machine_steps.proofs.Posted.{none-made, posted-still, posted-at}
 use Rattle.machine_steps.specs.Postable.{IsPostable}

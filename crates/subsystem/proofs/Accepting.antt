@@ -1,14 +1,13 @@
 -- One event and its answer, by what the machine did and what the log has.
-use Rattle.std.proofs.Common.{◌≡◌, ◌≤◌, refl, sym, ◌∙◌, ap, subst, ℕ, ◌+◌, arith, List, [], ◌∷◌, ◌++◌, Some, Result, Ok, Err, inl, inr}
+use Rattle.std.proofs.Common.{◌≡◌, ◌≤◌, refl, sym, ◌∙◌, ap, subst, ◌+◌, arith, [], ◌∷◌, ◌++◌, Ok, Err, inl, inr}
 use Rattle.chan_events.specs.declared.event.Event.{Event}
-use Rattle.chan_events.specs.declared.reply.Entry.{Entry}
 use Rattle.chan_events.specs.declared.reply.Reply.{Reply}
 use Rattle.chan_model.specs.declared.fault.Fault.{Fault}
 use Rattle.chan_model.specs.declared.fault.Fault.TheVariants.{NoMemory}
 use Rattle.event_log.specs.Logs.{last_reply}
 use Rattle.event_log.proofs.Growing.{last-pushed}
 use Rattle.machine_model.specs.Ruled.{GoesByRule}
-use Rattle.machine_model.specs.State.{IsSpent, Past, State}
+use Rattle.machine_model.specs.State.{IsSpent, Past}
 use Rattle.machine_model.specs.Steps.{Performs}
 use Rattle.path_select.specs.Choice.{Rule}
 use Rattle.subsystem.specs.Keeping.{BringsOrdered, IsStep, Rises, StaysSetUp, all_serials}

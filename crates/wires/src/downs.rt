@@ -54,10 +54,7 @@ impl Downs {
 
     /// A ring for each of the eight paths, where no signal waits. Each is made where it stays. It is refused only where the supply
     /// refuses a growth.
-    pub fn on_each_path<S: Supply>(
-        alloc: Global,
-        supply: &mut S,
-    ) -> Result<Vec<Downs>, AllocError>
+    pub fn on_each_path<S: Supply>(alloc: Global, supply: &mut S) -> Result<Vec<Downs>, AllocError>
         ensures made { IfOk result (λ rings. rings.items ≡ replicate 8 []) }
         ensures given { OnOk result (S.refused supply.new ≡ S.refused supply.old) }
         ensures memory { OnErr result (S.refused supply.new ≡ true) }

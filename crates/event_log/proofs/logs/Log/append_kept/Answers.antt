@@ -1,5 +1,4 @@
-use Rattle.std.proofs.Common.{◌∙◌, ap, ap₂, List, [], ◌∷◌, ◌++◌}
-use Rattle.chan_events.specs.declared.reply.Entry.{Entry}
+use Rattle.std.proofs.Common.{◌∙◌, ap, ap₂, [], ◌∷◌, ◌++◌}
 use Rattle.kept_events.specs.declared.entries.KeptEntry.{KeptEntry}
 use Rattle.kept_events.specs.Entries.{entry_in}
 use Rattle.event_log.specs.Logs.{entries_at}

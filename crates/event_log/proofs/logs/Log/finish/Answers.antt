@@ -1,5 +1,4 @@
-use Rattle.std.proofs.Common.{◌∙◌, ap, ap₂, subst, sym, List, ℕ, [], ◌∷◌, ◌++◌, rules}
-use Rattle.chan_events.specs.declared.reply.Entry.{Entry}
+use Rattle.std.proofs.Common.{◌∙◌, ap, ap₂, List, ℕ, [], ◌∷◌, ◌++◌, rules}
 use Rattle.kept_events.specs.Events.{event_bytes}
 use Rattle.kept_events.specs.declared.entries.KeptEntry.{KeptEntry}
 use Rattle.event_log.specs.Logs.{entries_at}
