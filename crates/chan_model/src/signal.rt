@@ -204,7 +204,6 @@ impl<S: Drop> Taken<S> {
 
 impl<B> Down<B> {
     /// The same signal over other bytes.
-    #[inline(always)]
     pub fn with<C: Drop>(&self, bytes: C) -> Down<C>
         ensures { result ≡ spec.map_down (λ _. bytes) self.now }
     {
@@ -268,7 +267,6 @@ impl<B> Down<B> {
 
 impl Down {
     /// Its bytes; most signals have none.
-    #[inline(always)]
     pub fn bytes(&self) -> Bytes<'_>
         ensures { result.bytes.now ≡ spec.down_bytes self.now }
     {
@@ -279,7 +277,6 @@ impl Down {
     }
 
     /// The same signal, its bytes lent.
-    #[inline(always)]
     pub fn lend(&self) -> LentDown<'_>
         ensures { spec.lent_down result ≡ self.now }
     {
@@ -287,7 +284,6 @@ impl Down {
     }
 
     /// The same signal, its bytes standing elsewhere.
-    #[inline(always)]
     pub fn keep(&self) -> KeptDown
         ensures kept { (rest : List ℕ) → spec.down_in result (spec.down_bytes self.now ++ rest) ≡ self.now }
         ensures length { spec.down_length result ≡ length (spec.down_bytes self.now) }
@@ -306,7 +302,6 @@ impl Down {
 
 impl<'a> Down<Bytes<'a>> {
     /// Its bytes; most signals have none.
-    #[inline(always)]
     pub fn bytes(&self) -> &'a [u8]
         ensures value { result.now ≡ spec.down_bytes (spec.lent_down self.now) }
         ensures bound { length result.now ≤ 256 }
@@ -325,7 +320,6 @@ impl<'a> Down<Bytes<'a>> {
     }
 
     /// The same signal, its bytes standing elsewhere.
-    #[inline(always)]
     pub fn keep(&self) -> KeptDown
         ensures kept { (rest : List ℕ) → spec.down_in result (spec.down_bytes (spec.lent_down self.now) ++ rest) ≡ spec.lent_down self.now }
         ensures length { spec.down_length result ≡ length (spec.down_bytes (spec.lent_down self.now)) }
@@ -337,7 +331,6 @@ impl<'a> Down<Bytes<'a>> {
 
 impl Down<ChunkLength> {
     /// How many bytes it has.
-    #[inline(always)]
     pub fn length(&self) -> usize
         ensures value { result ≡ spec.down_length self.now }
         ensures bound { result ≤ 256 }
@@ -349,7 +342,6 @@ impl Down<ChunkLength> {
     }
 
     /// The signal with the first of these bytes.
-    #[inline(always)]
     pub fn lend<'a>(&self, bytes: &'a [u8]) -> LentDown<'a>
         requires { spec.down_length self.now ≤ length bytes.now }
         ensures { spec.lent_down result ≡ spec.down_in self.now bytes.now }
@@ -370,7 +362,6 @@ impl Load {
     }
 
     /// The same load, its bytes lent.
-    #[inline(always)]
     pub fn lend(&self) -> Load<Bytes<'_>>
         ensures { spec.lent_load result ≡ self.now }
     {
@@ -390,7 +381,6 @@ impl Load {
 
 impl<'a> Load<Bytes<'a>> {
     /// Its bytes; a count has none.
-    #[inline(always)]
     pub fn bytes(&self) -> &'a [u8]
         ensures value { result.now ≡ spec.load_bytes (spec.lent_load self.now) }
         ensures bound { length result.now ≤ 256 }
@@ -412,7 +402,6 @@ impl<'a> Load<Bytes<'a>> {
     }
 
     /// The same load, its bytes standing elsewhere.
-    #[inline(always)]
     pub fn keep(&self) -> Load<ChunkLength>
         ensures kept { (rest : List ℕ) → spec.load_in result (spec.load_bytes (spec.lent_load self.now) ++ rest) ≡ spec.lent_load self.now }
         ensures length { spec.kept_length result ≡ length (spec.load_bytes (spec.lent_load self.now)) }
@@ -427,7 +416,6 @@ impl<'a> Load<Bytes<'a>> {
 
 impl Load<ChunkLength> {
     /// How many bytes stand elsewhere.
-    #[inline(always)]
     pub fn length(&self) -> usize
         ensures value { result ≡ spec.kept_length self.now }
         ensures bound { result ≤ 256 }
@@ -439,7 +427,6 @@ impl Load<ChunkLength> {
     }
 
     /// The load with the first of these bytes.
-    #[inline(always)]
     pub fn lend<'a>(&self, bytes: &'a [u8]) -> Load<Bytes<'a>>
         requires { spec.kept_length self.now ≤ length bytes.now }
         ensures { spec.lent_load result ≡ spec.load_in self.now bytes.now }
@@ -453,7 +440,6 @@ impl Load<ChunkLength> {
 
 impl<L> Up<L> {
     /// The same signal over another load.
-    #[inline(always)]
     pub fn with<M: Drop>(&self, load: M) -> Up<M>
         ensures { result ≡ spec.map_up (λ _. load) self.now }
     {
@@ -507,7 +493,6 @@ impl<L> Up<L> {
 
 impl Up {
     /// What it brings; of a signal that is no Data it is nothing.
-    #[inline(always)]
     pub fn load(&self) -> Load<Bytes<'_>>
         ensures { spec.lent_load result ≡ spec.load_of self.now }
     {
@@ -518,7 +503,6 @@ impl Up {
     }
 
     /// The same signal, its bytes lent.
-    #[inline(always)]
     pub fn lend(&self) -> LentUp<'_>
         ensures { spec.lent_up result ≡ self.now }
     {
@@ -526,7 +510,6 @@ impl Up {
     }
 
     /// The same signal, its bytes standing elsewhere.
-    #[inline(always)]
     pub fn keep(&self) -> KeptUp
         ensures kept { (rest : List ℕ) → spec.up_in result (spec.up_bytes self.now ++ rest) ≡ self.now }
         ensures length { spec.up_length result ≡ length (spec.up_bytes self.now) }
@@ -545,7 +528,6 @@ impl Up {
 
 impl<'a> Up<Load<Bytes<'a>>> {
     /// What it brings; of a signal that is no Data it is nothing.
-    #[inline(always)]
     pub fn load(&self) -> Load<Bytes<'a>>
         ensures { spec.lent_load result ≡ spec.load_of (spec.lent_up self.now) }
     {
@@ -556,7 +538,6 @@ impl<'a> Up<Load<Bytes<'a>>> {
     }
 
     /// Its bytes; most signals have none.
-    #[inline(always)]
     pub fn bytes(&self) -> &'a [u8]
         ensures value { result.now ≡ spec.up_bytes (spec.lent_up self.now) }
         ensures bound { length result.now ≤ 256 }
@@ -572,7 +553,6 @@ impl<'a> Up<Load<Bytes<'a>>> {
     }
 
     /// The same signal, its bytes standing elsewhere.
-    #[inline(always)]
     pub fn keep(&self) -> KeptUp
         ensures kept { (rest : List ℕ) → spec.up_in result (spec.up_bytes (spec.lent_up self.now) ++ rest) ≡ spec.lent_up self.now }
         ensures length { spec.up_length result ≡ length (spec.up_bytes (spec.lent_up self.now)) }
@@ -584,7 +564,6 @@ impl<'a> Up<Load<Bytes<'a>>> {
 
 impl Up<Load<ChunkLength>> {
     /// What it brings; of a signal that is no Data it is nothing.
-    #[inline(always)]
     fn load(&self) -> Load<ChunkLength>
         ensures { result ≡ spec.kept_load_of self.now }
     {
@@ -595,7 +574,6 @@ impl Up<Load<ChunkLength>> {
     }
 
     /// How many bytes it has.
-    #[inline(always)]
     pub fn length(&self) -> usize
         ensures value { result ≡ spec.up_length self.now }
         ensures bound { result ≤ 256 }
@@ -604,7 +582,6 @@ impl Up<Load<ChunkLength>> {
     }
 
     /// The signal with the first of these bytes.
-    #[inline(always)]
     pub fn lend<'a>(&self, bytes: &'a [u8]) -> LentUp<'a>
         requires { spec.up_length self.now ≤ length bytes.now }
         ensures { spec.lent_up result ≡ spec.up_in self.now bytes.now }

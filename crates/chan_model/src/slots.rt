@@ -8,7 +8,6 @@ use crate::signal::{Down, KeptDown, KeptUp, LentDown, LentUp, Up};
 use std::marker::Model;
 
 /// Writes bytes to the front; what stands behind them stays. Most signals have none.
-#[inline(always)]
 pub fn put_bytes(place: &mut [u8; CHUNK_BYTES], bytes: &[u8])
     requires { length bytes.now ≤ 256 }
     ensures { place.new ≡ bytes.now ++ drop (length bytes.now) place.old }
@@ -44,7 +43,6 @@ impl DownSlot {
     }
 
     /// Writes a signal there.
-    #[inline(always)]
     pub fn put(&mut self, signal: &LentDown<'_>)
         ensures { self.new ≡ lent_down signal.now }
     {
@@ -53,7 +51,6 @@ impl DownSlot {
     }
 
     /// The signal that stands there.
-    #[inline(always)]
     pub fn lend(&self) -> LentDown<'_>
         ensures { lent_down result ≡ self.now }
     {
@@ -87,7 +84,6 @@ impl UpSlot {
     }
 
     /// Writes a signal there.
-    #[inline(always)]
     pub fn put(&mut self, signal: &LentUp<'_>)
         ensures { self.new ≡ lent_up signal.now }
     {
@@ -96,7 +92,6 @@ impl UpSlot {
     }
 
     /// The signal that stands there.
-    #[inline(always)]
     pub fn lend(&self) -> LentUp<'_>
         ensures { lent_up result ≡ self.now }
     {
