@@ -123,7 +123,7 @@ either false b e = inr e
 sends-agrees : (u : UnitState) (side : Side) (phase : HoldPhase) (p : ℕ) (d : Down) → may_send phase p d ≡ true → IsAgreedAt phase u side → GoesToHolder (holding_of u) side d
 sends-agrees u side phase p (down.Command t n code room) e a = held-agrees u side phase t (path-held phase t p e) a
 sends-agrees u side phase p (down.Took t n s room) e a = held-agrees u side phase t (path-held phase t p e) a
-sends-agrees u side phase p (down.Give t c n s bytes) e a = held-agrees u side phase t (connected-held phase p t c e) a
+sends-agrees u side phase p (down.Give bytes t c n s) e a = held-agrees u side phase t (connected-held phase p t c e) a
 sends-agrees u side phase p (down.Halt t) e a =
     held-agrees u side phase t (elim (either (is_on_path phase t p) (is_away phase t) e) [ inl on ↦ path-held phase t p on | inr away ↦ away-held phase t away ]) a
 sends-agrees u side phase p (down.Select t) e a = absurd (cc e)
@@ -248,8 +248,8 @@ takes-agrees u side n h p (up.Accept t) may a = accept-agrees u side n h h.phase
 takes-agrees u side n h p (up.Busy t) may a = busy-agrees u side n h h.phase p t
 takes-agrees u side n h p (up.Leave t c) may a = leave-agrees u side n h h.phase p t c a
 takes-agrees u side n h p (up.Back t c) may a = back-agrees u side n h h.phase p t c may a
-takes-agrees u side n h p (up.Data t c m s load) may a =
-    quiet-agrees (holding_of u) side (up_of p (up.Data t c m s load)) (is_connected h.phase p t c && may)
+takes-agrees u side n h p (up.Data load t c m s) may a =
+    quiet-agrees (holding_of u) side (up_of p (up.Data load t c m s)) (is_connected h.phase p t c && may)
     (λ e. held-agrees u side h.phase t (connected-held h.phase p t c (and_parts (is_connected h.phase p t c) may e).0) a)
 takes-agrees u side n h p (up.End t m status more) may a =
     quiet-agrees (holding_of u) side (up_of p (up.End t m status more)) (is_on h.phase t && may)

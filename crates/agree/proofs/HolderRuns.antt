@@ -79,7 +79,7 @@ held-holder (own.Owned k t at) side one e = by (same_side k side) refl e
     by false s f = absurd (cc f)
 
 connection-said : (k : Holding) (side : Side) (t c : ℕ) (x : Up) → IsOfConnection t c x → IsHolder k side t → IsSaidRight k side x
-connection-said k side t c (up.Data w d n s load) its h = h ∙ ap (λ (m : ℕ). holder side m) (sym its.0)
+connection-said k side t c (up.Data load w d n s) its h = h ∙ ap (λ (m : ℕ). holder side m) (sym its.0)
 connection-said k side t c (up.End w n status more) its h = h ∙ ap (λ (m : ℕ). holder side m) (sym its)
 connection-said k side t c (up.Accept w) its h = absurd its
 connection-said k side t c (up.Busy w) its h = absurd its
@@ -237,7 +237,7 @@ answer-rises side s k d (up.Leave t c) ts right h = h
 answer-rises side s k d (up.Released t) ts right h = h
 answer-rises side s k d (up.Notice b) ts right h = h
 answer-rises side s k d (up.Back t c) ts right h = absurd right
-answer-rises side s k d (up.Data t c n m load) ts right h = absurd right
+answer-rises side s k d (up.Data load t c n m) ts right h = absurd right
 answer-rises side s k d (up.End t n status more) ts right h = absurd right
 answer-rises side s k d (up.Attn a status) ts right h = absurd right
 
@@ -248,7 +248,7 @@ said-rises side s k (up.Cleared r) ts right h = absurd right
 said-rises side s k (up.Released t) ts right h = absurd right
 said-rises side s k (up.Leave t c) ts right h = h
 said-rises side s k (up.Back t c) ts right h = h
-said-rises side s k (up.Data t c n m load) ts right h = h
+said-rises side s k (up.Data load t c n m) ts right h = h
 said-rises side s k (up.End t n status more) ts right h = h
 said-rises side s k (up.Notice b) ts right h = h
 said-rises side s k (up.Attn a status) ts right h = h
@@ -260,7 +260,7 @@ taken-rises side k (down.Select t) ts h = h
 taken-rises side k (down.Grant t c) ts h = h
 taken-rises side k (down.Refuse t c) ts h = h
 taken-rises side k (down.Took t n s room) ts h = h
-taken-rises side k (down.Give t c n s bytes) ts h = h
+taken-rises side k (down.Give bytes t c n s) ts h = h
 taken-rises side k (down.Halt t) ts h = h
 taken-rises side k (down.Release t) ts h = h
 taken-rises side k (down.Reset r b) ts h = h

@@ -4,9 +4,9 @@ use Rattle.std.specs.Prelude.{if◌then◌else◌}
 use Rattle.std.proofs.lemmas.Bool.{eqb-true, and_parts, ltb-true}
 use Rattle.chan_model.specs.declared.names.Side.{Side}
 use Rattle.chan_model.specs.declared.names.Side.TheVariants.{First, Second}
-use Rattle.chan_model.specs.declared.report.DeviceAnswer.{DeviceAnswer}
+use Rattle.chan_model.specs.Reports.{DeviceAnswer}
 use Rattle.chan_model.specs.declared.report.DeviceAnswer.TheVariants as answer
-use Rattle.chan_model.specs.declared.report.Report.{Report}
+use Rattle.chan_model.specs.Reports.{Report}
 use Rattle.chan_model.specs.Signals.{Down}
 use Rattle.chan_model.specs.declared.signal.Down.TheVariants as down
 use Rattle.chan_model.specs.Signals.{Load}
@@ -139,10 +139,10 @@ last-turns u side (Some x) t n s room e f =
     if-turns u side (down.Took t n s room) (s == x.sequence) (answered_load u x x.unanswered room) None (λ g. load-turns u side x x.unanswered t n s room e f)
     (none-turns u side (down.Took t n s room))
 
-given-turns : (u : UnitState) (side : Side) (x : Option AtHand) (t c n s : ℕ) (bytes : List ℕ) → IsHolder (holding_of u) side t → n ≡ u.last_command → Turns u side (down.Give t c n s bytes) (given_next u x s bytes)
-given-turns u side None t c n s bytes e f = none-turns u side (down.Give t c n s bytes)
+given-turns : (u : UnitState) (side : Side) (x : Option AtHand) (t c n s : ℕ) (bytes : List ℕ) → IsHolder (holding_of u) side t → n ≡ u.last_command → Turns u side (down.Give bytes t c n s) (given_next u x s bytes)
+given-turns u side None t c n s bytes e f = none-turns u side (down.Give bytes t c n s)
 given-turns u side (Some x) t c n s bytes e f =
-    if-turns u side (down.Give t c n s bytes) (s == x.sequence + 1) _ None (λ g. record { right = (e, f); next = refl }) (none-turns u side (down.Give t c n s bytes))
+    if-turns u side (down.Give bytes t c n s) (s == x.sequence + 1) _ None (λ g. record { right = (e, f); next = refl }) (none-turns u side (down.Give bytes t c n s))
 
 -- Got
 forgetting-turns : (u : UnitState) (side : Side) (x : Option Attention) (a : ℕ) → Turns u side (down.Got a) (forgetting u x side a)
@@ -201,12 +201,12 @@ works-turns u side p (down.Took t n s room) may =
     let both = and_parts (is_owner u.own side t) (n == u.last_command) e in
     last-turns u side u.at_hand t n s room (owner-holds u.own side t both.0) (eqb-true n u.last_command both.1))
     (none-turns u side (down.Took t n s room))
-works-turns u side p (down.Give t c n s bytes) may =
-    if-turns u side (down.Give t c n s bytes) (is_owner_on u.own side t c && (n == u.last_command)) _ None
+works-turns u side p (down.Give bytes t c n s) may =
+    if-turns u side (down.Give bytes t c n s) (is_owner_on u.own side t c && (n == u.last_command)) _ None
     (λ e.
     let both = and_parts (is_owner_on u.own side t c) (n == u.last_command) e in
     given-turns u side u.at_hand t c n s bytes (owner-holds u.own side t (owner-on u.own side t c both.0)) (eqb-true n u.last_command both.1))
-    (none-turns u side (down.Give t c n s bytes))
+    (none-turns u side (down.Give bytes t c n s))
 works-turns u side p (down.Halt t) may =
     if-turns u side (down.Halt t) (is_owner u.own side t && not u.halted) _ None
     (λ e. record { right = owner-holds u.own side t (and_parts (is_owner u.own side t) (not u.halted) e).0; next = refl })
@@ -222,7 +222,7 @@ takes-turns u side p (down.Command t n code room) may above = fresh-turns u side
 takes-turns u side p (down.Grant t c) may above = fresh-turns u side p (down.Grant t c) _ (works-turns u side p (down.Grant t c) may)
 takes-turns u side p (down.Refuse t c) may above = fresh-turns u side p (down.Refuse t c) _ (works-turns u side p (down.Refuse t c) may)
 takes-turns u side p (down.Took t n s room) may above = fresh-turns u side p (down.Took t n s room) _ (works-turns u side p (down.Took t n s room) may)
-takes-turns u side p (down.Give t c n s bytes) may above = fresh-turns u side p (down.Give t c n s bytes) _ (works-turns u side p (down.Give t c n s bytes) may)
+takes-turns u side p (down.Give bytes t c n s) may above = fresh-turns u side p (down.Give bytes t c n s) _ (works-turns u side p (down.Give bytes t c n s) may)
 takes-turns u side p (down.Halt t) may above = fresh-turns u side p (down.Halt t) _ (works-turns u side p (down.Halt t) may)
 takes-turns u side p (down.Release t) may above = fresh-turns u side p (down.Release t) _ (works-turns u side p (down.Release t) may)
 takes-turns u side p (down.Reset r b) may above = reset-turns u side p r b may above
@@ -247,7 +247,7 @@ takes-told u side p (down.Command t n code room) may e = told-if u p (down.Comma
 takes-told u side p (down.Grant t c) may e = told-if u p (down.Grant t c) (side_of u side).fresh (unit_works u side p (down.Grant t c) may) e
 takes-told u side p (down.Refuse t c) may e = told-if u p (down.Refuse t c) (side_of u side).fresh (unit_works u side p (down.Refuse t c) may) e
 takes-told u side p (down.Took t n s room) may e = told-if u p (down.Took t n s room) (side_of u side).fresh (unit_works u side p (down.Took t n s room) may) e
-takes-told u side p (down.Give t c n s bytes) may e = told-if u p (down.Give t c n s bytes) (side_of u side).fresh (unit_works u side p (down.Give t c n s bytes) may) e
+takes-told u side p (down.Give bytes t c n s) may e = told-if u p (down.Give bytes t c n s) (side_of u side).fresh (unit_works u side p (down.Give bytes t c n s) may) e
 takes-told u side p (down.Halt t) may e = told-if u p (down.Halt t) (side_of u side).fresh (unit_works u side p (down.Halt t) may) e
 takes-told u side p (down.Release t) may e = told-if u p (down.Release t) (side_of u side).fresh (unit_works u side p (down.Release t) may) e
 takes-told u side p (down.Reset r b) may e =

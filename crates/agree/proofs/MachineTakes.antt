@@ -74,7 +74,7 @@ pub machine-takes : (returns : Bool) (storage : Contents) (s : SubchannelState) 
 machine-takes returns storage s p (up.Accept t) e =
     let step : Option HoldStep = offer_accepted s.hold s.hold.phase t (goes_ahead s) in
     accept-taken s.hold s.hold.phase t (goes_ahead s) (if-step (came_of step).taken (accepted_by storage (record s { hold = hold_after s.hold step }) (hold_after s.hold step).phase (came_of step)) (ignoring s) refl e)
-machine-takes returns storage s p (up.Data t c n m load) e =
+machine-takes returns storage s p (up.Data load t c n m) e =
     let signal : DataSignal = record { path = p; number = t; connection = c; command = n; sequence = m } in
     with-true (is_connected s.hold.phase p t c) (if-met (is_connected s.hold.phase p t c) (move_data storage s s.begun signal load) (meets storage (ignoring s)) refl e)
 machine-takes returns storage s p (up.End t n status more) e =

@@ -245,7 +245,7 @@ let_go-made w e side (hold.Letting t q) its = tt
 sent-of_program : (phase : HoldPhase) (p : ℕ) (d : Down) → may_send phase p d ≡ true → IsOfProgram d
 sent-of_program phase p (down.Command t n code room) is = tt
 sent-of_program phase p (down.Took t n s room) is = tt
-sent-of_program phase p (down.Give t c n s bytes) is = tt
+sent-of_program phase p (down.Give bytes t c n s) is = tt
 sent-of_program phase p (down.Halt t) is = tt
 sent-of_program phase p (down.Select t) is = absurd (cc is)
 sent-of_program phase p (down.Grant t c) is = absurd (cc is)

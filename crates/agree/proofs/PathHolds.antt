@@ -44,7 +44,7 @@ offered-up ks old n q p (up.Accept t) le h = (h.0, λ e. absurd (omega (arith, e
 offered-up ks old n q p (up.Busy t) le h = tt
 offered-up ks old n q p (up.Leave t c) le h = h
 offered-up ks old n q p (up.Back t c) le h = h
-offered-up ks old n q p (up.Data t c m s load) le h = h
+offered-up ks old n q p (up.Data load t c m s) le h = h
 offered-up ks old n q p (up.End t m status more) le h = tt
 offered-up ks old n q p (up.Released t) le h = tt
 offered-up ks old n q p (up.Cleared r) le h = tt
@@ -197,7 +197,7 @@ sends-told : (side : Side) (u : UnitState) (l : Link) (k : SeenPaths) (p : ℕ) 
     ToldBy side u l k (hold_acts l.drawn l.hold (Sends (record { path = p; signal = d })))
 sends-told side u l k p (down.Command v n code room) e t new s = record { right = on-path l.hold.phase k.connected v p e t.connected; tied = hold-stays side u l new k _ t s refl refl tt }
 sends-told side u l k p (down.Took v n c room) e t new s = record { right = on-path l.hold.phase k.connected v p e t.connected; tied = hold-stays side u l new k _ t s refl refl tt }
-sends-told side u l k p (down.Give v c n m bytes) e t new s =
+sends-told side u l k p (down.Give bytes v c n m) e t new s =
     let on = on-connection l.hold.phase k.ways k.connected v p c e t.connected t.hold_way in record { right = on.0; tied = hold-stays side u l new k _ t s refl refl on.1 }
 sends-told side u l k p (down.Halt v) e t new s =
     record {
@@ -247,7 +247,7 @@ arrives ks k phase p (up.Accept t) e h = tt
 arrives ks k phase p (up.Busy t) e h = tt
 arrives ks k phase p (up.Leave t c) e h = ap (λ (w : List Connected). way_of w t c) e ∙ h
 arrives ks k phase p (up.Back t c) e h = ap (λ (w : List Connected). way_of w t c) e ∙ h
-arrives ks k phase p (up.Data t c m s load) e h = ap (λ (w : List Connected). way_of w t c) e ∙ h
+arrives ks k phase p (up.Data load t c m s) e h = ap (λ (w : List Connected). way_of w t c) e ∙ h
 arrives ks k phase p (up.End t m status more) e h = tt
 arrives ks k phase p (up.Released t) e h = tt
 arrives ks k phase p (up.Cleared r) e h = tt
@@ -420,7 +420,7 @@ notice-heard side u l new k p b false tie s = record { right = (tt, refl); tied 
 
 -- Data and End leave the hold
 data-heard : (side : Side) (u : UnitState) (l new : Link) (k : SeenPaths) (p t c n m : ℕ) (load : Load) (may b : Bool) → (is_connected l.hold.phase p t c && may) ≡ b → way_of k.ways t c ≡ Some p → Tied side u l k →
-    LinkStep l (still l.drawn l.hold) None new → Heard side u new k (record { path = p; signal = up.Data t c n m load }) b None
+    LinkStep l (still l.drawn l.hold) None new → Heard side u new k (record { path = p; signal = up.Data load t c n m }) b None
 data-heard side u l new k p t c n m load may true e way tie s =
     record {
       right = (way, (on-connection l.hold.phase k.ways k.connected t p c (and_parts (is_connected l.hold.phase p t c) may e).0 tie.connected tie.hold_way).0, tt);
@@ -451,7 +451,7 @@ takes-heard side u l new k p (up.Accept t) may h tie s = accept-heard side u l k
 takes-heard side u l new k p (up.Busy t) may h tie s = busy-heard side u l k p t l.hold.phase refl tie new s
 takes-heard side u l new k p (up.Leave t c) may h tie s = leave-heard side u l k p t c l.hold.phase refl h tie new s
 takes-heard side u l new k p (up.Back t c) may h tie s = back-heard side u l k p t c may l.hold.phase refl h tie new s
-takes-heard side u l new k p (up.Data t c n m load) may h tie s = data-heard side u l new k p t c n m load may (is_connected l.hold.phase p t c && may) refl h tie s
+takes-heard side u l new k p (up.Data load t c n m) may h tie s = data-heard side u l new k p t c n m load may (is_connected l.hold.phase p t c && may) refl h tie s
 takes-heard side u l new k p (up.End t n status more) may h tie s =
     end-heard side u l new k (record { path = p; signal = up.End t n status more }) t may (is_on l.hold.phase t && may) refl tt (λ y. y) refl tie s
 takes-heard side u l new k p (up.Released t) may h tie s = released-heard side u l k p t l.hold.phase refl tie new s

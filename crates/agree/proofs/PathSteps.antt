@@ -46,7 +46,7 @@ numbered-by e ts n p (up.Accept t) le h = let b : t ≤ e.floor = h.0 in omega (
 numbered-by e ts n p (up.Busy t) le h = tt
 numbered-by e ts n p (up.Leave t c) le h = tt
 numbered-by e ts n p (up.Back t c) le h = tt
-numbered-by e ts n p (up.Data t c m s load) le h = tt
+numbered-by e ts n p (up.Data load t c m s) le h = tt
 numbered-by e ts n p (up.End t m status more) le h = tt
 numbered-by e ts n p (up.Released t) le h = tt
 numbered-by e ts n p (up.Cleared r) le h = tt
@@ -90,7 +90,7 @@ reset-above rising w side p (down.Command t n code room) g there = tt
 reset-above rising w side p (down.Grant t c) g there = tt
 reset-above rising w side p (down.Refuse t c) g there = tt
 reset-above rising w side p (down.Took t n s room) g there = tt
-reset-above rising w side p (down.Give t c n s bytes) g there = tt
+reset-above rising w side p (down.Give bytes t c n s) g there = tt
 reset-above rising w side p (down.Halt t) g there = tt
 reset-above rising w side p (down.Release t) g there = tt
 reset-above rising w side p (down.Got a) g there = tt

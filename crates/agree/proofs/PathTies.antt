@@ -136,12 +136,12 @@ IsOfferOn phase t p = Unit {0}
 
 abbrev pub IsDownTied : List Connected → ℕ → Down → Type 0
 IsDownTied ks p (down.Grant t c) = way_of ks t c ≡ Some p
-IsDownTied ks p (down.Give t c n s bytes) = way_of ks t c ≡ Some p
+IsDownTied ks p (down.Give bytes t c n s) = way_of ks t c ≡ Some p
 IsDownTied ks p d = Unit {0}
 
 abbrev pub IsUpTied : List Connected → HoldPhase → ℕ → Up → Type 0
 IsUpTied ks phase p (up.Accept t) = (way_of ks t 0 ≡ Some p) × IsOfferOn phase t p
-IsUpTied ks phase p (up.Data t c n s load) = way_of ks t c ≡ Some p
+IsUpTied ks phase p (up.Data load t c n s) = way_of ks t c ≡ Some p
 IsUpTied ks phase p (up.Leave t c) = way_of ks t c ≡ Some p
 IsUpTied ks phase p (up.Back t c) = way_of ks t c ≡ Some p
 IsUpTied ks phase p x = Unit {0}
@@ -225,7 +225,7 @@ no-offer-up ks old phase p (up.Accept t) n h = (h.0, no-offer-on phase t p n)
 no-offer-up ks old phase p (up.Busy t) n h = tt
 no-offer-up ks old phase p (up.Leave t c) n h = h
 no-offer-up ks old phase p (up.Back t c) n h = h
-no-offer-up ks old phase p (up.Data t c m s load) n h = h
+no-offer-up ks old phase p (up.Data load t c m s) n h = h
 no-offer-up ks old phase p (up.End t m status more) n h = tt
 no-offer-up ks old phase p (up.Released t) n h = tt
 no-offer-up ks old phase p (up.Cleared r) n h = tt
@@ -275,7 +275,7 @@ more-down ks one p (down.Command t m code room) n h = tt
 more-down ks one p (down.Grant t c) n h = way-kept one ks t c p n h
 more-down ks one p (down.Refuse t c) n h = tt
 more-down ks one p (down.Took t m s room) n h = tt
-more-down ks one p (down.Give t c m s bytes) n h = way-kept one ks t c p n h
+more-down ks one p (down.Give bytes t c m s) n h = way-kept one ks t c p n h
 more-down ks one p (down.Halt t) n h = tt
 more-down ks one p (down.Release t) n h = tt
 more-down ks one p (down.Reset r b) n h = tt
@@ -286,7 +286,7 @@ more-up ks one phase p (up.Accept t) n h = (way-kept one ks t 0 p n h.0, h.1)
 more-up ks one phase p (up.Busy t) n h = tt
 more-up ks one phase p (up.Leave t c) n h = way-kept one ks t c p n h
 more-up ks one phase p (up.Back t c) n h = way-kept one ks t c p n h
-more-up ks one phase p (up.Data t c m s load) n h = way-kept one ks t c p n h
+more-up ks one phase p (up.Data load t c m s) n h = way-kept one ks t c p n h
 more-up ks one phase p (up.End t m status more) n h = tt
 more-up ks one phase p (up.Released t) n h = tt
 more-up ks one phase p (up.Cleared r) n h = tt

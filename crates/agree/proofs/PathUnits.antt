@@ -28,7 +28,7 @@ quiet-up ks phase p (up.Attn a status) q = tt
 quiet-up ks phase p (up.Accept t) q = absurd q
 quiet-up ks phase p (up.Leave t c) q = absurd q
 quiet-up ks phase p (up.Back t c) q = absurd q
-quiet-up ks phase p (up.Data t c n s load) q = absurd q
+quiet-up ks phase p (up.Data load t c n s) q = absurd q
 quiet-up ks phase p (up.End t n status more) q = absurd q
 quiet-up ks phase p (up.Released t) q = absurd q
 quiet-up ks phase p (up.Cleared r) q = absurd q
@@ -50,7 +50,7 @@ tells-met side u v l k p d (up.Attn a status) q is tie new s = record { right = 
 tells-met side u v l k p d (up.Accept t) q is tie new s = absurd q
 tells-met side u v l k p d (up.Leave t c) q is tie new s = absurd q
 tells-met side u v l k p d (up.Back t c) q is tie new s = absurd q
-tells-met side u v l k p d (up.Data t c n m load) q is tie new s = absurd q
+tells-met side u v l k p d (up.Data load t c n m) q is tie new s = absurd q
 tells-met side u v l k p d (up.End t n status more) q is tie new s = absurd q
 tells-met side u v l k p d (up.Released t) q is tie new s = absurd q
 tells-met side u v l k p d (up.Cleared r) q is tie new s = absurd q
@@ -72,7 +72,7 @@ frees-met side u v l k p d (up.Attn a status) q none le tie new s = absurd q
 frees-met side u v l k p d (up.Accept t) q none le tie new s = absurd q
 frees-met side u v l k p d (up.Leave t c) q none le tie new s = absurd q
 frees-met side u v l k p d (up.Back t c) q none le tie new s = absurd q
-frees-met side u v l k p d (up.Data t c n m load) q none le tie new s = absurd q
+frees-met side u v l k p d (up.Data load t c n m) q none le tie new s = absurd q
 frees-met side u v l k p d (up.End t n status more) q none le tie new s = absurd q
 
 changes-met : (side : Side) (u v : UnitState) (l : Link) (k : SeenPaths) (p : ℕ) (d : Down) → IsPlainDown d → (m : Option Connected) → m ≡ k.moving → ((new : Link) → LinkStep l (still l.drawn l.hold) None new → Tied side v new (record k { moving = m })) →
@@ -86,7 +86,7 @@ changes-met side u v l k p (down.Release t) q m e f new s h = record { right = t
 changes-met side u v l k p (down.Reset r b) q m e f new s h = record { right = tt; tied = subst (λ (y : Option Connected). Tied side v new (record k { moving = y })) e h }
 changes-met side u v l k p (down.Got a) q m e f new s h = record { right = tt; tied = subst (λ (y : Option Connected). Tied side v new (record k { moving = y })) e h }
 changes-met side u v l k p (down.Grant t c) q m e f new s h = absurd q
-changes-met side u v l k p (down.Give t c n m bytes) q w e f new s h = absurd q
+changes-met side u v l k p (down.Give bytes t c n m) q w e f new s h = absurd q
 
 -- where a program is at the unit
 held-way : (ks : List Connected) (f : ℕ) (h : Option Held) (one : Held) → h ≡ Some one → IsHeldWay ks (Some one) → IsLast ks (Some one) → one.number ≤ f → IsHeldWay ks h × IsLast ks h × IsMine f h
@@ -179,7 +179,7 @@ says side u v l k p (up.Attn a status) q is tie new s = record { right = tt; tie
 says side u v l k p (up.Accept t) q is tie new s = absurd q
 says side u v l k p (up.Leave t c) q is tie new s = absurd q
 says side u v l k p (up.Back t c) q is tie new s = absurd q
-says side u v l k p (up.Data t c n m load) q is tie new s = absurd q
+says side u v l k p (up.Data load t c n m) q is tie new s = absurd q
 says side u v l k p (up.End t n status more) q is tie new s = absurd q
 says side u v l k p (up.Released t) q is tie new s = absurd q
 says side u v l k p (up.Cleared r) q is tie new s = absurd q
@@ -189,7 +189,7 @@ moves-by m t p c e = subst (λ (x : Option Connected). IsConnected x t p) (sym e
 
 sends : (side : Side) (u v : UnitState) (l : Link) (k : SeenPaths) (t p c : ℕ) (x : Up) → IsOfConnection t c x → holds u side ≡ Some (held t (place.On p c)) → IsStill u v side → Tied side u l k →
     SaidBy side u l k (telling_by v p x)
-sends side u v l k t p c (up.Data w d n m load) its on is tie new s =
+sends side u v l k t p c (up.Data load w d n m) its on is tie new s =
     let old = old-way side u l k (held t (place.On p c)) tie on in
     let way : way_of k.ways w d ≡ Some p = ap (λ (a : ℕ). way_of k.ways a d) its.0 ∙ (ap (λ (a : ℕ). way_of k.ways t a) its.1 ∙ old.0) in
     record {

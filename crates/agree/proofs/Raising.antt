@@ -4,7 +4,7 @@ use Rattle.std.specs.Prelude.{if◌then◌else◌, nat_lt, not, ◌==◌, ◌&&�
 use Rattle.std.proofs.lemmas.Bool.{eqb-true}
 use Rattle.chan_model.specs.declared.names.Side.{Side}
 use Rattle.chan_model.specs.declared.names.Side.TheVariants.{First, Second}
-use Rattle.chan_model.specs.declared.report.Report.{Report}
+use Rattle.chan_model.specs.Reports.{Report}
 use Rattle.chan_model.specs.Signals.{Down}
 use Rattle.chan_model.specs.declared.signal.Down.TheVariants as down
 use Rattle.chan_model.specs.Signals.{Load}
@@ -129,7 +129,7 @@ works-raises u side p (down.Grant t c) may = granted-raises u u.own side p t c (
 works-raises u side p (down.Refuse t c) may = refused-raises u u.own side t c (omega arith)
 works-raises u side p (down.Took t n s room) may =
     raises-if u (is_owner u.own side t && (n == u.last_command)) (answered_last u u.at_hand s room) None (last-raises u u.at_hand s room (omega arith)) (none u)
-works-raises u side p (down.Give t c n s bytes) may =
+works-raises u side p (down.Give bytes t c n s) may =
     raises-if u (is_owner_on u.own side t c && (n == u.last_command)) (given_next u u.at_hand s bytes) None (given_next-raises u u.at_hand s bytes (omega arith)) (none u)
 works-raises u side p (down.Halt t) may = raises-if u (is_owner u.own side t && not u.halted) _ None (raises-alike u _ refl refl refl (omega arith)) (none u)
 works-raises u side p (down.Release t) may = raises-if u (is_owner u.own side t) _ None (raises-own u _ refl refl (omega arith) (omega arith)) (none u)
@@ -150,7 +150,7 @@ takes-raises u side p (down.Command t n code room) may = fresh-raises u side p (
 takes-raises u side p (down.Grant t c) may = fresh-raises u side p (down.Grant t c) may
 takes-raises u side p (down.Refuse t c) may = fresh-raises u side p (down.Refuse t c) may
 takes-raises u side p (down.Took t n s room) may = fresh-raises u side p (down.Took t n s room) may
-takes-raises u side p (down.Give t c n s bytes) may = fresh-raises u side p (down.Give t c n s bytes) may
+takes-raises u side p (down.Give bytes t c n s) may = fresh-raises u side p (down.Give bytes t c n s) may
 takes-raises u side p (down.Halt t) may = fresh-raises u side p (down.Halt t) may
 takes-raises u side p (down.Release t) may = fresh-raises u side p (down.Release t) may
 takes-raises u side p (down.Got a) may = fresh-raises u side p (down.Got a) may

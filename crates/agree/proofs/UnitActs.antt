@@ -5,9 +5,9 @@ use Rattle.std.proofs.lemmas.Bool.{and_parts}
 use Rattle.scsw_irb.specs.declared.status.DeviceStatus.{DeviceStatus}
 use Rattle.chan_model.specs.declared.names.Side.{Side}
 use Rattle.chan_model.specs.declared.names.Side.TheVariants.{First, Second}
-use Rattle.chan_model.specs.declared.report.DeviceAnswer.{DeviceAnswer}
+use Rattle.chan_model.specs.Reports.{DeviceAnswer}
 use Rattle.chan_model.specs.declared.report.DeviceAnswer.TheVariants as answer
-use Rattle.chan_model.specs.declared.report.Report.{Report}
+use Rattle.chan_model.specs.Reports.{Report}
 use Rattle.chan_model.specs.Signals.{Load}
 use Rattle.chan_model.specs.Signals.{Up}
 use Rattle.chan_model.specs.declared.signal.Up.TheVariants as up
@@ -32,7 +32,7 @@ use Rattle.agree.proofs.UnitPaths.{held, held_at, holds, floor_of, IsQuiet, sile
 
 -- of this program, and of this connection
 abbrev pub IsOfConnection : ℕ → ℕ → Up → Type 0
-IsOfConnection t c (up.Data u d n s load) = (u ≡ t) × (d ≡ c)
+IsOfConnection t c (up.Data load u d n s) = (u ≡ t) × (d ≡ c)
 IsOfConnection t c (up.End u n status more) = u ≡ t
 IsOfConnection t c x = ⊥
 
@@ -61,8 +61,8 @@ IsOn u side t p c = holds u side ≡ Some (held t (place.On p c))
 hand-still : (u : UnitState) (x : AtHand) (side : Side) → IsStill u (record u { at_hand = Some x }) side
 hand-still u x side = still-as u (record u { at_hand = Some x }) side refl refl refl
 
-data-acts : (side : Side) (u : UnitState) (p t c n s : ℕ) (x : AtHand) (load : Load) → IsOn u side t p c → Acts side u (telling_by (record u { at_hand = Some x }) p (up.Data t c n s load))
-data-acts side u p t c n s x load on = Sends t p c (up.Data t c n s load) _ (refl, refl) on (hand-still u x side)
+data-acts : (side : Side) (u : UnitState) (p t c n s : ℕ) (x : AtHand) (load : Load) → IsOn u side t p c → Acts side u (telling_by (record u { at_hand = Some x }) p (up.Data load t c n s))
+data-acts side u p t c n s x load on = Sends t p c (up.Data load t c n s) _ (refl, refl) on (hand-still u x side)
 
 absorbed-acts : (side : Side) (u : UnitState) (p t c : ℕ) (x : AtHand) (given : Option (List ℕ)) (count : ℕ) → IsOn u side t p c → Acts side u (report_absorbed u p t c x given count)
 absorbed-acts side u p t c x None count on = Idles

@@ -56,7 +56,7 @@ IsFreeing x = ⊥
 
 abbrev pub IsPlainDown : Down → Type 0
 IsPlainDown (down.Grant t c) = ⊥
-IsPlainDown (down.Give t c n s bytes) = ⊥
+IsPlainDown (down.Give bytes t c n s) = ⊥
 IsPlainDown d = Unit {0}
 
 abbrev pub silently : UnitState → Option UnitStep
@@ -75,7 +75,7 @@ pub data Takes (side : Side) (u : UnitState) (p : ℕ) : Down → Option UnitSte
   Ignores : (d : Down) → Takes side u p d None
   Tells : (d : Down) (v : UnitState) (x : Up) → IsQuiet x → IsStill u v side → Takes side u p d (telling_by v p x)
   Changes : (d : Down) (v : UnitState) → IsPlainDown d → IsStill u v side → Takes side u p d (silently v)
-  Gives : (t c n s q : ℕ) (bytes : List ℕ) (v : UnitState) → holds u side ≡ Some (held t (place.On q c)) → IsStill u v side → Takes side u p (down.Give t c n s bytes) (silently v)
+  Gives : (t c n s q : ℕ) (bytes : List ℕ) (v : UnitState) → holds u side ≡ Some (held t (place.On q c)) → IsStill u v side → Takes side u p (down.Give bytes t c n s) (silently v)
   Frees : (d : Down) (v : UnitState) (x : Up) → IsFreeing x → holds v side ≡ None → floor_of u side ≤ floor_of v side → Takes side u p d (telling_by v p x)
   Accepts : (t : ℕ) (v : UnitState) → floor_of u side < t → floor_of v side ≡ t → holds v side ≡ Some (held t (place.On p 0)) → Takes side u p (down.Select t) (telling_by v p (up.Accept t))
   Joins : (t c q : ℕ) (v : UnitState) → holds u side ≡ Some (held t (place.Ask q c)) → holds v side ≡ Some (held t (place.On q c)) → floor_of u side ≤ floor_of v side →
@@ -198,11 +198,11 @@ on-owner (own.Owned k v at) side t c e =
     on (place.Away d) h s n = absurd (cc h)
 
 given-takes : (side : Side) (u : UnitState) (p t c n s : ℕ) (bytes : List ℕ) (x : Option AtHand) → is_owner_on u.own side t c ≡ true →
-    Takes side u p (down.Give t c n s bytes) (given_next u x s bytes)
-given-takes side u p t c n s bytes None e = Ignores (down.Give t c n s bytes)
+    Takes side u p (down.Give bytes t c n s) (given_next u x s bytes)
+given-takes side u p t c n s bytes None e = Ignores (down.Give bytes t c n s)
 given-takes side u p t c n s bytes (Some x) e =
     let on = on-owner u.own side t c e in
-    if-takes side u p (down.Give t c n s bytes) (s == x.sequence + 1) _ None (λ h. Gives t c n s on.0 bytes _ on.1 (still-as u _ side refl refl refl)) (Ignores (down.Give t c n s bytes))
+    if-takes side u p (down.Give bytes t c n s) (s == x.sequence + 1) _ None (λ h. Gives t c n s on.0 bytes _ on.1 (still-as u _ side refl refl refl)) (Ignores (down.Give bytes t c n s))
 
 -- the others change no more than what is at hand, or free the device
 load-takes : (side : Side) (u : UnitState) (p : ℕ) (d : Down) (x : AtHand) (load : Option Load) (room : ℕ) → IsPlainDown d → Takes side u p d (answered_load u x load room)
@@ -233,9 +233,9 @@ works-takes side u p (down.Refuse t c) may = refused-takes side u u.own p t c (d
 works-takes side u p (down.Took t n s room) may =
     if-takes side u p (down.Took t n s room) (is_owner u.own side t && (n == u.last_command)) _ None
     (λ e. last-takes side u p (down.Took t n s room) u.at_hand s room tt) (Ignores (down.Took t n s room))
-works-takes side u p (down.Give t c n s bytes) may =
-    if-takes side u p (down.Give t c n s bytes) (is_owner_on u.own side t c && (n == u.last_command)) _ None
-    (λ e. given-takes side u p t c n s bytes u.at_hand (and_parts (is_owner_on u.own side t c) (n == u.last_command) e).0) (Ignores (down.Give t c n s bytes))
+works-takes side u p (down.Give bytes t c n s) may =
+    if-takes side u p (down.Give bytes t c n s) (is_owner_on u.own side t c && (n == u.last_command)) _ None
+    (λ e. given-takes side u p t c n s bytes u.at_hand (and_parts (is_owner_on u.own side t c) (n == u.last_command) e).0) (Ignores (down.Give bytes t c n s))
 works-takes side u p (down.Halt t) may =
     if-takes side u p (down.Halt t) (is_owner u.own side t && not u.halted) _ None
     (λ e. Changes (down.Halt t) _ tt (still-as u (record u { halted = true }) side refl refl refl)) (Ignores (down.Halt t))
@@ -280,7 +280,7 @@ takes-takes side u p (down.Command t n code room) may above = fresh-takes side u
 takes-takes side u p (down.Grant t c) may above = fresh-takes side u p (down.Grant t c) _ (works-takes side u p (down.Grant t c) may)
 takes-takes side u p (down.Refuse t c) may above = fresh-takes side u p (down.Refuse t c) _ (works-takes side u p (down.Refuse t c) may)
 takes-takes side u p (down.Took t n s room) may above = fresh-takes side u p (down.Took t n s room) _ (works-takes side u p (down.Took t n s room) may)
-takes-takes side u p (down.Give t c n s bytes) may above = fresh-takes side u p (down.Give t c n s bytes) _ (works-takes side u p (down.Give t c n s bytes) may)
+takes-takes side u p (down.Give bytes t c n s) may above = fresh-takes side u p (down.Give bytes t c n s) _ (works-takes side u p (down.Give bytes t c n s) may)
 takes-takes side u p (down.Halt t) may above = fresh-takes side u p (down.Halt t) _ (works-takes side u p (down.Halt t) may)
 takes-takes side u p (down.Release t) may above = fresh-takes side u p (down.Release t) _ (works-takes side u p (down.Release t) may)
 takes-takes side u p (down.Reset r b) may above = reset-takes side u p r b may above

@@ -25,7 +25,7 @@ IsUnheldOr k side = (is_held_by k.holder side ≡ false) ⊎ IsRestarted k side
 
 -- what is taken
 abbrev pub ComesOfHolder : Holding → Side → Up → Type 0
-ComesOfHolder k side (up.Data t c n s load) = IsHolderOr k side t
+ComesOfHolder k side (up.Data load t c n s) = IsHolderOr k side t
 ComesOfHolder k side (up.End t n status more) = IsHolderOr k side t
 ComesOfHolder k side (up.Leave t c) = IsHolderOr k side t
 ComesOfHolder k side signal = Unit {0}
@@ -44,7 +44,7 @@ abbrev pub GoesToHolder : Holding → Side → Down → Type 0
 GoesToHolder k side (down.Select t) = IsUnheldOr k side
 GoesToHolder k side (down.Command t n code room) = IsHolderOr k side t
 GoesToHolder k side (down.Took t n s room) = IsHolderOr k side t
-GoesToHolder k side (down.Give t c n s bytes) = IsHolderOr k side t
+GoesToHolder k side (down.Give bytes t c n s) = IsHolderOr k side t
 GoesToHolder k side (down.Halt t) = IsHolderOr k side t
 GoesToHolder k side (down.Release t) = IsHolderOr k side t
 GoesToHolder k side signal = Unit {0}

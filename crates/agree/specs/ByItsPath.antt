@@ -178,7 +178,7 @@ IsNumber (Some k) t = k.number ≡ t
 
 -- Data, Leave and Back arrive, taken or not, by the path that the unit asked for their connection by.
 abbrev pub ArrivesRight : SeenPaths → ℕ → Up → Type 0
-ArrivesRight k p (up.Data t c n s load) = way_of k.ways t c ≡ Some p
+ArrivesRight k p (up.Data load t c n s) = way_of k.ways t c ≡ Some p
 ArrivesRight k p (up.Leave t c) = way_of k.ways t c ≡ Some p
 ArrivesRight k p (up.Back t c) = way_of k.ways t c ≡ Some p
 ArrivesRight k p signal = Unit {0}
@@ -190,7 +190,7 @@ abbrev pub ComesRight : SeenPaths → ℕ → Up → Type 0
 ComesRight k p (up.Accept t) = k.offered ≡ Some (record { number = t; path = p })
 ComesRight k p (up.Busy t) = IsOffered k.offered t
 ComesRight k p (up.Back t c) = k.answered < c
-ComesRight k p (up.Data t c n s load) = k.connected ≡ Some (linked t p c)
+ComesRight k p (up.Data load t c n s) = k.connected ≡ Some (linked t p c)
 ComesRight k p (up.End t n status more) = IsNumber k.connected t
 ComesRight k p (up.Leave t c) = k.connected ≡ Some (linked t p c)
 ComesRight k p signal = Unit {0}
@@ -205,7 +205,7 @@ abbrev pub GoesRight : Option Connected → ℕ → Down → Type 0
 GoesRight k p (down.Select t) = k ≡ None
 GoesRight k p (down.Command t n code room) = IsConnected k t p
 GoesRight k p (down.Took t n s room) = IsConnected k t p
-GoesRight k p (down.Give t c n s bytes) = k ≡ Some (linked t p c)
+GoesRight k p (down.Give bytes t c n s) = k ≡ Some (linked t p c)
 GoesRight k p (down.Halt t) = IsHaltOn k t p
 GoesRight k p (down.Release t) = IsConnected k t p
 GoesRight k p signal = Unit {0}
@@ -224,13 +224,13 @@ AnswersRight k x (Some sent) = IsAnswerRight k x sent.path sent.signal
 
 -- a Give that the unit takes came by the path on which its device moves data, under its connection
 abbrev pub TakesRight : Option Connected → ℕ → Down → Type 0
-TakesRight m p (down.Give t c n s bytes) = m ≡ Some (linked t p c)
+TakesRight m p (down.Give bytes t c n s) = m ≡ Some (linked t p c)
 TakesRight m p signal = Unit {0}
 
 -- what the unit sends for its device goes by the path on which this moves data, and so does a Leave; it asks for another path where it
 -- moves none
 abbrev pub SendsRight : Option Connected → ℕ → Up → Type 0
-SendsRight m p (up.Data t c n s load) = m ≡ Some (linked t p c)
+SendsRight m p (up.Data load t c n s) = m ≡ Some (linked t p c)
 SendsRight m p (up.End t n status more) = IsConnected m t p
 SendsRight m p (up.Leave t c) = m ≡ Some (linked t p c)
 SendsRight m p (up.Back t c) = m ≡ None

@@ -112,7 +112,7 @@ IsTakenRight k side (down.Command t n code room) = IsHolder k side t × (n ≡ k
 IsTakenRight k side (down.Grant t c) = IsHolder k side t
 IsTakenRight k side (down.Refuse t c) = IsHolder k side t
 IsTakenRight k side (down.Took t n s room) = IsHolder k side t × (n ≡ k.command)
-IsTakenRight k side (down.Give t c n s bytes) = IsHolder k side t × (n ≡ k.command)
+IsTakenRight k side (down.Give bytes t c n s) = IsHolder k side t × (n ≡ k.command)
 IsTakenRight k side (down.Halt t) = IsHolder k side t
 IsTakenRight k side (down.Release t) = ⊥
 IsTakenRight k side (down.Reset r b) = ⊥
@@ -149,7 +149,7 @@ IsTold false sent = ⊥
 
 -- what the unit sends of itself, or for its device, is of the program that holds it; an Attn where none does, and not after a restart
 abbrev pub IsSaidRight : Holding → Side → Up → Type 0
-IsSaidRight k side (up.Data t c n s load) = IsHolder k side t
+IsSaidRight k side (up.Data load t c n s) = IsHolder k side t
 IsSaidRight k side (up.End t n status more) = IsHolder k side t
 IsSaidRight k side (up.Leave t c) = IsHolder k side t
 IsSaidRight k side (up.Back t c) = IsHolder k side t

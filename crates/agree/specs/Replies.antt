@@ -33,7 +33,7 @@ told_up side (Some x) = reply.SentUp side x
 -- End where its program is connected, by whatever path it came; and where the program waits for it, as `may` says. All else is
 -- taken as the table of the hold says.
 abbrev pub is_taken : HoldState → ℕ → Up → Bool → Bool
-is_taken h p (up.Data t c n s load) may = hold_table.is_connected h.phase p t c && may
+is_taken h p (up.Data load t c n s) may = hold_table.is_connected h.phase p t c && may
 is_taken h p (up.End t n status more) may = hold_table.is_on h.phase t && may
 is_taken h p signal may = (hold_table.came_of (hold_table.hold_takes h p signal may)).taken
 

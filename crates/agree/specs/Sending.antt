@@ -22,6 +22,6 @@ is_away phase u = false
 abbrev pub may_send : HoldPhase → ℕ → Down → Bool
 may_send phase p (down.Command t n code room) = is_on_path phase t p
 may_send phase p (down.Took t n s room) = is_on_path phase t p
-may_send phase p (down.Give t c n s bytes) = is_connected phase p t c
+may_send phase p (down.Give bytes t c n s) = is_connected phase p t c
 may_send phase p (down.Halt t) = is_on_path phase t p || is_away phase t
 may_send phase p signal = false

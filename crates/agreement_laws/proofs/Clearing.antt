@@ -4,8 +4,8 @@ use Rattle.std.specs.Prelude.{if◌then◌else◌}
 use Rattle.chan_model.specs.declared.names.Side.{Side}
 use Rattle.chan_model.specs.declared.hold_state.HoldPhase.{HoldPhase}
 use Rattle.chan_model.specs.declared.hold_state.HoldPhase.TheVariants as hold
-use Rattle.chan_model.specs.declared.report.Report.{Report}
-use Rattle.chan_model.specs.declared.report.DeviceAnswer.{DeviceAnswer}
+use Rattle.chan_model.specs.Reports.{Report}
+use Rattle.chan_model.specs.Reports.{DeviceAnswer}
 use Rattle.chan_model.specs.declared.report.DeviceAnswer.TheVariants as answer
 use Rattle.chan_model.specs.Signals.{Load}
 use Rattle.chan_model.specs.declared.signal.OnPath.{OnPath}
@@ -92,7 +92,7 @@ works-other u side p (down.Command t n code room) may = other-if (is_owner u.own
 works-other u side p (down.Grant t c) may = granted-other u u.own side p t c
 works-other u side p (down.Refuse t c) may = refused-other u u.own side t c
 works-other u side p (down.Took t n s room) may = other-if (is_owner u.own side t && (n == u.last_command)) _ None (answered-other u u.at_hand s room) tt
-works-other u side p (down.Give t c n s bytes) may = other-if (is_owner_on u.own side t c && (n == u.last_command)) _ None (given-other u u.at_hand s bytes) tt
+works-other u side p (down.Give bytes t c n s) may = other-if (is_owner_on u.own side t c && (n == u.last_command)) _ None (given-other u u.at_hand s bytes) tt
 works-other u side p (down.Halt t) may = other-if (is_owner u.own side t && not u.halted) (Some _) None tt tt
 works-other u side p (down.Release t) may = other-if (is_owner u.own side t) _ None tt tt
 works-other u side p (down.Reset r b) may = tt
@@ -195,7 +195,7 @@ signal-taken u h side p (down.Command t n code room) may a = absurd (no-answer h
 signal-taken u h side p (down.Grant t c) may a = absurd (no-answer h _ (fresh-other u side p (down.Grant t c) may) a)
 signal-taken u h side p (down.Refuse t c) may a = absurd (no-answer h _ (fresh-other u side p (down.Refuse t c) may) a)
 signal-taken u h side p (down.Took t n s room) may a = absurd (no-answer h _ (fresh-other u side p (down.Took t n s room) may) a)
-signal-taken u h side p (down.Give t c n s bytes) may a = absurd (no-answer h _ (fresh-other u side p (down.Give t c n s bytes) may) a)
+signal-taken u h side p (down.Give bytes t c n s) may a = absurd (no-answer h _ (fresh-other u side p (down.Give bytes t c n s) may) a)
 signal-taken u h side p (down.Halt t) may a = absurd (no-answer h _ (fresh-other u side p (down.Halt t) may) a)
 signal-taken u h side p (down.Release t) may a = absurd (no-answer h _ (fresh-other u side p (down.Release t) may) a)
 signal-taken u h side p (down.Got x) may a = absurd (no-answer h _ (fresh-other u side p (down.Got x) may) a)

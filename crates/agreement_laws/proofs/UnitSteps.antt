@@ -5,8 +5,8 @@ use Rattle.std.proofs.lemmas.Bool.{eqb-true, ltb-true, and_parts}
 use Rattle.chan_model.specs.declared.names.Side.{Side}
 use Rattle.chan_model.specs.declared.names.Side.TheVariants.{First, Second}
 use Rattle.chan_model.specs.declared.hold_state.HoldState.{HoldState}
-use Rattle.chan_model.specs.declared.report.Report.{Report}
-use Rattle.chan_model.specs.declared.report.DeviceAnswer.{DeviceAnswer}
+use Rattle.chan_model.specs.Reports.{Report}
+use Rattle.chan_model.specs.Reports.{DeviceAnswer}
 use Rattle.chan_model.specs.declared.report.DeviceAnswer.TheVariants as answer
 use Rattle.chan_model.specs.Signals.{Load}
 use Rattle.chan_model.specs.Signals.{Down}
@@ -128,9 +128,9 @@ works-steps First u o f y p (down.Took t n s room) may =
     step-if First _ (is_owner o First t && (n == u.last_command)) _ _ (answered-steps First _ u.at_hand s room _)
 works-steps Second u o f y p (down.Took t n s room) may =
     step-if Second _ (is_owner o Second t && (n == u.last_command)) _ _ (answered-steps Second _ u.at_hand s room _)
-works-steps First u o f y p (down.Give t c n s bytes) may =
+works-steps First u o f y p (down.Give bytes t c n s) may =
     step-if First _ (is_owner_on o First t c && (n == u.last_command)) _ _ (given-steps First _ u.at_hand s bytes _)
-works-steps Second u o f y p (down.Give t c n s bytes) may =
+works-steps Second u o f y p (down.Give bytes t c n s) may =
     step-if Second _ (is_owner_on o Second t c && (n == u.last_command)) _ _ (given-steps Second _ u.at_hand s bytes _)
 works-steps First u o f y p (down.Halt t) may = unseen-if First _ _ (is_owner o First t && not u.halted) _ refl refl refl refl
 works-steps Second u o f y p (down.Halt t) may = unseen-if Second _ _ (is_owner o Second t && not u.halted) _ refl refl refl refl
@@ -161,8 +161,8 @@ signal-steps First u o f fresh y p (down.Refuse t c) may = fresh-or-works First 
 signal-steps Second u o f fresh y p (down.Refuse t c) may = fresh-or-works Second u o f fresh y p (down.Refuse t c) may
 signal-steps First u o f fresh y p (down.Took t n s room) may = fresh-or-works First u o f fresh y p (down.Took t n s room) may
 signal-steps Second u o f fresh y p (down.Took t n s room) may = fresh-or-works Second u o f fresh y p (down.Took t n s room) may
-signal-steps First u o f fresh y p (down.Give t c n s bytes) may = fresh-or-works First u o f fresh y p (down.Give t c n s bytes) may
-signal-steps Second u o f fresh y p (down.Give t c n s bytes) may = fresh-or-works Second u o f fresh y p (down.Give t c n s bytes) may
+signal-steps First u o f fresh y p (down.Give bytes t c n s) may = fresh-or-works First u o f fresh y p (down.Give bytes t c n s) may
+signal-steps Second u o f fresh y p (down.Give bytes t c n s) may = fresh-or-works Second u o f fresh y p (down.Give bytes t c n s) may
 signal-steps First u o f fresh y p (down.Halt t) may = fresh-or-works First u o f fresh y p (down.Halt t) may
 signal-steps Second u o f fresh y p (down.Halt t) may = fresh-or-works Second u o f fresh y p (down.Halt t) may
 signal-steps First u o f fresh y p (down.Release t) may = fresh-or-works First u o f fresh y p (down.Release t) may

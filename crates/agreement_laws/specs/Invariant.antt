@@ -145,7 +145,7 @@ IsDownGood e p (down.Grant t c) = (t ≤ e.drawn) × IsGrantGood e.phase e.last 
 IsDownGood e p (down.Command t n code room) = Unit {0}
 IsDownGood e p (down.Refuse t c) = Unit {0}
 IsDownGood e p (down.Took t n s room) = Unit {0}
-IsDownGood e p (down.Give t c n s bytes) = Unit {0}
+IsDownGood e p (down.Give bytes t c n s) = Unit {0}
 IsDownGood e p (down.Halt t) = Unit {0}
 IsDownGood e p (down.Got a) = Unit {0}
 
@@ -174,7 +174,7 @@ IsUpGood e ts p (up.Accept t) = (t ≤ e.floor) × IsAcceptGood e.phase e.seen t
 IsUpGood e ts p (up.Busy t) = (t ≤ e.floor) × IsNotOwned e.seen t × All (λ a. a ≢ t) ts
 IsUpGood e ts p (up.Leave t c) = Unit {0}
 IsUpGood e ts p (up.Back t c) = (t ≤ e.floor) × IsBackGood e.seen p t c
-IsUpGood e ts p (up.Data t c n s load) = Unit {0}
+IsUpGood e ts p (up.Data load t c n s) = Unit {0}
 IsUpGood e ts p (up.End t n status more) = Unit {0}
 IsUpGood e ts p (up.Released t) = (t ≤ e.floor) × IsNotOwned e.seen t
 IsUpGood e ts p (up.Cleared r) = r ≤ e.floor

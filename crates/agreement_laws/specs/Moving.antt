@@ -5,7 +5,7 @@ use Rattle.chan_model.specs.declared.names.Side.TheVariants.{First, Second}
 use Rattle.chan_model.specs.declared.hold_state.HoldPhase.{HoldPhase}
 use Rattle.chan_model.specs.declared.hold_state.HoldPhase.TheVariants.{Free}
 use Rattle.chan_model.specs.declared.hold_state.HoldState.{HoldState}
-use Rattle.chan_model.specs.declared.report.Report.{Report}
+use Rattle.chan_model.specs.Reports.{Report}
 use Rattle.chan_model.specs.declared.signal.OnPath.{OnPath}
 use Rattle.chan_model.specs.Signals.{Down}
 use Rattle.chan_model.specs.declared.signal.Down.TheVariants as down
@@ -72,7 +72,7 @@ hold_acts n h (Sends x) = record { drawn = n; hold = h; sent = Some x }
 abbrev pub IsOfProgram : Down → Type 0
 IsOfProgram (down.Command t n code room) = Unit {0}
 IsOfProgram (down.Took t n s room) = Unit {0}
-IsOfProgram (down.Give t c n s bytes) = Unit {0}
+IsOfProgram (down.Give bytes t c n s) = Unit {0}
 IsOfProgram (down.Halt t) = Unit {0}
 IsOfProgram signal = ⊥
 

@@ -1,1 +1,4 @@
+pub mod Events
+pub mod Replies
 pub mod ReportWords
+pub mod Fields

@@ -1,10 +1,11 @@
 //! Events: what may happen to a channel subsystem, one at a time.
 
-ghost use Rattle.std.specs.Prelude.{◌≡◌};
+ghost use Rattle.std.specs.Prelude.{◌≡◌, ◌≤◌, ◌++◌, ℕ, List, length};
+ghost use Rattle.chan_events.specs.Events as spec;
 
 use chan_model::chunk::{Chunk, ChunkLength};
 use chan_model::names::{Cpu, Side};
-use chan_model::report::Report;
+use chan_model::report::{DeviceAnswer, KeptReport, Report};
 use storage_keys::key::Key;
 
 /// An I/O instruction (SA22-7832, chapter 14). `subchannel` is general register 1: the subsystem-identification word.
@@ -83,13 +84,14 @@ pub enum UnitAct {
     Notice { path: u32, side: Side },
 }
 
-/// An event. `subchannel` is a subsystem-identification word, `path` the index of a path of that subchannel.
-#[derive(Drop)]
-pub enum Event {
+/// An event, over what stands for its bytes and for a report. `subchannel` is a subsystem-identification word, `path` the index
+/// of a path of that subchannel.
+#[derive(Clone, Copy, Drop)]
+pub enum Event<B = Chunk, R = Report> {
     /// Bytes are put into storage at an absolute address.
     Put {
         address: u32,
-        bytes: Chunk,
+        bytes: B,
     },
     /// The key of the block in which an absolute address lies is set.
     SetKey {
@@ -133,7 +135,7 @@ pub enum Event {
     /// A device answered.
     Report {
         unit: u32,
-        report: Report,
+        report: R,
     },
     /// A unit acts of itself.
     Act {
@@ -160,15 +162,35 @@ pub enum Event {
     SystemReset,
 }
 
+/// An event whose bytes stand elsewhere.
+pub type KeptEvent = Event<ChunkLength, KeptReport>;
+
 impl Event {
-    /// The same event; it takes no memory.
-    pub fn copy(&self) -> Self
-        ensures { result ≡ self.now }
+    /// Its bytes; most events have none.
+    pub fn bytes(&self) -> &[u8]
+        ensures value { result.now ≡ spec.event_bytes self.now }
+        ensures bound { length result.now ≤ 256 }
+    {
+        match self {
+            Event::Put { bytes, .. } => bytes.as_slice(),
+            Event::Report { report, .. } => match &report.answer {
+                DeviceAnswer::Supplied(bytes) => bytes.as_slice(),
+                _ => &[],
+            },
+            _ => &[],
+        }
+    }
+
+    /// The same event, its bytes standing elsewhere.
+    pub fn keep(&self) -> KeptEvent
+        ensures kept { (rest : List ℕ) → spec.event_in result (spec.event_bytes self.now ++ rest) ≡ self.now }
+        ensures length { spec.event_length result ≡ length (spec.event_bytes self.now) }
+        ensures bound { length (spec.event_bytes self.now) ≤ 256 }
     {
         match self {
             Event::Put { address, bytes } => Event::Put {
                 address: *address,
-                bytes: bytes.copy(),
+                bytes: bytes.length(),
             },
             Event::SetKey { address, key } => Event::SetKey {
                 address: *address,
@@ -203,7 +225,85 @@ impl Event {
             },
             Event::Report { unit, report } => Event::Report {
                 unit: *unit,
-                report: report.copy(),
+                report: report.keep(),
+            },
+            Event::Act { unit, act } => Event::Act {
+                unit: *unit,
+                act: *act,
+            },
+            Event::Restart { unit } => Event::Restart { unit: *unit },
+            Event::PathDown { chpid } => Event::PathDown { chpid: *chpid },
+            Event::PathUp { chpid } => Event::PathUp { chpid: *chpid },
+            Event::PathReset { chpid } => Event::PathReset { chpid: *chpid },
+            Event::SystemReset => Event::SystemReset,
+        }
+    }
+
+    /// The same event; it takes no memory.
+    pub fn copy(&self) -> Self
+        ensures { result ≡ self.now }
+    {
+        self.keep().own(self.bytes())
+    }
+}
+
+impl KeptEvent {
+    /// How many bytes it has.
+    pub fn length(&self) -> usize
+        ensures value { result ≡ spec.event_length self.now }
+        ensures bound { result ≤ 256 }
+    {
+        match self {
+            Event::Put { bytes, .. } => bytes.get(),
+            Event::Report { report, .. } => report.answer.length(),
+            _ => 0,
+        }
+    }
+
+    /// The event with the first of these bytes, which become its own.
+    pub fn own(&self, given: &[u8]) -> Event
+        requires { spec.event_length self.now ≤ length given.now }
+        ensures { result ≡ spec.event_in self.now given.now }
+    {
+        match self {
+            Event::Put { address, bytes } => Event::Put {
+                address: *address,
+                bytes: Chunk::first(*bytes, given),
+            },
+            Event::SetKey { address, key } => Event::SetKey {
+                address: *address,
+                key: *key,
+            },
+            Event::SetPrefix { cpu, address } => Event::SetPrefix {
+                cpu: *cpu,
+                address: *address,
+            },
+            Event::Show { address, length } => Event::Show {
+                address: *address,
+                length: *length,
+            },
+            Event::Execute { cpu, instruction } => Event::Execute {
+                cpu: *cpu,
+                instruction: *instruction,
+            },
+            Event::ExecuteOther { cpu, instruction } => Event::ExecuteOther {
+                cpu: *cpu,
+                instruction: *instruction,
+            },
+            Event::Choose { subchannel } => Event::Choose {
+                subchannel: *subchannel,
+            },
+            Event::Up { subchannel, path } => Event::Up {
+                subchannel: *subchannel,
+                path: *path,
+            },
+            Event::Down { subchannel, path } => Event::Down {
+                subchannel: *subchannel,
+                path: *path,
+            },
+            Event::Report { unit, report } => Event::Report {
+                unit: *unit,
+                report: report.own(given),
             },
             Event::Act { unit, act } => Event::Act {
                 unit: *unit,
@@ -217,3 +317,5 @@ impl Event {
         }
     }
 }
+
+const _: () = prove!(size_of::<KeptEvent>() == 40);

@@ -1,27 +1,31 @@
 //! Replies: what an accepted event answers.
 
-ghost use Rattle.std.specs.Prelude.{◌≡◌};
-ghost use Rattle.chan_events.specs.ReportWords as spec;
+ghost use Rattle.std.specs.Prelude.{◌≡◌, ◌≤◌, ◌++◌, ℕ, List, length};
+ghost use Rattle.chan_events.specs.Replies as spec;
+ghost use Rattle.chan_events.specs.ReportWords as word_spec;
+ghost use Rattle.chan_events.specs.declared.reply.Reply.TheVariants as reply_spec;
+ghost use Rattle.chan_model.specs.Signals.{lent_down, lent_up, map_sent};
 
 use crate::event::Event;
 use chan_model::answer::{Answer, ConditionCode};
-use chan_model::chunk::Chunk;
+use chan_model::chunk::{Chunk, ChunkLength};
 use chan_model::names::Path;
-use chan_model::signal::{Down, OnPath, Up};
+use chan_model::signal::{Down, KeptDown, KeptUp, LentDown, LentUp, OnPath, Up};
 use scsw_irb::code::IntCode;
 use scsw_irb::crw::Crw;
 use scsw_irb::scsw::Scsw;
+use std::convert::Infallible;
 
 /// How many bytes STORE CHANNEL PATH STATUS stores: one bit for each channel-path identifier.
 pub const PATH_STATUS_BYTES: usize = 32;
 
-/// What an accepted event answers.
-#[derive(Drop)]
-pub enum Reply {
+/// What an accepted event answers, over what stands for bytes of storage, for a signal up and for a signal down.
+#[derive(Clone, Copy, Drop)]
+pub enum Reply<B = Chunk, U = Up, D = Down> {
     Done,
     /// The bytes of storage that were asked for.
     Shown {
-        bytes: Chunk,
+        bytes: B,
     },
     /// The condition code of an instruction that shows no status; of TSCH and STSCH where it is 3.
     Code(Answer),
@@ -64,15 +68,15 @@ pub enum Reply {
     Idle,
     /// A subchannel met this signal; `taken` says that a state changed or a signal was sent.
     Up {
-        signal: Up,
+        signal: U,
         taken: bool,
-        sent: Option<OnPath<Down>>,
+        sent: Option<OnPath<D>>,
     },
     /// A unit met this signal; `taken` says that its state changed or a signal was sent.
     Down {
-        signal: Down,
+        signal: D,
         taken: bool,
-        sent: Option<OnPath<Up>>,
+        sent: Option<OnPath<U>>,
     },
 }
 
@@ -82,6 +86,12 @@ pub struct Entry {
     pub event: Event,
     pub reply: Reply,
 }
+
+/// A reply that has no signal and no bytes.
+pub type PlainReply = Reply<Infallible, Infallible, Infallible>;
+
+/// A reply whose bytes stand elsewhere.
+pub type KeptReply = Reply<ChunkLength, KeptUp, KeptDown>;
 
 impl Reply {
     /// The same reply; it takes no memory.
@@ -163,12 +173,219 @@ fn copy_up(sent: &Option<OnPath<Up>>) -> Option<OnPath<Up>>
     }
 }
 
+impl PlainReply {
+    /// The same reply, as it is kept.
+    pub fn keep(&self) -> KeptReply
+        ensures kept { (rest : List ℕ) → spec.reply_in result rest ≡ spec.reply_of self.now }
+        ensures length { spec.reply_length result ≡ 0 }
+    {
+        match self {
+            Reply::Done => Reply::Done,
+            Reply::Shown { bytes } => match *bytes {},
+            Reply::Code(answer) => Reply::Code(*answer),
+            Reply::Status { answer, scsw } => Reply::Status {
+                answer: *answer,
+                scsw: *scsw,
+            },
+            Reply::Interruption(code) => Reply::Interruption(*code),
+            Reply::PathReset(code) => Reply::PathReset(*code),
+            Reply::ChannelReport(report) => Reply::ChannelReport(*report),
+            Reply::Paths { engaged } => Reply::Paths { engaged: *engaged },
+            Reply::Offered {
+                number,
+                path,
+                resumed,
+            } => Reply::Offered {
+                number: *number,
+                path: *path,
+                resumed: *resumed,
+            },
+            Reply::ResetSent { number, path } => Reply::ResetSent {
+                number: *number,
+                path: *path,
+            },
+            Reply::HaltSent { number, path } => Reply::HaltSent {
+                number: *number,
+                path: *path,
+            },
+            Reply::Pending => Reply::Pending,
+            Reply::Idle => Reply::Idle,
+            Reply::Up { signal, .. } => match *signal {},
+            Reply::Down { signal, .. } => match *signal {},
+        }
+    }
+}
+
+impl KeptReply {
+    /// The reply to a signal up that was met.
+    pub fn met_up(signal: &LentUp<'_>, taken: bool, sent: &Option<OnPath<LentDown<'_>>>) -> Self
+        ensures kept { (rest : List ℕ) → spec.reply_in result (spec.reply_bytes (reply_spec.Up (lent_up signal.now) taken (map_sent lent_down sent.now)) ++ rest) ≡ reply_spec.Up (lent_up signal.now) taken (map_sent lent_down sent.now) }
+        ensures length { spec.reply_length result ≡ length (spec.reply_bytes (reply_spec.Up (lent_up signal.now) taken (map_sent lent_down sent.now))) }
+        ensures bound { length (spec.reply_bytes (reply_spec.Up (lent_up signal.now) taken (map_sent lent_down sent.now))) ≤ 512 }
+    {
+        match sent {
+            None => Reply::Up {
+                taken,
+                signal: signal.keep(),
+                sent: None,
+            },
+            Some(sent) => Reply::Up {
+                taken,
+                signal: signal.keep(),
+                sent: Some(OnPath {
+                    path: sent.path,
+                    signal: sent.signal.keep(),
+                }),
+            },
+        }
+    }
+
+    /// The reply to a signal down that was met.
+    pub fn met_down(signal: &LentDown<'_>, taken: bool, sent: &Option<OnPath<LentUp<'_>>>) -> Self
+        ensures kept { (rest : List ℕ) → spec.reply_in result (spec.reply_bytes (reply_spec.Down (lent_down signal.now) taken (map_sent lent_up sent.now)) ++ rest) ≡ reply_spec.Down (lent_down signal.now) taken (map_sent lent_up sent.now) }
+        ensures length { spec.reply_length result ≡ length (spec.reply_bytes (reply_spec.Down (lent_down signal.now) taken (map_sent lent_up sent.now))) }
+        ensures bound { length (spec.reply_bytes (reply_spec.Down (lent_down signal.now) taken (map_sent lent_up sent.now))) ≤ 512 }
+    {
+        match sent {
+            None => Reply::Down {
+                taken,
+                signal: signal.keep(),
+                sent: None,
+            },
+            Some(sent) => Reply::Down {
+                taken,
+                signal: signal.keep(),
+                sent: Some(OnPath {
+                    path: sent.path,
+                    signal: sent.signal.keep(),
+                }),
+            },
+        }
+    }
+
+    /// How many bytes it has.
+    pub fn length(&self) -> usize
+        ensures value { result ≡ spec.reply_length self.now }
+        ensures bound { result ≤ 512 }
+    {
+        match self {
+            Reply::Shown { bytes } => bytes.get(),
+            Reply::Up {
+                signal,
+                sent: None,
+                ..
+            } => signal.length(),
+            Reply::Up {
+                signal,
+                sent: Some(sent),
+                ..
+            } => signal.length() + sent.signal.length(),
+            Reply::Down {
+                signal,
+                sent: None,
+                ..
+            } => signal.length(),
+            Reply::Down {
+                signal,
+                sent: Some(sent),
+                ..
+            } => signal.length() + sent.signal.length(),
+            _ => 0,
+        }
+    }
+
+    /// The reply with the first of these bytes, which become its own.
+    pub fn own(&self, given: &[u8]) -> Reply
+        requires { spec.reply_length self.now ≤ length given.now }
+        ensures { result ≡ spec.reply_in self.now given.now }
+    {
+        match self {
+            Reply::Done => Reply::Done,
+            Reply::Shown { bytes } => Reply::Shown {
+                bytes: Chunk::first(*bytes, given),
+            },
+            Reply::Code(answer) => Reply::Code(*answer),
+            Reply::Status { answer, scsw } => Reply::Status {
+                answer: *answer,
+                scsw: *scsw,
+            },
+            Reply::Interruption(code) => Reply::Interruption(*code),
+            Reply::PathReset(code) => Reply::PathReset(*code),
+            Reply::ChannelReport(report) => Reply::ChannelReport(*report),
+            Reply::Paths { engaged } => Reply::Paths { engaged: *engaged },
+            Reply::Offered {
+                number,
+                path,
+                resumed,
+            } => Reply::Offered {
+                number: *number,
+                path: *path,
+                resumed: *resumed,
+            },
+            Reply::ResetSent { number, path } => Reply::ResetSent {
+                number: *number,
+                path: *path,
+            },
+            Reply::HaltSent { number, path } => Reply::HaltSent {
+                number: *number,
+                path: *path,
+            },
+            Reply::Pending => Reply::Pending,
+            Reply::Idle => Reply::Idle,
+            Reply::Up {
+                taken,
+                signal,
+                sent: None,
+            } => Reply::Up {
+                taken: *taken,
+                signal: signal.lend(given).own(),
+                sent: None,
+            },
+            Reply::Up {
+                taken,
+                signal,
+                sent: Some(sent),
+            } => Reply::Up {
+                taken: *taken,
+                signal: signal.lend(given).own(),
+                sent: Some(OnPath {
+                    path: sent.path,
+                    signal: sent.signal.lend(&given[signal.length()..]).own(),
+                }),
+            },
+            Reply::Down {
+                taken,
+                signal,
+                sent: None,
+            } => Reply::Down {
+                taken: *taken,
+                signal: signal.lend(given).own(),
+                sent: None,
+            },
+            Reply::Down {
+                taken,
+                signal,
+                sent: Some(sent),
+            } => Reply::Down {
+                taken: *taken,
+                signal: signal.lend(given).own(),
+                sent: Some(OnPath {
+                    path: sent.path,
+                    signal: sent.signal.lend(&given[signal.length()..]).own(),
+                }),
+            },
+        }
+    }
+}
+
 /// The word that STORE CHANNEL REPORT WORD stores: zero where there is no report.
 pub fn report_word(report: Option<Crw>) -> u32
-    ensures { result ≡ spec.report_word report }
+    ensures { result ≡ word_spec.report_word report }
 {
     match report {
         None => 0,
         Some(crw) => crw.word(),
     }
 }
+
+const _: () = prove!(size_of::<KeptReply>() == 112);

@@ -1,5 +1,6 @@
 pub mod Sides
 pub mod Signals
+pub mod Reports
 pub mod Loads
 pub mod PathSets
 pub mod HoldTable

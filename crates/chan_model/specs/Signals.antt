@@ -39,7 +39,7 @@ map_down f (down.Command number command code room) = down.Command number command
 map_down f (down.Grant number connection) = down.Grant number connection
 map_down f (down.Refuse number connection) = down.Refuse number connection
 map_down f (down.Took number command sequence room) = down.Took number command sequence room
-map_down f (down.Give number connection command sequence bytes) = down.Give number connection command sequence (f bytes)
+map_down f (down.Give bytes number connection command sequence) = down.Give (f bytes) number connection command sequence
 map_down f (down.Halt number) = down.Halt number
 map_down f (down.Release number) = down.Release number
 map_down f (down.Reset number restarts) = down.Reset number restarts
@@ -55,7 +55,7 @@ map_up f (up.Accept number) = up.Accept number
 map_up f (up.Busy number) = up.Busy number
 map_up f (up.Leave number connection) = up.Leave number connection
 map_up f (up.Back number connection) = up.Back number connection
-map_up f (up.Data number connection command sequence l) = up.Data number connection command sequence (f l)
+map_up f (up.Data l number connection command sequence) = up.Data (f l) number connection command sequence
 map_up f (up.End number command status more) = up.End number command status more
 map_up f (up.Released number) = up.Released number
 map_up f (up.Cleared number) = up.Cleared number
@@ -96,11 +96,11 @@ up_in kept bytes = map_up (λ l. load_in l bytes) kept
 
 -- the bytes of a signal, and how many stand elsewhere
 abbrev pub down_bytes : Down → List ℕ
-down_bytes (down.Give number connection command sequence bytes) = bytes
+down_bytes (down.Give bytes number connection command sequence) = bytes
 down_bytes signal = []
 
 abbrev pub down_length : KeptDown → ℕ
-down_length (down.Give number connection command sequence bytes) = bytes
+down_length (down.Give bytes number connection command sequence) = bytes
 down_length signal = 0
 
 abbrev pub load_bytes : Load → List ℕ
@@ -113,11 +113,11 @@ kept_length (load.Bytes bytes) = bytes
 
 -- what a Data brings; of another signal it is nothing
 abbrev pub load_of : Up → Load
-load_of (up.Data number connection command sequence l) = l
+load_of (up.Data l number connection command sequence) = l
 load_of signal = load.Absorbed 0
 
 abbrev pub kept_load_of : KeptUp → KeptLoad
-kept_load_of (up.Data number connection command sequence l) = l
+kept_load_of (up.Data l number connection command sequence) = l
 kept_load_of signal = load.Absorbed 0
 
 abbrev pub up_bytes : Up → List ℕ

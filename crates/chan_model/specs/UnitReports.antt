@@ -10,13 +10,13 @@ use Rattle.chan_model.specs.declared.signal.Load.TheVariants as load
 use Rattle.chan_model.specs.Signals.{Up}
 use Rattle.chan_model.specs.declared.signal.Up.TheVariants as up
 use Rattle.chan_model.specs.declared.report.Call.TheVariants as call
-use Rattle.chan_model.specs.declared.report.Call.{Call}
-use Rattle.chan_model.specs.declared.report.DeviceAnswer.{DeviceAnswer}
+use Rattle.chan_model.specs.Reports.{Call}
+use Rattle.chan_model.specs.Reports.{DeviceAnswer}
 use Rattle.chan_model.specs.declared.report.DeviceAnswer.TheVariants.{Begins, Absorbed, Supplied, Again, Ended}
-use Rattle.chan_model.specs.declared.report.Report.{Report}
+use Rattle.chan_model.specs.Reports.{Report}
 use Rattle.chan_model.specs.declared.report.ReportPath.{ReportPath}
 use Rattle.chan_model.specs.declared.report.ReportPath.TheVariants.{Refused, NothingSent, SentOn}
-use Rattle.chan_model.specs.declared.report.Work.{Work}
+use Rattle.chan_model.specs.Reports.{Work}
 use Rattle.chan_model.specs.declared.report.Work.TheVariants as work
 use Rattle.chan_model.specs.declared.unit_state.Place.{Place}
 use Rattle.chan_model.specs.declared.unit_state.Place.TheVariants.{On}
@@ -73,7 +73,7 @@ may_end halted x progress.Ended status more = false
 
 -- the Data of the last chunk of a command
 abbrev pub data_sent : UnitState → ℕ → ℕ → ℕ → AtHand → Load → Option UnitStep
-data_sent u p t c x load = sends (record u { at_hand = Some x }) p (up.Data t c u.last_command x.sequence load)
+data_sent u p t c x load = sends (record u { at_hand = Some x }) p (up.Data load t c u.last_command x.sequence)
 
 -- the bytes that a write took, so many, to be answered with the next report
 abbrev pub with_absorbed : AtHand → ℕ → AtHand

@@ -158,7 +158,7 @@ unit_works u side p (down.Grant t c) may = granted u u.own side p t c
 unit_works u side p (down.Refuse t c) may = grant_refused u u.own side t c
 unit_works u side p (down.Took t n s room) may =
     if is_owner u.own side t && (n == u.last_command) then answered_last u u.at_hand s room else None
-unit_works u side p (down.Give t c n s bytes) may = given u side t c n s bytes
+unit_works u side p (down.Give bytes t c n s) may = given u side t c n s bytes
 unit_works u side p (down.Halt t) may = if is_owner u.own side t && not u.halted then changes (record u { halted = true }) else None
 unit_works u side p (down.Release t) may = if is_owner u.own side t then sends (freed u) p (up.Released t) else None
 unit_works u side p (down.Reset r b) may = None

@@ -10,5 +10,6 @@ pub mod names;
 pub mod paths;
 pub mod report;
 pub mod signal;
+mod signal_forms;
 pub mod slots;
 pub mod unit_state;

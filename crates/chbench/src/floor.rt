@@ -2,16 +2,15 @@
 
 use chan_events::event::Event;
 use chan_model::names::Side;
-use chan_model::report::{DeviceAnswer, Report};
+use chan_model::report::{DeviceAnswer, Report, Work};
 use core_lock::guarded::Guarded;
 use core_lock::locked::Seat;
 use core_lock::stock::SeatStock;
 use core_parts::naming::Naming;
 use device_law::answering::answer_to;
 use device_models::any_device::AnyDevice;
-use kept_work::works::Task;
+use machine_model::state::UnitTurn;
 use path_select::Rotating;
-use subchannel_steps::kept_turns::KeptTurn;
 use subsystem::subsystem::Subsystem;
 
 /// What events are performed at.
@@ -53,18 +52,28 @@ impl ReportPlace {
     /// Writes the report of a unit's next work, its device having been called where the work is a call; false where it has
     /// none.
     fn write(&mut self, subsystem: &Subsystem<Rotating>, of: u32, device: &mut AnyDevice) -> bool {
-        let Some(KeptTurn::Works(work)) = subsystem.kept_turn(of) else {
+        let Some(UnitTurn::Works(work)) = subsystem.lent_turn(of) else {
             return false;
         };
         let Event::Report { unit, report } = &mut self.event else {
             return false;
         };
         *unit = of;
-        work.number(report);
-        match work.task {
-            Task::Call(call) => answer_to(device, call, subsystem.given(of), &mut report.answer),
-            Task::Again => report.answer = DeviceAnswer::Again,
-            Task::Ended { status, more } => report.answer = DeviceAnswer::Ended { status, more },
+        match &work {
+            Work::Call {
+                side,
+                number,
+                command,
+                sequence,
+                call,
+            } => {
+                report.side = *side;
+                report.number = *number;
+                report.command = *command;
+                report.sequence = *sequence;
+                answer_to(device, call, &mut report.answer);
+            }
+            Work::Report(told) => *report = told.own(),
         }
         true
     }

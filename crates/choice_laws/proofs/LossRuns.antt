@@ -2,10 +2,10 @@
 use Rattle.std.proofs.Common.{◌≡◌, refl, sym, ◌∙◌, subst, ℕ, ◌&&◌, nat_lt, not, Bool, true, false, Option, List}
 use Rattle.std.specs.Prelude.{if◌then◌else◌}
 use Rattle.storage_keys.specs.Storage.{Contents}
-use Rattle.chan_events.specs.declared.event.Event.{Event}
+use Rattle.chan_events.specs.Events.{Event}
 use Rattle.chan_events.specs.declared.event.Event.TheVariants as event
 use Rattle.chan_events.specs.declared.reply.Entry.{Entry}
-use Rattle.chan_events.specs.declared.reply.Reply.{Reply}
+use Rattle.chan_events.specs.Replies.{Reply}
 use Rattle.chan_events.specs.declared.reply.Reply.TheVariants as reply
 use Rattle.chan_model.specs.Signals.{Up}
 use Rattle.chan_model.specs.declared.signal.Up.TheVariants as up
@@ -88,7 +88,7 @@ module _ (setup : Setup) (id : SubchannelId) (before : List Entry) where
       met-right (up.Busy t) k tie = tt
       met-right (up.Leave t c) k tie = tt
       met-right (up.Back t c) k tie = tt
-      met-right (up.Data t c n q load) k tie = tt
+      met-right (up.Data load t c n q) k tie = tt
       met-right (up.End t n status more) k tie = tt
       met-right (up.Released t) k tie = tt
       met-right (up.Cleared r) k tie = tt

@@ -2,10 +2,10 @@
 -- STORE SUBCHANNEL shows just before is offered or holds the device, as the entries before tell, and is lost with it; and nowhere else. A start
 -- that waits while its device is let go is not lost (own).
 use Rattle.std.specs.Prelude.{◌≡◌, ◌<◌, ◌&&◌, ◌||◌, not, ℕ, Bool, true, false, Option, Some, List}
-use Rattle.chan_events.specs.declared.event.Event.{Event}
+use Rattle.chan_events.specs.Events.{Event}
 use Rattle.chan_events.specs.declared.event.Event.TheVariants as event
 use Rattle.chan_events.specs.declared.reply.Entry.{Entry}
-use Rattle.chan_events.specs.declared.reply.Reply.{Reply}
+use Rattle.chan_events.specs.Replies.{Reply}
 use Rattle.chan_events.specs.declared.reply.Reply.TheVariants as reply
 use Rattle.chan_model.specs.declared.signal.Up.TheVariants as up
 use Rattle.channel_config.specs.declared.names.SubchannelId.{SubchannelId}

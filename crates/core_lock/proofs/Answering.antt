@@ -2,8 +2,8 @@
 use Rattle.std.proofs.Common.{◌≡◌, Result, Ok, Err, inl, inr}
 use Rattle.std.specs.Prelude.{IfErr, MatchResult}
 use Rattle.chan_model.specs.declared.fault.Fault.{Fault}
-use Rattle.chan_events.specs.declared.event.Event.{Event}
-use Rattle.chan_events.specs.declared.reply.Reply.{Reply}
+use Rattle.chan_events.specs.Events.{Event}
+use Rattle.chan_events.specs.Replies.{Reply}
 use Rattle.machine_model.specs.State.{State}
 use Rattle.path_select.specs.Choice.{Rule}
 use Rattle.core_parts.specs.Seats.{Guarded, GuardedCore, HeldSeat, Seated}

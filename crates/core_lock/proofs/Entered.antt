@@ -1,7 +1,7 @@
 -- What a step at the subsystem says where it is accepted.
 use Rattle.std.proofs.Common.{◌≡◌, Result, Ok, sym, subst, ◌∙◌}
 use Rattle.chan_model.specs.declared.fault.Fault.{Fault}
-use Rattle.chan_events.specs.declared.event.Event.{Event}
+use Rattle.chan_events.specs.Events.{Event}
 use Rattle.event_log.specs.Logs.{last_reply}
 use Rattle.machine_model.specs.State.{Past}
 use Rattle.path_select.specs.Choice.{Rule}

@@ -2,7 +2,7 @@
 use Rattle.std.proofs.Common.{◌≡◌, ◌≢◌, Bool, true, false, Option, None, Ok, Err, ap, ◌∙◌, subst}
 use Rattle.chan_model.specs.declared.fault.Fault.{Fault}
 use Rattle.chan_model.specs.declared.fault.Fault.TheVariants as fault
-use Rattle.chan_events.specs.declared.event.Event.{Event}
+use Rattle.chan_events.specs.Events.{Event}
 use Rattle.core_parts.specs.declared.turns.KeptReport.{KeptReport}
 use Rattle.path_select.specs.Choice.{Rule}
 use Rattle.core_parts.specs.Seats.{Guarded, GuardedCore, HeldSeat, Seated}

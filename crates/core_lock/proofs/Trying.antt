@@ -2,8 +2,8 @@
 use Rattle.std.proofs.Common.{◌≡◌, ◌≢◌, true, Result, Ok, Err, refl, subst, inl, inr}
 use Rattle.chan_model.specs.declared.fault.Fault.{Fault}
 use Rattle.chan_model.specs.declared.fault.Fault.TheVariants as fault
-use Rattle.chan_events.specs.declared.event.Event.{Event}
-use Rattle.chan_events.specs.declared.reply.Reply.{Reply}
+use Rattle.chan_events.specs.Events.{Event}
+use Rattle.chan_events.specs.Replies.{Reply}
 use Rattle.machine_model.specs.Ruled.{GoesByRule}
 use Rattle.machine_model.specs.Steps.{IsRefused}
 use Rattle.path_select.specs.Choice.{Rule}

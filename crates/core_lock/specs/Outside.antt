@@ -1,8 +1,8 @@
 -- What is told outside a lock of what was done under it (own).
 use Rattle.std.specs.Prelude.{ℕ, Bool, Result}
 use Rattle.chan_model.specs.declared.fault.Fault.{Fault}
-use Rattle.chan_events.specs.declared.event.Event.{Event}
-use Rattle.chan_events.specs.declared.reply.Reply.{Reply}
+use Rattle.chan_events.specs.Events.{Event}
+use Rattle.chan_events.specs.Replies.{Reply}
 use Rattle.path_select.specs.Choice.{Rule}
 use Rattle.core_parts.specs.Seats.{Guarded, GuardedCore, HeldSeat, Seated}
 use Rattle.core_lock.specs.Turns.{Executes, IsOfMachine, TakesPathTurn, TakesUnitTurn, turn_of_path, turned_seat}

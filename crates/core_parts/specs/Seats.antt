@@ -1,11 +1,11 @@
 -- What contracts see of a locked machine and of its seats (own).
 use Rattle.std.specs.Prelude.{ℕ, ◌==◌, max, List, [], ◌∷◌, Option, None, Some, slice_index_or, slice_set, if◌then◌else◌}
 use Rattle.scsw_irb.specs.declared.serials.Serials.{Serials}
-use Rattle.chan_events.specs.declared.event.Event.{Event}
+use Rattle.chan_events.specs.Events.{Event}
 use Rattle.chan_events.specs.declared.event.Event.TheVariants as event
 use Rattle.chan_events.specs.declared.event.Instruction.TheVariants as instruction
 use Rattle.chan_events.specs.declared.reply.Entry.{Entry}
-use Rattle.chan_events.specs.declared.reply.Reply.{Reply}
+use Rattle.chan_events.specs.Replies.{Reply}
 use Rattle.channel_config.specs.Setup.{Setup}
 use Rattle.event_laws.specs.Codes.{answer_in}
 use Rattle.subsystem.specs.Keeping.{serials_brought}

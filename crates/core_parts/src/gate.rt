@@ -1,8 +1,8 @@
 //! The gate that a device worker passes before each call of a device.
 
 ghost use Rattle.std.specs.Prelude.{ℕ};
-ghost use Rattle.chan_model.specs.declared.report.Call.{Call};
-ghost use Rattle.chan_model.specs.declared.report.DeviceAnswer.{DeviceAnswer};
+ghost use Rattle.chan_model.specs.Reports.{Call};
+ghost use Rattle.chan_model.specs.Reports.{DeviceAnswer};
 
 use chan_model::report::{Call, DeviceAnswer};
 use device_law::Device;

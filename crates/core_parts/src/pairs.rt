@@ -13,11 +13,11 @@ ghost use Rattle.core_parts.specs.Touching as touch_spec;
 use crate::directory::Directory;
 use crate::touching::Touched;
 use chan_events::event::{Event, Instruction};
+use chan_events::reply::Reply;
 use chan_model::answer::Answer;
 use event_log::history::LentReply;
 use glance_cell::cell::{Reader, Writer};
 use glance_cell::supplies::CellSupply;
-use kept_events::replies::KeptReply;
 use path_select::PathChoice;
 use scsw_irb::serials::Serials;
 use std::alloc::{AllocError, Global};
@@ -132,7 +132,7 @@ fn serials_brought(reply: &LentReply<'_>) -> Option<Serials>
 {
     let (kept, _) = reply.parts();
     match kept {
-        KeptReply::Code(answer) | KeptReply::Status { answer, .. } => serials_with(*answer),
+        Reply::Code(answer) | Reply::Status { answer, .. } => serials_with(*answer),
         _ => None,
     }
 }

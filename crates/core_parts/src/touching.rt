@@ -1,8 +1,8 @@
 //! Which subchannels' serials an event may change, so that the glance cells of no others need be looked at.
 
 ghost use Rattle.std.specs.Prelude.{◌≡◌, ℕ, length};
-ghost use Rattle.chan_events.specs.declared.event.Event.{Event};
-ghost use Rattle.chan_events.specs.declared.reply.Reply.{Reply};
+ghost use Rattle.chan_events.specs.Events.{Event};
+ghost use Rattle.chan_events.specs.Replies.{Reply};
 ghost use Rattle.machine_model.specs.InstructionSteps as instruction_spec;
 ghost use Rattle.machine_model.specs.State.{State};
 ghost use Rattle.machine_model.specs.Steps.{Step};

@@ -1,8 +1,8 @@
 -- What a unit learns by a call of its device, and devices whose tables tell it (own).
 use Rattle.std.specs.Prelude.{◌≡◌, ◌==◌, false, if◌then◌else◌}
 use Rattle.scsw_irb.specs.declared.status.DeviceStatus.{DeviceStatus}
-use Rattle.chan_model.specs.declared.report.Call.{Call}
-use Rattle.chan_model.specs.declared.report.DeviceAnswer.{DeviceAnswer}
+use Rattle.chan_model.specs.Reports.{Call}
+use Rattle.chan_model.specs.Reports.{DeviceAnswer}
 use Rattle.chan_model.specs.declared.report.DeviceAnswer.TheVariants.{Begins, Ended}
 use Rattle.device_law.specs.declared.Finish as device
 

@@ -3,9 +3,9 @@ use Rattle.std.specs.Prelude.{◌≡◌, ◌≤◌, ◌⊎◌, false, IsTrue, le
 use Rattle.scsw_irb.specs.declared.status.DeviceStatus.{DeviceStatus}
 use Rattle.chan_model.specs.UnitReports.{has_device_end}
 use Rattle.chan_model.specs.Parts.{is_initial}
-use Rattle.chan_model.specs.declared.report.Call.{Call}
+use Rattle.chan_model.specs.Reports.{Call}
 use Rattle.chan_model.specs.declared.report.Call.TheVariants.{Initial, Absorb, Supply, Finish}
-use Rattle.chan_model.specs.declared.report.DeviceAnswer.{DeviceAnswer}
+use Rattle.chan_model.specs.Reports.{DeviceAnswer}
 use Rattle.chan_model.specs.declared.report.DeviceAnswer.TheVariants.{Begins, Absorbed, Supplied, Again, Ended}
 
 -- an initial status is empty, channel end alone or unit check alone (SA22-7832, chapter 16)

@@ -2,12 +2,11 @@
 
 ghost use Rattle.std.specs.Prelude.{◌≡◌, ◌≤◌, length};
 ghost use Rattle.device_law.specs.Laws.{IsAnswer};
-ghost use Rattle.kept_work.specs.Works.{call_in};
+ghost use Rattle.chan_model.specs.Reports.{lent_call};
 ghost use Rattle.chan_model.specs.declared.report.Call.TheVariants as call_spec;
 
 use crate::{Device, Finish};
-use chan_model::report::{Call, DeviceAnswer};
-use kept_work::works::KeptCall;
+use chan_model::report::{Call, DeviceAnswer, LentCall};
 
 /// Makes the call.
 pub fn answer<D: Device>(device: &mut D, call: &Call) -> DeviceAnswer
@@ -15,29 +14,22 @@ pub fn answer<D: Device>(device: &mut D, call: &Call) -> DeviceAnswer
     ensures answers { D.answers device.old call.now result device.new }
     ensures opening { D.opening device.new ≡ D.opening device.old }
 {
-    match call {
-        Call::Initial { code } => initial_answer(device, *code),
-        Call::Absorb { bytes } => DeviceAnswer::Absorbed(device.absorb(bytes.as_slice()) as u16),
-        Call::Supply { most } => DeviceAnswer::Supplied(device.supply(usize::from(*most))),
-        Call::Finish => {
-            let Finish { status, more } = device.finish();
-            DeviceAnswer::Ended { status, more }
-        }
-    }
+    let mut place = DeviceAnswer::Begins;
+    answer_to(device, &call.lend(), &mut place);
+    place
 }
 
-/// Makes the call, as `answer` does; these bytes stand beside it, and the answer is written into its place.
-pub fn answer_to<D: Device>(device: &mut D, call: KeptCall, bytes: &[u8], place: &mut DeviceAnswer)
-    requires { length bytes.now ≤ 256 }
-    ensures law { IsAnswer (call_in call bytes.now) place.new }
-    ensures answers { D.answers device.old (call_in call bytes.now) place.new device.new }
+/// Makes the call, as `answer` does; its bytes are lent, and the answer is written into its place.
+pub fn answer_to<D: Device>(device: &mut D, call: &LentCall<'_>, place: &mut DeviceAnswer)
+    ensures law { IsAnswer (lent_call call.now) place.new }
+    ensures answers { D.answers device.old (lent_call call.now) place.new device.new }
     ensures opening { D.opening device.new ≡ D.opening device.old }
 {
     match call {
-        KeptCall::Initial { code } => initial_to(device, code, place),
-        KeptCall::Absorb => absorb_to(device, bytes, place),
-        KeptCall::Supply { most } => supply_to(device, most, place),
-        KeptCall::Finish => {
+        Call::Initial { code } => initial_to(device, *code, place),
+        Call::Absorb { bytes } => absorb_to(device, bytes.as_slice(), place),
+        Call::Supply { most } => supply_to(device, *most, place),
+        Call::Finish => {
             let Finish { status, more } = device.finish();
             *place = DeviceAnswer::Ended { status, more };
         }
@@ -80,15 +72,4 @@ fn initial_to<D: Device>(device: &mut D, code: u8, place: &mut DeviceAnswer)
             more: false,
         },
     }
-}
-
-/// An empty initial status begins the command; any other ends it or its channel's part.
-fn initial_answer<D: Device>(device: &mut D, code: u8) -> DeviceAnswer
-    ensures law { IsAnswer (call_spec.Initial code) result }
-    ensures answers { D.answers device.old (call_spec.Initial code) result device.new }
-    ensures opening { D.opening device.new ≡ D.opening device.old }
-{
-    let mut place = DeviceAnswer::Begins;
-    initial_to(device, code, &mut place);
-    place
 }

@@ -1,6 +1,6 @@
 -- A device of any kind that a unit may have, and what each call of it answers and leaves (own).
-use Rattle.chan_model.specs.declared.report.Call.{Call}
-use Rattle.chan_model.specs.declared.report.DeviceAnswer.{DeviceAnswer}
+use Rattle.chan_model.specs.Reports.{Call}
+use Rattle.chan_model.specs.Reports.{DeviceAnswer}
 use Rattle.channel_config.specs.declared.parts.UnitKind.{UnitKind}
 use Rattle.channel_config.specs.declared.parts.UnitKind.TheVariants as kind
 use Rattle.device_models.specs.declared.any_device.AnyDevice.{AnyDevice}

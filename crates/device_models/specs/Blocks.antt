@@ -4,9 +4,9 @@ use Rattle.device_models.specs.declared.command.BlockCommand.{BlockCommand}
 use Rattle.device_models.specs.declared.command.BlockCommand.TheVariants.{Write, Read, NoOperation, Sense, Seek, Recalibrate, SearchEqual}
 use Rattle.device_models.specs.Commands.{block_command_of}
 use Rattle.device_models.specs.Shapes.{InitialStatus, EndingStatus, answer_of_begun, answer_of_ended, part, sense_left}
-use Rattle.chan_model.specs.declared.report.Call.{Call}
+use Rattle.chan_model.specs.Reports.{Call}
 use Rattle.chan_model.specs.declared.report.Call.TheVariants as call
-use Rattle.chan_model.specs.declared.report.DeviceAnswer.{DeviceAnswer}
+use Rattle.chan_model.specs.Reports.{DeviceAnswer}
 use Rattle.chan_model.specs.declared.report.DeviceAnswer.TheVariants as answer
 
 -- 32 blocks of 64 bytes, the number of the current one, the sense byte, the command at hand, how many of its bytes are

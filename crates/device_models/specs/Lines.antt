@@ -1,8 +1,8 @@
 -- A console, which keeps one line, and what each call of it answers and leaves (own).
 use Rattle.std.specs.Prelude.{ℕ, ◌+◌, ◌-◌, nat_lt, Bool, false, Option, None, Some, List, [], ◌∷◌, ◌++◌, length, take, min}
-use Rattle.chan_model.specs.declared.report.Call.{Call}
+use Rattle.chan_model.specs.Reports.{Call}
 use Rattle.chan_model.specs.declared.report.Call.TheVariants as call
-use Rattle.chan_model.specs.declared.report.DeviceAnswer.{DeviceAnswer}
+use Rattle.chan_model.specs.Reports.{DeviceAnswer}
 use Rattle.chan_model.specs.declared.report.DeviceAnswer.TheVariants as answer
 use Rattle.device_models.specs.declared.console_command.ConsoleCommand.{ConsoleCommand}
 use Rattle.device_models.specs.declared.console_command.ConsoleCommand.TheVariants.{Write, Read, NoOperation, Sense}

@@ -1,8 +1,8 @@
 -- A device that rejects every command, and what each call of it answers and leaves (own).
 use Rattle.std.specs.Prelude.{ℕ, false, []}
-use Rattle.chan_model.specs.declared.report.Call.{Call}
+use Rattle.chan_model.specs.Reports.{Call}
 use Rattle.chan_model.specs.declared.report.Call.TheVariants as call
-use Rattle.chan_model.specs.declared.report.DeviceAnswer.{DeviceAnswer}
+use Rattle.chan_model.specs.Reports.{DeviceAnswer}
 use Rattle.chan_model.specs.declared.report.DeviceAnswer.TheVariants as answer
 use Rattle.device_models.specs.Shapes.{InitialStatus, EndingStatus, answer_of_begun, answer_of_ended}
 

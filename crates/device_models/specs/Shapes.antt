@@ -1,6 +1,6 @@
 -- What a device shows as it begins and ends a command, whatever its state is, and the bytes that it gives (own).
 use Rattle.std.specs.Prelude.{ℕ, Bool, List, [], ◌∷◌, take, drop}
-use Rattle.chan_model.specs.declared.report.DeviceAnswer.{DeviceAnswer}
+use Rattle.chan_model.specs.Reports.{DeviceAnswer}
 use Rattle.chan_model.specs.declared.report.DeviceAnswer.TheVariants as answer
 use Rattle.device_law.specs.Calls.{answer_of_initial}
 

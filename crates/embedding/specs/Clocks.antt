@@ -1,9 +1,9 @@
 -- A clock, and what each call of it answers and leaves (own).
 use Rattle.std.specs.Prelude.{ℕ, ◌==◌, not, if◌then◌else◌, List, [], ◌∷◌, length, take, drop}
 use Rattle.zbits.specs.Words.{bytes_of_words}
-use Rattle.chan_model.specs.declared.report.Call.{Call}
+use Rattle.chan_model.specs.Reports.{Call}
 use Rattle.chan_model.specs.declared.report.Call.TheVariants as call
-use Rattle.chan_model.specs.declared.report.DeviceAnswer.{DeviceAnswer}
+use Rattle.chan_model.specs.Reports.{DeviceAnswer}
 use Rattle.chan_model.specs.declared.report.DeviceAnswer.TheVariants as answer
 use Rattle.device_law.specs.Calls.{answer_of_initial}
 

@@ -3,11 +3,11 @@ use Rattle.std.specs.Prelude.{◌≡◌, ◌≤◌, ℕ, List, [], ◌∷◌, �
 use Rattle.storage_keys.specs.declared.StorageFault.TheVariants.{Addressing, Protection, Specification}
 use Rattle.chan_model.specs.declared.fault.Fault.{Fault}
 use Rattle.chan_model.specs.declared.fault.Fault.TheVariants.{NoMemory, Storage, Operand}
-use Rattle.chan_model.specs.declared.report.Report.{Report}
-use Rattle.chan_events.specs.declared.event.Event.{Event}
+use Rattle.chan_model.specs.Reports.{Report}
+use Rattle.chan_events.specs.Events.{Event}
 use Rattle.chan_events.specs.declared.event.Event.TheVariants as event
 use Rattle.chan_events.specs.declared.reply.Entry.{Entry}
-use Rattle.chan_events.specs.declared.reply.Reply.{Reply}
+use Rattle.chan_events.specs.Replies.{Reply}
 use Rattle.chan_events.specs.declared.reply.Reply.TheVariants as reply
 use Rattle.machine_model.specs.State.{State, Past, IsAsBefore, IsSpent}
 use Rattle.machine_model.specs.Steps.{Step, IsRefused}

@@ -22,11 +22,11 @@ use Rattle.chan_model.specs.ResetCauses.{rests_on}
 use Rattle.chan_model.specs.UnitReports.{unit_reports}
 use Rattle.chan_model.specs.UnitTable as unit_table
 use Rattle.chan_model.specs.UnitTable.{UnitStep, unit_takes}
-use Rattle.chan_events.specs.declared.event.Event.{Event}
+use Rattle.chan_events.specs.Events.{Event}
 use Rattle.chan_events.specs.declared.event.Event.TheVariants as event
 use Rattle.chan_events.specs.declared.event.Instruction.TheVariants as instruction
 use Rattle.chan_events.specs.declared.event.UnitAct.{UnitAct}
-use Rattle.chan_events.specs.declared.reply.Reply.{Reply}
+use Rattle.chan_events.specs.Replies.{Reply}
 use Rattle.chan_events.specs.declared.reply.Reply.TheVariants as reply
 use Rattle.wires.specs.Queues.{queue}
 use Rattle.subchannel_model.specs.declared.cause.StatusCause.TheVariants as cause
@@ -324,8 +324,8 @@ module _ (s : State) where
       calm-follows (event.Up word path) _ place sub _ (takes-calm returns s.storage sub.state path (up.Leave t c) tt)
   takes-follow returns word path place sub (up.Back t c) at =
       calm-follows (event.Up word path) _ place sub _ (takes-calm returns s.storage sub.state path (up.Back t c) tt)
-  takes-follow returns word path place sub (up.Data t c n seq load) at =
-      calm-follows (event.Up word path) _ place sub _ (takes-calm returns s.storage sub.state path (up.Data t c n seq load) tt)
+  takes-follow returns word path place sub (up.Data load t c n seq) at =
+      calm-follows (event.Up word path) _ place sub _ (takes-calm returns s.storage sub.state path (up.Data load t c n seq) tt)
   takes-follow returns word path place sub (up.End t n status more) at =
       calm-follows (event.Up word path) _ place sub _ (takes-calm returns s.storage sub.state path (up.End t n status more) tt)
   takes-follow returns word path place sub (up.Released t) at =

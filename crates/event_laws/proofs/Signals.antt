@@ -218,7 +218,7 @@ takes-calm returns storage s p (up.Back t c) k =
       reset = back-as s.hold s.hold.phase p t c returns refl;
       counts = counts-same s (takes_up returns storage s p (up.Back t c)).step.state refl refl;
     }
-takes-calm returns storage s p (up.Data t c n seq load) k =
+takes-calm returns storage s p (up.Data load t c n seq) k =
     let signal : DataSignal = record { path = p; number = t; connection = c; command = n; sequence = seq } in
     if-meets s (is_connected s.hold.phase p t c) (move_data storage s s.begun signal load) (meets storage (ignoring s))
     (move-calm storage s s.begun signal load) (stays s)

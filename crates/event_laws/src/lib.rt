@@ -1,8 +1,8 @@
 //! What each step answers, and why a step clears status or resets a hold: theorems over the definitions of the machine alone.
 #![tactic(auto)]
 
-ghost use Rattle.chan_events.specs.declared.event.Event.{Event};
-ghost use Rattle.chan_events.specs.declared.reply.Reply.{Reply};
+ghost use Rattle.chan_events.specs.Events.{Event};
+ghost use Rattle.chan_events.specs.Replies.{Reply};
 ghost use Rattle.machine_model.specs.State.{State};
 ghost use Rattle.machine_model.specs.Steps.{Step};
 ghost use Rattle.event_laws.specs.Clearing.{ClearsByCause};

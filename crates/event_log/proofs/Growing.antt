@@ -6,18 +6,17 @@ use Rattle.std.proofs.lemmas.List.Elements.{All-push}
 use Rattle.std.proofs.lemmas.Option.{same_Some, slice_get_read}
 use Rattle.std.specs.List.{slice_get}
 use Rattle.std.specs.Prelude.{All}
-use Rattle.chan_events.specs.declared.event.Event.{Event}
+use Rattle.chan_events.specs.Events.{Event}
 use Rattle.chan_events.specs.declared.reply.Entry.{Entry}
-use Rattle.chan_events.specs.declared.reply.Reply.{Reply}
+use Rattle.chan_events.specs.Replies.{Reply}
 use Rattle.chan_events.specs.declared.reply.Reply.TheVariants as reply
-use Rattle.kept_events.specs.declared.entries.KeptEntry.{KeptEntry}
-use Rattle.kept_events.specs.declared.events.KeptEvent.TheVariants as kept_event
-use Rattle.kept_events.specs.declared.replies.KeptReply.TheVariants as kept_reply
-use Rattle.kept_events.specs.declared.replies.KeptReply.{KeptReply}
-use Rattle.kept_events.specs.Entries.{entry_in, entry_length}
-use Rattle.kept_events.specs.Events.{event_in, event_length}
-use Rattle.kept_events.specs.Replies.{reply_in, reply_length}
-use Rattle.kept_events.proofs.Packed.{reply-done, reply-front}
+use Rattle.event_log.specs.declared.entries.KeptEntry.{KeptEntry}
+use Rattle.chan_events.specs.declared.event.Event.TheVariants as event
+use Rattle.chan_events.specs.Replies.{KeptReply}
+use Rattle.event_log.specs.Entries.{entry_in, entry_length}
+use Rattle.chan_events.specs.Events.{event_in, event_length}
+use Rattle.chan_events.specs.Replies.{reply_in, reply_length}
+use Rattle.chan_events.proofs.Packed.{reply-done, reply-front}
 use Rattle.event_log.specs.Logs.{entry_at, entries_at, last_reply, room_of, Fits, AllFit, IsWritten}
 
 -- a piece that lies in an arena is the same in a longer one
@@ -32,7 +31,7 @@ entry-append arena more k fits = ap (entry_in k) (cut-append arena more k.start 
 
 -- any entry, for a place that a list does not have
 blank : KeptEntry
-blank = record { start = 0; event = kept_event.SystemReset; reply = kept_reply.Done }
+blank = record { start = 0; event = event.SystemReset; reply = reply.Done }
 
 entries-append : (arena more : List ℕ) (ks : List KeptEntry) → AllFit arena ks → entries_at (arena ++ more) ks ≡ entries_at arena ks
 entries-append arena more ks fit =
@@ -109,7 +108,7 @@ ended arena more ks k e is kept long =
     (ap (λ xs. entry_in k (take (entry_length k) xs)) behind ∙ ap (entry_in k) all ∙ ap₂ (λ (x : Event) (y : Reply). record { event = x; reply = y }) second first)
 
 fit-more : (arena more : List ℕ) (ks : List KeptEntry) (k : KeptEntry) → IsWritten arena ks k.start k.reply → event_length k.event ≡ length more →
-    IsWritten (arena ++ more) (ks ++ k ∷ []) (length (arena ++ more)) kept_reply.Done
+    IsWritten (arena ++ more) (ks ++ k ∷ []) (length (arena ++ more)) reply.Done
 fit-more arena more ks k is long =
     let size = length-append arena more in
     record {
@@ -120,11 +119,11 @@ fit-more arena more ks k is long =
     }
 
 pub fit-ended : (arena more after : List ℕ) (ks later : List KeptEntry) (k : KeptEntry) (far : ℕ) → after ≡ arena ++ more → later ≡ ks ++ k ∷ [] → far ≡ length after →
-    IsWritten arena ks k.start k.reply → event_length k.event ≡ length more → IsWritten after later far kept_reply.Done
+    IsWritten arena ks k.start k.reply → event_length k.event ≡ length more → IsWritten after later far reply.Done
 fit-ended arena more after ks later k far grew pushed counts is long =
-    subst (λ (n : ℕ). IsWritten after later n kept_reply.Done) (sym counts)
-    (subst (λ (l : List KeptEntry). IsWritten after l (length after) kept_reply.Done) (sym pushed)
-    (subst (λ (a : List ℕ). IsWritten a (ks ++ k ∷ []) (length a) kept_reply.Done) (sym grew) (fit-more arena more ks k is long)))
+    subst (λ (n : ℕ). IsWritten after later n reply.Done) (sym counts)
+    (subst (λ (l : List KeptEntry). IsWritten after l (length after) reply.Done) (sym pushed)
+    (subst (λ (a : List ℕ). IsWritten a (ks ++ k ∷ []) (length a) reply.Done) (sym grew) (fit-more arena more ks k is long)))
 
 -- an entry that is added with its bytes, where none is being written
 pub kept-added : (arena bytes : List ℕ) (ks : List KeptEntry) (before : KeptReply) (k : KeptEntry) → IsWritten arena ks k.start before → IsBegun arena k.start before →

@@ -1,9 +1,35 @@
 -- Two entries are the same exactly where they are kept with the same numbers and have the same bytes.
-use Rattle.std.proofs.Common.{◌≡◌, ◌≤◌, ℕ, ◌∙◌, sym, arith, List, length, take, drop, length-drop, length-take-le, take-take, le_refl}
-use Rattle.kept_events.specs.declared.entries.KeptEntry.{KeptEntry}
-use Rattle.kept_events.specs.Entries.{entry_length}
-use Rattle.kept_events.proofs.Packed.{IsKeptAs, same-kept, kept-same}
+use Rattle.std.proofs.Common.{◌≡◌, ◌≤◌, ℕ, ◌∙◌, sym, ap, ap₂, arith, List, ◌++◌, length, take, drop, take-add, length-drop, length-take-le, take-take, le_refl}
+use Rattle.event_log.specs.declared.entries.KeptEntry.{KeptEntry}
+use Rattle.chan_events.specs.Events.{event_in, event_length}
+use Rattle.chan_events.specs.Replies.{reply_in, reply_length}
+use Rattle.chan_events.specs.declared.reply.Entry.{Entry}
+use Rattle.event_log.specs.Entries.{entry_bytes, entry_in, entry_length}
+use Rattle.chan_events.proofs.Packed.{event-bytes, event-kept, kept_of_event, kept_of_reply, reply-bytes, reply-kept}
 use Rattle.event_log.specs.Logs.{entry_at, Fits}
+
+entry-bytes : (k : KeptEntry) (bytes : List ℕ) → entry_bytes (entry_in k bytes) ≡ take (entry_length k) bytes
+entry-bytes k bytes =
+    ap₂ (λ (a b : List ℕ). a ++ b) (reply-bytes k.reply bytes) (event-bytes k.event (drop (reply_length k.reply) bytes)) ∙ sym (take-add (reply_length k.reply) (event_length k.event) bytes)
+
+-- two entries that are the same are kept with the same numbers, and have the same bytes
+record IsKeptAs (k l : KeptEntry) (a b : List ℕ) : Type 0 where
+  pub event : k.event ≡ l.event
+  pub reply : k.reply ≡ l.reply
+  pub bytes : take (entry_length k) a ≡ take (entry_length l) b
+
+same-kept : (k l : KeptEntry) (a b : List ℕ) → entry_length k ≤ length a → entry_length l ≤ length b → entry_in k a ≡ entry_in l b → IsKeptAs k l a b
+same-kept k l a b here there same = record {
+  event = sym (event-kept k.event (drop (reply_length k.reply) a) (omega (arith, here, length-drop (reply_length k.reply) a)))
+      ∙ ap (λ (e : Entry). kept_of_event e.event) same
+      ∙ event-kept l.event (drop (reply_length l.reply) b) (omega (arith, there, length-drop (reply_length l.reply) b));
+  reply = sym (reply-kept k.reply a (omega (arith, here))) ∙ ap (λ (e : Entry). kept_of_reply e.reply) same ∙ reply-kept l.reply b (omega (arith, there));
+  bytes = sym (entry-bytes k a) ∙ ap entry_bytes same ∙ entry-bytes l b;
+}
+
+-- and those that are kept so are the same
+kept-same : (k l : KeptEntry) (a b : List ℕ) → k.event ≡ l.event → k.reply ≡ l.reply → a ≡ b → entry_in k a ≡ entry_in l b
+kept-same k l a b event reply bytes i = record { event = event_in (event i) (drop (reply_length (reply i)) (bytes i)); reply = reply_in (reply i) (bytes i) }
 
 abbrev cut : List ℕ → KeptEntry → List ℕ
 cut arena k = take (entry_length k) (drop k.start arena)

@@ -1,13 +1,13 @@
 -- Packed entries over one arena of bytes, and the entries that they are.
 use Rattle.std.specs.Prelude.{ℕ, ◌≡◌, ◌+◌, ◌/◌, ◌≤◌, ◌<◌, ◌++◌, min, List, [], ◌∷◌, All, Vec, vec_len, vec_capacity, Result, Ok, Err, length, take, drop, map, slice_get}
 use Rattle.chan_events.specs.declared.reply.Entry.{Entry}
-use Rattle.chan_events.specs.declared.reply.Reply.{Reply}
+use Rattle.chan_events.specs.Replies.{Reply}
 use Rattle.chan_events.specs.declared.reply.Reply.TheVariants as reply
 use Rattle.chan_model.specs.declared.fault.Fault.{Fault}
-use Rattle.kept_events.specs.Entries.{entry_in, entry_length}
-use Rattle.kept_events.specs.Replies.{reply_bytes, reply_in, reply_length}
-use Rattle.kept_events.specs.declared.entries.KeptEntry.{KeptEntry}
-use Rattle.kept_events.specs.declared.replies.KeptReply.{KeptReply}
+use Rattle.event_log.specs.Entries.{entry_in, entry_length}
+use Rattle.chan_events.specs.Replies.{reply_bytes, reply_in, reply_length}
+use Rattle.event_log.specs.declared.entries.KeptEntry.{KeptEntry}
+use Rattle.chan_events.specs.Replies.{KeptReply}
 
 -- entries, for how many more of them there is room, and the reply of the one that is being written: Done, until a step answers
 pub record Logged : Type 0 where

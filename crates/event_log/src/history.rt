@@ -3,16 +3,15 @@
 ghost use Rattle.std.specs.Prelude.{◌≡◌, ◌≤◌, ◌+◌, ◌++◌, ◌∷◌, ◌↔◌, [], IfNone, IfSome, IsTrue, List, length, take, drop, slice_get};
 ghost use Rattle.chan_events.specs.declared.reply.Entry.{Entry};
 ghost use Rattle.chan_events.specs.declared.reply.Reply.TheVariants as reply_spec;
-ghost use Rattle.kept_events.specs.Entries.{entry_length};
-ghost use Rattle.kept_events.specs.Replies.{reply_in, reply_length};
+ghost use Rattle.event_log.specs.Entries.{entry_length};
+ghost use Rattle.chan_events.specs.Replies.{reply_in, reply_length};
 ghost use Rattle.event_log.specs.Logs.{AllFit, HasSame, entries_at};
 ghost use Rattle.event_log.specs.Logs as spec;
 
+use crate::entries::KeptEntry;
 use crate::logs::Log;
-use chan_events::reply::{Entry, Reply};
-use kept_events::entries::KeptEntry;
-use kept_events::replies::KeptReply;
-use kept_events::same::{same_event, same_reply};
+use chan_events::reply::{Entry, KeptReply, Reply};
+use chan_events::same::{same_event, same_reply};
 use std::marker::Model;
 
 /// The accepted events with their replies, the oldest first.
@@ -43,8 +42,8 @@ pub struct LentReply<'a> {
 
 impl<'a> Model for LentReply<'a> {
     ghost use Rattle.std.specs.Prelude.{◌≤◌, length};
-    ghost use Rattle.chan_events.specs.declared.reply.Reply.{Reply};
-    ghost use Rattle.kept_events.specs.Replies.{reply_in, reply_length};
+    ghost use Rattle.chan_events.specs.Replies.{Reply};
+    ghost use Rattle.chan_events.specs.Replies.{reply_in, reply_length};
 
     ghost Value = { Reply };
 
@@ -58,7 +57,7 @@ impl<'a> LentReply<'a> {
     pub fn own(&self) -> Reply
         ensures { result ≡ self.now }
     {
-        self.kept.with(self.bytes)
+        self.kept.own(self.bytes)
     }
 
     /// What is kept of it, and its bytes, of which there may be more than it has.
@@ -168,7 +167,7 @@ fn entry_at(kept: &KeptEntry, arena: &[u8]) -> Entry
     requires { spec.Fits (length arena.now) kept.now }
     ensures { result ≡ spec.entry_at arena.now kept.now }
 {
-    kept.with(bytes_of(kept, arena))
+    kept.own(bytes_of(kept, arena))
 }
 
 /// Whether each entry is the same as the other's of its number, and there are as many.

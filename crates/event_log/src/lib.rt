@@ -2,5 +2,6 @@
 #![tactic(auto)]
 
 mod arena;
+pub mod entries;
 pub mod history;
 pub mod logs;

@@ -4,20 +4,17 @@ ghost use Rattle.std.specs.Prelude.{◌≡◌, ◌≤◌, ◌<◌, ◌+◌, ◌+
 ghost use Rattle.chan_events.specs.declared.reply.Reply.TheVariants as reply_spec;
 ghost use Rattle.chan_model.specs.Signals.{lent_down, lent_up, map_sent};
 ghost use Rattle.event_log.specs.Logs.{IsKept, IsPacked, answer_in};
-ghost use Rattle.kept_events.specs.Entries.{entry_in, entry_length};
-ghost use Rattle.signal_places.specs.Plain.{plain_outcome};
+ghost use Rattle.event_log.specs.Entries.{entry_in, entry_length};
+ghost use Rattle.chan_events.specs.Replies.{plain_outcome};
 
 use crate::arena::add_bytes;
+use crate::entries::KeptEntry;
 use crate::history::History;
-use chan_events::event::Event;
+use chan_events::event::{Event, KeptEvent};
+use chan_events::reply::{KeptReply, PlainReply, Reply};
 use chan_model::chunk::ChunkLength;
 use chan_model::fault::Fault;
 use chan_model::signal::{LentDown, LentUp, OnPath};
-use kept_events::bytes::event_bytes;
-use kept_events::entries::KeptEntry;
-use kept_events::events::KeptEvent;
-use kept_events::replies::KeptReply;
-use signal_places::plain::PlainReply;
 use std::alloc::{AllocError, Global};
 use std::marker::Model;
 use supply::{Given, Supply, ensure_room};
@@ -37,7 +34,7 @@ pub struct Log {
 
 impl Model for Log {
     ghost use Rattle.std.specs.Prelude.{◌-◌, drop, vec_len, vec_capacity};
-    ghost use Rattle.kept_events.specs.Replies.{reply_in};
+    ghost use Rattle.chan_events.specs.Replies.{reply_in};
     ghost use Rattle.event_log.specs.Logs.{IsWritten, Logged, entries_at, room_of};
 
     ghost Value = { Logged };
@@ -60,7 +57,7 @@ impl Log {
             entries: Vec::new(alloc),
             bytes: Vec::new(alloc),
             start: 0,
-            reply: KeptReply::Done,
+            reply: Reply::Done,
         }
     }
 
@@ -129,14 +126,19 @@ impl Log {
 
     /// The reply of the entry that is being written is this one, which has no bytes; a refusal changes nothing.
     #[inline(always)]
-    pub fn tell(&mut self, answer: Result<PlainReply, Fault>) -> Result<(), Fault>
+    pub fn tell(&mut self, answer: &Result<PlainReply, Fault>) -> Result<(), Fault>
         requires fresh { self.old.reply ≡ reply_spec.Done }
-        ensures told { answer_in result self.new ≡ plain_outcome answer }
+        ensures told { answer_in result self.new ≡ plain_outcome answer.now }
         ensures kept { IsKept self.old self.new }
         ensures refused { OnErr result (self.new ≡ self.old) }
     {
-        self.reply = answer?.keep();
-        Ok(())
+        match answer {
+            Ok(plain) => {
+                self.reply = plain.keep();
+                Ok(())
+            }
+            Err(fault) => Err(*fault),
+        }
     }
 
     /// It shows bytes of storage.
@@ -147,8 +149,8 @@ impl Log {
         ensures reply { self.new.reply ≡ reply_spec.Shown bytes.now }
         ensures kept { IsKept self.old self.new }
     {
-        self.reply = KeptReply::Shown {
-            length: ChunkLength::of(bytes),
+        self.reply = Reply::Shown {
+            bytes: ChunkLength::of(bytes),
         };
         add_bytes(&mut self.bytes, bytes);
     }
@@ -187,15 +189,10 @@ impl Log {
         ensures room { self.old.room ≤ self.new.room + 1 }
         ensures fresh { self.new.reply ≡ reply_spec.Done }
     {
-        push(
-            &mut self.entries,
-            self.start,
-            KeptEvent::of(event),
-            self.reply,
-        );
-        add_bytes(&mut self.bytes, event_bytes(event));
+        push(&mut self.entries, self.start, event.keep(), self.reply);
+        add_bytes(&mut self.bytes, event.bytes());
         self.start = self.bytes.len();
-        self.reply = KeptReply::Done;
+        self.reply = Reply::Done;
     }
 
     /// Adds an entry that is kept with these bytes, for which there is room.

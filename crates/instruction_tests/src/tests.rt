@@ -3,6 +3,7 @@
 mod finding_tests;
 mod functions_tests;
 mod io_step_tests;
+mod sent_tests;
 mod setups;
 mod status_tests;
 mod subchannel_tests;

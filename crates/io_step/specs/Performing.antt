@@ -6,7 +6,7 @@ use Rattle.storage_keys.specs.Storage.{Contents}
 use Rattle.chan_events.specs.declared.event.Instruction.{Instruction}
 use Rattle.chan_events.specs.declared.event.OtherInstruction.{OtherInstruction}
 use Rattle.chan_model.specs.declared.fault.Fault.{Fault}
-use Rattle.chan_events.specs.declared.reply.Reply.{Reply}
+use Rattle.chan_events.specs.Replies.{Reply}
 use Rattle.subchannel_model.specs.declared.state.Subchannel.{Subchannel}
 use Rattle.interruptions.specs.Requests as requests
 use Rattle.machine_model.specs.OtherTurns.{LentWhole, OtherTurn, other_turn}

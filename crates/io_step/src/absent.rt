@@ -2,11 +2,12 @@
 
 ghost use Rattle.std.specs.Prelude.{ℕ};
 ghost use Rattle.io_step.specs.Executing as spec;
-ghost use Rattle.signal_places.specs.Plain.{plain_outcome};
+ghost use Rattle.chan_events.specs.Replies.{plain_outcome};
 ghost use Rattle.chan_events.specs.declared.event.Instruction.TheVariants as instruction_spec;
 
 use crate::operands::{ENABLE_BLOCK, ENABLE_WORD, WORD, check_operand, operand, orb_at, word_at};
 use chan_events::event::Instruction;
+use chan_events::reply::{PlainReply, Reply};
 use chan_model::answer::Answer;
 use chan_model::fault::Fault;
 use chan_model::names::Cpu;
@@ -14,7 +15,6 @@ use functions::blocks::enabling_word;
 use schib_block::SCHIB_BYTES;
 use schib_block::pmcw::Pmcw;
 use scsw_irb::irb::IRB_BYTES;
-use signal_places::plain::PlainReply;
 use storage_keys::Storage;
 use zbits::{be_bytes, be_words};
 
@@ -23,7 +23,7 @@ fn start(storage: &Storage, cpu: Cpu, address: u32) -> Result<PlainReply, Fault>
         spec.Executed_absent storage.now cpu (instruction_spec.Ssch word address) (plain_outcome result) storage.now }
 {
     orb_at(storage, cpu, address)?;
-    Ok(PlainReply::Code(Answer::Three))
+    Ok(Reply::Code(Answer::Three))
 }
 
 fn test(storage: &Storage, cpu: Cpu, address: u32) -> Result<PlainReply, Fault>
@@ -31,7 +31,7 @@ fn test(storage: &Storage, cpu: Cpu, address: u32) -> Result<PlainReply, Fault>
         spec.Executed_absent storage.now cpu (instruction_spec.Tsch word address) (plain_outcome result) storage.now }
 {
     check_operand(storage, cpu, address, IRB_BYTES, WORD)?;
-    Ok(PlainReply::Code(Answer::Three))
+    Ok(Reply::Code(Answer::Three))
 }
 
 fn store(storage: &Storage, cpu: Cpu, address: u32) -> Result<PlainReply, Fault>
@@ -39,7 +39,7 @@ fn store(storage: &Storage, cpu: Cpu, address: u32) -> Result<PlainReply, Fault>
         spec.Executed_absent storage.now cpu (instruction_spec.Stsch word address) (plain_outcome result) storage.now }
 {
     check_operand(storage, cpu, address, SCHIB_BYTES, WORD)?;
-    Ok(PlainReply::Code(Answer::Three))
+    Ok(Reply::Code(Answer::Three))
 }
 
 fn modify(storage: &Storage, cpu: Cpu, address: u32) -> Result<PlainReply, Fault>
@@ -47,7 +47,7 @@ fn modify(storage: &Storage, cpu: Cpu, address: u32) -> Result<PlainReply, Fault
         spec.Executed_absent storage.now cpu (instruction_spec.Msch word address) (plain_outcome result) storage.now }
 {
     word_at(storage, cpu, address)?;
-    Ok(PlainReply::Code(Answer::Three))
+    Ok(Reply::Code(Answer::Three))
 }
 
 /// The bits are placed in the block that stands there, where MODIFY SUBCHANNEL takes it.
@@ -69,7 +69,7 @@ fn enable(
     let words = be_words::<13>(&image);
     let placed = be_bytes::<4>(&[enabling_word(words[1], subclass, multipath)]);
     storage.store_operand(cpu.number(), ENABLE_WORD, &placed);
-    Ok(PlainReply::Code(Answer::Three))
+    Ok(Reply::Code(Answer::Three))
 }
 
 /// Executes an instruction on a subchannel that is not provided. A refusal changes nothing.
@@ -93,6 +93,6 @@ pub fn execute_absent(
         Instruction::Rsch { .. }
         | Instruction::Hsch { .. }
         | Instruction::Csch { .. }
-        | Instruction::Xsch { .. } => Ok(PlainReply::Code(Answer::Three)),
+        | Instruction::Xsch { .. } => Ok(Reply::Code(Answer::Three)),
     }
 }

@@ -1,12 +1,12 @@
 //! What is known of the channel paths, and the condition code of what an instruction answered.
 
 ghost use Rattle.std.specs.Prelude.{◌≡◌};
-ghost use Rattle.signal_places.specs.Plain.{reply_of};
+ghost use Rattle.chan_events.specs.Replies.{reply_of};
 ghost use Rattle.machine_model.specs.Requests as spec;
 
 use crate::others::PathTable;
+use chan_events::reply::{PlainReply, Reply};
 use chan_model::answer::ConditionCode;
-use signal_places::plain::PlainReply;
 
 /// What is known of the channel paths, by identifier.
 #[derive(Clone, Copy)]
@@ -23,18 +23,21 @@ pub fn reply_code(reply: &PlainReply) -> Option<ConditionCode>
     ensures { result ≡ spec.reply_code (reply_of reply.now) }
 {
     match reply {
-        PlainReply::Code(answer) | PlainReply::Status { answer, .. } => Some(answer.code()),
-        PlainReply::Interruption(None) => Some(ConditionCode::Zero),
-        PlainReply::Interruption(Some(_)) => Some(ConditionCode::One),
-        PlainReply::PathReset(code) => Some(*code),
-        PlainReply::ChannelReport(None) => Some(ConditionCode::One),
-        PlainReply::ChannelReport(Some(_)) => Some(ConditionCode::Zero),
-        PlainReply::Paths { .. }
-        | PlainReply::Done
-        | PlainReply::Offered { .. }
-        | PlainReply::ResetSent { .. }
-        | PlainReply::HaltSent { .. }
-        | PlainReply::Pending
-        | PlainReply::Idle => None,
+        Reply::Code(answer) | Reply::Status { answer, .. } => Some(answer.code()),
+        Reply::Interruption(None) => Some(ConditionCode::Zero),
+        Reply::Interruption(Some(_)) => Some(ConditionCode::One),
+        Reply::PathReset(code) => Some(*code),
+        Reply::ChannelReport(None) => Some(ConditionCode::One),
+        Reply::ChannelReport(Some(_)) => Some(ConditionCode::Zero),
+        Reply::Shown { .. }
+        | Reply::Up { .. }
+        | Reply::Down { .. }
+        | Reply::Paths { .. }
+        | Reply::Done
+        | Reply::Offered { .. }
+        | Reply::ResetSent { .. }
+        | Reply::HaltSent { .. }
+        | Reply::Pending
+        | Reply::Idle => None,
     }
 }

@@ -2,7 +2,7 @@
 
 ghost use Rattle.std.specs.Prelude.{◌≡◌, IfSome, Some};
 ghost use Rattle.machine_model.specs.Bounds.{IsRoomy};
-ghost use Rattle.signal_places.specs.Plain.{plain_outcome};
+ghost use Rattle.chan_events.specs.Replies.{plain_outcome};
 ghost use Rattle.io_step.specs.Performing as spec;
 ghost use Rattle.machine_model.specs.OtherTurns.{lent_whole};
 ghost use Rattle.machine_model.specs.Requests as requests_spec;
@@ -12,12 +12,12 @@ use crate::instruction::{ChannelPaths, reply_code};
 use crate::others::{rchp, stcps, stcrw, tpi};
 use crate::provided::execute;
 use chan_events::event::{Instruction, OtherInstruction};
+use chan_events::reply::{PlainReply, Reply};
 use chan_model::answer::ConditionCode;
 use chan_model::fault::Fault;
 use chan_model::names::Cpu;
 use channel_reports::Reports;
 use interruptions::Pending;
-use signal_places::plain::PlainReply;
 use storage_keys::Storage;
 use subchannel_model::state::Subchannel;
 
@@ -95,19 +95,19 @@ pub fn perform_other(
     match instruction {
         OtherInstruction::Tpi { mask, address } => {
             let found = tpi(storage, pending, cpu, mask, address)?;
-            Ok(PlainReply::Interruption(found))
+            Ok(Reply::Interruption(found))
         }
         OtherInstruction::Rchp { path } => {
             let code = rchp(reports, &paths.up, path)?;
-            Ok(PlainReply::PathReset(code))
+            Ok(Reply::PathReset(code))
         }
         OtherInstruction::Stcrw { address } => {
             let report = stcrw(storage, reports, cpu, address)?;
-            Ok(PlainReply::ChannelReport(report))
+            Ok(Reply::ChannelReport(report))
         }
         OtherInstruction::Stcps { address } => {
             let engaged = stcps(storage, &paths.engaged, cpu, address)?;
-            Ok(PlainReply::Paths { engaged })
+            Ok(Reply::Paths { engaged })
         }
     }
 }

@@ -2,7 +2,7 @@
 
 ghost use Rattle.std.specs.Prelude.{◌≡◌, ◌≤◌, ◌+◌, ℕ, length};
 ghost use Rattle.io_step.specs.Executing as spec;
-ghost use Rattle.signal_places.specs.Plain.{plain_outcome};
+ghost use Rattle.chan_events.specs.Replies.{plain_outcome};
 ghost use Rattle.machine_model.specs.State.{State};
 ghost use Rattle.machine_model.specs.InstructionSteps as steps;
 ghost use Rattle.machine_model.specs.Bounds.{IsRoomy};
@@ -15,13 +15,13 @@ use crate::turns::{
     test_code_of, test_sub,
 };
 use chan_events::event::Instruction;
+use chan_events::reply::{PlainReply, Reply};
 use chan_model::answer::Answer;
 use chan_model::fault::Fault;
 use chan_model::names::Cpu;
 use functions::blocks::{enabling_schib, schib_of};
 use schib_block::SCHIB_BYTES;
 use scsw_irb::irb::IRB_BYTES;
-use signal_places::plain::PlainReply;
 use storage_keys::Storage;
 use subchannel_model::state::Subchannel;
 
@@ -83,7 +83,7 @@ fn store(
     check_operand(storage, cpu, address, SCHIB_BYTES, WORD)?;
     let image = schib_of(sub).write();
     storage.store_operand(cpu.number(), address, &image);
-    Ok(PlainReply::Status {
+    Ok(Reply::Status {
         answer: Answer::Zero(sub.state.serials),
         scsw: sub.state.scsw,
     })

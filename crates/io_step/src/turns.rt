@@ -1,7 +1,7 @@
 //! What an instruction leaves of its subchannel.
 
 ghost use Rattle.std.specs.Prelude.{◌≡◌};
-ghost use Rattle.signal_places.specs.Plain.{reply_of};
+ghost use Rattle.chan_events.specs.Replies.{reply_of};
 ghost use Rattle.machine_model.specs.InstructionSteps as spec;
 ghost use Rattle.machine_model.specs.Turns as turn_spec;
 ghost use Rattle.machine_model.specs.Bounds.{IsRoomy};
@@ -13,6 +13,7 @@ ghost use Rattle.subchannel_model.specs.Clear.{csch_code, cleared};
 ghost use Rattle.subchannel_model.specs.Cancel.{xsch_code, cancelled};
 ghost use Rattle.subchannel_model.specs.Test as test_spec;
 
+use chan_events::reply::{PlainReply, Reply};
 use chan_model::answer::{Answer, ConditionCode};
 use chan_model::paths::mask_of_path;
 use functions::codes::condition_of;
@@ -21,7 +22,6 @@ use functions::{csch, hsch, msch, rsch, ssch, xsch};
 use orb_block::Orb;
 use schib_block::pmcw::Pmcw;
 use scsw_irb::irb::Irb;
-use signal_places::plain::PlainReply;
 use status::tsch;
 use subchannel_model::state::{Subchannel, SubchannelState};
 
@@ -33,7 +33,7 @@ pub fn start_sub(sub: &mut Subchannel, orb: Orb) -> PlainReply
     ensures setup { sub.new.setup ≡ sub.old.setup }
 {
     let code = ssch(&mut sub.state, orb);
-    PlainReply::Code(Answer::of(code, sub.state.serials))
+    Reply::Code(Answer::of(code, sub.state.serials))
 }
 
 /// The condition code of TEST SUBCHANNEL.
@@ -53,8 +53,8 @@ pub fn test_sub(sub: &mut Subchannel) -> PlainReply
     let code = tsch(&mut sub.state);
     let answer = Answer::of(code, sub.state.serials);
     match code {
-        ConditionCode::Zero | ConditionCode::One => PlainReply::Status { answer, scsw },
-        ConditionCode::Two | ConditionCode::Three => PlainReply::Code(answer),
+        ConditionCode::Zero | ConditionCode::One => Reply::Status { answer, scsw },
+        ConditionCode::Two | ConditionCode::Three => Reply::Code(answer),
     }
 }
 
@@ -86,7 +86,7 @@ pub fn modify_sub(sub: &mut Subchannel, given: &Pmcw) -> PlainReply
 {
     modified();
     let code = msch(&mut sub.state, given);
-    PlainReply::Code(Answer::of(code, sub.state.serials))
+    Reply::Code(Answer::of(code, sub.state.serials))
 }
 
 /// RESUME SUBCHANNEL.
@@ -96,7 +96,7 @@ pub fn resume_sub(sub: &mut Subchannel) -> PlainReply
     ensures setup { sub.new.setup ≡ sub.old.setup }
 {
     let code = rsch(&mut sub.state);
-    PlainReply::Code(Answer::of(code, sub.state.serials))
+    Reply::Code(Answer::of(code, sub.state.serials))
 }
 
 /// HALT SUBCHANNEL.
@@ -106,7 +106,7 @@ pub fn halt_sub(sub: &mut Subchannel) -> PlainReply
     ensures setup { sub.new.setup ≡ sub.old.setup }
 {
     let code = hsch(&mut sub.state);
-    PlainReply::Code(Answer::of(code, sub.state.serials))
+    Reply::Code(Answer::of(code, sub.state.serials))
 }
 
 /// CLEAR SUBCHANNEL.
@@ -117,7 +117,7 @@ pub fn clear_sub(sub: &mut Subchannel) -> PlainReply
     ensures setup { sub.new.setup ≡ sub.old.setup }
 {
     let code = csch(&mut sub.state);
-    PlainReply::Code(Answer::of(code, sub.state.serials))
+    Reply::Code(Answer::of(code, sub.state.serials))
 }
 
 /// CANCEL SUBCHANNEL.
@@ -127,5 +127,5 @@ pub fn cancel_sub(sub: &mut Subchannel) -> PlainReply
     ensures setup { sub.new.setup ≡ sub.old.setup }
 {
     let code = xsch(&mut sub.state);
-    PlainReply::Code(Answer::of(code, sub.state.serials))
+    Reply::Code(Answer::of(code, sub.state.serials))
 }

@@ -242,7 +242,7 @@ module _ (keeps : Keeps) where
   takes-leaves returns storage l s p (up.Busy t) c at = by_hold-leaves false l s p (up.Busy t) c at refl
   takes-leaves returns storage l s p (up.Leave t d) c at = by_hold-leaves false l s p (up.Leave t d) c at refl
   takes-leaves returns storage l s p (up.Back t d) c at = by_hold-leaves returns l s p (up.Back t d) c at refl
-  takes-leaves returns storage l s p (up.Data t d n seq load) c at =
+  takes-leaves returns storage l s p (up.Data load t d n seq) c at =
       if-meets l (is_connected s.hold.phase p t d) (move_data storage s s.begun (record { path = p; number = t; connection = d; command = n; sequence = seq }) load) (meets storage (ignoring s))
       (move-leaves storage l s s.begun (record { path = p; number = t; connection = d; command = n; sequence = seq }) load at) (ignored l s at)
   takes-leaves returns storage l s p (up.End t n status more) c at =

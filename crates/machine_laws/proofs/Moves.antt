@@ -10,9 +10,9 @@ use Rattle.channel_config.specs.Setup.{Setup}
 use Rattle.channel_config.specs.declared.parts.SubchannelSetup.{SubchannelSetup}
 use Rattle.storage_keys.specs.Storage.{Contents}
 use Rattle.chan_model.specs.declared.fault.Fault.{Fault}
-use Rattle.chan_events.specs.declared.event.Event.{Event}
+use Rattle.chan_events.specs.Events.{Event}
 use Rattle.chan_events.specs.declared.event.UnitAct.{UnitAct}
-use Rattle.chan_events.specs.declared.reply.Reply.{Reply}
+use Rattle.chan_events.specs.Replies.{Reply}
 use Rattle.chan_model.specs.declared.answer.ConditionCode.{ConditionCode}
 use Rattle.chan_model.specs.declared.answer.ConditionCode.TheVariants as code
 use Rattle.chan_model.specs.Signals.{Down}

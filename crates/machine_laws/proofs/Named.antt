@@ -8,7 +8,7 @@ use Rattle.chan_model.specs.Signals.{Up}
 use Rattle.chan_events.specs.declared.event.Event.TheVariants as event
 use Rattle.chan_events.specs.declared.event.Instruction.{Instruction}
 use Rattle.chan_events.specs.declared.reply.Entry.{Entry}
-use Rattle.chan_events.specs.declared.reply.Reply.{Reply}
+use Rattle.chan_events.specs.Replies.{Reply}
 use Rattle.chan_events.specs.declared.reply.Reply.TheVariants as reply
 use Rattle.machine_laws.specs.Claims.{serial_of}
 use Rattle.machine_laws.specs.Beginnings.{StartCounts, with_begun, with_taken}

@@ -409,7 +409,7 @@ module _ (numbered : AreNumbered) where
   up-sound returns floor n storage s p (up.Busy t) k = later floor n s k
   up-sound returns floor n storage s p (up.Leave t c) k = later floor n s k
   up-sound returns floor n storage s p (up.Back t c) k = later floor n s k
-  up-sound returns floor n storage s p (up.Data t c m seq load) k = data-sound floor n storage s (record { path = p; number = t; connection = c; command = m; sequence = seq }) load k
+  up-sound returns floor n storage s p (up.Data load t c m seq) k = data-sound floor n storage s (record { path = p; number = t; connection = c; command = m; sequence = seq }) load k
   up-sound returns floor n storage s p (up.End t m st more) k = end-sound floor n storage s (record { path = p; number = t; command = m; status = st; more = more }) k
   up-sound returns floor n storage s p (up.Released t) k = later floor n s k
   up-sound returns floor n storage s p (up.Cleared r) k = reset-sound floor n s (hold_takes s.hold p (up.Cleared r) false) k

@@ -4,8 +4,8 @@ use Rattle.std.specs.Prelude.{◌⊎◌, ◌≢◌, if◌then◌else◌, slice_g
 use Rattle.chan_model.specs.declared.fault.Fault.{Fault}
 use Rattle.chan_model.specs.declared.names.Side.{Side}
 use Rattle.chan_model.specs.declared.names.Side.TheVariants.{First, Second}
-use Rattle.chan_model.specs.declared.report.Report.{Report}
-use Rattle.chan_events.specs.declared.reply.Reply.{Reply}
+use Rattle.chan_model.specs.Reports.{Report}
+use Rattle.chan_events.specs.Replies.{Reply}
 use Rattle.chan_events.specs.declared.reply.Reply.TheVariants as reply
 use Rattle.chan_events.specs.declared.event.UnitAct as told_act
 use Rattle.chan_events.specs.declared.event.UnitAct.TheVariants as act
@@ -290,7 +290,7 @@ module _ (laws : AreLaws) where
   down-ends may sub path u (down.Grant t c) w l j x = absurd x.1
   down-ends may sub path u (down.Refuse t c) w l j x = absurd x.1
   down-ends may sub path u (down.Took t n s room) w l j x = absurd x.1
-  down-ends may sub path u (down.Give t c n s bytes) w l j x = absurd x.1
+  down-ends may sub path u (down.Give bytes t c n s) w l j x = absurd x.1
   down-ends may sub path u (down.Halt t) w l j x = absurd x.1
   down-ends may sub path u (down.Release t) w l j x = absurd x.1
   down-ends may sub path u (down.Got a) w l j x = absurd x.1

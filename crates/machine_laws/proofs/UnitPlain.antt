@@ -6,9 +6,9 @@ use Rattle.std.proofs.lemmas.Bool.{eqb-true}
 use Rattle.chan_model.specs.declared.names.Side.{Side}
 use Rattle.chan_model.specs.declared.names.Side.TheVariants.{First, Second}
 use Rattle.scsw_irb.specs.declared.status.DeviceStatus.{DeviceStatus}
-use Rattle.chan_model.specs.declared.report.DeviceAnswer.{DeviceAnswer}
+use Rattle.chan_model.specs.Reports.{DeviceAnswer}
 use Rattle.chan_model.specs.declared.report.DeviceAnswer.TheVariants as answer
-use Rattle.chan_model.specs.declared.report.Report.{Report}
+use Rattle.chan_model.specs.Reports.{Report}
 use Rattle.chan_model.specs.Signals.{Down}
 use Rattle.chan_model.specs.declared.signal.Down.TheVariants as down
 use Rattle.chan_model.specs.Signals.{Load}
@@ -158,7 +158,7 @@ works-plain u side p (down.Grant t c) may = granted-plain u u.own side p t c ref
 works-plain u side p (down.Refuse t c) may = refused-plain u u.own side t c refl
 works-plain u side p (down.Took t n s room) may =
     if-plain u (is_owner u.own side t && (n == u.last_command)) _ None (answered-plain u u.at_hand s room refl) (stays u)
-works-plain u side p (down.Give t c n s bytes) may =
+works-plain u side p (down.Give bytes t c n s) may =
     if-plain u (is_owner_on u.own side t c && (n == u.last_command)) _ None (given-plain u u.at_hand s bytes refl) (stays u)
 works-plain u side p (down.Halt t) may = if-plain u (is_owner u.own side t && not u.halted) _ None (same-hand u _ refl refl refl refl) (stays u)
 works-plain u side p (down.Release t) may = if-plain u (is_owner u.own side t) _ None (plain u _ refl refl (λ n w. tt) (λ n w. tt)) (stays u)
@@ -198,7 +198,7 @@ takes-plain u side p (down.Command t n code room) may = fresh-plain u side p _ (
 takes-plain u side p (down.Grant t c) may = fresh-plain u side p _ (works-plain u side p (down.Grant t c) may)
 takes-plain u side p (down.Refuse t c) may = fresh-plain u side p _ (works-plain u side p (down.Refuse t c) may)
 takes-plain u side p (down.Took t n s room) may = fresh-plain u side p _ (works-plain u side p (down.Took t n s room) may)
-takes-plain u side p (down.Give t c n s bytes) may = fresh-plain u side p _ (works-plain u side p (down.Give t c n s bytes) may)
+takes-plain u side p (down.Give bytes t c n s) may = fresh-plain u side p _ (works-plain u side p (down.Give bytes t c n s) may)
 takes-plain u side p (down.Halt t) may = fresh-plain u side p _ (works-plain u side p (down.Halt t) may)
 takes-plain u side p (down.Release t) may = fresh-plain u side p _ (works-plain u side p (down.Release t) may)
 takes-plain u side p (down.Reset r c) may = reset-plain u side p r c may

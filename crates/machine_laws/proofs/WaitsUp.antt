@@ -399,7 +399,7 @@ module _ (A : Type 0) (B : ℕ → Type 0) where
       let turned : Turned A B s (by_hold s step).state = still-turned s step (back-still s.hold s.hold.phase p t c returns refl) k in
       calm-then s (by_hold s step).state (back s p step).state (kept (by_hold s step).state (back s p step).state refl refl refl refl refl)
       turned.waits.begun turned
-  takes-turned returns storage s p (up.Data t c n seq load) f k =
+  takes-turned returns storage s p (up.Data load t c n seq) f k =
       if-met s (is_connected s.hold.phase p t c) (move_data storage s s.begun (record { path = p; number = t; connection = c; command = n; sequence = seq }) load) (meets storage (ignoring s))
       (move-turned storage s s.begun (record { path = p; number = t; connection = c; command = n; sequence = seq }) load refl k) (same-turned A B s k)
   takes-turned returns storage s p (up.End t n status more) f k =

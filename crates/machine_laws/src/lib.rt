@@ -4,9 +4,9 @@
 ghost use Rattle.std.specs.Prelude.{◌≡◌, ℕ, List, ◌++◌, All, length, map};
 ghost use Rattle.subchannel_model.specs.Losing.{loses};
 ghost use Rattle.std.specs.List.{AllZip};
-ghost use Rattle.chan_events.specs.declared.event.Event.{Event};
+ghost use Rattle.chan_events.specs.Events.{Event};
 ghost use Rattle.chan_events.specs.declared.reply.Entry.{Entry};
-ghost use Rattle.chan_events.specs.declared.reply.Reply.{Reply};
+ghost use Rattle.chan_events.specs.Replies.{Reply};
 ghost use Rattle.channel_config.specs.Lawful.{IsLawful};
 ghost use Rattle.channel_config.specs.Setup.{Setup, set_count};
 ghost use Rattle.machine_model.specs.State.{State, opening_of};

@@ -1,8 +1,8 @@
 -- What a call of a device leaves of a seat, and a turn with the call that it left owed.
 use Rattle.std.proofs.Common.{◌≡◌, ℕ, Bool, false, List, Option, None, Some, refl, sym, ap, ◌∙◌, subst, inl}
 use Rattle.std.specs.Prelude.{is_some}
-use Rattle.chan_model.specs.declared.report.Call.{Call}
-use Rattle.chan_model.specs.declared.report.DeviceAnswer.{DeviceAnswer}
+use Rattle.chan_model.specs.Reports.{Call}
+use Rattle.chan_model.specs.Reports.{DeviceAnswer}
 use Rattle.chan_events.specs.declared.reply.Entry.{Entry}
 use Rattle.core_parts.specs.declared.turns.OwedCall.{OwedCall}
 use Rattle.core_parts.specs.declared.turns.KeptReport.{KeptReport}

@@ -1,8 +1,8 @@
 -- One turn more.
 use Rattle.std.proofs.Common.{◌≡◌, ℕ, ◌+◌, Bool, Result, add-one, sym, subst}
 use Rattle.chan_model.specs.declared.fault.Fault.{Fault}
-use Rattle.chan_model.specs.declared.report.Call.{Call}
-use Rattle.chan_model.specs.declared.report.DeviceAnswer.{DeviceAnswer}
+use Rattle.chan_model.specs.Reports.{Call}
+use Rattle.chan_model.specs.Reports.{DeviceAnswer}
 use Rattle.path_select.specs.Choice.{Rule}
 use Rattle.core_parts.specs.Seats.{HeldSeat}
 use Rattle.core_lock.specs.Turns.{count_in}

@@ -1,8 +1,8 @@
 -- What workers do, turn after turn (own).
 use Rattle.std.specs.Prelude.{◌≡◌, ◌⊎◌, ℕ, zero, suc, ◌+◌, Bool, None, Result}
 use Rattle.chan_model.specs.declared.fault.Fault.{Fault}
-use Rattle.chan_model.specs.declared.report.Call.{Call}
-use Rattle.chan_model.specs.declared.report.DeviceAnswer.{DeviceAnswer}
+use Rattle.chan_model.specs.Reports.{Call}
+use Rattle.chan_model.specs.Reports.{DeviceAnswer}
 use Rattle.path_select.specs.Choice.{Rule}
 use Rattle.core_parts.specs.Seats.{HeldSeat, Seated}
 use Rattle.core_lock.specs.Outside.{IsPathTurn, IsUnitTurn}

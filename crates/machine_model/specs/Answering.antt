@@ -1,9 +1,9 @@
 -- How a list of events is answered, one after another.
 use Rattle.std.specs.Prelude.{◌≡◌, ◌<◌, ◌⊎◌, ℕ, Bool, true, Result, Ok, Err, List, [], ◌∷◌, ◌++◌, length, take}
-use Rattle.chan_events.specs.declared.event.Event.{Event}
+use Rattle.chan_events.specs.Events.{Event}
 use Rattle.chan_model.specs.declared.fault.Fault.{Fault}
 use Rattle.chan_events.specs.declared.reply.Entry.{Entry}
-use Rattle.chan_events.specs.declared.reply.Reply.{Reply}
+use Rattle.chan_events.specs.Replies.{Reply}
 use Rattle.path_select.specs.Choice.{Rule}
 use Rattle.machine_model.specs.Ruled.{GoesByRule}
 use Rattle.machine_model.specs.State.{State, Past, IsSpent}

@@ -1,3 +1,4 @@
+pub mod UnitTurns
 pub mod State
 pub mod Setups
 pub mod Turns

@@ -15,7 +15,7 @@ use Rattle.interruptions.specs.Requests as requests
 use Rattle.channel_reports.specs.Queue as reports
 use Rattle.chan_events.specs.declared.event.OtherInstruction.{OtherInstruction}
 use Rattle.chan_events.specs.declared.event.OtherInstruction.TheVariants as other
-use Rattle.chan_events.specs.declared.reply.Reply.{Reply}
+use Rattle.chan_events.specs.Replies.{Reply}
 use Rattle.chan_events.specs.declared.reply.Reply.TheVariants as reply
 use Rattle.machine_model.specs.State.{State}
 use Rattle.machine_model.specs.Turns.{Outcome, does}

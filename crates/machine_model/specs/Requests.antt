@@ -6,11 +6,11 @@ use Rattle.scsw_irb.specs.declared.code.IntCode.{IntCode}
 use Rattle.chan_model.specs.declared.answer.ConditionCode.{ConditionCode}
 use Rattle.chan_model.specs.declared.answer.ConditionCode.TheVariants.{Zero, One}
 use Rattle.chan_model.specs.ConditionCodes.{code_of, tpi_code, stcrw_code}
-use Rattle.chan_events.specs.declared.event.Event.{Event}
+use Rattle.chan_events.specs.Events.{Event}
 use Rattle.chan_events.specs.declared.event.Event.TheVariants as event
 use Rattle.chan_events.specs.declared.event.Instruction.{Instruction}
 use Rattle.chan_events.specs.declared.event.Instruction.TheVariants as instruction
-use Rattle.chan_events.specs.declared.reply.Reply.{Reply}
+use Rattle.chan_events.specs.Replies.{Reply}
 use Rattle.chan_events.specs.declared.reply.Reply.TheVariants as reply
 use Rattle.interruptions.specs.Requests as requests
 use Rattle.subchannel_model.specs.declared.state.Subchannel.{Subchannel}

@@ -1,10 +1,10 @@
 -- Steps whose path is the one that a rule of choice gives.
 use Rattle.std.specs.Prelude.{◌≡◌, ℕ, Option, None, Some, Result, Ok, Err}
-use Rattle.chan_events.specs.declared.event.Event.{Event}
+use Rattle.chan_events.specs.Events.{Event}
 use Rattle.chan_events.specs.declared.event.Event.TheVariants as event
 use Rattle.chan_model.specs.declared.fault.Fault.{Fault}
 use Rattle.chan_model.specs.declared.fault.Fault.TheVariants as fault
-use Rattle.chan_events.specs.declared.reply.Reply.{Reply}
+use Rattle.chan_events.specs.Replies.{Reply}
 use Rattle.path_select.specs.Choice.{Rule, IsChoice}
 use Rattle.subchannel_model.specs.Choosing.{chosen, marked_sub, paths_to_choose}
 use Rattle.machine_model.specs.State.{State, found_of}

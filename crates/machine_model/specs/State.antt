@@ -14,9 +14,9 @@ use Rattle.channel_reports.specs.Queue.{WaitingReports, no_reports_wait}
 use Rattle.channel_config.specs.SubchannelWords.{subchannel_named}
 use Rattle.scsw_irb.specs.declared.serials.Serials.{Serials}
 use Rattle.chan_model.specs.Signals.{Down}
-use Rattle.chan_model.specs.declared.report.Work.{Work}
+use Rattle.chan_model.specs.Reports.{Work}
 use Rattle.chan_model.specs.UnitReports.{unit_work}
-use Rattle.machine_model.specs.declared.state.UnitTurn.{UnitTurn}
+use Rattle.machine_model.specs.UnitTurns.{UnitTurn}
 use Rattle.machine_model.specs.declared.state.UnitTurn.TheVariants as unit_turn
 use Rattle.machine_model.specs.declared.state.UnitTurn.TheVariants.{Takes, Works, Rests}
 use Rattle.chan_model.specs.declared.names.Side.{Side}

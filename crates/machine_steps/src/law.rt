@@ -2,7 +2,7 @@
 
 ghost use Rattle.std.specs.Prelude.{◌≡◌, ◌≢◌, ℕ, None, Some};
 ghost use Rattle.chan_events.specs.declared.event.Event.TheVariants as event_spec;
-ghost use Rattle.chan_events.specs.declared.reply.Reply.{Reply};
+ghost use Rattle.chan_events.specs.Replies.{Reply};
 ghost use Rattle.chan_events.specs.declared.reply.Reply.TheVariants as reply_spec;
 ghost use Rattle.machine_model.specs.State.{State, sub_of};
 ghost use Rattle.machine_model.specs.Steps.{Step};

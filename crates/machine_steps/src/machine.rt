@@ -1,14 +1,13 @@
 //! A channel subsystem without its history: what each event does to the whole.
 
 ghost use Rattle.std.specs.Prelude.{◌≡◌, ◌<◌, ◌≤◌, All, Ok, Err, IfErr, OnErr, OnOk, None, Some, IfSome, length, slice_get};
-ghost use Rattle.signal_places.specs.declared.plain.PlainReply.TheVariants as plain_spec;
 ghost use Rattle.chan_model.specs.declared.fault.Fault.TheVariants as fault_spec;
 ghost use Rattle.subchannel_model.specs.declared.state.Subchannel.{Subchannel};
 ghost use Rattle.machine_model.specs.State as state_spec;
 ghost use Rattle.machine_model.specs.Ruled.{GoesByRule};
 ghost use Rattle.machine_model.specs.InstructionSteps as instruction_steps;
 ghost use Rattle.subchannel_steps.specs.Giving as giving_spec;
-ghost use Rattle.subchannel_steps.specs.KeptTurns.{given_of, turns_in};
+ghost use Rattle.machine_model.specs.UnitTurns.{lent_turns};
 ghost use Rattle.subchannel_steps.specs.PathTurns as turn_spec;
 ghost use Rattle.machine_model.specs.StorageSteps as storage_spec;
 ghost use Rattle.machine_model.specs.Steps as spec;
@@ -18,13 +17,14 @@ ghost use Rattle.chan_events.specs.declared.event.Event.TheVariants as event_spe
 ghost use Rattle.finding.specs.Tables.{Fits};
 ghost use Rattle.chan_events.specs.declared.reply.Reply.TheVariants as reply_spec;
 ghost use Rattle.event_log.specs.Logs.{IsKept, answer_in};
-ghost use Rattle.signal_places.specs.Plain.{plain_outcome};
+ghost use Rattle.chan_events.specs.Replies.{plain_outcome};
 
 use chan_events::event::{Event, Instruction, OtherInstruction, UnitAct};
+use chan_events::reply::{PlainReply, Reply};
 use chan_model::chunk::{Chunk, ChunkLength};
 use chan_model::fault::Fault;
 use chan_model::names::Cpu;
-use chan_model::report::Report;
+use chan_model::report::{LentWork, Report};
 use channel_config::names::subchannel_named;
 use channel_reports::Reports;
 use control_units::sharing::Sharing;
@@ -36,15 +36,12 @@ use io_step::{ChannelPaths, PathTable, execute_absent, perform_other, perform_pr
 use machine_model::state::UnitTurn;
 use path_select::PathChoice;
 use scsw_irb::serials::Serials;
-use signal_places::plain::PlainReply;
-use signal_places::sent::SentDown;
 use std::marker::Model;
 use storage_keys::key::Key;
 use storage_keys::{Storage, StorageFault};
 use subchannel::choosing::{chosen, paths_to_choose};
 use subchannel_model::state::Subchannel;
 use subchannel_steps::acts::{act_sub, not_held, side_of_act};
-use subchannel_steps::kept_turns::KeptTurn;
 use subchannel_steps::path_turns::turn_at;
 use subchannel_steps::posting::post;
 use subchannel_steps::sharing::restart;
@@ -52,6 +49,7 @@ use subchannel_steps::tables::engaged_for;
 use subchannel_steps::turns::{choose_sub, down_sub, path_of, report_sub, returns_at, up_sub};
 use subchannel_steps::unit_turns::turn_of_unit;
 use unit::Unit;
+use working::sent::SentDown;
 
 /// General register 1: the word that names the subchannel of an instruction.
 fn word_of(instruction: Instruction) -> u32
@@ -72,11 +70,11 @@ fn word_of(instruction: Instruction) -> u32
 
 /// The answer of an event that storage has done or refused.
 fn done(came: Result<(), StorageFault>) -> Result<PlainReply, Fault>
-    ensures done { OnOk came (result ≡ Ok plain_spec.Done) }
+    ensures done { OnOk came (result ≡ Ok reply_spec.Done) }
     ensures refused { IfErr came (λ f. result ≡ Err (fault_spec.Storage f)) }
 {
     match came {
-        Ok(()) => Ok(PlainReply::Done),
+        Ok(()) => Ok(Reply::Done),
         Err(fault) => Err(Fault::Storage(fault)),
     }
 }
@@ -174,33 +172,22 @@ impl Machine {
         requires fits { Fits places.now self.now.subs }
         ensures { result ≡ state_spec.unit_turn_of self.now number }
     {
-        match self.kept_turn(places, number) {
+        match self.lent_turn(places, number) {
             None => None,
-            Some(turn) => Some(turn.with(self.given(number))),
+            Some(turn) => Some(turn.own()),
         }
     }
 
-    /// What a unit is to do next, as `unit_turn` has it; the bytes that are to be absorbed are those of `given`.
-    pub fn kept_turn(&self, places: &Places, number: u32) -> Option<KeptTurn>
+    /// What a unit is to do next, as `unit_turn` has it; the bytes that are to be absorbed are lent.
+    pub fn lent_turn(&self, places: &Places, number: u32) -> Option<UnitTurn<LentWork<'_>>>
         requires fits { Fits places.now self.now.subs }
-        ensures { turns_in result (given_of self.now number) ≡ state_spec.unit_turn_of self.now number }
+        ensures { lent_turns result ≡ state_spec.unit_turn_of self.now number }
     {
         let number = number as usize;
         if number >= self.units.len() {
             return None;
         }
         Some(turn_of_unit(places, number, &self.units[number], self.subs.as_slice()))
-    }
-
-    /// The bytes of a write that the device of a unit has not absorbed.
-    pub fn given(&self, number: u32) -> &[u8]
-        ensures value { result.now ≡ given_of self.now number }
-        ensures bound { length result.now ≤ 256 }
-    {
-        match self.units.get(number as usize) {
-            None => &[],
-            Some(unit) => unit.given(),
-        }
     }
 
     #[inline(never)]
@@ -423,7 +410,7 @@ impl Machine {
         }
         let unit = &mut self.units[number as usize];
         restart(&mut self.sharing, number as u16, unit);
-        Ok(PlainReply::Done)
+        Ok(Reply::Done)
     }
 
     /// Performs one event, with its reply in the log, where it begins an entry; a refusal changes nothing. Those of a channel program
@@ -451,10 +438,10 @@ impl Machine {
         match event {
             Event::Up { subchannel, path } => self.up(places, *subchannel, *path, log),
             Event::Down { subchannel, path } => self.down(places, *subchannel, *path, log),
-            Event::Report { unit, report } => log.tell(self.report(places, *unit, report)),
-            Event::Choose { subchannel } => log.tell(self.choose(places, choice, *subchannel)),
+            Event::Report { unit, report } => log.tell(&self.report(places, *unit, report)),
+            Event::Choose { subchannel } => log.tell(&self.choose(places, choice, *subchannel)),
             Event::Execute { cpu, instruction } => {
-                log.tell(self.execute(places, *cpu, instruction))
+                log.tell(&self.execute(places, *cpu, instruction))
             }
             _ => self.perform_other(places, choice, event, log),
         }
@@ -500,6 +487,6 @@ impl Machine {
             Event::PathReset { chpid } => self.path_reset(*chpid),
             Event::SystemReset => self.system_reset(),
         };
-        log.tell(answer)
+        log.tell(&answer)
     }
 }

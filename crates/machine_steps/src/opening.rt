@@ -21,7 +21,6 @@ use hold::Hold;
 use interruptions::Pending;
 use scsw_irb::scsw::Scsw;
 use scsw_irb::serials::Serials;
-use signal_places::sent::SentDown;
 use std::alloc::{AllocError, Global};
 use storage_keys::Storage;
 use subchannel::opening::opening_pmcw;
@@ -30,6 +29,7 @@ use subchannel_steps::tables::configured;
 use supply::{Supply, push};
 use unit::Unit;
 use wires::Wires;
+use working::sent::SentDown;
 
 /// How many numbers a set of subchannels has.
 const NUMBERS_OF_A_SET: u16 = 0x100;

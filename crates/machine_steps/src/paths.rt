@@ -9,15 +9,15 @@ ghost use Rattle.machine_model.specs.Requests as requests_spec;
 ghost use Rattle.machine_model.specs.Steps as spec;
 ghost use Rattle.subchannel_steps.specs.Giving as giving_spec;
 ghost use Rattle.machine_steps.specs.Postable.{IsPostable};
-ghost use Rattle.signal_places.specs.Plain.{plain_outcome};
+ghost use Rattle.chan_events.specs.Replies.{plain_outcome};
 
 use crate::machine::Machine;
+use chan_events::reply::{PlainReply, Reply};
 use chan_model::fault::Fault;
 use channel_reports::Reports;
 use finding::engines::{Engines, engaged};
 use interruptions::Pending;
 use machine_model::state::Sweep;
-use signal_places::plain::PlainReply;
 use subchannel::losing::{go_down, lose_path, show_path};
 use subchannel::system_reset::reset_by_system;
 use subchannel_model::state::Subchannel;
@@ -101,7 +101,7 @@ impl Machine {
         sweep_all(&mut self.subs, &mut self.pending, &mut self.engines, what);
         self.up[usize::from(chpid)] = false;
         self.reports.path_lost(chpid);
-        Ok(PlainReply::Done)
+        Ok(Reply::Done)
     }
 
     /// A channel path that was down comes up.
@@ -122,7 +122,7 @@ impl Machine {
         sweep_all(&mut self.subs, &mut self.pending, &mut self.engines, what);
         self.up[usize::from(chpid)] = true;
         self.reports.path_back(chpid);
-        Ok(PlainReply::Done)
+        Ok(Reply::Done)
     }
 
     /// A channel path whose reset is asked for is reset.
@@ -141,7 +141,7 @@ impl Machine {
         }
         let what = Sweep::PathReset { chpid };
         sweep_all(&mut self.subs, &mut self.pending, &mut self.engines, what);
-        Ok(PlainReply::Done)
+        Ok(Reply::Done)
     }
 
     /// The channel subsystem is reset.
@@ -156,6 +156,6 @@ impl Machine {
         self.reports = Reports::new();
         let what = Sweep::SystemReset;
         sweep_all(&mut self.subs, &mut self.pending, &mut self.engines, what);
-        Ok(PlainReply::Done)
+        Ok(Reply::Done)
     }
 }

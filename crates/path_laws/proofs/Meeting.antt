@@ -71,7 +71,7 @@ plain-answer returns p phase q (down.Command t n code room) plain = tt
 plain-answer returns p phase q (down.Grant t c) plain = absurd plain
 plain-answer returns p phase q (down.Refuse t c) plain = tt
 plain-answer returns p phase q (down.Took t n s room) plain = tt
-plain-answer returns p phase q (down.Give t c n s bytes) plain = tt
+plain-answer returns p phase q (down.Give bytes t c n s) plain = tt
 plain-answer returns p phase q (down.Halt t) plain = tt
 plain-answer returns p phase q (down.Release t) plain = tt
 plain-answer returns p phase q (down.Reset r b) plain = tt
@@ -295,9 +295,9 @@ takes-met returns storage s p (up.Busy t) =
 takes-met returns storage s p (up.Leave t c) =
     calm-met returns p (up.Leave t c) s _ (λ accepted. refl) (by_hold-calm s (hold_takes s.hold p (up.Leave t c) false) (left-step s.hold s.hold.phase t c))
 takes-met returns storage s p (up.Back t c) = back-met returns s p t c
-takes-met returns storage s p (up.Data t c n seq load) =
+takes-met returns storage s p (up.Data load t c n seq) =
     let signal : DataSignal = record { path = p; number = t; connection = c; command = n; sequence = seq } in
-    calm-met returns p (up.Data t c n seq load) s _ (λ accepted. refl)
+    calm-met returns p (up.Data load t c n seq) s _ (λ accepted. refl)
     (if-met s (is_connected s.hold.phase p t c) (move_data storage s s.begun signal load) (meets storage (ignoring s)) (data-calm storage s s.begun signal load)
     (ignored-calm s))
 takes-met returns storage s p (up.End t n status more) =
@@ -324,7 +324,7 @@ answer-granted returns p phase q r (down.Command t n code room) a e = absurd (cc
 answer-granted returns p phase q r (down.Grant t c) a e = let same : q ≡ r = cc e in (a.0, sym same ∙ a.1, a.2)
 answer-granted returns p phase q r (down.Refuse t c) a e = absurd (cc e)
 answer-granted returns p phase q r (down.Took t n s room) a e = absurd (cc e)
-answer-granted returns p phase q r (down.Give t c n s bytes) a e = absurd (cc e)
+answer-granted returns p phase q r (down.Give bytes t c n s) a e = absurd (cc e)
 answer-granted returns p phase q r (down.Halt t) a e = absurd (cc e)
 answer-granted returns p phase q r (down.Release t) a e = absurd (cc e)
 answer-granted returns p phase q r (down.Reset n b) a e = absurd (cc e)

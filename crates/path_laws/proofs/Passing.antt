@@ -3,7 +3,7 @@ use Rattle.std.proofs.Common.{◌≡◌, refl, sym, subst, ℕ, Bool, true, nat_
 use Rattle.chan_events.specs.declared.event.UnitAct.{UnitAct}
 use Rattle.chan_events.specs.declared.reply.Reply.TheVariants as reply
 use Rattle.chan_model.specs.declared.hold_state.HoldPhase.{HoldPhase}
-use Rattle.chan_model.specs.declared.report.Report.{Report}
+use Rattle.chan_model.specs.Reports.{Report}
 use Rattle.chan_model.specs.Signals.{Down}
 use Rattle.chan_model.specs.declared.signal.Down.TheVariants as down
 use Rattle.chan_model.specs.declared.signal.OnPath.{OnPath}
@@ -39,7 +39,7 @@ answer-tied returns p phase drawn next q (down.Command t n code room) a = tt
 answer-tied returns p phase drawn next q (down.Grant t c) a = tt
 answer-tied returns p phase drawn next q (down.Refuse t c) a = tt
 answer-tied returns p phase drawn next q (down.Took t n s room) a = tt
-answer-tied returns p phase drawn next q (down.Give t c n s bytes) a = tt
+answer-tied returns p phase drawn next q (down.Give bytes t c n s) a = tt
 answer-tied returns p phase drawn next q (down.Halt t) a = tt
 answer-tied returns p phase drawn next q (down.Release t) a = tt
 answer-tied returns p phase drawn next q (down.Reset r b) a = tt
@@ -123,7 +123,7 @@ echo-tied drawn phase p d q (up.Accept t) a tied =
 echo-tied drawn phase p d q (up.Busy t) a tied = tt
 echo-tied drawn phase p d q (up.Leave t c) a tied = tt
 echo-tied drawn phase p d q (up.Back t c) a tied = tt
-echo-tied drawn phase p d q (up.Data t c n s load) a tied = tt
+echo-tied drawn phase p d q (up.Data load t c n s) a tied = tt
 echo-tied drawn phase p d q (up.End t n status more) a tied = tt
 echo-tied drawn phase p d q (up.Released t) a tied = tt
 echo-tied drawn phase p d q (up.Cleared r) a tied = tt

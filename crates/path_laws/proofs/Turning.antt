@@ -1,9 +1,9 @@
 -- What each step leaves of the subchannels, and of what was accepted at each place.
 use Rattle.std.proofs.Common.{◌≡◌, ◌≢◌, refl, sym, ◌∙◌, ap, subst, ℕ, ◌+◌, Bool, true, false, Option, None, Some, List, map, slice_get, slice_set, IfOk, if◌then◌else◌, arith}
 use Rattle.std.proofs.lemmas.Bool.{eq-eqb, ne_eqb}
-use Rattle.chan_events.specs.declared.event.Event.{Event}
+use Rattle.chan_events.specs.Events.{Event}
 use Rattle.chan_events.specs.declared.event.Event.TheVariants as event
-use Rattle.chan_events.specs.declared.reply.Reply.{Reply}
+use Rattle.chan_events.specs.Replies.{Reply}
 use Rattle.chan_model.specs.declared.answer.ConditionCode.{ConditionCode}
 use Rattle.chan_model.specs.declared.answer.ConditionCode.TheVariants as code
 use Rattle.chan_model.specs.Signals.{Up}
@@ -129,7 +129,7 @@ right-by subs sub path (Some (up.Accept t)) e = absurd (cc e)
 right-by subs sub path (Some (up.Busy t)) e = absurd (cc e)
 right-by subs sub path (Some (up.Leave t c)) e = absurd (cc e)
 right-by subs sub path (Some (up.Back t c)) e = e
-right-by subs sub path (Some (up.Data t c n s load)) e = absurd (cc e)
+right-by subs sub path (Some (up.Data load t c n s)) e = absurd (cc e)
 right-by subs sub path (Some (up.End t n status more)) e = absurd (cc e)
 right-by subs sub path (Some (up.Released t)) e = absurd (cc e)
 right-by subs sub path (Some (up.Cleared r)) e = absurd (cc e)

@@ -1,9 +1,9 @@
 -- What a unit sends: it accepts a program only as an answer to its Select, on the same path.
 use Rattle.std.proofs.Common.{◌≡◌, refl, ℕ, ◌+◌, ◌==◌, ◌&&◌, nat_le, nat_lt, Bool, true, false, not, Option, None, Some, List, length, if◌then◌else◌}
 use Rattle.chan_model.specs.declared.names.Side.{Side}
-use Rattle.chan_model.specs.declared.report.DeviceAnswer.{DeviceAnswer}
+use Rattle.chan_model.specs.Reports.{DeviceAnswer}
 use Rattle.chan_model.specs.declared.report.DeviceAnswer.TheVariants as answer
-use Rattle.chan_model.specs.declared.report.Report.{Report}
+use Rattle.chan_model.specs.Reports.{Report}
 use Rattle.chan_model.specs.Signals.{Down}
 use Rattle.chan_model.specs.declared.signal.Down.TheVariants as down
 use Rattle.chan_model.specs.Signals.{Load}
@@ -53,7 +53,7 @@ other-echo p d q (up.Accept t) other = absurd other
 other-echo p d q (up.Busy t) other = tt
 other-echo p d q (up.Leave t c) other = tt
 other-echo p d q (up.Back t c) other = tt
-other-echo p d q (up.Data t c n s load) other = tt
+other-echo p d q (up.Data load t c n s) other = tt
 other-echo p d q (up.End t n status more) other = tt
 other-echo p d q (up.Released t) other = tt
 other-echo p d q (up.Cleared r) other = tt
@@ -124,8 +124,8 @@ works-echo u side p (down.Refuse t c) may = others-echo p (down.Refuse t c) _ (r
 works-echo u side p (down.Took t n s room) may =
     others-echo p (down.Took t n s room) _
     (if-sends (is_owner u.own side t && (n == u.last_command)) (answered_last u u.at_hand s room) None (last-sends u u.at_hand s room) tt)
-works-echo u side p (down.Give t c n s bytes) may =
-    others-echo p (down.Give t c n s bytes) _
+works-echo u side p (down.Give bytes t c n s) may =
+    others-echo p (down.Give bytes t c n s) _
     (if-sends (is_owner_on u.own side t c && (n == u.last_command)) (given_next u u.at_hand s bytes) None (next-sends u u.at_hand s bytes) tt)
 works-echo u side p (down.Halt t) may = others-echo p (down.Halt t) _ (if-sends (is_owner u.own side t && not u.halted) _ None tt tt)
 works-echo u side p (down.Release t) may = others-echo p (down.Release t) _ (if-sends (is_owner u.own side t) _ None tt tt)
@@ -142,7 +142,7 @@ takes-echo u side p (down.Command t n code room) may = fresh-echo u side p (down
 takes-echo u side p (down.Grant t c) may = fresh-echo u side p (down.Grant t c) may
 takes-echo u side p (down.Refuse t c) may = fresh-echo u side p (down.Refuse t c) may
 takes-echo u side p (down.Took t n s room) may = fresh-echo u side p (down.Took t n s room) may
-takes-echo u side p (down.Give t c n s bytes) may = fresh-echo u side p (down.Give t c n s bytes) may
+takes-echo u side p (down.Give bytes t c n s) may = fresh-echo u side p (down.Give bytes t c n s) may
 takes-echo u side p (down.Halt t) may = fresh-echo u side p (down.Halt t) may
 takes-echo u side p (down.Release t) may = fresh-echo u side p (down.Release t) may
 takes-echo u side p (down.Reset r b) may =

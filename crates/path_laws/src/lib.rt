@@ -2,9 +2,9 @@
 #![tactic(auto)]
 
 ghost use Rattle.std.specs.Prelude.{List};
-ghost use Rattle.chan_events.specs.declared.event.Event.{Event};
+ghost use Rattle.chan_events.specs.Events.{Event};
 ghost use Rattle.chan_events.specs.declared.reply.Entry.{Entry};
-ghost use Rattle.chan_events.specs.declared.reply.Reply.{Reply};
+ghost use Rattle.chan_events.specs.Replies.{Reply};
 ghost use Rattle.channel_config.specs.Lawful.{IsLawful};
 ghost use Rattle.channel_config.specs.Setup.{Setup};
 ghost use Rattle.machine_model.specs.State.{State, opening_of};

@@ -11,12 +11,12 @@ use Rattle.chan_model.specs.declared.signal.OnPath.{OnPath}
 use Rattle.chan_model.specs.Signals.{Up}
 use Rattle.chan_model.specs.declared.signal.Up.TheVariants as up
 use Rattle.chan_model.specs.ResetCauses.{is_path}
-use Rattle.chan_events.specs.declared.event.Event.{Event}
+use Rattle.chan_events.specs.Events.{Event}
 use Rattle.chan_events.specs.declared.event.Event.TheVariants as event
 use Rattle.chan_events.specs.declared.event.Instruction.{Instruction}
 use Rattle.chan_events.specs.declared.event.Instruction.TheVariants as instruction
 use Rattle.chan_events.specs.declared.reply.Entry.{Entry}
-use Rattle.chan_events.specs.declared.reply.Reply.{Reply}
+use Rattle.chan_events.specs.Replies.{Reply}
 use Rattle.chan_events.specs.declared.reply.Reply.TheVariants as reply
 use Rattle.channel_config.specs.declared.names.SubchannelId.{SubchannelId}
 use Rattle.channel_config.specs.declared.parts.SubchannelSetup.{SubchannelSetup}
@@ -275,7 +275,7 @@ down-by st former storage word path r true a k after e = ap (told a) e
 down-by st former storage word path r false a k after e = ap (told a) e
 
 module _ (st : Standing) (s : State) (place : ℕ) (old sub : Subchannel) (new : State) (owned : Owned st.over old.state) (halts : (word : ℕ) → is_path (place_of s word) place ≡ true → old.state.scsw.functions.halt ≡ st.halted) (there : slice_get s.subs place ≡ Some old) (here : slice_get new.subs place ≡ Some sub) (setups : SameSetups s.subs new.subs) where
-  both : (signal : Up) (taken : Bool) (t : ℕ) (sent : Option (OnPath Down)) → signal ≡ up.Accept t → taken ≡ true → reply.Up signal taken sent ≡ reply.Up (up.Accept t) true sent
+  both : (signal : Up) (taken : Bool) (t : ℕ) (sent : Option (OnPath Down)) → signal ≡ up.Accept t → taken ≡ true → ◌≡◌ {A = Reply} (reply.Up signal taken sent) (reply.Up (up.Accept t) true sent)
   both signal taken t sent e f = ap (λ (x : Up). reply.Up x taken sent) e ∙ ap (λ (b : Bool). reply.Up (up.Accept t) b sent) f
 
   just : {r : Reply} → (t : ℕ) (sent : Option (OnPath Down)) → r ≡ reply.Up (up.Accept t) true sent → AnswersOffer old.state r → IsJust st.over old.state
@@ -301,7 +301,7 @@ module _ (st : Standing) (s : State) (place : ℕ) (old sub : Subchannel) (new :
       ap (told a) ((subst (λ (x : Reply). GoesBy place s (event.Up word path) x new k after) w.3 goes).0 m).0
 
   not-start : (cpu : ℕ) (i : Instruction) → ((word address : ℕ) → i ≡ instruction.Ssch word address → ⊥) → (other word address : ℕ) →
-      event.Execute cpu i ≡ event.Execute other (instruction.Ssch word address) → ⊥
+      ◌≡◌ {A = Event} (event.Execute cpu i) (event.Execute other (instruction.Ssch word address)) → ⊥
   not-start cpu i n other word address e = let same : i ≡ instruction.Ssch word address = cc e in n word address same
 
   executed : (cpu : ℕ) (i : Instruction) (r : Reply) (a : Option Orb) (k after : Option ProgramTrace) → ((word address : ℕ) → i ≡ instruction.Ssch word address → ⊥) →

@@ -179,7 +179,7 @@ module _ (Q : SubchannelState → Type 0) (same : (s x : SubchannelState) → x.
   signal-kept returns storage s p (up.Busy t) k = same s (takes_up returns storage s p (up.Busy t)).step.state refl refl refl k
   signal-kept returns storage s p (up.Leave t c) k = same s (takes_up returns storage s p (up.Leave t c)).step.state refl refl refl k
   signal-kept returns storage s p (up.Back t c) k = same s (takes_up returns storage s p (up.Back t c)).step.state refl refl refl k
-  signal-kept returns storage s p (up.Data t c n seq load) k =
+  signal-kept returns storage s p (up.Data load t c n seq) k =
       let signal : DataSignal = record { path = p; number = t; connection = c; command = n; sequence = seq } in
       if-met (is_connected s.hold.phase p t c) (move_data storage s s.begun signal load) (meets storage (ignoring s)) (move-kept storage s s.begun signal load k) k
   signal-kept returns storage s p (up.End t n status more) k =

@@ -9,12 +9,12 @@ use Rattle.chan_model.specs.Signals.{Down}
 use Rattle.chan_model.specs.declared.signal.OnPath.{OnPath}
 use Rattle.chan_model.specs.declared.signal.Up.TheVariants as up
 use Rattle.chan_model.specs.ResetCauses.{is_held, is_path}
-use Rattle.chan_events.specs.declared.event.Event.{Event}
+use Rattle.chan_events.specs.Events.{Event}
 use Rattle.chan_events.specs.declared.event.Event.TheVariants as event
 use Rattle.chan_events.specs.declared.event.Instruction.{Instruction}
 use Rattle.chan_events.specs.declared.event.Instruction.TheVariants as instruction
 use Rattle.chan_events.specs.declared.reply.Entry.{Entry}
-use Rattle.chan_events.specs.declared.reply.Reply.{Reply}
+use Rattle.chan_events.specs.Replies.{Reply}
 use Rattle.chan_events.specs.declared.reply.Reply.TheVariants as reply
 use Rattle.channel_config.specs.declared.names.SubchannelId.{SubchannelId}
 use Rattle.channel_config.specs.Setup.{Setup}
@@ -173,7 +173,7 @@ met-behind behind s (reply.Up (up.Accept t) false sent) f j = j
 met-behind behind s (reply.Up (up.Busy t) taken sent) f j = j
 met-behind behind s (reply.Up (up.Leave t c) taken sent) f j = j
 met-behind behind s (reply.Up (up.Back t c) taken sent) f j = j
-met-behind behind s (reply.Up (up.Data t c n q load) taken sent) f j = j
+met-behind behind s (reply.Up (up.Data load t c n q) taken sent) f j = j
 met-behind behind s (reply.Up (up.End t n status more) taken sent) f j = j
 met-behind behind s (reply.Up (up.Released t) taken sent) f j = j
 met-behind behind s (reply.Up (up.Cleared b) taken sent) f j = j

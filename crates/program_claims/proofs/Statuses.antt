@@ -10,9 +10,9 @@ use Rattle.chan_model.specs.Signals.{Up}
 use Rattle.chan_model.specs.declared.signal.Up.TheVariants as up
 use Rattle.chan_model.specs.ResetCauses.{is_path}
 use Rattle.chan_model.specs.UnitReports.{is_last_end}
-use Rattle.chan_events.specs.declared.event.Event.{Event}
+use Rattle.chan_events.specs.Events.{Event}
 use Rattle.chan_events.specs.declared.event.Event.TheVariants as event
-use Rattle.chan_events.specs.declared.reply.Reply.{Reply}
+use Rattle.chan_events.specs.Replies.{Reply}
 use Rattle.chan_events.specs.declared.reply.Reply.TheVariants as reply
 use Rattle.channel_program.specs.Acts.{Act}
 use Rattle.subchannel_model.specs.declared.state.Subchannel.{Subchannel}
@@ -135,7 +135,7 @@ module _ (s next : SubchannelState) (p : TellsPrograms s) (behind : Bool) (b : I
   meets-shown : (over : Bool) (former storage : Contents) (signal : Up) (sent : Option (OnPath Down)) (k after : ProgramTrace) → IsSuited over signal →
       Meets former storage s next signal true sent k after → ShowsSignal over behind signal s.scsw next.scsw (Some after)
   meets-shown over former storage (up.Accept t) sent k after just m = accept-shown s next p behind b made over storage sent k after (just.0 t refl) m.2
-  meets-shown over former storage (up.Data t c n q load) sent k after just m = m.4 made
+  meets-shown over former storage (up.Data load t c n q) sent k after just m = m.4 made
   meets-shown over former storage (up.End t n status more) sent k after just m = end-shown storage status more sent k after (just.1 t n status more refl) m.3
   meets-shown over former storage (up.Busy t) sent k after just m = same-of k after m.0 m.2
   meets-shown over former storage (up.Leave t c) sent k after just m = same-of k after m.0 m.2
@@ -147,7 +147,7 @@ module _ (s next : SubchannelState) (p : TellsPrograms s) (behind : Bool) (b : I
 
   none-shown : (over : Bool) (former storage : Contents) (signal : Up) → MeetsNone former storage s next signal → ShowsSignal over behind signal s.scsw next.scsw None
   none-shown over former storage (up.Accept t) m = m.1 made
-  none-shown over former storage (up.Data t c n q load) m = m.1 made
+  none-shown over former storage (up.Data load t c n q) m = m.1 made
   none-shown over former storage (up.End t n status more) m = m.1 made
   none-shown over former storage (up.Busy t) m = m.1 made
   none-shown over former storage (up.Leave t c) m = m.1 made

@@ -6,9 +6,9 @@ use Rattle.orb_block.specs.declared.Orb.{Orb}
 use Rattle.scsw_irb.specs.declared.status.DeviceStatus.{DeviceStatus}
 use Rattle.storage_keys.specs.Storage.{Contents}
 use Rattle.chan_model.specs.declared.fault.Fault.{Fault}
-use Rattle.chan_model.specs.declared.report.DeviceAnswer.{DeviceAnswer}
+use Rattle.chan_model.specs.Reports.{DeviceAnswer}
 use Rattle.chan_model.specs.declared.report.DeviceAnswer.TheVariants as device
-use Rattle.chan_model.specs.declared.report.Report.{Report}
+use Rattle.chan_model.specs.Reports.{Report}
 use Rattle.chan_model.specs.Signals.{Down}
 use Rattle.chan_model.specs.declared.signal.Down.TheVariants as down
 use Rattle.chan_model.specs.declared.signal.OnPath.{OnPath}
@@ -17,9 +17,9 @@ use Rattle.chan_model.specs.declared.signal.Up.TheVariants as up
 use Rattle.chan_model.specs.declared.unit_state.AtHand.{AtHand}
 use Rattle.chan_model.specs.declared.unit_state.UnitState.{UnitState}
 use Rattle.chan_model.specs.PathSets.{has_path}
-use Rattle.chan_events.specs.declared.event.Event.{Event}
+use Rattle.chan_events.specs.Events.{Event}
 use Rattle.chan_events.specs.declared.event.Event.TheVariants as event
-use Rattle.chan_events.specs.declared.reply.Reply.{Reply}
+use Rattle.chan_events.specs.Replies.{Reply}
 use Rattle.chan_events.specs.declared.reply.Reply.TheVariants as reply
 use Rattle.data_move.specs.Moving.{room}
 use Rattle.path_select.specs.Choice.{IsChoice}
@@ -92,7 +92,7 @@ ends storage s next status more sent k after (inr x) = inl (x.0, x.1)
 meets-by : (st : Standing) (former storage : Contents) (s next : SubchannelState) (signal : Up) (sent : Option (OnPath Down)) (k after : ProgramTrace) → IsAcceptRight (reply.Up signal true sent) false →
     ((t : ℕ) → signal ≡ up.Accept t → IsJust st.over s) → s.scsw.functions.halt ≡ st.halted → Meets former storage s next signal true sent k after → MeetsBy st former storage signal sent k after
 meets-by st former storage s next (up.Accept t) sent k after a j h m = (m.0, m.1, accepts st.over storage s next t sent k after (j t refl) a m.2)
-meets-by st former storage s next (up.Data t c n q load) sent k after a j h m =
+meets-by st former storage s next (up.Data load t c n q) sent k after a j h m =
     (m.0, m.1, m.2, m.3)
 meets-by st former storage s next (up.End t n status more) sent k after a j h m =
     (m.0, m.1, m.2, subst (λ (b : Bool). Ends b storage status more sent k after) h (ends storage s next status more sent k after m.3))
@@ -107,7 +107,7 @@ meets-by st former storage s next (up.Attn x status) sent k after a j h m = (m.0
 untaken : (former storage : Contents) (s next : SubchannelState) (signal : Up) (sent : Option (OnPath Down)) (k after : ProgramTrace) →
     Meets former storage s next signal false sent k after → (_ : after ≡ k) × (storage ≡ former)
 untaken former storage s next (up.Accept t) sent k after m = (m.0, m.1)
-untaken former storage s next (up.Data t c n q load) sent k after m = (m.0, m.1)
+untaken former storage s next (up.Data load t c n q) sent k after m = (m.0, m.1)
 untaken former storage s next (up.End t n status more) sent k after m = (m.0, m.1)
 untaken former storage s next (up.Busy t) sent k after m = (m.0, m.1)
 untaken former storage s next (up.Leave t c) sent k after m = (m.0, m.1)
@@ -119,7 +119,7 @@ untaken former storage s next (up.Attn x status) sent k after m = (m.0, m.1)
 
 none-stores : (former storage : Contents) (s next : SubchannelState) (signal : Up) → MeetsNone former storage s next signal → storage ≡ former
 none-stores former storage s next (up.Accept t) m = m.0
-none-stores former storage s next (up.Data t c n q load) m = m.0
+none-stores former storage s next (up.Data load t c n q) m = m.0
 none-stores former storage s next (up.End t n status more) m = m.0
 none-stores former storage s next (up.Busy t) m = m.0
 none-stores former storage s next (up.Leave t c) m = m.0

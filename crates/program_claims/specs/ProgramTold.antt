@@ -13,12 +13,12 @@ use Rattle.chan_model.specs.Signals.{Up}
 use Rattle.chan_model.specs.declared.signal.Up.TheVariants as up
 use Rattle.chan_model.specs.PathSets.{has_path}
 use Rattle.chan_model.specs.ResetCauses.{is_path}
-use Rattle.chan_events.specs.declared.event.Event.{Event}
+use Rattle.chan_events.specs.Events.{Event}
 use Rattle.chan_events.specs.declared.event.Event.TheVariants as event
 use Rattle.chan_events.specs.declared.event.Instruction.{Instruction}
 use Rattle.chan_events.specs.declared.event.Instruction.TheVariants as instruction
 use Rattle.chan_events.specs.declared.reply.Entry.{Entry}
-use Rattle.chan_events.specs.declared.reply.Reply.{Reply}
+use Rattle.chan_events.specs.Replies.{Reply}
 use Rattle.chan_events.specs.declared.reply.Reply.TheVariants as reply
 use Rattle.channel_config.specs.declared.names.SubchannelId.{SubchannelId}
 use Rattle.channel_config.specs.declared.parts.SubchannelSetup.{SubchannelSetup}
@@ -128,7 +128,7 @@ Ends halted storage status more sent k after =
 -- a signal that is taken. Data: bytes are moved, and the next block is fetched where the counts so far are used up
 abbrev pub MeetsBy : Standing → Contents → Contents → Up → Option (OnPath Down) → ProgramTrace → ProgramTrace → Type 0
 MeetsBy st former storage (up.Accept t) sent k after = (t ≡ k.number) × (storage ≡ former) × Accepts st.over storage t sent k after
-MeetsBy st former storage (up.Data t c n s load) sent k after = (t ≡ k.number) × (n ≡ k.sent) × IsAnswerTo t c n s sent × Moves former storage s load sent k after
+MeetsBy st former storage (up.Data load t c n s) sent k after = (t ≡ k.number) × (n ≡ k.sent) × IsAnswerTo t c n s sent × Moves former storage s load sent k after
 MeetsBy st former storage (up.End t n status more) sent k after = (t ≡ k.number) × (n ≡ k.sent) × (storage ≡ former) × Ends st.halted storage status more sent k after
 MeetsBy st former storage signal sent k after = (after ≡ k) × (storage ≡ former)
 

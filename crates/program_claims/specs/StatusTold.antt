@@ -5,10 +5,10 @@ use Rattle.scsw_irb.specs.declared.scsw.Scsw.{Scsw}
 use Rattle.chan_model.specs.Signals.{Up}
 use Rattle.chan_model.specs.declared.signal.Up.TheVariants as up
 use Rattle.chan_model.specs.UnitReports.{is_last_end}
-use Rattle.chan_events.specs.declared.event.Event.{Event}
+use Rattle.chan_events.specs.Events.{Event}
 use Rattle.chan_events.specs.declared.event.Event.TheVariants as event
 use Rattle.chan_events.specs.declared.event.Instruction.TheVariants as instruction
-use Rattle.chan_events.specs.declared.reply.Reply.{Reply}
+use Rattle.chan_events.specs.Replies.{Reply}
 use Rattle.chan_events.specs.declared.reply.Reply.TheVariants as reply
 use Rattle.program_laws.specs.Shows.{ShowsProgram, ShowsStanding, ShowsIf, ShowsZero}
 use Rattle.program_laws.specs.Traces.{ProgramTrace}
@@ -48,7 +48,7 @@ ShowsAccept false behind old new k = ShowsProgram new k
 -- behind it. Attention leaves them, and a clear shows zero
 abbrev pub ShowsSignal : Bool → Bool → Up → Scsw → Scsw → Option ProgramTrace → Type 0
 ShowsSignal over behind (up.Accept t) old new (Some k) = ShowsAccept over behind old new k
-ShowsSignal over behind (up.Data t c n s load) old new (Some k) = ShowsProgram new k
+ShowsSignal over behind (up.Data load t c n s) old new (Some k) = ShowsProgram new k
 ShowsSignal over behind (up.End t n status more) old new (Some k) = ShowsIf (not (behind && (k.now.unchained && is_last_end status))) old new k
 ShowsSignal over behind (up.Cleared r) old new k = ShowsZero new
 ShowsSignal over behind (up.Attn a status) old new k = ShowsStanding old new

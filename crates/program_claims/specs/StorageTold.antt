@@ -2,13 +2,13 @@
 -- and 14).
 use Rattle.std.specs.Prelude.{◌≡◌, ◌⊎◌, ℕ, List, [], ◌∷◌, length, Ok, ◌==◌, if◌then◌else◌}
 use Rattle.storage_keys.specs.Storage.{Contents, put, shown, key_set, prefix_set, operand_stored}
-use Rattle.chan_events.specs.declared.event.Event.{Event}
+use Rattle.chan_events.specs.Events.{Event}
 use Rattle.chan_events.specs.declared.event.Event.TheVariants as event
 use Rattle.chan_events.specs.declared.event.Instruction.TheVariants as instruction
 use Rattle.chan_events.specs.declared.event.OtherInstruction.{OtherInstruction}
 use Rattle.chan_events.specs.declared.event.OtherInstruction.TheVariants as other
 use Rattle.chan_events.specs.declared.reply.Entry.{Entry}
-use Rattle.chan_events.specs.declared.reply.Reply.{Reply}
+use Rattle.chan_events.specs.Replies.{Reply}
 use Rattle.chan_events.specs.declared.reply.Reply.TheVariants as reply
 
 -- an operand of so many bytes is stored at a CPU's real address

@@ -14,9 +14,9 @@ use Rattle.chan_model.specs.declared.signal.Down.TheVariants as down
 use Rattle.chan_model.specs.declared.signal.OnPath.{OnPath}
 use Rattle.chan_events.specs.declared.reply.Entry.{Entry}
 use Rattle.chan_events.specs.declared.reply.Reply.TheVariants as reply
-use Rattle.chan_model.specs.declared.report.DeviceAnswer.{DeviceAnswer}
+use Rattle.chan_model.specs.Reports.{DeviceAnswer}
 use Rattle.chan_model.specs.declared.report.DeviceAnswer.TheVariants as answer
-use Rattle.chan_model.specs.declared.report.Report.{Report}
+use Rattle.chan_model.specs.Reports.{Report}
 use Rattle.chan_model.specs.declared.unit_state.AtHand.{AtHand}
 use Rattle.chan_model.specs.declared.unit_state.UnitState.{UnitState}
 use Rattle.chan_model.specs.UnitTable as unit_table
@@ -239,7 +239,7 @@ takes-held s (down.Command t n code room) k h = takes-if s k code (t == k.number
 takes-held s (down.Grant t c) k h = h
 takes-held s (down.Refuse t c) k h = h
 takes-held s (down.Took t n seq room) k h = h
-takes-held s (down.Give t c n seq bytes) k h = h
+takes-held s (down.Give bytes t c n seq) k h = h
 takes-held s (down.Halt t) k h = h
 takes-held s (down.Release t) k h = h
 takes-held s (down.Reset r b) k h = h
@@ -347,7 +347,7 @@ module _ (laws : AreLaws) (accesses : AreAccesses) where
   untold-met returns storage s p (up.Busy t) u = unmet s (λ x. (by_hold s (hold_table.found_busy s.hold x t)).state) u u (λ r. u)
   untold-met returns storage s p (up.Leave t c) u = unmet s (λ x. (by_hold s (hold_table.left s.hold x t c)).state) u u (λ r. u)
   untold-met returns storage s p (up.Back t c) u = unmet s (λ x. (taking.back s p (hold_table.asked_back s.hold x p t c returns)).state) u u (λ r. u)
-  untold-met returns storage s p (up.Data t c n seq load) u =
+  untold-met returns storage s p (up.Data load t c n seq) u =
       unmet s (λ x. (if is_connected x p t c then taking.move_data storage s s.begun (record { path = p; number = t; connection = c; command = n; sequence = seq }) load else taking.meets storage (taking.ignoring s)).step.state) u u (λ r. u)
   untold-met returns storage s p (up.End t n status more) u =
       unmet s (λ x. (if is_on x t then taking.end_of storage s s.begun (record { path = p; number = t; command = n; status = status; more = more }) else taking.ignoring s).state) u u (λ r. u)

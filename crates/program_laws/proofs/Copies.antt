@@ -189,7 +189,7 @@ module _ (accesses : AreAccesses) where
   meets-copied storage s p (up.Accept t) k c =
       let step : Option HoldStep = hold_takes s.hold p (up.Accept t) (goes_ahead s) in
       accept-if storage s step k (came_of step).taken c
-  meets-copied storage s p (up.Data t d n seq load) k c = data-if storage s n seq load k (is_connected s.hold.phase p t d) c
+  meets-copied storage s p (up.Data load t d n seq) k c = data-if storage s n seq load k (is_connected s.hold.phase p t d) c
   meets-copied storage s p (up.End t n status more) k c = on-if storage s n status more k (is_on s.hold.phase t) c
   meets-copied storage s p (up.Busy t) k c = c
   meets-copied storage s p (up.Leave t d) k c = c

@@ -155,7 +155,7 @@ module _ (laws : AreLaws) (accesses : AreAccesses) where
   abbrev DataBy : Contents → SubchannelState → DataSignal → Load → Met → ProgramTrace → ProgramTrace → Type 0
   DataBy storage s signal load x k after =
       ShowsRestOf s.serials.made x.step.state after →
-      Meets storage x.storage s x.step.state (up.Data signal.number signal.connection signal.command signal.sequence load) x.step.came.taken x.step.came.sent k after
+      Meets storage x.storage s x.step.state (up.Data load signal.number signal.connection signal.command signal.sequence) x.step.came.taken x.step.came.sent k after
 
   moves-meets : (storage : Contents) (s : SubchannelState) (b : ActiveProgram) (k : ProgramTrace) (signal : DataSignal) (load : Load) (x : Bool) → s.begun ≡ Some b → is_outward b.transfer.code ≡ x →
       b.transfer.pci_pending ≡ false →
@@ -208,7 +208,7 @@ module _ (laws : AreLaws) (accesses : AreAccesses) where
       let met : Met = if x then taking.move_data storage s s.begun signal load else taking.meets storage (taking.ignoring s) in
       let after : ProgramTrace = if x then stories.answers storage s.begun signal.command signal.sequence load k else k in
       IsHeld met.step.state after →
-      Meets storage met.storage s met.step.state (up.Data signal.number signal.connection signal.command signal.sequence load) met.step.came.taken met.step.came.sent k after
+      Meets storage met.storage s met.step.state (up.Data load signal.number signal.connection signal.command signal.sequence) met.step.came.taken met.step.came.sent k after
   data-meets storage s k signal load x e h c g =
       data-by storage s k signal load x e h c
       (data-shows storage s signal load (if x then stories.answers storage s.begun signal.command signal.sequence load k else k) x g)

@@ -63,13 +63,13 @@ sent_story = trace_meets storage offered_state 0 (up.Accept 1) (trace_offered 1 
 
 -- the device asks for bytes, and absorbs them
 abbrev given_state : SubchannelState
-given_state = (takes_up false storage sent_state 0 (up.Data 1 0 1 0 (load.Absorbed 0))).step.state
+given_state = (takes_up false storage sent_state 0 (up.Data (load.Absorbed 0) 1 0 1 0)).step.state
 
 abbrev given_story : ProgramTrace
-given_story = trace_meets storage sent_state 0 (up.Data 1 0 1 0 (load.Absorbed 0)) sent_story
+given_story = trace_meets storage sent_state 0 (up.Data (load.Absorbed 0) 1 0 1 0) sent_story
 
 abbrev moved_story : ProgramTrace
-moved_story = trace_meets storage given_state 0 (up.Data 1 0 1 1 (load.Absorbed 2)) given_story
+moved_story = trace_meets storage given_state 0 (up.Data (load.Absorbed 2) 1 0 1 1) given_story
 
 example_sent : sent_story.sent ≡ 1
 unfolding storage

@@ -10,9 +10,9 @@ use Rattle.chan_model.specs.declared.signal.OnPath.{OnPath}
 use Rattle.chan_model.specs.Signals.{Up}
 use Rattle.chan_model.specs.declared.signal.Up.TheVariants as up
 use Rattle.chan_model.specs.HoldTable.{offer_accepted, is_connected, is_on}
-use Rattle.chan_events.specs.declared.event.Event.{Event}
+use Rattle.chan_events.specs.Events.{Event}
 use Rattle.chan_events.specs.declared.event.Event.TheVariants as event
-use Rattle.chan_events.specs.declared.reply.Reply.{Reply}
+use Rattle.chan_events.specs.Replies.{Reply}
 use Rattle.chan_events.specs.declared.reply.Reply.TheVariants as reply
 use Rattle.wires.specs.Queues.{queue}
 use Rattle.subchannel_model.specs.declared.state.Subchannel.{Subchannel}
@@ -57,9 +57,9 @@ module _ (laws : AreLaws) (accesses : AreAccesses) where
       MeetsBy storage s signal (takes_up returns storage s p signal) k (trace_meets storage s p signal k)
   signal-meets returns storage s p (up.Accept t) k h o =
       accept-meets laws storage s k t s.hold.phase refl h o.0 (signal-held laws accesses returns storage s p (up.Accept t) k h)
-  signal-meets returns storage s p (up.Data t c n seq load) k h o =
+  signal-meets returns storage s p (up.Data load t c n seq) k h o =
       data-meets laws accesses storage s k (record { path = p; number = t; connection = c; command = n; sequence = seq }) load (is_connected s.hold.phase p t c) refl h o.1
-      (signal-held laws accesses returns storage s p (up.Data t c n seq load) k h)
+      (signal-held laws accesses returns storage s p (up.Data load t c n seq) k h)
   signal-meets returns storage s p (up.End t n status more) k h o =
       end-meets laws accesses storage s k (record { path = p; number = t; command = n; status = status; more = more }) (is_on s.hold.phase t) refl h
       (signal-held laws accesses returns storage s p (up.End t n status more) k h)
@@ -78,7 +78,7 @@ module _ (laws : AreLaws) (accesses : AreAccesses) where
     refl,
     unheld-by (λ x. IsStandingShown s (accept storage s (offer_accepted s.hold x t (goes_ahead s))).state) s.hold.phase s.drawn u.phase (none-left s s refl) (λ r. none-left s s refl),
   )
-  unoffered returns storage s p (up.Data t c n seq load) u = (
+  unoffered returns storage s p (up.Data load t c n seq) u = (
     unheld-by
         (λ x. (if is_connected x p t c then move_data storage s s.begun (record { path = p; number = t; connection = c; command = n; sequence = seq }) load
         else meets storage (ignoring s)).storage ≡ storage) s.hold.phase s.drawn u.phase refl (λ r. refl),

@@ -485,7 +485,7 @@ module _ (laws : AreLaws) (accesses : AreAccesses) where
       by_hold-held s k (hold_takes s.hold p (up.Leave t c) false) h (left-phase s.drawn k.number s.begun k.sent s.hold s.hold.phase t c refl (h.phase, h.drawn))
   signal-held returns storage s p (up.Back t c) k h =
       back-held s k p (hold_takes s.hold p (up.Back t c) returns) h (back-phase s.drawn k.number s.begun k.sent s.hold s.hold.phase p t c returns refl (h.phase, h.drawn))
-  signal-held returns storage s p (up.Data t c n seq load) k h = connected-held storage s k (record { path = p; number = t; connection = c; command = n; sequence = seq }) load
+  signal-held returns storage s p (up.Data load t c n seq) k h = connected-held storage s k (record { path = p; number = t; connection = c; command = n; sequence = seq }) load
       (is_connected s.hold.phase p t c) h
   signal-held returns storage s p (up.End t n status more) k h = on-held storage s k (record { path = p; number = t; command = n; status = status; more = more }) (is_on s.hold.phase t) h
   signal-held returns storage s p (up.Released t) k h =

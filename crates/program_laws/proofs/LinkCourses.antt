@@ -4,9 +4,9 @@ use Rattle.std.specs.Prelude.{if◌then◌else◌, slice_get, All}
 use Rattle.std.specs.List.{flat_map}
 use Rattle.std.proofs.Math.Nat.{min-le_left}
 use Rattle.chan_model.specs.declared.names.Side.{Side}
-use Rattle.chan_model.specs.declared.report.DeviceAnswer.{DeviceAnswer}
+use Rattle.chan_model.specs.Reports.{DeviceAnswer}
 use Rattle.chan_model.specs.declared.report.DeviceAnswer.TheVariants as answer
-use Rattle.chan_model.specs.declared.report.Report.{Report}
+use Rattle.chan_model.specs.Reports.{Report}
 use Rattle.chan_events.specs.declared.reply.Reply.TheVariants as reply
 use Rattle.chan_model.specs.Signals.{Down}
 use Rattle.chan_model.specs.declared.signal.Down.TheVariants as down
@@ -119,7 +119,7 @@ takes-work b k (down.Command t n code room) w = takes-if b k code (t == k.number
 takes-work b k (down.Grant t c) w = w
 takes-work b k (down.Refuse t c) w = w
 takes-work b k (down.Took t n s room) w = w
-takes-work b k (down.Give t c n s bytes) w = w
+takes-work b k (down.Give bytes t c n s) w = w
 takes-work b k (down.Halt t) w = w
 takes-work b k (down.Release t) w = w
 takes-work b k (down.Reset r c) w = w

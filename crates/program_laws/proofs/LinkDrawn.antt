@@ -120,7 +120,7 @@ module _ (storage : Contents) where
 
   pub up-drawn : (returns : Bool) → (s : SubchannelState) (p : ℕ) (x : Up) → s.drawn ≤ (takes_up returns storage s p x).step.state.drawn
   up-drawn returns s p (up.Accept t) = no-less s.drawn _ (accept-same s (hold_takes s.hold p (up.Accept t) (goes_ahead s)))
-  up-drawn returns s p (up.Data t c n q load) = no-less s.drawn _ (if-met s (is_connected s.hold.phase p t c) _ _ (move_data-same s s.begun (record { path = p; number = t; connection = c; command = n; sequence = q }) load) refl)
+  up-drawn returns s p (up.Data load t c n q) = no-less s.drawn _ (if-met s (is_connected s.hold.phase p t c) _ _ (move_data-same s s.begun (record { path = p; number = t; connection = c; command = n; sequence = q }) load) refl)
   up-drawn returns s p (up.End t n status more) = no-less s.drawn _ (if-same s (is_on s.hold.phase t) _ _ (end_of-same s s.begun (record { path = p; number = t; command = n; status = status; more = more })) refl)
   up-drawn returns s p (up.Busy t) = omega arith
   up-drawn returns s p (up.Leave t c) = omega arith

@@ -6,8 +6,8 @@ use Rattle.chan_model.specs.declared.fault.Fault.TheVariants as fault
 use Rattle.chan_model.specs.declared.hold_state.HoldPhase.{HoldPhase}
 use Rattle.chan_model.specs.declared.hold_state.HoldPhase.TheVariants as hold
 use Rattle.chan_model.specs.declared.names.Side.{Side}
-use Rattle.chan_model.specs.declared.report.DeviceAnswer.{DeviceAnswer}
-use Rattle.chan_model.specs.declared.report.Report.{Report}
+use Rattle.chan_model.specs.Reports.{DeviceAnswer}
+use Rattle.chan_model.specs.Reports.{Report}
 use Rattle.chan_events.specs.declared.reply.Reply.TheVariants as reply
 use Rattle.chan_model.specs.declared.signal.Up.TheVariants as up
 use Rattle.chan_model.specs.Signals.{Down}
@@ -204,8 +204,8 @@ module _ (laws : AreLaws) (accesses : AreAccesses) where
       Follows (mode-meets laws accesses storage side s k downs ups u path h m returns (up.Leave t c) (λ P Q R w. first-tells side k.number (length k.taken) P Q R downs ups u path (up.Leave t c) e w) tt)
   course-meets returns storage side s k downs ups u path (up.Back t c) e h (Follows m) =
       Follows (mode-meets laws accesses storage side s k downs ups u path h m returns (up.Back t c) (λ P Q R w. first-tells side k.number (length k.taken) P Q R downs ups u path (up.Back t c) e w) tt)
-  course-meets returns storage side s k downs ups u path (up.Data t c n seq load) e h (Follows m) =
-      Follows (mode-meets laws accesses storage side s k downs ups u path h m returns (up.Data t c n seq load) (λ P Q R w. first-tells side k.number (length k.taken) P Q R downs ups u path (up.Data t c n seq load) e w) tt)
+  course-meets returns storage side s k downs ups u path (up.Data load t c n seq) e h (Follows m) =
+      Follows (mode-meets laws accesses storage side s k downs ups u path h m returns (up.Data load t c n seq) (λ P Q R w. first-tells side k.number (length k.taken) P Q R downs ups u path (up.Data load t c n seq) e w) tt)
   course-meets returns storage side s k downs ups u path (up.End t n status more) e h (Follows m) =
       Follows (mode-meets laws accesses storage side s k downs ups u path h m returns (up.End t n status more) (λ P Q R w. first-tells side k.number (length k.taken) P Q R downs ups u path (up.End t n status more) e w) tt)
   course-meets returns storage side s k downs ups u path (up.Released t) e h (Follows m) =
@@ -252,7 +252,7 @@ none-answered may side drawn u path (down.Command t n code room) i = λ e. absur
 none-answered may side drawn u path (down.Grant t c) i = tt
 none-answered may side drawn u path (down.Refuse t c) i = tt
 none-answered may side drawn u path (down.Took t n s room) i = tt
-none-answered may side drawn u path (down.Give t c n s bytes) i = tt
+none-answered may side drawn u path (down.Give bytes t c n s) i = tt
 none-answered may side drawn u path (down.Halt t) i = tt
 none-answered may side drawn u path (down.Release t) i = tt
 none-answered may side drawn u path (down.Reset r b) i = tt

@@ -84,7 +84,7 @@ module _ (storage : Contents) (s : SubchannelState) (none : s.begun ≡ None) wh
 
   pub idle-meets : (returns : Bool) → IsNoOffer s.hold.phase → (p : ℕ) (x : Up) → IsIdle s (takes_up returns storage s p x).step (trace_meets storage s p x)
   idle-meets returns n p (up.Accept t) = accept-idle s.hold.phase t (goes_ahead s) n
-  idle-meets returns n p (up.Data t c i q l) = data-idle (record { path = p; number = t; connection = c; command = i; sequence = q }) l (is_connected s.hold.phase p t c) s.begun none
+  idle-meets returns n p (up.Data l t c i q) = data-idle (record { path = p; number = t; connection = c; command = i; sequence = q }) l (is_connected s.hold.phase p t c) s.begun none
   idle-meets returns n p (up.End t i status more) = end-idle (record { path = p; number = t; command = i; status = status; more = more }) (is_on s.hold.phase t) s.begun none
   idle-meets returns n p (up.Busy t) = by_hold-idle (found_busy s.hold s.hold.phase t) (busy-mutters s.hold s.hold.phase t)
   idle-meets returns n p (up.Leave t c) = by_hold-idle (left s.hold s.hold.phase t c) (left-mutters s.hold s.hold.phase t c)

@@ -197,7 +197,7 @@ module _ (laws : AreLaws) (accesses : AreAccesses) (storage : Contents) (side : 
   abbrev Front : (ℕ → Load → Type 0) → Up → Type 0
   Front R x = IsTelling k.number m R (IsClosed side k.number u) x
 
-  data-front : (R : ℕ → Load → Type 0) (b : ActiveProgram) (t c n seq : ℕ) (l : Load) → s.begun ≡ Some b → t ≡ k.number → n ≡ b.transfer.command → Front R (up.Data t c n seq l) → (n ≤ m) × (n ≡ m → R seq l) × (n ≡ k.sent)
+  data-front : (R : ℕ → Load → Type 0) (b : ActiveProgram) (t c n seq : ℕ) (l : Load) → s.begun ≡ Some b → t ≡ k.number → n ≡ b.transfer.command → Front R (up.Data l t c n seq) → (n ≤ m) × (n ≡ m → R seq l) × (n ≡ k.sent)
   data-front R b t c n seq l e z i f =
       let g = f.1 z in
       (g.0, g.1, i ∙ (at-work b e).1)
@@ -223,7 +223,7 @@ module _ (laws : AreLaws) (accesses : AreAccesses) (storage : Contents) (side : 
 
   -- a write
   given-signal : (w : View) (t c n seq : ℕ) (bytes : List ℕ) → t ≡ k.number → n ≤ m → seq ≡ w.seq → (bytes ≡ []) ⊎ IsGood w bytes →
-      IsGiving k.number m (IsGive w) (down.Give t c n (seq + 1) bytes)
+      IsGiving k.number m (IsGive w) (down.Give bytes t c n (seq + 1))
   given-signal w t c n seq bytes z l q g = (omega (arith, z), λ e. (l, λ i. (omega (arith, q), λ j. g)))
 
   same-hand : (c d : ℕ) (v w : View) (lead after : Option ℕ) → d ≡ c → ((x : AtHand) → flows.Hand v lead x → flows.Hand w after x) → (h : Option AtHand) → HandFlow c v lead h → HandFlow d w after h
@@ -247,10 +247,10 @@ module _ (laws : AreLaws) (accesses : AreAccesses) (storage : Contents) (side : 
     code = (next_given-same storage (taken_by_device storage b.transfer signal.sequence (load_length l))).0 ∙ (absorbed-same storage b.transfer signal.sequence (load_length l)).0
 
     given :
-        Mode side (Some (record b { transfer = x.transfer })) (with_now now) (with_any_sent downs (Some (record { path = signal.path; signal = down.Give signal.number signal.connection signal.command (signal.sequence + 1) x.bytes }))) (taken ups path) u →
+        Mode side (Some (record b { transfer = x.transfer })) (with_now now) (with_any_sent downs (Some (record { path = signal.path; signal = down.Give x.bytes signal.number signal.connection signal.command (signal.sequence + 1) }))) (taken ups path) u →
         Goes (pieces.give_next storage s b signal (load_length l)) (with_now now)
     given g =
-        interrupted-mode side (taking.with_transfer s b x.transfer) (record b { transfer = x.transfer }) (with_now now) (with_any_sent downs (Some (record { path = signal.path; signal = down.Give signal.number signal.connection signal.command (signal.sequence + 1) x.bytes })))
+        interrupted-mode side (taking.with_transfer s b x.transfer) (record b { transfer = x.transfer }) (with_now now) (with_any_sent downs (Some (record { path = signal.path; signal = down.Give x.bytes signal.number signal.connection signal.command (signal.sequence + 1) })))
         (taken ups path) u refl g
 
     writes-goes : (lead : Option ℕ) → s.begun ≡ Some b → signal.number ≡ k.number → signal.command ≤ m → length k.taken ≡ k.sent → is_outward b.transfer.code ≡ true →
@@ -272,7 +272,7 @@ module _ (laws : AreLaws) (accesses : AreAccesses) (storage : Contents) (side : 
             let all : min j (room b.transfer.moving) ≡ j = min-eq_left flow.within in
             let moved : w.moved ≡ v.moved ++ each_below v.next j = a.0.moved ∙ ap (λ (i : ℕ). v.moved ++ each_below v.next i) all in
             given (Writes (record b { transfer = x.transfer }) refl taken-all outward None (answered-flow v w k.absorbed j a.0.copied moved flow)
-            (now-wires (HandFlow b.transfer.code v lead) (HandFlow x.transfer.code w None) (IsGive v) (IsGive w) (IsData v lead) (IsData w None) (Some (record { path = signal.path; signal = down.Give signal.number signal.connection signal.command (signal.sequence + 1) x.bytes }))
+            (now-wires (HandFlow b.transfer.code v lead) (HandFlow x.transfer.code w None) (IsGive v) (IsGive w) (IsData v lead) (IsData w None) (Some (record { path = signal.path; signal = down.Give x.bytes signal.number signal.connection signal.command (signal.sequence + 1) }))
             (same-hand b.transfer.code x.transfer.code v w lead None code (λ h r. answered-hand v w j h a.0.seq (subst (λ (i : Option ℕ). flows.Hand v i h) ahead r)))
             (λ i bytes r. answered-give v w i bytes a.0.seq r) (λ i r q. answered-data v w lead i r a.0.seq q) (given-signal w signal.number signal.connection signal.command signal.sequence x.bytes z le (is ∙ sym a.0.seq) a.1) wired))
         by false y =
@@ -280,13 +280,13 @@ module _ (laws : AreLaws) (accesses : AreAccesses) (storage : Contents) (side : 
             let is : signal.sequence ≡ b.transfer.sequence = elim at [ inl h ↦ h | inr h ↦ absurd (not h) ] in
             let a = repeats-view accesses storage b.transfer signal.sequence (load_length l) k.now y in
             given (Writes (record b { transfer = x.transfer }) refl taken-all outward lead (located-flow v w k.absorbed lead a.located f)
-            (now-wires (HandFlow b.transfer.code v lead) (HandFlow x.transfer.code w lead) (IsGive v) (IsGive w) (IsData v lead) (IsData w lead) (Some (record { path = signal.path; signal = down.Give signal.number signal.connection signal.command (signal.sequence + 1) x.bytes }))
+            (now-wires (HandFlow b.transfer.code v lead) (HandFlow x.transfer.code w lead) (IsGive v) (IsGive w) (IsData v lead) (IsData w lead) (Some (record { path = signal.path; signal = down.Give x.bytes signal.number signal.connection signal.command (signal.sequence + 1) }))
             (same-hand b.transfer.code x.transfer.code v w lead lead code (λ h r. located-hand v w lead h a.located r)) (λ i bytes r. located-give v w i bytes a.located r)
             (λ i r q. located-data v w lead i r a.located q) (given-signal w signal.number signal.connection signal.command signal.sequence x.bytes z le (is ∙ sym a.located.seq) a.good) wired))
 
   -- by the direction
   moves-goes : (b : ActiveProgram) (signal : DataSignal) (l : Load) → s.begun ≡ Some b → signal.number ≡ k.number → signal.command ≡ b.transfer.command → (signal.sequence ≡ b.transfer.sequence) ⊎ (signal.sequence ≡ b.transfer.sequence + 1) →
-      ((P : Option AtHand → Type 0) (Q : ℕ → List ℕ → Type 0) (R : ℕ → Load → Type 0) → IsWired side k.number m P Q R downs ups u → Front R (up.Data signal.number signal.connection signal.command signal.sequence l)) →
+      ((P : Option AtHand → Type 0) (Q : ℕ → List ℕ → Type 0) (R : ℕ → Load → Type 0) → IsWired side k.number m P Q R downs ups u → Front R (up.Data l signal.number signal.connection signal.command signal.sequence)) →
       Goes (taking.move_bytes storage s b signal l).step (stories.moves storage b.transfer signal.sequence l k)
   moves-goes b signal l e z i at f = by mode
     where
@@ -313,7 +313,7 @@ module _ (laws : AreLaws) (accesses : AreAccesses) (storage : Contents) (side : 
           (if x then with_now (gives storage b.transfer signal.sequence (load_length l) k.now) else with_now (takes_in storage b.transfer signal.sequence (load_bytes l) k.now))) (sym out)
           (writes-goes b signal l lead e z r.0 g out at (r.1 (r.2 ∙ sym g)) y' w')
 
-  module _ (signal : DataSignal) (l : Load) (front : (P : Option AtHand → Type 0) (Q : ℕ → List ℕ → Type 0) (R : ℕ → Load → Type 0) → IsWired side k.number m P Q R downs ups u → Front R (up.Data signal.number signal.connection signal.command signal.sequence l)) where
+  module _ (signal : DataSignal) (l : Load) (front : (P : Option AtHand → Type 0) (Q : ℕ → List ℕ → Type 0) (R : ℕ → Load → Type 0) → IsWired side k.number m P Q R downs ups u → Front R (up.Data l signal.number signal.connection signal.command signal.sequence)) where
     answers-goes : (begun : Option ActiveProgram) → s.begun ≡ begun → signal.number ≡ k.number → Goes (taking.move_data storage s begun signal l).step (stories.answers storage begun signal.command signal.sequence l k)
     answers-goes None e z = quiet s.begun None refl tt
     answers-goes (Some b) e z = by (is_answered b.transfer signal.command signal.sequence) refl
@@ -483,7 +483,7 @@ module _ (laws : AreLaws) (accesses : AreAccesses) (storage : Contents) (side : 
   pub mode-meets : (returns : Bool) → (x : Up) → ((P : Option AtHand → Type 0) (Q : ℕ → List ℕ → Type 0) (R : ℕ → Load → Type 0) → IsWired side k.number m P Q R downs ups u → Front R x) → IsNoNotice x →
       Goes (takes_up returns storage s path x).step (trace_meets storage s path x k)
   mode-meets returns (up.Accept t) f other = accepts-goes s.hold s.hold.phase t (goes_ahead s) held.phase
-  mode-meets returns (up.Data t c n seq l) f other = data-goes (record { path = path; number = t; connection = c; command = n; sequence = seq }) l f
+  mode-meets returns (up.Data l t c n seq) f other = data-goes (record { path = path; number = t; connection = c; command = n; sequence = seq }) l f
   mode-meets returns (up.End t n status more) f other = end-goes (record { path = path; number = t; command = n; status = status; more = more }) f
   mode-meets returns (up.Busy t) f other = by_hold-goes (found_busy s.hold s.hold.phase t) (busy-mutters s.hold s.hold.phase t)
   mode-meets returns (up.Leave t c) f other = by_hold-goes (left s.hold s.hold.phase t c) (left-mutters s.hold s.hold.phase t c)

@@ -126,7 +126,7 @@ story-same (down.Command t c code room) true None k n = by (t == k.number) refl
 story-same (down.Grant t c) true None k n = refl
 story-same (down.Refuse t c) true None k n = refl
 story-same (down.Took t c s room) true None k n = refl
-story-same (down.Give t c e s bytes) true None k n = refl
+story-same (down.Give bytes t c e s) true None k n = refl
 story-same (down.Halt t) true None k n = refl
 story-same (down.Release t) true None k n = refl
 story-same (down.Reset r b) true None k n = refl
@@ -176,7 +176,7 @@ module _ (side : Side) (drawn : ℕ) (k : ProgramTrace) (downs : List (List Down
   all-answered may (down.Grant t c) i f = tt
   all-answered may (down.Refuse t c) i f = tt
   all-answered may (down.Took t c s room) i f = tt
-  all-answered may (down.Give t c n s bytes) i f = tt
+  all-answered may (down.Give bytes t c n s) i f = tt
   all-answered may (down.Halt t) i f = tt
   all-answered may (down.Release t) i f = tt
   all-answered may (down.Reset r b) i f = tt
@@ -267,7 +267,7 @@ module _ (side : Side) (drawn : ℕ) (k : ProgramTrace) (downs : List (List Down
   mode-next may begun (down.Grant t c) last q i m b e l s z w = carried-down may begun (down.Grant t c) q i tt m
   mode-next may begun (down.Refuse t c) last q i m b e l s z w = carried-down may begun (down.Refuse t c) q i tt m
   mode-next may begun (down.Took t c y room) last q i m b e l s z w = carried-down may begun (down.Took t c y room) q i tt m
-  mode-next may begun (down.Give t c n y bytes) last q i m b e l s z w = carried-down may begun (down.Give t c n y bytes) q i tt m
+  mode-next may begun (down.Give bytes t c n y) last q i m b e l s z w = carried-down may begun (down.Give bytes t c n y) q i tt m
   mode-next may begun (down.Halt t) last q i m b e l s z w = carried-down may begun (down.Halt t) q i tt m
   mode-next may begun (down.Release t) last q i m b e l s z w = carried-down may begun (down.Release t) q i tt m
   mode-next may begun (down.Reset r y) last q i m b e l s z w = carried-down may begun (down.Reset r y) q i tt m

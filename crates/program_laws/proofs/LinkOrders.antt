@@ -6,9 +6,9 @@ use Rattle.chan_model.specs.declared.fault.Fault.TheVariants as fault
 use Rattle.chan_model.specs.declared.hold_state.HoldPhase.{HoldPhase}
 use Rattle.chan_model.specs.declared.hold_state.HoldPhase.TheVariants as hold
 use Rattle.chan_model.specs.declared.names.Side.{Side}
-use Rattle.chan_model.specs.declared.report.DeviceAnswer.{DeviceAnswer}
+use Rattle.chan_model.specs.Reports.{DeviceAnswer}
 use Rattle.chan_model.specs.declared.report.DeviceAnswer.TheVariants as answer
-use Rattle.chan_model.specs.declared.report.Report.{Report}
+use Rattle.chan_model.specs.Reports.{Report}
 use Rattle.chan_events.specs.declared.reply.Reply.TheVariants as reply
 use Rattle.chan_model.specs.Signals.{Down}
 use Rattle.chan_model.specs.declared.signal.Down.TheVariants as down
@@ -111,7 +111,7 @@ down-of k s (down.Command t m code room) n h =
 down-of k s (down.Grant t c) n h = tt
 down-of k s (down.Refuse t c) n h = tt
 down-of k s (down.Took t m q room) n h = tt
-down-of k s (down.Give t c m q bytes) n h = tt
+down-of k s (down.Give bytes t c m q) n h = tt
 down-of k s (down.Halt t) n h = tt
 down-of k s (down.Release t) n h = tt
 down-of k s (down.Reset r b) n h = absurd h
@@ -133,7 +133,7 @@ down-untold s (down.Command t m code room) f h =
 down-untold s (down.Grant t c) f h = tt
 down-untold s (down.Refuse t c) f h = tt
 down-untold s (down.Took t m q room) f h = tt
-down-untold s (down.Give t c m q bytes) f h = tt
+down-untold s (down.Give bytes t c m q) f h = tt
 down-untold s (down.Halt t) f h = tt
 down-untold s (down.Release t) f h = tt
 down-untold s (down.Reset r b) f h = absurd h
@@ -277,7 +277,7 @@ took-story side drawn wires v (down.Command t n code room) true None None o = no
 took-story side drawn wires v (down.Grant t c) true None None o = o
 took-story side drawn wires v (down.Refuse t c) true None None o = o
 took-story side drawn wires v (down.Took t n s room) true None None o = o
-took-story side drawn wires v (down.Give t c n s bytes) true None None o = o
+took-story side drawn wires v (down.Give bytes t c n s) true None None o = o
 took-story side drawn wires v (down.Halt t) true None None o = o
 took-story side drawn wires v (down.Release t) true None None o = o
 took-story side drawn wires v (down.Reset r b) true None None o = o
@@ -292,7 +292,7 @@ took-story side drawn wires v (down.Command t n code room) true None (Some k) o 
 took-story side drawn wires v (down.Grant t c) true None (Some k) o = o
 took-story side drawn wires v (down.Refuse t c) true None (Some k) o = o
 took-story side drawn wires v (down.Took t n s room) true None (Some k) o = o
-took-story side drawn wires v (down.Give t c n s bytes) true None (Some k) o = o
+took-story side drawn wires v (down.Give bytes t c n s) true None (Some k) o = o
 took-story side drawn wires v (down.Halt t) true None (Some k) o = o
 took-story side drawn wires v (down.Release t) true None (Some k) o = o
 took-story side drawn wires v (down.Reset r b) true None (Some k) o = o
@@ -309,7 +309,7 @@ above-of u side (down.Command t n code room) f = tt
 above-of u side (down.Grant t c) f = tt
 above-of u side (down.Refuse t c) f = tt
 above-of u side (down.Took t n s room) f = tt
-above-of u side (down.Give t c n s bytes) f = tt
+above-of u side (down.Give bytes t c n s) f = tt
 above-of u side (down.Halt t) f = tt
 above-of u side (down.Release t) f = tt
 above-of u side (down.Got a) f = tt

@@ -5,9 +5,9 @@ use Rattle.std.proofs.lemmas.Bool.{eqb-true, eq-eqb}
 use Rattle.scsw_irb.specs.declared.status.DeviceStatus.{DeviceStatus}
 use Rattle.chan_model.specs.declared.names.Side.{Side}
 use Rattle.chan_model.specs.declared.names.Side.TheVariants.{First, Second}
-use Rattle.chan_model.specs.declared.report.DeviceAnswer.{DeviceAnswer}
+use Rattle.chan_model.specs.Reports.{DeviceAnswer}
 use Rattle.chan_model.specs.declared.report.DeviceAnswer.TheVariants as answer
-use Rattle.chan_model.specs.declared.report.Report.{Report}
+use Rattle.chan_model.specs.Reports.{Report}
 use Rattle.chan_model.specs.Signals.{Down}
 use Rattle.chan_model.specs.Signals.{Load}
 use Rattle.chan_model.specs.declared.signal.Load.TheVariants as load
@@ -164,7 +164,7 @@ module _ (side : Side) (begun : Option ActiveProgram) (k : ProgramTrace) (downs 
 
     begins-told : (lead : Option ℕ) → x.code ≡ b.transfer.code → Hand v lead x → x.progress ≡ progress.New → Flow v k.absorbed lead →
         IsWired side k.number m (HandFlow b.transfer.code v lead) (IsGive v) (IsData v lead) downs ups u →
-        IsWrite k (record { state = with_hand u (with_absorbed x 0); sent = Some (record { path = p; signal = up.Data report.number c u.last_command x.sequence (load.Absorbed 0) }) })
+        IsWrite k (record { state = with_hand u (with_absorbed x 0); sent = Some (record { path = p; signal = up.Data (load.Absorbed 0) report.number c u.last_command x.sequence }) })
     begins-told lead z (Level q g l) new f w =
         stays-writing (telling_data u p report.number c (with_absorbed x 0) (load.Absorbed 0)) lead lead f (λ o. (z, Level q refl l)) (λ s y d. d) (closes answer.Begins (telling_data u p report.number c (with_absorbed x 0) (load.Absorbed 0)) (Begins_out new))
         (of-it (IsData v lead x.sequence (load.Absorbed 0)) (omega (arith, q), λ i. absurd (omega (arith, q, i)))) w
@@ -177,11 +177,11 @@ module _ (side : Side) (begun : Option ActiveProgram) (k : ProgramTrace) (downs 
     absorbs-told : (lead : Option ℕ) (bytes : List ℕ) (count : ℕ) → x.code ≡ b.transfer.code → Hand v lead x → x.progress ≡ progress.Working → x.given ≡ Some bytes → count ≤ length bytes →
         Flow v k.absorbed lead → IsWired side k.number m (HandFlow b.transfer.code v lead) (IsGive v) (IsData v lead) downs ups u →
         IsWrite (record k { absorbed = k.absorbed ++ take count bytes })
-        (record { state = with_hand u (with_absorbed x count); sent = Some (record { path = p; signal = up.Data report.number c u.last_command x.sequence (load.Absorbed count) }) })
+        (record { state = with_hand u (with_absorbed x count); sent = Some (record { path = p; signal = up.Data (load.Absorbed count) report.number c u.last_command x.sequence }) })
     absorbs-told lead bytes count z (Level q g l) w h i f s = absurd (some-none x.given bytes h g)
     absorbs-told lead bytes count z (Ahead q g j l a y) w h i f s = absurd (some-none x.given bytes h g)
     absorbs-told lead bytes count z (Pending q a l g) w h i f s =
-        let y : UnitStep = record { state = with_hand u (with_absorbed x count); sent = Some (record { path = p; signal = up.Data report.number c u.last_command x.sequence (load.Absorbed count) }) } in
+        let y : UnitStep = record { state = with_hand u (with_absorbed x count); sent = Some (record { path = p; signal = up.Data (load.Absorbed count) report.number c u.last_command x.sequence }) } in
         Writes b e n out (Some count) (absorbs-flow v k.absorbed bytes count (g bytes h) i (subst (Flow v k.absorbed) l f))
         (wired-tells side k.number m (HandFlow b.transfer.code v lead) (HandFlow b.transfer.code v (Some count)) (IsGive v) (IsData v lead) (IsData v (Some count)) downs ups u y.state y.sent
         (λ o. (z, Ahead q refl count refl (λ j d. let t : load.Absorbed count ≡ j = cc d in ap load_length (sym t)) tt)) (λ r t d. none-data v lead count r t l d)
@@ -190,7 +190,7 @@ module _ (side : Side) (begun : Option ActiveProgram) (k : ProgramTrace) (downs 
 
     again-told : (lead : Option ℕ) (l : Load) → x.code ≡ b.transfer.code → Hand v lead x → x.unanswered ≡ Some l → x.progress ≡ progress.Working → Flow v k.absorbed lead →
         IsWired side k.number m (HandFlow b.transfer.code v lead) (IsGive v) (IsData v lead) downs ups u →
-        IsWrite k (record { state = with_hand u (record x { again = false }); sent = Some (record { path = p; signal = up.Data report.number c u.last_command x.sequence l }) })
+        IsWrite k (record { state = with_hand u (record x { again = false }); sent = Some (record { path = p; signal = up.Data l report.number c u.last_command x.sequence }) })
     again-told lead l z (Level q g i) h w f s =
         stays-writing (telling_data u p report.number c (record x { again = false }) l) lead lead f (λ o. (z, Level q g i)) (λ r t d. d) (closes answer.Again (telling_data u p report.number c (record x { again = false }) l) (Tells_again l h w))
         (of-it (IsData v lead x.sequence l) (omega (arith, q), λ j. absurd (omega (arith, q, j)))) s

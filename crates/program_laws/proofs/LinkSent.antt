@@ -48,7 +48,7 @@ IsOf s (down.Command t n code room) = IsAtWork s t n code
 IsOf s (down.Grant t c) = Unit {0}
 IsOf s (down.Refuse t c) = Unit {0}
 IsOf s (down.Took t n q room) = Unit {0}
-IsOf s (down.Give t c n q bytes) = Unit {0}
+IsOf s (down.Give bytes t c n q) = Unit {0}
 IsOf s (down.Halt t) = Unit {0}
 IsOf s (down.Release t) = Unit {0}
 IsOf s (down.Reset r b) = ⊥
@@ -76,7 +76,7 @@ IsOfHold (down.Command t n code room) = ⊥
 IsOfHold (down.Grant t c) = Unit {0}
 IsOfHold (down.Refuse t c) = Unit {0}
 IsOfHold (down.Took t n q room) = ⊥
-IsOfHold (down.Give t c n q bytes) = ⊥
+IsOfHold (down.Give bytes t c n q) = ⊥
 IsOfHold (down.Halt t) = Unit {0}
 IsOfHold (down.Release t) = Unit {0}
 IsOfHold (down.Reset r b) = ⊥
@@ -91,7 +91,7 @@ of-hold s (down.Command t n code room) h = absurd h
 of-hold s (down.Grant t c) h = tt
 of-hold s (down.Refuse t c) h = tt
 of-hold s (down.Took t n q room) h = absurd h
-of-hold s (down.Give t c n q bytes) h = absurd h
+of-hold s (down.Give bytes t c n q) h = absurd h
 of-hold s (down.Halt t) h = tt
 of-hold s (down.Release t) h = tt
 of-hold s (down.Reset r b) h = absurd h
@@ -284,7 +284,7 @@ notice-sends s b false = tt
 
 pub up-sends : (returns : Bool) → (storage : Contents) (s : SubchannelState) (p : ℕ) (x : Up) → Sends (takes_up returns storage s p x).step
 up-sends returns storage s p (up.Accept t) = accept-sends storage s (offer_accepted s.hold s.hold.phase t (goes_ahead s)) (accepted-mutters s.hold s.hold.phase t (goes_ahead s))
-up-sends returns storage s p (up.Data t c n q load) = take_data-sends storage s (record { path = p; number = t; connection = c; command = n; sequence = q }) load
+up-sends returns storage s p (up.Data load t c n q) = take_data-sends storage s (record { path = p; number = t; connection = c; command = n; sequence = q }) load
 up-sends returns storage s p (up.End t n status more) = end_command-sends storage s (record { path = p; number = t; command = n; status = status; more = more })
 up-sends returns storage s p (up.Busy t) = by_hold-sends s (found_busy s.hold s.hold.phase t) (busy-mutters s.hold s.hold.phase t)
 up-sends returns storage s p (up.Leave t c) = by_hold-sends s (left s.hold s.hold.phase t c) (left-mutters s.hold s.hold.phase t c)

@@ -9,10 +9,10 @@ use Rattle.chan_model.specs.declared.signal.OnPath.{OnPath}
 use Rattle.chan_model.specs.Signals.{Load}
 use Rattle.chan_model.specs.Signals.{Up}
 use Rattle.chan_model.specs.declared.signal.Up.TheVariants as up
-use Rattle.chan_events.specs.declared.event.Event.{Event}
+use Rattle.chan_events.specs.Events.{Event}
 use Rattle.chan_events.specs.declared.event.Event.TheVariants as event
 use Rattle.chan_events.specs.declared.reply.Entry.{Entry}
-use Rattle.chan_events.specs.declared.reply.Reply.{Reply}
+use Rattle.chan_events.specs.Replies.{Reply}
 use Rattle.chan_model.specs.HoldTable.{HoldStep, hold_takes, hold_after, came_of, is_connected, is_on}
 use Rattle.chan_model.specs.Loads.{load_length}
 use Rattle.chan_model.specs.UnitReports.{is_outward, has_device_end}
@@ -108,7 +108,7 @@ trace_ends storage s (Some b) n status more k = if n == b.transfer.command then 
 -- what the subchannel does for its program with a signal
 abbrev pub trace_meets : Contents → SubchannelState → ℕ → Up → ProgramTrace → ProgramTrace
 trace_meets storage s p (up.Accept t) k = trace_accepted storage s (hold_takes s.hold p (up.Accept t) (goes_ahead s)) k
-trace_meets storage s p (up.Data t c n seq load) k = if is_connected s.hold.phase p t c then answers storage s.begun n seq load k else k
+trace_meets storage s p (up.Data load t c n seq) k = if is_connected s.hold.phase p t c then answers storage s.begun n seq load k else k
 trace_meets storage s p (up.End t n status more) k = if is_on s.hold.phase t then trace_ends storage s s.begun n status more k else k
 trace_meets storage s p signal k = k
 

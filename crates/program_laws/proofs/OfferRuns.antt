@@ -13,9 +13,9 @@ use Rattle.chan_model.specs.declared.signal.Up.TheVariants as up
 use Rattle.chan_model.specs.Signals.{Down}
 use Rattle.chan_model.specs.declared.signal.Down.TheVariants as down
 use Rattle.chan_model.specs.declared.signal.OnPath.{OnPath}
-use Rattle.chan_model.specs.declared.report.DeviceAnswer.{DeviceAnswer}
+use Rattle.chan_model.specs.Reports.{DeviceAnswer}
 use Rattle.chan_model.specs.declared.report.DeviceAnswer.TheVariants as answer
-use Rattle.chan_model.specs.declared.report.Report.{Report}
+use Rattle.chan_model.specs.Reports.{Report}
 use Rattle.chan_model.specs.declared.unit_state.AtHand.{AtHand}
 use Rattle.chan_model.specs.declared.unit_state.UnitState.{UnitState}
 use Rattle.chan_model.specs.UnitTable as unit_table
@@ -159,7 +159,7 @@ offer-traced returns storage s h t q p (up.Accept u) k v w e =
 offer-traced returns storage s h t q p (up.Busy u) k v w e = refl
 offer-traced returns storage s h t q p (up.Leave u c) k v w e = refl
 offer-traced returns storage s h t q p (up.Back u c) k v w e = refl
-offer-traced returns storage s h t q p (up.Data u c n seq load) k v w e = refl
+offer-traced returns storage s h t q p (up.Data load u c n seq) k v w e = refl
 offer-traced returns storage s h t q p (up.End u n status more) k v w e = refl
 offer-traced returns storage s h t q p (up.Released u) k v w e = refl
 offer-traced returns storage s h t q p (up.Cleared r) k v w e = refl
@@ -300,7 +300,7 @@ takes-offers s (down.Command t n code room) k o = takes-if s k code (t == k.numb
 takes-offers s (down.Grant t c) k o = o
 takes-offers s (down.Refuse t c) k o = o
 takes-offers s (down.Took t n seq room) k o = o
-takes-offers s (down.Give t c n seq bytes) k o = o
+takes-offers s (down.Give bytes t c n seq) k o = o
 takes-offers s (down.Halt t) k o = o
 takes-offers s (down.Release t) k o = o
 takes-offers s (down.Reset r b) k o = o

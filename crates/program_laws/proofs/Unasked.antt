@@ -221,7 +221,7 @@ noticed-unasked s b false u = u
 
 takes-unasked : (returns : Bool) (storage : Contents) (s : SubchannelState) (p : ℕ) (x : Up) → IsUnasked s.begun → IsUnasked (takes_up returns storage s p x).step.state.begun
 takes-unasked returns storage s p (up.Accept t) u = accept-unasked storage s (hold_takes s.hold p (up.Accept t) (taking.goes_ahead s)) u
-takes-unasked returns storage s p (up.Data t c n q load) u =
+takes-unasked returns storage s p (up.Data load t c n q) u =
     data-unasked storage s (record { path = p; number = t; connection = c; command = n; sequence = q }) load (is_connected s.hold.phase p t c) u
 takes-unasked returns storage s p (up.End t n status more) u =
     end-unasked storage s (record { path = p; number = t; command = n; status = status; more = more }) (is_on s.hold.phase t) u

@@ -267,7 +267,7 @@ ends-grown storage s (Some b) n status more k = if-grown k (n == b.transfer.comm
 
 pub meets-grown : (storage : Contents) (s : SubchannelState) (p : ℕ) (x : Up) (k : ProgramTrace) → IsUnbegun s.hold.phase k → IsGrown k (trace_meets storage s p x k)
 meets-grown storage s p (up.Accept t) k e = accept-grown storage s s.hold s.hold.phase t (goes_ahead s) k e
-meets-grown storage s p (up.Data t c n seq load) k e = if-grown k (is_connected s.hold.phase p t c) _ k (answers-grown storage s.begun n seq load k) (same-grown k)
+meets-grown storage s p (up.Data load t c n seq) k e = if-grown k (is_connected s.hold.phase p t c) _ k (answers-grown storage s.begun n seq load k) (same-grown k)
 meets-grown storage s p (up.End t n status more) k e = if-grown k (is_on s.hold.phase t) _ k (ends-grown storage s s.begun n status more k) (same-grown k)
 meets-grown storage s p (up.Busy t) k e = same-grown k
 meets-grown storage s p (up.Leave t c) k e = same-grown k

@@ -77,7 +77,7 @@ IsEasy (down.Command t n code room) = ⊥
 IsEasy (down.Grant t c) = Unit {0}
 IsEasy (down.Refuse t c) = Unit {0}
 IsEasy (down.Took t n s room) = ⊥
-IsEasy (down.Give t c n s bytes) = ⊥
+IsEasy (down.Give bytes t c n s) = ⊥
 IsEasy (down.Halt t) = Unit {0}
 IsEasy (down.Release t) = Unit {0}
 IsEasy (down.Reset r b) = Unit {0}
@@ -92,7 +92,7 @@ easy-calm may side u k p (down.Command t n code room) m = absurd m
 easy-calm may side u k p (down.Grant t c) m = fresh-calm side u k p _ (granted-leaves (IsCalm side) (calm-places side) u u.own k p t c refl)
 easy-calm may side u k p (down.Refuse t c) m = fresh-calm side u k p _ (refused-leaves (IsCalm side) (calm-places side) u u.own k t c refl)
 easy-calm may side u k p (down.Took t n s room) m = absurd m
-easy-calm may side u k p (down.Give t c n s bytes) m = absurd m
+easy-calm may side u k p (down.Give bytes t c n s) m = absurd m
 easy-calm may side u k p (down.Halt t) m =
     fresh-calm side u k p _ (if-calm side u (is_owner u.own k t && not u.halted) _ None (calm-own side u (record u { halted = true }) refl refl) (calm side u))
 easy-calm may side u k p (down.Release t) m = fresh-calm side u k p _ (if-calm side u (is_owner u.own k t) _ None (calm-idle side u (freed u) refl) (calm side u))
@@ -157,7 +157,7 @@ other-calm may side u k p (down.Grant t c) e = easy-calm may side u k p (down.Gr
 other-calm may side u k p (down.Refuse t c) e = easy-calm may side u k p (down.Refuse t c) tt
 other-calm may side u k p (down.Took t n s room) e =
     fresh-calm side u k p _ (owned-calm side k u t (answered_last u u.at_hand s room) (is_owner u.own k t) (n == u.last_command) e refl (answered-own u u.at_hand s room))
-other-calm may side u k p (down.Give t c n s bytes) e =
+other-calm may side u k p (down.Give bytes t c n s) e =
     fresh-calm side u k p _ (given-other side k u t c n s bytes (is_owner_on u.own k t c) (n == u.last_command) e refl)
 other-calm may side u k p (down.Halt t) e = easy-calm may side u k p (down.Halt t) tt
 other-calm may side u k p (down.Release t) e = easy-calm may side u k p (down.Release t) tt
@@ -233,7 +233,7 @@ next-held side number P u (Some x) s bytes f e h = by (s == x.sequence + 1) refl
 
 pub give-held : (may : Bool) → (side : Side) (number : ℕ) (P : Option AtHand → Type 0) (u : UnitState) (p t c n s : ℕ) (bytes : List ℕ) →
     (t ≡ number → n ≡ u.last_command → is_owner u.own side number ≡ true → TakesGive P s bytes) → IsHeld side number P u →
-    IsHeldStep side number P u (unit_takes u side p (down.Give t c n s bytes) may)
+    IsHeldStep side number P u (unit_takes u side p (down.Give bytes t c n s) may)
 give-held may side number P u p t c n s bytes f h = fresh-held side number P u p _ h (by (is_owner_on u.own side t c) (n == u.last_command) refl refl)
   where
     by : (a b : Bool) → is_owner_on u.own side t c ≡ a → (n == u.last_command) ≡ b → IsHeldStep side number P u (if a && b then given_next u u.at_hand s bytes else None)
@@ -264,7 +264,7 @@ IsQuiet (up.Accept t) = Unit {0}
 IsQuiet (up.Busy t) = Unit {0}
 IsQuiet (up.Leave t c) = Unit {0}
 IsQuiet (up.Back t c) = Unit {0}
-IsQuiet (up.Data t c n s l) = ⊥
+IsQuiet (up.Data l t c n s) = ⊥
 IsQuiet (up.End t n status more) = ⊥
 IsQuiet (up.Released t) = Unit {0}
 IsQuiet (up.Cleared r) = Unit {0}
@@ -330,7 +330,7 @@ works-quiet may u k p (down.Command t n code room) =
 works-quiet may u k p (down.Grant t c) = granted-quiet u u.own k p t c
 works-quiet may u k p (down.Refuse t c) = refused-quiet u u.own k t c
 works-quiet may u k p (down.Took t n s room) = if-quiet (is_owner u.own k t && (n == u.last_command)) (answered_last u u.at_hand s room) None (last-quiet u u.at_hand s room) tt
-works-quiet may u k p (down.Give t c n s bytes) = if-quiet (is_owner_on u.own k t c && (n == u.last_command)) (given_next u u.at_hand s bytes) None (given-quiet u u.at_hand s bytes) tt
+works-quiet may u k p (down.Give bytes t c n s) = if-quiet (is_owner_on u.own k t c && (n == u.last_command)) (given_next u u.at_hand s bytes) None (given-quiet u u.at_hand s bytes) tt
 works-quiet may u k p (down.Halt t) = if-quiet (is_owner u.own k t && not u.halted) (changes (record u { halted = true })) None tt tt
 works-quiet may u k p (down.Release t) = if-quiet (is_owner u.own k t) (sends (freed u) p (up.Released t)) None tt tt
 works-quiet may u k p (down.Reset r b) = tt
@@ -345,7 +345,7 @@ takes-quiet may u k p (down.Command t n code room) = fresh-quiet u k p (unit_wor
 takes-quiet may u k p (down.Grant t c) = fresh-quiet u k p (unit_works u k p (down.Grant t c) may) (works-quiet may u k p (down.Grant t c))
 takes-quiet may u k p (down.Refuse t c) = fresh-quiet u k p (unit_works u k p (down.Refuse t c) may) (works-quiet may u k p (down.Refuse t c))
 takes-quiet may u k p (down.Took t n s room) = fresh-quiet u k p (unit_works u k p (down.Took t n s room) may) (works-quiet may u k p (down.Took t n s room))
-takes-quiet may u k p (down.Give t c n s bytes) = fresh-quiet u k p (unit_works u k p (down.Give t c n s bytes) may) (works-quiet may u k p (down.Give t c n s bytes))
+takes-quiet may u k p (down.Give bytes t c n s) = fresh-quiet u k p (unit_works u k p (down.Give bytes t c n s) may) (works-quiet may u k p (down.Give bytes t c n s))
 takes-quiet may u k p (down.Halt t) = fresh-quiet u k p (unit_works u k p (down.Halt t) may) (works-quiet may u k p (down.Halt t))
 takes-quiet may u k p (down.Release t) = fresh-quiet u k p (unit_works u k p (down.Release t) may) (works-quiet may u k p (down.Release t))
 takes-quiet may u k p (down.Reset r b) =

@@ -5,9 +5,9 @@ use Rattle.std.specs.Prelude.{if◌then◌else◌}
 use Rattle.scsw_irb.specs.declared.status.DeviceStatus.{DeviceStatus}
 use Rattle.chan_model.specs.declared.names.Side.{Side}
 use Rattle.chan_model.specs.declared.names.Side.TheVariants.{First, Second}
-use Rattle.chan_model.specs.declared.report.DeviceAnswer.{DeviceAnswer}
+use Rattle.chan_model.specs.Reports.{DeviceAnswer}
 use Rattle.chan_model.specs.declared.report.DeviceAnswer.TheVariants as answer
-use Rattle.chan_model.specs.declared.report.Report.{Report}
+use Rattle.chan_model.specs.Reports.{Report}
 use Rattle.chan_model.specs.Signals.{Down}
 use Rattle.chan_model.specs.declared.signal.Down.TheVariants as down
 use Rattle.chan_model.specs.Signals.{Load}
@@ -132,7 +132,7 @@ IsMild (down.Command t n code room) = ⊥
 IsMild (down.Grant t c) = Unit {0}
 IsMild (down.Refuse t c) = Unit {0}
 IsMild (down.Took t n s room) = Unit {0}
-IsMild (down.Give t c n s bytes) = Unit {0}
+IsMild (down.Give bytes t c n s) = Unit {0}
 IsMild (down.Halt t) = Unit {0}
 IsMild (down.Release t) = Unit {0}
 IsMild (down.Reset r b) = ⊥
@@ -145,7 +145,7 @@ mild-works side u k p (down.Grant t c) may m = granted-leaves (IsStill side) (st
 mild-works side u k p (down.Refuse t c) may m = refused-leaves (IsStill side) (still-places side) u u.own k t c refl
 mild-works side u k p (down.Took t n s room) may m =
     if-still side u (is_owner u.own k t && (n == u.last_command)) _ None (answered-still side u u.at_hand s room) (still side u)
-mild-works side u k p (down.Give t c n s bytes) may m =
+mild-works side u k p (down.Give bytes t c n s) may m =
     if-still side u (is_owner_on u.own k t c && (n == u.last_command)) _ None (given-still side u u.at_hand s bytes) (still side u)
 mild-works side u k p (down.Halt t) may m = if-still side u (is_owner u.own k t && not u.halted) _ None (halted-still side u) (still side u)
 mild-works side u k p (down.Release t) may m = if-still side u (is_owner u.own k t) _ None (freed-still side u) (still side u)
@@ -161,7 +161,7 @@ mild-still side u k p (down.Command t n code room) may m = absurd m
 mild-still side u k p (down.Grant t c) may m = fresh-still side u k p _ (mild-works side u k p (down.Grant t c) may m)
 mild-still side u k p (down.Refuse t c) may m = fresh-still side u k p _ (mild-works side u k p (down.Refuse t c) may m)
 mild-still side u k p (down.Took t n s room) may m = fresh-still side u k p _ (mild-works side u k p (down.Took t n s room) may m)
-mild-still side u k p (down.Give t c n s bytes) may m = fresh-still side u k p _ (mild-works side u k p (down.Give t c n s bytes) may m)
+mild-still side u k p (down.Give bytes t c n s) may m = fresh-still side u k p _ (mild-works side u k p (down.Give bytes t c n s) may m)
 mild-still side u k p (down.Halt t) may m = fresh-still side u k p _ (mild-works side u k p (down.Halt t) may m)
 mild-still side u k p (down.Release t) may m = fresh-still side u k p _ (mild-works side u k p (down.Release t) may m)
 mild-still side u k p (down.Reset r b) may m = absurd m
@@ -212,7 +212,7 @@ other-still side u k p (down.Command t n code room) may e = fresh-still side u k
 other-still side u k p (down.Grant t c) may e = mild-still side u k p (down.Grant t c) may tt
 other-still side u k p (down.Refuse t c) may e = mild-still side u k p (down.Refuse t c) may tt
 other-still side u k p (down.Took t n s room) may e = mild-still side u k p (down.Took t n s room) may tt
-other-still side u k p (down.Give t c n s bytes) may e = mild-still side u k p (down.Give t c n s bytes) may tt
+other-still side u k p (down.Give bytes t c n s) may e = mild-still side u k p (down.Give bytes t c n s) may tt
 other-still side u k p (down.Halt t) may e = mild-still side u k p (down.Halt t) may tt
 other-still side u k p (down.Release t) may e = mild-still side u k p (down.Release t) may tt
 other-still side u k p (down.Reset r b) may e =

@@ -4,9 +4,9 @@ use Rattle.std.specs.Prelude.{if◌then◌else◌}
 use Rattle.std.proofs.lemmas.Bool.{eqb-true, leb-true, and_parts}
 use Rattle.scsw_irb.specs.declared.status.DeviceStatus.{DeviceStatus}
 use Rattle.chan_model.specs.declared.names.Side.{Side}
-use Rattle.chan_model.specs.declared.report.DeviceAnswer.{DeviceAnswer}
+use Rattle.chan_model.specs.Reports.{DeviceAnswer}
 use Rattle.chan_model.specs.declared.report.DeviceAnswer.TheVariants as answer
-use Rattle.chan_model.specs.declared.report.Report.{Report}
+use Rattle.chan_model.specs.Reports.{Report}
 use Rattle.chan_model.specs.Signals.{Load}
 use Rattle.chan_model.specs.declared.signal.Load.TheVariants as load
 use Rattle.chan_model.specs.declared.signal.Up.TheVariants as up
@@ -28,7 +28,7 @@ abbrev pub with_hand : UnitState → AtHand → UnitState
 with_hand u x = record u { at_hand = Some x }
 
 abbrev pub telling_data : UnitState → ℕ → ℕ → ℕ → AtHand → Load → UnitStep
-telling_data u p t c x l = record { state = with_hand u x; sent = Some (record { path = p; signal = up.Data t c u.last_command x.sequence l }) }
+telling_data u p t c x l = record { state = with_hand u x; sent = Some (record { path = p; signal = up.Data l t c u.last_command x.sequence }) }
 
 pub data IsTold (u : UnitState) (p t c : ℕ) (x : AtHand) : DeviceAnswer → UnitStep → Type 0 where
   Begins_out : x.progress ≡ progress.New → IsTold u p t c x answer.Begins (telling_data u p t c (with_absorbed x 0) (load.Absorbed 0))

@@ -13,10 +13,10 @@ use Rattle.chan_model.specs.Signals.{Up}
 use Rattle.chan_model.specs.declared.signal.Up.TheVariants as up
 use Rattle.chan_model.specs.Loads.{load_length}
 use Rattle.chan_model.specs.UnitReports.{has_device_end, has_unit_check, is_last_end}
-use Rattle.chan_events.specs.declared.event.Event.{Event}
+use Rattle.chan_events.specs.Events.{Event}
 use Rattle.chan_events.specs.declared.event.Event.TheVariants as event
 use Rattle.chan_events.specs.declared.reply.Entry.{Entry}
-use Rattle.chan_events.specs.declared.reply.Reply.{Reply}
+use Rattle.chan_events.specs.Replies.{Reply}
 use Rattle.chan_events.specs.declared.reply.Reply.TheVariants as reply
 use Rattle.channel_program.specs.Acts.{Act, Used_up, End}
 use Rattle.channel_program.specs.Programs.{latest, next, next_used_up, commands, code}
@@ -150,7 +150,7 @@ pub record TakesNext (former storage : Contents) (orb : Orb) (s : ℕ) (bytes : 
 
 -- a Data is answered by what it is answered with
 abbrev pub MovesBy : Contents → Contents → Orb → ℕ → Load → Down → CommandTrace → CommandTrace → Type 0
-MovesBy former storage orb s load (down.Give t c n next bytes) k now = (storage ≡ former) × GivesNext storage orb s (load_length load) bytes k now
+MovesBy former storage orb s load (down.Give bytes t c n next) k now = (storage ≡ former) × GivesNext storage orb s (load_length load) bytes k now
 MovesBy former storage orb s load (down.Took t n last more) k now = TakesNext former storage orb s (load_bytes load) more k now
 MovesBy former storage orb s load signal k now = ⊥
 
@@ -168,7 +168,7 @@ acts_used used acts = if used then Used_up ∷ acts else acts
 abbrev pub IsAnswerTo : ℕ → ℕ → ℕ → ℕ → Option (OnPath Down) → Type 0
 IsAnswerTo t c n s None = ⊥
 IsAnswerTo t c n s (Some sent) = elim sent.signal [
-  | down.Give u d m next bytes ↦ (u ≡ t) × (d ≡ c) × (m ≡ n) × (next ≡ s + 1)
+  | down.Give bytes u d m next ↦ (u ≡ t) × (d ≡ c) × (m ≡ n) × (next ≡ s + 1)
   | down.Took u m last more ↦ (u ≡ t) × (m ≡ n) × (last ≡ s)
   | other ↦ ⊥
 ]
@@ -221,7 +221,7 @@ Ends storage s next status more sent k after =
 -- what a signal that is taken tells, and the address and the count of the status that it makes
 abbrev pub Meets : Contents → Contents → SubchannelState → SubchannelState → Up → Bool → Option (OnPath Down) → ProgramTrace → ProgramTrace → Type 0
 Meets former storage s next (up.Accept t) true sent k after = (t ≡ k.number) × (storage ≡ former) × Accepted storage s next sent k after
-Meets former storage s next (up.Data t c n seq load) true sent k after =
+Meets former storage s next (up.Data load t c n seq) true sent k after =
     (t ≡ k.number) × (n ≡ k.sent) × IsAnswerTo t c n seq sent
     × Moves former storage seq load sent k after × IsProgramShown s next after × Interrupts s next k after × OnlyInterrupts s next k after
 Meets former storage s next (up.End t n status more) true sent k after = (t ≡ k.number) × (n ≡ k.sent) × (storage ≡ former) × Ends storage s next status more sent k after

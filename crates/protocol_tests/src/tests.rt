@@ -8,7 +8,6 @@ mod chan_model_tests;
 mod channel_config_tests;
 mod hold_tests;
 mod path_select_tests;
-mod signal_places_tests;
 mod unit_answers;
 mod unit_tests;
 mod wires_tests;

@@ -51,4 +51,4 @@ pub fn push(kept: &mut Vec<KeptLine>, number: u64, start: usize, action: KeptAct
     });
 }
 
-const _: () = prove!(size_of::<KeptLine>() == 56);
+const _: () = prove!(size_of::<KeptLine>() == 64);

@@ -1,6 +1,6 @@
 -- Actions whose bytes stand elsewhere, and what stands in a place for one.
 use Rattle.std.specs.Prelude.{ℕ, List, Option, Some, None, Result, Ok, Err}
-use Rattle.kept_events.specs.Events.{event_in, event_length}
+use Rattle.chan_events.specs.Events.{event_in, event_length}
 use Rattle.script_rows.specs.declared.Action.{Action}
 use Rattle.script_rows.specs.declared.Action.TheVariants as action
 use Rattle.script_rows.specs.declared.places.ActionPlace.{ActionPlace}

@@ -11,10 +11,9 @@ use crate::acts::act_row;
 use crate::paths::path_row;
 use crate::places::{ActionPlace, KeptAction};
 use crate::words::{hex_bytes, is_name, number, number_up_to, one, subchannel, three, two};
-use chan_events::event::{Instruction, OtherInstruction};
+use chan_events::event::{Event, Instruction, OtherInstruction};
 use chan_model::chunk::ChunkLength;
 use chan_model::names::Cpu;
-use kept_events::events::KeptEvent;
 use storage_keys::key::Key;
 
 fn enable_row(words: &[&[u8]]) -> Result<Instruction, u8>
@@ -220,7 +219,7 @@ fn on_cpu(
 {
     let instruction = said?;
     let cpu = cpu.ok_or(3)?;
-    place.kept = KeptAction::Event(KeptEvent::Execute { cpu, instruction });
+    place.kept = KeptAction::Event(Event::Execute { cpu, instruction });
     Ok(())
 }
 
@@ -233,7 +232,7 @@ fn other_on_cpu(
 {
     let instruction = said?;
     let cpu = cpu.ok_or(3)?;
-    place.kept = KeptAction::Event(KeptEvent::ExecuteOther { cpu, instruction });
+    place.kept = KeptAction::Event(Event::ExecuteOther { cpu, instruction });
     Ok(())
 }
 
@@ -295,7 +294,7 @@ fn key_row(place: &mut ActionPlace, words: &[&[u8]]) -> Result<(), u8>
     let (address, key) = two(words).ok_or(2)?;
     let address = number(address).ok_or(3)?;
     let key = key_named(key).ok_or(3)?;
-    place.kept = KeptAction::Event(KeptEvent::SetKey { address, key });
+    place.kept = KeptAction::Event(Event::SetKey { address, key });
     Ok(())
 }
 
@@ -305,7 +304,7 @@ fn prefix_row(place: &mut ActionPlace, words: &[&[u8]]) -> Result<(), u8>
     let (cpu, address) = two(words).ok_or(2)?;
     let cpu = cpu_named(cpu).ok_or(3)?;
     let address = number(address).ok_or(3)?;
-    place.kept = KeptAction::Event(KeptEvent::SetPrefix { cpu, address });
+    place.kept = KeptAction::Event(Event::SetPrefix { cpu, address });
     Ok(())
 }
 
@@ -327,7 +326,7 @@ fn show_row(place: &mut ActionPlace, words: &[&[u8]]) -> Result<(), u8>
     let (address, length) = two(words).ok_or(2)?;
     let address = number(address).ok_or(3)?;
     let length = show_length(length).ok_or(3)?;
-    place.kept = KeptAction::Event(KeptEvent::Show { address, length });
+    place.kept = KeptAction::Event(Event::Show { address, length });
     Ok(())
 }
 
@@ -337,7 +336,7 @@ fn choose_row(place: &mut ActionPlace, words: &[&[u8]]) -> Result<(), u8>
 {
     let word = one(words).ok_or(2)?;
     let subchannel = subchannel(word).ok_or(3)?;
-    place.kept = KeptAction::Event(KeptEvent::Choose { subchannel });
+    place.kept = KeptAction::Event(Event::Choose { subchannel });
     Ok(())
 }
 
@@ -348,7 +347,7 @@ fn up_row(place: &mut ActionPlace, words: &[&[u8]]) -> Result<(), u8>
     let (word, path) = two(words).ok_or(2)?;
     let subchannel = subchannel(word).ok_or(3)?;
     let path = number(path).ok_or(3)?;
-    place.kept = KeptAction::Event(KeptEvent::Up { subchannel, path });
+    place.kept = KeptAction::Event(Event::Up { subchannel, path });
     Ok(())
 }
 
@@ -359,7 +358,7 @@ fn down_row(place: &mut ActionPlace, words: &[&[u8]]) -> Result<(), u8>
     let (word, path) = two(words).ok_or(2)?;
     let subchannel = subchannel(word).ok_or(3)?;
     let path = number(path).ok_or(3)?;
-    place.kept = KeptAction::Event(KeptEvent::Down { subchannel, path });
+    place.kept = KeptAction::Event(Event::Down { subchannel, path });
     Ok(())
 }
 

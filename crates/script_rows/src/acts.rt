@@ -6,16 +6,15 @@ ghost use Rattle.script_rows.specs.Places.{action_at, rows_at, row_at};
 
 use crate::places::{ActionPlace, KeptAction};
 use crate::words::{is_name, number, number_up_to, one, two};
-use chan_events::event::UnitAct;
+use chan_events::event::{Event, UnitAct};
 use chan_model::names::Side;
-use kept_events::events::KeptEvent;
 
 fn leave_row(place: &mut ActionPlace, words: &[&[u8]]) -> Result<(), u8>
     ensures { row_at result (action_at place.new) ≡ spec.leave_row (map (λ w. w.now) words.now) }
 {
     let unit = one(words).ok_or(2)?;
     let unit = number(unit).ok_or(3)?;
-    place.kept = KeptAction::Event(KeptEvent::Act {
+    place.kept = KeptAction::Event(Event::Act {
         unit,
         act: UnitAct::Leave,
     });
@@ -28,7 +27,7 @@ fn ask_row(place: &mut ActionPlace, words: &[&[u8]]) -> Result<(), u8>
     let (unit, path) = two(words).ok_or(2)?;
     let unit = number(unit).ok_or(3)?;
     let path = number(path).ok_or(3)?;
-    place.kept = KeptAction::Event(KeptEvent::Act {
+    place.kept = KeptAction::Event(Event::Act {
         unit,
         act: UnitAct::Ask { path },
     });
@@ -72,7 +71,7 @@ fn attn_row(place: &mut ActionPlace, words: &[&[u8]]) -> Result<(), u8>
     ensures { row_at result (action_at place.new) ≡ spec.attn_row (map (λ w. w.now) words.now) }
 {
     let (unit, path, side) = side_row(words)?;
-    place.kept = KeptAction::Event(KeptEvent::Act {
+    place.kept = KeptAction::Event(Event::Act {
         unit,
         act: UnitAct::Attention { path, side },
     });
@@ -83,7 +82,7 @@ fn notice_row(place: &mut ActionPlace, words: &[&[u8]]) -> Result<(), u8>
     ensures { row_at result (action_at place.new) ≡ spec.notice_row (map (λ w. w.now) words.now) }
 {
     let (unit, path, side) = side_row(words)?;
-    place.kept = KeptAction::Event(KeptEvent::Act {
+    place.kept = KeptAction::Event(Event::Act {
         unit,
         act: UnitAct::Notice { path, side },
     });
@@ -95,7 +94,7 @@ fn restart_row(place: &mut ActionPlace, words: &[&[u8]]) -> Result<(), u8>
 {
     let unit = one(words).ok_or(2)?;
     let unit = number(unit).ok_or(3)?;
-    place.kept = KeptAction::Event(KeptEvent::Restart { unit });
+    place.kept = KeptAction::Event(Event::Restart { unit });
     Ok(())
 }
 

@@ -6,14 +6,14 @@ ghost use Rattle.script_rows.specs.Places.{action_at, rows_at, row_at};
 
 use crate::places::{ActionPlace, KeptAction};
 use crate::words::{is_name, number, one};
-use kept_events::events::KeptEvent;
+use chan_events::event::Event;
 
 fn pathdown_row(place: &mut ActionPlace, words: &[&[u8]]) -> Result<(), u8>
     ensures { row_at result (action_at place.new) ≡ spec.pathdown_row (map (λ w. w.now) words.now) }
 {
     let chpid = one(words).ok_or(2)?;
     let chpid = number(chpid).ok_or(3)?;
-    place.kept = KeptAction::Event(KeptEvent::PathDown { chpid });
+    place.kept = KeptAction::Event(Event::PathDown { chpid });
     Ok(())
 }
 
@@ -22,7 +22,7 @@ fn pathup_row(place: &mut ActionPlace, words: &[&[u8]]) -> Result<(), u8>
 {
     let chpid = one(words).ok_or(2)?;
     let chpid = number(chpid).ok_or(3)?;
-    place.kept = KeptAction::Event(KeptEvent::PathUp { chpid });
+    place.kept = KeptAction::Event(Event::PathUp { chpid });
     Ok(())
 }
 
@@ -31,7 +31,7 @@ fn pathreset_row(place: &mut ActionPlace, words: &[&[u8]]) -> Result<(), u8>
 {
     let chpid = one(words).ok_or(2)?;
     let chpid = number(chpid).ok_or(3)?;
-    place.kept = KeptAction::Event(KeptEvent::PathReset { chpid });
+    place.kept = KeptAction::Event(Event::PathReset { chpid });
     Ok(())
 }
 
@@ -40,7 +40,7 @@ fn sysreset_row(place: &mut ActionPlace, words: &[&[u8]]) -> Result<(), u8>
 {
     match words {
         [] => {
-            place.kept = KeptAction::Event(KeptEvent::SystemReset);
+            place.kept = KeptAction::Event(Event::SystemReset);
             Ok(())
         }
         [_, ..] => Err(2),

@@ -6,8 +6,8 @@ ghost use Rattle.script_rows.specs.declared.Action.TheVariants as action_spec;
 ghost use Rattle.chan_events.specs.declared.event.Event.TheVariants as event_spec;
 
 use crate::Action;
+use chan_events::event::{Event, KeptEvent};
 use chan_model::chunk::{CHUNK_BYTES, Chunk};
-use kept_events::events::KeptEvent;
 
 /// An action whose bytes stand elsewhere.
 #[derive(Clone, Copy)]
@@ -35,7 +35,7 @@ impl KeptAction {
         ensures { result ≡ spec.action_in self.now bytes.now }
     {
         match self {
-            KeptAction::Event(event) => Action::Event(event.with(bytes)),
+            KeptAction::Event(event) => Action::Event(event.own(bytes)),
             KeptAction::Dev(unit) => Action::Dev(*unit),
             KeptAction::Glance(subchannel) => Action::Glance(*subchannel),
         }
@@ -53,7 +53,7 @@ impl ActionPlace {
     /// A place, with an action that no one asked for.
     pub fn new() -> Self {
         ActionPlace {
-            kept: KeptAction::Event(KeptEvent::SystemReset),
+            kept: KeptAction::Event(Event::SystemReset),
             bytes: [0; CHUNK_BYTES],
         }
     }
@@ -64,7 +64,10 @@ impl ActionPlace {
     {
         let length = bytes.length();
         self.bytes[..length.get()].copy_from_slice(bytes.as_slice());
-        self.kept = KeptAction::Event(KeptEvent::Put { length, address });
+        self.kept = KeptAction::Event(Event::Put {
+            address,
+            bytes: length,
+        });
     }
 
     /// Its bytes.

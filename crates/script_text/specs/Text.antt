@@ -20,7 +20,7 @@ use Rattle.chan_model.specs.declared.answer.ConditionCode.{ConditionCode}
 use Rattle.chan_model.specs.declared.answer.ConditionCode.TheVariants.{Zero, One, Two, Three}
 use Rattle.chan_model.specs.ConditionCodes.{code_of, stcrw_code}
 use Rattle.chan_events.specs.ReportWords.{report_word}
-use Rattle.chan_events.specs.declared.reply.Reply.{Reply}
+use Rattle.chan_events.specs.Replies.{Reply}
 use Rattle.chan_events.specs.declared.reply.Reply.TheVariants as reply
 use Rattle.chan_model.specs.declared.fault.Fault.{Fault}
 use Rattle.chan_model.specs.declared.fault.Fault.TheVariants as fault
@@ -94,7 +94,7 @@ down_name (down.Command t n code room) = codes "command"
 down_name (down.Grant t c) = codes "grant"
 down_name (down.Refuse t c) = codes "refuse"
 down_name (down.Took t n s room) = codes "took"
-down_name (down.Give t c n s bytes) = codes "give"
+down_name (down.Give bytes t c n s) = codes "give"
 down_name (down.Halt t) = codes "halt"
 down_name (down.Release t) = codes "release"
 down_name (down.Reset t b) = codes "reset"
@@ -105,7 +105,7 @@ up_name (up.Accept t) = codes "accept"
 up_name (up.Busy t) = codes "busy"
 up_name (up.Leave t c) = codes "leave"
 up_name (up.Back t c) = codes "back"
-up_name (up.Data t c n s load) = codes "data"
+up_name (up.Data load t c n s) = codes "data"
 up_name (up.End t n status more) = codes "end"
 up_name (up.Released t) = codes "released"
 up_name (up.Cleared t) = codes "cleared"

@@ -2,7 +2,7 @@
 
 ghost use Rattle.std.specs.Prelude.{◌≡◌, ◌≤◌, ◌++◌, ◌∷◌, [], Ok, length, true};
 ghost use Rattle.chan_model.specs.Signals.{lent_down, lent_up};
-ghost use Rattle.kept_events.specs.Replies.{reply_in, reply_length};
+ghost use Rattle.chan_events.specs.Replies.{reply_in, reply_length};
 ghost use Rattle.script_text.specs.Text as spec;
 ghost use Rattle.script_text.specs.declared.ActionResult.TheVariants as told;
 ghost use Rattle.streams.specs.Sinks.{Puts};
@@ -12,9 +12,9 @@ use crate::{
     ActionResult, put_answer, put_bytes, put_code, put_down, put_interruption, put_named,
     put_paths, put_pieces, put_report, put_status, put_up,
 };
+use chan_events::reply::{KeptReply, Reply};
 use chan_model::signal::{Down, LentDown, LentUp, Up};
 use event_log::history::LentReply;
-use kept_events::replies::KeptReply;
 use streams::Sink;
 
 /// What a reply prints that is kept so, with these bytes.
@@ -24,25 +24,21 @@ fn put_kept<S: Sink>(sink: &mut S, reply: &KeptReply, bytes: &[u8]) -> bool
     ensures { Puts (S.seen sink.old) (spec.reply_text (reply_in reply.now bytes.now)) (S.seen sink.new) result }
 {
     match reply {
-        KeptReply::Done => sink.put(b"done"),
-        KeptReply::Shown { length } => put_bytes(sink, &bytes[..length.get()]),
-        KeptReply::Code(answer) => put_answer(sink, *answer),
-        KeptReply::Status { answer, scsw } => put_status(sink, *answer, scsw),
-        KeptReply::Interruption(found) => put_interruption(sink, found),
-        KeptReply::PathReset(code) => put_code(sink, *code),
-        KeptReply::ChannelReport(report) => put_report(sink, *report),
-        KeptReply::Paths { engaged } => put_paths(sink, engaged),
-        KeptReply::Offered { path, .. } => put_named(sink, b"offer ", path.index() as u64),
-        KeptReply::ResetSent { path, .. } => put_named(sink, b"reset ", path.index() as u64),
-        KeptReply::HaltSent { path, .. } => put_named(sink, b"halt ", path.index() as u64),
-        KeptReply::Pending => sink.put(b"status"),
-        KeptReply::Idle => sink.put(b"idle"),
-        KeptReply::Up { taken, signal } | KeptReply::UpSent { taken, signal, .. } => {
-            put_up(sink, *taken, &signal.lend(bytes))
-        }
-        KeptReply::Down { taken, signal } | KeptReply::DownSent { taken, signal, .. } => {
-            put_down(sink, *taken, &signal.lend(bytes))
-        }
+        Reply::Done => sink.put(b"done"),
+        Reply::Shown { bytes: length } => put_bytes(sink, &bytes[..length.get()]),
+        Reply::Code(answer) => put_answer(sink, *answer),
+        Reply::Status { answer, scsw } => put_status(sink, *answer, scsw),
+        Reply::Interruption(found) => put_interruption(sink, found),
+        Reply::PathReset(code) => put_code(sink, *code),
+        Reply::ChannelReport(report) => put_report(sink, *report),
+        Reply::Paths { engaged } => put_paths(sink, engaged),
+        Reply::Offered { path, .. } => put_named(sink, b"offer ", path.index() as u64),
+        Reply::ResetSent { path, .. } => put_named(sink, b"reset ", path.index() as u64),
+        Reply::HaltSent { path, .. } => put_named(sink, b"halt ", path.index() as u64),
+        Reply::Pending => sink.put(b"status"),
+        Reply::Idle => sink.put(b"idle"),
+        Reply::Up { taken, signal, .. } => { put_up(sink, *taken, &signal.lend(bytes)) }
+        Reply::Down { taken, signal, .. } => { put_down(sink, *taken, &signal.lend(bytes)) }
     }
 }
 
@@ -88,25 +84,17 @@ fn put_rest<S: Sink>(sink: &mut S, reply: &KeptReply, bytes: &[u8]) -> bool
     ensures { Puts (S.seen sink.old) (spec.reply_text (reply_in reply.now bytes.now) ++ 10 ∷ []) (S.seen sink.new) result }
 {
     match reply {
-        KeptReply::Up {
-            taken: true,
-            signal,
-        }
-        | KeptReply::UpSent {
+        Reply::Up {
             taken: true,
             signal,
             ..
         } => put_up_taken(sink, &signal.lend(bytes)),
-        KeptReply::Down {
-            taken: true,
-            signal,
-        }
-        | KeptReply::DownSent {
+        Reply::Down {
             taken: true,
             signal,
             ..
         } => put_down_taken(sink, &signal.lend(bytes)),
-        KeptReply::Done => sink.put(b"done\n"),
+        Reply::Done => sink.put(b"done\n"),
         _ => put_kept(sink, reply, bytes) && sink.put(b"\n"),
     }
 }

@@ -3,10 +3,10 @@ use Rattle.std.proofs.Common.{◌≡◌, refl, sym, ◌∙◌, ap, subst, ℕ, z
 use Rattle.std.specs.Prelude.{◌⊎◌}
 use Rattle.std.proofs.lemmas.Bool.{eqb-true, eq-eqb}
 use Rattle.std.proofs.lemmas.Option.{slice_get_within, get_or_from_slice_get}
-use Rattle.chan_events.specs.declared.event.Event.{Event}
+use Rattle.chan_events.specs.Events.{Event}
 use Rattle.chan_events.specs.declared.event.Event.TheVariants as event
 use Rattle.chan_events.specs.declared.reply.Entry.{Entry}
-use Rattle.chan_events.specs.declared.reply.Reply.{Reply}
+use Rattle.chan_events.specs.Replies.{Reply}
 use Rattle.chan_events.specs.declared.reply.Reply.TheVariants as reply
 use Rattle.chan_model.specs.Agreement.{Agrees, IsOutstanding, owner_of}
 use Rattle.chan_model.specs.declared.fault.Fault.{Fault}
@@ -100,7 +100,7 @@ plain-up k side (up.Accept t) n = tt
 plain-up k side (up.Busy t) n = tt
 plain-up k side (up.Leave t c) n = absurd n
 plain-up k side (up.Back t c) n = tt
-plain-up k side (up.Data t c m s load) n = absurd n
+plain-up k side (up.Data load t c m s) n = absurd n
 plain-up k side (up.End t m status more) n = absurd n
 plain-up k side (up.Released t) n = tt
 plain-up k side (up.Cleared r) n = tt
@@ -113,7 +113,7 @@ plain-down k side (down.Command t m code room) n = absurd n
 plain-down k side (down.Grant t c) n = absurd n
 plain-down k side (down.Refuse t c) n = tt
 plain-down k side (down.Took t m s room) n = absurd n
-plain-down k side (down.Give t c m s bytes) n = absurd n
+plain-down k side (down.Give bytes t c m s) n = absurd n
 plain-down k side (down.Halt t) n = tt
 plain-down k side (down.Release t) n = tt
 plain-down k side (down.Reset r b) n = tt
@@ -129,7 +129,7 @@ command-goes k side t p q (down.Command v m code room) n h = subst (λ (w : ℕ)
 command-goes k side t p q (down.Grant v c) n h = absurd n
 command-goes k side t p q (down.Refuse v c) n h = absurd n
 command-goes k side t p q (down.Took v m s room) n h = absurd n
-command-goes k side t p q (down.Give v c m s bytes) n h = absurd n
+command-goes k side t p q (down.Give bytes v c m s) n h = absurd n
 command-goes k side t p q (down.Halt v) n h = absurd n
 command-goes k side t p q (down.Release v) n h = absurd n
 command-goes k side t p q (down.Reset r b) n h = absurd n
@@ -145,7 +145,7 @@ data-goes k side t p c q (down.Command v m code room) n h = absurd n
 data-goes k side t p c q (down.Grant v d) n h = absurd n
 data-goes k side t p c q (down.Refuse v d) n h = absurd n
 data-goes k side t p c q (down.Took v m s room) n h = subst (λ (w : ℕ). IsHolderOr k side w) n.0 h
-data-goes k side t p c q (down.Give v d m s bytes) n h = subst (λ (w : ℕ). IsHolderOr k side w) n.0 h
+data-goes k side t p c q (down.Give bytes v d m s) n h = subst (λ (w : ℕ). IsHolderOr k side w) n.0 h
 data-goes k side t p c q (down.Halt v) n h = absurd n
 data-goes k side t p c q (down.Release v) n h = absurd n
 data-goes k side t p c q (down.Reset r b) n h = absurd n

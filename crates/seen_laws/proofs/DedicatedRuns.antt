@@ -1,11 +1,11 @@
 -- After each run the path to which an allegiance is seen to be dedicated is that of its subchannel: each entry is right.
 use Rattle.std.proofs.Common.{◌≡◌, refl, sym, ◌∙◌, ap, subst, ℕ, Bool, true, false, Option, None, Some, Result, List, [], ◌∷◌, ◌++◌, length, map, nat_lt, slice_get, slice_set, IfOk, if◌then◌else◌, inl, inr}
 use Rattle.std.specs.Prelude.{◌⊎◌}
-use Rattle.chan_events.specs.declared.event.Event.{Event}
+use Rattle.chan_events.specs.Events.{Event}
 use Rattle.chan_events.specs.declared.event.Event.TheVariants as event
 use Rattle.chan_events.specs.declared.event.Instruction.TheVariants as instruction
 use Rattle.chan_events.specs.declared.reply.Entry.{Entry}
-use Rattle.chan_events.specs.declared.reply.Reply.{Reply}
+use Rattle.chan_events.specs.Replies.{Reply}
 use Rattle.chan_events.specs.declared.reply.Reply.TheVariants as reply
 use Rattle.chan_model.specs.declared.answer.ConditionCode.{ConditionCode}
 use Rattle.chan_model.specs.declared.answer.ConditionCode.TheVariants as code
@@ -241,8 +241,8 @@ met-left path (up.Accept t) taken sent k old new e h = same-left k old new e h
 met-left path (up.Busy t) taken sent k old new e h = same-left k old new e h
 met-left path (up.Leave t c) taken sent k old new e h = same-left k old new e h
 met-left path (up.Back t c) taken sent k old new e h = same-left k old new e h
-met-left path (up.Data t c n q load) true sent k old new e h = none-dedicates new
-met-left path (up.Data t c n q load) false sent k old new e h = same-left k old new e h
+met-left path (up.Data load t c n q) true sent k old new e h = none-dedicates new
+met-left path (up.Data load t c n q) false sent k old new e h = same-left k old new e h
 met-left path (up.End t n status more) true sent k old new e h = check-left (has_unit_check status) path new e
 met-left path (up.End t n status more) false sent k old new e h = same-left k old new e h
 met-left path (up.Released t) taken sent k old new e h = same-left k old new e h

@@ -144,7 +144,7 @@ IsByCheck true p new = new ≡ Some p
 IsByCheck false p new = Unit {0}
 
 abbrev pub IsLeft : ℕ → Up → Bool → Option ℕ → Option ℕ → Type 0
-IsLeft p (up.Data t c n s load) true old new = Unit {0}
+IsLeft p (up.Data load t c n s) true old new = Unit {0}
 IsLeft p (up.End t n status more) true old new = IsByCheck (has_unit_check status) p new
 IsLeft p x taken old new = new ≡ old
 
@@ -191,12 +191,12 @@ accept-left storage s h (hold.Reset r) u may = refl
 
 -- Data
 data-left : (storage : Contents) (s : SubchannelState) (b : Option ActiveProgram) (p t c n q : ℕ) (load : Load) →
-    Left p (up.Data t c n q load) s (move_data storage s b (record { path = p; number = t; connection = c; command = n; sequence = q }) load).step
+    Left p (up.Data load t c n q) s (move_data storage s b (record { path = p; number = t; connection = c; command = n; sequence = q }) load).step
 data-left storage s None p t c n q load = refl
 data-left storage s (Some b) p t c n q load =
     let signal : DataSignal = record { path = p; number = t; connection = c; command = n; sequence = q } in
-    if-met p (up.Data t c n q load) s (is_answered b.transfer n q) (move_bytes storage s b signal load) (meets storage (ignoring s))
-    (if-met p (up.Data t c n q load) s (is_outward b.transfer.code) (meets storage (give_next storage s b signal (load_length load)))
+    if-met p (up.Data load t c n q) s (is_answered b.transfer n q) (move_bytes storage s b signal load) (meets storage (ignoring s))
+    (if-met p (up.Data load t c n q) s (is_outward b.transfer.code) (meets storage (give_next storage s b signal (load_length load)))
     (take_in s b signal (brought storage b.transfer q (load_bytes load))) tt tt)
     refl
 
@@ -270,9 +270,9 @@ takes-left returns storage s p (up.Accept t) = accept-left storage s s.hold s.ho
 takes-left returns storage s p (up.Busy t) = refl
 takes-left returns storage s p (up.Leave t c) = refl
 takes-left returns storage s p (up.Back t c) = refl
-takes-left returns storage s p (up.Data t c n q load) =
+takes-left returns storage s p (up.Data load t c n q) =
     let signal : DataSignal = record { path = p; number = t; connection = c; command = n; sequence = q } in
-    if-met p (up.Data t c n q load) s (is_connected s.hold.phase p t c) (move_data storage s s.begun signal load) (meets storage (ignoring s)) (data-left storage s s.begun p t c n q load) refl
+    if-met p (up.Data load t c n q) s (is_connected s.hold.phase p t c) (move_data storage s s.begun signal load) (meets storage (ignoring s)) (data-left storage s s.begun p t c n q load) refl
 takes-left returns storage s p (up.End t n status more) =
     let x : EndSignal = record { path = p; number = t; command = n; status = status; more = more } in
     if-left p (end_up x) s (is_on s.hold.phase t) (end_of storage s s.begun x) (ignoring s) (λ e. end-left storage s s.begun x) refl

@@ -5,12 +5,12 @@ use Rattle.std.proofs.lemmas.Bool.{eqb-true, and_from}
 use Rattle.std.proofs.lemmas.Option.{slice_get_within, get_or_from_slice_get}
 use Rattle.std.proofs.lemmas.List.FromFn.{get_or-range_with_len, length-range_with_len, get_or-map-range_with_len}
 use Rattle.allegiance.specs.PathUse.{is_member, each_path, reachable_paths}
-use Rattle.chan_events.specs.declared.event.Event.{Event}
+use Rattle.chan_events.specs.Events.{Event}
 use Rattle.chan_events.specs.declared.event.Event.TheVariants as event
 use Rattle.chan_events.specs.declared.event.OtherInstruction.{OtherInstruction}
 use Rattle.chan_events.specs.declared.event.OtherInstruction.TheVariants as other
 use Rattle.chan_events.specs.declared.reply.Entry.{Entry}
-use Rattle.chan_events.specs.declared.reply.Reply.{Reply}
+use Rattle.chan_events.specs.Replies.{Reply}
 use Rattle.chan_events.specs.declared.reply.Reply.TheVariants as reply
 use Rattle.chan_model.specs.declared.fault.Fault.{Fault}
 use Rattle.chan_model.specs.declared.hold_state.HoldPhase.{HoldPhase}
@@ -235,7 +235,7 @@ signal-due k s returns storage j sub p (up.Back t c) front may tied tie =
     (λ apart first on idle.
     back-granted sub.state.hold sub.state.hold.phase sub.state.hold.reset_path j p t c returns tie.held.stands apart
     (may ∙ ap (λ (o : Option Up). returns_by s.subs sub p o) front ∙ may-return k s j sub p (sym tie.held.first ∙ first) tied tie on idle))
-signal-due k s returns storage j sub p (up.Data t c n q load) front may tied tie = tt
+signal-due k s returns storage j sub p (up.Data load t c n q) front may tied tie = tt
 signal-due k s returns storage j sub p (up.End t n status more) front may tied tie = tt
 signal-due k s returns storage j sub p (up.Released t) front may tied tie = tt
 signal-due k s returns storage j sub p (up.Cleared r) front may tied tie = tt

@@ -2,7 +2,7 @@
 use Rattle.std.proofs.Common.{◌≡◌, refl, sym, ◌∙◌, ap, subst, ℕ, ◌<◌, ◌+◌, ◌==◌, ◌&&◌, ◌||◌, nat_lt, Bool, true, false, not, Option, None, Some, is_some, List}
 use Rattle.std.specs.Prelude.{if◌then◌else◌, option_map}
 use Rattle.std.proofs.lemmas.Bool.{eqb-true, and_parts, ltb-true}
-use Rattle.chan_events.specs.declared.reply.Reply.{Reply}
+use Rattle.chan_events.specs.Replies.{Reply}
 use Rattle.chan_events.specs.declared.reply.Reply.TheVariants as reply
 use Rattle.chan_model.specs.declared.names.Side.{Side}
 use Rattle.chan_model.specs.declared.names.Side.TheVariants.{First, Second}
@@ -220,16 +220,16 @@ took-turns u side (own.Owned k v at) p t n s room = took-last u side p t n s roo
 
 -- Give
 give-chunk : (u : UnitState) (side : Side) (p t c n s : ℕ) (bytes : List ℕ) (x : AtHand) (b : Bool) → u.at_hand ≡ Some x →
-    Turns u side p (down.Give t c n s bytes) (if b then changes (record u { at_hand = Some (with_given x s bytes) }) else None) (takes_if b (down.Give t c n s bytes))
-give-chunk u side p t c n s bytes x b e = takes-if u side p (down.Give t c n s bytes) b _ (λ f. hand-next u x (with_given x s bytes) (given s) e refl)
+    Turns u side p (down.Give bytes t c n s) (if b then changes (record u { at_hand = Some (with_given x s bytes) }) else None) (takes_if b (down.Give bytes t c n s))
+give-chunk u side p t c n s bytes x b e = takes-if u side p (down.Give bytes t c n s) b _ (λ f. hand-next u x (with_given x s bytes) (given s) e refl)
 
 give-last : (u : UnitState) (side : Side) (p t c n s : ℕ) (bytes : List ℕ) (hand : Option AtHand) (b on last : Bool) → u.at_hand ≡ hand →
-    Turns u side p (down.Give t c n s bytes) (if (b && on) && last then given_next u hand s bytes else None)
-    (takes_if (b && (on && (last && is_next (transfer_in hand) s))) (down.Give t c n s bytes))
-give-last u side p t c n s bytes hand false on last e = none-turns u side p (down.Give t c n s bytes)
-give-last u side p t c n s bytes hand true false last e = none-turns u side p (down.Give t c n s bytes)
-give-last u side p t c n s bytes hand true true false e = none-turns u side p (down.Give t c n s bytes)
-give-last u side p t c n s bytes None true true true e = none-turns u side p (down.Give t c n s bytes)
+    Turns u side p (down.Give bytes t c n s) (if (b && on) && last then given_next u hand s bytes else None)
+    (takes_if (b && (on && (last && is_next (transfer_in hand) s))) (down.Give bytes t c n s))
+give-last u side p t c n s bytes hand false on last e = none-turns u side p (down.Give bytes t c n s)
+give-last u side p t c n s bytes hand true false last e = none-turns u side p (down.Give bytes t c n s)
+give-last u side p t c n s bytes hand true true false e = none-turns u side p (down.Give bytes t c n s)
+give-last u side p t c n s bytes None true true true e = none-turns u side p (down.Give bytes t c n s)
 give-last u side p t c n s bytes (Some x) true true true e = give-chunk u side p t c n s bytes x (s == x.sequence + 1) e
 
 connected-by : (at : Place) (c : ℕ) → elim at [ place.On p d ↦ c == d | other ↦ false ] ≡ is_connected_by (place_of at) c
@@ -238,12 +238,12 @@ connected-by (place.Ask p d) c = refl
 connected-by (place.Away d) c = refl
 
 give-turns : (u : UnitState) (side : Side) (o : Own) (p t c n s : ℕ) (bytes : List ℕ) →
-    Turns u side p (down.Give t c n s bytes) (if is_owner_on o side t c && (n == u.last_command) then given_next u u.at_hand s bytes else None)
-    (takes_if (holds_and (λ h. is_connected_by h.place c && ((n == h.command) && is_next h.transfer s)) (holder_in u o) side t) (down.Give t c n s bytes))
-give-turns u side own.Idle p t c n s bytes = none-turns u side p (down.Give t c n s bytes)
+    Turns u side p (down.Give bytes t c n s) (if is_owner_on o side t c && (n == u.last_command) then given_next u u.at_hand s bytes else None)
+    (takes_if (holds_and (λ h. is_connected_by h.place c && ((n == h.command) && is_next h.transfer s)) (holder_in u o) side t) (down.Give bytes t c n s))
+give-turns u side own.Idle p t c n s bytes = none-turns u side p (down.Give bytes t c n s)
 give-turns u side (own.Owned k v at) p t c n s bytes =
-    subst (λ (b : Bool). Turns u side p (down.Give t c n s bytes) (if is_owner_on (own.Owned k v at) side t c && (n == u.last_command) then given_next u u.at_hand s bytes else None)
-    (takes_if ((same_side k side && (t == v)) && (b && ((n == u.last_command) && is_next (transfer_in u.at_hand) s))) (down.Give t c n s bytes))) (connected-by at c)
+    subst (λ (b : Bool). Turns u side p (down.Give bytes t c n s) (if is_owner_on (own.Owned k v at) side t c && (n == u.last_command) then given_next u u.at_hand s bytes else None)
+    (takes_if ((same_side k side && (t == v)) && (b && ((n == u.last_command) && is_next (transfer_in u.at_hand) s))) (down.Give bytes t c n s))) (connected-by at c)
     (give-last u side p t c n s bytes u.at_hand (same_side k side && (t == v)) (elim at [ place.On p d ↦ c == d | other ↦ false ]) (n == u.last_command) refl)
 
 -- Got
@@ -283,7 +283,7 @@ works-turns u side p (down.Command t n code room) may free plain fresh k =
 works-turns u side p (down.Grant t c) may free plain fresh k = granted-turns u side u.own p t c refl
 works-turns u side p (down.Refuse t c) may free plain fresh k = refused-turns u side u.own p t c refl
 works-turns u side p (down.Took t n s room) may free plain fresh k = took-turns u side u.own p t n s room
-works-turns u side p (down.Give t c n s bytes) may free plain fresh k = give-turns u side u.own p t c n s bytes
+works-turns u side p (down.Give bytes t c n s) may free plain fresh k = give-turns u side u.own p t c n s bytes
 works-turns u side p (down.Halt t) may free plain fresh k =
     subst (λ (b : Bool). Turns u side p (down.Halt t) (unit_works u side p (down.Halt t) may) (takes_if b (down.Halt t)))
     (first-halt u u.own side t)
@@ -355,8 +355,8 @@ takes-turns u side p (down.Refuse t c) may free above asked =
     fresh-turns u side p (down.Refuse t c) (unit_works u side p (down.Refuse t c) may) (works_due (holding_of u) side p free (down.Refuse t c)) (λ e. works-turns u side p (down.Refuse t c) may free tt e asked)
 takes-turns u side p (down.Took t n s room) may free above asked =
     fresh-turns u side p (down.Took t n s room) (unit_works u side p (down.Took t n s room) may) (works_due (holding_of u) side p free (down.Took t n s room)) (λ e. works-turns u side p (down.Took t n s room) may free tt e asked)
-takes-turns u side p (down.Give t c n s bytes) may free above asked =
-    fresh-turns u side p (down.Give t c n s bytes) (unit_works u side p (down.Give t c n s bytes) may) (works_due (holding_of u) side p free (down.Give t c n s bytes)) (λ e. works-turns u side p (down.Give t c n s bytes) may free tt e asked)
+takes-turns u side p (down.Give bytes t c n s) may free above asked =
+    fresh-turns u side p (down.Give bytes t c n s) (unit_works u side p (down.Give bytes t c n s) may) (works_due (holding_of u) side p free (down.Give bytes t c n s)) (λ e. works-turns u side p (down.Give bytes t c n s) may free tt e asked)
 takes-turns u side p (down.Halt t) may free above asked =
     fresh-turns u side p (down.Halt t) (unit_works u side p (down.Halt t) may) (works_due (holding_of u) side p free (down.Halt t)) (λ e. works-turns u side p (down.Halt t) may free tt e asked)
 takes-turns u side p (down.Release t) may free above asked =

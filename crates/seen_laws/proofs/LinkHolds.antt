@@ -114,7 +114,7 @@ IsSentAs k path signal q (down.Refuse t c) = (signal ≡ up.Back t c) × (q ≡ 
 IsSentAs k path signal q (down.Command t n code room) = program_of signal ≡ Some t
 IsSentAs k path signal q (down.Release t) = program_of signal ≡ Some t
 IsSentAs k path signal q (down.Took t n s room) = mover_of signal ≡ Some t
-IsSentAs k path signal q (down.Give t c n s bytes) = mover_of signal ≡ Some t
+IsSentAs k path signal q (down.Give bytes t c n s) = mover_of signal ≡ Some t
 IsSentAs k path signal q (down.Got a) = (status : DeviceStatus) × (signal ≡ up.Attn a status)
 IsSentAs k path signal q sent = ⊥
 

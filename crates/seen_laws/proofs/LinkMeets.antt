@@ -192,7 +192,7 @@ end-left storage s (Some b) signal =
 -- what these signals leave of what is seen
 abbrev IsSteady : Up → Type 0
 IsSteady (up.Accept t) = Unit {0}
-IsSteady (up.Data t c n s load) = Unit {0}
+IsSteady (up.Data load t c n s) = Unit {0}
 IsSteady (up.End t n status more) = Unit {0}
 IsSteady x = ⊥
 
@@ -201,7 +201,7 @@ not-plain (up.Accept t) s a = a
 not-plain (up.Busy t) s a = s
 not-plain (up.Leave t c) s a = a
 not-plain (up.Back t c) s a = s
-not-plain (up.Data t c n q load) s a = a
+not-plain (up.Data load t c n q) s a = a
 not-plain (up.End t n status more) s a = a
 not-plain (up.Released t) s a = s
 not-plain (up.Cleared r) s a = s
@@ -213,7 +213,7 @@ ignored-noted (up.Accept t) h phase s = refl
 ignored-noted (up.Busy t) h phase s = absurd s
 ignored-noted (up.Leave t c) h phase s = absurd s
 ignored-noted (up.Back t c) h phase s = absurd s
-ignored-noted (up.Data t c n q load) h phase s = refl
+ignored-noted (up.Data load t c n q) h phase s = refl
 ignored-noted (up.End t n status more) h phase s = refl
 ignored-noted (up.Released t) h phase s = absurd s
 ignored-noted (up.Cleared r) h phase s = absurd s
@@ -226,7 +226,7 @@ command-link t p q (down.Command u n code room) l a = refl
 command-link t p q (down.Grant u d) l a = absurd a
 command-link t p q (down.Refuse u d) l a = absurd a
 command-link t p q (down.Took u n s room) l a = absurd a
-command-link t p q (down.Give u d n s bytes) l a = absurd a
+command-link t p q (down.Give bytes u d n s) l a = absurd a
 command-link t p q (down.Halt u) l a = absurd a
 command-link t p q (down.Release u) l a = absurd a
 command-link t p q (down.Reset r b) l a = absurd a
@@ -242,7 +242,7 @@ data-link t p c q (down.Command u n code room) l a = absurd a
 data-link t p c q (down.Grant u d) l a = absurd a
 data-link t p c q (down.Refuse u d) l a = absurd a
 data-link t p c q (down.Took u n s room) l a = refl
-data-link t p c q (down.Give u d n s bytes) l a = refl
+data-link t p c q (down.Give bytes u d n s) l a = refl
 data-link t p c q (down.Halt u) l a = absurd a
 data-link t p c q (down.Release u) l a = absurd a
 data-link t p c q (down.Reset r b) l a = absurd a
@@ -262,7 +262,7 @@ command-sent k path x t p q (down.Command u n code room) e a = as-number (progra
 command-sent k path x t p q (down.Grant u d) e a = absurd a
 command-sent k path x t p q (down.Refuse u d) e a = absurd a
 command-sent k path x t p q (down.Took u n s room) e a = absurd a
-command-sent k path x t p q (down.Give u d n s bytes) e a = absurd a
+command-sent k path x t p q (down.Give bytes u d n s) e a = absurd a
 command-sent k path x t p q (down.Halt u) e a = absurd a
 command-sent k path x t p q (down.Release u) e a = absurd a
 command-sent k path x t p q (down.Reset r b) e a = absurd a
@@ -278,7 +278,7 @@ data-sent k path x t p c q (down.Command u n code room) e a = absurd a
 data-sent k path x t p c q (down.Grant u d) e a = absurd a
 data-sent k path x t p c q (down.Refuse u d) e a = absurd a
 data-sent k path x t p c q (down.Took u n s room) e a = as-number (mover_of x) t u e a.0
-data-sent k path x t p c q (down.Give u d n s bytes) e a = as-number (mover_of x) t u e a.0
+data-sent k path x t p c q (down.Give bytes u d n s) e a = as-number (mover_of x) t u e a.0
 data-sent k path x t p c q (down.Halt u) e a = absurd a
 data-sent k path x t p c q (down.Release u) e a = absurd a
 data-sent k path x t p c q (down.Reset r b) e a = absurd a
@@ -293,7 +293,7 @@ meets-sent p _ _ _ _ _ k (Ignored x phase) steady = tt
 meets-sent p _ _ _ _ _ k (Turns x phase next sent plain stays quiet) steady = absurd (not-plain x steady plain)
 meets-sent p _ _ _ _ _ k (Begins t q sent commands) steady = commands-sent k p (up.Accept t) t q sent refl tt commands
 meets-sent p _ _ _ _ _ k (Declines t q) steady = refl
-meets-sent p _ _ _ _ _ k (Moves t c n s load sent answers) steady = datas-sent k p (up.Data t c n s load) t p c sent refl tt answers
+meets-sent p _ _ _ _ _ k (Moves t c n s load sent answers) steady = datas-sent k p (up.Data load t c n s) t p c sent refl tt answers
 meets-sent p _ _ _ _ _ k (Ends x t q c sent commands) steady = commands-sent k p (up.End t x.command x.status x.more) t p sent refl tt commands
 meets-sent p _ _ _ _ _ k (Ends_last x t q c) steady = refl
 meets-sent p _ _ _ _ _ k (Leaves t q c) steady = absurd steady
@@ -301,7 +301,7 @@ meets-sent p _ _ _ _ _ k (Grants t c) steady = absurd steady
 
 -- a Data or End that is taken is of the program that is connected
 abbrev IsWork : Up → Type 0
-IsWork (up.Data t c n s load) = Unit {0}
+IsWork (up.Data load t c n s) = Unit {0}
 IsWork (up.End t n status more) = Unit {0}
 IsWork x = ⊥
 
@@ -310,7 +310,7 @@ work-not-plain (up.Accept t) w a = w
 work-not-plain (up.Busy t) w a = w
 work-not-plain (up.Leave t c) w a = w
 work-not-plain (up.Back t c) w a = w
-work-not-plain (up.Data t c n q load) w a = a
+work-not-plain (up.Data load t c n q) w a = a
 work-not-plain (up.End t n status more) w a = a
 work-not-plain (up.Released t) w a = w
 work-not-plain (up.Cleared r) w a = w
@@ -322,7 +322,7 @@ ignored-work k p (up.Accept t) w = absurd w
 ignored-work k p (up.Busy t) w = absurd w
 ignored-work k p (up.Leave t c) w = absurd w
 ignored-work k p (up.Back t c) w = absurd w
-ignored-work k p (up.Data t c n q load) w = λ e. absurd (cc e)
+ignored-work k p (up.Data load t c n q) w = λ e. absurd (cc e)
 ignored-work k p (up.End t n status more) w = λ e. absurd (cc e)
 ignored-work k p (up.Released t) w = absurd w
 ignored-work k p (up.Cleared r) w = absurd w
@@ -436,12 +436,12 @@ takes-turned returns storage s p (up.Accept t) k single seen tie =
 takes-turned returns storage s p (up.Busy t) k single seen tie = busy-turned p k s.hold s.drawn s.hold.phase t tie
 takes-turned returns storage s p (up.Leave t c) k single seen tie = left-turned p k s.hold s.drawn s.hold.phase t c tie
 takes-turned returns storage s p (up.Back t c) k single seen tie = back-turned p k s.hold s.drawn s.hold.phase t c returns single tie
-takes-turned returns storage s p (up.Data t c n q load) k single seen tie =
+takes-turned returns storage s p (up.Data load t c n q) k single seen tie =
     let signal : DataSignal = record { path = p; number = t; connection = c; command = n; sequence = q } in
-    let left : IsLeft s (takes_up returns storage s p (up.Data t c n q load)).step =
+    let left : IsLeft s (takes_up returns storage s p (up.Data load t c n q)).step =
     if-met s (is_connected s.hold.phase p t c) (move_data storage s s.begun signal load) (meets storage (ignoring s)) (data-left storage s s.begun signal load) (ignored-left s) in
-    steady-turned p (up.Data t c n q load) k s (takes_up returns storage s p (up.Data t c n q load)).step tt (takes-meets returns storage s p (up.Data t c n q load)) (record { hold = left.hold; drawn = left.drawn })
-    (work-taken p (up.Data t c n q load) s.hold.phase _ _ _ k s.hold.reset_path (takes-meets returns storage s p (up.Data t c n q load)) tt tie.stands) tie
+    steady-turned p (up.Data load t c n q) k s (takes_up returns storage s p (up.Data load t c n q)).step tt (takes-meets returns storage s p (up.Data load t c n q)) (record { hold = left.hold; drawn = left.drawn })
+    (work-taken p (up.Data load t c n q) s.hold.phase _ _ _ k s.hold.reset_path (takes-meets returns storage s p (up.Data load t c n q)) tt tie.stands) tie
 takes-turned returns storage s p (up.End t n status more) k single seen tie =
     let signal : EndSignal = record { path = p; number = t; command = n; status = status; more = more } in
     let left : IsLeft s (takes_up returns storage s p (up.End t n status more)).step =

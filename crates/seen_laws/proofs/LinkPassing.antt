@@ -7,7 +7,7 @@ use Rattle.chan_events.specs.declared.event.UnitAct.{UnitAct}
 use Rattle.chan_events.specs.declared.reply.Reply.TheVariants as reply
 use Rattle.chan_model.specs.declared.fault.Fault.{Fault}
 use Rattle.chan_model.specs.declared.hold_state.HoldPhase.{HoldPhase}
-use Rattle.chan_model.specs.declared.report.Report.{Report}
+use Rattle.chan_model.specs.Reports.{Report}
 use Rattle.chan_model.specs.Signals.{Down}
 use Rattle.chan_model.specs.declared.signal.Down.TheVariants as down
 use Rattle.chan_model.specs.declared.signal.OnPath.{OnPath}
@@ -58,7 +58,7 @@ sent-for is_up k path x q (down.Command t n code room) a f = a
 sent-for is_up k path x q (down.Grant t c) a f = (a.0, a.1, a.2, a.3, f t c refl)
 sent-for is_up k path x q (down.Refuse t c) a f = a
 sent-for is_up k path x q (down.Took t n s room) a f = a
-sent-for is_up k path x q (down.Give t c n s bytes) a f = a
+sent-for is_up k path x q (down.Give bytes t c n s) a f = a
 sent-for is_up k path x q (down.Halt t) a f = a
 sent-for is_up k path x q (down.Release t) a f = a
 sent-for is_up k path x q (down.Reset r b) a f = a
@@ -80,7 +80,7 @@ sent-seen n k path x q (down.Command t m code room) a = tt
 sent-seen n k path x q (down.Grant t c) a = tt
 sent-seen n k path x q (down.Refuse t c) a = tt
 sent-seen n k path x q (down.Took t m s room) a = tt
-sent-seen n k path x q (down.Give t c m s bytes) a = tt
+sent-seen n k path x q (down.Give bytes t c m s) a = tt
 sent-seen n k path x q (down.Halt t) a = tt
 sent-seen n k path x q (down.Release t) a = tt
 sent-seen n k path x q (down.Reset r b) a = absurd a

@@ -2,9 +2,9 @@
 use Rattle.std.proofs.Common.{◌≡◌, refl, sym, ap, ◌∙◌, subst, ℕ, nat_lt, ◌≤◌, ◌==◌, ◌&&◌, nat_le, Bool, true, false, not, Option, None, Some, List, length, if◌then◌else◌}
 use Rattle.std.proofs.lemmas.Bool.{and_parts}
 use Rattle.chan_model.specs.declared.names.Side.{Side}
-use Rattle.chan_model.specs.declared.report.DeviceAnswer.{DeviceAnswer}
+use Rattle.chan_model.specs.Reports.{DeviceAnswer}
 use Rattle.chan_model.specs.declared.report.DeviceAnswer.TheVariants as answer
-use Rattle.chan_model.specs.declared.report.Report.{Report}
+use Rattle.chan_model.specs.Reports.{Report}
 use Rattle.chan_model.specs.Signals.{Down}
 use Rattle.chan_model.specs.declared.signal.Down.TheVariants as down
 use Rattle.chan_model.specs.Signals.{Load}
@@ -25,7 +25,7 @@ use Rattle.chan_model.proofs.Named.{report_absorbed, sent_again}
 use Rattle.chan_model.specs.UnitTable.{UnitStep, came_of, side_of, freed, owns, with_side, resets, telling, noticing, unit_takes, leaving_from, leaving, asking_from, asking, is_idle}
 use Rattle.chan_events.specs.declared.event.UnitAct.{UnitAct}
 use Rattle.chan_events.specs.declared.event.UnitAct.TheVariants as act
-use Rattle.chan_events.specs.declared.reply.Reply.{Reply}
+use Rattle.chan_events.specs.Replies.{Reply}
 use Rattle.chan_events.specs.declared.reply.Reply.TheVariants as reply
 use Rattle.machine_model.specs.ActSteps.{acts}
 use Rattle.machine_model.specs.Sharing.{is_asked_for}
@@ -109,7 +109,7 @@ takes-seen n u side p (down.Command t m code room) may seen = plain-seen n u sid
 takes-seen n u side p (down.Grant t c) may seen = plain-seen n u side p (down.Grant t c) may tt (λ e. absurd (cc e)) tt (grant-in n (holding_of u).holder side p t c)
 takes-seen n u side p (down.Refuse t c) may seen = plain-seen n u side p (down.Refuse t c) may tt (λ e. absurd (cc e)) tt tt
 takes-seen n u side p (down.Took t m s room) may seen = plain-seen n u side p (down.Took t m s room) may tt (λ e. absurd (cc e)) tt tt
-takes-seen n u side p (down.Give t c m s bytes) may seen = plain-seen n u side p (down.Give t c m s bytes) may tt (λ e. absurd (cc e)) tt tt
+takes-seen n u side p (down.Give bytes t c m s) may seen = plain-seen n u side p (down.Give bytes t c m s) may tt (λ e. absurd (cc e)) tt tt
 takes-seen n u side p (down.Halt t) may seen = plain-seen n u side p (down.Halt t) may tt (λ e. absurd (cc e)) tt tt
 takes-seen n u side p (down.Release t) may seen =
     plain-seen n u side p (down.Release t) may tt (λ e. absurd (cc e)) tt

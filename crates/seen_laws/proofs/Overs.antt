@@ -245,7 +245,7 @@ takes-right returns storage s p (up.Accept t) over k =
 takes-right returns storage s p (up.Busy t) over k = tt
 takes-right returns storage s p (up.Leave t c) over k = tt
 takes-right returns storage s p (up.Back t c) over k = tt
-takes-right returns storage s p (up.Data t c n seq load) over k = tt
+takes-right returns storage s p (up.Data load t c n seq) over k = tt
 takes-right returns storage s p (up.End t n status more) over k = tt
 takes-right returns storage s p (up.Released t) over k = tt
 takes-right returns storage s p (up.Cleared r) over k = tt
@@ -323,7 +323,7 @@ same-at returns storage s h t q p (up.Busy u) = either (u == t)
     either false = inl refl
 same-at returns storage s h t q p (up.Leave u c) = inl refl
 same-at returns storage s h t q p (up.Back u c) = inl refl
-same-at returns storage s h t q p (up.Data u c n seq load) = inl refl
+same-at returns storage s h t q p (up.Data load u c n seq) = inl refl
 same-at returns storage s h t q p (up.End u n status more) = inl refl
 same-at returns storage s h t q p (up.Released u) = inl refl
 same-at returns storage s h t q p (up.Cleared r) = inl refl

@@ -6,11 +6,11 @@ use Rattle.std.proofs.lemmas.List.{length-set, length-replicate}
 use Rattle.std.proofs.lemmas.List.FromFn.{get_or-map-range_with_len, length-map-range_with_len}
 use Rattle.std.proofs.lemmas.Nat.{mod_below}
 use Rattle.zbits.specs.Bits.{weight, field_of}
-use Rattle.chan_events.specs.declared.event.Event.{Event}
+use Rattle.chan_events.specs.Events.{Event}
 use Rattle.chan_events.specs.declared.event.Event.TheVariants as event
 use Rattle.chan_events.specs.declared.event.OtherInstruction.TheVariants as other
 use Rattle.chan_events.specs.declared.reply.Entry.{Entry}
-use Rattle.chan_events.specs.declared.reply.Reply.{Reply}
+use Rattle.chan_events.specs.Replies.{Reply}
 use Rattle.chan_events.specs.declared.reply.Reply.TheVariants as reply
 use Rattle.chan_model.specs.ConditionCodes.{rchp_code}
 use Rattle.channel_config.specs.Setup.{Setup, has_number}

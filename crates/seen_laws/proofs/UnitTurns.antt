@@ -1,7 +1,7 @@
 -- What a unit does with the signal that waits first, told by what is seen of it: what is due, and what it is then.
 use Rattle.std.proofs.Common.{◌≡◌, refl, sym, ◌∙◌, ap, subst, ℕ, suc, ◌+◌, ◌&&◌, nat_lt, Bool, true, false, not, Option, None, Some, Result, List, [], ◌∷◌, length, map, slice_get, IfOk, if◌then◌else◌, inl, inr, arith}
 use Rattle.std.specs.Prelude.{◌⊎◌}
-use Rattle.chan_events.specs.declared.reply.Reply.{Reply}
+use Rattle.chan_events.specs.Replies.{Reply}
 use Rattle.chan_events.specs.declared.reply.Reply.TheVariants as reply
 use Rattle.chan_model.specs.declared.fault.Fault.{Fault}
 use Rattle.chan_model.specs.declared.names.Side.{Side}
@@ -82,7 +82,7 @@ above-for s place sub u above there found p (down.Command t n code room) front =
 above-for s place sub u above there found p (down.Grant t c) front = tt
 above-for s place sub u above there found p (down.Refuse t c) front = tt
 above-for s place sub u above there found p (down.Took t n q room) front = tt
-above-for s place sub u above there found p (down.Give t c n q bytes) front = tt
+above-for s place sub u above there found p (down.Give bytes t c n q) front = tt
 above-for s place sub u above there found p (down.Halt t) front = tt
 above-for s place sub u above there found p (down.Release t) front = tt
 above-for s place sub u above there found p (down.Reset r b) front = λ e. above place sub u p r b there found front e

@@ -4,13 +4,13 @@ use Rattle.std.specs.Prelude.{option_map}
 use Rattle.std.proofs.lemmas.Bool.{and_parts, eqb-true}
 use Rattle.chan_events.specs.declared.event.UnitAct.{UnitAct}
 use Rattle.chan_events.specs.declared.event.UnitAct.TheVariants as act
-use Rattle.chan_events.specs.declared.reply.Reply.{Reply}
+use Rattle.chan_events.specs.Replies.{Reply}
 use Rattle.chan_events.specs.declared.reply.Reply.TheVariants as reply
 use Rattle.chan_model.specs.declared.hold_state.HoldPhase.{HoldPhase}
 use Rattle.chan_model.specs.declared.names.Side.{Side}
-use Rattle.chan_model.specs.declared.report.DeviceAnswer.{DeviceAnswer}
+use Rattle.chan_model.specs.Reports.{DeviceAnswer}
 use Rattle.chan_model.specs.declared.report.DeviceAnswer.TheVariants as answer
-use Rattle.chan_model.specs.declared.report.Report.{Report}
+use Rattle.chan_model.specs.Reports.{Report}
 use Rattle.chan_model.specs.Signals.{Down}
 use Rattle.chan_model.specs.declared.signal.Down.TheVariants as down
 use Rattle.chan_model.specs.Signals.{Load}
@@ -45,14 +45,14 @@ use Rattle.seen_laws.proofs.Ways.{OnWay, IsPast, IsPlaced, OwnWay, Follows, acce
 -- each signal
 abbrev pub UpWay : Ways → Holding → Side → ℕ → Up → Type 0
 UpWay ways k side p (up.Accept t) = OnWay ways k side p t 0
-UpWay ways k side p (up.Data t c n s load) = OnWay ways k side p t c
+UpWay ways k side p (up.Data load t c n s) = OnWay ways k side p t c
 UpWay ways k side p (up.Leave t c) = OnWay ways k side p t c
 UpWay ways k side p (up.Back t c) = OnWay ways k side p t c
 UpWay ways k side p x = Unit {0}
 
 abbrev pub DownWay : Ways → Holding → Side → ℕ → Down → Type 0
 DownWay ways k side p (down.Grant t c) = OnWay ways k side p t c
-DownWay ways k side p (down.Give t c n s bytes) = OnWay ways k side p t c
+DownWay ways k side p (down.Give bytes t c n s) = OnWay ways k side p t c
 DownWay ways k side p d = Unit {0}
 
 pub up-follows : (ways after : Ways) (k next : Holding) (side : Side) (p : ℕ) (x : Up) → Follows k next side ways after → UpWay ways k side p x → UpWay after next side p x
@@ -60,7 +60,7 @@ up-follows ways after k next side p (up.Accept t) f w = f.way p t 0 w
 up-follows ways after k next side p (up.Busy t) f w = tt
 up-follows ways after k next side p (up.Leave t c) f w = f.way p t c w
 up-follows ways after k next side p (up.Back t c) f w = f.way p t c w
-up-follows ways after k next side p (up.Data t c n s load) f w = f.way p t c w
+up-follows ways after k next side p (up.Data load t c n s) f w = f.way p t c w
 up-follows ways after k next side p (up.End t n status more) f w = tt
 up-follows ways after k next side p (up.Released t) f w = tt
 up-follows ways after k next side p (up.Cleared r) f w = tt
@@ -73,7 +73,7 @@ down-follows ways after k next side p (down.Command t n code room) f w = tt
 down-follows ways after k next side p (down.Grant t c) f w = f.way p t c w
 down-follows ways after k next side p (down.Refuse t c) f w = tt
 down-follows ways after k next side p (down.Took t n s room) f w = tt
-down-follows ways after k next side p (down.Give t c n s bytes) f w = f.way p t c w
+down-follows ways after k next side p (down.Give bytes t c n s) f w = f.way p t c w
 down-follows ways after k next side p (down.Halt t) f w = tt
 down-follows ways after k next side p (down.Release t) f w = tt
 down-follows ways after k next side p (down.Reset r b) f w = tt
@@ -84,7 +84,7 @@ up-by ways k side p (up.Accept t) w = w.way
 up-by ways k side p (up.Busy t) w = tt
 up-by ways k side p (up.Leave t c) w = w.way
 up-by ways k side p (up.Back t c) w = w.way
-up-by ways k side p (up.Data t c n s load) w = w.way
+up-by ways k side p (up.Data load t c n s) w = w.way
 up-by ways k side p (up.End t n status more) w = tt
 up-by ways k side p (up.Released t) w = tt
 up-by ways k side p (up.Cleared r) w = tt
@@ -97,7 +97,7 @@ down-by ways k side p (down.Command t n code room) w = tt
 down-by ways k side p (down.Grant t c) w = w.way
 down-by ways k side p (down.Refuse t c) w = tt
 down-by ways k side p (down.Took t n s room) w = tt
-down-by ways k side p (down.Give t c n s bytes) w = w.way
+down-by ways k side p (down.Give bytes t c n s) w = w.way
 down-by ways k side p (down.Halt t) w = tt
 down-by ways k side p (down.Release t) w = tt
 down-by ways k side p (down.Reset r b) w = tt
@@ -107,7 +107,7 @@ down-by ways k side p (down.Got a) w = tt
 abbrev IsSentBy : Down → Up → Type 0
 IsSentBy d (up.Leave t c) = d ≡ down.Grant t c
 IsSentBy d (up.Back t c) = ⊥
-IsSentBy d (up.Data t c n s load) = ⊥
+IsSentBy d (up.Data load t c n s) = ⊥
 IsSentBy d (up.End t n status more) = ⊥
 IsSentBy d x = Unit {0}
 
@@ -136,7 +136,7 @@ works-sends k side p free (down.Grant t c) =
     (if-due p (down.Grant t c) (holds_and (λ h. nat_lt c (connection_of h.place)) k.holder side t) _ _ (refl, refl, refl) tt)
 works-sends k side p free (down.Refuse t c) = tt
 works-sends k side p free (down.Took t n s room) = tt
-works-sends k side p free (down.Give t c n s bytes) = tt
+works-sends k side p free (down.Give bytes t c n s) = tt
 works-sends k side p free (down.Halt t) = tt
 works-sends k side p free (down.Release t) = if-due p (down.Release t) (is_holder k.holder side t) _ _ (refl, refl, tt) tt
 works-sends k side p free (down.Reset r b) = if-due p (down.Reset r b) ((b == k.restarts) && nat_lt (side_seen k side).number r) _ _ (refl, refl, tt) tt
@@ -148,7 +148,7 @@ restarted-sends k p (down.Command t n code room) = (refl, refl, tt)
 restarted-sends k p (down.Grant t c) = (refl, refl, tt)
 restarted-sends k p (down.Refuse t c) = (refl, refl, tt)
 restarted-sends k p (down.Took t n s room) = (refl, refl, tt)
-restarted-sends k p (down.Give t c n s bytes) = (refl, refl, tt)
+restarted-sends k p (down.Give bytes t c n s) = (refl, refl, tt)
 restarted-sends k p (down.Halt t) = (refl, refl, tt)
 restarted-sends k p (down.Release t) = (refl, refl, tt)
 restarted-sends k p (down.Reset r b) = (refl, refl, if-sent (down.Reset r b) (b == k.restarts) (up.Cleared r) (up.Notice k.restarts) tt tt)
@@ -169,7 +169,7 @@ signal-way ways k side p d (up.Accept t) s w = accept-way k side p t ways
 signal-way ways k side p d (up.Busy t) s w = tt
 signal-way ways k side p d (up.Leave t c) s w = subst (DownWay ways k side p) s w
 signal-way ways k side p d (up.Back t c) s w = absurd s
-signal-way ways k side p d (up.Data t c n q load) s w = absurd s
+signal-way ways k side p d (up.Data load t c n q) s w = absurd s
 signal-way ways k side p d (up.End t n status more) s w = tt
 signal-way ways k side p d (up.Released t) s w = tt
 signal-way ways k side p d (up.Cleared r) s w = tt
@@ -212,9 +212,9 @@ given-held ways f (Some h) side p t c n s w e g =
     (h, refl, placed-is ways h.number p at.0 c h.place at.1 (w its.0).1 (subst (λ (m : ℕ). ways m c ≡ Some p) (eqb-true t h.number its.1) e))
 
 given-if : (ways : Ways) (k : Holding) (side : Side) (p t c n s : ℕ) (bytes : List ℕ) (restarted : Bool) → OwnWay ways (side_seen k side).number k.holder side → ways t c ≡ Some p →
-    reply.Down (down.Give t c n s bytes) true None ≡
-    (if restarted then restarted_due k p (down.Give t c n s bytes)
-    else takes_if (holds_and (λ h. is_connected_by h.place c && ((n == h.command) && is_next h.transfer s)) k.holder side t) (down.Give t c n s bytes)) →
+    reply.Down (down.Give bytes t c n s) true None ≡
+    (if restarted then restarted_due k p (down.Give bytes t c n s)
+    else takes_if (holds_and (λ h. is_connected_by h.place c && ((n == h.command) && is_next h.transfer s)) k.holder side t) (down.Give bytes t c n s)) →
     IsGivenTo k p c
 given-if ways k side p t c n s bytes true w e g = absurd (cc g)
 given-if ways k side p t c n s bytes false w e g = given-held ways (side_seen k side).number k.holder side p t c n s w e (sym (ap taken_in g))
@@ -226,9 +226,9 @@ taken-to ways k side p free (down.Command t n code room) taken sent w way e = tt
 taken-to ways k side p free (down.Grant t c) taken sent w way e = tt
 taken-to ways k side p free (down.Refuse t c) taken sent w way e = tt
 taken-to ways k side p free (down.Took t n s room) taken sent w way e = tt
-taken-to ways k side p free (down.Give t c n s bytes) true None w way e = given-if ways k side p t c n s bytes (side_seen k side).restarted w way.way e
-taken-to ways k side p free (down.Give t c n s bytes) true (Some x) w way e = tt
-taken-to ways k side p free (down.Give t c n s bytes) false sent w way e = tt
+taken-to ways k side p free (down.Give bytes t c n s) true None w way e = given-if ways k side p t c n s bytes (side_seen k side).restarted w way.way e
+taken-to ways k side p free (down.Give bytes t c n s) true (Some x) w way e = tt
+taken-to ways k side p free (down.Give bytes t c n s) false sent w way e = tt
 taken-to ways k side p free (down.Halt t) taken sent w way e = tt
 taken-to ways k side p free (down.Release t) taken sent w way e = tt
 taken-to ways k side p free (down.Reset r b) taken sent w way e = tt
@@ -245,7 +245,7 @@ plain-way ways k side (Some s) a = by s.signal a
     by (down.Grant t c) n = absurd n
     by (down.Refuse t c) n = tt
     by (down.Took t m q room) n = tt
-    by (down.Give t c m q bytes) n = absurd n
+    by (down.Give bytes t c m q) n = absurd n
     by (down.Halt t) n = tt
     by (down.Release t) n = tt
     by (down.Reset r b) n = tt
@@ -257,7 +257,7 @@ command-way ways k side t p q (down.Command u m code room) a = tt
 command-way ways k side t p q (down.Grant u c) a = absurd a
 command-way ways k side t p q (down.Refuse u c) a = tt
 command-way ways k side t p q (down.Took u m s room) a = tt
-command-way ways k side t p q (down.Give u c m s bytes) a = absurd a
+command-way ways k side t p q (down.Give bytes u c m s) a = absurd a
 command-way ways k side t p q (down.Halt u) a = tt
 command-way ways k side t p q (down.Release u) a = tt
 command-way ways k side t p q (down.Reset r b) a = tt
@@ -273,7 +273,7 @@ data-way ways k side t p c q (down.Command u m code room) a w = tt
 data-way ways k side t p c q (down.Grant u e) a w = absurd a
 data-way ways k side t p c q (down.Refuse u e) a w = tt
 data-way ways k side t p c q (down.Took u m s room) a w = tt
-data-way ways k side t p c q (down.Give u e m s bytes) a w =
+data-way ways k side t p c q (down.Give bytes u e m s) a w =
     subst (λ (x : ℕ). OnWay ways k side x u e) a.1 (subst (λ (x : ℕ). OnWay ways k side p x e) a.0 (subst (λ (x : ℕ). OnWay ways k side p t x) a.2 w))
 data-way ways k side t p c q (down.Halt u) a w = tt
 data-way ways k side t p c q (down.Release u) a w = tt

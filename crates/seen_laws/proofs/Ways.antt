@@ -151,7 +151,7 @@ answered-follows k side path (up.Busy t) ways above =
     (rises-to k (with_answered k side t) side (record (side_seen k side) { number = t }) (here-seen k side (record (side_seen k side) { number = t })) (omega (arith, above))) (seen-holder k side (record (side_seen k side) { number = t }))
 answered-follows k side path (up.Leave t c) ways above = follows-same k side ways
 answered-follows k side path (up.Back t c) ways above = follows-same k side ways
-answered-follows k side path (up.Data t c n s load) ways above = follows-same k side ways
+answered-follows k side path (up.Data load t c n s) ways above = follows-same k side ways
 answered-follows k side path (up.End t n status more) ways above = follows-same k side ways
 answered-follows k side path (up.Released t) ways above =
     freed-by k (let_go k) side ways (rises-to k (let_go k) side (side_seen k side) (held-seen k None side) (omega arith)) refl
@@ -174,7 +174,7 @@ other-follows k side j path (up.Busy t) ways n =
     (rises-to k (with_answered k side t) j (side_seen k j) (other-seen k side j (record (side_seen k side) { number = t }) n) (omega arith)) (seen-holder k side (record (side_seen k side) { number = t }))
 other-follows k side j path (up.Leave t c) ways n = follows-same k j ways
 other-follows k side j path (up.Back t c) ways n = follows-same k j ways
-other-follows k side j path (up.Data t c m s load) ways n = follows-same k j ways
+other-follows k side j path (up.Data load t c m s) ways n = follows-same k j ways
 other-follows k side j path (up.End t m status more) ways n = follows-same k j ways
 other-follows k side j path (up.Released t) ways n = freed-by k (let_go k) j ways (rises-to k (let_go k) j (side_seen k j) (held-seen k None j) (omega arith)) refl
 other-follows k side j path (up.Cleared r) ways n =
@@ -247,7 +247,7 @@ quiet-follows k side (down.Command t n code room) ways =
 quiet-follows k side (down.Grant t c) ways = moved-follows k side ways (moved granted) (grant-move ways)
 quiet-follows k side (down.Refuse t c) ways = moved-follows k side ways (moved parted) (part-move ways)
 quiet-follows k side (down.Took t n s room) ways = transfer-follows k side ways answered
-quiet-follows k side (down.Give t c n s bytes) ways = transfer-follows k side ways (given s)
+quiet-follows k side (down.Give bytes t c n s) ways = transfer-follows k side ways (given s)
 quiet-follows k side (down.Halt t) ways =
     moved-follows k side ways (λ h. record h { halted = true }) (record { side = λ h. refl; number = λ h. refl; connection = λ h. refl; placed = λ h t x. x })
 quiet-follows k side (down.Release t) ways = follows-same k side ways

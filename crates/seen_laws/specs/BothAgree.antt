@@ -2,10 +2,10 @@
 -- sends to it, is of the program that holds the device, and it offers one only where none of it does; but where the unit was restarted,
 -- and did not send it Cleared since (own).
 use Rattle.std.specs.Prelude.{◌≡◌, ◌⊎◌, ℕ, ◌==◌, true, false, Option, None, Some, List, [], ◌∷◌}
-use Rattle.chan_events.specs.declared.event.Event.{Event}
+use Rattle.chan_events.specs.Events.{Event}
 use Rattle.chan_events.specs.declared.event.Event.TheVariants as event
 use Rattle.chan_events.specs.declared.reply.Entry.{Entry}
-use Rattle.chan_events.specs.declared.reply.Reply.{Reply}
+use Rattle.chan_events.specs.Replies.{Reply}
 use Rattle.chan_events.specs.declared.reply.Reply.TheVariants as reply
 use Rattle.chan_model.specs.declared.names.Side.{Side}
 use Rattle.chan_model.specs.Signals.{Down}
@@ -33,7 +33,7 @@ IsUnheldOr k side = (is_held_by k.holder side ≡ false) ⊎ IsRestarted k side
 
 -- what is taken
 abbrev pub ComesOfHolder : Holding → Side → Up → Type 0
-ComesOfHolder k side (up.Data t c n s load) = IsHolderOr k side t
+ComesOfHolder k side (up.Data load t c n s) = IsHolderOr k side t
 ComesOfHolder k side (up.End t n status more) = IsHolderOr k side t
 ComesOfHolder k side (up.Leave t c) = IsHolderOr k side t
 ComesOfHolder k side signal = Unit {0}
@@ -43,7 +43,7 @@ abbrev pub GoesToHolder : Holding → Side → Down → Type 0
 GoesToHolder k side (down.Command t n code room) = IsHolderOr k side t
 GoesToHolder k side (down.Grant t c) = IsHolderOr k side t
 GoesToHolder k side (down.Took t n s room) = IsHolderOr k side t
-GoesToHolder k side (down.Give t c n s bytes) = IsHolderOr k side t
+GoesToHolder k side (down.Give bytes t c n s) = IsHolderOr k side t
 GoesToHolder k side signal = Unit {0}
 
 abbrev pub IsAnswerToHolder : Holding → Side → Option (OnPath Down) → Type 0

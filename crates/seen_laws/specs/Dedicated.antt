@@ -1,11 +1,11 @@
 -- By which path a program is offered after unit check: by that of its End, until the device moves data or ends a command without it, or
 -- the subchannel is cleared or reset (SA22-7832, chapter 15, the dedicated allegiance; how long it stands is this project's own choice).
 use Rattle.std.specs.Prelude.{◌≡◌, ℕ, true, if◌then◌else◌, Option, None, Some, List, [], ◌∷◌}
-use Rattle.chan_events.specs.declared.event.Event.{Event}
+use Rattle.chan_events.specs.Events.{Event}
 use Rattle.chan_events.specs.declared.event.Event.TheVariants as event
 use Rattle.chan_events.specs.declared.event.Instruction.TheVariants as instruction
 use Rattle.chan_events.specs.declared.reply.Entry.{Entry}
-use Rattle.chan_events.specs.declared.reply.Reply.{Reply}
+use Rattle.chan_events.specs.Replies.{Reply}
 use Rattle.chan_events.specs.declared.reply.Reply.TheVariants as reply
 use Rattle.chan_model.specs.declared.signal.Up.TheVariants as up
 use Rattle.chan_model.specs.UnitReports.{has_unit_check}
@@ -17,7 +17,7 @@ use Rattle.seen_laws.specs.BeginsItsOwn.{is_code_zero}
 -- the path to which an allegiance is dedicated, after a signal that came by a path
 abbrev pub dedicated_met : ℕ → Reply → Option ℕ → Option ℕ
 dedicated_met path (reply.Up (up.End t n status more) true sent) d = if has_unit_check status then Some path else None
-dedicated_met path (reply.Up (up.Data t c n s load) true sent) d = None
+dedicated_met path (reply.Up (up.Data load t c n s) true sent) d = None
 dedicated_met path r d = d
 
 -- after CLEAR SUBCHANNEL

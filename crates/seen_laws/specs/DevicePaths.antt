@@ -1,11 +1,11 @@
 -- By which path the signals of a device's connections go: each number and connection has one path, that of its Accept or of the Ask for it,
 -- and what comes up or down under them comes by it, whether it is taken or not; a Give is taken where the device is connected by it (own).
 use Rattle.std.specs.Prelude.{◌≡◌, ℕ, ◌+◌, ◌==◌, ◌&&◌, Bool, true, false, if◌then◌else◌, Option, None, Some, List, [], ◌∷◌}
-use Rattle.chan_events.specs.declared.event.Event.{Event}
+use Rattle.chan_events.specs.Events.{Event}
 use Rattle.chan_events.specs.declared.event.Event.TheVariants as event
 use Rattle.chan_events.specs.declared.event.UnitAct.TheVariants as act
 use Rattle.chan_events.specs.declared.reply.Entry.{Entry}
-use Rattle.chan_events.specs.declared.reply.Reply.{Reply}
+use Rattle.chan_events.specs.Replies.{Reply}
 use Rattle.chan_events.specs.declared.reply.Reply.TheVariants as reply
 use Rattle.chan_model.specs.declared.names.Side.{Side}
 use Rattle.chan_model.specs.Signals.{Down}
@@ -54,14 +54,14 @@ ways_after sets subs at side e r k ways = ways
 -- a signal that came up, or down, by this path
 abbrev pub IsUpBy : Ways → ℕ → Up → Type 0
 IsUpBy ways path (up.Accept t) = ways t 0 ≡ Some path
-IsUpBy ways path (up.Data t c n s load) = ways t c ≡ Some path
+IsUpBy ways path (up.Data load t c n s) = ways t c ≡ Some path
 IsUpBy ways path (up.Leave t c) = ways t c ≡ Some path
 IsUpBy ways path (up.Back t c) = ways t c ≡ Some path
 IsUpBy ways path signal = Unit {0}
 
 abbrev pub IsDownBy : Ways → ℕ → Down → Type 0
 IsDownBy ways path (down.Grant t c) = ways t c ≡ Some path
-IsDownBy ways path (down.Give t c n s bytes) = ways t c ≡ Some path
+IsDownBy ways path (down.Give bytes t c n s) = ways t c ≡ Some path
 IsDownBy ways path signal = Unit {0}
 
 -- a Give was taken where the device is connected by its path and connection
@@ -69,7 +69,7 @@ abbrev pub IsGivenTo : Holding → ℕ → ℕ → Type 0
 IsGivenTo k path c = (h : Held) × (k.holder ≡ Some h) × (h.place ≡ Connected path c)
 
 abbrev pub IsTakenBy : Holding → ℕ → Down → Bool → Option (OnPath Up) → Type 0
-IsTakenBy k path (down.Give t c n s bytes) true None = IsGivenTo k path c
+IsTakenBy k path (down.Give bytes t c n s) true None = IsGivenTo k path c
 IsTakenBy k path signal taken sent = Unit {0}
 
 abbrev pub IsReplyBy : Holding → Ways → ℕ → Reply → Type 0

@@ -1,14 +1,14 @@
 -- What is seen of a unit: the program that holds its device, where this program is, and what each side of the unit answered (own).
 use Rattle.std.specs.Prelude.{ℕ, ◌+◌, ◌%◌, ◌==◌, ◌&&◌, ◌||◌, Bool, true, false, if◌then◌else◌, Option, None, Some, option_map, List, [], ◌∷◌}
-use Rattle.chan_events.specs.declared.event.Event.{Event}
+use Rattle.chan_events.specs.Events.{Event}
 use Rattle.chan_events.specs.declared.event.Event.TheVariants as event
 use Rattle.chan_events.specs.declared.event.UnitAct.{UnitAct}
 use Rattle.chan_events.specs.declared.event.UnitAct.TheVariants as act
-use Rattle.chan_events.specs.declared.reply.Reply.{Reply}
+use Rattle.chan_events.specs.Replies.{Reply}
 use Rattle.chan_events.specs.declared.reply.Reply.TheVariants as reply
 use Rattle.chan_model.specs.declared.names.Side.{Side}
 use Rattle.chan_model.specs.declared.names.Side.TheVariants.{First, Second}
-use Rattle.chan_model.specs.declared.report.DeviceAnswer.{DeviceAnswer}
+use Rattle.chan_model.specs.Reports.{DeviceAnswer}
 use Rattle.chan_model.specs.declared.report.DeviceAnswer.TheVariants as answer
 use Rattle.chan_model.specs.Signals.{Down}
 use Rattle.chan_model.specs.declared.signal.Down.TheVariants as down
@@ -163,7 +163,7 @@ quiet_after (down.Command t n code room) k = with_holder (commanded n code) k
 quiet_after (down.Grant t c) k = with_holder (moved granted) k
 quiet_after (down.Refuse t c) k = with_holder (moved parted) k
 quiet_after (down.Took t n s room) k = with_holder (with_transfer answered) k
-quiet_after (down.Give t c n s bytes) k = with_holder (with_transfer (given s)) k
+quiet_after (down.Give bytes t c n s) k = with_holder (with_transfer (given s)) k
 quiet_after (down.Got a) k = record k { attention = None }
 quiet_after (down.Halt t) k = with_holder (λ h. record h { halted = true }) k
 quiet_after signal k = k

@@ -2,11 +2,11 @@
 -- chapter 15, the allegiances; the signals, and when a reset is due, are this project's own).
 use Rattle.std.specs.Prelude.{◌≡◌, ◌⊎◌, ◌<◌, ℕ, ◌==◌, nat_lt, Bool, true, false, not, ◌&&◌, ◌||◌, if◌then◌else◌, Option, None, Some, List, [], ◌∷◌, map, slice_get}
 use Rattle.std.specs.List.{list_any}
-use Rattle.chan_events.specs.declared.event.Event.{Event}
+use Rattle.chan_events.specs.Events.{Event}
 use Rattle.chan_events.specs.declared.event.Event.TheVariants as event
 use Rattle.chan_events.specs.declared.event.Instruction.TheVariants as instruction
 use Rattle.chan_events.specs.declared.reply.Entry.{Entry}
-use Rattle.chan_events.specs.declared.reply.Reply.{Reply}
+use Rattle.chan_events.specs.Replies.{Reply}
 use Rattle.chan_events.specs.declared.reply.Reply.TheVariants as reply
 use Rattle.chan_model.specs.Signals.{Down}
 use Rattle.chan_model.specs.declared.signal.Down.TheVariants as down
@@ -219,7 +219,7 @@ IsTaken k path (up.Released t) taken = taken ≡ is_leaving k.link t
 IsTaken k path (up.Cleared r) taken = taken ≡ is_reset_sent k.link r
 IsTaken k path (up.Notice b) taken = taken ≡ nat_lt k.restarts b
 IsTaken k path (up.Back t c) taken = (taken ≡ (is_held_for k.link t && nat_lt k.asked c)) ⊎ ((k.doubt ≡ true) × (taken ≡ false))
-IsTaken k path (up.Data t c n s load) taken = taken ≡ true → k.link ≡ Connected t path c
+IsTaken k path (up.Data load t c n s) taken = taken ≡ true → k.link ≡ Connected t path c
 IsTaken k path (up.Leave t c) taken = taken ≡ is_connected_by k.link t c
 IsTaken k path (up.End t n status more) taken = taken ≡ true → (q c : ℕ) × (k.link ≡ Connected t q c)
 IsTaken k path (up.Attn a status) taken = taken ≡ true → k.link ≡ Nowhere
@@ -235,7 +235,7 @@ program_of (up.End t n status more) = Some t
 program_of signal = None
 
 abbrev pub mover_of : Up → Option ℕ
-mover_of (up.Data t c n s load) = Some t
+mover_of (up.Data load t c n s) = Some t
 mover_of signal = None
 
 -- a Grant answers a Back of its number and connection, where the program is apart, by the path of the Back; a Refuse answers a Back, a
@@ -246,7 +246,7 @@ IsSentFor is_up k path signal q (down.Refuse t c) = (signal ≡ up.Back t c) × 
 IsSentFor is_up k path signal q (down.Command t n code room) = program_of signal ≡ Some t
 IsSentFor is_up k path signal q (down.Release t) = program_of signal ≡ Some t
 IsSentFor is_up k path signal q (down.Took t n s room) = mover_of signal ≡ Some t
-IsSentFor is_up k path signal q (down.Give t c n s bytes) = mover_of signal ≡ Some t
+IsSentFor is_up k path signal q (down.Give bytes t c n s) = mover_of signal ≡ Some t
 IsSentFor is_up k path signal q (down.Got a) = (status : DeviceStatus) × (signal ≡ up.Attn a status)
 IsSentFor is_up k path signal q sent = ⊥
 

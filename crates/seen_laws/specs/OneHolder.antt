@@ -4,15 +4,15 @@
 -- a signal of one side raised the number of the other, marked it as restarted or let its program go would answer a later signal
 -- of the other otherwise than is due.
 use Rattle.std.specs.Prelude.{◌≡◌, ◌<◌, ℕ, ◌+◌, ◌==◌, ◌&&◌, nat_lt, Bool, true, false, not, if◌then◌else◌, Option, None, Some, is_some, List, [], ◌∷◌, slice_get}
-use Rattle.chan_events.specs.declared.event.Event.{Event}
+use Rattle.chan_events.specs.Events.{Event}
 use Rattle.chan_events.specs.declared.event.Event.TheVariants as event
 use Rattle.chan_events.specs.declared.event.UnitAct.{UnitAct}
 use Rattle.chan_events.specs.declared.event.UnitAct.TheVariants as act
 use Rattle.chan_events.specs.declared.reply.Entry.{Entry}
-use Rattle.chan_events.specs.declared.reply.Reply.{Reply}
+use Rattle.chan_events.specs.Replies.{Reply}
 use Rattle.chan_events.specs.declared.reply.Reply.TheVariants as reply
 use Rattle.chan_model.specs.declared.names.Side.{Side}
-use Rattle.chan_model.specs.declared.report.Report.{Report}
+use Rattle.chan_model.specs.Reports.{Report}
 use Rattle.chan_model.specs.Signals.{Down}
 use Rattle.chan_model.specs.declared.signal.Down.TheVariants as down
 use Rattle.chan_model.specs.declared.signal.OnPath.{OnPath}
@@ -94,8 +94,8 @@ works_due k side path free (down.Grant t c) = grant_due k.holder side path t c
 works_due k side path free (down.Refuse t c) = takes_if (holds_and (λ h. is_asking h.place c) k.holder side t) (down.Refuse t c)
 works_due k side path free (down.Took t n s room) =
     takes_if (holds_and (λ h. (n == h.command) && is_unanswered h.transfer s) k.holder side t) (down.Took t n s room)
-works_due k side path free (down.Give t c n s bytes) =
-    takes_if (holds_and (λ h. is_connected_by h.place c && ((n == h.command) && is_next h.transfer s)) k.holder side t) (down.Give t c n s bytes)
+works_due k side path free (down.Give bytes t c n s) =
+    takes_if (holds_and (λ h. is_connected_by h.place c && ((n == h.command) && is_next h.transfer s)) k.holder side t) (down.Give bytes t c n s)
 works_due k side path free (down.Halt t) = takes_if (holds_and (λ h. not h.halted) k.holder side t) (down.Halt t)
 works_due k side path free (down.Release t) = answers_if (is_holder k.holder side t) path (down.Release t) (up.Released t)
 works_due k side path free (down.Reset r b) =

@@ -1,7 +1,7 @@
 -- What an event comes to that is entered from the one seat of a machine.
 use Rattle.std.proofs.Common.{◌≡◌, ◌≢◌, ◌≤◌, List, Result, Ok, Err, refl, sym, arith, ap, inl, inr}
-use Rattle.chan_events.specs.declared.event.Event.{Event}
-use Rattle.chan_events.specs.declared.reply.Reply.{Reply}
+use Rattle.chan_events.specs.Events.{Event}
+use Rattle.chan_events.specs.Replies.{Reply}
 use Rattle.chan_model.specs.declared.fault.Fault.{Fault}
 use Rattle.chan_model.specs.declared.fault.Fault.TheVariants as fault
 use Rattle.core_lock.specs.Entering.{IsEntered, MayRefuse, guarded_in}

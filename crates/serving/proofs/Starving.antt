@@ -1,19 +1,19 @@
 -- Histories that grow, and what wants where an action is refused for want of memory.
 use Rattle.std.proofs.Common.{◌≡◌, ◌≢◌, ℕ, ◌+◌, ◌≤◌, ◌^◌, Bool, true, false, ◌||◌, List, [], ◌∷◌, ◌++◌, length, Option, None, Some, Result, Ok, Err, refl, sym, ap, ◌∙◌, arith, inl, inr, length-append, true≢false}
 use Rattle.std.specs.Prelude.{◌⊎◌}
-use Rattle.chan_events.specs.declared.event.Event.{Event}
+use Rattle.chan_events.specs.Events.{Event}
 use Rattle.chan_events.specs.declared.event.Event.TheVariants as event
 use Rattle.chan_events.specs.declared.reply.Entry.{Entry}
-use Rattle.chan_events.specs.declared.reply.Reply.{Reply}
+use Rattle.chan_events.specs.Replies.{Reply}
 use Rattle.chan_model.specs.declared.fault.Fault.{Fault}
 use Rattle.chan_model.specs.declared.fault.Fault.TheVariants as fault
-use Rattle.chan_model.specs.declared.report.Report.{Report}
-use Rattle.chan_model.specs.declared.report.Work.{Work}
+use Rattle.chan_model.specs.Reports.{Report}
+use Rattle.chan_model.specs.Reports.{Work}
 use Rattle.chan_model.specs.declared.report.Work.TheVariants as work
 use Rattle.core_parts.specs.Seats.{entry}
 use Rattle.device_models.specs.declared.any_device.AnyDevice.{AnyDevice}
 use Rattle.machine_model.specs.State.{Past}
-use Rattle.machine_model.specs.declared.state.UnitTurn.{UnitTurn}
+use Rattle.machine_model.specs.UnitTurns.{UnitTurn}
 use Rattle.machine_model.specs.declared.state.UnitTurn.TheVariants.{Takes, Works, Away, Rests}
 use Rattle.script_rows.specs.declared.Action.{Action}
 use Rattle.script_rows.specs.declared.Action.TheVariants as action

@@ -1,16 +1,16 @@
 -- What the actions of a script come to at a channel subsystem with its devices.
 use Rattle.std.specs.Prelude.{◌≡◌, ◌≤◌, ◌+◌, ◌^◌, ℕ, Bool, true, false, min, List, [], ◌∷◌, ◌++◌, length, map, replicate, slice_get, slice_set, MatchOption, Option, None, Some, Result, Ok, Err}
-use Rattle.chan_events.specs.declared.event.Event.{Event}
+use Rattle.chan_events.specs.Events.{Event}
 use Rattle.chan_events.specs.declared.event.Event.TheVariants as event
 use Rattle.chan_model.specs.declared.fault.Fault.{Fault}
 use Rattle.chan_model.specs.declared.fault.Fault.TheVariants as fault
 use Rattle.chan_model.specs.declared.names.Side.{Side}
 use Rattle.chan_events.specs.declared.reply.Entry.{Entry}
-use Rattle.chan_events.specs.declared.reply.Reply.{Reply}
-use Rattle.chan_model.specs.declared.report.Call.{Call}
-use Rattle.chan_model.specs.declared.report.DeviceAnswer.{DeviceAnswer}
-use Rattle.chan_model.specs.declared.report.Report.{Report}
-use Rattle.chan_model.specs.declared.report.Work.{Work}
+use Rattle.chan_events.specs.Replies.{Reply}
+use Rattle.chan_model.specs.Reports.{Call}
+use Rattle.chan_model.specs.Reports.{DeviceAnswer}
+use Rattle.chan_model.specs.Reports.{Report}
+use Rattle.chan_model.specs.Reports.{Work}
 use Rattle.chan_model.specs.declared.report.Work.TheVariants as work
 use Rattle.channel_config.specs.Setup.{Setup}
 use Rattle.core_lock.specs.Entering.{Looks, entered}
@@ -21,7 +21,7 @@ use Rattle.machine_model.specs.Ruled.{GoesByRule}
 use Rattle.path_select.specs.Choice.{TakesNext}
 use Rattle.machine_model.specs.State.{Past, State, IsAsBefore, IsSpent, opening_of, unit_turn_of, sub_of, serials_in}
 use Rattle.machine_model.specs.Steps.{Step, IsRefused}
-use Rattle.machine_model.specs.declared.state.UnitTurn.{UnitTurn}
+use Rattle.machine_model.specs.UnitTurns.{UnitTurn}
 use Rattle.machine_model.specs.declared.state.UnitTurn.TheVariants.{Takes, Works, Away, Rests}
 use Rattle.scsw_irb.specs.declared.serials.Serials.{Serials}
 use Rattle.script_rows.specs.declared.Action.{Action}

@@ -16,15 +16,15 @@ ghost use Rattle.subsystem.specs.Keeping.{all_serials, answer_of};
 ghost use Rattle.core_parts.specs.Directory.{directory_of};
 ghost use Rattle.core_parts.specs.Seats.{entries_by};
 ghost use Rattle.device_models.specs.declared.any_device.AnyDevice.{AnyDevice};
-ghost use Rattle.chan_model.specs.declared.report.Report.{Report};
-ghost use Rattle.kept_events.specs.Events.{event_in, event_length};
+ghost use Rattle.chan_model.specs.Reports.{Report};
+ghost use Rattle.chan_events.specs.Events.{event_in, event_length};
 ghost use Rattle.script_rows.specs.Places.{action_in, action_length};
 ghost use Rattle.chan_events.specs.declared.event.Event.TheVariants as event_spec;
 
 use crate::opening::{opening_seats, opening_units};
 use crate::places::{Places, no_report, write_choose, write_down, write_execute, write_up};
 use crate::reports::{forget, keep, reported_by};
-use chan_events::event::Event;
+use chan_events::event::{Event, KeptEvent};
 use chan_model::fault::Fault;
 use chan_model::report::Report;
 use channel_config::config::Config;
@@ -35,7 +35,6 @@ use core_parts::supplies::CoreSupply;
 use device_law::Device;
 use device_models::any_device::AnyDevice;
 use event_log::history::LentReply;
-use kept_events::events::KeptEvent;
 use path_select::Rotating;
 use racing::racers::Racers;
 use script_rows::places::KeptAction;
@@ -169,19 +168,19 @@ impl<J: Naming> Installation<J> {
         ensures memory { result ≡ Err fault_spec.NoMemory → (M.refused supply.new ≡ true) ⊎ spec.IsUsedUp self.old.past }
     {
         match event {
-            KeptEvent::Up { subchannel, path } => {
+            Event::Up { subchannel, path } => {
                 write_up(&mut places.up, *subchannel, *path);
                 self.enter_plain(supply, &places.up)
             }
-            KeptEvent::Down { subchannel, path } => {
+            Event::Down { subchannel, path } => {
                 write_down(&mut places.down, *subchannel, *path);
                 self.enter_plain(supply, &places.down)
             }
-            KeptEvent::Choose { subchannel } => {
+            Event::Choose { subchannel } => {
                 write_choose(&mut places.choose, *subchannel);
                 self.enter_plain(supply, &places.choose)
             }
-            KeptEvent::Execute { cpu, instruction } => {
+            Event::Execute { cpu, instruction } => {
                 write_execute(&mut places.execute, *cpu, *instruction);
                 self.enter_plain(supply, &places.execute)
             }
@@ -204,7 +203,7 @@ impl<J: Naming> Installation<J> {
         ensures given { result ≢ Err fault_spec.NoMemory → M.refused supply.new ≡ M.refused supply.old }
         ensures memory { result ≡ Err fault_spec.NoMemory → (M.refused supply.new ≡ true) ⊎ spec.IsUsedUp self.old.past }
     {
-        places.event = event.with(bytes);
+        places.event = event.own(bytes);
         self.enter(supply, &places.event)
     }
 
@@ -364,10 +363,10 @@ fn report_among<J: Naming>(
         return Err(Fault::NoSuchUnit);
     };
     let subsystem = core.subsystem();
-    let Some(turn) = subsystem.kept_turn(unit) else {
+    let Some(turn) = subsystem.lent_turn(unit) else {
         return Err(Fault::NoSuchUnit);
     };
-    reported_by(devices, unit, kept, turn, subsystem.given(unit), report)
+    reported_by(devices, unit, kept, &turn, report)
 }
 
 /// Whether the log of a machine's one seat is what the history has of it.

@@ -2,18 +2,17 @@
 
 ghost use Rattle.std.specs.Prelude.{◌≡◌, ◌≤◌, ℕ, None, Some, length, slice_get};
 ghost use Rattle.chan_events.specs.declared.event.Event.TheVariants as event_spec;
-ghost use Rattle.chan_model.specs.declared.report.Report.{Report};
-ghost use Rattle.kept_work.specs.Works.{call_in, work_in};
-ghost use Rattle.subchannel_steps.specs.KeptTurns.{turn_in};
+ghost use Rattle.chan_model.specs.Reports.{Report};
+ghost use Rattle.chan_model.specs.Reports.{lent_call, lent_work};
+ghost use Rattle.machine_model.specs.UnitTurns.{lent_turn};
 ghost use Rattle.serving.specs.Acting as spec;
 
 use chan_events::event::Event;
 use chan_model::fault::Fault;
-use chan_model::report::{DeviceAnswer, Report};
+use chan_model::report::{DeviceAnswer, LentCall, LentWork, Report, Work};
 use device_law::answering::answer_to;
 use device_models::any_device::AnyDevice;
-use kept_work::works::{KeptCall, KeptWork, Task};
-use subchannel_steps::kept_turns::KeptTurn;
+use machine_model::state::UnitTurn;
 
 /// Writes the same report into a place.
 #[cold]
@@ -49,13 +48,11 @@ pub(crate) fn reported_by(
     devices: &mut Vec<AnyDevice>,
     unit: u32,
     kept: &Option<Report>,
-    turn: KeptTurn,
-    bytes: &[u8],
+    turn: &UnitTurn<LentWork<'_>>,
     report: &mut Report,
 ) -> Result<(), Fault>
-    requires { length bytes.now ≤ 256 }
-    ensures report { spec.reported result report.new ≡ (spec.turn_by devices.old.items «unit» (Some kept.now) (Some (turn_in turn bytes.now))).report }
-    ensures calls { devices.new.items ≡ (spec.turn_by devices.old.items «unit» (Some kept.now) (Some (turn_in turn bytes.now))).devices }
+    ensures report { spec.reported result report.new ≡ (spec.turn_by devices.old.items «unit» (Some kept.now) (Some (lent_turn turn.now))).report }
+    ensures calls { devices.new.items ≡ (spec.turn_by devices.old.items «unit» (Some kept.now) (Some (lent_turn turn.now))).devices }
 {
     match kept {
         Some(kept) => {
@@ -63,55 +60,63 @@ pub(crate) fn reported_by(
             Ok(())
         }
         None => match turn {
-            KeptTurn::Works(work) => worked(devices, unit, work, bytes, report),
-            KeptTurn::Takes { .. } | KeptTurn::Away { .. } | KeptTurn::Rests => {
+            UnitTurn::Works(work) => worked(devices, unit, work, report),
+            UnitTurn::Takes { .. } | UnitTurn::Away { .. } | UnitTurn::Rests => {
                 Err(Fault::NotNow)
             }
         },
     }
 }
 
-/// The report of a work of a unit, written into a place. Where there is a call of its device, it is made; these bytes stand beside it.
+/// The report of a work of a unit, written into a place. Where there is a call of its device, it is made.
 fn worked(
     devices: &mut Vec<AnyDevice>,
     unit: u32,
-    work: KeptWork,
-    bytes: &[u8],
+    work: &LentWork<'_>,
     report: &mut Report,
 ) -> Result<(), Fault>
-    requires { length bytes.now ≤ 256 }
-    ensures report { spec.reported result report.new ≡ spec.report_of_work (slice_get devices.old.items «unit») (work_in work bytes.now) }
-    ensures calls { devices.new.items ≡ spec.devices_after devices.old.items «unit» (work_in work bytes.now) }
+    ensures report { spec.reported result report.new ≡ spec.report_of_work (slice_get devices.old.items «unit») (lent_work work.now) }
+    ensures calls { devices.new.items ≡ spec.devices_after devices.old.items «unit» (lent_work work.now) }
 {
-    work.number(report);
-    match work.task {
-        Task::Call(call) => {
-            if !called(devices, unit, call, bytes, &mut report.answer) {
-                return Err(Fault::NoSuchUnit);
+    match work {
+        Work::Call {
+            side,
+            number,
+            command,
+            sequence,
+            call,
+        } => {
+            report.side = *side;
+            report.number = *number;
+            report.command = *command;
+            report.sequence = *sequence;
+            if called(devices, unit, call, &mut report.answer) {
+                Ok(())
+            } else {
+                Err(Fault::NoSuchUnit)
             }
         }
-        Task::Again => report.answer = DeviceAnswer::Again,
-        Task::Ended { status, more } => report.answer = DeviceAnswer::Ended { status, more },
+        Work::Report(told) => {
+            *report = told.own();
+            Ok(())
+        }
     }
-    Ok(())
 }
 
 /// Calls the device of a unit, whose answer is written into a place; false where there is none.
 fn called(
     devices: &mut Vec<AnyDevice>,
     unit: u32,
-    call: KeptCall,
-    bytes: &[u8],
+    call: &LentCall<'_>,
     place: &mut DeviceAnswer,
 ) -> bool
-    requires { length bytes.now ≤ 256 }
-    ensures answer { spec.answer_when result place.new ≡ spec.answer_by (slice_get devices.old.items «unit») (call_in call bytes.now) }
+    ensures answer { spec.answer_when result place.new ≡ spec.answer_by (slice_get devices.old.items «unit») (lent_call call.now) }
     ensures calls { devices.new.items ≡
-        spec.called devices.old.items «unit» (slice_get devices.old.items «unit») (call_in call bytes.now) }
+        spec.called devices.old.items «unit» (slice_get devices.old.items «unit») (lent_call call.now) }
 {
     let Some(device) = devices.get_mut(unit as usize) else {
         return false;
     };
-    answer_to(device, call, bytes, place);
+    answer_to(device, call, place);
     true
 }

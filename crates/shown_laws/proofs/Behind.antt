@@ -2,11 +2,11 @@
 use Rattle.std.proofs.Common.{◌≡◌, refl, sym, ◌∙◌, ap, subst, ℕ, ◌==◌, ◌&&◌, not, nat_lt, Bool, true, false, Option, None, Some}
 use Rattle.std.specs.Prelude.{if◌then◌else◌, is_none, is_some}
 use Rattle.scsw_irb.specs.declared.status.DeviceStatus.{DeviceStatus}
-use Rattle.chan_events.specs.declared.event.Event.{Event}
+use Rattle.chan_events.specs.Events.{Event}
 use Rattle.chan_events.specs.declared.event.Event.TheVariants as event
 use Rattle.chan_events.specs.declared.event.Instruction.{Instruction}
 use Rattle.chan_events.specs.declared.event.Instruction.TheVariants as instruction
-use Rattle.chan_events.specs.declared.reply.Reply.{Reply}
+use Rattle.chan_events.specs.Replies.{Reply}
 use Rattle.chan_events.specs.declared.reply.Reply.TheVariants as reply
 use Rattle.chan_model.specs.declared.answer.ConditionCode.{ConditionCode}
 use Rattle.chan_model.specs.declared.answer.ConditionCode.TheVariants as code
@@ -254,9 +254,9 @@ met-behind returns storage s p (up.Accept t) behind k j = accept-behind storage 
 met-behind returns storage s p (up.Busy t) behind k j = j
 met-behind returns storage s p (up.Leave t c) behind k j = j
 met-behind returns storage s p (up.Back t c) behind k j = j
-met-behind returns storage s p (up.Data t c n seq load) behind k j =
+met-behind returns storage s p (up.Data load t c n seq) behind k j =
     let signal : DataSignal = record { path = p; number = t; connection = c; command = n; sequence = seq } in
-    kept behind s (takes_up returns storage s p (up.Data t c n seq load)).step.state
+    kept behind s (takes_up returns storage s p (up.Data load t c n seq)).step.state
     (if-met s (is_connected s.hold.phase p t c) (move_data storage s s.begun signal load) (meets storage (ignoring s)) (move-keeps s storage s.begun signal load refl) (same s)) j
 met-behind returns storage s p (up.End t n status more) behind k j =
     let signal : EndSignal = record { path = p; number = t; command = n; status = status; more = more } in
@@ -406,7 +406,7 @@ met-begun returns storage sub path word (up.Accept t) i = absurd i
 met-begun returns storage sub path word (up.Busy t) i = absurd i
 met-begun returns storage sub path word (up.Leave t c) i = absurd i
 met-begun returns storage sub path word (up.Back t c) i = absurd i
-met-begun returns storage sub path word (up.Data t c n q load) i = absurd i
+met-begun returns storage sub path word (up.Data load t c n q) i = absurd i
 met-begun returns storage sub path word (up.Released t) i = absurd i
 met-begun returns storage sub path word (up.Cleared r) i = absurd i
 met-begun returns storage sub path word (up.Notice b) i = absurd i

@@ -317,7 +317,7 @@ takes-brought returns storage s p (up.Accept t) = accept-brought storage s s.hol
 takes-brought returns storage s p (up.Busy t) = inl refl
 takes-brought returns storage s p (up.Leave t c) = inl refl
 takes-brought returns storage s p (up.Back t c) = inl refl
-takes-brought returns storage s p (up.Data t c n q load) =
+takes-brought returns storage s p (up.Data load t c n q) =
     let signal : DataSignal = record { path = p; number = t; connection = c; command = n; sequence = q } in
     if-met (λ sent y. Brings s.scsw y 0 0x80) s (is_connected s.hold.phase p t c) (move_data storage s s.begun signal load) (meets storage (ignoring s)) (data-brought storage s s.begun signal load) (inl refl)
 takes-brought returns storage s p (up.End t n status more) =

@@ -1,10 +1,10 @@
 -- Each choice has its reason, and leaves what it may.
 use Rattle.std.proofs.Common.{◌&&◌, ◌≡◌, refl, sym, ◌∙◌, ap, ℕ, ◌||◌, not, Bool, true, false, Option, None, Some, List, inl, inr}
 use Rattle.std.specs.Prelude.{is_some}
-use Rattle.chan_events.specs.declared.event.Event.{Event}
+use Rattle.chan_events.specs.Events.{Event}
 use Rattle.chan_events.specs.declared.event.Event.TheVariants as event
 use Rattle.chan_events.specs.declared.reply.Entry.{Entry}
-use Rattle.chan_events.specs.declared.reply.Reply.{Reply}
+use Rattle.chan_events.specs.Replies.{Reply}
 use Rattle.channel_config.specs.declared.names.SubchannelId.{SubchannelId}
 use Rattle.channel_config.specs.Setup.{Setup, set_count}
 use Rattle.machine_model.specs.declared.state.Sweep.TheVariants as sweep

@@ -290,7 +290,7 @@ takes-coded returns storage s p (up.Accept t) fits stands = accept-stays storage
 takes-coded returns storage s p (up.Busy t) fits stands = inl (refl, refl)
 takes-coded returns storage s p (up.Leave t c) fits stands = inl (refl, refl)
 takes-coded returns storage s p (up.Back t c) fits stands = inl (refl, refl)
-takes-coded returns storage s p (up.Data t c n q load) fits stands =
+takes-coded returns storage s p (up.Data load t c n q) fits stands =
     let signal : DataSignal = record { path = p; number = t; connection = c; command = n; sequence = q } in
     if-met (λ d. d ≡ s.scsw.deferred) s (is_connected s.hold.phase p t c) (move_data storage s s.begun signal load) (meets storage (ignoring s)) (data-stays storage s s.begun signal load) (inl (refl, refl))
 takes-coded returns storage s p (up.End t n status more) fits stands =

@@ -1,10 +1,10 @@
 -- A program that was begun holds the device: the hold is connected or away.
 use Rattle.std.proofs.Common.{◌≡◌, refl, sym, ◌∙◌, ap, subst, ℕ, ◌==◌, ◌&&◌, ◌||◌, not, nat_lt, Bool, true, false, Option, None, Some}
 use Rattle.std.specs.Prelude.{if◌then◌else◌, is_some}
-use Rattle.chan_events.specs.declared.event.Event.{Event}
+use Rattle.chan_events.specs.Events.{Event}
 use Rattle.chan_events.specs.declared.event.Instruction.{Instruction}
 use Rattle.chan_events.specs.declared.event.Instruction.TheVariants as instruction
-use Rattle.chan_events.specs.declared.reply.Reply.{Reply}
+use Rattle.chan_events.specs.Replies.{Reply}
 use Rattle.chan_model.specs.declared.answer.ConditionCode.{ConditionCode}
 use Rattle.chan_model.specs.declared.answer.ConditionCode.TheVariants as code
 use Rattle.chan_model.specs.declared.hold_state.HoldPhase.{HoldPhase}
@@ -341,7 +341,7 @@ takes-held returns storage s p (up.Accept t) h = accept-held returns storage s s
 takes-held returns storage s p (up.Busy t) h = busy-held s s.hold s.hold.phase p t h
 takes-held returns storage s p (up.Leave t c) h = leave-held s s.hold s.hold.phase p t c h
 takes-held returns storage s p (up.Back t c) h = back-held s s.hold s.hold.phase p t c returns h
-takes-held returns storage s p (up.Data t c n seq load) h =
+takes-held returns storage s p (up.Data load t c n seq) h =
     let signal : DataSignal = record { path = p; number = t; connection = c; command = n; sequence = seq } in
     if-met (is_connected s.hold.phase p t c) (move_data storage s s.begun signal load) (meets storage (ignoring s)) (move-held storage s s.begun signal load refl h) h
 takes-held returns storage s p (up.End t n status more) h =

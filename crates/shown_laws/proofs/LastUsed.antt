@@ -1,12 +1,12 @@
 -- The last-path-used mask that is shown is of the path that the entries tell.
 use Rattle.std.proofs.Common.{◌≡◌, refl, sym, ◌∙◌, ap, subst, ℕ, ◌&&◌, Bool, true, false, Option, None, Some, List, [], ◌∷◌, ◌++◌}
 use Rattle.std.specs.Prelude.{slice_get, if◌then◌else◌}
-use Rattle.chan_events.specs.declared.event.Event.{Event}
+use Rattle.chan_events.specs.Events.{Event}
 use Rattle.chan_events.specs.declared.event.Event.TheVariants as event
 use Rattle.chan_events.specs.declared.event.Instruction.{Instruction}
 use Rattle.chan_events.specs.declared.event.Instruction.TheVariants as instruction
 use Rattle.chan_events.specs.declared.reply.Entry.{Entry}
-use Rattle.chan_events.specs.declared.reply.Reply.{Reply}
+use Rattle.chan_events.specs.Replies.{Reply}
 use Rattle.chan_events.specs.declared.reply.Reply.TheVariants as reply
 use Rattle.chan_model.specs.declared.answer.ConditionCode.{ConditionCode}
 use Rattle.chan_model.specs.declared.answer.ConditionCode.TheVariants as code

@@ -3,10 +3,10 @@ use Rattle.std.proofs.Common.{◌≡◌, refl, sym, ap, subst, arith, ℕ, ◌+�
 use Rattle.std.specs.Prelude.{if◌then◌else◌}
 use Rattle.scsw_irb.specs.declared.serials.Serials.{Serials}
 use Rattle.storage_keys.specs.Storage.{Contents}
-use Rattle.chan_events.specs.declared.event.Event.{Event}
+use Rattle.chan_events.specs.Events.{Event}
 use Rattle.chan_events.specs.declared.event.Event.TheVariants as event
 use Rattle.chan_events.specs.declared.reply.Entry.{Entry}
-use Rattle.chan_events.specs.declared.reply.Reply.{Reply}
+use Rattle.chan_events.specs.Replies.{Reply}
 use Rattle.chan_events.specs.declared.reply.Reply.TheVariants as reply
 use Rattle.chan_model.specs.Signals.{Up}
 use Rattle.chan_model.specs.declared.signal.Up.TheVariants as up
@@ -72,7 +72,7 @@ met-shown word path returns storage sub (up.Accept t) known may = tt
 met-shown word path returns storage sub (up.Busy t) known may = tt
 met-shown word path returns storage sub (up.Leave t c) known may = tt
 met-shown word path returns storage sub (up.Back t c) known may = tt
-met-shown word path returns storage sub (up.Data t c n q load) known may = tt
+met-shown word path returns storage sub (up.Data load t c n q) known may = tt
 met-shown word path returns storage sub (up.End t n status more) known may = tt
 met-shown word path returns storage sub (up.Released t) known may = tt
 met-shown word path returns storage sub (up.Cleared r) known may = tt
@@ -109,7 +109,7 @@ up-rests (reply.Up (up.Accept t) taken sent) word path k known = tt
 up-rests (reply.Up (up.Busy t) taken sent) word path k known = tt
 up-rests (reply.Up (up.Leave t c) taken sent) word path k known = tt
 up-rests (reply.Up (up.Back t c) taken sent) word path k known = tt
-up-rests (reply.Up (up.Data t c n q load) taken sent) word path k known = tt
+up-rests (reply.Up (up.Data load t c n q) taken sent) word path k known = tt
 up-rests (reply.Up (up.End t n status more) taken sent) word path k known = tt
 up-rests (reply.Up (up.Released t) taken sent) word path k known = tt
 up-rests (reply.Up (up.Cleared r) taken sent) word path k known = tt

@@ -5,11 +5,11 @@ use Rattle.std.specs.List.{filter, list_any}
 use Rattle.std.proofs.lemmas.Bool.{eqb-true, eq-eqb, and_parts, le-ltb}
 use Rattle.storage_keys.specs.declared.StorageFault.{StorageFault}
 use Rattle.scsw_irb.specs.declared.code.IntCode.{IntCode}
-use Rattle.chan_events.specs.declared.event.Event.{Event}
+use Rattle.chan_events.specs.Events.{Event}
 use Rattle.chan_events.specs.declared.event.Event.TheVariants as event
 use Rattle.chan_events.specs.declared.event.OtherInstruction.TheVariants as other
 use Rattle.chan_events.specs.declared.reply.Entry.{Entry}
-use Rattle.chan_events.specs.declared.reply.Reply.{Reply}
+use Rattle.chan_events.specs.Replies.{Reply}
 use Rattle.chan_events.specs.declared.reply.Reply.TheVariants as reply
 use Rattle.channel_config.specs.Setup.{Setup}
 use Rattle.interruptions.specs.Requests.{WaitingRequests, is_of, is_enabled, lowest, answer, posted, request_dropped}

@@ -5,12 +5,12 @@ use Rattle.scsw_irb.specs.declared.scsw.ActivityControl.{ActivityControl}
 use Rattle.scsw_irb.specs.declared.scsw.Scsw.{Scsw}
 use Rattle.scsw_irb.specs.declared.scsw.StatusControl.{StatusControl}
 use Rattle.scsw_irb.specs.Empty.{no_activity}
-use Rattle.chan_events.specs.declared.event.Event.{Event}
+use Rattle.chan_events.specs.Events.{Event}
 use Rattle.chan_events.specs.declared.event.Event.TheVariants as event
 use Rattle.chan_events.specs.declared.event.Instruction.{Instruction}
 use Rattle.chan_events.specs.declared.event.Instruction.TheVariants as instruction
 use Rattle.chan_events.specs.declared.reply.Entry.{Entry}
-use Rattle.chan_events.specs.declared.reply.Reply.{Reply}
+use Rattle.chan_events.specs.Replies.{Reply}
 use Rattle.chan_events.specs.declared.reply.Reply.TheVariants as reply
 use Rattle.chan_model.specs.declared.answer.ConditionCode.{ConditionCode}
 use Rattle.chan_model.specs.declared.answer.ConditionCode.TheVariants as code
@@ -183,7 +183,7 @@ due-up k (up.Accept t) sent n new one works d = (one, λ rel. d (to-released sen
 due-up k (up.Busy t) sent n new one works d = d
 due-up k (up.Leave t c) sent n new one works d = d
 due-up k (up.Back t c) sent n new one works d = d
-due-up k (up.Data t c m s load) sent n new one works d = one
+due-up k (up.Data load t c m s) sent n new one works d = one
 due-up k (up.End t m status more) sent n new one works d = (one, λ rel. d (to-released sent rel))
 due-up k (up.Released t) sent n new one works d = d
 due-up k (up.Cleared r) sent n new one works d = d
@@ -223,7 +223,7 @@ attended-up k (up.Accept t) sent n suspended word path taken d = tt
 attended-up k (up.Busy t) sent n suspended word path taken d = tt
 attended-up k (up.Leave t c) sent n suspended word path taken d = tt
 attended-up k (up.Back t c) sent n suspended word path taken d = tt
-attended-up k (up.Data t c m s load) sent n suspended word path taken d = tt
+attended-up k (up.Data load t c m s) sent n suspended word path taken d = tt
 attended-up k (up.End t m status more) sent n suspended word path taken d = tt
 attended-up k (up.Released t) sent n suspended word path taken d = tt
 attended-up k (up.Cleared r) sent n suspended word path taken d = tt
@@ -237,7 +237,7 @@ ignored-attended old (up.Accept t) word path taken sent e = tt
 ignored-attended old (up.Busy t) word path taken sent e = tt
 ignored-attended old (up.Leave t c) word path taken sent e = tt
 ignored-attended old (up.Back t c) word path taken sent e = tt
-ignored-attended old (up.Data t c m s load) word path taken sent e = tt
+ignored-attended old (up.Data load t c m s) word path taken sent e = tt
 ignored-attended old (up.End t m status more) word path taken sent e = tt
 ignored-attended old (up.Released t) word path taken sent e = tt
 ignored-attended old (up.Cleared r) word path taken sent e = tt

@@ -3,12 +3,12 @@ use Rattle.std.proofs.Common.{◌≡◌, refl, sym, ◌∙◌, ap, subst, ℕ, s
 use Rattle.std.specs.Prelude.{slice_get, slice_set, if◌then◌else◌}
 use Rattle.std.proofs.lemmas.Option.{same_Some}
 use Rattle.std.proofs.lemmas.List.{append_assoc, append-nil}
-use Rattle.chan_events.specs.declared.event.Event.{Event}
+use Rattle.chan_events.specs.Events.{Event}
 use Rattle.chan_events.specs.declared.event.Event.TheVariants as event
 use Rattle.chan_events.specs.declared.event.Instruction.{Instruction}
 use Rattle.chan_events.specs.declared.event.Instruction.TheVariants as instruction
 use Rattle.chan_events.specs.declared.reply.Entry.{Entry}
-use Rattle.chan_events.specs.declared.reply.Reply.{Reply}
+use Rattle.chan_events.specs.Replies.{Reply}
 use Rattle.channel_config.specs.declared.names.SubchannelId.{SubchannelId}
 use Rattle.channel_config.specs.declared.parts.SubchannelSetup.{SubchannelSetup}
 use Rattle.channel_config.specs.Setup.{Setup, set_count}

@@ -48,7 +48,7 @@ IsReleased (Some sent) = is_release sent.signal ≡ true
 -- how many statuses are made, by the signal and its answer; suspended: the program is suspended then
 abbrev pub Due : Seen → Up → Option (OnPath Down) → ℕ → Bool → Type 0
 Due k (up.Accept t) sent n suspended = IsReleased sent → k.scsw.activity.halt_pending ≡ true → n ≡ 1
-Due k (up.Data t c m s load) sent n suspended = Unit {0}
+Due k (up.Data load t c m s) sent n suspended = Unit {0}
 Due k (up.End t m status more) sent n suspended = IsReleased sent → suspended ≡ false → n ≡ 1
 Due k (up.Cleared r) sent n suspended = n ≡ (if k.scsw.activity.clear_pending then 1 else 0)
 Due k (up.Notice b) sent n suspended = n ≡ 1 → has_any k.waiting k.begun k.suspended ≡ true
@@ -189,16 +189,16 @@ module _ (storage : Contents) where
       by (Went n effect) = Taken n refl effect (due n _)
 
   move-comes : (H : Type 0) (s : SubchannelState) (u c m k : ℕ) (o : Option ActiveProgram) (signal : DataSignal) (load : Load) → s.begun ≡ o →
-      Comes H (seen s) (up.Data u c m k load) (move_data storage s o signal load).step
+      Comes H (seen s) (up.Data load u c m k) (move_data storage s o signal load).step
   move-comes H s u c m k None signal load e = Ignored refl refl
   move-comes H s u c m k (Some b) signal load e =
-      if-met H (seen s) (up.Data u c m k load) (is_answered b.transfer signal.command signal.sequence) (move_bytes storage s b signal load) (meets storage (ignoring s))
-      (if-met H (seen s) (up.Data u c m k load) (is_outward b.transfer.code)
+      if-met H (seen s) (up.Data load u c m k) (is_answered b.transfer signal.command signal.sequence) (move_bytes storage s b signal load) (meets storage (ignoring s))
+      (if-met H (seen s) (up.Data load u c m k) (is_outward b.transfer.code)
       (meets storage (giving s b signal (next_given storage (taken_by_device storage b.transfer signal.sequence (load_length load)))))
       (take_in s b signal (brought storage b.transfer signal.sequence (load_bytes load)))
-      (giving-comes H s (up.Data u c m k load) b signal (next_given storage (taken_by_device storage b.transfer signal.sequence (load_length load))).transfer _ e
+      (giving-comes H s (up.Data load u c m k) b signal (next_given storage (taken_by_device storage b.transfer signal.sequence (load_length load))).transfer _ e
       (λ u. sym (giving-same storage b.transfer signal.sequence (load_length load)) ∙ u) (λ n y. tt))
-      (giving-comes H s (up.Data u c m k load) b signal
+      (giving-comes H s (up.Data load u c m k) b signal
       (with_room (brought storage b.transfer signal.sequence (load_bytes load)).storage (brought storage b.transfer signal.sequence (load_bytes load)).transfer).transfer _ e
       (λ u. sym (taking-same storage b.transfer signal.sequence (load_bytes load)) ∙ u) (λ n y. tt)))
       (Ignored refl refl)
@@ -331,9 +331,9 @@ takes-comes returns storage s p (up.Accept t) = accept-comes storage (Held s) re
 takes-comes returns storage s p (up.Busy t) = held-comes (Held s) s (up.Busy t) (hold_takes s.hold p (up.Busy t) false) (λ sent y. refl)
 takes-comes returns storage s p (up.Leave t c) = held-comes (Held s) s (up.Leave t c) (hold_takes s.hold p (up.Leave t c) false) (λ sent y. refl)
 takes-comes returns storage s p (up.Back t c) = back-comes (Held s) s t c p (hold_takes s.hold p (up.Back t c) returns)
-takes-comes returns storage s p (up.Data t c n seq load) =
+takes-comes returns storage s p (up.Data load t c n seq) =
     let signal : DataSignal = record { path = p; number = t; connection = c; command = n; sequence = seq } in
-    if-met (Held s) (seen s) (up.Data t c n seq load) (is_connected s.hold.phase p t c) (move_data storage s s.begun signal load) (meets storage (ignoring s))
+    if-met (Held s) (seen s) (up.Data load t c n seq) (is_connected s.hold.phase p t c) (move_data storage s s.begun signal load) (meets storage (ignoring s))
     (move-comes storage (Held s) s t c n seq s.begun signal load refl) (Ignored refl refl)
 takes-comes returns storage s p (up.End t n status more) =
     let signal : EndSignal = record { path = p; number = t; command = n; status = status; more = more } in

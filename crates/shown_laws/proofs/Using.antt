@@ -200,15 +200,15 @@ back-uses s h (hold.Reset r) p t c may = refl
 
 -- Data
 data-uses : (storage : Contents) (s : SubchannelState) (b : Option ActiveProgram) (p t c n q : ℕ) (load : Load) →
-    Uses (up.Data t c n q load) s (move_data storage s b (record { path = p; number = t; connection = c; command = n; sequence = q }) load).step
+    Uses (up.Data load t c n q) s (move_data storage s b (record { path = p; number = t; connection = c; command = n; sequence = q }) load).step
 data-uses storage s None p t c n q load = refl
 data-uses storage s (Some b) p t c n q load =
     let signal : DataSignal = record { path = p; number = t; connection = c; command = n; sequence = q } in
     let given = next_given storage (taken_by_device storage b.transfer q (load_length load)) in
     let x = brought storage b.transfer q (load_bytes load) in
     let room = with_room x.storage x.transfer in
-    if-met (up.Data t c n q load) s (is_answered b.transfer n q) (move_bytes storage s b signal load) (meets storage (ignoring s))
-    (if-met (up.Data t c n q load) s (is_outward b.transfer.code) (meets storage (giving s b signal given)) (take_in s b signal x)
+    if-met (up.Data load t c n q) s (is_answered b.transfer n q) (move_bytes storage s b signal load) (meets storage (ignoring s))
+    (if-met (up.Data load t c n q) s (is_outward b.transfer.code) (meets storage (giving s b signal given)) (take_in s b signal x)
     (interrupted-same (with_transfer s b given.transfer) (with_transfer s b given.transfer).begun)
     (interrupted-same (with_transfer s b room.transfer) (with_transfer s b room.transfer).begun))
     refl
@@ -257,9 +257,9 @@ takes-uses returns storage s p (up.Accept t) =
 takes-uses returns storage s p (up.Busy t) = refl
 takes-uses returns storage s p (up.Leave t c) = refl
 takes-uses returns storage s p (up.Back t c) = back-uses s s.hold s.hold.phase p t c returns
-takes-uses returns storage s p (up.Data t c n q load) =
+takes-uses returns storage s p (up.Data load t c n q) =
     let signal : DataSignal = record { path = p; number = t; connection = c; command = n; sequence = q } in
-    if-met (up.Data t c n q load) s (is_connected s.hold.phase p t c) (move_data storage s s.begun signal load) (meets storage (ignoring s)) (data-uses storage s s.begun p t c n q load) refl
+    if-met (up.Data load t c n q) s (is_connected s.hold.phase p t c) (move_data storage s s.begun signal load) (meets storage (ignoring s)) (data-uses storage s s.begun p t c n q load) refl
 takes-uses returns storage s p (up.End t n status more) =
     let x : EndSignal = record { path = p; number = t; command = n; status = status; more = more } in
     if-uses (end_up x) s (is_on s.hold.phase t) (end_of storage s s.begun x) (ignoring s) (end-uses storage s s.begun x) refl

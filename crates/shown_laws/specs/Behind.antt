@@ -1,10 +1,10 @@
 -- Whether a start waits behind the program at work, by the entries: of the START and CANCEL SUBCHANNEL instructions that were answered with
 -- condition code 0 since the Accept that began this program the last is a START (SA22-7832, chapter 14).
 use Rattle.std.specs.Prelude.{Bool, true, false, if◌then◌else◌}
-use Rattle.chan_events.specs.declared.event.Event.{Event}
+use Rattle.chan_events.specs.Events.{Event}
 use Rattle.chan_events.specs.declared.event.Event.TheVariants as event
 use Rattle.chan_events.specs.declared.event.Instruction.TheVariants as instruction
-use Rattle.chan_events.specs.declared.reply.Reply.{Reply}
+use Rattle.chan_events.specs.Replies.{Reply}
 use Rattle.chan_events.specs.declared.reply.Reply.TheVariants as reply
 use Rattle.chan_model.specs.declared.signal.Up.TheVariants as up
 use Rattle.shown_laws.specs.Shown.{is_accepted}

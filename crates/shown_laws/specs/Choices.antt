@@ -2,10 +2,10 @@
 -- what it chooses first is this project's own choice).
 use Rattle.std.specs.Prelude.{◌≡◌, ℕ, ◌&&◌, ◌||◌, not, Bool, true, false, List}
 use Rattle.scsw_irb.specs.declared.scsw.Scsw.{Scsw}
-use Rattle.chan_events.specs.declared.event.Event.{Event}
+use Rattle.chan_events.specs.Events.{Event}
 use Rattle.chan_events.specs.declared.event.Event.TheVariants as event
 use Rattle.chan_events.specs.declared.reply.Entry.{Entry}
-use Rattle.chan_events.specs.declared.reply.Reply.{Reply}
+use Rattle.chan_events.specs.Replies.{Reply}
 use Rattle.chan_events.specs.declared.reply.Reply.TheVariants as reply
 use Rattle.channel_config.specs.declared.names.SubchannelId.{SubchannelId}
 use Rattle.shown_laws.specs.Functions.{activity_chosen}

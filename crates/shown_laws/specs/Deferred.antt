@@ -6,12 +6,12 @@ use Rattle.scsw_irb.specs.declared.scsw.ActivityControl.{ActivityControl}
 use Rattle.scsw_irb.specs.declared.scsw.DeferredCode.{DeferredCode}
 use Rattle.scsw_irb.specs.declared.scsw.DeferredCode.TheVariants as deferred
 use Rattle.scsw_irb.specs.declared.scsw.Scsw.{Scsw}
-use Rattle.chan_events.specs.declared.event.Event.{Event}
+use Rattle.chan_events.specs.Events.{Event}
 use Rattle.chan_events.specs.declared.event.Event.TheVariants as event
 use Rattle.chan_events.specs.declared.event.Instruction.{Instruction}
 use Rattle.chan_events.specs.declared.event.Instruction.TheVariants as instruction
 use Rattle.chan_events.specs.declared.reply.Entry.{Entry}
-use Rattle.chan_events.specs.declared.reply.Reply.{Reply}
+use Rattle.chan_events.specs.Replies.{Reply}
 use Rattle.chan_events.specs.declared.reply.Reply.TheVariants as reply
 use Rattle.chan_model.specs.Signals.{Up}
 use Rattle.chan_model.specs.declared.signal.Up.TheVariants as up

@@ -1,10 +1,10 @@
 -- Nothing is lost in silence: a path that is lost, or a Notice of restarts, that makes no status of a subchannel that is known to be enabled
 -- leaves what STORE SUBCHANNEL shows of it (SA22-7832, chapter 16, interface-control check).
 use Rattle.std.specs.Prelude.{◌≡◌, ℕ, Bool, true, Option, Some, List}
-use Rattle.chan_events.specs.declared.event.Event.{Event}
+use Rattle.chan_events.specs.Events.{Event}
 use Rattle.chan_events.specs.declared.event.Event.TheVariants as event
 use Rattle.chan_events.specs.declared.reply.Entry.{Entry}
-use Rattle.chan_events.specs.declared.reply.Reply.{Reply}
+use Rattle.chan_events.specs.Replies.{Reply}
 use Rattle.chan_events.specs.declared.reply.Reply.TheVariants as reply
 use Rattle.chan_model.specs.declared.signal.Up.TheVariants as up
 use Rattle.channel_config.specs.declared.names.SubchannelId.{SubchannelId}

@@ -5,12 +5,12 @@ use Rattle.scsw_irb.specs.declared.scsw.Scsw.{Scsw}
 use Rattle.scsw_irb.specs.declared.status.DeviceStatus.{DeviceStatus}
 use Rattle.scsw_irb.specs.declared.status.SubchannelStatus.{SubchannelStatus}
 use Rattle.scsw_irb.specs.Empty.{no_activity}
-use Rattle.chan_events.specs.declared.event.Event.{Event}
+use Rattle.chan_events.specs.Events.{Event}
 use Rattle.chan_events.specs.declared.event.Event.TheVariants as event
 use Rattle.chan_events.specs.declared.event.Instruction.{Instruction}
 use Rattle.chan_events.specs.declared.event.Instruction.TheVariants as instruction
 use Rattle.chan_events.specs.declared.reply.Entry.{Entry}
-use Rattle.chan_events.specs.declared.reply.Reply.{Reply}
+use Rattle.chan_events.specs.Replies.{Reply}
 use Rattle.chan_events.specs.declared.reply.Reply.TheVariants as reply
 use Rattle.chan_model.specs.Signals.{Down}
 use Rattle.chan_model.specs.declared.signal.OnPath.{OnPath}
@@ -56,7 +56,7 @@ IsDueUp old (up.Attn a status) sent new n = n ≡ (if status.0 == 0x20 then 0 el
 IsDueUp old (up.Cleared r) sent new n = n ≡ (if old.scsw.activity.clear_pending then 1 else 0)
 IsDueUp old (up.Accept t) sent new n = (n ≤ 1) × (is_released sent ≡ true → old.scsw.activity.halt_pending ≡ true → n ≡ 1)
 IsDueUp old (up.End t m status more) sent new n = (n ≤ 1) × (is_released sent ≡ true → new.scsw.activity.suspended ≡ false → n ≡ 1)
-IsDueUp old (up.Data t c m s load) sent new n = n ≤ 1
+IsDueUp old (up.Data load t c m s) sent new n = n ≤ 1
 IsDueUp old (up.Notice b) sent new n = (n ≤ 1) × (n ≡ 1 → IsAtWork old.scsw)
 IsDueUp old signal sent new n = n ≡ 0
 

@@ -1,10 +1,10 @@
 -- The device status and the subchannel status that STORE SUBCHANNEL shows after an entry that makes a status (SA22-7832, chapter 16): what the
 -- entry brings joins what was pending (own).
 use Rattle.std.specs.Prelude.{◌≡◌, ◌⊎◌, ◌<◌, ℕ, Bool, true, false, if◌then◌else◌, Option, None, Some, List, bit_or}
-use Rattle.chan_events.specs.declared.event.Event.{Event}
+use Rattle.chan_events.specs.Events.{Event}
 use Rattle.chan_events.specs.declared.event.Event.TheVariants as event
 use Rattle.chan_events.specs.declared.reply.Entry.{Entry}
-use Rattle.chan_events.specs.declared.reply.Reply.{Reply}
+use Rattle.chan_events.specs.Replies.{Reply}
 use Rattle.chan_events.specs.declared.reply.Reply.TheVariants as reply
 use Rattle.chan_model.specs.Signals.{Down}
 use Rattle.chan_model.specs.declared.signal.Down.TheVariants as down
@@ -52,7 +52,7 @@ BringsAnswered false old new P = P
 abbrev pub IsSignalBrought : Up → Option (OnPath Down) → Scsw → Scsw → Type 0
 IsSignalBrought (up.Attn a status) sent old new = Brings old new 0x80 0
 IsSignalBrought (up.Accept t) sent old new = BringsAnswered (is_command sent) old new (BringsStop old new)
-IsSignalBrought (up.Data t c n s load) sent old new = Brings old new 0 0x80
+IsSignalBrought (up.Data load t c n s) sent old new = Brings old new 0 0x80
 IsSignalBrought (up.End t n status more) sent old new = BringsAnswered (is_command sent) old new (BringsEnd old status.0 new ⊎ BringsChain old new)
 IsSignalBrought (up.Cleared r) sent old new = (new.device_status.0 ≡ 0) × (new.subchannel_status.0 ≡ 0)
 IsSignalBrought (up.Notice b) sent old new = Brings old new 0 0x02

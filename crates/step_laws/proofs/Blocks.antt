@@ -8,19 +8,19 @@ use Rattle.storage_keys.specs.declared.StorageFault.{StorageFault}
 use Rattle.storage_keys.specs.declared.StorageFault.TheVariants.{Addressing, Specification}
 use Rattle.storage_keys.specs.Storage as keys
 use Rattle.storage_keys.specs.Storage.{Contents, put, put_at, key_set, prefix_set, is_inside, access_check, key_permits_store, where_permitted, operand_at, operand_check}
-use Rattle.chan_events.specs.declared.event.Event.{Event}
+use Rattle.chan_events.specs.Events.{Event}
 use Rattle.chan_events.specs.declared.event.Event.TheVariants as event
 use Rattle.chan_events.specs.declared.event.Instruction.{Instruction}
 use Rattle.chan_events.specs.declared.event.Instruction.TheVariants as instruction
 use Rattle.chan_events.specs.declared.event.OtherInstruction.{OtherInstruction}
 use Rattle.chan_events.specs.declared.event.OtherInstruction.TheVariants as other
 use Rattle.chan_events.specs.declared.event.UnitAct.{UnitAct}
-use Rattle.chan_events.specs.declared.reply.Reply.{Reply}
+use Rattle.chan_events.specs.Replies.{Reply}
 use Rattle.chan_model.specs.declared.answer.ConditionCode.{ConditionCode}
 use Rattle.chan_model.specs.declared.answer.ConditionCode.TheVariants as code
 use Rattle.chan_model.specs.declared.fault.Fault.{Fault}
 use Rattle.chan_model.specs.declared.fault.Fault.TheVariants as fault
-use Rattle.chan_model.specs.declared.report.Report.{Report}
+use Rattle.chan_model.specs.Reports.{Report}
 use Rattle.chan_model.specs.Signals.{Load}
 use Rattle.chan_model.specs.Signals.{Up}
 use Rattle.chan_model.specs.declared.signal.Up.TheVariants as up
@@ -156,7 +156,7 @@ met-of n returns storage s p (up.Accept t) k = k
 met-of n returns storage s p (up.Busy t) k = k
 met-of n returns storage s p (up.Leave t c) k = k
 met-of n returns storage s p (up.Back t c) k = k
-met-of n returns storage s p (up.Data t c m seq load) k =
+met-of n returns storage s p (up.Data load t c m seq) k =
     either (MeetsOf n) (is_connected s.hold.phase p t c) _ (meets storage (ignoring s)) (data-of n storage s s.begun _ load k) k
 met-of n returns storage s p (up.End t m status more) k = k
 met-of n returns storage s p (up.Released t) k = k

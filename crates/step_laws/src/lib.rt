@@ -2,8 +2,8 @@
 #![tactic(auto)]
 
 ghost use Rattle.std.specs.Prelude.{◌≡◌, length, map};
-ghost use Rattle.chan_events.specs.declared.event.Event.{Event};
-ghost use Rattle.chan_events.specs.declared.reply.Reply.{Reply};
+ghost use Rattle.chan_events.specs.Events.{Event};
+ghost use Rattle.chan_events.specs.Replies.{Reply};
 ghost use Rattle.machine_model.specs.Setups.{group_of};
 ghost use Rattle.machine_model.specs.State.{State};
 ghost use Rattle.machine_model.specs.Steps.{Step};

@@ -13,7 +13,7 @@ use Rattle.chan_model.specs.Loads.{load_length}
 use Rattle.chan_model.specs.UnitReports.{is_last_end, is_outward, has_device_end}
 use Rattle.channel_program.specs.Walks.{WalkPlace}
 use Rattle.data_move.specs.Moving.{residual}
-use Rattle.signal_places.specs.Places.{sent_path}
+use Rattle.working.specs.Sent.{sent_path}
 use Rattle.transfer.specs.declared.Beginning.{Beginning}
 use Rattle.transfer.specs.declared.CommandStart.{CommandStart}
 use Rattle.transfer.specs.declared.CommandStart.TheVariants as came
@@ -210,7 +210,7 @@ answer_goes returns storage s p (up.Accept t) = accept-goes storage s s.hold.pha
 answer_goes returns storage s p (up.Busy t) = busy-goes s.hold s.hold.phase p t
 answer_goes returns storage s p (up.Leave t c) = left-goes s.hold s.hold.phase p t c
 answer_goes returns storage s p (up.Back t c) = back-goes s.hold s.hold.phase p t c returns
-answer_goes returns storage s p (up.Data t c n seq load) =
+answer_goes returns storage s p (up.Data load t c n seq) =
     let signal : DataSignal = record { path = p; number = t; connection = c; command = n; sequence = seq } in
     if-met (is_connected s.hold.phase p t c) s.hold.phase p (move_data storage s s.begun signal load) (meets storage (ignoring s)) (moved-goes storage s s.begun signal load) tt
 answer_goes returns storage s p (up.End t n status more) =

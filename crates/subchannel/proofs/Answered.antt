@@ -6,7 +6,7 @@ use Rattle.chan_model.specs.Signals.{Load}
 use Rattle.chan_model.specs.Signals.{Up}
 use Rattle.chan_model.specs.declared.signal.Up.TheVariants as up
 use Rattle.chan_model.specs.UnitReports.{is_outward}
-use Rattle.signal_places.specs.Places.{sent_path}
+use Rattle.working.specs.Sent.{sent_path}
 use Rattle.transfer.specs.Chunks.{is_answered}
 use Rattle.subchannel_model.specs.declared.signals.DataSignal.{DataSignal}
 use Rattle.subchannel_model.specs.declared.state.ActiveProgram.{ActiveProgram}
@@ -55,7 +55,7 @@ data_answers returns storage s p (up.Accept t) is = absurd (cc is)
 data_answers returns storage s p (up.Busy t) is = absurd (cc is)
 data_answers returns storage s p (up.Leave t c) is = absurd (cc is)
 data_answers returns storage s p (up.Back t c) is = absurd (cc is)
-data_answers returns storage s p (up.Data t c n seq load) is = signal-path storage s load (record { path = p; number = t; connection = c; command = n; sequence = seq })
+data_answers returns storage s p (up.Data load t c n seq) is = signal-path storage s load (record { path = p; number = t; connection = c; command = n; sequence = seq })
 data_answers returns storage s p (up.End t n status more) is = absurd (cc is)
 data_answers returns storage s p (up.Released t) is = absurd (cc is)
 data_answers returns storage s p (up.Cleared r) is = absurd (cc is)

@@ -4,7 +4,7 @@ use Rattle.chan_model.specs.Signals.{Down}
 use Rattle.chan_model.specs.declared.signal.OnPath.{OnPath}
 use Rattle.chan_model.specs.declared.signal.Taken.{Taken}
 use Rattle.chan_model.specs.HoldTable.{HoldStep, hold_after, came_of}
-use Rattle.signal_places.specs.Places.{came_so}
+use Rattle.working.specs.Sent.{came_so}
 use Rattle.subchannel_model.specs.declared.state.SubchannelState.{SubchannelState}
 use Rattle.subchannel_model.specs.declared.state.UpStep.{UpStep}
 use Rattle.subchannel_model.specs.Taking.{back, by_hold, is_granted, returned}

@@ -18,5 +18,5 @@ IsAnswerPath phase p (Some q) = (q ≡ p) ⊎ (standing_path phase ≡ Some q)
 
 -- a signal that moves bytes
 abbrev pub is_data : Up → Bool
-is_data (up.Data t c n seq load) = true
+is_data (up.Data load t c n seq) = true
 is_data signal = false

@@ -2,7 +2,7 @@
 
 ghost use Rattle.std.specs.Prelude.{◌≡◌, ◌<◌, ◌^◌, false, is_some, ℕ, Bool};
 ghost use Rattle.chan_model.specs.Signals as signals;
-ghost use Rattle.signal_places.specs.Places.{sent_path};
+ghost use Rattle.working.specs.Sent.{sent_path};
 ghost use Rattle.subchannel_model.specs.Taking as taking_spec;
 ghost use Rattle.subchannel.specs.Answering as spec;
 ghost use Rattle.working.specs.Working as working_spec;
@@ -14,7 +14,7 @@ use chan_model::hold_state::{HoldPhase, HoldState};
 use chan_model::names::Path;
 use chan_model::signal::{LentUp, Up};
 use hold::Hold;
-use signal_places::sent::SentDown;
+use working::sent::SentDown;
 use storage_keys::Storage;
 use subchannel_model::state::SubchannelState;
 use transfer::chunks::is_answered;

@@ -3,7 +3,7 @@
 ghost use Rattle.std.specs.Prelude.{◌≡◌, ◌<◌, ◌^◌};
 ghost use Rattle.chan_model.specs.HoldTable.{hold_takes};
 ghost use Rattle.chan_model.specs.Signals.{lent_up};
-ghost use Rattle.signal_places.specs.Places.{came_so};
+ghost use Rattle.working.specs.Sent.{came_so};
 ghost use Rattle.subchannel_model.specs.Taking as spec;
 ghost use Rattle.working.specs.Stepping.{subchannel_stepped};
 
@@ -11,7 +11,7 @@ use chan_model::names::Path;
 use chan_model::signal::LentUp;
 use scsw_irb::scsw::ActivityControl;
 use scsw_irb::status::DeviceStatus;
-use signal_places::sent::SentDown;
+use working::sent::SentDown;
 use status::make_pending;
 use subchannel_model::cause::StatusCause;
 use subchannel_model::state::SubchannelState;

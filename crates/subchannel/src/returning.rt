@@ -3,13 +3,13 @@
 ghost use Rattle.std.specs.Prelude.{◌≡◌, Some};
 ghost use Rattle.chan_model.specs.HoldTable.{hold_takes};
 ghost use Rattle.chan_model.specs.Signals.{lent_up};
-ghost use Rattle.signal_places.specs.Places.{came_so};
+ghost use Rattle.working.specs.Sent.{came_so};
 ghost use Rattle.subchannel_model.specs.Taking as spec;
 ghost use Rattle.working.specs.Stepping.{subchannel_stepped};
 
 use chan_model::names::Path;
 use chan_model::signal::{Down, LentUp};
-use signal_places::sent::SentDown;
+use working::sent::SentDown;
 use subchannel_model::state::{PmcwState, SubchannelState};
 use working::answers::by_hold;
 

@@ -3,7 +3,7 @@
 ghost use Rattle.std.specs.Prelude.{◌≡◌, ◌<◌, ◌^◌, false};
 ghost use Rattle.chan_model.specs.HoldTable.{hold_takes};
 ghost use Rattle.chan_model.specs.Signals.{lent_up};
-ghost use Rattle.signal_places.specs.Places.{came_so};
+ghost use Rattle.working.specs.Sent.{came_so};
 ghost use Rattle.subchannel.specs.Answering.{is_data};
 ghost use Rattle.working.specs.Stepping.{subchannel_stepped};
 ghost use Rattle.subchannel_model.specs.Taking as spec;
@@ -14,7 +14,7 @@ use crate::returning::come_back;
 use chan_model::names::Path;
 use chan_model::signal::{LentUp, Up};
 use hold::Hold;
-use signal_places::sent::SentDown;
+use working::sent::SentDown;
 use status::make_pending;
 use storage_keys::Storage;
 use subchannel_model::cause::StatusCause;

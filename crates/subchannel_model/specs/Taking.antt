@@ -175,7 +175,7 @@ moving_on s b transfer = let next = with_transfer s b transfer in interrupted ne
 abbrev pub giving : SubchannelState → ActiveProgram → DataSignal → NextChunk → UpStep
 giving s b signal given =
     sending (moving_on s b given.transfer) signal.path
-    (down.Give signal.number signal.connection signal.command (signal.sequence + 1) given.bytes)
+    (down.Give given.bytes signal.number signal.connection signal.command (signal.sequence + 1))
 
 -- the bytes of a Data of a command that brings bytes in are stored, and the device is told how many more may come
 abbrev pub answering : SubchannelState → ActiveProgram → DataSignal → WithRoom → UpStep
@@ -290,7 +290,7 @@ attend s status step =
 -- what a subchannel does with a signal; returns: a program that is away may come back by the path
 abbrev pub takes_up : Bool → Contents → SubchannelState → ℕ → Up → Met
 takes_up returns storage s p (up.Accept t) = meets storage (accept storage s (hold_takes s.hold p (up.Accept t) (goes_ahead s)))
-takes_up returns storage s p (up.Data t c n seq load) =
+takes_up returns storage s p (up.Data load t c n seq) =
     take_data storage s (record { path = p; number = t; connection = c; command = n; sequence = seq }) load
 takes_up returns storage s p (up.End t n status more) =
     meets storage (end_command storage s (record { path = p; number = t; command = n; status = status; more = more }))

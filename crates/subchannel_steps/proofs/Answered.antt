@@ -7,7 +7,7 @@ use Rattle.chan_model.specs.Signals.{Up}
 use Rattle.subchannel_model.specs.Sending.{carried}
 use Rattle.subchannel_steps.specs.Giving.{TellsFull}
 use Rattle.chan_model.specs.declared.hold_state.HoldPhase.{HoldPhase}
-use Rattle.signal_places.specs.Places.{sent_path}
+use Rattle.working.specs.Sent.{sent_path}
 use Rattle.subchannel.specs.Answering.{IsAnswerPath}
 
 pub tells_some : (available : List Bool) (queues : List (List Down)) (sends : Option (OnPath Down)) (p : ℕ) (full : Bool) → sent_path sends ≡ Some p →

@@ -12,7 +12,7 @@ use Rattle.chan_model.specs.declared.unit_state.Own.TheVariants.{Idle, Owned}
 use Rattle.chan_model.specs.declared.unit_state.Place.{Place}
 use Rattle.chan_model.specs.declared.unit_state.Place.TheVariants.{On, Ask, Away}
 use Rattle.chan_model.specs.declared.unit_state.UnitState.{UnitState}
-use Rattle.chan_events.specs.declared.reply.Reply.{Reply}
+use Rattle.chan_events.specs.Replies.{Reply}
 use Rattle.channel_config.specs.Setup.{has_number}
 use Rattle.control_units.specs.declared.Member.{Member}
 use Rattle.interruptions.specs.Requests.{WaitingRequests, posted}

@@ -1,3 +1,2 @@
 pub mod Giving
 pub mod PathTurns
-pub mod KeptTurns

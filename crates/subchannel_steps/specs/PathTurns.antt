@@ -1,6 +1,6 @@
 -- What a worker of a channel path is to do for a subchannel (own).
 use Rattle.std.specs.Prelude.{ℕ, Bool, true, false, not, Option, None, Some, is_some, List}
-use Rattle.chan_events.specs.declared.event.Event.{Event}
+use Rattle.chan_events.specs.Events.{Event}
 use Rattle.chan_events.specs.declared.event.Event.TheVariants as event
 use Rattle.wires.specs.Queues.{first_of}
 use Rattle.subchannel_model.specs.declared.state.Chosen.{Chosen}

@@ -8,18 +8,18 @@ ghost use Rattle.machine_model.specs.Bounds.{IsUnitRoomy};
 ghost use Rattle.machine_model.specs.ReportSteps as report_spec;
 ghost use Rattle.subchannel_steps.specs.Giving as giving_spec;
 ghost use Rattle.subchannel_model.specs.Places as place_spec;
-ghost use Rattle.signal_places.specs.Plain.{plain_outcome};
+ghost use Rattle.chan_events.specs.Replies.{plain_outcome};
 
 use crate::sending::{finds_up_full, send_any_up};
 use crate::sharing::side_of;
 use crate::turns::path_of;
 use crate::unit_turns::reached_sub;
 use chan_events::event::UnitAct;
+use chan_events::reply::{PlainReply, Reply};
 use chan_model::fault::Fault;
 use chan_model::names::{Path, Side};
 use chan_model::unit_state::{Own, Place};
 use finding::tables::Places;
-use signal_places::plain::PlainReply;
 use subchannel_model::state::Subchannel;
 use unit::Unit;
 
@@ -72,7 +72,7 @@ fn leave(sub: &mut Subchannel, unit: &mut Unit) -> Result<PlainReply, Fault>
     }
     let sent = unit.leave();
     send_any_up(sub, &sent);
-    Ok(PlainReply::Done)
+    Ok(Reply::Done)
 }
 
 /// The program that is without a path asks for this one.
@@ -92,7 +92,7 @@ fn ask(sub: &mut Subchannel, unit: &mut Unit, path: Path) -> Result<PlainReply, 
     }
     let sent = unit.ask(path);
     send_any_up(sub, &sent);
-    Ok(PlainReply::Done)
+    Ok(Reply::Done)
 }
 
 /// The unit, which no program holds, asks the side of the subchannel for attention.
@@ -113,7 +113,7 @@ fn attend(sub: &mut Subchannel, unit: &mut Unit, path: Path) -> Result<PlainRepl
     }
     let sent = unit.attention(side, path);
     send_any_up(sub, &sent);
-    Ok(PlainReply::Done)
+    Ok(Reply::Done)
 }
 
 /// The side of the subchannel, which was not reset since the last restart, is told how often the unit was restarted.
@@ -133,7 +133,7 @@ fn notice(sub: &mut Subchannel, unit: &Unit, path: Path) -> Result<PlainReply, F
     }
     let sent = unit.notice(side, path);
     send_any_up(sub, &sent);
-    Ok(PlainReply::Done)
+    Ok(Reply::Done)
 }
 
 /// A unit acts at the subchannel of a side: what it does is sent by the path that is named, and Leave by that of its

@@ -6,7 +6,6 @@
 #![tactic(auto)]
 
 pub mod acts;
-pub mod kept_turns;
 pub mod path_turns;
 pub mod posting;
 mod sending;

@@ -22,12 +22,13 @@ ghost use Rattle.chan_model.specs.UnitTable.{UnitStep};
 ghost use Rattle.finding.specs.Tables.{engaged};
 ghost use Rattle.chan_events.specs.declared.reply.Reply.TheVariants as reply_spec;
 ghost use Rattle.event_log.specs.Logs.{IsKept, answer_in};
-ghost use Rattle.signal_places.specs.Plain.{plain_outcome, reply_of};
+ghost use Rattle.chan_events.specs.Replies.{plain_outcome, reply_of};
 ghost use Rattle.unit.specs.UnitWords.{IsAllowed};
 ghost use Rattle.wires.specs.Queues.{first_of, queue};
 
 use crate::sending::{finds_down_full, finds_up_full, first_up, send_any_down, send_any_up};
 use crate::sharing::take;
+use chan_events::reply::{PlainReply, Reply};
 use chan_model::fault::Fault;
 use chan_model::names::Path;
 use chan_model::report::{Report, ReportPath};
@@ -36,8 +37,6 @@ use chan_model::unit_state::Place;
 use control_units::sharing::Sharing;
 use event_log::logs::Log;
 use finding::engines::Counted;
-use signal_places::plain::PlainReply;
-use signal_places::sent::SentDown;
 use status::make_pending;
 use storage_keys::Storage;
 use subchannel::answering::{answer_path, answer_paths, standing_path};
@@ -47,6 +46,7 @@ use subchannel::taking::take_up;
 use subchannel_model::cause::StatusCause;
 use subchannel_model::state::{Candidate, Chosen, Subchannel};
 use unit::Unit;
+use working::sent::SentDown;
 
 /// Whether what was chosen is a signal that finds its wire full.
 fn chosen_finds_full(sub: &Subchannel, chosen: &Chosen) -> bool
@@ -71,7 +71,7 @@ fn reset_on(sub: &mut Subchannel, number: u64, path: Path) -> PlainReply
     let available = sub.state.pmcw.available;
     let reset = send_reset(&mut sub.state, path);
     send_any_down(&mut sub.wires, &available, &reset);
-    PlainReply::ResetSent { path, number }
+    Reply::ResetSent { path, number }
 }
 
 /// A Halt is sent on a path.
@@ -88,7 +88,7 @@ fn halt_on(sub: &mut Subchannel, number: u64, path: Path) -> PlainReply
     };
     send_any_down(&mut sub.wires, &available, &Some(halt));
     send_halt(&mut sub.state);
-    PlainReply::HaltSent { path, number }
+    Reply::HaltSent { path, number }
 }
 
 /// A program is offered on a path.
@@ -103,7 +103,7 @@ fn offer_on(sub: &mut Subchannel, candidate: Candidate, path: Path) -> PlainRepl
     let available = sub.state.pmcw.available;
     let select = offer(&mut sub.state, &candidate.program, path);
     send_any_down(&mut sub.wires, &available, &Some(select));
-    PlainReply::Offered {
+    Reply::Offered {
         path,
         resumed: candidate.resumes,
         number: sub.state.drawn,
@@ -118,7 +118,7 @@ fn pend_sub(sub: &mut Subchannel, cause: &StatusCause) -> PlainReply
     ensures setup { sub.new.setup ≡ sub.old.setup }
 {
     make_pending(&mut sub.state, cause);
-    PlainReply::Pending
+    Reply::Pending
 }
 
 /// What was chosen is done.
@@ -131,7 +131,7 @@ fn act_on_choice(sub: &mut Subchannel, chosen: Chosen) -> PlainReply
     ensures setup { sub.new.setup ≡ sub.old.setup }
 {
     match chosen {
-        Chosen::Idle => PlainReply::Idle,
+        Chosen::Idle => Reply::Idle,
         Chosen::Resets { number, path } => reset_on(sub, number, path),
         Chosen::PerformsClear => pend_sub(sub, &StatusCause::ClearDone),
         Chosen::Halts { number, path } => halt_on(sub, number, path),
@@ -351,7 +351,7 @@ fn report_from(
     let reported = unit.report_from(place, report);
     let came = unit.lend(&reported);
     send_any_up(sub, &came.sent);
-    Ok(PlainReply::Done)
+    Ok(Reply::Done)
 }
 
 /// The unit takes its device's answer, and sends what comes of it to the subchannel.

@@ -1,23 +1,23 @@
 //! What a unit is to do next.
 
-ghost use Rattle.std.specs.Prelude.{◌≡◌, ◌<◌, ℕ, List, MatchOption, None, Some};
+ghost use Rattle.std.specs.Prelude.{◌≡◌, ◌<◌, MatchOption, None, Some};
 ghost use Rattle.chan_model.specs.UnitReports as report_spec;
 ghost use Rattle.chan_model.specs.declared.names.Side.TheVariants.{Second};
 ghost use Rattle.machine_model.specs.State as state_spec;
 ghost use Rattle.subchannel_model.specs.Places as place_spec;
 ghost use Rattle.machine_model.specs.State.{State};
+ghost use Rattle.machine_model.specs.UnitTurns.{lent_turn};
 ghost use Rattle.finding.specs.Tables.{Fits};
-ghost use Rattle.kept_work.specs.Works.{given_bytes};
 ghost use Rattle.machine_model.specs.declared.state.UnitTurn.TheVariants as turn;
-ghost use Rattle.subchannel_steps.specs.KeptTurns.{turn_in};
 
-use crate::kept_turns::KeptTurn;
 use chan_model::names::{Path, Side};
 use chan_model::paths::PathSet;
+use chan_model::report::LentWork;
 use chan_model::unit_state::{Own, Place};
 use channel_config::names::SubchannelId;
 use finding::tables::Places;
 use functions::blocks::available_paths;
+use machine_model::state::UnitTurn;
 use subchannel_model::state::Subchannel;
 use unit::Unit;
 use wires::Wires;
@@ -123,55 +123,75 @@ fn away_path(
 }
 
 /// What a unit without a signal and without work is to do.
-fn turn_of_own(places: &Places, unit: usize, own: Own, subs: &[Subchannel]) -> KeptTurn
+fn turn_of_own(
+    places: &Places,
+    unit: usize,
+    own: Own,
+    subs: &[Subchannel],
+) -> UnitTurn<LentWork<'static>>
     requires { Fits places.now subs.now }
-    ensures { (bytes : List ℕ) → turn_in result bytes ≡ state_spec.turn_of_own subs.now «unit» own }
+    ensures { lent_turn result ≡ state_spec.turn_of_own subs.now «unit» own }
 {
     match own {
         Own::Owned {
             side,
             place: Place::Away { connection },
             ..
-        } => KeptTurn::Away {
+        } => UnitTurn::Away {
             path: away_path(places, unit, side, connection, subs),
         },
-        _ => KeptTurn::Rests,
+        _ => UnitTurn::Rests,
     }
 }
 
 /// What a unit without a signal is to do: what its program asks for; else its program may ask for a path.
-fn turn_of_work(places: &Places, number: usize, unit: &Unit, subs: &[Subchannel]) -> KeptTurn
+fn turn_of_work<'a>(
+    places: &Places,
+    number: usize,
+    unit: &'a Unit,
+    subs: &[Subchannel],
+) -> UnitTurn<LentWork<'a>>
     requires { Fits places.now subs.now }
-    ensures { (s : State) → s.subs ≡ subs.now → turn_in result (given_bytes «unit».now.at_hand) ≡
+    ensures { (s : State) → s.subs ≡ subs.now → lent_turn result ≡
         state_spec.turn_by_work s number «unit».now (report_spec.unit_work «unit».now) }
 {
-    match unit.kept_work() {
-        Some(work) => KeptTurn::Works(work),
+    match unit.lent_work() {
+        Some(work) => UnitTurn::Works(work),
         None => turn_of_own(places, number, unit.own(), subs),
     }
 }
 
 /// What a unit without a signal for its first side is to do: it takes the one for its second side; else what its program asks for.
-fn turn_of_second(places: &Places, number: usize, unit: &Unit, subs: &[Subchannel]) -> KeptTurn
+fn turn_of_second<'a>(
+    places: &Places,
+    number: usize,
+    unit: &'a Unit,
+    subs: &[Subchannel],
+) -> UnitTurn<LentWork<'a>>
     requires { Fits places.now subs.now }
-    ensures { (s : State) → s.subs ≡ subs.now → turn_in result (given_bytes «unit».now.at_hand) ≡
+    ensures { (s : State) → s.subs ≡ subs.now → lent_turn result ≡
         state_spec.turn_or (state_spec.takes_from (place_spec.reached_sub number Second s.subs))
         (state_spec.turn_by_work s number «unit».now (report_spec.unit_work «unit».now)) }
 {
     match taken_from(places, number, Side::Second, subs) {
-        Some(Waiting { subchannel, path }) => KeptTurn::Takes { subchannel, path },
+        Some(Waiting { subchannel, path }) => UnitTurn::Takes { subchannel, path },
         None => turn_of_work(places, number, unit, subs),
     }
 }
 
 /// What a unit is to do next: it takes the signal that waits, of its first side before its second; else does what its
-/// program asks for; else its program may ask for a path. The bytes that are to be absorbed stand with the unit.
-pub fn turn_of_unit(places: &Places, number: usize, unit: &Unit, subs: &[Subchannel]) -> KeptTurn
+/// program asks for; else its program may ask for a path. The bytes that are to be absorbed are lent.
+pub fn turn_of_unit<'a>(
+    places: &Places,
+    number: usize,
+    unit: &'a Unit,
+    subs: &[Subchannel],
+) -> UnitTurn<LentWork<'a>>
     requires { Fits places.now subs.now }
-    ensures { (s : State) → s.subs ≡ subs.now → state_spec.turn_of_unit s number (Some «unit».now) ≡ Some (turn_in result (given_bytes «unit».now.at_hand)) }
+    ensures { (s : State) → s.subs ≡ subs.now → state_spec.turn_of_unit s number (Some «unit».now) ≡ Some (lent_turn result) }
 {
     match taken_from(places, number, Side::First, subs) {
-        Some(Waiting { subchannel, path }) => KeptTurn::Takes { subchannel, path },
+        Some(Waiting { subchannel, path }) => UnitTurn::Takes { subchannel, path },
         None => turn_of_second(places, number, unit, subs),
     }
 }

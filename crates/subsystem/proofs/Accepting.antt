@@ -1,7 +1,7 @@
 -- One event and its answer, by what the machine did and what the log has.
 use Rattle.std.proofs.Common.{◌≡◌, ◌≤◌, refl, sym, ◌∙◌, ap, subst, ◌+◌, arith, [], ◌∷◌, ◌++◌, Ok, Err, inl, inr}
-use Rattle.chan_events.specs.declared.event.Event.{Event}
-use Rattle.chan_events.specs.declared.reply.Reply.{Reply}
+use Rattle.chan_events.specs.Events.{Event}
+use Rattle.chan_events.specs.Replies.{Reply}
 use Rattle.chan_model.specs.declared.fault.Fault.{Fault}
 use Rattle.chan_model.specs.declared.fault.Fault.TheVariants.{NoMemory}
 use Rattle.event_log.specs.Logs.{last_reply}

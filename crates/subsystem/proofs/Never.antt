@@ -12,14 +12,14 @@ use Rattle.chan_events.specs.declared.event.OtherInstruction.{OtherInstruction}
 use Rattle.chan_events.specs.declared.event.OtherInstruction.TheVariants as others
 use Rattle.chan_events.specs.declared.event.UnitAct.{UnitAct}
 use Rattle.chan_events.specs.declared.event.UnitAct.TheVariants as acts
-use Rattle.chan_events.specs.declared.event.Event.{Event}
+use Rattle.chan_events.specs.Events.{Event}
 use Rattle.chan_events.specs.declared.event.Event.TheVariants as event
 use Rattle.chan_model.specs.declared.fault.Fault.{Fault}
 use Rattle.chan_model.specs.declared.fault.Fault.TheVariants.{NoMemory, NotNow, Storage, Operand, WireFull, NoSuchSubchannel, NoSuchPath}
 use Rattle.chan_model.specs.Signals.{Down}
 use Rattle.chan_model.specs.Signals.{Up}
-use Rattle.chan_model.specs.declared.report.Report.{Report}
-use Rattle.chan_events.specs.declared.reply.Reply.{Reply}
+use Rattle.chan_model.specs.Reports.{Report}
+use Rattle.chan_events.specs.Replies.{Reply}
 use Rattle.chan_model.specs.declared.unit_state.UnitState.{UnitState}
 use Rattle.chan_model.specs.UnitTable as unit_table
 use Rattle.chan_model.specs.UnitTable.{UnitStep, unit_takes, unit_after}

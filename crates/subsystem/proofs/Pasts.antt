@@ -11,9 +11,9 @@ use Rattle.channel_config.specs.Setup.{Setup, set_count, groups_of}
 use Rattle.channel_reports.specs.Queue.{no_reports_wait}
 use Rattle.control_units.specs.Units.{idle_member}
 use Rattle.interruptions.specs.Requests.{no_requests_wait}
-use Rattle.chan_events.specs.declared.event.Event.{Event}
+use Rattle.chan_events.specs.Events.{Event}
 use Rattle.chan_events.specs.declared.reply.Entry.{Entry}
-use Rattle.chan_events.specs.declared.reply.Reply.{Reply}
+use Rattle.chan_events.specs.Replies.{Reply}
 use Rattle.chan_model.specs.declared.fault.Fault.{Fault}
 use Rattle.chan_model.specs.declared.unit_state.UnitState.{UnitState}
 use Rattle.subchannel_model.specs.Opening.{opened}

@@ -1,9 +1,9 @@
 -- The headline: what holds of the history of a channel subsystem by its entries alone; and what holds of its states at the opening, in each
 -- step, and after each step.
 use Rattle.std.specs.Prelude.{List, All}
-use Rattle.chan_events.specs.declared.event.Event.{Event}
+use Rattle.chan_events.specs.Events.{Event}
 use Rattle.chan_events.specs.declared.reply.Entry.{Entry}
-use Rattle.chan_events.specs.declared.reply.Reply.{Reply}
+use Rattle.chan_events.specs.Replies.{Reply}
 use Rattle.channel_config.specs.Setup.{Setup, set_count}
 use Rattle.event_laws.specs.Clearing.{ClearsByCause}
 use Rattle.event_laws.specs.Codes.{IsByTable}

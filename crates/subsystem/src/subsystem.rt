@@ -9,7 +9,7 @@ ghost use Rattle.machine_model.specs.Steps.{HasRun};
 ghost use Rattle.machine_model.specs.Answering.{HasAnswered, HasBegun};
 ghost use Rattle.std.specs.Bool.{OnTrue, OnFalse};
 ghost use Rattle.finding.specs.Tables.{Fits};
-ghost use Rattle.subchannel_steps.specs.KeptTurns.{given_of, turns_in};
+ghost use Rattle.machine_model.specs.UnitTurns.{lent_turns};
 ghost use Rattle.subchannel_steps.specs.PathTurns as path_spec;
 ghost use Rattle.machine_laws.specs.Agreeing.{AllAgree};
 ghost use Rattle.subsystem.specs.Headline.{HasHeld};
@@ -24,6 +24,7 @@ use crate::stepping::keep_step;
 use chan_events::event::Event;
 use chan_events::reply::Reply;
 use chan_model::fault::Fault;
+use chan_model::report::LentWork;
 use channel_config::config::Config;
 use event_laws::codes;
 use event_log::history::{History, LentReply};
@@ -38,7 +39,6 @@ use program_laws::programs;
 use scsw_irb::serials::Serials;
 use std::alloc::Global;
 use std::marker::Model;
-use subchannel_steps::kept_turns::KeptTurn;
 use supply::{Given, Supply, make_room};
 
 /// A channel subsystem with its subchannels, units and storage (SA22-7832, chapters 13 to 17).
@@ -342,20 +342,11 @@ impl<P: PathChoice + Drop> Subsystem<P> {
         self.machine.unit_turn(&self.places, unit)
     }
 
-    /// What a unit is to do next, as `unit_turn` has it, by a small value; the bytes that are to be absorbed are those of
-    /// `given`.
-    pub fn kept_turn(&self, unit: u32) -> Option<KeptTurn>
-        ensures { turns_in result (given_of self.now.state «unit») ≡ state_spec.unit_turn_of self.now.state «unit» }
+    /// What a unit is to do next, as `unit_turn` has it; the bytes that are to be absorbed are lent.
+    pub fn lent_turn(&self, unit: u32) -> Option<UnitTurn<LentWork<'_>>>
+        ensures { lent_turns result ≡ state_spec.unit_turn_of self.now.state «unit» }
     {
-        self.machine.kept_turn(&self.places, unit)
-    }
-
-    /// The bytes of a write that the device of a unit has not absorbed; none for a unit that is not configured.
-    pub fn given(&self, unit: u32) -> &[u8]
-        ensures value { result.now ≡ given_of self.now.state «unit» }
-        ensures bound { length result.now ≤ 256 }
-    {
-        self.machine.given(unit)
+        self.machine.lent_turn(&self.places, unit)
     }
 }
 

@@ -69,7 +69,7 @@ works-path u side (Command t n code room) p a = either p (is_owner u.own side t 
 works-path u side (Grant t c) p a = granted-path u u.own side p t c
 works-path u side (Refuse t c) p a = refused-path u u.own side p t c
 works-path u side (Took t n s room) p a = either p (is_owner u.own side t && (n == u.last_command)) (answered_last u u.at_hand s room) None (answered_last-path u u.at_hand p s room) tt
-works-path u side (Give t c n s bytes) p a = either p (is_owner_on u.own side t c && (n == u.last_command)) (given_next u u.at_hand s bytes) None (given_next-path u u.at_hand p s bytes) tt
+works-path u side (Give bytes t c n s) p a = either p (is_owner_on u.own side t c && (n == u.last_command)) (given_next u u.at_hand s bytes) None (given_next-path u u.at_hand p s bytes) tt
 works-path u side (Halt t) p a = either p (is_owner u.own side t && not u.halted) _ _ tt tt
 works-path u side (Release t) p a = either p (is_owner u.own side t) (sends (freed u) p (up.Released t)) None refl tt
 works-path u side (Reset r n) p a = tt
@@ -87,7 +87,7 @@ takes-path u side (Command t n code room) p a = fresh-path u side (Command t n c
 takes-path u side (Grant t c) p a = fresh-path u side (Grant t c) p a
 takes-path u side (Refuse t c) p a = fresh-path u side (Refuse t c) p a
 takes-path u side (Took t n s room) p a = fresh-path u side (Took t n s room) p a
-takes-path u side (Give t c n s bytes) p a = fresh-path u side (Give t c n s bytes) p a
+takes-path u side (Give bytes t c n s) p a = fresh-path u side (Give bytes t c n s) p a
 takes-path u side (Halt t) p a = fresh-path u side (Halt t) p a
 takes-path u side (Release t) p a = fresh-path u side (Release t) p a
 takes-path u side (Got x) p a = fresh-path u side (Got x) p a

@@ -56,7 +56,7 @@ sends_one-unit_takes u side p (Grant t c) may =
     sends_one-if (side_of u side).fresh _ _ _ _ refl (sends_one-granted u u.own side p 0 t c)
 sends_one-unit_takes u side p (Refuse t c) may = sends_one-if (side_of u side).fresh _ _ _ _ refl refl
 sends_one-unit_takes u side p (Took t n s room) may = sends_one-if (side_of u side).fresh _ _ _ _ refl refl
-sends_one-unit_takes u side p (Give t c n s bytes) may = sends_one-if (side_of u side).fresh _ _ _ _ refl refl
+sends_one-unit_takes u side p (Give bytes t c n s) may = sends_one-if (side_of u side).fresh _ _ _ _ refl refl
 sends_one-unit_takes u side p (Halt t) may = sends_one-if (side_of u side).fresh _ _ _ _ refl refl
 sends_one-unit_takes u side p (Release t) may =
     sends_one-if (side_of u side).fresh _ _ _ _ refl (sends_one-if (is_owner u.own side t) _ _ _ _ refl refl)

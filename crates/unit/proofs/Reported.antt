@@ -6,10 +6,10 @@ use Rattle.chan_model.specs.declared.signal.Up.TheVariants as up
 use Rattle.unit.specs.UnitWords.{bytes_of}
 
 abbrev pub data_sent_with : ℕ → ℕ → ℕ → ℕ → ℕ → Load → Taken Up
-data_sent_with p t c n s load = record { taken = true; sent = Some (record { path = p; signal = up.Data t c n s load }) }
+data_sent_with p t c n s load = record { taken = true; sent = Some (record { path = p; signal = up.Data load t c n s }) }
 
 abbrev pub data_kept : ℕ → ℕ → ℕ → ℕ → ℕ → KeptLoad → Taken KeptUp
-data_kept p t c n s kept = record { taken = true; sent = Some (record { path = p; signal = up.Data t c n s kept }) }
+data_kept p t c n s kept = record { taken = true; sent = Some (record { path = p; signal = up.Data kept t c n s }) }
 
 pub reported-data : (unanswered : Option Load) (load : Load) (kept : KeptLoad) (came : Taken KeptUp) (p t c n s : ℕ)
     → unanswered ≡ Some load → load_in kept (load_bytes load) ≡ load → came ≡ data_kept p t c n s kept

@@ -11,7 +11,7 @@ use Rattle.chan_model.specs.declared.unit_state.Own.{Own}
 use Rattle.chan_model.specs.declared.unit_state.Own.TheVariants.{Idle, Owned}
 use Rattle.chan_model.specs.declared.unit_state.AtHand.{AtHand}
 use Rattle.chan_model.specs.declared.unit_state.UnitState.{UnitState}
-use Rattle.chan_model.specs.declared.report.Report.{Report}
+use Rattle.chan_model.specs.Reports.{Report}
 use Rattle.chan_model.specs.UnitReports.{report_on}
 use Rattle.chan_model.specs.UnitTable.{unit_takes, came_of, side_of, owns, is_owner, is_owner_on}
 
@@ -22,7 +22,7 @@ is_unit_answered u side signal = is_some (came_of (unit_takes u side 0 signal fa
 -- a Took or a Give is of the last command of the program that holds the device, and a Give of the connection at hand
 abbrev pub is_of_command : UnitState → Side → Down → Bool
 is_of_command u side (down.Took t n s room) = is_owner u.own side t && (n == u.last_command)
-is_of_command u side (down.Give t c n s bytes) = is_owner_on u.own side t c && (n == u.last_command)
+is_of_command u side (down.Give bytes t c n s) = is_owner_on u.own side t c && (n == u.last_command)
 is_of_command u side signal = false
 
 -- the number of the last connection of the program that holds the device

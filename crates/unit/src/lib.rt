@@ -12,14 +12,13 @@ ghost use Rattle.std.specs.Prelude.{◌≡◌, ◌<◌, ◌≤◌, ◌^◌, ◌|
 ghost use Rattle.chan_model.specs.Signals.{lent_down, lent_up, map_sent, map_taken};
 ghost use Rattle.chan_model.specs.UnitReports as reports;
 ghost use Rattle.chan_model.specs.UnitTable as table;
-ghost use Rattle.kept_work.specs.Works.{given_bytes, works_in};
+ghost use Rattle.chan_model.specs.Reports.{lent_works};
 ghost use Rattle.unit.specs.UnitWords as words;
 
 use chan_model::names::{Path, Side};
-use chan_model::report::{Report, ReportPath, Work};
+use chan_model::report::{LentWork, Report, ReportPath, Work};
 use chan_model::signal::{KeptUp, LentDown, LentUp, OnPath, Taken};
 use chan_model::unit_state::{Own, Place, SideState, UnitState};
-use kept_work::works::KeptWork;
 use std::marker::Model;
 
 /// A unit: whom its device is held by, what it keeps of each side, and the command at hand.
@@ -173,26 +172,15 @@ impl Unit {
     {
         match works::work(&self.state) {
             None => None,
-            Some(work) => Some(work.with(self.given())),
+            Some(work) => Some(work.own()),
         }
     }
 
-    /// What it has to do next, as `work` has it; the bytes that are to be absorbed are those of `given`.
-    pub fn kept_work(&self) -> Option<KeptWork>
-        ensures { works_in result (given_bytes self.now.at_hand) ≡ reports.unit_work self.now }
+    /// What it has to do next, as `work` has it; the bytes that are to be absorbed are lent.
+    pub fn lent_work(&self) -> Option<LentWork<'_>>
+        ensures { lent_works result ≡ reports.unit_work self.now }
     {
         works::work(&self.state)
-    }
-
-    /// The bytes of a write that the device has not absorbed.
-    pub fn given(&self) -> &[u8]
-        ensures value { result.now ≡ given_bytes self.now.at_hand }
-        ensures bound { length result.now ≤ 256 }
-    {
-        match &self.state.at_hand {
-            None => &[],
-            Some(command) => works::given(command),
-        }
     }
 
     /// Leaves the path of its program, which works on. None where no program is connected, and then nothing changes.

@@ -329,7 +329,7 @@ impl Program {
           taken = true;
           sent = Some (record {
             path = self.now.path;
-            signal = up.Data self.now.number self.now.connection self.now.command command.now.sequence load;
+            signal = up.Data load self.now.number self.now.connection self.now.command command.now.sequence;
           });
         }) }
         ensures bytes { words.AreAtHand (Some command.now) result }

@@ -37,7 +37,7 @@ moved_at s signal =
     if is_connected s.hold.phase signal.path signal.number signal.connection then moved_of s.begun signal else None
 
 abbrev pub data_by : ℕ → Up → Option DataSignal
-data_by p (up.Data t c n seq load) = Some (record { path = p; number = t; connection = c; command = n; sequence = seq })
+data_by p (up.Data load t c n seq) = Some (record { path = p; number = t; connection = c; command = n; sequence = seq })
 data_by p signal = None
 
 abbrev pub moved_when : SubchannelState → Option DataSignal → Option Moved
@@ -66,7 +66,7 @@ give_next storage s b signal count = giving s b signal (given storage b signal c
 abbrev pub give_of : DataSignal → NextChunk → Option (OnPath Down)
 give_of signal chunk = Some (record {
   path = signal.path;
-  signal = down.Give signal.number signal.connection signal.command (signal.sequence + 1) chunk.bytes;
+  signal = down.Give chunk.bytes signal.number signal.connection signal.command (signal.sequence + 1);
 })
 
 abbrev pub taken_in : Contents → ActiveProgram → DataSignal → List ℕ → WithRoom

@@ -3,7 +3,7 @@
 ghost use Rattle.std.specs.Prelude.{◌≡◌, ◌<◌, ◌^◌, is_some};
 ghost use Rattle.chan_model.specs.HoldTable.{hold_takes};
 ghost use Rattle.chan_model.specs.Signals.{lent_down, lent_up};
-ghost use Rattle.signal_places.specs.Places.{came_so};
+ghost use Rattle.working.specs.Sent.{came_so};
 ghost use Rattle.subchannel_model.specs.Causes.{with_cause};
 ghost use Rattle.subchannel_model.specs.Taking as spec;
 ghost use Rattle.subchannel_model.specs.Parts as parts;
@@ -22,7 +22,7 @@ use channel_program::Advance;
 use channel_program::check::Check;
 use hold::Hold;
 use scsw_irb::scsw::Scsw;
-use signal_places::sent::SentDown;
+use crate::sent::SentDown;
 use status::make_pending;
 use storage_keys::Storage;
 use subchannel_model::cause::StatusCause;

@@ -3,14 +3,14 @@
 ghost use Rattle.std.specs.Prelude.{◌≡◌, None, Some};
 ghost use Rattle.chan_model.specs.HoldTable.{came_of, hold_after, hold_takes};
 ghost use Rattle.chan_model.specs.Signals.{lent_down, lent_up};
-ghost use Rattle.signal_places.specs.Places.{came_so};
+ghost use Rattle.working.specs.Sent.{came_so};
 ghost use Rattle.subchannel_model.specs.Taking as spec;
 ghost use Rattle.working.specs.Stepping.{not_taken, subchannel_stepped, taken_with};
 
 use chan_model::names::Path;
 use chan_model::signal::{LentDown, LentUp, OnPath};
 use hold::Hold;
-use signal_places::sent::SentDown;
+use crate::sent::SentDown;
 use subchannel_model::state::SubchannelState;
 
 pub fn ignored(sent: &mut SentDown) -> bool

@@ -2,7 +2,7 @@
 
 ghost use Rattle.std.specs.Prelude.{◌≡◌, ◌<◌, ◌^◌, IfSome};
 ghost use Rattle.chan_model.specs.Signals.{lent_up};
-ghost use Rattle.signal_places.specs.Places.{came_so};
+ghost use Rattle.working.specs.Sent.{came_so};
 ghost use Rattle.subchannel_model.specs.Causes.{with_cause};
 ghost use Rattle.subchannel_model.specs.Ends as end_spec;
 ghost use Rattle.subchannel_model.specs.Taking as spec;
@@ -22,7 +22,7 @@ use chan_model::names::Path;
 use chan_model::signal::{Down, LentUp, Up};
 use channel_program::check::Check;
 use hold::Hold;
-use signal_places::sent::SentDown;
+use crate::sent::SentDown;
 use status::ends::{chains_command, is_last_end};
 use status::{make_end_pending, make_pending};
 use storage_keys::Storage;

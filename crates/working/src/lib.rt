@@ -6,3 +6,4 @@ pub mod answers;
 pub mod ending;
 mod intermediate;
 pub mod moving;
+pub mod sent;

@@ -2,7 +2,7 @@
 
 ghost use Rattle.std.specs.Prelude.{◌≡◌, ◌<◌, ◌≤◌, ◌^◌, IfSome, length};
 ghost use Rattle.chan_model.specs.Signals.{lent_up, load_bytes, load_of};
-ghost use Rattle.signal_places.specs.Places.{came_so};
+ghost use Rattle.working.specs.Sent.{came_so};
 ghost use Rattle.chan_model.specs.Loads.{load_length};
 ghost use Rattle.chan_model.specs.UnitReports.{is_outward as is_outward_code};
 ghost use Rattle.transfer.specs.Chunks.{brought as brought_by};
@@ -18,7 +18,7 @@ use chan_model::chunk::Bytes;
 use chan_model::names::Path;
 use chan_model::signal::{Down, LentUp, Load, Up};
 use hold::Hold;
-use signal_places::sent::SentDown;
+use crate::sent::SentDown;
 use storage_keys::Storage;
 use subchannel_model::signals::DataSignal;
 use subchannel_model::state::{ActiveProgram, SubchannelState};

@@ -5,6 +5,7 @@ ghost use Rattle.machine_model.specs.Bounds.{IsRoomy};
 
 use crate::tests::setups::idle_state;
 use chan_events::event::{Instruction, OtherInstruction};
+use chan_events::reply::{PlainReply, Reply};
 use chan_model::answer::ConditionCode;
 use chan_model::fault::Fault;
 use chan_model::names::{Cpu, Side};
@@ -14,7 +15,6 @@ use channel_reports::Reports;
 use interruptions::Pending;
 use io_step::{ChannelPaths, perform, perform_other, reply_code};
 use scsw_irb::code::IntCode;
-use signal_places::plain::PlainReply;
 use std::alloc::Global;
 use storage_keys::{Storage, StorageFault};
 use subchannel_model::state::{Subchannel, SubchannelState};

@@ -1,6 +1,6 @@
 use Rattle.std.proofs.Common.{◌≡◌, ◌∙◌, ap, ap₂, List, [], slice_index_or, slice_set, rules}
 use Rattle.std.proofs.lemmas.List.{get_or_push, set_at}
-use Rattle.kept_events.specs.declared.entries.KeptEntry.{KeptEntry}
+use Rattle.event_log.specs.declared.entries.KeptEntry.{KeptEntry}
 use Rattle.event_log.proofs.logs.push_same.Goals as goal
 
 pub returns-clause-items : goal.returns-clause-items

@@ -1,4 +1,4 @@
-use Rattle.signal_places.specs.Plain.{reply_of}
+use Rattle.chan_events.specs.Replies.{reply_of}
 use Rattle.io_step.proofs.Executions.{enables-sub}
 use Rattle.io_step.proofs.provided.enable.Goals as goal
 

@@ -3,7 +3,7 @@ use Rattle.storage_keys.specs.Storage.{operand_at}
 use Rattle.machine_model.specs.State.{with_sub}
 use Rattle.machine_model.specs.Turns.{does, at_place}
 use Rattle.io_step.specs.Executing.{state_with_storage}
-use Rattle.signal_places.specs.Plain.{reply_of}
+use Rattle.chan_events.specs.Replies.{reply_of}
 use Rattle.io_step.proofs.Executions.{starts}
 use Rattle.io_step.proofs.provided.start.Goals as goal
 

@@ -1,4 +1,4 @@
-use Rattle.signal_places.specs.Plain.{reply_of}
+use Rattle.chan_events.specs.Replies.{reply_of}
 use Rattle.io_step.proofs.Executions.{tests-sub}
 use Rattle.io_step.proofs.provided.test.Goals as goal
 

@@ -1,6 +1,5 @@
 use Rattle.std.proofs.Common.{ap, sym}
-use Rattle.kept_events.specs.Replies.{reply_in}
-use Rattle.kept_events.specs.declared.replies.KeptReply.{KeptReply}
+use Rattle.chan_events.specs.Replies.{KeptReply, reply_in}
 use Rattle.script_text.specs.Text as spec
 use Rattle.script_text.proofs.Printing.{same_text}
 use Rattle.script_text.proofs.answered.put_kept.Goals as goal

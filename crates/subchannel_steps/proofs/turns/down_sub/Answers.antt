@@ -1,5 +1,5 @@
 use Rattle.std.proofs.Common.{◌≡◌, sym, ◌∙◌, ap, subst, ℕ, false, nat_lt, Ok, Some, length}
-use Rattle.chan_events.specs.declared.reply.Reply.{Reply}
+use Rattle.chan_events.specs.Replies.{Reply}
 use Rattle.chan_model.specs.UnitTable.{came_of, unit_takes}
 use Rattle.wires.specs.Queues.{Queues}
 use Rattle.subchannel_model.specs.Sending.{carried_by, finds_full}

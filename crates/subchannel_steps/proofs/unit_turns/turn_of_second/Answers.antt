@@ -4,7 +4,7 @@ use Rattle.chan_model.specs.declared.names.Side.TheVariants.{Second}
 use Rattle.subchannel_model.specs.declared.state.Subchannel.{Subchannel}
 use Rattle.subchannel_model.specs.Places.{reached_sub}
 use Rattle.machine_model.specs.State.{takes_from, turn_by_work, turn_or}
-use Rattle.machine_model.specs.declared.state.UnitTurn.{UnitTurn}
+use Rattle.machine_model.specs.UnitTurns.{UnitTurn}
 use Rattle.subchannel_steps.proofs.unit_turns.turn_of_second.Goals as goal
 
 pub returns-in-None : goal.returns-in-None

@@ -8,7 +8,7 @@ use Rattle.chan_model.specs.Signals.{load_bytes}
 use Rattle.storage_keys.specs.Storage.{Contents}
 use Rattle.chan_model.specs.Loads.{load_length}
 use Rattle.chan_model.specs.Signals.{Load}
-use Rattle.signal_places.specs.Places.{came_so}
+use Rattle.working.specs.Sent.{came_so}
 use Rattle.transfer.specs.Chunks.{brought}
 use Rattle.working.specs.Stepping.{subchannel_stepped}
 use Rattle.chan_model.specs.Signals.{lent_up, load_of}

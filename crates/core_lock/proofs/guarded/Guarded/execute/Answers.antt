@@ -1,6 +1,6 @@
 use Rattle.std.proofs.Common.{◌≡◌, subst}
 use Rattle.std.specs.Prelude.{IfErr, MatchResult}
-use Rattle.chan_events.specs.declared.event.Event.{Event}
+use Rattle.chan_events.specs.Events.{Event}
 use Rattle.machine_model.specs.State.{State}
 use Rattle.core_lock.specs.Entering.{MayRefuse, entered}
 use Rattle.core_lock.specs.Outside.{IsExecuted}

@@ -1,6 +1,6 @@
 use Rattle.std.proofs.Common.{◌∙◌, ap, sym, arith, ◌-◌, length, slice_index_or}
 use Rattle.event_log.specs.Logs.{entry_at, last_reply}
-use Rattle.kept_events.specs.Replies.{reply_in}
+use Rattle.chan_events.specs.Replies.{reply_in}
 use Rattle.event_log.proofs.Growing.{last-of}
 use Rattle.event_log.proofs.history.History.last_reply.Goals as goal
 

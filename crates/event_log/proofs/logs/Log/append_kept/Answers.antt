@@ -1,6 +1,6 @@
 use Rattle.std.proofs.Common.{◌∙◌, ap, ap₂, [], ◌∷◌, ◌++◌}
-use Rattle.kept_events.specs.declared.entries.KeptEntry.{KeptEntry}
-use Rattle.kept_events.specs.Entries.{entry_in}
+use Rattle.event_log.specs.declared.entries.KeptEntry.{KeptEntry}
+use Rattle.event_log.specs.Entries.{entry_in}
 use Rattle.event_log.specs.Logs.{entries_at}
 use Rattle.event_log.proofs.Growing.{begun, kept-added}
 use Rattle.event_log.proofs.logs.Log.append_kept.Goals as goal

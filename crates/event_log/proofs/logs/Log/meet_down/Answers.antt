@@ -1,7 +1,7 @@
 use Rattle.std.proofs.Common.{arith, ◌∙◌, ap, List, ℕ, drop, vec_capacity, vec_len, ◌-◌}
 use Rattle.chan_events.specs.declared.reply.Reply.TheVariants as reply
 use Rattle.chan_model.specs.Signals.{lent_down, lent_up, map_sent}
-use Rattle.kept_events.specs.Replies.{reply_bytes, reply_in}
+use Rattle.chan_events.specs.Replies.{reply_bytes, reply_in}
 use Rattle.event_log.specs.Logs.{entries_at}
 use Rattle.event_log.proofs.Growing.{begun, entries-stay, room-grows, told-behind}
 use Rattle.event_log.proofs.logs.Log.meet_down.Goals as goal

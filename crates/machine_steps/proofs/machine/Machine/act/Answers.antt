@@ -5,7 +5,7 @@ use Rattle.machine_model.specs.State.{State, with_sub, state_with_unit}
 use Rattle.machine_model.specs.ActSteps.{side_of_act}
 use Rattle.subchannel_model.specs.Places.{reached_in}
 use Rattle.machine_model.specs.Steps.{Performs}
-use Rattle.signal_places.specs.Plain.{plain_outcome}
+use Rattle.chan_events.specs.Replies.{plain_outcome}
 use Rattle.machine_steps.specs.contracts.machine.Machine.{the_view}
 use Rattle.machine_steps.proofs.Lifting.{at_seen, act-performs, counted-still}
 use Rattle.machine_steps.proofs.machine.Machine.act.Goals as goal

@@ -1,6 +1,6 @@
 use Rattle.std.proofs.Common.{arith, ◌∙◌, ap, subst, sym, List}
 use Rattle.std.specs.Prelude.{All}
-use Rattle.signal_places.specs.Plain.{plain_outcome}
+use Rattle.chan_events.specs.Replies.{plain_outcome}
 use Rattle.machine_steps.specs.Postable.{IsPostable}
 use Rattle.machine_model.specs.State.{State}
 use Rattle.subchannel_model.specs.Choosing.{paths_to_choose}

@@ -5,7 +5,7 @@ use Rattle.machine_model.specs.State.{State, with_sub}
 use Rattle.machine_model.specs.Steps.{Performs}
 use Rattle.subchannel_model.specs.Places.{place_in}
 use Rattle.machine_model.specs.InstructionSteps.{subchannel_word}
-use Rattle.signal_places.specs.Plain.{plain_outcome}
+use Rattle.chan_events.specs.Replies.{plain_outcome}
 use Rattle.machine_steps.specs.contracts.machine.Machine.{the_view}
 use Rattle.machine_steps.proofs.Lifting.{at_seen, executes, executes-absent, executes-unnamed, counted-room, counted-out, counted-in}
 use Rattle.machine_steps.proofs.machine.Machine.execute.Goals as goal

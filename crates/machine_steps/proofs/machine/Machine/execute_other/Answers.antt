@@ -3,7 +3,7 @@ use Rattle.chan_events.specs.declared.event.Event.TheVariants as event
 use Rattle.machine_model.specs.State.{State}
 use Rattle.machine_model.specs.Steps.{Performs}
 use Rattle.subchannel_model.specs.declared.state.Subchannel.{Subchannel}
-use Rattle.signal_places.specs.Plain.{plain_outcome}
+use Rattle.chan_events.specs.Replies.{plain_outcome}
 use Rattle.machine_steps.specs.contracts.machine.Machine.{the_view}
 use Rattle.machine_steps.proofs.Lifting.{other-performs, AreAlike}
 use Rattle.machine_steps.proofs.machine.Machine.execute_other.Goals as goal

@@ -4,7 +4,7 @@ use Rattle.chan_events.specs.declared.event.Event.TheVariants as event
 use Rattle.machine_model.specs.State.{State, with_sub, state_with_unit}
 use Rattle.subchannel_model.specs.Places.{reached_in}
 use Rattle.machine_model.specs.Steps.{Performs}
-use Rattle.signal_places.specs.Plain.{plain_outcome}
+use Rattle.chan_events.specs.Replies.{plain_outcome}
 use Rattle.machine_steps.specs.contracts.machine.Machine.{the_view}
 use Rattle.machine_steps.proofs.Lifting.{at_seen, report-performs, counted-still}
 use Rattle.machine_steps.proofs.machine.Machine.report.Goals as goal

@@ -1,0 +1,55 @@
+//! What is written into a place stands there, bytes and all, whatever stood there before.
+
+use chan_model::chunk::Bytes;
+use chan_model::names::Path;
+use chan_model::signal::{Down, LentDown, OnPath};
+use working::sent::SentDown;
+
+/// A Give of these bytes.
+fn give(sequence: u64, bytes: Bytes<'_>) -> LentDown<'_> {
+    Down::Give {
+        number: 1,
+        connection: 2,
+        command: 3,
+        sequence,
+        bytes,
+    }
+}
+
+/// Whether the last of two Gives is put into another place, with its own bytes alone.
+fn is_last_put(sent: &mut SentDown, path: Path) -> bool {
+    sent.put(path, &give(4, Bytes::of(&[0xC1, 0xC2, 0xC3])));
+    sent.put(path, &give(5, Bytes::of(&[0xC4])));
+    let mut other = SentDown::new();
+    other.put_any(&sent.get());
+    let last = other.own();
+    matches!(&last, Some(OnPath { signal: Down::Give { sequence: 5, bytes, .. }, .. }) if bytes.as_slice() == [0xC4].as_slice())
+}
+
+/// Whether a Halt is sent that is put over what was there.
+fn is_halt_put(sent: &mut SentDown, path: Path) -> bool {
+    sent.put(path, &Down::Halt { number: 9 });
+    let halt = sent.own();
+    matches!(
+        halt,
+        Some(OnPath {
+            signal: Down::Halt { number: 9 },
+            ..
+        })
+    )
+}
+
+#[test]
+fn a_place_has_what_was_written_last(rt: HostRuntime) {
+    let path = Path::new(5).unwrap();
+    let mut sent = SentDown::new();
+    let empty = sent.get().is_none();
+    let last = is_last_put(&mut sent, path);
+    let halted = is_halt_put(&mut sent, path);
+    sent.clear();
+    let cleared = sent.own().is_none();
+    drop(sent);
+    assert!(rt; empty);
+    assert!(rt; last, "the last Give, with its own bytes alone");
+    assert!(rt; halted && cleared);
+}
