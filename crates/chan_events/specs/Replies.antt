@@ -1,5 +1,5 @@
 -- Replies over lists of bytes, replies whose bytes stand elsewhere, and replies without signals and without bytes (own).
-use Rattle.std.specs.Prelude.{ℕ, ◌+◌, Bool, List, [], ◌++◌, Option, None, Some, Result, Ok, Err, take, drop}
+use Rattle.std.specs.Prelude.{ℕ, ◌+◌, Bool, List, [], ◌++◌, None, Some, Result, Ok, Err, take, drop}
 use Rattle.std.specs.declared.convert.Infallible.{Infallible}
 use Rattle.chan_events.specs.declared.reply.Reply as declared_reply
 use Rattle.chan_events.specs.declared.reply.Reply.TheVariants as reply

@@ -175,6 +175,7 @@ fn copy_up(sent: &Option<OnPath<Up>>) -> Option<OnPath<Up>>
 
 impl PlainReply {
     /// The same reply, as it is kept.
+    #[inline(always)]
     pub fn keep(&self) -> KeptReply
         ensures kept { (rest : List ℕ) → spec.reply_in result rest ≡ spec.reply_of self.now }
         ensures length { spec.reply_length result ≡ 0 }

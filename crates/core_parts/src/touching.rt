@@ -1,7 +1,7 @@
 //! Which subchannels' serials an event may change, so that the glance cells of no others need be looked at.
 
 ghost use Rattle.std.specs.Prelude.{◌≡◌, ℕ, length};
-ghost use Rattle.chan_events.specs.Events.{Event};
+ghost use Rattle.chan_events.specs.Events as events;
 ghost use Rattle.chan_events.specs.Replies.{Reply};
 ghost use Rattle.machine_model.specs.InstructionSteps as instruction_spec;
 ghost use Rattle.machine_model.specs.State.{State};
@@ -25,7 +25,7 @@ pub enum Touched {
 
 /// An event changes no serials but those of the subchannels that it touches.
 pub fn touches()
-    ensures { (s : State) (e : Event) (r : Reply) (new : State) → Step s e r new →
+    ensures { (s : State) (e : events.Event) (r : Reply) (new : State) → Step s e r new →
         spec.Changes (spec.touched s e) (all_serials s) (all_serials new) }
 {
     walks();

@@ -189,10 +189,10 @@ impl Log {
         ensures room { self.old.room ≤ self.new.room + 1 }
         ensures fresh { self.new.reply ≡ reply_spec.Done }
     {
-        push(&mut self.entries, self.start, event.keep(), self.reply);
+        push(&mut self.entries, self.start, event.keep(), &self.reply);
         add_bytes(&mut self.bytes, event.bytes());
         self.start = self.bytes.len();
-        self.reply = Reply::Done;
+        blank(&mut self.reply);
     }
 
     /// Adds an entry that is kept with these bytes, for which there is room.
@@ -254,18 +254,26 @@ fn pack_down(
     KeptReply::met_down(signal, taken, sent)
 }
 
+/// No step has answered yet. Not built into its caller: there the compiler copies what stood behind the tag, and back.
+#[inline(never)]
+fn blank(reply: &mut KeptReply)
+    ensures { reply.new ≡ reply_spec.Done }
+{
+    *reply = Reply::Done;
+}
+
 /// Adds an entry of these parts, for which there is room.
 #[inline(always)]
-fn push(entries: &mut Vec<KeptEntry>, start: usize, event: KeptEvent, reply: KeptReply)
+fn push(entries: &mut Vec<KeptEntry>, start: usize, event: KeptEvent, reply: &KeptReply)
     requires { vec_len entries.old < vec_capacity entries.old }
-    ensures items { entries.new.items ≡ entries.old.items ++ record { start = start; event = event; reply = reply } ∷ [] }
+    ensures items { entries.new.items ≡ entries.old.items ++ record { start = start; event = event; reply = reply.now } ∷ [] }
     ensures len { vec_len entries.new ≡ vec_len entries.old + 1 }
     ensures capacity { vec_capacity entries.old ≤ vec_capacity entries.new }
 {
     let kept = KeptEntry {
         start,
         event,
-        reply,
+        reply: *reply,
     };
     push_copy(entries, &kept);
 }

@@ -16,7 +16,7 @@ ghost use Rattle.subsystem.specs.Keeping.{all_serials, answer_of};
 ghost use Rattle.core_parts.specs.Directory.{directory_of};
 ghost use Rattle.core_parts.specs.Seats.{entries_by};
 ghost use Rattle.device_models.specs.declared.any_device.AnyDevice.{AnyDevice};
-ghost use Rattle.chan_model.specs.Reports.{Report};
+ghost use Rattle.chan_model.specs.Reports as report_spec;
 ghost use Rattle.chan_events.specs.Events.{event_in, event_length};
 ghost use Rattle.script_rows.specs.Places.{action_in, action_length};
 ghost use Rattle.chan_events.specs.declared.event.Event.TheVariants as event_spec;
@@ -332,7 +332,7 @@ impl<J: Naming> Installation<J> {
 
     /// Hands in a report. It is kept where it is refused for want of memory or of room on a wire, and only there.
     fn hand_in<M: Supply>(&mut self, supply: &mut M, unit: u32, event: &Event) -> Result<(), Fault>
-        ensures handed { (report : Report) → event.now ≡ event_spec.Report «unit» report →
+        ensures handed { (report : report_spec.Report) → event.now ≡ event_spec.Report «unit» report →
             HandsIn self.old «unit» report (answer_of result self.new.past.history) self.new }
         ensures given { result ≢ Err fault_spec.NoMemory → M.refused supply.new ≡ M.refused supply.old }
         ensures memory { result ≡ Err fault_spec.NoMemory → (M.refused supply.new ≡ true) ⊎ spec.IsUsedUp self.old.past }

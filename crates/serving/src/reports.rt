@@ -2,7 +2,7 @@
 
 ghost use Rattle.std.specs.Prelude.{◌≡◌, ◌≤◌, ℕ, None, Some, length, slice_get};
 ghost use Rattle.chan_events.specs.declared.event.Event.TheVariants as event_spec;
-ghost use Rattle.chan_model.specs.Reports.{Report};
+ghost use Rattle.chan_model.specs.Reports as report_spec;
 ghost use Rattle.chan_model.specs.Reports.{lent_call, lent_work};
 ghost use Rattle.machine_model.specs.UnitTurns.{lent_turn};
 ghost use Rattle.serving.specs.Acting as spec;
@@ -36,7 +36,7 @@ pub(crate) fn forget(kept: &mut Option<Report>)
 #[cold]
 #[inline(never)]
 pub(crate) fn keep(kept: &mut Option<Report>, event: &Event)
-    ensures { (place : ℕ) (report : Report) → event.now ≡ event_spec.Report place report → kept.new ≡ Some report }
+    ensures { (place : ℕ) (report : report_spec.Report) → event.now ≡ event_spec.Report place report → kept.new ≡ Some report }
 {
     if let Event::Report { report, .. } = event {
         *kept = Some(report.copy());

@@ -10,7 +10,6 @@ use Rattle.chan_model.specs.declared.answer.ConditionCode.TheVariants as code
 use Rattle.chan_model.specs.declared.hold_state.HoldPhase.{HoldPhase}
 use Rattle.chan_model.specs.declared.hold_state.HoldPhase.TheVariants as hold
 use Rattle.chan_model.specs.declared.hold_state.HoldState.{HoldState}
-use Rattle.chan_model.specs.Signals.{Down}
 use Rattle.chan_model.specs.Signals.{Load}
 use Rattle.chan_model.specs.Signals.{Up}
 use Rattle.chan_model.specs.declared.signal.Up.TheVariants as up

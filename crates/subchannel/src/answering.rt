@@ -14,11 +14,11 @@ use chan_model::hold_state::{HoldPhase, HoldState};
 use chan_model::names::Path;
 use chan_model::signal::{LentUp, Up};
 use hold::Hold;
-use working::sent::SentDown;
 use storage_keys::Storage;
 use subchannel_model::state::SubchannelState;
 use transfer::chunks::is_answered;
 use working::moving::data_by;
+use working::sent::SentDown;
 
 /// The path of the program that is offered or connected.
 pub fn standing_path(hold: &HoldState) -> Option<Path>

@@ -11,11 +11,11 @@ use chan_model::names::Path;
 use chan_model::signal::LentUp;
 use scsw_irb::scsw::ActivityControl;
 use scsw_irb::status::DeviceStatus;
-use working::sent::SentDown;
 use status::make_pending;
 use subchannel_model::cause::StatusCause;
 use subchannel_model::state::SubchannelState;
 use working::answers::by_hold;
+use working::sent::SentDown;
 
 /// Whether nothing goes on but a start that waits.
 fn is_open(activity: &ActivityControl) -> bool

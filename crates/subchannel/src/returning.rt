@@ -9,9 +9,9 @@ ghost use Rattle.working.specs.Stepping.{subchannel_stepped};
 
 use chan_model::names::Path;
 use chan_model::signal::{Down, LentUp};
-use working::sent::SentDown;
 use subchannel_model::state::{PmcwState, SubchannelState};
 use working::answers::by_hold;
+use working::sent::SentDown;
 
 /// Back: the path of a Grant is the one that was used last, and the one that was chosen last.
 pub(crate) fn come_back(

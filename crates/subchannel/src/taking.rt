@@ -14,7 +14,6 @@ use crate::returning::come_back;
 use chan_model::names::Path;
 use chan_model::signal::{LentUp, Up};
 use hold::Hold;
-use working::sent::SentDown;
 use status::make_pending;
 use storage_keys::Storage;
 use subchannel_model::cause::StatusCause;
@@ -23,6 +22,7 @@ use working::accepting::accept;
 use working::answers::{by_hold, ignored, quiet, take_by};
 use working::ending::end_command;
 use working::moving::take_data;
+use working::sent::SentDown;
 
 /// A clear that is pending is performed.
 fn do_clear(state: &mut SubchannelState)

@@ -266,9 +266,10 @@ pub fn up_sub(
     let available = sub.state.pmcw.available;
     let first = first_up(&sub.wires, path);
     let taken = take_up(storage, &mut sub.state, path, &first, returns, sent);
-    log.meet_up(&first, taken, &sent.get());
+    let answer = sent.get();
+    log.meet_up(&first, taken, &answer);
     sub.wires.drop_up(path);
-    send_any_down(&mut sub.wires, &available, &sent.get());
+    send_any_down(&mut sub.wires, &available, &answer);
     Ok(())
 }
 

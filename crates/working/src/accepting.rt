@@ -14,6 +14,7 @@ ghost use Rattle.transfer.specs.Commands as transfer_spec;
 
 use crate::answers::{ignored, let_go, quiet, take_by};
 use crate::intermediate::{interrupt, suspend};
+use crate::sent::SentDown;
 use ccw_walk::Walk;
 use chan_model::hold_state::HoldPhase;
 use chan_model::names::Path;
@@ -22,7 +23,6 @@ use channel_program::Advance;
 use channel_program::check::Check;
 use hold::Hold;
 use scsw_irb::scsw::Scsw;
-use crate::sent::SentDown;
 use status::make_pending;
 use storage_keys::Storage;
 use subchannel_model::cause::StatusCause;

@@ -7,10 +7,10 @@ ghost use Rattle.working.specs.Sent.{came_so};
 ghost use Rattle.subchannel_model.specs.Taking as spec;
 ghost use Rattle.working.specs.Stepping.{not_taken, subchannel_stepped, taken_with};
 
+use crate::sent::SentDown;
 use chan_model::names::Path;
 use chan_model::signal::{LentDown, LentUp, OnPath};
 use hold::Hold;
-use crate::sent::SentDown;
 use subchannel_model::state::SubchannelState;
 
 pub fn ignored(sent: &mut SentDown) -> bool

@@ -13,12 +13,12 @@ ghost use Rattle.working.specs.Stepping.{subchannel_stepped};
 
 use crate::answers::ignored;
 use crate::intermediate::interrupt;
+use crate::sent::SentDown;
 use allegiance::allegiances::{AllegianceCause, dedicated};
 use chan_model::chunk::Bytes;
 use chan_model::names::Path;
 use chan_model::signal::{Down, LentUp, Load, Up};
 use hold::Hold;
-use crate::sent::SentDown;
 use storage_keys::Storage;
 use subchannel_model::signals::DataSignal;
 use subchannel_model::state::{ActiveProgram, SubchannelState};

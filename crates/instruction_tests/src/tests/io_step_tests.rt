@@ -89,14 +89,14 @@ fn on_subchannel(bench: &mut Lent, instruction: Instruction) -> Result<u8, Fault
     if !is_roomy(&bench.sub) {
         return Err(Fault::NoMemory);
     }
-    let reply = perform(
+    let answer = perform(
         &mut bench.storage,
         Some(&mut bench.sub),
         &mut bench.pending,
         cpu,
         instruction,
-    )?;
-    Ok(code_of(&reply))
+    );
+    code_in(&answer)
 }
 
 /// The same where the subchannel is not provided.
@@ -104,14 +104,14 @@ fn performed_absent(bench: &mut Lent, instruction: Instruction) -> Result<u8, Fa
     let Some(cpu) = Cpu::new(0) else {
         return Err(Fault::NoMemory);
     };
-    let reply = perform(
+    let answer = perform(
         &mut bench.storage,
         None,
         &mut bench.pending,
         cpu,
         instruction,
-    )?;
-    Ok(code_of(&reply))
+    );
+    code_in(&answer)
 }
 
 /// The same for an instruction that names no subchannel.
@@ -119,15 +119,23 @@ fn other(bench: &mut Lent, instruction: OtherInstruction) -> Result<u8, Fault> {
     let Some(cpu) = Cpu::new(0) else {
         return Err(Fault::NoMemory);
     };
-    let reply = perform_other(
+    let answer = perform_other(
         &mut bench.storage,
         &mut bench.pending,
         &mut bench.reports,
         &bench.paths,
         cpu,
         instruction,
-    )?;
-    Ok(code_of(&reply))
+    );
+    code_in(&answer)
+}
+
+/// The condition code of what was answered, or the refusal.
+fn code_in(answer: &Result<PlainReply, Fault>) -> Result<u8, Fault> {
+    match answer {
+        Ok(reply) => Ok(code_of(reply)),
+        Err(fault) => Err(*fault),
+    }
 }
 
 fn code_of(reply: &PlainReply) -> u8 {
