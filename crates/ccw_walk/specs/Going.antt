@@ -1,10 +1,10 @@
 -- What a call of a walk does, over all that was done before it.
 use Rattle.std.specs.Prelude.{◌≡◌, ◌<◌, ◌^◌, List, ◌++◌, ⊤}
 use Rattle.orb_block.specs.declared.Orb.{Orb}
-use Rattle.channel_program.specs.declared.Reading.{Reading}
-use Rattle.channel_program.specs.declared.Reading.TheVariants.{Transfers}
-use Rattle.channel_program.specs.Acts.{Act}
-use Rattle.channel_program.specs.Walks.{WalkPlace, walk_place}
+use Rattle.ccw_walk.specs.declared.program.Reading.{Reading}
+use Rattle.ccw_walk.specs.declared.program.Reading.TheVariants.{Transfers}
+use Rattle.ccw_walk.specs.Acts.{Act}
+use Rattle.ccw_walk.specs.Walks.{WalkPlace, walk_place}
 
 -- wherever what was done before led to the old place, some acts more lead to the new one
 abbrev pub GoesOn : WalkPlace → List Act → WalkPlace → Type 0

@@ -2,18 +2,21 @@
 #![tactic(auto)]
 
 ghost use Rattle.std.specs.Prelude.{◌≡◌, ◌+◌, ◌<◌, ◌^◌, ◌↔◌, [], ◌∷◌, Some, IsSome, IfOk, IfErr, OnOk};
-ghost use Rattle.channel_program.specs.Acts.{Block, Unfetched, Used_up, End};
-ghost use Rattle.channel_program.specs.Blocks.{reads};
-ghost use Rattle.channel_program.specs.Walks.{walk_place, after_act, after_acts, fetch_act, advance_acts, act_advance, advance_of};
-ghost use Rattle.channel_program.specs.Walks as spec;
+ghost use Rattle.ccw_walk.specs.Acts.{Block, Unfetched, Used_up, End};
+ghost use Rattle.ccw_walk.specs.Blocks.{reads};
+ghost use Rattle.ccw_walk.specs.Walks.{walk_place, after_act, after_acts, fetch_act, advance_acts, act_advance, advance_of};
+ghost use Rattle.ccw_walk.specs.Walks as spec;
 ghost use Rattle.storage_keys.specs.Storage.{fetched as storage_fetched};
 ghost use Rattle.ccw_walk.specs.Going.{GoesOn};
 
+pub mod check;
+pub mod law;
+pub mod program;
 mod reading;
 
-use channel_program::check::Check;
-use channel_program::law::{advances, places};
-use channel_program::{Advance, Ended, Latest, Reading, Role};
+use crate::check::Check;
+use crate::law::{advances, places};
+use crate::program::{Advance, Ended, Latest, Reading, Role};
 use orb_block::Orb;
 use reading::reading;
 use std::marker::Model;
@@ -34,7 +37,7 @@ pub struct Walk {
 
 impl Model for Walk {
     ghost use Rattle.std.specs.Prelude.{◌+◌, ◌<◌, ◌^◌, IfSome};
-    ghost use Rattle.channel_program.specs.Walks.{WalkPlace};
+    ghost use Rattle.ccw_walk.specs.Walks.{WalkPlace};
 
     ghost Value = { WalkPlace };
 

@@ -1,12 +1,12 @@
 //! What a block comes to where it stands.
 
 ghost use Rattle.std.specs.Prelude.{◌≡◌};
-ghost use Rattle.channel_program.specs.Blocks as spec;
+ghost use Rattle.ccw_walk.specs.Blocks as spec;
 ghost use Rattle.ccw_walk.specs.Going.{IsTargetInRange};
 
+use crate::program::{Reading, Role};
 use ccw_codec::command::{is_transfer, is_valid};
 use ccw_codec::{Ccw, Format};
-use channel_program::{Reading, Role};
 use orb_block::Orb;
 
 /// Whether a block is a transfer in channel (TIC), takes control, suspends or shows a program check.

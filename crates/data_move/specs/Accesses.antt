@@ -4,9 +4,9 @@ use Rattle.byteorder.specs.Endian.{big_number}
 use Rattle.storage_keys.specs.Storage as keys
 use Rattle.storage_keys.specs.Storage.{Contents, fetched}
 use Rattle.storage_keys.specs.declared.StorageFault.{StorageFault}
-use Rattle.channel_program.specs.declared.check.Check.{Check}
-use Rattle.channel_program.specs.declared.check.Check.TheVariants.{Program}
-use Rattle.channel_program.specs.Checks.{check_of}
+use Rattle.ccw_walk.specs.declared.check.Check.{Check}
+use Rattle.ccw_walk.specs.declared.check.Check.TheVariants.{Program}
+use Rattle.ccw_walk.specs.Checks.{check_of}
 use Rattle.idaw.specs.declared.ListKind.{ListKind}
 use Rattle.idaw.specs.Lists.{address_of_word, width, word_fault}
 use Rattle.idaw.specs.Places.{Reach, reach_with_word}

@@ -6,7 +6,7 @@ use Rattle.chan_model.specs.declared.hold_state.HoldPhase.TheVariants as hold
 use Rattle.chan_model.specs.declared.hold_state.HoldState.{HoldState}
 use Rattle.chan_model.specs.HoldTable.{letting_go, hold_after}
 use Rattle.chan_model.specs.UnitReports.{is_last_end}
-use Rattle.channel_program.specs.Walks.{WalkPlace}
+use Rattle.ccw_walk.specs.Walks.{WalkPlace}
 use Rattle.data_move.specs.Moving.{residual}
 use Rattle.scsw_irb.specs.declared.serials.Serials.{Serials}
 use Rattle.transfer.specs.declared.Transfer.{Transfer}

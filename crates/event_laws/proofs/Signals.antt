@@ -11,7 +11,7 @@ use Rattle.chan_model.specs.declared.signal.Up.TheVariants as up
 use Rattle.chan_model.specs.Loads.{load_length}
 use Rattle.chan_model.specs.HoldTable.{HoldStep, hold_quietly, refusing, granting, program_begun, offer_accepted, found_busy, left, asked_back, released, attended, hold_after, came_of, is_connected, is_on}
 use Rattle.chan_model.specs.UnitReports.{is_last_end, is_outward, has_device_end}
-use Rattle.channel_program.specs.Walks.{WalkPlace}
+use Rattle.ccw_walk.specs.Walks.{WalkPlace}
 use Rattle.data_move.specs.Moving.{residual}
 use Rattle.transfer.specs.declared.CommandStart.{CommandStart}
 use Rattle.transfer.specs.declared.CommandStart.TheVariants as came

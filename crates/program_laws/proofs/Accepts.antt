@@ -8,9 +8,9 @@ use Rattle.chan_model.specs.declared.hold_state.HoldPhase.TheVariants as hold
 use Rattle.chan_model.specs.declared.signal.Up.TheVariants as up
 use Rattle.chan_model.specs.HoldTable as hold_table
 use Rattle.chan_model.specs.HoldTable.{HoldStep}
-use Rattle.channel_program.specs.Acts.{Act}
-use Rattle.channel_program.specs.Programs.{IsProgram, role_of, next, commands}
-use Rattle.channel_program.specs.Walks.{WalkPlace, walk_place, advance_acts}
+use Rattle.ccw_walk.specs.Acts.{Act}
+use Rattle.ccw_walk.specs.Programs.{IsProgram, role_of, next, commands}
+use Rattle.ccw_walk.specs.Walks.{WalkPlace, walk_place, advance_acts}
 use Rattle.transfer.specs.declared.CommandStart.{CommandStart}
 use Rattle.transfer.specs.declared.CommandStart.TheVariants as came
 use Rattle.transfer.specs.Commands.{first_command, begun_with_room}

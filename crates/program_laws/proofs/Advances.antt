@@ -4,20 +4,20 @@ use Rattle.std.specs.Prelude.{◌&&◌, ◌||◌, if◌then◌else◌}
 use Rattle.orb_block.specs.declared.Orb.{Orb}
 use Rattle.storage_keys.specs.declared.StorageFault.{StorageFault}
 use Rattle.storage_keys.specs.Storage.{Contents, fetched}
-use Rattle.channel_program.specs.declared.check.Check.{Check}
-use Rattle.channel_program.specs.declared.check.Check.TheVariants.{Program}
-use Rattle.channel_program.specs.Checks.{check_of}
-use Rattle.channel_program.specs.declared.Advance.{Advance}
-use Rattle.channel_program.specs.declared.Advance.TheVariants as advance
-use Rattle.channel_program.specs.declared.Role.{Role}
-use Rattle.channel_program.specs.declared.Reading.{Reading}
-use Rattle.channel_program.specs.declared.Reading.TheVariants.{Transfers, Takes, Suspends, Shows}
-use Rattle.channel_program.specs.Acts.{Act, Block, Unfetched, Used_up, End, Word}
-use Rattle.channel_program.specs.Blocks.{reads}
-use Rattle.channel_program.specs.Programs.{Command, next, next_after, role_of, role_after, commands, commands_after}
-use Rattle.channel_program.proofs.Named.{acts_at}
-use Rattle.channel_program.specs.Walks.{WalkPlace, walk_place, is_program_misplaced, fetch_act, acts_from, advance_acts, advance_of}
-use Rattle.channel_program.proofs.Named.{after_block, act_of_fetch, with_target, block_advance}
+use Rattle.ccw_walk.specs.declared.check.Check.{Check}
+use Rattle.ccw_walk.specs.declared.check.Check.TheVariants.{Program}
+use Rattle.ccw_walk.specs.Checks.{check_of}
+use Rattle.ccw_walk.specs.declared.program.Advance.{Advance}
+use Rattle.ccw_walk.specs.declared.program.Advance.TheVariants as advance
+use Rattle.ccw_walk.specs.declared.program.Role.{Role}
+use Rattle.ccw_walk.specs.declared.program.Reading.{Reading}
+use Rattle.ccw_walk.specs.declared.program.Reading.TheVariants.{Transfers, Takes, Suspends, Shows}
+use Rattle.ccw_walk.specs.Acts.{Act, Block, Unfetched, Used_up, End, Word}
+use Rattle.ccw_walk.specs.Blocks.{reads}
+use Rattle.ccw_walk.specs.Programs.{Command, next, next_after, role_of, role_after, commands, commands_after}
+use Rattle.ccw_walk.proofs.Named.{acts_at}
+use Rattle.ccw_walk.specs.Walks.{WalkPlace, walk_place, is_program_misplaced, fetch_act, acts_from, advance_acts, advance_of}
+use Rattle.ccw_walk.proofs.Named.{after_block, act_of_fetch, with_target, block_advance}
 use Rattle.idaw.specs.Places.{Reach}
 use Rattle.program_laws.specs.Claims.{shows_check, has_check, EndsAtCheck}
 use Rattle.program_laws.specs.DataAreas.{data_areas, reaches_after}

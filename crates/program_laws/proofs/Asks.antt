@@ -11,17 +11,17 @@ use Rattle.scsw_irb.specs.declared.scsw.Scsw.{Scsw}
 use Rattle.scsw_irb.specs.declared.serials.Serials.{Serials}
 use Rattle.scsw_irb.specs.Empty.{no_status}
 use Rattle.scsw_irb.specs.Status.{has}
-use Rattle.channel_program.specs.declared.check.Check.{Check}
-use Rattle.channel_program.specs.declared.Advance.{Advance}
-use Rattle.channel_program.specs.declared.Advance.TheVariants as advance
-use Rattle.channel_program.specs.declared.Reading.{Reading}
-use Rattle.channel_program.specs.declared.Reading.TheVariants.{Transfers, Takes, Suspends, Shows}
-use Rattle.channel_program.specs.declared.Ended.{Ended}
-use Rattle.channel_program.specs.Acts.{Act, Block, End, Used_up}
-use Rattle.channel_program.specs.Blocks.{reads}
-use Rattle.channel_program.specs.Programs.{next, role_of}
-use Rattle.channel_program.proofs.Named.{acts_at, after_block, after_used_up, block_advance, walk_after_end, with_target}
-use Rattle.channel_program.specs.Walks.{WalkPlace, walk_place, acts_from, after_acts, advance_acts, advance_of}
+use Rattle.ccw_walk.specs.declared.check.Check.{Check}
+use Rattle.ccw_walk.specs.declared.program.Advance.{Advance}
+use Rattle.ccw_walk.specs.declared.program.Advance.TheVariants as advance
+use Rattle.ccw_walk.specs.declared.program.Reading.{Reading}
+use Rattle.ccw_walk.specs.declared.program.Reading.TheVariants.{Transfers, Takes, Suspends, Shows}
+use Rattle.ccw_walk.specs.declared.program.Ended.{Ended}
+use Rattle.ccw_walk.specs.Acts.{Act, Block, End, Used_up}
+use Rattle.ccw_walk.specs.Blocks.{reads}
+use Rattle.ccw_walk.specs.Programs.{next, role_of}
+use Rattle.ccw_walk.proofs.Named.{acts_at, after_block, after_used_up, block_advance, walk_after_end, with_target}
+use Rattle.ccw_walk.specs.Walks.{WalkPlace, walk_place, acts_from, after_acts, advance_acts, advance_of}
 use Rattle.data_move.specs.Accesses as access
 use Rattle.data_move.specs.Moving.{Moving, needs_word, residual, room}
 use Rattle.idaw.specs.declared.WordFault.{WordFault}

@@ -6,15 +6,15 @@ use Rattle.std.proofs.lemmas.List.{append-nil}
 use Rattle.orb_block.specs.declared.Orb.{Orb}
 use Rattle.ccw_codec.specs.declared.Ccw.{Ccw}
 use Rattle.storage_keys.specs.Storage.{Contents}
-use Rattle.channel_program.specs.declared.check.Check.{Check}
-use Rattle.channel_program.specs.declared.Advance.{Advance}
-use Rattle.channel_program.specs.declared.Advance.TheVariants as advance
-use Rattle.channel_program.specs.declared.Reading.TheVariants.{Takes}
-use Rattle.channel_program.specs.Acts.{Act, Used_up}
-use Rattle.channel_program.specs.Programs.{IsProgram, Command, role_of, latest, next, tried, commands, commands_after, join_last}
-use Rattle.channel_program.proofs.Named.{acts_at}
-use Rattle.channel_program.specs.Walks.{WalkPlace, walk_place, after_acts, advance_acts, advance_of}
-use Rattle.channel_program.proofs.Named.{after_used_up}
+use Rattle.ccw_walk.specs.declared.check.Check.{Check}
+use Rattle.ccw_walk.specs.declared.program.Advance.{Advance}
+use Rattle.ccw_walk.specs.declared.program.Advance.TheVariants as advance
+use Rattle.ccw_walk.specs.declared.program.Reading.TheVariants.{Takes}
+use Rattle.ccw_walk.specs.Acts.{Act, Used_up}
+use Rattle.ccw_walk.specs.Programs.{IsProgram, Command, role_of, latest, next, tried, commands, commands_after, join_last}
+use Rattle.ccw_walk.proofs.Named.{acts_at}
+use Rattle.ccw_walk.specs.Walks.{WalkPlace, walk_place, after_acts, advance_acts, advance_of}
+use Rattle.ccw_walk.proofs.Named.{after_used_up}
 use Rattle.idaw.specs.Lists.{block, kind_of}
 use Rattle.idaw.specs.Places.{Reach, place_of_byte, each_below, places_of_bytes}
 use Rattle.data_move.specs.Moving as movement

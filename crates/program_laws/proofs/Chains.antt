@@ -9,9 +9,9 @@ use Rattle.chan_model.specs.declared.hold_state.HoldPhase.{HoldPhase}
 use Rattle.chan_model.specs.declared.hold_state.HoldPhase.TheVariants as hold
 use Rattle.chan_model.specs.HoldTable.{is_on}
 use Rattle.chan_model.specs.UnitReports.{has_device_end, has_unit_check, is_last_end}
-use Rattle.channel_program.specs.Programs.{latest, next}
-use Rattle.channel_program.specs.Acts.{Act, End}
-use Rattle.channel_program.specs.Walks.{WalkPlace}
+use Rattle.ccw_walk.specs.Programs.{latest, next}
+use Rattle.ccw_walk.specs.Acts.{Act, End}
+use Rattle.ccw_walk.specs.Walks.{WalkPlace}
 use Rattle.transfer.specs.declared.Beginning.{Beginning}
 use Rattle.transfer.specs.declared.CommandStart.{CommandStart}
 use Rattle.transfer.specs.declared.CommandStart.TheVariants as came
@@ -26,7 +26,7 @@ use Rattle.subchannel_model.specs.Ends.{has_status_modifier, has_unit_exception,
 use Rattle.scsw_irb.specs.declared.scsw.Scsw.{Scsw}
 use Rattle.orb_block.specs.declared.Orb.{Orb}
 use Rattle.ccw_codec.specs.declared.Ccw.{Ccw}
-use Rattle.channel_program.specs.declared.Latest.{Latest}
+use Rattle.ccw_walk.specs.declared.program.Latest.{Latest}
 use Rattle.data_move.specs.Moving.{residual}
 use Rattle.subchannel_model.specs.Status.{serials_made}
 use Rattle.subchannel_model.specs.declared.cause.StatusCause.TheVariants as cause

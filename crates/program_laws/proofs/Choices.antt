@@ -26,7 +26,7 @@ use Rattle.channel_config.specs.declared.parts.SubchannelSetup.{SubchannelSetup}
 use Rattle.channel_config.specs.Lawful.{IsLawful}
 use Rattle.channel_config.specs.Setup.{Setup}
 use Rattle.orb_block.specs.declared.Orb.{Orb}
-use Rattle.channel_program.specs.Programs.{code}
+use Rattle.ccw_walk.specs.Programs.{code}
 use Rattle.chan_model.specs.HoldTable as hold_table
 use Rattle.scsw_irb.specs.declared.status.DeviceStatus.{DeviceStatus}
 use Rattle.chan_model.specs.HoldTable.{is_connected, is_on}

@@ -10,7 +10,7 @@ use Rattle.chan_model.specs.Signals.{Load}
 use Rattle.chan_model.specs.declared.signal.Up.TheVariants as up
 use Rattle.chan_model.specs.Loads.{load_length}
 use Rattle.chan_model.specs.UnitReports.{is_outward}
-use Rattle.channel_program.specs.Walks.{walk_place}
+use Rattle.ccw_walk.specs.Walks.{walk_place}
 use Rattle.transfer.specs.declared.NextChunk.{NextChunk}
 use Rattle.transfer.specs.declared.Transfer.{Transfer}
 use Rattle.transfer.specs.Commands.{located_transfer}

@@ -7,17 +7,17 @@ use Rattle.ccw_codec.specs.declared.Ccw.{Ccw}
 use Rattle.ccw_codec.specs.Command.{class_of}
 use Rattle.storage_keys.specs.declared.StorageFault.{StorageFault}
 use Rattle.storage_keys.specs.Storage.{Contents, fetched}
-use Rattle.channel_program.specs.declared.check.Check.{Check}
-use Rattle.channel_program.specs.declared.check.Check.TheVariants.{Program}
-use Rattle.channel_program.specs.declared.Ended.{Ended}
-use Rattle.channel_program.specs.declared.Reading.{Reading}
-use Rattle.channel_program.specs.declared.Reading.TheVariants.{Transfers, Takes, Suspends, Shows}
-use Rattle.channel_program.specs.Acts.{Act, Block, Unfetched, Used_up, End}
-use Rattle.channel_program.specs.Blocks.{reads}
-use Rattle.channel_program.specs.Programs.{IsProgram, role_of, next, commands}
-use Rattle.channel_program.proofs.Named.{acts_at}
-use Rattle.channel_program.specs.Walks.{WalkPlace, walk_place, is_program_misplaced, fetch_act, acts_from, advance_acts}
-use Rattle.channel_program.proofs.Named.{after_block, after_used_up, walk_after_end, act_of_fetch, with_target}
+use Rattle.ccw_walk.specs.declared.check.Check.{Check}
+use Rattle.ccw_walk.specs.declared.check.Check.TheVariants.{Program}
+use Rattle.ccw_walk.specs.declared.program.Ended.{Ended}
+use Rattle.ccw_walk.specs.declared.program.Reading.{Reading}
+use Rattle.ccw_walk.specs.declared.program.Reading.TheVariants.{Transfers, Takes, Suspends, Shows}
+use Rattle.ccw_walk.specs.Acts.{Act, Block, Unfetched, Used_up, End}
+use Rattle.ccw_walk.specs.Blocks.{reads}
+use Rattle.ccw_walk.specs.Programs.{IsProgram, role_of, next, commands}
+use Rattle.ccw_walk.proofs.Named.{acts_at}
+use Rattle.ccw_walk.specs.Walks.{WalkPlace, walk_place, is_program_misplaced, fetch_act, acts_from, advance_acts}
+use Rattle.ccw_walk.proofs.Named.{after_block, after_used_up, walk_after_end, act_of_fetch, with_target}
 use Rattle.idaw.specs.declared.ListKind.{ListKind}
 use Rattle.idaw.specs.Lists.{kind_of, width, address_of_word, word_fault}
 use Rattle.idaw.specs.declared.WordFault.{WordFault}

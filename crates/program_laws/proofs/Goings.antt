@@ -9,9 +9,9 @@ use Rattle.chan_model.specs.declared.hold_state.HoldState.{HoldState}
 use Rattle.chan_model.specs.Signals.{Down}
 use Rattle.chan_model.specs.declared.signal.OnPath.{OnPath}
 use Rattle.chan_model.specs.HoldTable.{came_of, letting_go}
-use Rattle.channel_program.specs.Acts.{Act}
-use Rattle.channel_program.specs.Programs.{Command, commands, code}
-use Rattle.channel_program.specs.Walks.{WalkPlace}
+use Rattle.ccw_walk.specs.Acts.{Act}
+use Rattle.ccw_walk.specs.Programs.{Command, commands, code}
+use Rattle.ccw_walk.specs.Walks.{WalkPlace}
 use Rattle.data_move.specs.Moving.{residual}
 use Rattle.transfer.specs.declared.Transfer.{Transfer}
 use Rattle.transfer.specs.declared.CommandStart.{CommandStart}

@@ -16,12 +16,12 @@ use Rattle.chan_model.specs.HoldTable.{HoldStep, hold_takes, came_of, is_connect
 use Rattle.chan_model.specs.Loads.{load_length}
 use Rattle.subchannel_model.specs.declared.status.Shown.{Shown}
 use Rattle.chan_model.specs.UnitReports.{is_outward, is_last_end, has_device_end, has_unit_check}
-use Rattle.channel_program.specs.declared.check.Check.{Check}
-use Rattle.channel_program.specs.declared.Ended.{Ended}
-use Rattle.channel_program.specs.Acts.{Act, End}
-use Rattle.channel_program.specs.Programs.{IsProgram, role_of, commands}
-use Rattle.channel_program.specs.Walks.{WalkPlace, walk_place}
-use Rattle.channel_program.proofs.Named.{walk_after_end}
+use Rattle.ccw_walk.specs.declared.check.Check.{Check}
+use Rattle.ccw_walk.specs.declared.program.Ended.{Ended}
+use Rattle.ccw_walk.specs.Acts.{Act, End}
+use Rattle.ccw_walk.specs.Programs.{IsProgram, role_of, commands}
+use Rattle.ccw_walk.specs.Walks.{WalkPlace, walk_place}
+use Rattle.ccw_walk.proofs.Named.{walk_after_end}
 use Rattle.idaw.specs.Lists.{block, kind_of}
 use Rattle.idaw.specs.Places.{places_of_bytes}
 use Rattle.data_move.specs.Moving.{residual}

@@ -9,8 +9,8 @@ use Rattle.chan_model.specs.declared.hold_state.HoldState.{HoldState}
 use Rattle.chan_model.specs.HoldTable as hold_table
 use Rattle.chan_model.specs.HoldTable.{HoldStep, hold_after, letting_go}
 use Rattle.chan_model.specs.UnitReports.{is_outward}
-use Rattle.channel_program.specs.Programs.{role_of}
-use Rattle.channel_program.specs.Walks.{walk_place}
+use Rattle.ccw_walk.specs.Programs.{role_of}
+use Rattle.ccw_walk.specs.Walks.{walk_place}
 use Rattle.transfer.specs.declared.Transfer.{Transfer}
 use Rattle.scsw_irb.specs.declared.scsw.Scsw.{Scsw}
 use Rattle.subchannel_model.specs.declared.state.ActiveProgram.{ActiveProgram}

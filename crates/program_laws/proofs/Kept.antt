@@ -7,14 +7,14 @@ use Rattle.std.proofs.Math.Nat.{min-le_left}
 use Rattle.orb_block.specs.declared.Orb.{Orb}
 use Rattle.ccw_codec.specs.declared.Ccw.{Ccw}
 use Rattle.storage_keys.specs.Storage.{Contents, fetched}
-use Rattle.channel_program.specs.declared.check.Check.{Check}
-use Rattle.channel_program.specs.declared.check.Check.TheVariants.{Program}
-use Rattle.channel_program.specs.declared.Advance.{Advance}
-use Rattle.channel_program.specs.declared.Advance.TheVariants as advance
-use Rattle.channel_program.specs.Acts.{Act, Used_up}
-use Rattle.channel_program.specs.Programs.{role_of, commands, next}
-use Rattle.channel_program.specs.Walks.{WalkPlace, walk_place, after_acts, advance_acts, advance_of}
-use Rattle.channel_program.proofs.Named.{after_used_up}
+use Rattle.ccw_walk.specs.declared.check.Check.{Check}
+use Rattle.ccw_walk.specs.declared.check.Check.TheVariants.{Program}
+use Rattle.ccw_walk.specs.declared.program.Advance.{Advance}
+use Rattle.ccw_walk.specs.declared.program.Advance.TheVariants as advance
+use Rattle.ccw_walk.specs.Acts.{Act, Used_up}
+use Rattle.ccw_walk.specs.Programs.{role_of, commands, next}
+use Rattle.ccw_walk.specs.Walks.{WalkPlace, walk_place, after_acts, advance_acts, advance_of}
+use Rattle.ccw_walk.proofs.Named.{after_used_up}
 use Rattle.idaw.specs.declared.ListKind.{ListKind}
 use Rattle.idaw.specs.declared.ListKind.TheVariants.{Short, LongByFourK, LongByTwoK}
 use Rattle.idaw.specs.declared.WordFault.{WordFault}

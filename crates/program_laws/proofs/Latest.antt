@@ -3,12 +3,12 @@ use Rattle.std.proofs.Common.{◌≡◌, refl, sym, ◌∙◌, ap, subst, ℕ, �
 use Rattle.std.specs.Prelude.{if◌then◌else◌, is_some, not, ◌&&◌, ◌||◌}
 use Rattle.orb_block.specs.declared.Orb.{Orb}
 use Rattle.ccw_codec.specs.declared.Ccw.{Ccw}
-use Rattle.channel_program.specs.declared.Latest.{Latest}
-use Rattle.channel_program.specs.declared.Reading.{Reading}
-use Rattle.channel_program.specs.declared.Reading.TheVariants.{Transfers, Takes, Suspends, Shows}
-use Rattle.channel_program.specs.Acts.{Act, Block, Unfetched, Used_up, End, Word}
-use Rattle.channel_program.specs.Blocks.{reads}
-use Rattle.channel_program.specs.Programs.{Command, code, role_of, latest, latest_after, next_ended, commands, commands_after}
+use Rattle.ccw_walk.specs.declared.program.Latest.{Latest}
+use Rattle.ccw_walk.specs.declared.program.Reading.{Reading}
+use Rattle.ccw_walk.specs.declared.program.Reading.TheVariants.{Transfers, Takes, Suspends, Shows}
+use Rattle.ccw_walk.specs.Acts.{Act, Block, Unfetched, Used_up, End, Word}
+use Rattle.ccw_walk.specs.Blocks.{reads}
+use Rattle.ccw_walk.specs.Programs.{Command, code, role_of, latest, latest_after, next_ended, commands, commands_after}
 use Rattle.idaw.specs.Places.{Reach, reach_with_word}
 use Rattle.transfer.specs.declared.Transfer.{Transfer}
 use Rattle.program_laws.proofs.Named.{word_after}

@@ -20,10 +20,10 @@ use Rattle.chan_model.specs.HoldTable as hold_table
 use Rattle.chan_model.specs.HoldTable.{HoldStep, hold_after, came_of, is_connected, is_on, letting_go, left, asked_back, found_busy, released, reset_cleared, attended}
 use Rattle.chan_model.specs.Loads.{load_length}
 use Rattle.chan_model.specs.UnitReports.{is_outward, is_last_end, has_device_end}
-use Rattle.channel_program.specs.Acts.{Act, End}
-use Rattle.channel_program.specs.Programs.{commands}
-use Rattle.channel_program.specs.Walks.{WalkPlace}
-use Rattle.channel_program.proofs.Named.{walk_after_end}
+use Rattle.ccw_walk.specs.Acts.{Act, End}
+use Rattle.ccw_walk.specs.Programs.{commands}
+use Rattle.ccw_walk.specs.Walks.{WalkPlace}
+use Rattle.ccw_walk.proofs.Named.{walk_after_end}
 use Rattle.idaw.specs.Places.{each_below}
 use Rattle.data_move.specs.Moving.{residual, room}
 use Rattle.transfer.specs.declared.Transfer.{Transfer}

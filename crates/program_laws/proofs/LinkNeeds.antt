@@ -5,7 +5,7 @@ use Rattle.std.proofs.lemmas.List.{length-map}
 use Rattle.chan_model.specs.declared.hold_state.HoldPhase.{HoldPhase}
 use Rattle.chan_model.specs.declared.hold_state.HoldPhase.TheVariants as hold
 use Rattle.chan_model.specs.HoldTable.{is_connected, is_on}
-use Rattle.channel_program.specs.Programs.{Command, commands, code}
+use Rattle.ccw_walk.specs.Programs.{Command, commands, code}
 use Rattle.transfer.specs.declared.Transfer.{Transfer}
 use Rattle.scsw_irb.specs.declared.scsw.Scsw.{Scsw}
 use Rattle.subchannel_model.specs.declared.state.ActiveProgram.{ActiveProgram}

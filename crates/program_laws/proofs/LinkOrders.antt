@@ -41,7 +41,7 @@ use Rattle.program_laws.proofs.MachineTraces.{silent_by, trace_meets, met_with, 
 use Rattle.program_laws.proofs.Named.{offered_for}
 use Rattle.program_laws.specs.Traces.{ProgramTrace, trace_offered, chosen_at, taken_at, absorbs, reported_at}
 use Rattle.program_laws.proofs.Named.{reported}
-use Rattle.channel_program.specs.Programs.{Command, commands, code}
+use Rattle.ccw_walk.specs.Programs.{Command, commands, code}
 use Rattle.program_laws.proofs.Caused.{cause-kept}
 use Rattle.program_laws.proofs.Holds.{IsUnheld, IsUntold}
 use Rattle.std.proofs.lemmas.List.{length-map}

@@ -4,12 +4,12 @@ use Rattle.std.specs.Prelude.{◌⊎◌, min, nat_lt, is_some, if◌then◌else�
 use Rattle.std.proofs.lemmas.Bool.{eqb-true, and_parts}
 use Rattle.std.proofs.Math.Nat.{min-le_left}
 use Rattle.storage_keys.specs.Storage.{Contents}
-use Rattle.channel_program.specs.declared.check.Check.{Check}
-use Rattle.channel_program.specs.declared.Advance.{Advance}
-use Rattle.channel_program.specs.declared.Advance.TheVariants as advance
-use Rattle.channel_program.specs.Acts.{PlacedBytes}
-use Rattle.channel_program.specs.Walks.{WalkPlace, after_acts, advance_acts, advance_of}
-use Rattle.channel_program.proofs.Named.{after_used_up}
+use Rattle.ccw_walk.specs.declared.check.Check.{Check}
+use Rattle.ccw_walk.specs.declared.program.Advance.{Advance}
+use Rattle.ccw_walk.specs.declared.program.Advance.TheVariants as advance
+use Rattle.ccw_walk.specs.Acts.{PlacedBytes}
+use Rattle.ccw_walk.specs.Walks.{WalkPlace, after_acts, advance_acts, advance_of}
+use Rattle.ccw_walk.proofs.Named.{after_used_up}
 use Rattle.idaw.specs.Places.{each_below}
 use Rattle.data_move.specs.Moving.{Moving, next_place, needs_word, room}
 use Rattle.data_move.specs.Accesses as access

@@ -3,11 +3,11 @@
 use Rattle.std.specs.Prelude.{ℕ, ◌+◌, ◌==◌, Bool, true, min, if◌then◌else◌, is_some, Option, None, Some, List, [], ◌∷◌, ◌++◌, length, Result, Ok, Err}
 use Rattle.ccw_codec.specs.Command.{class_of}
 use Rattle.storage_keys.specs.Storage.{Contents}
-use Rattle.channel_program.specs.declared.check.Check.{Check}
-use Rattle.channel_program.specs.declared.Ended.{Ended}
-use Rattle.channel_program.specs.Acts.{Act, PlacedBytes, Used_up, End, Word}
-use Rattle.channel_program.specs.Walks.{WalkPlace, advance_acts}
-use Rattle.channel_program.proofs.Named.{after_used_up, walk_after_end}
+use Rattle.ccw_walk.specs.declared.check.Check.{Check}
+use Rattle.ccw_walk.specs.declared.program.Ended.{Ended}
+use Rattle.ccw_walk.specs.Acts.{Act, PlacedBytes, Used_up, End, Word}
+use Rattle.ccw_walk.specs.Walks.{WalkPlace, advance_acts}
+use Rattle.ccw_walk.proofs.Named.{after_used_up, walk_after_end}
 use Rattle.idaw.specs.declared.WordFault.{WordFault}
 use Rattle.idaw.specs.Lists.{word_fault}
 use Rattle.idaw.specs.Places.{each_below}

@@ -16,9 +16,9 @@ use Rattle.chan_events.specs.Replies.{Reply}
 use Rattle.chan_model.specs.HoldTable.{HoldStep, hold_takes, hold_after, came_of, is_connected, is_on}
 use Rattle.chan_model.specs.Loads.{load_length}
 use Rattle.chan_model.specs.UnitReports.{is_outward, has_device_end}
-use Rattle.channel_program.specs.Acts.{Act, End}
-use Rattle.channel_program.specs.Programs.{commands}
-use Rattle.channel_program.specs.Walks.{WalkPlace, walk_place}
+use Rattle.ccw_walk.specs.Acts.{Act, End}
+use Rattle.ccw_walk.specs.Programs.{commands}
+use Rattle.ccw_walk.specs.Walks.{WalkPlace, walk_place}
 use Rattle.transfer.specs.declared.Transfer.{Transfer}
 use Rattle.transfer.specs.declared.CommandStart.{CommandStart}
 use Rattle.transfer.specs.declared.CommandStart.TheVariants as came

@@ -6,10 +6,10 @@ use Rattle.std.specs.Prelude.{◌||◌, if◌then◌else◌, is_some}
 use Rattle.orb_block.specs.declared.Orb.{Orb}
 use Rattle.storage_keys.specs.declared.StorageFault.{StorageFault}
 use Rattle.storage_keys.specs.Storage.{Contents, stored_bytes}
-use Rattle.channel_program.specs.declared.check.Check.{Check}
-use Rattle.channel_program.specs.Acts.{Act}
-use Rattle.channel_program.specs.Programs.{Command, commands, code}
-use Rattle.channel_program.specs.Walks.{WalkPlace}
+use Rattle.ccw_walk.specs.declared.check.Check.{Check}
+use Rattle.ccw_walk.specs.Acts.{Act}
+use Rattle.ccw_walk.specs.Programs.{Command, commands, code}
+use Rattle.ccw_walk.specs.Walks.{WalkPlace}
 use Rattle.idaw.specs.Places.{each_below}
 use Rattle.data_move.specs.Accesses as access
 use Rattle.data_move.specs.Accesses.{checked}

@@ -2,8 +2,8 @@
 use Rattle.std.specs.Prelude.{◌≡◌, ◌⊎◌, ℕ, ◌+◌, ◌^◌, ◌==◌, ◌&&◌, ◌||◌, nat_le, if◌then◌else◌, Result, Ok, Err, Bool, true, false, is_none, is_some, Option, None, Some, option_map, List, [], ◌∷◌, length, map, reverse, take, drop}
 use Rattle.orb_block.specs.declared.Orb.{Orb}
 use Rattle.ccw_codec.specs.declared.Ccw.{Ccw}
-use Rattle.channel_program.specs.Acts.{Act, PlacedBytes}
-use Rattle.channel_program.specs.Programs.{Command, next, tried, commands, code}
+use Rattle.ccw_walk.specs.Acts.{Act, PlacedBytes}
+use Rattle.ccw_walk.specs.Programs.{Command, next, tried, commands, code}
 use Rattle.idaw.specs.Places.{Reach, reach_with_word}
 use Rattle.idaw.specs.declared.ListKind.{ListKind}
 use Rattle.idaw.specs.declared.ListKind.TheVariants.{Short}
@@ -17,8 +17,8 @@ use Rattle.program_laws.specs.Shows.{IsShownOf, IsZeroShown}
 use Rattle.program_laws.specs.Traces.{ProgramTrace, trace_offered, trace_resumed, absorbs}
 use Rattle.idaw.specs.declared.WordFault.{WordFault}
 use Rattle.data_move.specs.Moving.{Moving}
-use Rattle.channel_program.specs.declared.check.Check.{Check}
-use Rattle.channel_program.specs.declared.check.Check.TheVariants as check
+use Rattle.ccw_walk.specs.declared.check.Check.{Check}
+use Rattle.ccw_walk.specs.declared.check.Check.TheVariants as check
 use Rattle.chan_model.specs.Signals.{Down}
 use Rattle.chan_model.specs.declared.signal.Down.TheVariants as down
 use Rattle.chan_model.specs.declared.unit_state.UnitState.{UnitState}

@@ -4,12 +4,12 @@ use Rattle.std.proofs.lemmas.Bool.{eqb-true}
 use Rattle.std.specs.Prelude.{◌||◌, ◌&&◌, ◌⊎◌, nat_lt, if◌then◌else◌, is_some}
 use Rattle.orb_block.specs.declared.Orb.{Orb}
 use Rattle.storage_keys.specs.Storage.{Contents}
-use Rattle.channel_program.specs.declared.check.Check.{Check}
-use Rattle.channel_program.specs.Acts.{Act}
-use Rattle.channel_program.specs.Walks.{WalkPlace, after_acts, advance_acts, advance_of}
-use Rattle.channel_program.specs.declared.Advance.{Advance}
-use Rattle.channel_program.specs.declared.Advance.TheVariants as advance
-use Rattle.channel_program.proofs.Named.{after_used_up}
+use Rattle.ccw_walk.specs.declared.check.Check.{Check}
+use Rattle.ccw_walk.specs.Acts.{Act}
+use Rattle.ccw_walk.specs.Walks.{WalkPlace, after_acts, advance_acts, advance_of}
+use Rattle.ccw_walk.specs.declared.program.Advance.{Advance}
+use Rattle.ccw_walk.specs.declared.program.Advance.TheVariants as advance
+use Rattle.ccw_walk.proofs.Named.{after_used_up}
 use Rattle.data_move.specs.Accesses as access
 use Rattle.data_move.specs.Accesses.{checked}
 use Rattle.data_move.specs.Moving.{Moving, room}

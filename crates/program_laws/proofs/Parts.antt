@@ -8,13 +8,13 @@ use Rattle.std.proofs.Math.Nat.{min-le_left, min-le_right}
 use Rattle.orb_block.specs.declared.Orb.{Orb}
 use Rattle.ccw_codec.specs.Command.{class_of}
 use Rattle.storage_keys.specs.Storage.{Contents}
-use Rattle.channel_program.specs.declared.check.Check.{Check}
-use Rattle.channel_program.specs.declared.Advance.{Advance}
-use Rattle.channel_program.specs.declared.Advance.TheVariants as advance
-use Rattle.channel_program.specs.Acts.{Act}
-use Rattle.channel_program.specs.Programs.{IsProgram, Command, role_of, next, commands, code}
-use Rattle.channel_program.specs.Walks.{WalkPlace, walk_place, advance_acts, after_acts, advance_of}
-use Rattle.channel_program.proofs.Named.{after_used_up}
+use Rattle.ccw_walk.specs.declared.check.Check.{Check}
+use Rattle.ccw_walk.specs.declared.program.Advance.{Advance}
+use Rattle.ccw_walk.specs.declared.program.Advance.TheVariants as advance
+use Rattle.ccw_walk.specs.Acts.{Act}
+use Rattle.ccw_walk.specs.Programs.{IsProgram, Command, role_of, next, commands, code}
+use Rattle.ccw_walk.specs.Walks.{WalkPlace, walk_place, advance_acts, after_acts, advance_of}
+use Rattle.ccw_walk.proofs.Named.{after_used_up}
 use Rattle.idaw.specs.declared.WordFault.{WordFault}
 use Rattle.idaw.specs.Lists.{word_fault}
 use Rattle.idaw.specs.Places.{each_below}

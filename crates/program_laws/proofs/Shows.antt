@@ -10,9 +10,9 @@ use Rattle.storage_keys.specs.Storage.{Contents}
 use Rattle.chan_model.specs.Signals.{Load}
 use Rattle.chan_model.specs.Loads.{load_length}
 use Rattle.chan_model.specs.UnitReports.{is_outward, is_last_end}
-use Rattle.channel_program.specs.declared.check.Check.{Check}
-use Rattle.channel_program.specs.Acts.{Act, End}
-use Rattle.channel_program.specs.Walks.{WalkPlace, walk_place}
+use Rattle.ccw_walk.specs.declared.check.Check.{Check}
+use Rattle.ccw_walk.specs.Acts.{Act, End}
+use Rattle.ccw_walk.specs.Walks.{WalkPlace, walk_place}
 use Rattle.data_move.specs.Moving.{residual}
 use Rattle.transfer.specs.declared.Beginning.{Beginning}
 use Rattle.transfer.specs.declared.CommandStart.{CommandStart}

@@ -6,17 +6,17 @@ use Rattle.ccw_codec.specs.declared.Ccw.{Ccw}
 use Rattle.ccw_codec.specs.declared.CcwFault.{CcwFault}
 use Rattle.ccw_codec.specs.Block.{ccw_of, fault_of}
 use Rattle.ccw_codec.specs.Command.{is_transfer, is_valid}
-use Rattle.channel_program.specs.declared.Advance.{Advance}
-use Rattle.channel_program.specs.declared.Advance.TheVariants as advance
-use Rattle.channel_program.specs.declared.check.Check.TheVariants.{Program}
-use Rattle.channel_program.specs.declared.Role.{Role}
-use Rattle.channel_program.specs.declared.Reading.{Reading}
-use Rattle.channel_program.specs.declared.Reading.TheVariants.{Transfers, Takes, Suspends, Shows}
-use Rattle.channel_program.specs.Acts.{Act, Block, Unfetched, Used_up, End, Word}
-use Rattle.channel_program.specs.Blocks.{format_of, block_reads, transfer_reads, command_reads, reads}
-use Rattle.channel_program.specs.Programs.{next, next_after, role_of, role_after}
-use Rattle.channel_program.specs.Walks.{WalkPlace, walk_place, after_acts, advance_of}
-use Rattle.channel_program.proofs.Named.{block_advance}
+use Rattle.ccw_walk.specs.declared.program.Advance.{Advance}
+use Rattle.ccw_walk.specs.declared.program.Advance.TheVariants as advance
+use Rattle.ccw_walk.specs.declared.check.Check.TheVariants.{Program}
+use Rattle.ccw_walk.specs.declared.program.Role.{Role}
+use Rattle.ccw_walk.specs.declared.program.Reading.{Reading}
+use Rattle.ccw_walk.specs.declared.program.Reading.TheVariants.{Transfers, Takes, Suspends, Shows}
+use Rattle.ccw_walk.specs.Acts.{Act, Block, Unfetched, Used_up, End, Word}
+use Rattle.ccw_walk.specs.Blocks.{format_of, block_reads, transfer_reads, command_reads, reads}
+use Rattle.ccw_walk.specs.Programs.{next, next_after, role_of, role_after}
+use Rattle.ccw_walk.specs.Walks.{WalkPlace, walk_place, after_acts, advance_of}
+use Rattle.ccw_walk.proofs.Named.{block_advance}
 use Rattle.program_laws.specs.Claims.{IsSuspended, shows_check, has_check, EndsAtCheck}
 
 -- a block to which data is chained does not suspend the program

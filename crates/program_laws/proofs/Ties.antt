@@ -6,15 +6,15 @@ use Rattle.std.proofs.Math.Nat.{min-le_right}
 use Rattle.orb_block.specs.declared.Orb.{Orb}
 use Rattle.ccw_codec.specs.declared.Ccw.{Ccw}
 use Rattle.storage_keys.specs.Storage.{Contents}
-use Rattle.channel_program.specs.declared.check.Check.{Check}
-use Rattle.channel_program.specs.declared.check.Check.TheVariants.{Program}
-use Rattle.channel_program.specs.declared.Advance.{Advance}
-use Rattle.channel_program.specs.declared.Advance.TheVariants as advance
-use Rattle.channel_program.specs.declared.Reading.TheVariants.{Takes}
-use Rattle.channel_program.specs.Acts.{Act}
-use Rattle.channel_program.specs.Programs.{IsProgram, Command, role_of, next, commands, commands_after, join_last, code}
-use Rattle.channel_program.proofs.Named.{acts_at}
-use Rattle.channel_program.specs.Walks.{WalkPlace, walk_place, after_acts, advance_acts, advance_of}
+use Rattle.ccw_walk.specs.declared.check.Check.{Check}
+use Rattle.ccw_walk.specs.declared.check.Check.TheVariants.{Program}
+use Rattle.ccw_walk.specs.declared.program.Advance.{Advance}
+use Rattle.ccw_walk.specs.declared.program.Advance.TheVariants as advance
+use Rattle.ccw_walk.specs.declared.program.Reading.TheVariants.{Takes}
+use Rattle.ccw_walk.specs.Acts.{Act}
+use Rattle.ccw_walk.specs.Programs.{IsProgram, Command, role_of, next, commands, commands_after, join_last, code}
+use Rattle.ccw_walk.proofs.Named.{acts_at}
+use Rattle.ccw_walk.specs.Walks.{WalkPlace, walk_place, after_acts, advance_acts, advance_of}
 use Rattle.idaw.specs.declared.ListKind.{ListKind}
 use Rattle.idaw.specs.declared.WordFault.{WordFault}
 use Rattle.idaw.specs.declared.WordFault.TheVariants.{LeftmostBit, OffBlock, OutsideStorage}

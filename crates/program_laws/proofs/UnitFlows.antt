@@ -14,7 +14,7 @@ use Rattle.chan_model.specs.declared.unit_state.Progress.TheVariants as progress
 use Rattle.chan_model.specs.Loads.{load_length}
 use Rattle.chan_model.specs.UnitTable.{with_given, at_hand_answered, new_command}
 use Rattle.chan_model.specs.Parts.{kept_bytes}
-use Rattle.channel_program.specs.Acts.{PlacedBytes}
+use Rattle.ccw_walk.specs.Acts.{PlacedBytes}
 use Rattle.idaw.specs.Places.{each_below}
 use Rattle.program_laws.proofs.Named.{first_bytes}
 use Rattle.program_laws.specs.Claims.{IsFirstOf}

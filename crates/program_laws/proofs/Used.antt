@@ -4,8 +4,8 @@ use Rattle.std.specs.Prelude.{if◌then◌else◌, is_some, is_none, not, ◌&&�
 use Rattle.std.proofs.lemmas.Bool.{eqb-true, eqb-false, eq-eqb, ne_eqb, ltb-true, lt-ltb}
 use Rattle.orb_block.specs.declared.Orb.{Orb}
 use Rattle.ccw_codec.specs.declared.Ccw.{Ccw}
-use Rattle.channel_program.specs.declared.Latest.{Latest}
-use Rattle.channel_program.specs.Programs.{latest, next_used_up}
+use Rattle.ccw_walk.specs.declared.program.Latest.{Latest}
+use Rattle.ccw_walk.specs.Programs.{latest, next_used_up}
 use Rattle.idaw.specs.Places.{each_below}
 use Rattle.data_move.specs.Moving.{next_place, residual}
 use Rattle.transfer.specs.declared.Transfer.{Transfer}

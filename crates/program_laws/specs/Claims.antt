@@ -2,11 +2,11 @@
 use Rattle.std.specs.Prelude.{◌≡◌, ◌⊎◌, ◌||◌, ℕ, ◌==◌, Bool, true, false, Option, None, Some, List, [], ◌∷◌, ◌++◌, length, map, reverse, take, drop, slice_get, if◌then◌else◌, All, Contains}
 use Rattle.std.specs.List.{flat_map}
 use Rattle.orb_block.specs.declared.Orb.{Orb}
-use Rattle.channel_program.specs.declared.Reading.{Reading}
-use Rattle.channel_program.specs.declared.Reading.TheVariants.{Suspends, Shows}
-use Rattle.channel_program.specs.Acts.{Act, Block, Unfetched, Word, PlacedBytes}
-use Rattle.channel_program.specs.Blocks.{reads}
-use Rattle.channel_program.specs.Programs.{IsProgram, role_of, next, commands, code}
+use Rattle.ccw_walk.specs.declared.program.Reading.{Reading}
+use Rattle.ccw_walk.specs.declared.program.Reading.TheVariants.{Suspends, Shows}
+use Rattle.ccw_walk.specs.Acts.{Act, Block, Unfetched, Word, PlacedBytes}
+use Rattle.ccw_walk.specs.Blocks.{reads}
+use Rattle.ccw_walk.specs.Programs.{IsProgram, role_of, next, commands, code}
 use Rattle.idaw.specs.Lists.{kind_of, block}
 use Rattle.idaw.specs.Places.{places_of_bytes}
 use Rattle.data_move.specs.Accesses.{bytes_at}

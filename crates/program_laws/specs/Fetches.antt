@@ -2,10 +2,10 @@
 use Rattle.std.specs.Prelude.{◌≡◌, ◌⊎◌, ◌&&◌, ◌==◌, ◌%◌, ℕ, true, None, List, [], ◌∷◌, ◌++◌, length, Ok, Err}
 use Rattle.orb_block.specs.declared.Orb.{Orb}
 use Rattle.storage_keys.specs.Storage.{Contents, fetched}
-use Rattle.channel_program.specs.declared.check.Check.TheVariants.{Program}
-use Rattle.channel_program.specs.Acts.{Act, Block, Unfetched, Word}
-use Rattle.channel_program.specs.Programs.{role_of}
-use Rattle.channel_program.specs.Walks.{is_program_misplaced}
+use Rattle.ccw_walk.specs.declared.check.Check.TheVariants.{Program}
+use Rattle.ccw_walk.specs.Acts.{Act, Block, Unfetched, Word}
+use Rattle.ccw_walk.specs.Programs.{role_of}
+use Rattle.ccw_walk.specs.Walks.{is_program_misplaced}
 use Rattle.idaw.specs.Lists.{kind_of, width, address_of_word, word_fault}
 use Rattle.idaw.specs.Places.{Reach}
 use Rattle.data_move.specs.Accesses.{checked, list_word_of}

@@ -3,7 +3,7 @@ use Rattle.std.specs.Prelude.{◌≡◌, ◌==◌, ◌&&◌, ◌-◌, ◌+◌, �
 use Rattle.orb_block.specs.declared.Orb.{Orb}
 use Rattle.ccw_codec.specs.Command.{class_of}
 use Rattle.storage_keys.specs.Storage.{Contents, fetched, stored_bytes}
-use Rattle.channel_program.specs.Acts.{Act}
+use Rattle.ccw_walk.specs.Acts.{Act}
 use Rattle.idaw.specs.Lists.{kind_of, block}
 use Rattle.idaw.specs.Places.{Reach, covered}
 use Rattle.transfer.specs.Commands.{brings}

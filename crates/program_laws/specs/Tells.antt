@@ -18,8 +18,8 @@ use Rattle.chan_events.specs.declared.event.Event.TheVariants as event
 use Rattle.chan_events.specs.declared.reply.Entry.{Entry}
 use Rattle.chan_events.specs.Replies.{Reply}
 use Rattle.chan_events.specs.declared.reply.Reply.TheVariants as reply
-use Rattle.channel_program.specs.Acts.{Act, Used_up, End}
-use Rattle.channel_program.specs.Programs.{latest, next, next_used_up, commands, code}
+use Rattle.ccw_walk.specs.Acts.{Act, Used_up, End}
+use Rattle.ccw_walk.specs.Programs.{latest, next, next_used_up, commands, code}
 use Rattle.subchannel_model.specs.declared.state.Program.{Program}
 use Rattle.subchannel_model.specs.declared.state.ProgramPosition.{ProgramPosition}
 use Rattle.subchannel_model.specs.declared.state.Subchannel.{Subchannel}

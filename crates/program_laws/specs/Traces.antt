@@ -12,8 +12,8 @@ use Rattle.chan_events.specs.Events.{Event}
 use Rattle.chan_events.specs.declared.event.Event.TheVariants as event
 use Rattle.chan_events.specs.Replies.{Reply}
 use Rattle.chan_events.specs.declared.reply.Reply.TheVariants as reply
-use Rattle.channel_program.specs.Acts.{Act, PlacedBytes}
-use Rattle.channel_program.specs.Programs.{commands}
+use Rattle.ccw_walk.specs.Acts.{Act, PlacedBytes}
+use Rattle.ccw_walk.specs.Programs.{commands}
 use Rattle.subchannel_model.specs.declared.state.Subchannel.{Subchannel}
 use Rattle.subchannel_model.specs.Places.{reached_in}
 use Rattle.machine_model.specs.State.{State, place_of}

@@ -1,7 +1,6 @@
 //! A module for each crate that is tested.
 
 mod ccw_walk_tests;
-mod channel_program_tests;
 mod data_move_many_lists;
 mod data_move_tests;
 mod idaw_tests;

@@ -1,6 +1,6 @@
 -- What is seen of a subchannel's program is where its hold has it, after each signal that it takes.
 use Rattle.std.proofs.Common.{◌≡◌, refl, sym, ◌∙◌, ap, subst, ℕ, ◌≤◌, ◌==◌, ◌&&◌, nat_lt, Bool, true, false, not, Option, None, Some, if◌then◌else◌, inl, arith}
-use Rattle.channel_program.specs.Walks.{WalkPlace}
+use Rattle.ccw_walk.specs.Walks.{WalkPlace}
 use Rattle.chan_events.specs.declared.reply.Reply.TheVariants as reply
 use Rattle.chan_model.specs.declared.hold_state.HoldPhase.{HoldPhase}
 use Rattle.chan_model.specs.declared.hold_state.HoldPhase.TheVariants as hold

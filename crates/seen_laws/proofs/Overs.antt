@@ -15,12 +15,12 @@ use Rattle.chan_model.specs.declared.signal.Up.TheVariants as up
 use Rattle.chan_events.specs.declared.reply.Reply.TheVariants as reply
 use Rattle.chan_model.specs.ConditionCodes.{in_order}
 use Rattle.chan_model.specs.HoldTable.{HoldStep, hold_after, came_of, program_begun, letting_go}
-use Rattle.channel_program.specs.declared.Advance.{Advance}
-use Rattle.channel_program.specs.declared.Advance.TheVariants as advance
-use Rattle.channel_program.specs.Walks.{WalkPlace, advance_acts, advance_of, after_acts}
+use Rattle.ccw_walk.specs.declared.program.Advance.{Advance}
+use Rattle.ccw_walk.specs.declared.program.Advance.TheVariants as advance
+use Rattle.ccw_walk.specs.Walks.{WalkPlace, advance_acts, advance_of, after_acts}
 use Rattle.data_move.specs.Accesses as access
 use Rattle.data_move.specs.Moving.{Moving}
-use Rattle.channel_program.specs.declared.check.Check.{Check}
+use Rattle.ccw_walk.specs.declared.check.Check.{Check}
 use Rattle.orb_block.specs.declared.Orb.{Orb}
 use Rattle.storage_keys.specs.Storage.{Contents}
 use Rattle.transfer.specs.declared.CommandStart.{CommandStart}

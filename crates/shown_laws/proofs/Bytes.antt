@@ -19,9 +19,9 @@ use Rattle.chan_model.specs.HoldTable.{HoldStep, program_begun, offer_accepted, 
 use Rattle.chan_model.specs.Loads.{load_length}
 use Rattle.chan_model.specs.ResetCauses.{rests_on}
 use Rattle.chan_model.specs.UnitReports.{is_last_end, is_outward, has_device_end}
-use Rattle.channel_program.specs.declared.check.Check.{Check}
-use Rattle.channel_program.specs.declared.check.Check.TheVariants.{Program as ProgramCheck, Protection}
-use Rattle.channel_program.specs.Walks.{WalkPlace}
+use Rattle.ccw_walk.specs.declared.check.Check.{Check}
+use Rattle.ccw_walk.specs.declared.check.Check.TheVariants.{Program as ProgramCheck, Protection}
+use Rattle.ccw_walk.specs.Walks.{WalkPlace}
 use Rattle.data_move.specs.Moving.{residual}
 use Rattle.transfer.specs.declared.Beginning.{Beginning}
 use Rattle.transfer.specs.declared.CommandStart.{CommandStart}

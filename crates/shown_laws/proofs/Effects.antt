@@ -7,7 +7,7 @@ use Rattle.scsw_irb.specs.declared.scsw.FunctionControl.{FunctionControl}
 use Rattle.scsw_irb.specs.declared.scsw.Scsw.{Scsw}
 use Rattle.scsw_irb.specs.declared.serials.Serials.{Serials}
 use Rattle.chan_model.specs.UnitReports.{is_last_end}
-use Rattle.channel_program.specs.Walks.{WalkPlace}
+use Rattle.ccw_walk.specs.Walks.{WalkPlace}
 use Rattle.transfer.specs.declared.Transfer.{Transfer}
 use Rattle.subchannel_model.specs.declared.cause.StatusCause.{StatusCause}
 use Rattle.subchannel_model.specs.declared.cause.StatusCause.TheVariants as cause

@@ -2,11 +2,11 @@
 use Rattle.std.proofs.Common.{◌≡◌, refl, ◌∙◌, ℕ, ◌+◌, ◌==◌, Bool, true, false, Option, None, Some, Result, Ok, Err, List, [], length}
 use Rattle.std.specs.Prelude.{if◌then◌else◌, is_some, min}
 use Rattle.storage_keys.specs.Storage.{Contents}
-use Rattle.channel_program.specs.declared.check.Check.{Check}
-use Rattle.channel_program.specs.declared.Advance.{Advance}
-use Rattle.channel_program.specs.declared.Advance.TheVariants.{Takes, Suspends, Stops}
-use Rattle.channel_program.specs.Walks.{WalkPlace, after_acts, advance_acts, advance_of}
-use Rattle.channel_program.proofs.Named.{after_used_up}
+use Rattle.ccw_walk.specs.declared.check.Check.{Check}
+use Rattle.ccw_walk.specs.declared.program.Advance.{Advance}
+use Rattle.ccw_walk.specs.declared.program.Advance.TheVariants.{Takes, Suspends, Stops}
+use Rattle.ccw_walk.specs.Walks.{WalkPlace, after_acts, advance_acts, advance_of}
+use Rattle.ccw_walk.proofs.Named.{after_used_up}
 use Rattle.data_move.specs.Moving as movement
 use Rattle.data_move.specs.Moving.{Moving}
 use Rattle.data_move.specs.Accesses as access

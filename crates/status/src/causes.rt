@@ -11,7 +11,7 @@ ghost use Rattle.subchannel_model.specs.Parts as parts;
 use crate::ends::{end_shown, is_last_end, show_primary};
 use crate::shown::{add_status, check_status, conditions, shows_primary};
 use crate::testing::end_programs;
-use channel_program::check::Check;
+use ccw_walk::check::Check;
 use scsw_irb::scsw::{ActivityControl, DeferredCode, Scsw, StatusControl};
 use scsw_irb::status::{DeviceStatus, SubchannelStatus};
 use subchannel_model::cause::StatusCause;

@@ -4,7 +4,7 @@ ghost use Rattle.std.specs.Prelude.{◌≡◌, ◌<◌, ◌^◌};
 ghost use Rattle.subchannel_model.specs.Causes as cause_spec;
 ghost use Rattle.subchannel_model.specs.Status as spec;
 
-use channel_program::check::Check;
+use ccw_walk::check::Check;
 use scsw_irb::scsw::{ActivityControl, FunctionControl, Scsw, StatusControl};
 use scsw_irb::status::{DeviceStatus, SubchannelStatus};
 use subchannel_model::state::SubchannelState;

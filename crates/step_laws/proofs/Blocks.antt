@@ -29,7 +29,7 @@ use Rattle.chan_model.specs.declared.names.Side.{Side}
 use Rattle.chan_model.specs.HoldTable.{is_connected}
 use Rattle.chan_model.specs.UnitReports.{is_outward}
 use Rattle.chan_model.specs.UnitTable.{restarted}
-use Rattle.channel_program.specs.declared.check.Check.{Check}
+use Rattle.ccw_walk.specs.declared.check.Check.{Check}
 use Rattle.channel_config.specs.declared.names.SubchannelId.{SubchannelId}
 use Rattle.channel_config.specs.Setup.{has_number}
 use Rattle.channel_config.specs.SubchannelWords.{subchannel_named}

@@ -16,7 +16,7 @@ use Rattle.subchannel_model.specs.Status.{
   shows_primary,
 }
 use Rattle.chan_model.specs.UnitReports.{is_last_end}
-use Rattle.channel_program.specs.declared.check.Check.{Check}
+use Rattle.ccw_walk.specs.declared.check.Check.{Check}
 use Rattle.data_move.specs.Moving.{residual}
 use Rattle.subchannel_model.specs.declared.cause.StatusCause.{StatusCause}
 use Rattle.subchannel_model.specs.declared.cause.StatusCause.TheVariants as cause

@@ -14,7 +14,7 @@ use Rattle.storage_keys.specs.Storage.{Contents}
 use Rattle.chan_model.specs.PathSets.{paths_of_mask}
 use Rattle.chan_model.specs.UnitReports.{has_unit_check}
 use Rattle.chan_model.specs.declared.hold_state.HoldPhase.{HoldPhase}
-use Rattle.channel_program.specs.Walks.{WalkPlace}
+use Rattle.ccw_walk.specs.Walks.{WalkPlace}
 use Rattle.transfer.specs.declared.Beginning.{Beginning}
 use Rattle.transfer.specs.declared.WithRoom.{WithRoom}
 use Rattle.subchannel_model.specs.declared.cause.StatusCause.TheVariants as cause

@@ -7,8 +7,8 @@ use Rattle.scsw_irb.specs.declared.scsw.Scsw.{Scsw}
 use Rattle.scsw_irb.specs.declared.serials.Serials.{Serials}
 use Rattle.scsw_irb.specs.declared.status.DeviceStatus.{DeviceStatus}
 use Rattle.scsw_irb.specs.declared.status.SubchannelStatus.{SubchannelStatus}
-use Rattle.channel_program.specs.declared.check.Check.{Check}
-use Rattle.channel_program.specs.declared.check.Check.TheVariants.{Program, Protection}
+use Rattle.ccw_walk.specs.declared.check.Check.{Check}
+use Rattle.ccw_walk.specs.declared.check.Check.TheVariants.{Program, Protection}
 use Rattle.subchannel_model.specs.declared.status.Shown.{Shown}
 
 abbrev pub no_device_status : DeviceStatus

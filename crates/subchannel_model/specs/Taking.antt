@@ -19,7 +19,7 @@ use Rattle.chan_model.specs.HoldTable.{HoldStep, hold_takes, hold_after, came_of
 use Rattle.chan_model.specs.Loads.{load_length}
 use Rattle.scsw_irb.specs.Empty.{no_activity}
 use Rattle.chan_model.specs.UnitReports.{is_last_end, is_outward, has_device_end, has_unit_check}
-use Rattle.channel_program.specs.Walks.{WalkPlace, walk_place}
+use Rattle.ccw_walk.specs.Walks.{WalkPlace, walk_place}
 use Rattle.data_move.specs.Moving.{residual}
 use Rattle.transfer.specs.declared.Transfer.{Transfer}
 use Rattle.transfer.specs.declared.CommandStart.{CommandStart}

@@ -1,7 +1,7 @@
 //! What makes status pending at a subchannel (SA22-7832, chapter 16).
 
 use crate::state::ActiveProgram;
-use channel_program::check::Check;
+use ccw_walk::check::Check;
 use scsw_irb::status::DeviceStatus;
 
 /// A cause of status. `tried` is the address 8 past the last block whose fetch was tried, `count` how many bytes of the

@@ -1,7 +1,7 @@
 -- Parts of the definitions of this crate, by names that proofs speak of.
 use Rattle.std.specs.Prelude.{ℕ, Some, List, [], Result, Ok, Err}
 use Rattle.storage_keys.specs.Storage.{Contents}
-use Rattle.channel_program.specs.declared.check.Check.{Check}
+use Rattle.ccw_walk.specs.declared.check.Check.{Check}
 use Rattle.transfer.specs.declared.Transfer.{Transfer}
 use Rattle.transfer.specs.declared.NextChunk.{NextChunk}
 use Rattle.transfer.specs.Chunks.{Brought, given_bytes}

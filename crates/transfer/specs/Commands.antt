@@ -6,12 +6,12 @@ use Rattle.ccw_codec.specs.declared.Class.TheVariants as class
 use Rattle.ccw_codec.specs.Command.{class_of}
 use Rattle.storage_keys.specs.Storage.{Contents}
 use Rattle.chan_model.specs.UnitReports.{is_outward}
-use Rattle.channel_program.specs.declared.check.Check.{Check}
-use Rattle.channel_program.specs.declared.check.Check.TheVariants.{Program}
-use Rattle.channel_program.specs.declared.Advance.{Advance}
-use Rattle.channel_program.specs.declared.Advance.TheVariants.{Takes, Suspends, Stops}
-use Rattle.channel_program.specs.Acts.{End}
-use Rattle.channel_program.specs.Walks.{WalkPlace, after_act, after_acts, advance_acts, advance_of}
+use Rattle.ccw_walk.specs.declared.check.Check.{Check}
+use Rattle.ccw_walk.specs.declared.check.Check.TheVariants.{Program}
+use Rattle.ccw_walk.specs.declared.program.Advance.{Advance}
+use Rattle.ccw_walk.specs.declared.program.Advance.TheVariants.{Takes, Suspends, Stops}
+use Rattle.ccw_walk.specs.Acts.{End}
+use Rattle.ccw_walk.specs.Walks.{WalkPlace, after_act, after_acts, advance_acts, advance_of}
 use Rattle.idaw.specs.Lists.{kind_of}
 use Rattle.data_move.specs.Moving as movement
 use Rattle.data_move.specs.Moving.{Moving}

@@ -7,8 +7,8 @@ ghost use Rattle.transfer.specs.Chunks.{next_chunk};
 use crate::commands::{data_of, has_stopped, is_outward, locate};
 use crate::{NextChunk, Transfer};
 use ccw_walk::Walk;
-use channel_program::Advance;
-use channel_program::check::Check;
+use ccw_walk::check::Check;
+use ccw_walk::program::Advance;
 use data_move::slices::ChunkSlice;
 use storage_keys::Storage;
 

@@ -5,7 +5,7 @@ ghost use Rattle.storage_keys.specs.Storage.{Contents};
 ghost use Rattle.transfer.specs.declared.Transfer.{Transfer};
 ghost use Rattle.transfer.specs.Commands.{first_command, next_command, with_room, begun_with_room};
 ghost use Rattle.transfer.specs.Chunks.{taken_by_device, next_given, brought};
-ghost use Rattle.channel_program.specs.Walks.{WalkPlace};
+ghost use Rattle.ccw_walk.specs.Walks.{WalkPlace};
 ghost use Rattle.transfer.specs.Numbers.{IsSame, IsLaterTransfer, IsNew, IfBegins};
 
 /// Commands of a program are numbered from 1, and the chunks of each too.

@@ -7,7 +7,7 @@ pub mod commands;
 pub mod law;
 
 use ccw_walk::Walk;
-use channel_program::check::Check;
+use ccw_walk::check::Check;
 use data_move::moving::Move;
 use data_move::slices::ChunkSlice;
 

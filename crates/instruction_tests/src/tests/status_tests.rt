@@ -2,8 +2,8 @@
 
 use crate::tests::setups::{begun, begun_by, is_same_words, program, state_of_words, waiting};
 use ccw_walk::Walk;
+use ccw_walk::check::Check;
 use chan_model::answer::ConditionCode;
-use channel_program::check::Check;
 use scsw_irb::scsw::Scsw;
 use scsw_irb::serials::Serials;
 use scsw_irb::status::DeviceStatus;

@@ -1,12 +1,12 @@
 //! Programs whose walks are known from elsewhere.
 
 use ccw_walk::Walk;
-use channel_program::check::Check;
-use channel_program::{Advance, Ended, Reading};
+use ccw_walk::check::Check;
+use ccw_walk::program::{Advance, Ended, Reading};
 use orb_block::Orb;
 use std::alloc::Global;
-use storage_keys::Storage;
 use storage_keys::key::Key;
+use storage_keys::{Storage, StorageFault};
 
 /// Format 1, key 0, the program at 1000.
 const FORMAT_1: [u8; 12] = [0, 0, 0, 0, 0, 0x80, 0xFF, 0, 0, 0, 0x10, 0];
@@ -245,4 +245,15 @@ fn blocks_that_are_handed_in(rt: HostRuntime) {
         other.unfetched(address, Check::Protection);
     }
     assert!(rt; other.next() == None && other.tried() == 0x1008);
+}
+
+#[test]
+fn the_check_of_a_refused_access(rt: HostRuntime) {
+    for (fault, check) in [
+        (StorageFault::Addressing, Check::Program),
+        (StorageFault::Protection, Check::Protection),
+        (StorageFault::Specification, Check::Program),
+    ] {
+        assert!(rt; Check::of(fault) == check);
+    }
 }

@@ -1,8 +1,8 @@
 //! What is moved of plain programs, and the places of many lists reckoned byte by byte.
 
 use ccw_codec::{Ccw, Format};
+use ccw_walk::check::Check;
 use chan_model::chunk::Chunk;
-use channel_program::check::Check;
 use data_move::law::pieces;
 use data_move::moving::Move;
 use idaw::{ListKind, WordFault};

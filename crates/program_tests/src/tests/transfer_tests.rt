@@ -1,7 +1,7 @@
 //! Commands whose beginnings, bytes and ends are known from elsewhere.
 
 use ccw_walk::Walk;
-use channel_program::check::Check;
+use ccw_walk::check::Check;
 use orb_block::Orb;
 use std::alloc::Global;
 use storage_keys::Storage;

@@ -1,5 +1,5 @@
 use Rattle.std.specs.Prelude.{◌+◌, true}
-use Rattle.channel_program.proofs.Named.{walk_after_end}
+use Rattle.ccw_walk.proofs.Named.{walk_after_end}
 use Rattle.transfer.proofs.Numbers.{goes_to-new, begun-same, located-same, given-same, absorbed-later, brought-later}
 use Rattle.transfer.proofs.law.command_numbers.Goals as goal
 

@@ -7,19 +7,19 @@ use Rattle.ccw_codec.specs.Block.{ccw_of, fault_of}
 use Rattle.ccw_codec.specs.Command.{is_transfer}
 use Rattle.storage_keys.specs.declared.StorageFault.{StorageFault}
 use Rattle.storage_keys.specs.Storage.{Contents, fetched}
-use Rattle.channel_program.specs.declared.check.Check.{Check}
-use Rattle.channel_program.specs.declared.check.Check.TheVariants.{Program}
-use Rattle.channel_program.specs.Checks.{check_of}
-use Rattle.channel_program.specs.declared.Advance.{Advance}
-use Rattle.channel_program.specs.declared.Role.{Role}
-use Rattle.channel_program.specs.declared.Reading.{Reading}
-use Rattle.channel_program.specs.declared.Reading.TheVariants.{Transfers, Takes, Suspends, Shows}
-use Rattle.channel_program.specs.Acts.{Act, Block, Unfetched, Used_up, End, Word}
-use Rattle.channel_program.specs.Blocks.{reads, block_reads, command_reads, transfer_reads, is_misplaced_command, format_of}
-use Rattle.channel_program.specs.Programs.{next as next_of, next_after, role_of, role_after, IsProgram}
-use Rattle.channel_program.proofs.Named.{acts_at}
-use Rattle.channel_program.specs.Walks.{WalkPlace, walk_place, after_act, after_acts, is_program_misplaced, fetch_act, acts_from, act_advance, advance_of}
-use Rattle.channel_program.proofs.Named.{after_block, act_of_fetch, with_target, block_advance}
+use Rattle.ccw_walk.specs.declared.check.Check.{Check}
+use Rattle.ccw_walk.specs.declared.check.Check.TheVariants.{Program}
+use Rattle.ccw_walk.specs.Checks.{check_of}
+use Rattle.ccw_walk.specs.declared.program.Advance.{Advance}
+use Rattle.ccw_walk.specs.declared.program.Role.{Role}
+use Rattle.ccw_walk.specs.declared.program.Reading.{Reading}
+use Rattle.ccw_walk.specs.declared.program.Reading.TheVariants.{Transfers, Takes, Suspends, Shows}
+use Rattle.ccw_walk.specs.Acts.{Act, Block, Unfetched, Used_up, End, Word}
+use Rattle.ccw_walk.specs.Blocks.{reads, block_reads, command_reads, transfer_reads, is_misplaced_command, format_of}
+use Rattle.ccw_walk.specs.Programs.{next as next_of, next_after, role_of, role_after, IsProgram}
+use Rattle.ccw_walk.proofs.Named.{acts_at}
+use Rattle.ccw_walk.specs.Walks.{WalkPlace, walk_place, after_act, after_acts, is_program_misplaced, fetch_act, acts_from, act_advance, advance_of}
+use Rattle.ccw_walk.proofs.Named.{after_block, act_of_fetch, with_target, block_advance}
 
 -- the place some acts further
 pub after-place : (orb : Orb) (before : List Act) (act : Act) → after_act (walk_place orb before) act ≡ walk_place orb (act ∷ before)

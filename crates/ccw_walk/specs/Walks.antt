@@ -2,16 +2,16 @@
 use Rattle.std.specs.Prelude.{ℕ, ◌+◌, ◌%◌, ◌^◌, ◌==◌, ◌&&◌, ◌||◌, not, nat_le, Bool, if◌then◌else◌, List, [], ◌∷◌, Option, None, Some, Ok, Err}
 use Rattle.orb_block.specs.declared.Orb.{Orb}
 use Rattle.storage_keys.specs.Storage.{Contents, fetched}
-use Rattle.channel_program.specs.declared.check.Check.TheVariants.{Program}
-use Rattle.channel_program.specs.declared.Role.{Role}
-use Rattle.channel_program.specs.declared.Latest.{Latest}
-use Rattle.channel_program.specs.declared.Reading.TheVariants as reading
-use Rattle.channel_program.specs.declared.Advance.{Advance}
-use Rattle.channel_program.specs.declared.Advance.TheVariants.{Takes, Suspends, Stops}
-use Rattle.channel_program.specs.Checks.{check_of}
-use Rattle.channel_program.specs.Blocks.{reads}
-use Rattle.channel_program.specs.Acts.{Act, Block, Unfetched, Used_up, End}
-use Rattle.channel_program.specs.Programs.{role_of, role_after, latest as latest_of, latest_after, next as next_of, next_after, next_used_up, next_ended, tried as tried_of}
+use Rattle.ccw_walk.specs.declared.check.Check.TheVariants.{Program}
+use Rattle.ccw_walk.specs.declared.program.Role.{Role}
+use Rattle.ccw_walk.specs.declared.program.Latest.{Latest}
+use Rattle.ccw_walk.specs.declared.program.Reading.TheVariants as reading
+use Rattle.ccw_walk.specs.declared.program.Advance.{Advance}
+use Rattle.ccw_walk.specs.declared.program.Advance.TheVariants.{Takes, Suspends, Stops}
+use Rattle.ccw_walk.specs.Checks.{check_of}
+use Rattle.ccw_walk.specs.Blocks.{reads}
+use Rattle.ccw_walk.specs.Acts.{Act, Block, Unfetched, Used_up, End}
+use Rattle.ccw_walk.specs.Programs.{role_of, role_after, latest as latest_of, latest_after, next as next_of, next_after, next_used_up, next_ended, tried as tried_of}
 
 -- where a program stands: what is to be known of the acts so far
 pub record WalkPlace : Type 0 where

@@ -2,15 +2,15 @@
 use Rattle.std.specs.Prelude.{ℕ, Option, None, Some, List, [], ◌∷◌, Result, Ok, Err}
 use Rattle.storage_keys.specs.declared.StorageFault.{StorageFault}
 use Rattle.storage_keys.specs.Storage.{Contents}
-use Rattle.channel_program.specs.declared.check.Check.TheVariants.{Program}
-use Rattle.channel_program.specs.declared.Advance.{Advance}
-use Rattle.channel_program.specs.declared.Advance.TheVariants.{Takes, Suspends, Stops}
-use Rattle.channel_program.specs.declared.Ended.{Ended}
-use Rattle.channel_program.specs.declared.Reading.{Reading}
-use Rattle.channel_program.specs.declared.Reading.TheVariants as reading
-use Rattle.channel_program.specs.Acts.{Act, Block, Unfetched, Used_up, End}
-use Rattle.channel_program.specs.Checks.{check_of}
-use Rattle.channel_program.specs.Walks.{WalkPlace, after_act, acts_from, fetch_act}
+use Rattle.ccw_walk.specs.declared.check.Check.TheVariants.{Program}
+use Rattle.ccw_walk.specs.declared.program.Advance.{Advance}
+use Rattle.ccw_walk.specs.declared.program.Advance.TheVariants.{Takes, Suspends, Stops}
+use Rattle.ccw_walk.specs.declared.program.Ended.{Ended}
+use Rattle.ccw_walk.specs.declared.program.Reading.{Reading}
+use Rattle.ccw_walk.specs.declared.program.Reading.TheVariants as reading
+use Rattle.ccw_walk.specs.Acts.{Act, Block, Unfetched, Used_up, End}
+use Rattle.ccw_walk.specs.Checks.{check_of}
+use Rattle.ccw_walk.specs.Walks.{WalkPlace, after_act, acts_from, fetch_act}
 
 abbrev pub acts_at : Contents → WalkPlace → Option ℕ → List Act
 acts_at storage old next = elim next [ None ↦ [] | Some address ↦ acts_from storage old (fetch_act storage old.orb old.role address) ]

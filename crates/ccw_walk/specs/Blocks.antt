@@ -7,9 +7,9 @@ use Rattle.ccw_codec.specs.declared.Format.{Format}
 use Rattle.ccw_codec.specs.declared.Format.TheVariants.{Zero, One}
 use Rattle.ccw_codec.specs.Block.{ccw_of, fault_of}
 use Rattle.ccw_codec.specs.Command.{is_transfer, is_valid}
-use Rattle.channel_program.specs.declared.Role.{Role}
-use Rattle.channel_program.specs.declared.Reading.{Reading}
-use Rattle.channel_program.specs.declared.Reading.TheVariants.{Transfers, Takes, Suspends, Shows}
+use Rattle.ccw_walk.specs.declared.program.Role.{Role}
+use Rattle.ccw_walk.specs.declared.program.Reading.{Reading}
+use Rattle.ccw_walk.specs.declared.program.Reading.TheVariants.{Transfers, Takes, Suspends, Shows}
 
 -- the format of a program's blocks is F of its operation-request block
 abbrev pub format_of : Orb → Format

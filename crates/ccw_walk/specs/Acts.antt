@@ -1,7 +1,7 @@
 -- What is done for one start, act by act (SA22-7832, chapter 15). A list of acts has the latest first.
 use Rattle.std.specs.Prelude.{ℕ, List, Option}
-use Rattle.channel_program.specs.declared.check.Check.{Check}
-use Rattle.channel_program.specs.declared.Ended.{Ended}
+use Rattle.ccw_walk.specs.declared.check.Check.{Check}
+use Rattle.ccw_walk.specs.declared.program.Ended.{Ended}
 
 -- bytes that were moved: storage as it stood, the place of each byte, and the bytes. A byte that is
 -- skipped has no place

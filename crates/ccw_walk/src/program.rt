@@ -1,11 +1,7 @@
 //! Channel programs: what is said of their blocks, whatever walks them (SA22-7832, chapter 15).
-#![tactic(auto)]
 
-pub mod check;
-pub mod law;
-
+use crate::check::Check;
 use ccw_codec::Ccw;
-use check::Check;
 
 /// Where a block of a program stands, as far as what it comes to depends on it.
 #[derive(Clone, Copy, Debug, PartialEq, Eq)]

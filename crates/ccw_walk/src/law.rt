@@ -3,9 +3,9 @@
 ghost use Rattle.std.specs.Prelude.{◌≡◌, ℕ, ◌↔◌, List, [], ◌∷◌, ◌++◌, Some, None, IsSome};
 ghost use Rattle.orb_block.specs.declared.Orb.{Orb};
 ghost use Rattle.storage_keys.specs.Storage.{Contents};
-ghost use Rattle.channel_program.specs.Acts.{Act};
-ghost use Rattle.channel_program.specs.Programs.{IsProgram};
-ghost use Rattle.channel_program.specs.Walks.{WalkPlace, walk_place, after_act, after_acts, fetch_act, act_advance, advance_acts, advance_of};
+ghost use Rattle.ccw_walk.specs.Acts.{Act};
+ghost use Rattle.ccw_walk.specs.Programs.{IsProgram};
+ghost use Rattle.ccw_walk.specs.Walks.{WalkPlace, walk_place, after_act, after_acts, fetch_act, act_advance, advance_acts, advance_of};
 
 /// Where a program stands some acts further is where it stands after all that was done.
 pub fn places()

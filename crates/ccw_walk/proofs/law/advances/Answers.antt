@@ -1,7 +1,7 @@
 use Rattle.std.proofs.Common.{◌∙◌, ap}
-use Rattle.channel_program.proofs.Named.{acts_at}
-use Rattle.channel_program.proofs.Advances.{follows, advance_stands, rests}
-use Rattle.channel_program.proofs.law.advances.Goals as goal
+use Rattle.ccw_walk.proofs.Named.{acts_at}
+use Rattle.ccw_walk.proofs.Advances.{follows, advance_stands, rests}
+use Rattle.ccw_walk.proofs.law.advances.Goals as goal
 
 pub returns-clause-two : goal.returns-clause-two
 returns-clause-two c = λ storage old address target there moves next.

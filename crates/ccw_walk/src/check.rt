@@ -1,7 +1,7 @@
 //! The checks that stop a channel program.
 
 ghost use Rattle.std.specs.Prelude.{◌≡◌};
-ghost use Rattle.channel_program.specs.Checks.{check_of};
+ghost use Rattle.ccw_walk.specs.Checks.{check_of};
 
 use storage_keys::StorageFault;
 

@@ -1,2 +1,0 @@
-pub mod Advances
-pub mod Named

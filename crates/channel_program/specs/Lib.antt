@@ -1,5 +1,0 @@
-pub mod Checks
-pub mod Blocks
-pub mod Acts
-pub mod Programs
-pub mod Walks
