@@ -11,8 +11,8 @@ ghost use Rattle.choice_laws.specs.Losses.{AreLossesRight};
 ghost use Rattle.machine_model.specs.State.{State, opening_of};
 ghost use Rattle.machine_model.specs.Steps.{Run};
 
+use machine_laws::paths::engines;
 use machine_laws::{setups, steps};
-use path_laws::engines;
 use step_laws::walks;
 
 /// In each run of a lawful set-up, where STORE SUBCHANNEL shows a halt pending just before, the subsystem chooses what is due by where the

@@ -20,3 +20,27 @@ mod Tales
 pub mod TaleEvents
 mod Swept
 mod Ended
+mod NamedReturns
+pub mod PathSets
+pub mod Offering
+pub mod SameState
+pub mod WaitingSignals
+mod Told
+mod CalmPaths
+pub mod Meeting
+mod Units
+pub mod Moving
+pub mod Passing
+pub mod Sweeps
+pub mod Turning
+mod OneEngine
+mod Remembering
+mod Showing
+pub mod NamedAnswers
+mod Answered
+mod CalmStatus
+mod CalmSignals
+mod Following
+mod Reasons
+mod AllCleared
+mod Counting

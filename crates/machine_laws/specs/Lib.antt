@@ -1,3 +1,10 @@
 pub mod Agreeing
 pub mod Claims
 pub mod Beginnings
+pub mod Engines
+pub mod Shown
+pub mod Returns
+pub mod Codes
+pub mod Clearing
+pub mod Resets
+pub mod Counts

@@ -17,6 +17,9 @@ ghost use Rattle.machine_laws.specs.Agreeing.{AllAgree, LeadsToAgreed, AreAbove,
 ghost use Rattle.machine_laws.specs.Beginnings.{IsBegunOnce};
 ghost use Rattle.machine_laws.specs.Claims.{IsPendingUncleared, IsLaterSubchannel, IsClearedOnce};
 
+pub mod events;
+pub mod paths;
+
 use agreement_laws::{agreement, passing, resets, rising};
 use step_laws::{stays_set_up, storage_blocks, walks};
 use transfer::law::command_numbers;

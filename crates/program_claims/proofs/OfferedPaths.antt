@@ -15,8 +15,8 @@ use Rattle.chan_events.specs.declared.reply.Reply.TheVariants as reply
 use Rattle.channel_config.specs.declared.names.SubchannelId.{SubchannelId}
 use Rattle.channel_config.specs.SubchannelWords.{subchannel_named}
 use Rattle.path_select.specs.Choice.{IsChoice}
-use Rattle.path_laws.proofs.Offering.{IsOffer, chosen-offer, offer-usable}
-use Rattle.path_laws.proofs.PathSets.{without-parts, each-true}
+use Rattle.machine_laws.proofs.Offering.{IsOffer, chosen-offer, offer-usable}
+use Rattle.machine_laws.proofs.PathSets.{without-parts, each-true}
 use Rattle.subchannel_model.specs.declared.cause.StatusCause.TheVariants as cause
 use Rattle.subchannel_model.specs.declared.state.Candidate.{Candidate}
 use Rattle.subchannel_model.specs.declared.state.Chosen.{Chosen}

@@ -41,7 +41,7 @@ use Rattle.machine_model.specs.State.{State, opening_of, place_of, sub_of}
 use Rattle.machine_model.specs.Steps.{Run, Opened, Stepped, Step}
 use Rattle.machine_model.specs.Turns.{SubTurn, UpTurn, DownTurn}
 use Rattle.machine_model.specs.UpSteps.{up_front, up_sub}
-use Rattle.path_laws.specs.Returns as returns
+use Rattle.machine_laws.specs.Returns as returns
 use Rattle.step_laws.proofs.Places.{set-get, map-get}
 use Rattle.step_laws.specs.Walks as walked
 use Rattle.step_laws.specs.Walks.{AreWalks, Walked, IsQuiet, OneSub, Function, Resumes, Clears, Cancels, effect_of, instruction_of, sweep_event}

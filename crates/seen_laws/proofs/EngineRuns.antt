@@ -46,12 +46,12 @@ use Rattle.machine_model.specs.Turns.{Outcome, does, where_tested, SubTurn, UpTu
 use Rattle.machine_model.specs.UpSteps.{may_return, returns_at, up_front, up_sub}
 use Rattle.machine_model.proofs.Named.{returns_by}
 use Rattle.subchannel_model.specs.Taking.{takes_up}
-use Rattle.path_laws.specs.Engines.{IsOnePath}
-use Rattle.path_laws.proofs.Moving.{IsFree, usable-free, return-parts}
-use Rattle.path_laws.proofs.Offering.{IsOffer, chosen-offer, offer-usable}
-use Rattle.path_laws.proofs.Passing.{IsGranted, up-granted}
-use Rattle.path_laws.proofs.PathSets.{without-parts, each-true}
-use Rattle.path_laws.proofs.Turning.{returns-right}
+use Rattle.machine_laws.specs.Engines.{IsOnePath}
+use Rattle.machine_laws.proofs.Moving.{IsFree, usable-free, return-parts}
+use Rattle.machine_laws.proofs.Offering.{IsOffer, chosen-offer, offer-usable}
+use Rattle.machine_laws.proofs.Passing.{IsGranted, up-granted}
+use Rattle.machine_laws.proofs.PathSets.{without-parts, each-true}
+use Rattle.machine_laws.proofs.Turning.{returns-right}
 use Rattle.step_laws.specs.Walks as walked
 use Rattle.step_laws.specs.Walks.{AreWalks, Walked, IsQuiet}
 use Rattle.seen_laws.specs.Links.{Apart, SubSeen, Seen, engaged_by, is_on, IsUp, nothing_seen, seen_through}

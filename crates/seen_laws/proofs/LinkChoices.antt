@@ -30,9 +30,9 @@ use Rattle.subchannel_model.specs.Sending.{carried_by, finds_full, with_any_sent
 use Rattle.subchannel_model.specs.Store.{available_paths}
 use Rattle.machine_model.specs.ChooseSteps.{choose_sub}
 use Rattle.machine_model.specs.Turns.{SubTurn, with_state}
-use Rattle.path_laws.proofs.PathSets.{both-parts, without-parts, each-true, usable-member}
-use Rattle.path_laws.proofs.SameState.{cause-same}
-use Rattle.path_laws.proofs.Signals.{carried-each, signals-weaker}
+use Rattle.machine_laws.proofs.PathSets.{both-parts, without-parts, each-true, usable-member}
+use Rattle.machine_laws.proofs.SameState.{cause-same}
+use Rattle.machine_laws.proofs.WaitingSignals.{carried-each, signals-weaker}
 use Rattle.seen_laws.specs.Links.{Link, Nowhere, Offered, Resetting, Reset_sent, SubSeen, has_up, sub_chosen, IsUp, IsResetDue, IsHaltDue, IsChosenRight}
 use Rattle.seen_laws.proofs.LinkHolds.{Stands, link_at, IsDue, IsByFirst, IsHeldAs, certain}
 use Rattle.seen_laws.proofs.LinkMeets.{IsSeenUp}

@@ -12,7 +12,7 @@ use Rattle.channel_config.specs.Setup.{has_number, are_distinct}
 use Rattle.subchannel_model.specs.declared.state.Subchannel.{Subchannel}
 use Rattle.subchannel_model.specs.Opening.{opened}
 use Rattle.subchannel_model.specs.Places.{is_named, place_in, place_of_id}
-use Rattle.path_laws.proofs.Signals.{none-wait}
+use Rattle.machine_laws.proofs.WaitingSignals.{none-wait}
 use Rattle.seen_laws.specs.Links.{SubSeen, first_seen, seen_named, change_first, change_named, nothing_offered, OfSub}
 use Rattle.seen_laws.proofs.UnitTurns.{first-cases}
 use Rattle.seen_laws.proofs.LinkMeets.{IsSeenUp}

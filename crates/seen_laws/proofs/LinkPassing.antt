@@ -29,8 +29,8 @@ use Rattle.machine_model.specs.DownSteps.{down_front, down_sub}
 use Rattle.machine_model.specs.ReportSteps.{report_taken, report_sub}
 use Rattle.machine_model.specs.Turns.{UpTurn, DownTurn}
 use Rattle.machine_model.specs.UpSteps.{up_front, up_sub}
-use Rattle.path_laws.proofs.Meeting.{AreAnswers, takes-met}
-use Rattle.path_laws.proofs.Signals.{Each, OnSent, each-front, taken-each, carried-each}
+use Rattle.machine_laws.proofs.Meeting.{AreAnswers, takes-met}
+use Rattle.machine_laws.proofs.WaitingSignals.{Each, OnSent, each-front, taken-each, carried-each}
 use Rattle.seen_laws.specs.Links.{SubSeen, sub_met, IsUp, IsSentFor, AreSentFor, IsMetRight}
 use Rattle.seen_laws.proofs.LinkHolds.{IsSentAs, AreSentAs, Turned}
 use Rattle.seen_laws.proofs.LinkMeets.{IsSeenUp, takes-turned}

@@ -35,9 +35,9 @@ use Rattle.machine_model.specs.PathSteps.{swept, where_path, down_path, up_path,
 use Rattle.machine_model.specs.State.{State, opening_of, place_of}
 use Rattle.machine_model.specs.Steps.{Run, Opened, Stepped, Step}
 use Rattle.machine_model.specs.Turns.{Outcome, does, SubTurn, UpTurn, DownTurn, with_state}
-use Rattle.path_laws.proofs.Moving.{return-parts}
-use Rattle.path_laws.proofs.Turning.{returns-right}
-use Rattle.path_laws.specs.Engines.{IsOnePath}
+use Rattle.machine_laws.proofs.Moving.{return-parts}
+use Rattle.machine_laws.proofs.Turning.{returns-right}
+use Rattle.machine_laws.specs.Engines.{IsOnePath}
 use Rattle.step_laws.specs.Walks as walked
 use Rattle.step_laws.specs.Walks.{AreWalks, Walked, IsQuiet, OneSub, OneUnit, Function, Resumes, Clears, Cancels, instruction_of, sweep_event}
 use Rattle.seen_laws.specs.BeginsItsOwn.{is_code_zero}
@@ -47,7 +47,7 @@ use Rattle.seen_laws.proofs.LinkLists.{AreTied, tied-set, tied-map, tied-subs, o
 use Rattle.seen_laws.proofs.LinkPassing.{MayReturn, IsUpTied, IsDownTied, met-tied, sunk-tied, report-tied, act-tied}
 use Rattle.seen_laws.proofs.LinkSubs.{IsTied, same-tied, start-tied, test-tied, modify-tied, IsNotClear, function-tied, clear-tied, system-tied, down-tied, up-tied, reset-tied}
 use Rattle.seen_laws.proofs.OwnRuns.{Answered, Unfound, There, found-answered, settled-answered, sets-stay}
-use Rattle.path_laws.proofs.SameState.{is-same}
+use Rattle.machine_laws.proofs.SameState.{is-same}
 
 -- each engine that serves a subchannel is of a path that is available
 abbrev pub AreEngaged : State → Type 0

@@ -9,7 +9,7 @@ use Rattle.channel_config.specs.declared.parts.SubchannelSetup.{SubchannelSetup}
 use Rattle.subchannel_model.specs.declared.state.Subchannel.{Subchannel}
 use Rattle.subchannel_model.specs.Choosing.{return_paths}
 use Rattle.subchannel_model.specs.Store.{available_paths}
-use Rattle.path_laws.proofs.PathSets.{each-from, both-from}
+use Rattle.machine_laws.proofs.PathSets.{each-from, both-from}
 use Rattle.seen_laws.specs.Links.{SubSeen, IsUp}
 use Rattle.seen_laws.proofs.LinkSubs.{IsTied}
 

@@ -14,7 +14,7 @@ use Rattle.chan_model.specs.declared.signal.Down.TheVariants as down
 use Rattle.chan_model.specs.declared.signal.Up.TheVariants as up
 use Rattle.channel_config.specs.Setup.{Setup, set_count}
 use Rattle.channel_config.specs.SubchannelWords.{subchannel_named}
-use Rattle.path_laws.specs.Returns.{granted_path}
+use Rattle.machine_laws.specs.Returns.{granted_path}
 use Rattle.seen_laws.specs.Links.{Apart, SubSeen, Seen, engaged_by, is_on, IsUp, seen_named, OfSub, seen_after, nothing_seen, Throughout}
 
 -- the engine of a channel path serves this subchannel; it serves one

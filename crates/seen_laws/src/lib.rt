@@ -18,8 +18,8 @@ ghost use Rattle.seen_laws.specs.OneHolder.{HasOneHolder};
 ghost use Rattle.seen_laws.specs.PathReports.{AnswersByPaths};
 
 use agreement_laws::{agreement, passing, resets, rising};
+use machine_laws::paths::{engines, offers};
 use machine_laws::{agreements, reset_numbers, setups};
-use path_laws::{engines, offers};
 use step_laws::walks;
 
 /// In each run of a lawful set-up what is taken of a subchannel's program, and what is sent to it in answer, goes by the path

@@ -14,7 +14,7 @@ use Rattle.chan_model.specs.ConditionCodes.{answer_of_code}
 use Rattle.channel_config.specs.declared.names.SubchannelId.{SubchannelId}
 use Rattle.channel_config.specs.declared.parts.SubchannelSetup.{SubchannelSetup}
 use Rattle.channel_config.specs.Setup.{Setup}
-use Rattle.event_laws.specs.Codes.{code_by}
+use Rattle.machine_laws.specs.Codes.{code_by}
 use Rattle.machine_laws.specs.Claims.{is_id}
 use Rattle.machine_model.specs.InstructionSteps.{subchannel_word}
 use Rattle.machine_model.specs.State.{State, opening_of}

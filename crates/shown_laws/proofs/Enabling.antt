@@ -17,7 +17,7 @@ use Rattle.chan_model.specs.ResetCauses.{rests_on}
 use Rattle.chan_model.specs.UnitReports.{is_last_end}
 use Rattle.chan_model.specs.Signals.{Up}
 use Rattle.storage_keys.specs.Storage.{Contents}
-use Rattle.event_laws.specs.Codes.{answer_in}
+use Rattle.machine_laws.specs.Codes.{answer_in}
 use Rattle.machine_model.specs.declared.state.Sweep.{Sweep}
 use Rattle.machine_model.specs.declared.state.Sweep.TheVariants as sweep
 use Rattle.machine_model.specs.InstructionSteps.{subchannel_word}

@@ -35,7 +35,7 @@ use Rattle.machine_model.proofs.Named.{requests_settled, PerformsStart, tests, s
 use Rattle.machine_model.specs.InstructionSteps.{code_at, function_at, stores_irb, with_schib, with_enabling, test_sub, Modifies_by, Enables_with, Executes_at, subchannel_word}
 use Rattle.machine_model.specs.Requests.{settled}
 use Rattle.machine_model.specs.Steps.{Step}
-use Rattle.event_laws.specs.Codes.{code_by}
+use Rattle.machine_laws.specs.Codes.{code_by}
 use Rattle.shown_laws.proofs.Named.{found-there}
 
 -- the effect of an instruction with code 0

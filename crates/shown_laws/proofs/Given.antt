@@ -19,7 +19,7 @@ use Rattle.channel_config.specs.declared.parts.SubchannelSetup.{SubchannelSetup}
 use Rattle.channel_config.specs.Setup.{Setup}
 use Rattle.interruptions.specs.Requests as requests
 use Rattle.interruptions.specs.Requests.{WaitingRequests, is_of, request_dropped}
-use Rattle.event_laws.specs.Codes.{IsByTable}
+use Rattle.machine_laws.specs.Codes.{IsByTable}
 use Rattle.machine_laws.specs.Claims.{is_id}
 use Rattle.machine_model.specs.InstructionSteps.{subchannel_word}
 use Rattle.machine_model.specs.Requests.{reply_code, drops, requests_after, requests_dropped, request_of}

@@ -17,8 +17,8 @@ use Rattle.channel_config.specs.declared.names.SubchannelId.{SubchannelId}
 use Rattle.channel_config.specs.Setup.{Setup, set_count}
 use Rattle.channel_config.specs.SubchannelWords.{subchannel_named}
 use Rattle.path_select.specs.Choice.{IsChoice}
-use Rattle.path_laws.proofs.Offering.{IsOffer, chosen-offer, offer-usable}
-use Rattle.path_laws.proofs.PathSets.{both-parts, without-parts, each-true, each-within}
+use Rattle.machine_laws.proofs.Offering.{IsOffer, chosen-offer, offer-usable}
+use Rattle.machine_laws.proofs.PathSets.{both-parts, without-parts, each-true, each-within}
 use Rattle.subchannel_model.specs.declared.state.Chosen.{Chosen}
 use Rattle.subchannel_model.specs.declared.state.Chosen.TheVariants.{Idle, Resets, PerformsClear, Halts, PerformsHalt, FindsNoPath, Offers}
 use Rattle.subchannel_model.specs.declared.state.Subchannel.{Subchannel}

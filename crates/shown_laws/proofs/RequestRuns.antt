@@ -14,7 +14,7 @@ use Rattle.chan_events.specs.Replies.{Reply}
 use Rattle.chan_events.specs.declared.reply.Reply.TheVariants as reply
 use Rattle.channel_config.specs.declared.names.SubchannelId.{SubchannelId}
 use Rattle.channel_config.specs.Setup.{Setup, set_count}
-use Rattle.event_laws.specs.Codes.{IsByTable}
+use Rattle.machine_laws.specs.Codes.{IsByTable}
 use Rattle.interruptions.specs.Requests.{answer}
 use Rattle.machine_laws.specs.Claims.{is_id}
 use Rattle.machine_model.specs.State.{State, opening_of}

@@ -13,7 +13,7 @@ use Rattle.chan_model.specs.declared.answer.ConditionCode.TheVariants.{Zero, Thr
 use Rattle.chan_model.specs.ConditionCodes.{answer_of_code, code_of}
 use Rattle.channel_config.specs.declared.names.SubchannelId.{SubchannelId}
 use Rattle.channel_config.specs.Setup.{Setup, set_count}
-use Rattle.event_laws.specs.Codes.{answer_in}
+use Rattle.machine_laws.specs.Codes.{answer_in}
 use Rattle.machine_model.specs.InstructionSteps.{subchannel_word}
 use Rattle.shown_laws.specs.CodeTable.{code_due}
 use Rattle.shown_laws.specs.Shown.{StoredStatus, names, Between}

@@ -75,7 +75,7 @@ pub fn requests()
     walks();
     setups();
     steps();
-    event_laws::codes();
+    machine_laws::events::codes();
 }
 
 /// In each run each program is offered, anew or resumed, by a path of the logical-path mask that STORE SUBCHANNEL shows just before

@@ -5,19 +5,19 @@ use Rattle.chan_events.specs.Events.{Event}
 use Rattle.chan_events.specs.declared.reply.Entry.{Entry}
 use Rattle.chan_events.specs.Replies.{Reply}
 use Rattle.channel_config.specs.Setup.{Setup, set_count}
-use Rattle.event_laws.specs.Clearing.{ClearsByCause}
-use Rattle.event_laws.specs.Codes.{IsByTable}
-use Rattle.event_laws.specs.Counts.{CountsByStatus}
-use Rattle.event_laws.specs.Resets.{ResetsByCause, StaysReset}
+use Rattle.machine_laws.specs.Clearing.{ClearsByCause}
+use Rattle.machine_laws.specs.Codes.{IsByTable}
+use Rattle.machine_laws.specs.Counts.{CountsByStatus}
+use Rattle.machine_laws.specs.Resets.{ResetsByCause, StaysReset}
 use Rattle.machine_laws.specs.Agreeing.{AllAgree, HoldEndsByReset}
 use Rattle.machine_laws.specs.Beginnings.{IsBegunOnce}
 use Rattle.machine_laws.specs.Claims.{IsPendingUncleared, IsClearedOnce}
 use Rattle.machine_model.specs.Setups.{IsSetUp}
 use Rattle.machine_model.specs.State.{State, opening_of}
 use Rattle.machine_model.specs.Steps.{HasRun, Run, Opened, Step, Stepped}
-use Rattle.path_laws.specs.Engines.{IsOnePath}
-use Rattle.path_laws.specs.Returns.{OffersOnDedicated, ReturnsByFirst}
-use Rattle.path_laws.specs.Shown.{AreShown}
+use Rattle.machine_laws.specs.Engines.{IsOnePath}
+use Rattle.machine_laws.specs.Returns.{OffersOnDedicated, ReturnsByFirst}
+use Rattle.machine_laws.specs.Shown.{AreShown}
 use Rattle.program_claims.specs.ProgramTold.{AreProgramsTold}
 use Rattle.program_laws.specs.Tells.{AllTold}
 use Rattle.seen_laws.specs.BeginsItsOwn.{BeginsItsOwn}

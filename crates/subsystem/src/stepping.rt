@@ -10,9 +10,9 @@ ghost use Rattle.subsystem.specs.Parts.{past_of};
 
 use chan_events::event::Event;
 use chan_model::fault::Fault;
-use event_laws::codes;
 use event_log::logs::Log;
 use finding::tables::Places;
+use machine_laws::events::codes;
 use machine_laws::{numbers, setups, steps};
 use machine_steps::machine::Machine;
 use path_select::PathChoice;

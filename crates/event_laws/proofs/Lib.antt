@@ -1,8 +1,0 @@
-pub mod Named
-mod Answered
-mod Calm
-mod Signals
-mod Following
-mod Reasons
-mod AllCleared
-mod Counting

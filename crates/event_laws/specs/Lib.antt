@@ -1,4 +1,0 @@
-pub mod Codes
-pub mod Clearing
-pub mod Resets
-pub mod Counts
