@@ -34,6 +34,9 @@ mod Using
 mod LastUsed
 mod Coding
 mod Deferring
-pub mod LossRuns
+mod LossRuns
 mod Bytes
 mod ByteRuns
+mod HaltRuns
+mod Losing
+mod LosingRuns

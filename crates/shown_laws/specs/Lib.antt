@@ -10,3 +10,5 @@ pub mod Deferred
 pub mod Losses
 pub mod Behind
 pub mod StatusBytes
+pub mod Halts
+pub mod LostPrograms

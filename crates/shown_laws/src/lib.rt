@@ -16,6 +16,8 @@ ghost use Rattle.shown_laws.specs.Paths.{AreOffersLogical, ShowsLastUsed};
 ghost use Rattle.shown_laws.specs.StatusBytes.{AreBytesRight};
 ghost use Rattle.shown_laws.specs.Serials.{AreMade, ArePendingShown};
 
+pub mod whereabouts;
+
 use machine_laws::{numbers, setups, steps};
 use step_laws::walks;
 

@@ -33,8 +33,8 @@ use Rattle.shown_laws.specs.Choices.{AreChoicesRight}
 use Rattle.shown_laws.specs.Codes.{AreCodesRight, AreThree}
 use Rattle.shown_laws.specs.Deferred.{AreDeferredRight}
 use Rattle.shown_laws.specs.Functions.{DoFunctionsFollow}
-use Rattle.choice_laws.specs.Halts.{AreHaltsDone}
-use Rattle.choice_laws.specs.Losses.{AreLossesRight}
+use Rattle.shown_laws.specs.Halts.{AreHaltsDone}
+use Rattle.shown_laws.specs.LostPrograms.{AreLossesRight}
 use Rattle.shown_laws.specs.Interruptions.{IsAskedFor, IsGivenOnce, IsLowestFirst, IsOldestFirst}
 use Rattle.shown_laws.specs.Losses.{AreLossesShown}
 use Rattle.shown_laws.specs.Paths.{AreOffersLogical, ShowsLastUsed}

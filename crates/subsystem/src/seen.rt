@@ -10,13 +10,13 @@ ghost use Rattle.machine_model.specs.Steps.{Run};
 ghost use Rattle.shown_laws.specs.Losses.{AreLossesShown};
 ghost use Rattle.subsystem.specs.Headline.{HeadlineHolds};
 
-use choice_laws::{halts, losses};
 use machine_laws::beginnings;
 use program_claims::told_by_entries;
 use seen_laws::{
     begins_its_own, both_agree, by_its_path, dedicated_offers, device_paths, links, one_engine,
     one_holder, path_reports,
 };
+use shown_laws::whereabouts::{halts, losses};
 use shown_laws::{
     choices, codes, deferred_codes, functions, last_used, logical_offers, requests, serials,
     status_bytes,

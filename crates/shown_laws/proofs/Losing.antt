@@ -22,7 +22,7 @@ use Rattle.seen_laws.proofs.LinkHolds.{link_at, Stands, IsDoubtful, IsHeldAs}
 use Rattle.seen_laws.proofs.LinkLosses.{Agree, IsUnseen, agree}
 use Rattle.seen_laws.proofs.LinkPaths.{index-is, on-none}
 use Rattle.seen_laws.proofs.LinkSubs.{same-setup}
-use Rattle.choice_laws.specs.Losses.{is_program, is_lost_with, may_be_lost_with}
+use Rattle.shown_laws.specs.LostPrograms.{is_program, is_lost_with, may_be_lost_with}
 
 abbrev pub holds : SubchannelState → Bool
 holds s = is_offered_or_held s.hold.phase

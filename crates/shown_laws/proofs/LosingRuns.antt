@@ -34,8 +34,8 @@ use Rattle.shown_laws.proofs.LossRuns.{known-is, shown-status}
 use Rattle.shown_laws.proofs.Runs.{AreLaws, status_of, run-between}
 use Rattle.shown_laws.proofs.Turned.{Turned, Executes, Chooses, Meets, Sweeps, Rests, met, reply_met}
 use Rattle.shown_laws.proofs.Showing.{whole, whole-tells}
-use Rattle.choice_laws.specs.Losses.{IsLoss, IsLossBy, IsLossRight, AreLossesRight}
-use Rattle.choice_laws.proofs.Losing.{has_program, there-where-shown, loses-made, loses-due, noticed, notice-made, notice-due}
+use Rattle.shown_laws.specs.LostPrograms.{IsLoss, IsLossBy, IsLossRight, AreLossesRight}
+use Rattle.shown_laws.proofs.Losing.{has_program, there-where-shown, loses-made, loses-due, noticed, notice-made, notice-due}
 
 -- what is known of the subchannel: whether it is enabled, and that where its activity shows a program one is there
 record IsKnown (known : Option Bool) (s : SubchannelState) : Type 0 where

@@ -1,13 +1,12 @@
 //! What is chosen for a subchannel and what is lost of it, by what STORE SUBCHANNEL shows and by where its program is, in every run: theorems
 //! over the list of its entries alone.
-#![tactic(auto)]
 
 ghost use Rattle.std.specs.Prelude.{List};
 ghost use Rattle.chan_events.specs.declared.reply.Entry.{Entry};
 ghost use Rattle.channel_config.specs.Lawful.{IsLawful};
 ghost use Rattle.channel_config.specs.Setup.{Setup};
-ghost use Rattle.choice_laws.specs.Halts.{AreHaltsDone};
-ghost use Rattle.choice_laws.specs.Losses.{AreLossesRight};
+ghost use Rattle.shown_laws.specs.Halts.{AreHaltsDone};
+ghost use Rattle.shown_laws.specs.LostPrograms.{AreLossesRight};
 ghost use Rattle.machine_model.specs.State.{State, opening_of};
 ghost use Rattle.machine_model.specs.Steps.{Run};
 

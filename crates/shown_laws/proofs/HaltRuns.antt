@@ -29,7 +29,7 @@ use Rattle.seen_laws.proofs.LinkRuns.{AreOnePath, IsRunSeen, run-seen}
 use Rattle.seen_laws.proofs.LinkPaths.{member-usable}
 use Rattle.seen_laws.proofs.LinkSubs.{IsTied}
 use Rattle.seen_laws.proofs.Returning.{IsAvailable, up-available, first-returns}
-use Rattle.choice_laws.specs.Halts.{IsFirstDown, IsHaltDone, IsHaltDoneFor, IsHaltRight, AreHaltsDone}
+use Rattle.shown_laws.specs.Halts.{IsFirstDown, IsHaltDone, IsHaltDoneFor, IsHaltRight, AreHaltsDone}
 use Rattle.shown_laws.specs.Shown.{StoredStatus, is_about}
 use Rattle.shown_laws.proofs.Runs.{AreLaws, status_of, run-between}
 use Rattle.shown_laws.proofs.Turned.{Turned, IsAwayChoice, Executes, Chooses, Meets, Sweeps, Rests, reply_chosen}

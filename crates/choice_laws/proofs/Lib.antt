@@ -1,3 +1,0 @@
-mod HaltRuns
-mod Losing
-mod LossRuns

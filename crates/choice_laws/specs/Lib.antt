@@ -1,2 +1,0 @@
-pub mod Halts
-pub mod Losses
