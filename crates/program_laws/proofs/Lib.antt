@@ -1,9 +1,9 @@
-pub mod Named
+mod Named
 mod MachineActs
 mod MachineTraces
-pub mod Vanishing
+mod Vanishing
 mod Marks
-pub mod Sweeps
+mod Sweeps
 mod Turns
 mod Lists
 mod Advances
@@ -34,7 +34,7 @@ mod Choices
 mod UnitFlows
 mod LinkViews
 mod UnitHands
-pub mod UnitActs
+mod UnitActs
 mod UnitTold
 mod LinkWires
 mod LinkModes
@@ -52,9 +52,9 @@ mod Unasked
 mod Fetches
 mod Shows
 mod Goings
-pub mod Offers
+mod Offers
 mod OfferRuns
-pub mod Accepts
+mod Accepts
 mod Moves
 mod NextChunks
 mod DataMeets
@@ -62,3 +62,17 @@ mod Chains
 mod Follows
 mod Told
 mod Example
+mod StorageSteps
+mod Signals
+mod Waits
+mod Waiting
+mod Starting
+mod Telling
+mod Overs
+mod OverRuns
+mod Halts
+mod StartMasks
+mod OfferedPaths
+mod Statuses
+mod StatusRuns
+mod Runs

@@ -6,3 +6,6 @@ pub mod Interrupts
 pub mod Fetches
 pub mod Tells
 pub mod Reached
+pub mod StorageTold
+pub mod StatusTold
+pub mod ProgramTold

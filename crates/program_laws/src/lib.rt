@@ -9,6 +9,8 @@ ghost use Rattle.machine_model.specs.State.{State, opening_of};
 ghost use Rattle.machine_model.specs.Steps.{Run};
 ghost use Rattle.program_laws.specs.Tells.{AllTold};
 
+pub mod entries;
+
 use ccw_walk::law as place_laws;
 use data_move::law as moves;
 use storage_keys::law as storage;

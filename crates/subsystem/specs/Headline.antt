@@ -18,7 +18,7 @@ use Rattle.machine_model.specs.Steps.{HasRun, Run, Opened, Step, Stepped}
 use Rattle.machine_laws.specs.Engines.{IsOnePath}
 use Rattle.machine_laws.specs.Returns.{OffersOnDedicated, ReturnsByFirst}
 use Rattle.machine_laws.specs.Shown.{AreShown}
-use Rattle.program_claims.specs.ProgramTold.{AreProgramsTold}
+use Rattle.program_laws.specs.ProgramTold.{AreProgramsTold}
 use Rattle.program_laws.specs.Tells.{AllTold}
 use Rattle.seen_laws.specs.BeginsItsOwn.{BeginsItsOwn}
 use Rattle.seen_laws.specs.BothAgree.{DoBothAgree}

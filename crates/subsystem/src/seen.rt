@@ -11,7 +11,7 @@ ghost use Rattle.shown_laws.specs.Losses.{AreLossesShown};
 ghost use Rattle.subsystem.specs.Headline.{HeadlineHolds};
 
 use machine_laws::beginnings;
-use program_claims::told_by_entries;
+use program_laws::entries::told_by_entries;
 use seen_laws::{
     begins_its_own, both_agree, by_its_path, dedicated_offers, device_paths, links, one_engine,
     one_holder, path_reports,

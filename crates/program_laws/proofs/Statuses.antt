@@ -28,8 +28,8 @@ use Rattle.program_laws.specs.Tells.{SentCommand, command_sent, GoesTo, GoesOn, 
 use Rattle.program_laws.specs.Traces.{ProgramTrace, chosen_at}
 use Rattle.shown_laws.proofs.Behind.{IsBehind}
 use Rattle.shown_laws.proofs.Showing.{TellsPrograms}
-use Rattle.program_claims.specs.StatusTold.{ShowsOf, ShowsAccept, ShowsSignal, ShowsChosen, ShowsAfter}
-use Rattle.program_claims.proofs.Telling.{IsJust}
+use Rattle.program_laws.specs.StatusTold.{ShowsOf, ShowsAccept, ShowsSignal, ShowsChosen, ShowsAfter}
+use Rattle.program_laws.proofs.Telling.{IsJust}
 use Rattle.program_laws.proofs.Accepts.{over as over-stands}
 
 -- a Bool with one more

@@ -50,7 +50,7 @@ use Rattle.seen_laws.proofs.Starts.{Within, IsChosenBy, cause-within, takes-with
 use Rattle.program_laws.proofs.Sweeps.{swept-kept}
 use Rattle.program_laws.proofs.UnitActs.{if-ok}
 use Rattle.program_laws.proofs.Vanishing.{send-ok}
-use Rattle.program_claims.proofs.Telling.{IsJust}
+use Rattle.program_laws.proofs.Telling.{IsJust}
 
 pub not-eqb : (a b : ℕ) → (a ≡ b → ⊥) → (a == b) ≡ false
 not-eqb a b n = ne_eqb a b n

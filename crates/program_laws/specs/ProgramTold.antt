@@ -34,8 +34,8 @@ use Rattle.program_laws.specs.Claims.{TraceCorrect}
 use Rattle.program_laws.specs.Tells.{command_sent, Begins, IsAnswerTo, Moves, ended, IsChained, Chains}
 use Rattle.program_laws.specs.Traces.{ProgramTrace, trace_offered, trace_resumed, taken_at}
 use Rattle.shown_laws.specs.Behind.{behind_after}
-use Rattle.program_claims.specs.StorageTold.{AreStored}
-use Rattle.program_claims.specs.StatusTold.{LastStored, stored_after, shown_by, IsStatusTold}
+use Rattle.program_laws.specs.StorageTold.{AreStored}
+use Rattle.program_laws.specs.StatusTold.{LastStored, stored_after, shown_by, IsStatusTold}
 
 -- the operation-request block of the start that was accepted last, and what was done for the program that was offered last
 pub record Told : Type 0 where

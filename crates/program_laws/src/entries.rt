@@ -1,5 +1,4 @@
 //! What the entries of every run tell of the channel programs: theorems over the list of entries alone.
-#![tactic(auto)]
 
 ghost use Rattle.std.specs.Prelude.{List};
 ghost use Rattle.chan_events.specs.declared.reply.Entry.{Entry};
@@ -7,10 +6,10 @@ ghost use Rattle.channel_config.specs.Lawful.{IsLawful};
 ghost use Rattle.channel_config.specs.Setup.{Setup};
 ghost use Rattle.machine_model.specs.State.{State, opening_of};
 ghost use Rattle.machine_model.specs.Steps.{Run};
-ghost use Rattle.program_claims.specs.ProgramTold.{AreProgramsTold};
+ghost use Rattle.program_laws.specs.ProgramTold.{AreProgramsTold};
 
+use crate::programs as program_traces;
 use machine_laws::{reset_numbers, setups, steps};
-use program_laws::programs as program_traces;
 use step_laws::walks;
 
 /// In each run of a lawful set-up what storage held after each entry can be told from the entries, and with it what was done for

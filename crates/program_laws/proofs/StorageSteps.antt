@@ -63,7 +63,7 @@ use Rattle.machine_model.specs.Turns.{Turn, SubTurn, DownTurn, Outcome, does, wh
 use Rattle.machine_model.specs.Requests.{settled}
 use Rattle.machine_model.specs.StorageSteps.{storage_turn}
 use Rattle.machine_model.proofs.Named.{requests_settled, Executes_on, down_unit, act_to}
-use Rattle.program_claims.specs.StorageTold.{IsOperandStored, StoresBy}
+use Rattle.program_laws.specs.StorageTold.{IsOperandStored, StoresBy}
 
 -- how many bytes are stored
 length-words : (ws : List ℕ) → length (bytes_of_words ws) ≡ 4 * length ws

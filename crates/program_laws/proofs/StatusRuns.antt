@@ -38,12 +38,12 @@ use Rattle.shown_laws.proofs.Named.{named-is, same-id}
 use Rattle.shown_laws.proofs.Runs.{AreLaws, IsStored, status_of, place-stays, step-stored}
 use Rattle.shown_laws.proofs.Showing.{IsWhole, whole, both-same, whole-tells}
 use Rattle.shown_laws.proofs.Turned.{Turned, step-turns}
-use Rattle.program_claims.specs.ProgramTold.{Standing, over_after, standing_after, nothing_over}
-use Rattle.program_claims.specs.StatusTold.{AfterStore, shown_by, ShowsAfter, IsStatusTold}
-use Rattle.program_claims.proofs.OverRuns.{about}
-use Rattle.program_claims.proofs.Overs.{Owned}
-use Rattle.program_claims.proofs.Statuses.{IsNoInstruction, step-shown}
-use Rattle.program_claims.proofs.Telling.{IsJust}
+use Rattle.program_laws.specs.ProgramTold.{Standing, over_after, standing_after, nothing_over}
+use Rattle.program_laws.specs.StatusTold.{AfterStore, shown_by, ShowsAfter, IsStatusTold}
+use Rattle.program_laws.proofs.OverRuns.{about}
+use Rattle.program_laws.proofs.Overs.{Owned}
+use Rattle.program_laws.proofs.Statuses.{IsNoInstruction, step-shown}
+use Rattle.program_laws.proofs.Telling.{IsJust}
 
 -- what was shown is so of the subchannel of a place
 abbrev IsSo : ℕ → State → StoredStatus → Type 0

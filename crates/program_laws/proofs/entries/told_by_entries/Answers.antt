@@ -1,5 +1,5 @@
-use Rattle.program_claims.proofs.Runs.{run-programs}
-use Rattle.program_claims.proofs.told_by_entries.Goals as goal
+use Rattle.program_laws.proofs.Runs.{run-programs}
+use Rattle.program_laws.proofs.entries.told_by_entries.Goals as goal
 
 pub returns : goal.returns
 returns c =

@@ -43,9 +43,9 @@ use Rattle.step_laws.proofs.Places.{set-get, map-get}
 use Rattle.seen_laws.specs.BeginsItsOwn.{is_code_zero, over_by, over_chosen}
 use Rattle.seen_laws.proofs.OwnSteps.{IsApart, down-apart, step-apart, act-apart}
 use Rattle.seen_laws.proofs.OwnRuns.{found-there, settled-answered, Answered, Unfound, There, halt-answered, cancel-answered}
-use Rattle.program_claims.specs.ProgramTold.{over_tested, over_after}
-use Rattle.program_claims.proofs.Starting as starting_step
-use Rattle.program_claims.proofs.Overs.{Owned, same-tied, reset-tied, halt-owned, cancel-owned, start-owned, test-owned, resume-just, IsTurn, chosen-owned, up-owned, same-just, swept-owned, not-eqb}
+use Rattle.program_laws.specs.ProgramTold.{over_tested, over_after}
+use Rattle.program_laws.proofs.Starting as starting_step
+use Rattle.program_laws.proofs.Overs.{Owned, same-tied, reset-tied, halt-owned, cancel-owned, start-owned, test-owned, resume-just, IsTurn, chosen-owned, up-owned, same-just, swept-owned, not-eqb}
 
 -- at a place
 abbrev pub OwnedAt : Bool → List Subchannel → ℕ → Type 0

@@ -24,7 +24,7 @@ use Rattle.machine_model.specs.Turns.{Outcome, with_state}
 use Rattle.machine_model.proofs.Named.{Executes_on}
 use Rattle.seen_laws.specs.BeginsItsOwn.{is_code_zero}
 use Rattle.seen_laws.proofs.OwnRuns.{found-there, settled-answered}
-use Rattle.program_claims.specs.ProgramTold.{IsOrbAt}
+use Rattle.program_laws.specs.ProgramTold.{IsOrbAt}
 
 pub data Started (s : State) (cpu word address : ℕ) : Reply → List Subchannel → Type 0 where
   Unfound : (r : Reply) → is_code_zero r ≡ false → Started s cpu word address r s.subs

@@ -52,7 +52,7 @@ use Rattle.program_laws.specs.Traces.{ProgramTrace, chosen_at, absorbs, reported
 use Rattle.program_laws.proofs.Named.{offered_for, reported}
 use Rattle.program_laws.proofs.UnitActs.{if-ok}
 use Rattle.program_laws.proofs.Vanishing.{send-ok}
-use Rattle.program_claims.specs.ProgramTold.{Standing, Told, OffersBy, Accepts, Ends, MeetsBy, UpBy, HasAbsorbed}
+use Rattle.program_laws.specs.ProgramTold.{Standing, Told, OffersBy, Accepts, Ends, MeetsBy, UpBy, HasAbsorbed}
 
 abbrev pub told : Option Orb → Option ProgramTrace → Told
 told started program = record { started = started; program = program }

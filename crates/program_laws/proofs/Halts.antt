@@ -29,7 +29,7 @@ use Rattle.shown_laws.proofs.Fitting.{Fits, fits-opens, turned-fits}
 use Rattle.shown_laws.proofs.Following.{turned-follows}
 use Rattle.shown_laws.proofs.Runs.{AreLaws, run-keeps}
 use Rattle.shown_laws.proofs.Turned.{Turned, Executes, Chooses, Meets, Sweeps, Rests}
-use Rattle.program_claims.specs.ProgramTold.{halt_by, halted_after}
+use Rattle.program_laws.specs.ProgramTold.{halt_by, halted_after}
 
 -- what an event is about, by the name of the subchannel
 abbrev pub mine : ℕ → SubchannelId → Event → Bool

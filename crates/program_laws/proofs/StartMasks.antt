@@ -38,7 +38,7 @@ use Rattle.subchannel_model.specs.Status.{scsw_made, with_joined, no_device_stat
 use Rattle.subchannel_model.specs.Test.{ended_scsw, suspended_scsw, tested, tested_wholly, ends_suspended}
 use Rattle.subchannel_model.specs.Taking.{taking_over, working, takes_up}
 use Rattle.machine_model.specs.InstructionSteps.{code_at}
-use Rattle.program_claims.proofs.Signals.{signal-kept, reset-kept}
+use Rattle.program_laws.proofs.Signals.{signal-kept, reset-kept}
 use Rattle.shown_laws.proofs.Fitting.{zero-two}
 
 abbrev pub IsMaskOf : Option Orb → List Bool → Type 0

@@ -15,7 +15,7 @@ use Rattle.subchannel_model.specs.Losing.{reset_with}
 use Rattle.subchannel_model.specs.Programs.{without_programs}
 use Rattle.subchannel_model.specs.Test.{tested, tested_wholly, ends_suspended}
 use Rattle.subchannel_model.specs.Taking.{takes_up}
-use Rattle.program_claims.proofs.Signals.{signal-kept, reset-kept}
+use Rattle.program_laws.proofs.Signals.{signal-kept, reset-kept}
 
 module _ (P : Option Program → Type 0) (none : P None) where
   abbrev Waits : SubchannelState → Type 0

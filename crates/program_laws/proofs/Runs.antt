@@ -45,19 +45,19 @@ use Rattle.shown_laws.proofs.Runs.{AreLaws}
 use Rattle.program_laws.specs.Claims.{TraceCorrect}
 use Rattle.program_laws.specs.Tells.{GoesBy, IsTold, AllTold}
 use Rattle.program_laws.specs.Traces.{ProgramTrace, chosen_at, taken_at}
-use Rattle.program_claims.specs.ProgramTold.{Told, StartsBy, HasAbsorbed, Standing, over_after, halted_after, standing_after, TellsBy, place_named, is_named_at, is_about, AreTold, nothing_told, nothing_over, opening_storage, AreProgramsTold}
-use Rattle.program_claims.specs.StatusTold.{shown_by, IsStatusTold}
-use Rattle.program_claims.specs.StorageTold.{StoresBy, AreStored}
-use Rattle.program_claims.proofs.StorageSteps.{step-stores}
-use Rattle.program_claims.proofs.Starting.{Started, Unfound, Refused, Starts, step-started}
-use Rattle.program_claims.proofs.Overs.{Owned}
-use Rattle.program_claims.proofs.OverRuns.{OwnedAt, about, step-owned}
-use Rattle.program_claims.proofs.Halts.{mine, halted_by, run-halted}
-use Rattle.program_claims.proofs.StartMasks.{Masked}
-use Rattle.program_claims.proofs.OfferedPaths.{IsNoStart, MaskedAt, SameSetups, stays-masked, set-masked, start-masked, offered-path}
-use Rattle.program_claims.proofs.StatusRuns.{path-is, named-same, AreStatusesTold, nothing-stored, entry-told, step-told}
-use Rattle.program_claims.proofs.Telling.{told, IsStarted, IsJust, AnswersOffer, up-by, walk-answers, walk-replies, IsChosen, walk-chosen, offers-waiting, offers-by, report-absorbed}
-use Rattle.program_claims.proofs.Waiting.{walk-waits}
+use Rattle.program_laws.specs.ProgramTold.{Told, StartsBy, HasAbsorbed, Standing, over_after, halted_after, standing_after, TellsBy, place_named, is_named_at, is_about, AreTold, nothing_told, nothing_over, opening_storage, AreProgramsTold}
+use Rattle.program_laws.specs.StatusTold.{shown_by, IsStatusTold}
+use Rattle.program_laws.specs.StorageTold.{StoresBy, AreStored}
+use Rattle.program_laws.proofs.StorageSteps.{step-stores}
+use Rattle.program_laws.proofs.Starting.{Started, Unfound, Refused, Starts, step-started}
+use Rattle.program_laws.proofs.Overs.{Owned}
+use Rattle.program_laws.proofs.OverRuns.{OwnedAt, about, step-owned}
+use Rattle.program_laws.proofs.Halts.{mine, halted_by, run-halted}
+use Rattle.program_laws.proofs.StartMasks.{Masked}
+use Rattle.program_laws.proofs.OfferedPaths.{IsNoStart, MaskedAt, SameSetups, stays-masked, set-masked, start-masked, offered-path}
+use Rattle.program_laws.proofs.StatusRuns.{path-is, named-same, AreStatusesTold, nothing-stored, entry-told, step-told}
+use Rattle.program_laws.proofs.Telling.{told, IsStarted, IsJust, AnswersOffer, up-by, walk-answers, walk-replies, IsChosen, walk-chosen, offers-waiting, offers-by, report-absorbed}
+use Rattle.program_laws.proofs.Waiting.{walk-waits}
 
 -- one entry more
 stored-more : (storage : Contents) (h : List Entry) (later : List Contents) (mid after : Contents) (x : Entry) → AreStored storage h later mid → StoresBy mid x.event x.reply after →

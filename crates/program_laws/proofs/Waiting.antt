@@ -41,7 +41,7 @@ use Rattle.seen_laws.proofs.OwnSteps.{IsApart, down-apart, step-apart, act-apart
 use Rattle.program_laws.proofs.Sweeps.{swept-kept}
 use Rattle.program_laws.proofs.UnitActs.{if-ok}
 use Rattle.program_laws.proofs.Vanishing.{send-ok}
-use Rattle.program_claims.proofs.Waits.{cause-waits, reset-waits, takes-waits, test-waits, halt-waits}
+use Rattle.program_laws.proofs.Waits.{cause-waits, reset-waits, takes-waits, test-waits, halt-waits}
 
 module _ (P : Option Program → Type 0) (none : P None) where
   abbrev Stays : Subchannel → Subchannel → Type 0

@@ -52,9 +52,9 @@ use Rattle.shown_laws.proofs.Runs.{place-stays, placed}
 use Rattle.shown_laws.proofs.Turned.{Turned, Executes, Chooses, Meets, Sweeps, Rests, state_chosen, step-turns}
 use Rattle.program_laws.proofs.Sweeps.{swept-kept}
 use Rattle.program_laws.proofs.Vanishing.{send-ok}
-use Rattle.program_claims.proofs.Overs.{IsAhead, chosen-ahead}
-use Rattle.program_claims.proofs.StartMasks.{Masked, is_pending, cause-masked, signal-masked, reset-masked, test-masked, halt-masked, modify-masked, resume-masked, left-masked}
-use Rattle.program_claims.proofs.Telling.{IsChosen, IsByPath}
+use Rattle.program_laws.proofs.Overs.{IsAhead, chosen-ahead}
+use Rattle.program_laws.proofs.StartMasks.{Masked, is_pending, cause-masked, signal-masked, reset-masked, test-masked, halt-masked, modify-masked, resume-masked, left-masked}
+use Rattle.program_laws.proofs.Telling.{IsChosen, IsByPath}
 
 -- what befalls a subchannel, but for START SUBCHANNEL
 abbrev pub IsNoStart : Event → Type 0

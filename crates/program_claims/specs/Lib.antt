@@ -1,3 +1,0 @@
-pub mod StorageTold
-pub mod StatusTold
-pub mod ProgramTold
