@@ -8,7 +8,7 @@ mod Unchained
 mod Holding
 pub mod Effects
 mod Signals
-pub mod Enabling
+mod Enabling
 mod Absent
 pub mod Fitting
 pub mod Following
