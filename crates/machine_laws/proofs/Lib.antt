@@ -31,7 +31,7 @@ pub mod Meeting
 mod Units
 pub mod Moving
 pub mod Passing
-pub mod Sweeps
+pub mod SweptPaths
 pub mod Turning
 mod OneEngine
 mod Remembering

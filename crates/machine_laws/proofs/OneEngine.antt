@@ -31,7 +31,7 @@ use Rattle.step_laws.proofs.Places.{set-get, map-get, one-side}
 use Rattle.machine_laws.specs.Engines.{IsOnePath}
 use Rattle.machine_laws.proofs.PathSets.{both-parts, both-from}
 use Rattle.machine_laws.proofs.Moving.{IsFree, IsMoved}
-use Rattle.machine_laws.proofs.Sweeps.{IsSwept, is-swept}
+use Rattle.machine_laws.proofs.SweptPaths.{IsSwept, is-swept}
 use Rattle.machine_laws.proofs.Turning.{Turned, OfNone, OfOne, OfAll, step-turned}
 
 -- the path whose engine serves a subchannel

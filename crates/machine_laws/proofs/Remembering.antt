@@ -28,7 +28,7 @@ use Rattle.machine_laws.proofs.WaitingSignals.{none-wait}
 use Rattle.machine_laws.proofs.Told.{Remembers, IsTiedDown, IsTiedUp, IsTold}
 use Rattle.machine_laws.proofs.Moving.{return-parts}
 use Rattle.machine_laws.proofs.Passing.{IsGranted, up-granted}
-use Rattle.machine_laws.proofs.Sweeps.{is-swept}
+use Rattle.machine_laws.proofs.SweptPaths.{is-swept}
 use Rattle.machine_laws.proofs.Turning.{Turned, OfNone, OfOne, OfAll, step-turned, returns-right}
 
 -- what is told of the subchannel of each place

@@ -31,7 +31,7 @@ use Rattle.step_laws.proofs.Places.{set-get, map-get, same-or-not}
 use Rattle.machine_laws.specs.Shown.{IsShown, AreShown}
 use Rattle.machine_laws.proofs.WaitingSignals.{Each, each-weaker, EachSignal, signals-weaker, lost-each, none-wait}
 use Rattle.machine_laws.proofs.Moving.{IsOnAvailable, IsCarried, IsMoved, same-available}
-use Rattle.machine_laws.proofs.Sweeps.{set-here, set-other, set-default, member-more, is-lost, down-at}
+use Rattle.machine_laws.proofs.SweptPaths.{set-here, set-other, set-default, member-more, is-lost, down-at}
 use Rattle.machine_laws.proofs.Turning.{Turned, OfNone, OfOne, OfAll, step-turned}
 
 -- of a subchannel with up to eight different paths the mask shows which are up, and each signal waits on one of them

@@ -14,7 +14,7 @@ use Rattle.subchannel_model.specs.Losing.{path_index}
 use Rattle.subchannel_model.proofs.Named.{index_after}
 use Rattle.subchannel_model.specs.Store.{installed_paths, available_paths}
 use Rattle.machine_laws.proofs.PathSets.{each-true, each-from, both-parts}
-use Rattle.machine_laws.proofs.Sweeps.{set-here, set-other}
+use Rattle.machine_laws.proofs.SweptPaths.{set-here, set-other}
 use Rattle.step_laws.proofs.Places.{same-or-not}
 use Rattle.seen_laws.specs.Links.{is_on, has_up, with_up}
 

@@ -29,7 +29,7 @@ use Rattle.step_laws.specs.Walks as walked
 use Rattle.step_laws.specs.Walks.{Function, Resumes, Clears, Cancels, effect_of}
 use Rattle.machine_laws.proofs.SameState.{IsSame, is-same, tested-same, halted-same}
 use Rattle.machine_laws.proofs.WaitingSignals.{EachSignal, lost-each}
-use Rattle.machine_laws.proofs.Sweeps.{down-at}
+use Rattle.machine_laws.proofs.SweptPaths.{down-at}
 use Rattle.seen_laws.specs.Links.{SubSeen, is_on, used_by, with_up, sub_reset, sub_lost}
 use Rattle.seen_laws.proofs.LinkHolds.{IsHeldAs}
 use Rattle.seen_laws.proofs.LinkLosses.{reset-held, lost_at, lost-held, off-held}

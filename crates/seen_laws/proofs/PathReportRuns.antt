@@ -22,7 +22,7 @@ use Rattle.scsw_irb.specs.declared.crw.PathReport.TheVariants as report
 use Rattle.machine_model.specs.OtherSteps.{is_up}
 use Rattle.machine_model.specs.State.{State, configured_paths, opening_of}
 use Rattle.machine_model.specs.Steps.{Run, Opened, Stepped, Step}
-use Rattle.machine_laws.proofs.Sweeps.{set-here, set-other, set-default}
+use Rattle.machine_laws.proofs.SweptPaths.{set-here, set-other, set-default}
 use Rattle.step_laws.proofs.Places.{same-or-not}
 use Rattle.seen_laws.specs.Links.{with_up}
 use Rattle.seen_laws.specs.PathReports.{PathsSeen, marked, queued, reported, asked_by, paths_after, reset_code, IsEntryRight, AreRight, AnswersByPaths}
