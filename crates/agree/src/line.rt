@@ -11,13 +11,16 @@ ghost use Rattle.agree.specs.Rooms as room_spec;
 ghost use Rattle.agree.specs.State as state_spec;
 ghost use Rattle.agree.specs.declared.reply.WorldReply.TheVariants as reply;
 ghost use Rattle.agreement_laws.specs.Moving as moving;
-ghost use Rattle.chan_model.specs.Signals.{lent_down, map_sent};
+ghost use Rattle.chan_model.specs.Lent.{lent_down, plain_down};
+ghost use Rattle.chan_model.specs.Signals.{map_sent};
 
 use crate::reply::{WorldReply, own_down};
 use chan_model::fault::Fault;
 use chan_model::hold_state::{HoldPhase, HoldState};
+use chan_model::lent::{LentDown, PlainDown};
+use chan_model::lent_forms::lend_down;
 use chan_model::names::{Path, Side};
-use chan_model::signal::{Down, LentDown, OnPath, Up};
+use chan_model::signal::{Down, OnPath, Up};
 use hold::Hold;
 use program::{is_taken, may_send, met_by};
 use signals::{cut_downs, cut_ups, is_up, post, with_path};
@@ -143,13 +146,15 @@ impl SideLine {
         match hold.state().phase {
             HoldPhase::Free => {
                 let number = self.drawn + 1;
-                let select = Some(hold.offer(number, path, single_path));
+                let offered = Some(hold.offer(number, path, single_path));
+                let select = lend_down(&offered);
                 let reply = WorldReply::of_side(side, &select);
                 self.keep(number, hold, &select)?;
                 Ok(reply)
             }
             HoldPhase::Reset { .. } => {
-                let reset = hold.send_reset(path);
+                let due = hold.send_reset(path);
+                let reset = lend_down(&due);
                 let reply = WorldReply::of_side(side, &reset);
                 self.keep(self.drawn, hold, &reset)?;
                 Ok(reply)
@@ -167,7 +172,8 @@ impl SideLine {
         let mut hold = self.hold;
         match hold.state().phase {
             HoldPhase::On { .. } => {
-                let release = hold.let_go();
+                let let_go = hold.let_go();
+                let release = lend_down(&let_go);
                 let reply = WorldReply::of_side(side, &release);
                 self.keep(self.drawn, hold, &release)?;
                 Ok(reply)
@@ -185,9 +191,10 @@ impl SideLine {
         if !may_send(&self.hold, path, signal) {
             return Err(Fault::NotNow);
         }
+        let kept = signal.keep();
         let sent = Some(OnPath {
             path,
-            signal: signal.lend(),
+            signal: kept.lend(signal.bytes()),
         });
         let reply = WorldReply::of_side(side, &sent);
         self.keep(self.drawn, self.hold, &sent)?;
@@ -223,7 +230,8 @@ impl SideLine {
         let mut hold = self.hold;
         let signal = self.ups[place].copy();
         let taken = is_taken(&hold, &signal, may);
-        let (drawn, sent) = takes(self.drawn, &mut hold, &signal, may);
+        let (drawn, came) = takes(self.drawn, &mut hold, &signal, may);
+        let sent = lend_down(&came);
         let answer = own_down(&sent);
         self.keep(drawn, hold, &sent)?;
         if !keep {
@@ -322,9 +330,9 @@ fn takes(
     hold: &mut Hold,
     signal: &OnPath<Up>,
     may: bool,
-) -> (u64, Option<OnPath<LentDown<'static>>>)
+) -> (u64, Option<OnPath<PlainDown>>)
     requires { drawn ≤ 2 ^ 62 }
-    ensures { record { drawn = result.0; hold = hold.new; sent = map_sent lent_down result.1 } ≡ moving.hold_taken drawn hold.old signal.now.path signal.now.signal may }
+    ensures { record { drawn = result.0; hold = hold.new; sent = map_sent plain_down result.1 } ≡ moving.hold_taken drawn hold.old signal.now.path signal.now.signal may }
 {
     let came = met_by(hold, signal, may);
     if came.taken && matches!(signal.signal, Up::Notice { .. }) {

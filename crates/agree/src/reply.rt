@@ -2,10 +2,12 @@
 
 ghost use Rattle.std.specs.Prelude.{◌≡◌};
 ghost use Rattle.agree.specs.Replies as spec;
-ghost use Rattle.chan_model.specs.Signals.{lent_down, lent_up, map_sent};
+ghost use Rattle.chan_model.specs.Lent.{lent_down, lent_up};
+ghost use Rattle.chan_model.specs.Signals.{map_sent};
 
+use chan_model::lent::{LentDown, LentUp};
 use chan_model::names::Side;
-use chan_model::signal::{Down, LentDown, LentUp, OnPath, Up};
+use chan_model::signal::{Down, OnPath, Up};
 
 /// What came of an event that was accepted.
 #[derive(Drop)]

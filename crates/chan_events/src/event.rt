@@ -181,62 +181,73 @@ impl Event {
         }
     }
 
+    /// Writes it there, its bytes standing elsewhere.
+    pub fn keep_in(&self, place: &mut KeptEvent)
+        ensures kept { (rest : List ℕ) → spec.event_in place.new (spec.event_bytes self.now ++ rest) ≡ self.now }
+        ensures length { spec.event_length place.new ≡ length (spec.event_bytes self.now) }
+        ensures bound { length (spec.event_bytes self.now) ≤ 256 }
+    {
+        match self {
+            Event::Put { address, bytes } => *place = Event::Put {
+                address: *address,
+                bytes: bytes.length(),
+            },
+            Event::SetKey { address, key } => *place = Event::SetKey {
+                address: *address,
+                key: *key,
+            },
+            Event::SetPrefix { cpu, address } => *place = Event::SetPrefix {
+                cpu: *cpu,
+                address: *address,
+            },
+            Event::Show { address, length } => *place = Event::Show {
+                address: *address,
+                length: *length,
+            },
+            Event::Execute { cpu, instruction } => *place = Event::Execute {
+                cpu: *cpu,
+                instruction: *instruction,
+            },
+            Event::ExecuteOther { cpu, instruction } => *place = Event::ExecuteOther {
+                cpu: *cpu,
+                instruction: *instruction,
+            },
+            Event::Choose { subchannel } => *place = Event::Choose {
+                subchannel: *subchannel,
+            },
+            Event::Up { subchannel, path } => *place = Event::Up {
+                subchannel: *subchannel,
+                path: *path,
+            },
+            Event::Down { subchannel, path } => *place = Event::Down {
+                subchannel: *subchannel,
+                path: *path,
+            },
+            Event::Report { unit, report } => *place = Event::Report {
+                unit: *unit,
+                report: report.keep(),
+            },
+            Event::Act { unit, act } => *place = Event::Act {
+                unit: *unit,
+                act: *act,
+            },
+            Event::Restart { unit } => *place = Event::Restart { unit: *unit },
+            Event::PathDown { chpid } => *place = Event::PathDown { chpid: *chpid },
+            Event::PathUp { chpid } => *place = Event::PathUp { chpid: *chpid },
+            Event::PathReset { chpid } => *place = Event::PathReset { chpid: *chpid },
+            Event::SystemReset => *place = Event::SystemReset,
+        }
+    }
+
     /// The same event, its bytes standing elsewhere.
     pub fn keep(&self) -> KeptEvent
         ensures kept { (rest : List ℕ) → spec.event_in result (spec.event_bytes self.now ++ rest) ≡ self.now }
         ensures length { spec.event_length result ≡ length (spec.event_bytes self.now) }
         ensures bound { length (spec.event_bytes self.now) ≤ 256 }
     {
-        match self {
-            Event::Put { address, bytes } => Event::Put {
-                address: *address,
-                bytes: bytes.length(),
-            },
-            Event::SetKey { address, key } => Event::SetKey {
-                address: *address,
-                key: *key,
-            },
-            Event::SetPrefix { cpu, address } => Event::SetPrefix {
-                cpu: *cpu,
-                address: *address,
-            },
-            Event::Show { address, length } => Event::Show {
-                address: *address,
-                length: *length,
-            },
-            Event::Execute { cpu, instruction } => Event::Execute {
-                cpu: *cpu,
-                instruction: *instruction,
-            },
-            Event::ExecuteOther { cpu, instruction } => Event::ExecuteOther {
-                cpu: *cpu,
-                instruction: *instruction,
-            },
-            Event::Choose { subchannel } => Event::Choose {
-                subchannel: *subchannel,
-            },
-            Event::Up { subchannel, path } => Event::Up {
-                subchannel: *subchannel,
-                path: *path,
-            },
-            Event::Down { subchannel, path } => Event::Down {
-                subchannel: *subchannel,
-                path: *path,
-            },
-            Event::Report { unit, report } => Event::Report {
-                unit: *unit,
-                report: report.keep(),
-            },
-            Event::Act { unit, act } => Event::Act {
-                unit: *unit,
-                act: *act,
-            },
-            Event::Restart { unit } => Event::Restart { unit: *unit },
-            Event::PathDown { chpid } => Event::PathDown { chpid: *chpid },
-            Event::PathUp { chpid } => Event::PathUp { chpid: *chpid },
-            Event::PathReset { chpid } => Event::PathReset { chpid: *chpid },
-            Event::SystemReset => Event::SystemReset,
-        }
+        let mut kept = Event::SystemReset;
+        self.keep_in(&mut kept);
+        kept
     }
 
     /// The same event; it takes no memory.

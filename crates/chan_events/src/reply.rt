@@ -4,13 +4,15 @@ ghost use Rattle.std.specs.Prelude.{◌≡◌, ◌≤◌, ◌++◌, ℕ, List, l
 ghost use Rattle.chan_events.specs.Replies as spec;
 ghost use Rattle.chan_events.specs.ReportWords as word_spec;
 ghost use Rattle.chan_events.specs.declared.reply.Reply.TheVariants as reply_spec;
-ghost use Rattle.chan_model.specs.Signals.{lent_down, lent_up, map_sent};
+ghost use Rattle.chan_model.specs.Lent.{lent_down, lent_up};
+ghost use Rattle.chan_model.specs.Signals.{map_sent};
 
 use crate::event::Event;
 use chan_model::answer::{Answer, ConditionCode};
 use chan_model::chunk::{Chunk, ChunkLength};
+use chan_model::lent::{LentDown, LentUp};
 use chan_model::names::Path;
-use chan_model::signal::{Down, KeptDown, KeptUp, LentDown, LentUp, OnPath, Up};
+use chan_model::signal::{Down, KeptDown, KeptUp, OnPath, Up};
 use scsw_irb::code::IntCode;
 use scsw_irb::crw::Crw;
 use scsw_irb::scsw::Scsw;
@@ -334,48 +336,62 @@ impl KeptReply {
             Reply::Pending => Reply::Pending,
             Reply::Idle => Reply::Idle,
             Reply::Up {
-                taken,
                 signal,
-                sent: None,
-            } => Reply::Up {
-                taken: *taken,
-                signal: signal.lend(given).own(),
-                sent: None,
-            },
-            Reply::Up {
                 taken,
-                signal,
-                sent: Some(sent),
-            } => Reply::Up {
-                taken: *taken,
-                signal: signal.lend(given).own(),
-                sent: Some(OnPath {
-                    path: sent.path,
-                    signal: sent.signal.lend(&given[signal.length()..]).own(),
-                }),
-            },
+                sent,
+            } => own_up(signal, *taken, sent, given),
             Reply::Down {
-                taken,
                 signal,
-                sent: None,
-            } => Reply::Down {
-                taken: *taken,
-                signal: signal.lend(given).own(),
-                sent: None,
-            },
-            Reply::Down {
                 taken,
-                signal,
-                sent: Some(sent),
-            } => Reply::Down {
-                taken: *taken,
-                signal: signal.lend(given).own(),
-                sent: Some(OnPath {
-                    path: sent.path,
-                    signal: sent.signal.lend(&given[signal.length()..]).own(),
-                }),
-            },
+                sent,
+            } => own_down(signal, *taken, sent, given),
         }
+    }
+}
+
+/// The reply to a signal up that was met, with the first of these bytes, which become its own.
+#[inline(never)]
+fn own_up(signal: &KeptUp, taken: bool, sent: &Option<OnPath<KeptDown>>, given: &[u8]) -> Reply
+    requires { spec.reply_length (reply_spec.Up signal.now taken sent.now) ≤ length given.now }
+    ensures { result ≡ spec.reply_in (reply_spec.Up signal.now taken sent.now) given.now }
+{
+    match sent {
+        None => Reply::Up {
+            signal: signal.lend(given).own(),
+            taken,
+            sent: None,
+        },
+        Some(sent) => Reply::Up {
+            signal: signal.lend(given).own(),
+            taken,
+            sent: Some(OnPath {
+                path: sent.path,
+                signal: sent.signal.lend(&given[signal.length()..]).own(),
+            }),
+        },
+    }
+}
+
+/// The reply to a signal down that was met, with the first of these bytes, which become its own.
+#[inline(never)]
+fn own_down(signal: &KeptDown, taken: bool, sent: &Option<OnPath<KeptUp>>, given: &[u8]) -> Reply
+    requires { spec.reply_length (reply_spec.Down signal.now taken sent.now) ≤ length given.now }
+    ensures { result ≡ spec.reply_in (reply_spec.Down signal.now taken sent.now) given.now }
+{
+    match sent {
+        None => Reply::Down {
+            signal: signal.lend(given).own(),
+            taken,
+            sent: None,
+        },
+        Some(sent) => Reply::Down {
+            signal: signal.lend(given).own(),
+            taken,
+            sent: Some(OnPath {
+                path: sent.path,
+                signal: sent.signal.lend(&given[signal.length()..]).own(),
+            }),
+        },
     }
 }
 

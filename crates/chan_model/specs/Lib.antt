@@ -1,5 +1,6 @@
 pub mod Sides
 pub mod Signals
+pub mod Lent
 pub mod Reports
 pub mod Loads
 pub mod PathSets

@@ -70,19 +70,12 @@ map_sent f (Some sent) = Some (record { path = sent.path; signal = f sent.signal
 abbrev pub map_taken : {A B : Type 0} → (A → B) → Taken A → Taken B
 map_taken f came = record { taken = came.taken; sent = map_sent f came.sent }
 
--- bytes that are lent, as a list
+-- bytes that are lent, as a list, and a load of them
 abbrev pub lent : Bytes → List ℕ
 lent bytes = bytes.bytes.now
 
--- a signal whose bytes are lent
-abbrev pub lent_down : declared_down.Down Bytes → Down
-lent_down signal = map_down lent signal
-
 abbrev pub lent_load : declared_load.Load Bytes → Load
 lent_load l = map_load lent l
-
-abbrev pub lent_up : declared_up.Up (declared_load.Load Bytes) → Up
-lent_up signal = map_up lent_load signal
 
 -- what a signal whose bytes stand elsewhere is with the first of these bytes
 abbrev pub down_in : KeptDown → List ℕ → Down

@@ -6,6 +6,8 @@ pub mod answer;
 pub mod chunk;
 pub mod fault;
 pub mod hold_state;
+pub mod lent;
+pub mod lent_forms;
 pub mod names;
 pub mod paths;
 pub mod report;

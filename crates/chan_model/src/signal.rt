@@ -2,7 +2,7 @@
 
 ghost use Rattle.std.specs.Prelude.{◌≡◌, None, Some, false, true};
 
-use crate::chunk::{Bytes, Chunk, ChunkLength};
+use crate::chunk::{Chunk, ChunkLength};
 use crate::names::Path;
 use scsw_irb::status::DeviceStatus;
 
@@ -20,8 +20,8 @@ pub struct Taken<S> {
     pub sent: Option<OnPath<S>>,
 }
 
-/// A signal from the subsystem to a unit, over what stands for its bytes: a `Chunk` that owns them, `Bytes` that are lent, or the
-/// `ChunkLength` of bytes that stand elsewhere.
+/// A signal from the subsystem to a unit, over what stands for its bytes: a `Chunk` that owns them, or the `ChunkLength` of bytes
+/// that stand elsewhere.
 ///
 /// `number` is the number of an offer, `connection` that of a connection, `command` that of a command of one program,
 /// from 1, and `sequence` that of a chunk of one command, from 1.
@@ -143,12 +143,6 @@ pub enum Up<L = Load> {
         status: DeviceStatus,
     },
 }
-
-/// A signal down whose bytes are lent.
-pub type LentDown<'a> = Down<Bytes<'a>>;
-
-/// A signal up whose bytes are lent.
-pub type LentUp<'a> = Up<Load<Bytes<'a>>>;
 
 /// A signal down whose bytes stand elsewhere.
 pub type KeptDown = Down<ChunkLength>;

@@ -1,11 +1,11 @@
-//! Signals whose bytes are owned, lent or kept elsewhere, each made of another.
+//! Signals whose bytes are owned, and what is made of them.
 
 ghost use Rattle.std.specs.Prelude.{◌≡◌, ◌≤◌, ◌++◌, ℕ, List, length};
 ghost use Rattle.chan_model.specs.Loads.{load_length};
 ghost use Rattle.chan_model.specs.Signals as spec;
 
 use crate::chunk::{Bytes, Chunk, ChunkLength};
-use crate::signal::{Down, KeptDown, KeptUp, LentDown, LentUp, Load, OnPath, Up};
+use crate::signal::{Down, KeptDown, KeptUp, Load, OnPath, Up};
 
 impl<B> Down<B> {
     /// The same signal over other bytes.
@@ -72,43 +72,8 @@ impl<B> Down<B> {
 
 impl Down {
     /// Its bytes; most signals have none.
-    pub fn bytes(&self) -> Bytes<'_>
-        ensures { result.bytes.now ≡ spec.down_bytes self.now }
-    {
-        match self {
-            Down::Give { bytes, .. } => bytes.lend(),
-            _ => Bytes::of(&[]),
-        }
-    }
-
-    /// The same signal, its bytes lent.
-    pub fn lend(&self) -> LentDown<'_>
-        ensures { spec.lent_down result ≡ self.now }
-    {
-        self.with(self.bytes())
-    }
-
-    /// The same signal, its bytes standing elsewhere.
-    pub fn keep(&self) -> KeptDown
-        ensures kept { (rest : List ℕ) → spec.down_in result (spec.down_bytes self.now ++ rest) ≡ self.now }
-        ensures length { spec.down_length result ≡ length (spec.down_bytes self.now) }
-        ensures bound { length (spec.down_bytes self.now) ≤ 256 }
-    {
-        self.lend().keep()
-    }
-
-    /// The same signal; it takes no memory.
-    pub fn copy(&self) -> Self
-        ensures { result ≡ self.now }
-    {
-        self.lend().own()
-    }
-}
-
-impl<'a> Down<Bytes<'a>> {
-    /// Its bytes; most signals have none.
-    pub fn bytes(&self) -> &'a [u8]
-        ensures value { result.now ≡ spec.down_bytes (spec.lent_down self.now) }
+    pub fn bytes(&self) -> &[u8]
+        ensures value { result.now ≡ spec.down_bytes self.now }
         ensures bound { length result.now ≤ 256 }
     {
         match self {
@@ -117,41 +82,21 @@ impl<'a> Down<Bytes<'a>> {
         }
     }
 
-    /// The same signal with its own bytes.
-    pub fn own(&self) -> Down
-        ensures { result ≡ spec.lent_down self.now }
-    {
-        self.with(Chunk::of(self.bytes()))
-    }
-
     /// The same signal, its bytes standing elsewhere.
     pub fn keep(&self) -> KeptDown
-        ensures kept { (rest : List ℕ) → spec.down_in result (spec.down_bytes (spec.lent_down self.now) ++ rest) ≡ spec.lent_down self.now }
-        ensures length { spec.down_length result ≡ length (spec.down_bytes (spec.lent_down self.now)) }
-        ensures bound { length (spec.down_bytes (spec.lent_down self.now)) ≤ 256 }
+        ensures kept { (rest : List ℕ) → spec.down_in result (spec.down_bytes self.now ++ rest) ≡ self.now }
+        ensures whole { spec.down_in result (spec.down_bytes self.now) ≡ self.now }
+        ensures length { spec.down_length result ≡ length (spec.down_bytes self.now) }
+        ensures bound { length (spec.down_bytes self.now) ≤ 256 }
     {
         self.with(ChunkLength::of(self.bytes()))
     }
-}
 
-impl Down<ChunkLength> {
-    /// How many bytes it has.
-    pub fn length(&self) -> usize
-        ensures value { result ≡ spec.down_length self.now }
-        ensures bound { result ≤ 256 }
+    /// The same signal; it takes no memory.
+    pub fn copy(&self) -> Self
+        ensures { result ≡ self.now }
     {
-        match self {
-            Down::Give { bytes, .. } => bytes.get(),
-            _ => 0,
-        }
-    }
-
-    /// The signal with the first of these bytes.
-    pub fn lend<'a>(&self, bytes: &'a [u8]) -> LentDown<'a>
-        requires { spec.down_length self.now ≤ length bytes.now }
-        ensures { spec.lent_down result ≡ spec.down_in self.now bytes.now }
-    {
-        self.with(Bytes::of(&bytes[..self.length()]))
+        self.with(Chunk::of(self.bytes()))
     }
 }
 
@@ -209,6 +154,7 @@ impl<'a> Load<Bytes<'a>> {
     /// The same load, its bytes standing elsewhere.
     pub fn keep(&self) -> Load<ChunkLength>
         ensures kept { (rest : List ℕ) → spec.load_in result (spec.load_bytes (spec.lent_load self.now) ++ rest) ≡ spec.lent_load self.now }
+        ensures whole { spec.load_in result (spec.load_bytes (spec.lent_load self.now)) ≡ spec.lent_load self.now }
         ensures length { spec.kept_length result ≡ length (spec.load_bytes (spec.lent_load self.now)) }
         ensures bound { length (spec.load_bytes (spec.lent_load self.now)) ≤ 256 }
     {
@@ -307,91 +253,29 @@ impl Up {
         }
     }
 
-    /// The same signal, its bytes lent.
-    pub fn lend(&self) -> LentUp<'_>
-        ensures { spec.lent_up result ≡ self.now }
+    /// Its bytes; most signals have none.
+    pub fn bytes(&self) -> &[u8]
+        ensures value { result.now ≡ spec.up_bytes self.now }
+        ensures bound { length result.now ≤ 256 }
     {
-        self.with(self.load())
+        self.load().bytes()
     }
 
     /// The same signal, its bytes standing elsewhere.
     pub fn keep(&self) -> KeptUp
         ensures kept { (rest : List ℕ) → spec.up_in result (spec.up_bytes self.now ++ rest) ≡ self.now }
+        ensures whole { spec.up_in result (spec.up_bytes self.now) ≡ self.now }
         ensures length { spec.up_length result ≡ length (spec.up_bytes self.now) }
         ensures bound { length (spec.up_bytes self.now) ≤ 256 }
     {
-        self.lend().keep()
+        self.with(self.load().keep())
     }
 
     /// The same signal; it takes no memory.
     pub fn copy(&self) -> Self
         ensures { result ≡ self.now }
     {
-        self.lend().own()
-    }
-}
-
-impl<'a> Up<Load<Bytes<'a>>> {
-    /// What it brings; of a signal that is no Data it is nothing.
-    pub fn load(&self) -> Load<Bytes<'a>>
-        ensures { spec.lent_load result ≡ spec.load_of (spec.lent_up self.now) }
-    {
-        match self {
-            Up::Data { load, .. } => *load,
-            _ => Load::Absorbed(0),
-        }
-    }
-
-    /// Its bytes; most signals have none.
-    pub fn bytes(&self) -> &'a [u8]
-        ensures value { result.now ≡ spec.up_bytes (spec.lent_up self.now) }
-        ensures bound { length result.now ≤ 256 }
-    {
-        self.load().bytes()
-    }
-
-    /// The same signal with its own bytes.
-    pub fn own(&self) -> Up
-        ensures { result ≡ spec.lent_up self.now }
-    {
         self.with(self.load().own())
-    }
-
-    /// The same signal, its bytes standing elsewhere.
-    pub fn keep(&self) -> KeptUp
-        ensures kept { (rest : List ℕ) → spec.up_in result (spec.up_bytes (spec.lent_up self.now) ++ rest) ≡ spec.lent_up self.now }
-        ensures length { spec.up_length result ≡ length (spec.up_bytes (spec.lent_up self.now)) }
-        ensures bound { length (spec.up_bytes (spec.lent_up self.now)) ≤ 256 }
-    {
-        self.with(self.load().keep())
-    }
-}
-
-impl Up<Load<ChunkLength>> {
-    /// What it brings; of a signal that is no Data it is nothing.
-    fn load(&self) -> Load<ChunkLength>
-        ensures { result ≡ spec.kept_load_of self.now }
-    {
-        match self {
-            Up::Data { load, .. } => *load,
-            _ => Load::Absorbed(0),
-        }
-    }
-
-    /// How many bytes it has.
-    pub fn length(&self) -> usize
-        ensures value { result ≡ spec.up_length self.now }
-        ensures bound { result ≤ 256 }
-    {
-        self.load().length()
-    }
-
-    /// The signal with the first of these bytes.
-    pub fn lend<'a>(&self, bytes: &'a [u8]) -> LentUp<'a>
-        requires { spec.up_length self.now ≤ length bytes.now }
-        ensures { spec.lent_up result ≡ spec.up_in self.now bytes.now }
-    {
-        self.with(self.load().lend(bytes))
     }
 }
 
@@ -407,18 +291,6 @@ impl OnPath<Down> {
     }
 }
 
-impl OnPath<LentDown<'_>> {
-    /// The same signal on the same path, with its own bytes.
-    pub fn own(&self) -> OnPath<Down>
-        ensures { result ≡ record { path = self.now.path; signal = spec.lent_down self.now.signal } }
-    {
-        OnPath {
-            path: self.path,
-            signal: self.signal.own(),
-        }
-    }
-}
-
 impl OnPath<Up> {
     /// The same signal on the same path; it takes no memory.
     pub fn copy(&self) -> Self
@@ -427,18 +299,6 @@ impl OnPath<Up> {
         OnPath {
             path: self.path,
             signal: self.signal.copy(),
-        }
-    }
-}
-
-impl OnPath<LentUp<'_>> {
-    /// The same signal on the same path, with its own bytes.
-    pub fn own(&self) -> OnPath<Up>
-        ensures { result ≡ record { path = self.now.path; signal = spec.lent_up self.now.signal } }
-    {
-        OnPath {
-            path: self.path,
-            signal: self.signal.own(),
         }
     }
 }

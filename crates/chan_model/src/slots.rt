@@ -1,10 +1,11 @@
 //! A place for one signal.
 
 ghost use Rattle.std.specs.Prelude.{◌≡◌, ◌≤◌, ◌++◌, drop, length};
-ghost use Rattle.chan_model.specs.Signals.{lent_down, lent_up};
+ghost use Rattle.chan_model.specs.Lent.{lent_down, lent_up};
 
 use crate::chunk::CHUNK_BYTES;
-use crate::signal::{Down, KeptDown, KeptUp, LentDown, LentUp, Up};
+use crate::lent::{LentDown, LentUp};
+use crate::signal::{Down, KeptDown, KeptUp, Up};
 use std::marker::Model;
 
 /// Writes bytes to the front; what stands behind them stays. Most signals have none.

@@ -1,7 +1,7 @@
 -- Entries over an arena that grows.
 use Rattle.std.proofs.Common.{◌≡◌, ◌≤◌, ◌<◌, ℕ, zero, suc, ◌+◌, ◌-◌, ◌∙◌, refl, sym, subst, ap, ap₂, add-one, List, [], ◌∷◌, ◌++◌, Some, arith, length, take, drop, get_or, map, length-append, length-drop}
 use Rattle.std.proofs.Math.Seq.{drop-append_seam, take-length}
-use Rattle.std.proofs.lemmas.List.{same_lists, take_all, take-append-le, drop-append-le, append-nil, get_or-map, length-map, map_push}
+use Rattle.std.proofs.lemmas.List.{same_lists, take_all, take-append-le, take-append-drop, drop_all, drop-append-le, append-nil, get_or-map, length-map, length-take-le, map_push}
 use Rattle.std.proofs.lemmas.List.Elements.{All-push}
 use Rattle.std.proofs.lemmas.Option.{same_Some, slice_get_read}
 use Rattle.std.specs.List.{slice_get}
@@ -17,7 +17,7 @@ use Rattle.event_log.specs.Entries.{entry_in, entry_length}
 use Rattle.chan_events.specs.Events.{event_in, event_length}
 use Rattle.chan_events.specs.Replies.{reply_in, reply_length}
 use Rattle.chan_events.proofs.Packed.{reply-done, reply-front}
-use Rattle.event_log.specs.Logs.{entry_at, entries_at, last_reply, room_of, Fits, AllFit, IsWritten}
+use Rattle.event_log.specs.Logs.{entry_at, entries_at, last_reply, room_of, unfinished, written_reply, Fits, AllFit, IsLogged, IsPending, IsWritten}
 
 -- a piece that lies in an arena is the same in a longer one
 cut-append : (arena more : List ℕ) (start count : ℕ) → start + count ≤ length arena →
@@ -86,9 +86,50 @@ pub told-behind : (arena more : List ℕ) (start : ℕ) (k : KeptReply) (r : Rep
     reply_in k (drop start (arena ++ more)) ≡ r
 told-behind arena more start k r ends told = ap (reply_in k) (added-behind arena more start ends ∙ sym (append-nil more)) ∙ told []
 
--- a greater capacity has no less room
-pub room-grows : (places near far start : ℕ) → near ≤ far → room_of places (near - start) ≤ room_of places (far - start)
-room-grows places near far start grows = omega (arith, grows)
+-- greater capacities have no less room
+pub room-grows : (places more count near far start : ℕ) → places ≤ more → near ≤ far → room_of (places - count) (near - start) ≤ room_of (more - count) (far - start)
+room-grows places more count near far start wider grows = omega (arith, wider, grows)
+
+-- an entry stands behind those that have ended, which are as before
+pub record IsBehind (items new : List KeptEntry) (count : ℕ) (k : KeptEntry) : Type 0 where
+  pub front : take count new ≡ take count items
+  pub behind : drop count new ≡ k ∷ []
+
+pub behind : (items new : List KeptEntry) (count : ℕ) (k : KeptEntry) → count ≤ length items → new ≡ take count items ++ k ∷ [] → IsBehind items new count k
+behind items new count k some is =
+    let ks = take count items in
+    let long : length ks ≡ count = length-take-le count items some in
+    record {
+      front = ap (take count) is ∙ (take-append-le count ks (k ∷ []) (omega (arith, long)) ∙ take_all count ks (omega (arith, long)));
+      behind = ap (drop count) is ∙ (ap (λ n. drop n (ks ++ k ∷ [])) (sym long) ∙ drop-append_seam ks (k ∷ []));
+    }
+
+-- the entry that is being written is all that stands behind those that have ended
+pub settled : (start : ℕ) (ks : List KeptEntry) → 0 < length ks → IsPending start ks → ks ≡ unfinished start (written_reply ks) ∷ []
+settled start [] some is = absurd (omega (arith, some))
+settled start (k ∷ []) some is = ap (λ x. x ∷ []) is
+settled start (k ∷ l ∷ ks) some is = absurd is
+
+pub all-settled : (start count : ℕ) (items : List KeptEntry) → count < length items → IsPending start (drop count items) →
+    items ≡ take count items ++ unfinished start (written_reply (drop count items)) ∷ []
+all-settled start count items some is =
+    sym (take-append-drop count items) ∙ ap (λ ks. take count items ++ ks) (settled start (drop count items) (omega (arith, some, length-drop count items)) is)
+
+-- once it has ended none is being written
+pub all-ended : (arena : List ℕ) (ks : List KeptEntry) (k : KeptEntry) (count start : ℕ) → length ks ≡ count → IsWritten arena (ks ++ k ∷ []) start reply.Done →
+    IsLogged arena (ks ++ k ∷ []) (count + 1) start
+all-ended arena ks k count start long is =
+    let all = ks ++ k ∷ [] in
+    let size : length all ≡ length ks + 1 = length-append ks (k ∷ []) in
+    let whole : take (count + 1) all ≡ all = take_all (count + 1) all (omega (arith, size, long)) in
+    let none : drop (count + 1) all ≡ [] = drop_all (count + 1) all (omega (arith, size, long)) in
+    record {
+      some = omega (arith, size, long);
+      pending = subst (λ (l : List KeptEntry). IsPending start l) (sym none) tt;
+      written =
+          subst (λ (l : List KeptEntry). IsWritten arena l start (written_reply (drop (count + 1) all))) (sym whole)
+          (subst (λ (l : List KeptEntry). IsWritten arena all start (written_reply l)) (sym none) is);
+    }
 
 -- the entry that ends: its reply's bytes stand from its start on, and those of its event follow
 pub ended : (arena more : List ℕ) (ks : List KeptEntry) (k : KeptEntry) (e : Event) → IsWritten arena ks k.start k.reply →
@@ -124,6 +165,40 @@ fit-ended arena more after ks later k far grew pushed counts is long =
     subst (λ (n : ℕ). IsWritten after later n reply.Done) (sym counts)
     (subst (λ (l : List KeptEntry). IsWritten after l (length after) reply.Done) (sym pushed)
     (subst (λ (a : List ℕ). IsWritten a (ks ++ k ∷ []) (length a) reply.Done) (sym grew) (fit-more arena more ks k is long)))
+
+-- entries of which the last ends as it was written
+pub ended-all : (arena more after : List ℕ) (items new : List KeptEntry) (k : KeptEntry) (count far : ℕ) → after ≡ arena ++ more → new ≡ take count items ++ k ∷ [] → far ≡ length after →
+    count ≤ length items → IsWritten arena (take count items) k.start k.reply → event_length k.event ≡ length more → IsLogged after new (count + 1) far
+ended-all arena more after items new k count far grew pushed counts some is long =
+    subst (λ (l : List KeptEntry). IsLogged after l (count + 1) far) (sym pushed)
+    (all-ended after (take count items) k count far (length-take-le count items some)
+    (fit-ended arena more after (take count items) (take count items ++ k ∷ []) k far grew refl counts is long))
+
+fit-added : (arena bytes : List ℕ) (ks : List KeptEntry) (before : KeptReply) (k : KeptEntry) → IsWritten arena ks k.start before → IsBegun arena k.start before →
+    entry_length k ≡ length bytes → IsWritten (arena ++ bytes) (ks ++ k ∷ []) (length (arena ++ bytes)) reply.Done
+fit-added arena bytes ks before k is new long =
+    let size = length-append arena bytes in
+    record {
+      fit = All-push (Fits (length (arena ++ bytes))) ks k (fit-further k.start (length (arena ++ bytes)) ks (omega (arith, is.inside, size)) is.fit) (omega (arith, new.ends, long, size));
+      inside = omega arith;
+      whole = omega arith;
+      bound = omega arith;
+    }
+
+pub added-all : (arena bytes after : List ℕ) (items new : List KeptEntry) (before : KeptReply) (k : KeptEntry) (count far : ℕ) → after ≡ arena ++ bytes → new ≡ take count items ++ k ∷ [] →
+    far ≡ length after → count ≤ length items → IsWritten arena (take count items) k.start before → IsBegun arena k.start before → entry_length k ≡ length bytes →
+    IsLogged after new (count + 1) far
+added-all arena bytes after items new before k count far grew pushed counts some is begins long =
+    subst (λ (l : List KeptEntry). IsLogged after l (count + 1) far) (sym pushed)
+    (all-ended after (take count items) k count far (length-take-le count items some)
+    (subst (λ (n : ℕ). IsWritten after (take count items ++ k ∷ []) n reply.Done) (sym counts)
+    (subst (λ (a : List ℕ). IsWritten a (take count items ++ k ∷ []) (length a) reply.Done) (sym grew) (fit-added arena bytes (take count items) before k is begins long))))
+
+-- so many of them are all of them
+pub all-taken : (items new : List KeptEntry) (k : KeptEntry) (count : ℕ) → new ≡ take count items ++ k ∷ [] → count ≤ length items → take (count + 1) new ≡ take count items ++ k ∷ []
+all-taken items new k count pushed some =
+    let long = length-take-le count items some in
+    take_all (count + 1) new (omega (arith, ap length pushed, length-append (take count items) (k ∷ []), long)) ∙ pushed
 
 -- an entry that is added with its bytes, where none is being written
 pub kept-added : (arena bytes : List ℕ) (ks : List KeptEntry) (before : KeptReply) (k : KeptEntry) → IsWritten arena ks k.start before → IsBegun arena k.start before →

@@ -2,6 +2,7 @@
 use Rattle.std.specs.Prelude.{ℕ, ◌≡◌, ◌+◌, ◌/◌, ◌≤◌, ◌<◌, ◌++◌, min, List, [], ◌∷◌, All, Vec, vec_len, vec_capacity, Result, Ok, Err, length, take, drop, map, slice_get}
 use Rattle.chan_events.specs.declared.reply.Entry.{Entry}
 use Rattle.chan_events.specs.Replies.{Reply}
+use Rattle.chan_events.specs.declared.event.Event.TheVariants as event
 use Rattle.chan_events.specs.declared.reply.Reply.TheVariants as reply
 use Rattle.chan_model.specs.declared.fault.Fault.{Fault}
 use Rattle.event_log.specs.Entries.{entry_in, entry_length}
@@ -55,6 +56,27 @@ pub record IsWritten (arena : List ℕ) (kept : List KeptEntry) (start : ℕ) (r
   pub inside : start ≤ length arena
   pub whole : start + reply_length reply ≡ length arena
   pub bound : reply_length reply ≤ 512
+
+-- an entry that is being written: its reply is known, its event is not
+abbrev pub unfinished : ℕ → KeptReply → KeptEntry
+unfinished start r = record { start = start; event = event.SystemReset; reply = r }
+
+-- the reply of the entry that is being written; Done where no step has answered
+abbrev pub written_reply : List KeptEntry → KeptReply
+written_reply [] = reply.Done
+written_reply (k ∷ ks) = k.reply
+
+-- behind the entries that have ended stands the one that is being written, or none
+abbrev pub IsPending : ℕ → List KeptEntry → Type 0
+IsPending start [] = Unit
+IsPending start (k ∷ []) = k ≡ unfinished start k.reply
+IsPending start (k ∷ l ∷ ks) = ⊥
+
+-- entries of which so many have ended, in their arena
+pub record IsLogged (arena : List ℕ) (kept : List KeptEntry) (count start : ℕ) : Type 0 where
+  pub some : count ≤ length kept
+  pub pending : IsPending start (drop count kept)
+  pub written : IsWritten arena (take count kept) start (written_reply (drop count kept))
 
 -- an arena has grown by the bytes of a reply, which is told by what is kept of it and them
 pub record IsPacked {Z : Type 0} (old new : Vec ℕ Z) (kept : KeptReply) (r : Reply) : Type 0 where

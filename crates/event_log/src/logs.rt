@@ -1,20 +1,22 @@
 //! A log that grows at its end.
 
-ghost use Rattle.std.specs.Prelude.{◌≡◌, ◌≤◌, ◌<◌, ◌+◌, ◌++◌, ◌∷◌, [], OnOk, OnErr, IsTrue, true, length, vec_len, vec_capacity};
+ghost use Rattle.std.specs.Prelude.{◌≡◌, ◌≤◌, ◌<◌, ◌+◌, ◌++◌, ◌∷◌, [], OnOk, OnErr, IsTrue, true, length, take, drop, vec_len, vec_capacity};
 ghost use Rattle.chan_events.specs.declared.reply.Reply.TheVariants as reply_spec;
-ghost use Rattle.chan_model.specs.Signals.{lent_down, lent_up, map_sent};
-ghost use Rattle.event_log.specs.Logs.{IsKept, IsPacked, answer_in};
+ghost use Rattle.chan_model.specs.Lent.{lent_down, lent_up};
+ghost use Rattle.chan_model.specs.Signals.{map_sent};
+ghost use Rattle.event_log.specs.Logs.{IsKept, IsPacked, IsPending, answer_in, unfinished, written_reply};
 ghost use Rattle.event_log.specs.Entries.{entry_in, entry_length};
 ghost use Rattle.chan_events.specs.Replies.{plain_outcome};
 
 use crate::arena::add_bytes;
 use crate::entries::KeptEntry;
 use crate::history::History;
-use chan_events::event::{Event, KeptEvent};
+use chan_events::event::Event;
 use chan_events::reply::{KeptReply, PlainReply, Reply};
 use chan_model::chunk::ChunkLength;
 use chan_model::fault::Fault;
-use chan_model::signal::{LentDown, LentUp, OnPath};
+use chan_model::lent::{LentDown, LentUp};
+use chan_model::signal::OnPath;
 use std::alloc::{AllocError, Global};
 use std::marker::Model;
 use supply::{Given, Supply, ensure_room};
@@ -22,30 +24,32 @@ use supply::{Given, Supply, ensure_room};
 /// As many bytes as an entry may have: a chunk of its event and two of its reply.
 pub const ENTRY_BYTES: usize = 768;
 
-/// Entries, the oldest first, with the bytes of all, and the reply of the entry that is being written: Done, until a step answers.
+/// Entries, the oldest first, with the bytes of all. The entry that is being written stands behind those that have ended, once a
+/// step has answered.
 #[derive(Drop)]
 pub struct Log {
     entries: Vec<KeptEntry>,
+    /// How many have ended.
+    count: usize,
     bytes: Vec<u8>,
     /// Where the bytes of the entry that is being written begin.
     start: usize,
-    reply: KeptReply,
 }
 
 impl Model for Log {
-    ghost use Rattle.std.specs.Prelude.{◌-◌, drop, vec_len, vec_capacity};
+    ghost use Rattle.std.specs.Prelude.{◌-◌, drop, take, vec_capacity};
     ghost use Rattle.chan_events.specs.Replies.{reply_in};
-    ghost use Rattle.event_log.specs.Logs.{IsWritten, Logged, entries_at, room_of};
+    ghost use Rattle.event_log.specs.Logs.{IsLogged, Logged, entries_at, room_of, written_reply};
 
     ghost Value = { Logged };
 
     ghost view = { λ l. record {
-      entries = entries_at l.bytes.items l.entries.items;
-      room = room_of (vec_capacity l.entries - vec_len l.entries) (vec_capacity l.bytes - l.start);
-      reply = reply_in l.reply (drop l.start l.bytes.items);
+      entries = entries_at l.bytes.items (take l.count l.entries.items);
+      room = room_of (vec_capacity l.entries - l.count) (vec_capacity l.bytes - l.start);
+      reply = reply_in (written_reply (drop l.count l.entries.items)) (drop l.start l.bytes.items);
     } };
 
-    ghost invariant = { λ l. IsWritten l.bytes.items l.entries.items l.start l.reply };
+    ghost invariant = { λ l. IsLogged l.bytes.items l.entries.items l.count l.start };
 }
 
 impl Log {
@@ -55,9 +59,9 @@ impl Log {
     {
         Log {
             entries: Vec::new(alloc),
+            count: 0,
             bytes: Vec::new(alloc),
             start: 0,
-            reply: Reply::Done,
         }
     }
 
@@ -65,7 +69,7 @@ impl Log {
     pub fn len(&self) -> usize
         ensures { result ≡ length self.now.entries }
     {
-        self.entries.len()
+        self.count
     }
 
     /// Makes room for one entry. It is refused only where there was none and a growth was refused, and changes nothing then.
@@ -103,8 +107,7 @@ impl Log {
     fn has_room(&self) -> bool
         ensures { IsTrue result → 1 ≤ self.now.room }
     {
-        self.entries.len() < self.entries.capacity()
-            && ENTRY_BYTES <= self.bytes.capacity() - self.start
+        self.count < self.entries.capacity() && ENTRY_BYTES <= self.bytes.capacity() - self.start
     }
 
     /// `make_room_with`, where there may be none: apart, as it is rare.
@@ -119,7 +122,7 @@ impl Log {
         ensures given { OnOk result (S.refused supply.new ≡ S.refused supply.old) }
         ensures memory { OnErr result (S.refused supply.new ≡ true) }
     {
-        ensure_room(supply, &mut self.entries, 1)?;
+        ensure_place(supply, &mut self.entries, self.count)?;
         let written = self.bytes.len() - self.start;
         ensure_room(supply, &mut self.bytes, ENTRY_BYTES - written)
     }
@@ -127,6 +130,7 @@ impl Log {
     /// The reply of the entry that is being written is this one, which has no bytes; a refusal changes nothing.
     #[inline(always)]
     pub fn tell(&mut self, answer: &Result<PlainReply, Fault>) -> Result<(), Fault>
+        requires room { 1 ≤ self.old.room }
         requires fresh { self.old.reply ≡ reply_spec.Done }
         ensures told { answer_in result self.new ≡ plain_outcome answer.now }
         ensures kept { IsKept self.old self.new }
@@ -134,7 +138,7 @@ impl Log {
     {
         match answer {
             Ok(plain) => {
-                self.reply = plain.keep();
+                write(&mut self.entries, self.count, self.start, plain.keep());
                 Ok(())
             }
             Err(fault) => Err(*fault),
@@ -149,9 +153,10 @@ impl Log {
         ensures reply { self.new.reply ≡ reply_spec.Shown bytes.now }
         ensures kept { IsKept self.old self.new }
     {
-        self.reply = Reply::Shown {
+        let reply = Reply::Shown {
             bytes: ChunkLength::of(bytes),
         };
+        write(&mut self.entries, self.count, self.start, reply);
         add_bytes(&mut self.bytes, bytes);
     }
 
@@ -163,7 +168,8 @@ impl Log {
         ensures reply { self.new.reply ≡ reply_spec.Up (lent_up signal.now) taken (map_sent lent_down sent.now) }
         ensures kept { IsKept self.old self.new }
     {
-        self.reply = pack_up(&mut self.bytes, signal, taken, sent);
+        let reply = pack_up(&mut self.bytes, signal, taken, sent);
+        write(&mut self.entries, self.count, self.start, reply);
     }
 
     /// A unit met a signal down, and may have sent one up.
@@ -179,7 +185,8 @@ impl Log {
         ensures reply { self.new.reply ≡ reply_spec.Down (lent_down signal.now) taken (map_sent lent_up sent.now) }
         ensures kept { IsKept self.old self.new }
     {
-        self.reply = pack_down(&mut self.bytes, signal, taken, sent);
+        let reply = pack_down(&mut self.bytes, signal, taken, sent);
+        write(&mut self.entries, self.count, self.start, reply);
     }
 
     /// The entry that is being written ends: it is of this event, with its reply.
@@ -189,10 +196,11 @@ impl Log {
         ensures room { self.old.room ≤ self.new.room + 1 }
         ensures fresh { self.new.reply ≡ reply_spec.Done }
     {
-        push(&mut self.entries, self.start, event.keep(), &self.reply);
+        settle(&mut self.entries, self.count, self.start);
+        event.keep_in(&mut self.entries[self.count].event);
         add_bytes(&mut self.bytes, event.bytes());
         self.start = self.bytes.len();
-        blank(&mut self.reply);
+        self.count += 1;
     }
 
     /// Adds an entry that is kept with these bytes, for which there is room.
@@ -205,16 +213,20 @@ impl Log {
         ensures room { self.old.room ≤ self.new.room + 1 }
         ensures fresh { self.new.reply ≡ reply_spec.Done }
     {
-        push_same(&mut self.entries, self.start, kept);
+        push_same(&mut self.entries, self.count, self.start, kept);
         add_bytes(&mut self.bytes, bytes);
         self.start = self.bytes.len();
+        self.count += 1;
     }
 
     /// The entries.
     pub fn history(&self) -> History<'_>
         ensures { result ≡ self.now.entries }
     {
-        History::of(self.entries.as_slice(), self.bytes.as_slice())
+        History::of(
+            &self.entries.as_slice()[..self.count],
+            self.bytes.as_slice(),
+        )
     }
 }
 
@@ -254,41 +266,73 @@ fn pack_down(
     KeptReply::met_down(signal, taken, sent)
 }
 
-/// No step has answered yet. Not built into its caller: there the compiler copies what stood behind the tag, and back.
-#[inline(never)]
-fn blank(reply: &mut KeptReply)
-    ensures { reply.new ≡ reply_spec.Done }
+/// Makes a place for an entry behind those that have ended, where there is none: in what memory a supply has.
+fn ensure_place<S: Supply>(
+    supply: &mut S,
+    entries: &mut Vec<KeptEntry>,
+    count: usize,
+) -> Result<(), AllocError>
+    requires { count ≤ vec_len entries.old }
+    ensures items { entries.new.items ≡ entries.old.items }
+    ensures len { vec_len entries.new ≡ vec_len entries.old }
+    ensures capacity { vec_capacity entries.old ≤ vec_capacity entries.new }
+    ensures made { OnOk result (count < vec_capacity entries.new) }
+    ensures refused { OnErr result (vec_capacity entries.new ≡ vec_capacity entries.old) }
+    ensures spent { OnErr result (vec_capacity entries.old ≤ count) }
+    ensures given { OnOk result (S.refused supply.new ≡ S.refused supply.old) }
+    ensures memory { OnErr result (S.refused supply.new ≡ true) }
 {
-    *reply = Reply::Done;
+    if entries.len() > count {
+        return Ok(());
+    }
+    ensure_room(supply, entries, 1)
 }
 
-/// Adds an entry of these parts, for which there is room.
+/// The entry that is being written, behind those that have ended, has this reply.
 #[inline(always)]
-fn push(entries: &mut Vec<KeptEntry>, start: usize, event: KeptEvent, reply: &KeptReply)
-    requires { vec_len entries.old < vec_capacity entries.old }
-    ensures items { entries.new.items ≡ entries.old.items ++ record { start = start; event = event; reply = reply.now } ∷ [] }
-    ensures len { vec_len entries.new ≡ vec_len entries.old + 1 }
+fn write(entries: &mut Vec<KeptEntry>, count: usize, start: usize, reply: KeptReply)
+    requires some { count ≤ vec_len entries.old }
+    requires room { count < vec_capacity entries.old }
+    ensures items { entries.new.items ≡ take count entries.old.items ++ unfinished start reply ∷ [] }
+    ensures len { vec_len entries.new ≡ count + 1 }
     ensures capacity { vec_capacity entries.old ≤ vec_capacity entries.new }
 {
+    entries.truncate(count);
     let kept = KeptEntry {
         start,
-        event,
-        reply: *reply,
+        event: Event::SystemReset,
+        reply,
     };
     push_copy(entries, &kept);
 }
 
-/// Adds an entry that is kept with the same numbers, for which there is room.
+/// An entry is being written; its reply is Done where no step has answered.
 #[inline(always)]
-fn push_same(entries: &mut Vec<KeptEntry>, start: usize, kept: &KeptEntry)
-    requires { vec_len entries.old < vec_capacity entries.old }
-    ensures items { entries.new.items ≡ entries.old.items ++ record kept.now { start = start } ∷ [] }
-    ensures len { vec_len entries.new ≡ vec_len entries.old + 1 }
+fn settle(entries: &mut Vec<KeptEntry>, count: usize, start: usize)
+    requires some { count ≤ vec_len entries.old }
+    requires room { count < vec_capacity entries.old }
+    requires pending { IsPending start (drop count entries.old.items) }
+    ensures items { entries.new.items ≡ take count entries.old.items ++ unfinished start (written_reply (drop count entries.old.items)) ∷ [] }
+    ensures len { vec_len entries.new ≡ count + 1 }
     ensures capacity { vec_capacity entries.old ≤ vec_capacity entries.new }
 {
-    let number = entries.len();
+    if entries.len() == count {
+        write(entries, count, start, Reply::Done);
+    }
+}
+
+/// Adds an entry behind those that have ended, kept with the same numbers, for which there is room.
+#[inline(always)]
+fn push_same(entries: &mut Vec<KeptEntry>, count: usize, start: usize, kept: &KeptEntry)
+    requires some { count ≤ vec_len entries.old }
+    requires room { count < vec_capacity entries.old }
+    ensures items { entries.new.items ≡ take count entries.old.items ++ record kept.now { start = start } ∷ [] }
+    ensures len { vec_len entries.new ≡ count + 1 }
+    ensures capacity { vec_capacity entries.old ≤ vec_capacity entries.new }
+{
+    entries.truncate(count);
     push_copy(entries, kept);
-    entries[number].start = start;
+    entries[count].start = start;
 }
 
 /// Adds a copy, for which there is room.

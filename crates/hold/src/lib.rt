@@ -5,13 +5,15 @@ mod rows;
 
 ghost use Rattle.std.specs.Prelude.{◌≡◌, Some};
 ghost use Rattle.chan_model.specs.HoldTable as table;
-ghost use Rattle.chan_model.specs.Signals.{lent_down, lent_up, map_sent, map_taken};
+ghost use Rattle.chan_model.specs.Lent.{lent_up, plain_down};
+ghost use Rattle.chan_model.specs.Signals.{map_sent, map_taken};
 ghost use Rattle.chan_model.specs.ResetCauses as causes;
 ghost use Rattle.chan_model.specs.declared.hold_state.HoldPhase.TheVariants as phase;
 
 use chan_model::hold_state::{HoldPhase, HoldState};
+use chan_model::lent::{LentUp, PlainDown};
 use chan_model::names::Path;
-use chan_model::signal::{Down, LentDown, LentUp, OnPath, Taken};
+use chan_model::signal::{Down, OnPath, Taken};
 use std::marker::Model;
 
 /// What the subsystem takes the device of one subchannel to be held by.
@@ -62,16 +64,16 @@ impl Hold {
     }
 
     /// Offers the program under this number on a path.
-    pub fn offer(&mut self, number: u64, path: Path, single_path: bool) -> OnPath<LentDown<'static>>
+    pub fn offer(&mut self, number: u64, path: Path, single_path: bool) -> OnPath<PlainDown>
         requires { self.old.phase ≡ phase.Free }
         ensures state { self.new ≡ (table.offering self.old number path single_path).state }
-        ensures sent { map_sent lent_down (Some result) ≡ (table.offering self.old number path single_path).sent }
+        ensures sent { map_sent plain_down (Some result) ≡ (table.offering self.old number path single_path).sent }
     {
         self.state.phase = HoldPhase::Offer { number, path };
         self.state.single_path = single_path;
         OnPath {
             path,
-            signal: Down::Select { number },
+            signal: PlainDown::of(Down::Select { number }),
         }
     }
 
@@ -79,9 +81,9 @@ impl Hold {
     ///
     /// What `may` says depends on the signal: at Accept, that the program goes on; at Back, that it may be connected on
     /// this path; at Attn, that the subchannel can show it.
-    pub fn take(&mut self, path: Path, signal: &LentUp<'_>, may: bool) -> Taken<LentDown<'static>>
+    pub fn take(&mut self, path: Path, signal: &LentUp<'_>, may: bool) -> Taken<PlainDown>
         ensures state { self.new ≡ table.hold_after self.old (table.hold_takes self.old path (lent_up signal.now) may) }
-        ensures came { map_taken lent_down result ≡ table.came_of (table.hold_takes self.old path (lent_up signal.now) may) }
+        ensures came { map_taken plain_down result ≡ table.came_of (table.hold_takes self.old path (lent_up signal.now) may) }
     {
         rows::takes(&mut self.state, path, signal, may)
     }
@@ -111,9 +113,9 @@ impl Hold {
     }
 
     /// Lets the device go. None where no program is connected, and then nothing changes.
-    pub fn let_go(&mut self) -> Option<OnPath<LentDown<'static>>>
+    pub fn let_go(&mut self) -> Option<OnPath<PlainDown>>
         ensures state { self.new ≡ table.hold_after self.old (table.letting_go self.old self.old.phase) }
-        ensures sent { map_sent lent_down result ≡ (table.came_of (table.letting_go self.old self.old.phase)).sent }
+        ensures sent { map_sent plain_down result ≡ (table.came_of (table.letting_go self.old self.old.phase)).sent }
     {
         let phase = self.state.phase;
         let HoldPhase::On { number, path, .. } = phase else {
@@ -122,7 +124,7 @@ impl Hold {
         self.state.phase = HoldPhase::Letting { number, path };
         Some(OnPath {
             path,
-            signal: Down::Release { number },
+            signal: PlainDown::of(Down::Release { number }),
         })
     }
 
@@ -135,9 +137,9 @@ impl Hold {
     }
 
     /// Sends the Reset on a path. None where there is none to send, and then nothing changes.
-    pub fn send_reset(&mut self, path: Path) -> Option<OnPath<LentDown<'static>>>
+    pub fn send_reset(&mut self, path: Path) -> Option<OnPath<PlainDown>>
         ensures state { self.new ≡ table.hold_after self.old (table.sending_reset self.old self.old.phase path) }
-        ensures sent { map_sent lent_down result ≡ (table.came_of (table.sending_reset self.old self.old.phase path)).sent }
+        ensures sent { map_sent plain_down result ≡ (table.came_of (table.sending_reset self.old self.old.phase path)).sent }
     {
         let HoldPhase::Reset { number } = self.state.phase else {
             return None;
@@ -145,10 +147,10 @@ impl Hold {
         self.state.reset_path = Some(path);
         Some(OnPath {
             path,
-            signal: Down::Reset {
+            signal: PlainDown::of(Down::Reset {
                 number,
                 restarts: self.state.known,
-            },
+            }),
         })
     }
 

@@ -3,21 +3,23 @@
 ghost use Rattle.std.specs.Prelude.{◌≡◌, None, Some, true};
 ghost use Rattle.chan_model.specs.HoldTable as table;
 ghost use Rattle.chan_model.specs.ResetCauses as causes;
-ghost use Rattle.chan_model.specs.Signals.{lent_down, lent_up, map_taken};
+ghost use Rattle.chan_model.specs.Lent.{lent_up, plain_down};
+ghost use Rattle.chan_model.specs.Signals.{map_taken};
 
 use chan_model::hold_state::{HoldPhase, HoldState};
+use chan_model::lent::{LentUp, PlainDown};
 use chan_model::names::Path;
-use chan_model::signal::{Down, LentDown, LentUp, Taken, Up};
+use chan_model::signal::{Down, Taken, Up};
 
 /// What came of a signal; none of those that the hold sends has bytes.
-type Came = Taken<LentDown<'static>>;
+type Came = Taken<PlainDown>;
 
 /// A signal that came by a path.
 pub fn takes(hold: &mut HoldState, path: Path, signal: &LentUp<'_>, may: bool) -> Came
     ensures state { hold.new ≡ table.hold_after hold.old (table.hold_takes hold.old path (lent_up signal.now) may) }
-    ensures came { map_taken lent_down result ≡ table.came_of (table.hold_takes hold.old path (lent_up signal.now) may) }
+    ensures came { map_taken plain_down result ≡ table.came_of (table.hold_takes hold.old path (lent_up signal.now) may) }
 {
-    match *signal {
+    match *signal.kept {
         Up::Accept { number } => accepted(hold, number, may),
         Up::Busy { number } => found_busy(hold, number),
         Up::Leave { number, connection } => left(hold, number, connection),
@@ -33,7 +35,7 @@ pub fn takes(hold: &mut HoldState, path: Path, signal: &LentUp<'_>, may: bool) -
 /// Accept of the number that is offered: the program goes on, or lets the device go at once.
 fn accepted(hold: &mut HoldState, number: u64, may: bool) -> Came
     ensures state { hold.new ≡ table.hold_after hold.old (table.offer_accepted hold.old hold.old.phase number may) }
-    ensures came { map_taken lent_down result ≡ table.came_of (table.offer_accepted hold.old hold.old.phase number may) }
+    ensures came { map_taken plain_down result ≡ table.came_of (table.offer_accepted hold.old hold.old.phase number may) }
 {
     let phase = hold.phase;
     match phase {
@@ -48,7 +50,7 @@ fn accepted(hold: &mut HoldState, number: u64, may: bool) -> Came
 /// The program of this number was accepted on this path.
 fn begun(hold: &mut HoldState, number: u64, path: Path, goes_on: bool) -> Came
     ensures state { hold.new ≡ (table.program_begun hold.old number path goes_on).state }
-    ensures came { map_taken lent_down result ≡ table.came_of (Some (table.program_begun hold.old number path goes_on)) }
+    ensures came { map_taken plain_down result ≡ table.came_of (Some (table.program_begun hold.old number path goes_on)) }
 {
     hold.seen = 0;
     hold.first_path = Some(path);
@@ -61,14 +63,14 @@ fn begun(hold: &mut HoldState, number: u64, path: Path, goes_on: bool) -> Came
         Taken::quietly()
     } else {
         hold.phase = HoldPhase::Letting { number, path };
-        Taken::sending(path, Down::Release { number })
+        Taken::sending(path, PlainDown::of(Down::Release { number }))
     }
 }
 
 /// Busy at the number that is offered: the program waits again.
 fn found_busy(hold: &mut HoldState, number: u64) -> Came
     ensures state { hold.new ≡ table.hold_after hold.old (table.found_busy hold.old hold.old.phase number) }
-    ensures came { map_taken lent_down result ≡ table.came_of (table.found_busy hold.old hold.old.phase number) }
+    ensures came { map_taken plain_down result ≡ table.came_of (table.found_busy hold.old hold.old.phase number) }
 {
     match hold.phase {
         HoldPhase::Offer {
@@ -85,7 +87,7 @@ fn found_busy(hold: &mut HoldState, number: u64) -> Came
 /// Leave of the connection at hand.
 fn left(hold: &mut HoldState, number: u64, connection: u64) -> Came
     ensures state { hold.new ≡ table.hold_after hold.old (table.left hold.old hold.old.phase number connection) }
-    ensures came { map_taken lent_down result ≡ table.came_of (table.left hold.old hold.old.phase number connection) }
+    ensures came { map_taken plain_down result ≡ table.came_of (table.left hold.old hold.old.phase number connection) }
 {
     match hold.phase {
         HoldPhase::On {
@@ -103,7 +105,7 @@ fn left(hold: &mut HoldState, number: u64, connection: u64) -> Came
 /// Back under a connection above the last seen: granted where the program is away and may come, refused elsewhere.
 fn asked_back(hold: &mut HoldState, path: Path, number: u64, connection: u64, may: bool) -> Came
     ensures state { hold.new ≡ table.hold_after hold.old (table.asked_back hold.old hold.old.phase path number connection may) }
-    ensures came { map_taken lent_down result ≡ table.came_of (table.asked_back hold.old hold.old.phase path number connection may) }
+    ensures came { map_taken plain_down result ≡ table.came_of (table.asked_back hold.old hold.old.phase path number connection may) }
 {
     match hold.phase {
         HoldPhase::On { number: held, .. } if number == held && hold.seen < connection => {
@@ -123,16 +125,16 @@ fn asked_back(hold: &mut HoldState, path: Path, number: u64, connection: u64, ma
 /// A connection is refused on the path by which it came.
 fn refusing(hold: &mut HoldState, path: Path, number: u64, connection: u64) -> Came
     ensures state { hold.new ≡ (table.refusing hold.old path number connection).state }
-    ensures came { map_taken lent_down result ≡ table.came_of (Some (table.refusing hold.old path number connection)) }
+    ensures came { map_taken plain_down result ≡ table.came_of (Some (table.refusing hold.old path number connection)) }
 {
     hold.seen = connection;
-    Taken::sending(path, Down::Refuse { number, connection })
+    Taken::sending(path, PlainDown::of(Down::Refuse { number, connection }))
 }
 
 /// A connection is granted on the path by which it came.
 fn granting(hold: &mut HoldState, path: Path, number: u64, connection: u64) -> Came
     ensures state { hold.new ≡ (table.granting hold.old path number connection).state }
-    ensures came { map_taken lent_down result ≡ table.came_of (Some (table.granting hold.old path number connection)) }
+    ensures came { map_taken plain_down result ≡ table.came_of (Some (table.granting hold.old path number connection)) }
 {
     hold.seen = connection;
     hold.phase = HoldPhase::On {
@@ -140,13 +142,13 @@ fn granting(hold: &mut HoldState, path: Path, number: u64, connection: u64) -> C
         path,
         connection,
     };
-    Taken::sending(path, Down::Grant { number, connection })
+    Taken::sending(path, PlainDown::of(Down::Grant { number, connection }))
 }
 
 /// Released of the number that is let go.
 fn released(hold: &mut HoldState, number: u64) -> Came
     ensures state { hold.new ≡ table.hold_after hold.old (table.released hold.old hold.old.phase number) }
-    ensures came { map_taken lent_down result ≡ table.came_of (table.released hold.old hold.old.phase number) }
+    ensures came { map_taken plain_down result ≡ table.came_of (table.released hold.old hold.old.phase number) }
 {
     match hold.phase {
         HoldPhase::Letting { number: let_go, .. } if number == let_go => {
@@ -160,7 +162,7 @@ fn released(hold: &mut HoldState, number: u64) -> Came
 /// Cleared of the Reset's number.
 fn cleared(hold: &mut HoldState, number: u64) -> Came
     ensures state { hold.new ≡ table.hold_after hold.old (table.reset_cleared hold.old hold.old.phase number) }
-    ensures came { map_taken lent_down result ≡ table.came_of (table.reset_cleared hold.old hold.old.phase number) }
+    ensures came { map_taken plain_down result ≡ table.came_of (table.reset_cleared hold.old hold.old.phase number) }
 {
     match hold.phase {
         HoldPhase::Reset { number: last } if number == last => {
@@ -175,7 +177,7 @@ fn cleared(hold: &mut HoldState, number: u64) -> Came
 /// Notice of more restarts than are known.
 fn noticed(hold: &mut HoldState, restarts: u64) -> Came
     ensures state { hold.new ≡ table.hold_after hold.old (table.noticed hold.old restarts) }
-    ensures came { map_taken lent_down result ≡ table.came_of (table.noticed hold.old restarts) }
+    ensures came { map_taken plain_down result ≡ table.came_of (table.noticed hold.old restarts) }
 {
     if hold.known < restarts {
         hold.known = restarts;
@@ -188,10 +190,10 @@ fn noticed(hold: &mut HoldState, restarts: u64) -> Came
 /// Attn where nothing holds the device: answered where the subchannel can show it.
 fn attended(hold: &mut HoldState, path: Path, attention: u64, may: bool) -> Came
     ensures state { hold.new ≡ table.hold_after hold.old (table.attended hold.old hold.old.phase path attention may) }
-    ensures came { map_taken lent_down result ≡ table.came_of (table.attended hold.old hold.old.phase path attention may) }
+    ensures came { map_taken plain_down result ≡ table.came_of (table.attended hold.old hold.old.phase path attention may) }
 {
     match hold.phase {
-        HoldPhase::Free if may => Taken::sending(path, Down::Got { attention }),
+        HoldPhase::Free if may => Taken::sending(path, PlainDown::of(Down::Got { attention })),
         _ => Taken::ignored(),
     }
 }

@@ -10,3 +10,5 @@ pub mod law;
 pub mod machine;
 pub mod opening;
 mod paths;
+mod storage_events;
+mod turns;

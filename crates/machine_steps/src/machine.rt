@@ -1,15 +1,10 @@
 //! A channel subsystem without its history: what each event does to the whole.
 
-ghost use Rattle.std.specs.Prelude.{◌≡◌, ◌<◌, ◌≤◌, All, Ok, Err, IfErr, OnErr, OnOk, None, Some, IfSome, length, slice_get};
-ghost use Rattle.chan_model.specs.declared.fault.Fault.TheVariants as fault_spec;
+ghost use Rattle.std.specs.Prelude.{◌≡◌, ◌<◌, ◌≤◌, All, OnErr, None, Some, IfSome, length, slice_get};
 ghost use Rattle.subchannel_model.specs.declared.state.Subchannel.{Subchannel};
 ghost use Rattle.machine_model.specs.State as state_spec;
 ghost use Rattle.machine_model.specs.Ruled.{GoesByRule};
 ghost use Rattle.machine_model.specs.InstructionSteps as instruction_steps;
-ghost use Rattle.subchannel_steps.specs.Giving as giving_spec;
-ghost use Rattle.machine_model.specs.UnitTurns.{lent_turns};
-ghost use Rattle.subchannel_steps.specs.PathTurns as turn_spec;
-ghost use Rattle.machine_model.specs.StorageSteps as storage_spec;
 ghost use Rattle.machine_model.specs.Steps as spec;
 ghost use Rattle.machine_model.specs.Bounds.{IsRoomy, IsUnitRoomy};
 ghost use Rattle.machine_steps.specs.Postable.{IsPostable};
@@ -21,10 +16,9 @@ ghost use Rattle.chan_events.specs.Replies.{plain_outcome};
 
 use chan_events::event::{Event, Instruction, OtherInstruction, UnitAct};
 use chan_events::reply::{PlainReply, Reply};
-use chan_model::chunk::{Chunk, ChunkLength};
 use chan_model::fault::Fault;
 use chan_model::names::Cpu;
-use chan_model::report::{LentWork, Report};
+use chan_model::report::Report;
 use channel_config::names::subchannel_named;
 use channel_reports::Reports;
 use control_units::sharing::Sharing;
@@ -33,21 +27,17 @@ use finding::engines::{Counted, Engines, engaged};
 use finding::tables::Places;
 use interruptions::Pending;
 use io_step::{ChannelPaths, PathTable, execute_absent, perform_other, perform_provided};
-use machine_model::state::UnitTurn;
 use path_select::PathChoice;
 use scsw_irb::serials::Serials;
 use std::marker::Model;
-use storage_keys::key::Key;
-use storage_keys::{Storage, StorageFault};
+use storage_keys::Storage;
 use subchannel::choosing::{chosen, paths_to_choose};
 use subchannel_model::state::Subchannel;
 use subchannel_steps::acts::{act_sub, not_held, side_of_act};
-use subchannel_steps::path_turns::turn_at;
 use subchannel_steps::posting::post;
 use subchannel_steps::sharing::restart;
 use subchannel_steps::tables::engaged_for;
 use subchannel_steps::turns::{choose_sub, down_sub, path_of, report_sub, returns_at, up_sub};
-use subchannel_steps::unit_turns::turn_of_unit;
 use unit::Unit;
 use working::sent::SentDown;
 
@@ -65,17 +55,6 @@ fn word_of(instruction: Instruction) -> u32
         | Instruction::Csch { subchannel }
         | Instruction::Xsch { subchannel }
         | Instruction::Enable { subchannel, .. } => subchannel,
-    }
-}
-
-/// The answer of an event that storage has done or refused.
-fn done(came: Result<(), StorageFault>) -> Result<PlainReply, Fault>
-    ensures done { OnOk came (result ≡ Ok reply_spec.Done) }
-    ensures refused { IfErr came (λ f. result ≡ Err (fault_spec.Storage f)) }
-{
-    match came {
-        Ok(()) => Ok(Reply::Done),
-        Err(fault) => Err(Fault::Storage(fault)),
     }
 }
 
@@ -157,76 +136,7 @@ impl Machine {
         Some(self.subs.get(place)?.state.serials)
     }
 
-    /// The event of a path worker's turn for the subchannel that a word names, on the channel path of this identifier.
-    pub fn path_turn(&self, places: &Places, word: u32, chpid: u8) -> Option<Event>
-        requires fits { Fits places.now self.now.subs }
-        ensures { result ≡ turn_spec.path_turn_of self.now word chpid }
-    {
-        let place = self.place_of(places, word)?;
-        let counted = Counted::of(self.subs.as_slice(), &self.engines);
-        turn_at(&counted, &self.subs[place], word, chpid)
-    }
-
-    /// What a unit is to do next.
-    pub fn unit_turn(&self, places: &Places, number: u32) -> Option<UnitTurn>
-        requires fits { Fits places.now self.now.subs }
-        ensures { result ≡ state_spec.unit_turn_of self.now number }
-    {
-        match self.lent_turn(places, number) {
-            None => None,
-            Some(turn) => Some(turn.own()),
-        }
-    }
-
-    /// What a unit is to do next, as `unit_turn` has it; the bytes that are to be absorbed are lent.
-    pub fn lent_turn(&self, places: &Places, number: u32) -> Option<UnitTurn<LentWork<'_>>>
-        requires fits { Fits places.now self.now.subs }
-        ensures { lent_turns result ≡ state_spec.unit_turn_of self.now number }
-    {
-        let number = number as usize;
-        if number >= self.units.len() {
-            return None;
-        }
-        Some(turn_of_unit(places, number, &self.units[number], self.subs.as_slice()))
-    }
-
-    #[inline(never)]
-    fn put(&mut self, address: u32, bytes: &Chunk) -> Result<PlainReply, Fault>
-        ensures { giving_spec.Gives self.old (storage_spec.put_turn self.old address bytes.now) (plain_outcome result) self.new }
-    {
-        done(self.storage.put(address, bytes.as_slice()))
-    }
-
-    #[inline(never)]
-    fn set_key(&mut self, address: u32, key: Key) -> Result<PlainReply, Fault>
-        ensures { giving_spec.Gives self.old (storage_spec.key_turn self.old address key) (plain_outcome result) self.new }
-    {
-        done(self.storage.set_key(address, key))
-    }
-
-    #[inline(never)]
-    fn set_prefix(&mut self, cpu: Cpu, address: u32) -> Result<PlainReply, Fault>
-        ensures { giving_spec.Gives self.old (storage_spec.prefix_turn self.old cpu address) (plain_outcome result) self.new }
-    {
-        done(self.storage.set_prefix(cpu.number(), address))
-    }
-
-    #[inline(never)]
-    fn show(&self, address: u32, length: ChunkLength, log: &mut Log) -> Result<(), Fault>
-        requires room { 1 ≤ log.old.room }
-        requires fresh { log.old.reply ≡ reply_spec.Done }
-        ensures gives { giving_spec.Gives self.now (storage_spec.show_turn self.now address length) (answer_in result log.new) self.now }
-        ensures kept { IsKept log.old log.new }
-        ensures refused { OnErr result (log.new ≡ log.old) }
-    {
-        match self.storage.show(address, length.get()) {
-            Ok(shown) => log.show(shown),
-            Err(fault) => return Err(Fault::Storage(fault)),
-        }
-        Ok(())
-    }
-
-    #[inline(never)]
+    #[inline(always)]
     fn execute(
         &mut self,
         places: &Places,
@@ -279,7 +189,7 @@ impl Machine {
         )
     }
 
-    #[inline(never)]
+    #[inline(always)]
     fn choose<P: PathChoice>(
         &mut self,
         places: &Places,
@@ -361,7 +271,7 @@ impl Machine {
         down_sub(sub, unit, &mut self.sharing, path, log)
     }
 
-    #[inline(never)]
+    #[inline(always)]
     fn report(&mut self, places: &Places, number: u32, report: &Report) -> Result<PlainReply, Fault>
         requires fits { Fits places.now self.old.subs }
         requires roomy { All IsUnitRoomy self.old.units }
@@ -377,6 +287,71 @@ impl Machine {
         let sub = &mut self.subs[place];
         let unit = &mut self.units[number];
         report_sub(sub, unit, report)
+    }
+
+    /// `execute`, with its reply in the log.
+    #[inline(never)]
+    fn tell_code(
+        &mut self,
+        places: &Places,
+        cpu: Cpu,
+        instruction: &Instruction,
+        log: &mut Log,
+    ) -> Result<(), Fault>
+        requires fits { Fits places.now self.old.subs }
+        requires roomy { All IsRoomy self.old.subs }
+        requires postable { All IsPostable self.old.subs }
+        requires requests { self.old.requests.numbers ≡ 0x100 }
+        requires room { 1 ≤ log.old.room }
+        requires fresh { log.old.reply ≡ reply_spec.Done }
+        ensures performs { spec.Performs self.old (event_spec.Execute cpu instruction.now) (answer_in result log.new) self.new }
+        ensures kept { IsKept log.old log.new }
+        ensures refused { OnErr result (log.new ≡ log.old) }
+    {
+        log.tell(&self.execute(places, cpu, instruction))
+    }
+
+    /// `choose`, with its reply in the log.
+    #[inline(never)]
+    fn tell_choice<P: PathChoice>(
+        &mut self,
+        places: &Places,
+        choice: &P,
+        word: u32,
+        log: &mut Log,
+    ) -> Result<(), Fault>
+        requires fits { Fits places.now self.old.subs }
+        requires roomy { All IsRoomy self.old.subs }
+        requires postable { All IsPostable self.old.subs }
+        requires requests { self.old.requests.numbers ≡ 0x100 }
+        requires room { 1 ≤ log.old.room }
+        requires fresh { log.old.reply ≡ reply_spec.Done }
+        ensures performs { spec.Performs self.old (event_spec.Choose word) (answer_in result log.new) self.new }
+        ensures ruled { GoesByRule P.picks self.old (event_spec.Choose word) (answer_in result log.new) self.new }
+        ensures kept { IsKept log.old log.new }
+        ensures refused { OnErr result (log.new ≡ log.old) }
+    {
+        log.tell(&self.choose(places, choice, word))
+    }
+
+    /// `report`, with its reply in the log.
+    #[inline(never)]
+    fn tell_report(
+        &mut self,
+        places: &Places,
+        number: u32,
+        report: &Report,
+        log: &mut Log,
+    ) -> Result<(), Fault>
+        requires fits { Fits places.now self.old.subs }
+        requires roomy { All IsUnitRoomy self.old.units }
+        requires room { 1 ≤ log.old.room }
+        requires fresh { log.old.reply ≡ reply_spec.Done }
+        ensures performs { spec.Performs self.old (event_spec.Report number report.now) (answer_in result log.new) self.new }
+        ensures kept { IsKept log.old log.new }
+        ensures refused { OnErr result (log.new ≡ log.old) }
+    {
+        log.tell(&self.report(places, number, report))
     }
 
     #[inline(never)]
@@ -438,11 +413,9 @@ impl Machine {
         match event {
             Event::Up { subchannel, path } => self.up(places, *subchannel, *path, log),
             Event::Down { subchannel, path } => self.down(places, *subchannel, *path, log),
-            Event::Report { unit, report } => log.tell(&self.report(places, *unit, report)),
-            Event::Choose { subchannel } => log.tell(&self.choose(places, choice, *subchannel)),
-            Event::Execute { cpu, instruction } => {
-                log.tell(&self.execute(places, *cpu, instruction))
-            }
+            Event::Report { unit, report } => self.tell_report(places, *unit, report, log),
+            Event::Choose { subchannel } => self.tell_choice(places, choice, *subchannel, log),
+            Event::Execute { cpu, instruction } => self.tell_code(places, *cpu, instruction, log),
             _ => self.perform_other(places, choice, event, log),
         }
     }
@@ -473,9 +446,13 @@ impl Machine {
             Event::Up { subchannel, path } => return self.up(places, *subchannel, *path, log),
             Event::Down { subchannel, path } => return self.down(places, *subchannel, *path, log),
             Event::Show { address, length } => return self.show(*address, *length, log),
-            Event::Execute { cpu, instruction } => self.execute(places, *cpu, instruction),
-            Event::Choose { subchannel } => self.choose(places, choice, *subchannel),
-            Event::Report { unit, report } => self.report(places, *unit, report),
+            Event::Execute { cpu, instruction } => {
+                return self.tell_code(places, *cpu, instruction, log);
+            }
+            Event::Choose { subchannel } => {
+                return self.tell_choice(places, choice, *subchannel, log);
+            }
+            Event::Report { unit, report } => return self.tell_report(places, *unit, report, log),
             Event::Act { unit, act } => self.act(places, *unit, *act),
             Event::Put { address, bytes } => self.put(*address, bytes),
             Event::SetKey { address, key } => self.set_key(*address, *key),

@@ -1,7 +1,7 @@
 //! The line of an event, by the reply that is kept of it.
 
 ghost use Rattle.std.specs.Prelude.{◌≡◌, ◌≤◌, ◌++◌, ◌∷◌, [], Ok, length, true};
-ghost use Rattle.chan_model.specs.Signals.{lent_down, lent_up};
+ghost use Rattle.chan_model.specs.Lent.{lent_down, lent_up};
 ghost use Rattle.chan_events.specs.Replies.{reply_in, reply_length};
 ghost use Rattle.script_text.specs.Text as spec;
 ghost use Rattle.script_text.specs.declared.ActionResult.TheVariants as told;
@@ -13,7 +13,8 @@ use crate::{
     put_paths, put_pieces, put_report, put_status, put_up,
 };
 use chan_events::reply::{KeptReply, Reply};
-use chan_model::signal::{Down, LentDown, LentUp, Up};
+use chan_model::lent::{LentDown, LentUp};
+use chan_model::signal::{Down, Up};
 use event_log::history::LentReply;
 use streams::Sink;
 
@@ -46,7 +47,7 @@ fn put_kept<S: Sink>(sink: &mut S, reply: &KeptReply, bytes: &[u8]) -> bool
 fn put_down_taken<S: Sink>(sink: &mut S, signal: &LentDown<'_>) -> bool
     ensures { Puts (S.seen sink.old) (spec.taken_text true ++ spec.down_name (lent_down signal.now) ++ 10 ∷ []) (S.seen sink.new) result }
 {
-    match signal {
+    match signal.kept {
         Down::Select { .. } => sink.put(b"took select\n"),
         Down::Command { .. } => sink.put(b"took command\n"),
         Down::Grant { .. } => sink.put(b"took grant\n"),
@@ -64,7 +65,7 @@ fn put_down_taken<S: Sink>(sink: &mut S, signal: &LentDown<'_>) -> bool
 fn put_up_taken<S: Sink>(sink: &mut S, signal: &LentUp<'_>) -> bool
     ensures { Puts (S.seen sink.old) (spec.taken_text true ++ spec.up_name (lent_up signal.now) ++ 10 ∷ []) (S.seen sink.new) result }
 {
-    match signal {
+    match signal.kept {
         Up::Accept { .. } => sink.put(b"took accept\n"),
         Up::Busy { .. } => sink.put(b"took busy\n"),
         Up::Leave { .. } => sink.put(b"took leave\n"),

@@ -7,7 +7,7 @@ ghost use Rattle.std.specs.List.{flat_map};
 ghost use Rattle.zbits.specs.Layout.{word_of};
 ghost use Rattle.scsw_irb.specs.CodeTable.{code_tables};
 ghost use Rattle.chan_model.specs.ConditionCodes as codes_spec;
-ghost use Rattle.chan_model.specs.Signals.{lent_down, lent_up};
+ghost use Rattle.chan_model.specs.Lent.{lent_down, lent_up};
 ghost use Rattle.script_text.specs.Text as spec;
 ghost use Rattle.streams.specs.Sinks.{Puts};
 
@@ -22,7 +22,8 @@ use crate::race::put_race;
 use chan_events::reply::{PATH_STATUS_BYTES, Reply, report_word};
 use chan_model::answer::{Answer, ConditionCode};
 use chan_model::fault::Fault;
-use chan_model::signal::{Down, LentDown, LentUp, Up};
+use chan_model::lent::{LentDown, LentUp};
+use chan_model::signal::{Down, Up};
 use itoa::Buffer;
 pub use race::RaceCount;
 use scsw_irb::code::IntCode;
@@ -250,7 +251,7 @@ pub(crate) fn put_paths<S: Sink>(sink: &mut S, engaged: &[u8; PATH_STATUS_BYTES]
 fn put_down_name<S: Sink>(sink: &mut S, signal: &LentDown<'_>) -> bool
     ensures { Puts (S.seen sink.old) (spec.down_name (lent_down signal.now)) (S.seen sink.new) result }
 {
-    sink.put(match signal {
+    sink.put(match signal.kept {
         Down::Select { .. } => b"select",
         Down::Command { .. } => b"command",
         Down::Grant { .. } => b"grant",
@@ -267,7 +268,7 @@ fn put_down_name<S: Sink>(sink: &mut S, signal: &LentDown<'_>) -> bool
 fn put_up_name<S: Sink>(sink: &mut S, signal: &LentUp<'_>) -> bool
     ensures { Puts (S.seen sink.old) (spec.up_name (lent_up signal.now)) (S.seen sink.new) result }
 {
-    sink.put(match signal {
+    sink.put(match signal.kept {
         Up::Accept { .. } => b"accept",
         Up::Busy { .. } => b"busy",
         Up::Leave { .. } => b"leave",
@@ -334,8 +335,14 @@ pub fn put_reply<S: Sink>(sink: &mut S, reply: &Reply) -> bool
         Reply::HaltSent { path, .. } => put_named(sink, b"halt ", path.index() as u64),
         Reply::Pending => sink.put(b"status"),
         Reply::Idle => sink.put(b"idle"),
-        Reply::Up { signal, taken, .. } => put_up(sink, *taken, &signal.lend()),
-        Reply::Down { signal, taken, .. } => put_down(sink, *taken, &signal.lend()),
+        Reply::Up { signal, taken, .. } => {
+            let kept = signal.keep();
+            put_up(sink, *taken, &kept.lend(signal.bytes()))
+        }
+        Reply::Down { signal, taken, .. } => {
+            let kept = signal.keep();
+            put_down(sink, *taken, &kept.lend(signal.bytes()))
+        }
     }
 }
 

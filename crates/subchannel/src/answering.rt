@@ -1,6 +1,7 @@
 //! Whether a signal is answered, and by which path, before anything is changed.
 
 ghost use Rattle.std.specs.Prelude.{◌≡◌, ◌<◌, ◌^◌, false, is_some, ℕ, Bool};
+ghost use Rattle.chan_model.specs.Lent.{lent_up};
 ghost use Rattle.chan_model.specs.Signals as signals;
 ghost use Rattle.working.specs.Sent.{sent_path};
 ghost use Rattle.subchannel_model.specs.Taking as taking_spec;
@@ -11,8 +12,9 @@ ghost use Rattle.subchannel_model.specs.declared.state.SubchannelState.{Subchann
 
 use crate::taking::take_unmoved;
 use chan_model::hold_state::{HoldPhase, HoldState};
+use chan_model::lent::LentUp;
 use chan_model::names::Path;
-use chan_model::signal::{LentUp, Up};
+use chan_model::signal::Up;
 use hold::Hold;
 use storage_keys::Storage;
 use subchannel_model::state::SubchannelState;
@@ -41,7 +43,7 @@ pub fn answer_paths()
 /// Whether the program that is connected answers a Data of this path: one of its command, and not of a chunk before the last.
 fn answers_data(state: &SubchannelState, path: Path, signal: &LentUp<'_>) -> bool
     requires { taking_spec.IsBelow state.now.begun }
-    ensures { result ≡ is_some (working_spec.moved_by state.now path (signals.lent_up signal.now)) }
+    ensures { result ≡ is_some (working_spec.moved_by state.now path (lent_up signal.now)) }
 {
     let Some(data) = data_by(path, signal) else {
         return false;
@@ -68,9 +70,9 @@ pub fn answer_path(
     requires made { state.now.serials.made < 2 ^ 63 }
     requires drawn { state.now.drawn < 2 ^ 63 }
     requires below { taking_spec.IsBelow state.now.begun }
-    ensures { sent_path (taking_spec.takes_up returns storage.now state.now path (signals.lent_up signal.now)).step.came.sent ≡ result }
+    ensures { sent_path (taking_spec.takes_up returns storage.now state.now path (lent_up signal.now)).step.came.sent ≡ result }
 {
-    match *signal {
+    match *signal.kept {
         Up::Data { .. } if answers_data(state, path, signal) => Some(path),
         Up::Data { .. } => None,
         _ => unmoved_path(storage, state, path, signal, returns),
@@ -88,8 +90,8 @@ fn unmoved_path(
     requires made { state.now.serials.made < 2 ^ 63 }
     requires drawn { state.now.drawn < 2 ^ 63 }
     requires below { taking_spec.IsBelow state.now.begun }
-    requires unmoved { spec.is_data (signals.lent_up signal.now) ≡ false }
-    ensures { sent_path (taking_spec.takes_up returns storage.now state.now path (signals.lent_up signal.now)).step.came.sent ≡ result }
+    requires unmoved { spec.is_data (lent_up signal.now) ≡ false }
+    ensures { sent_path (taking_spec.takes_up returns storage.now state.now path (lent_up signal.now)).step.came.sent ≡ result }
 {
     let mut copy = *state;
     let mut sent = SentDown::new();

@@ -1,7 +1,8 @@
 //! What the subsystem does of itself for a subchannel (own).
 
 ghost use Rattle.std.specs.Prelude.{◌≡◌, ◌<◌, ◌+◌, ◌^◌, if◌then◌else◌, IfSome, Some, length, true};
-ghost use Rattle.chan_model.specs.Signals.{lent_down, map_sent};
+ghost use Rattle.chan_model.specs.Lent.{plain_down};
+ghost use Rattle.chan_model.specs.Signals.{map_sent};
 ghost use Rattle.chan_model.specs.HoldTable.{came_of, offering, sending_reset};
 ghost use Rattle.allegiance.specs.PathUse as set_spec;
 ghost use Rattle.subchannel_model.specs.Choosing as spec;
@@ -11,9 +12,10 @@ ghost use Rattle.chan_model.specs.declared.hold_state.HoldPhase.TheVariants as p
 use crate::paths::{is_any_lost, path_use, return_paths, usable_paths};
 use allegiance::path_use::{PathUse, is_any};
 use chan_model::hold_state::{HoldPhase, HoldState};
+use chan_model::lent::PlainDown;
 use chan_model::names::Path;
 use chan_model::paths::PathSet;
-use chan_model::signal::{LentDown, OnPath};
+use chan_model::signal::OnPath;
 use finding::engines::Counted;
 use functions::blocks::available_paths;
 use hold::Hold;
@@ -252,9 +254,9 @@ pub fn mark_lost_paths(sub: &mut Subchannel, choice: &Option<Path>)
 }
 
 /// The Reset that is due is sent on a path; nothing is sent where there is none.
-pub fn send_reset(state: &mut SubchannelState, path: Path) -> Option<OnPath<LentDown<'static>>>
+pub fn send_reset(state: &mut SubchannelState, path: Path) -> Option<OnPath<PlainDown>>
     ensures state { state.new ≡ spec.reset_sent state.old path }
-    ensures sent { map_sent lent_down result ≡ (came_of (sending_reset state.old.hold state.old.hold.phase path)).sent }
+    ensures sent { map_sent plain_down result ≡ (came_of (sending_reset state.old.hold state.old.hold.phase path)).sent }
 {
     let mut hold = Hold::of(state.hold);
     let reset = hold.send_reset(path);
@@ -277,15 +279,11 @@ pub fn send_halt(state: &mut SubchannelState)
 }
 
 /// A program is offered on a path under a fresh number.
-pub fn offer(
-    state: &mut SubchannelState,
-    program: &Program,
-    path: Path,
-) -> OnPath<LentDown<'static>>
+pub fn offer(state: &mut SubchannelState, program: &Program, path: Path) -> OnPath<PlainDown>
     requires drawn { state.old.drawn < 2 ^ 63 }
     requires free { state.old.hold.phase ≡ phase.Free }
     ensures state { state.new ≡ spec.offered state.old program.now path }
-    ensures sent { map_sent lent_down (Some result) ≡ (offering state.old.hold (state.old.drawn + 1) path program.now.single_path).sent }
+    ensures sent { map_sent plain_down (Some result) ≡ (offering state.old.hold (state.old.drawn + 1) path program.now.single_path).sent }
 {
     state.drawn += 1;
     let mut hold = Hold::of(state.hold);

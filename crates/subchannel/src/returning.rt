@@ -2,13 +2,14 @@
 
 ghost use Rattle.std.specs.Prelude.{◌≡◌, Some};
 ghost use Rattle.chan_model.specs.HoldTable.{hold_takes};
-ghost use Rattle.chan_model.specs.Signals.{lent_up};
+ghost use Rattle.chan_model.specs.Lent.{lent_up};
 ghost use Rattle.working.specs.Sent.{came_so};
 ghost use Rattle.subchannel_model.specs.Taking as spec;
 ghost use Rattle.working.specs.Stepping.{subchannel_stepped};
 
+use chan_model::lent::LentUp;
 use chan_model::names::Path;
-use chan_model::signal::{Down, LentUp};
+use chan_model::signal::Down;
 use subchannel_model::state::{PmcwState, SubchannelState};
 use working::answers::by_hold;
 use working::sent::SentDown;
@@ -36,7 +37,7 @@ fn is_granted(answer: &SentDown) -> bool
     ensures { result ≡ spec.is_granted answer.now }
 {
     match answer.get() {
-        Some(sent) => matches!(sent.signal, Down::Grant { .. }),
+        Some(sent) => matches!(sent.signal.kept, Down::Grant { .. }),
         None => false,
     }
 }

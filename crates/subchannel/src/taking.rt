@@ -2,7 +2,7 @@
 
 ghost use Rattle.std.specs.Prelude.{◌≡◌, ◌<◌, ◌^◌, false};
 ghost use Rattle.chan_model.specs.HoldTable.{hold_takes};
-ghost use Rattle.chan_model.specs.Signals.{lent_up};
+ghost use Rattle.chan_model.specs.Lent.{lent_up};
 ghost use Rattle.working.specs.Sent.{came_so};
 ghost use Rattle.subchannel.specs.Answering.{is_data};
 ghost use Rattle.working.specs.Stepping.{subchannel_stepped};
@@ -11,8 +11,9 @@ ghost use Rattle.subchannel_model.specs.Taking as spec;
 use crate::attending::attend;
 use crate::losing::reset_for;
 use crate::returning::come_back;
+use chan_model::lent::LentUp;
 use chan_model::names::Path;
-use chan_model::signal::{LentUp, Up};
+use chan_model::signal::Up;
 use hold::Hold;
 use status::make_pending;
 use storage_keys::Storage;
@@ -85,7 +86,7 @@ pub fn take_unmoved(
     requires unmoved { is_data (lent_up signal.now) ≡ false }
     ensures met { spec.meets storage.now (subchannel_stepped state.new (came_so result sent.new)) ≡ spec.takes_up returns storage.now state.old path (lent_up signal.now) }
 {
-    match *signal {
+    match *signal.kept {
         Up::Accept { .. } => accept(storage, state, path, signal, sent),
         Up::End { .. } => end_command(storage, state, path, signal, sent),
         Up::Cleared { .. } => reset_taken(state, path, signal, sent),
@@ -111,7 +112,7 @@ pub fn take_up(
     requires below { spec.IsBelow state.old.begun }
     ensures met { spec.meets storage.new (subchannel_stepped state.new (came_so result sent.new)) ≡ spec.takes_up returns storage.old state.old path (lent_up signal.now) }
 {
-    match *signal {
+    match *signal.kept {
         Up::Data { .. } => take_data(storage, state, path, signal, sent),
         _ => take_unmoved(storage, state, path, signal, returns, sent),
     }

@@ -22,7 +22,8 @@ use Rattle.subchannel_model.specs.declared.state.Chosen.TheVariants as chosen
 use Rattle.subchannel_model.specs.declared.state.Subchannel.{Subchannel}
 use Rattle.subchannel_model.specs.declared.state.SubchannelState.{SubchannelState}
 use Rattle.subchannel_model.specs.Sending.{carried_by, finds_full}
-use Rattle.machine_model.specs.Sharing.{is_asked_for, may_take}
+use Rattle.control_units.specs.Units.{may_serve}
+use Rattle.machine_model.specs.Sharing.{is_asked_for, may_take, members_asked}
 use Rattle.machine_model.specs.State.{State}
 use Rattle.machine_model.specs.Requests.{request_of}
 use Rattle.machine_model.specs.Turns.{Outcome, does, SubTurn, leaves, UpTurn, DownTurn, SharedTurn}
@@ -92,6 +93,10 @@ posted_since made sub waiting = if nat_lt made sub.state.serials.made then poste
 -- whether a program may come back by a path, where it is one of the subchannel
 abbrev pub MayReturn : List Subchannel → Subchannel → ℕ → Bool → Type 0
 MayReturn subs sub path may = nat_lt path (length sub.setup.paths) ≡ true → may ≡ returns_at subs sub path
+
+-- what the control units keep once one was asked, where it must be
+abbrev pub members_begun : List Member → ℕ → Bool → List Member
+members_begun members place asks = if asks then members_asked members place (may_serve members place) else members
 
 -- a unit's step with a signal, its control unit being asked where it must be
 abbrev pub shared_step : List Member → ℕ → UnitState → Side → ℕ → Down → Option UnitStep

@@ -17,6 +17,7 @@ use crate::unit_turns::reached_sub;
 use chan_events::event::UnitAct;
 use chan_events::reply::{PlainReply, Reply};
 use chan_model::fault::Fault;
+use chan_model::lent_forms::lend_up;
 use chan_model::names::{Path, Side};
 use chan_model::unit_state::{Own, Place};
 use finding::tables::Places;
@@ -71,7 +72,7 @@ fn leave(sub: &mut Subchannel, unit: &mut Unit) -> Result<PlainReply, Fault>
         return Err(Fault::WireFull);
     }
     let sent = unit.leave();
-    send_any_up(sub, &sent);
+    send_any_up(sub, &lend_up(&sent));
     Ok(Reply::Done)
 }
 
@@ -91,7 +92,7 @@ fn ask(sub: &mut Subchannel, unit: &mut Unit, path: Path) -> Result<PlainReply, 
         return Err(Fault::WireFull);
     }
     let sent = unit.ask(path);
-    send_any_up(sub, &sent);
+    send_any_up(sub, &lend_up(&sent));
     Ok(Reply::Done)
 }
 
@@ -112,7 +113,7 @@ fn attend(sub: &mut Subchannel, unit: &mut Unit, path: Path) -> Result<PlainRepl
         return Err(Fault::WireFull);
     }
     let sent = unit.attention(side, path);
-    send_any_up(sub, &sent);
+    send_any_up(sub, &lend_up(&sent));
     Ok(Reply::Done)
 }
 
@@ -132,7 +133,7 @@ fn notice(sub: &mut Subchannel, unit: &Unit, path: Path) -> Result<PlainReply, F
         return Err(Fault::WireFull);
     }
     let sent = unit.notice(side, path);
-    send_any_up(sub, &sent);
+    send_any_up(sub, &lend_up(&sent));
     Ok(Reply::Done)
 }
 

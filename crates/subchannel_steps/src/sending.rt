@@ -1,6 +1,7 @@
 //! Signals that are put on the wires of a subchannel: one that is sent on a path that is down vanishes.
 
 ghost use Rattle.std.specs.Prelude.{◌≡◌, ◌<◌, Some, false, length};
+ghost use Rattle.chan_model.specs.Lent.{lent_down, lent_up};
 ghost use Rattle.chan_model.specs.Signals as signals;
 ghost use Rattle.chan_model.specs.declared.signal.OnPath as on_path;
 ghost use Rattle.machine_model.specs.ReportSteps as report_spec;
@@ -8,9 +9,10 @@ ghost use Rattle.subchannel_steps.specs.Giving as giving_spec;
 ghost use Rattle.subchannel_model.specs.Sending as spec;
 ghost use Rattle.wires.specs.Queues.{first_of, queue};
 
+use chan_model::lent::{LentDown, LentUp};
 use chan_model::names::Path;
 use chan_model::paths::PathSet;
-use chan_model::signal::{LentDown, LentUp, OnPath};
+use chan_model::signal::OnPath;
 use subchannel_model::state::Subchannel;
 use wires::Wires;
 
@@ -18,7 +20,7 @@ use wires::Wires;
 #[inline(always)]
 pub fn first_up(wires: &Wires, path: Path) -> LentUp<'_>
     requires { 0 < length (queue wires.now.up path) }
-    ensures { first_of wires.now.up path ≡ Some (signals.lent_up result) }
+    ensures { first_of wires.now.up path ≡ Some (lent_up result) }
 {
     match wires.front_up(path) {
         Some(front) => front,
@@ -36,8 +38,8 @@ pub fn finds_down_full(sub: &Subchannel, path: Path) -> bool
 
 /// Sends a signal down, where there is one. `available`: the paths of its subchannel that are not down.
 pub fn send_any_down(wires: &mut Wires, available: &PathSet, sent: &Option<OnPath<LentDown<'_>>>)
-    requires { giving_spec.TellsFull wires.old.down (spec.carried available.now (signals.map_sent signals.lent_down sent.now)) false }
-    ensures { wires.new ≡ record wires.old { down = spec.with_any_sent wires.old.down (spec.carried available.now (signals.map_sent signals.lent_down sent.now)) } }
+    requires { giving_spec.TellsFull wires.old.down (spec.carried available.now (signals.map_sent lent_down sent.now)) false }
+    ensures { wires.new ≡ record wires.old { down = spec.with_any_sent wires.old.down (spec.carried available.now (signals.map_sent lent_down sent.now)) } }
 {
     let Some(sent) = sent else {
         return;
@@ -57,8 +59,8 @@ pub fn finds_up_full(sub: &Subchannel, path: Path) -> bool
 
 /// Sends a signal up, where there is one.
 pub fn send_any_up(sub: &mut Subchannel, sent: &Option<OnPath<LentUp<'_>>>)
-    requires { giving_spec.TellsFull sub.old.wires.up (spec.carried_by sub.old (signals.map_sent signals.lent_up sent.now)) false }
-    ensures { sub.new ≡ report_spec.with_any_up sub.old (signals.map_sent signals.lent_up sent.now) }
+    requires { giving_spec.TellsFull sub.old.wires.up (spec.carried_by sub.old (signals.map_sent lent_up sent.now)) false }
+    ensures { sub.new ≡ report_spec.with_any_up sub.old (signals.map_sent lent_up sent.now) }
 {
     let Some(sent) = sent else {
         return;

@@ -7,10 +7,12 @@ ghost use Rattle.control_units.specs.Units as members_spec;
 ghost use Rattle.machine_model.specs.Bounds.{IsUnitRoomy};
 ghost use Rattle.machine_model.specs.Sharing as spec;
 ghost use Rattle.subchannel_steps.specs.Giving as giving_spec;
-ghost use Rattle.chan_model.specs.Signals.{lent_down, lent_up, map_taken};
+ghost use Rattle.chan_model.specs.Lent.{lent_down, plain_up};
+ghost use Rattle.chan_model.specs.Signals.{map_taken};
 
+use chan_model::lent::{LentDown, PlainUp};
 use chan_model::names::{Path, Side};
-use chan_model::signal::{Down, LentDown, LentUp, Taken};
+use chan_model::signal::{Down, Taken};
 use chan_model::unit_state::{Own, SideState, UnitState};
 use control_units::ControlUnit;
 use control_units::sharing::Sharing;
@@ -32,7 +34,7 @@ fn is_asked_for(unit: &UnitState, side: Side, signal: &LentDown<'_>) -> bool
     ensures asked { result ≡ spec.is_asked_for «unit».now side (lent_down signal.now) }
     ensures idle { OnTrue result (unit_spec.is_idle «unit».now.own ≡ true) }
 {
-    match *signal {
+    match *signal.kept {
         Down::Select { number } => {
             let kept = side_of(unit, side);
             !kept.fresh && kept.floor < number && matches!(unit.own, Own::Idle)
@@ -51,6 +53,25 @@ fn serve(sharing: &mut Sharing, number: u16) -> bool
         sharing.begin(number);
     }
     may
+}
+
+/// Whether the unit may take a signal; its control unit is asked where it must be, and then no program holds the device.
+fn may_take(
+    sharing: &mut Sharing,
+    number: u16,
+    unit: &Unit,
+    side: Side,
+    signal: &LentDown<'_>,
+) -> bool
+    ensures may { result ≡ spec.may_take sharing.old number (spec.is_asked_for «unit».now side (lent_down signal.now)) }
+    ensures members { sharing.new ≡ giving_spec.members_begun sharing.old number (spec.is_asked_for «unit».now side (lent_down signal.now)) }
+    ensures idle { spec.is_asked_for «unit».now side (lent_down signal.now) ≡ true → unit_spec.is_idle «unit».now.own ≡ true }
+{
+    if is_asked_for(unit.state(), side, signal) {
+        serve(sharing, number)
+    } else {
+        true
+    }
 }
 
 /// The unit is over, where its device was held and is not any more; then it may owe a control-unit end.
@@ -75,22 +96,18 @@ pub fn take(
     side: Side,
     path: Path,
     signal: &LentDown<'_>,
-) -> Taken<LentUp<'static>>
+) -> Taken<PlainUp>
     ensures state { «unit».new ≡ spec.owing_after sharing.old number «unit».old
         (unit_spec.unit_after «unit».old (giving_spec.shared_step sharing.old number «unit».old side path (lent_down signal.now))) }
     ensures members { sharing.new ≡ spec.members_after sharing.old number (spec.is_asked_for «unit».old side (lent_down signal.now)) «unit».old
         (unit_spec.unit_after «unit».old (giving_spec.shared_step sharing.old number «unit».old side path (lent_down signal.now))) }
-    ensures came { map_taken lent_up result ≡ unit_spec.came_of (giving_spec.shared_step sharing.old number «unit».old side path (lent_down signal.now)) }
+    ensures came { map_taken plain_up result ≡ unit_spec.came_of (giving_spec.shared_step sharing.old number «unit».old side path (lent_down signal.now)) }
 {
-    if is_asked_for(unit.state(), side, signal) {
-        let may = serve(sharing, number);
-        unit.take(side, path, signal, may)
-    } else {
-        let was_idle = unit.is_idle();
-        let came = unit.take(side, path, signal, true);
-        end(sharing, number, unit, was_idle);
-        came
-    }
+    let may = may_take(sharing, number, unit, side, signal);
+    let was_idle = unit.is_idle();
+    let came = unit.take(side, path, signal, may);
+    end(sharing, number, unit, was_idle);
+    came
 }
 
 /// The unit is restarted.

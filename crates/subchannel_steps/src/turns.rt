@@ -9,6 +9,7 @@ ghost use Rattle.machine_model.specs.DownSteps as down_spec;
 ghost use Rattle.machine_model.specs.ReportSteps as report_spec;
 ghost use Rattle.machine_model.specs.Turns as turn_spec;
 ghost use Rattle.subchannel.specs.Answering as answering_spec;
+ghost use Rattle.chan_model.specs.Lent.{lent_down, lent_up};
 ghost use Rattle.chan_model.specs.Signals as signals;
 ghost use Rattle.chan_model.specs.declared.signal.OnPath as on_path;
 ghost use Rattle.std.specs.Bool.{OnFalse};
@@ -30,9 +31,11 @@ use crate::sending::{finds_down_full, finds_up_full, first_up, send_any_down, se
 use crate::sharing::take;
 use chan_events::reply::{PlainReply, Reply};
 use chan_model::fault::Fault;
+use chan_model::lent::{LentDown, LentUp, PlainDown};
+use chan_model::lent_forms::{lend_down, lend_up};
 use chan_model::names::Path;
 use chan_model::report::{Report, ReportPath};
-use chan_model::signal::{Down, LentDown, LentUp, OnPath, Up};
+use chan_model::signal::{Down, OnPath, Up};
 use chan_model::unit_state::Place;
 use control_units::sharing::Sharing;
 use event_log::logs::Log;
@@ -70,7 +73,7 @@ fn reset_on(sub: &mut Subchannel, number: u64, path: Path) -> PlainReply
 {
     let available = sub.state.pmcw.available;
     let reset = send_reset(&mut sub.state, path);
-    send_any_down(&mut sub.wires, &available, &reset);
+    send_any_down(&mut sub.wires, &available, &lend_down(&reset));
     Reply::ResetSent { path, number }
 }
 
@@ -82,11 +85,11 @@ fn halt_on(sub: &mut Subchannel, number: u64, path: Path) -> PlainReply
     ensures setup { sub.new.setup ≡ sub.old.setup }
 {
     let available = sub.state.pmcw.available;
-    let halt = OnPath {
+    let halt = Some(OnPath {
         path,
-        signal: Down::Halt { number },
-    };
-    send_any_down(&mut sub.wires, &available, &Some(halt));
+        signal: PlainDown::of(Down::Halt { number }),
+    });
+    send_any_down(&mut sub.wires, &available, &lend_down(&halt));
     send_halt(&mut sub.state);
     Reply::HaltSent { path, number }
 }
@@ -101,8 +104,8 @@ fn offer_on(sub: &mut Subchannel, candidate: Candidate, path: Path) -> PlainRepl
     ensures setup { sub.new.setup ≡ sub.old.setup }
 {
     let available = sub.state.pmcw.available;
-    let select = offer(&mut sub.state, &candidate.program, path);
-    send_any_down(&mut sub.wires, &available, &Some(select));
+    let select = Some(offer(&mut sub.state, &candidate.program, path));
+    send_any_down(&mut sub.wires, &available, &lend_down(&select));
     Reply::Offered {
         path,
         resumed: candidate.resumes,
@@ -190,7 +193,7 @@ fn up_finds_full(
 ) -> bool
     requires { IsRoomy sub.now }
     ensures { giving_spec.TellsFull sub.now.wires.down (sending_spec.carried_by sub.now
-        (takes_up returns storage.now sub.now.state path (signals.lent_up signal.now)).step.came.sent) result }
+        (takes_up returns storage.now sub.now.state path (lent_up signal.now)).step.came.sent) result }
 {
     answer_paths();
     if !answers_may_find_full(sub, path) {
@@ -218,7 +221,12 @@ pub fn returns_at(subs: &Counted<'_>, sub: &Subchannel, path: Path) -> bool
     ensures { giving_spec.MayReturn subs.now sub.now path result }
 {
     match sub.wires.front_up(path) {
-        Some(Up::Back { .. }) => is_granted(subs, sub, path),
+        Some(
+            LentUp {
+                kept: Up::Back { .. },
+                ..
+            },
+        ) => is_granted(subs, sub, path),
         _ => false,
     }
 }
@@ -276,7 +284,7 @@ pub fn up_sub(
 /// Whether the answer of a unit to a signal finds its wire full. What the control unit may do makes no difference.
 fn answer_finds_full(sub: &Subchannel, unit: &Unit, path: Path, signal: &LentDown<'_>) -> bool
     ensures { (may : Bool) → giving_spec.TellsFull sub.now.wires.up (sending_spec.carried_by sub.now
-        (unit_spec.came_of (unit_spec.unit_takes «unit».now sub.now.setup.side path (signals.lent_down signal.now) may)).sent) result }
+        (unit_spec.came_of (unit_spec.unit_takes «unit».now sub.now.setup.side path (lent_down signal.now) may)).sent) result }
 {
     finds_up_full(sub, path) && unit.answers(sub.setup.side, signal)
 }
@@ -310,9 +318,10 @@ pub fn down_sub(
     }
     let side = sub.setup.side;
     let came = take(sharing, sub.setup.unit, unit, side, path, &front);
-    log.meet_down(&front, came.taken, &came.sent);
+    let answer = lend_up(&came.sent);
+    log.meet_down(&front, came.taken, &answer);
     sub.wires.drop_down(path);
-    send_any_up(sub, &came.sent);
+    send_any_up(sub, &answer);
     Ok(())
 }
 

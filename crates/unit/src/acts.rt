@@ -3,10 +3,12 @@
 ghost use Rattle.std.specs.Prelude.{◌≡◌, ◌<◌, ◌+◌, ◌^◌};
 ghost use Rattle.chan_model.specs.UnitTable as table;
 ghost use Rattle.chan_model.specs.Parts as table_parts;
-ghost use Rattle.chan_model.specs.Signals.{lent_up, map_sent};
+ghost use Rattle.chan_model.specs.Lent.{plain_up};
+ghost use Rattle.chan_model.specs.Signals.{map_sent};
 ghost use Rattle.unit.specs.UnitWords as words;
 
 use crate::parts::{Sent, free, side_of};
+use chan_model::lent::PlainUp;
 use chan_model::names::{Path, Side};
 use chan_model::signal::{OnPath, Up};
 use chan_model::unit_state::{AtHand, Attention, Own, Place, UnitState};
@@ -15,7 +17,7 @@ use scsw_irb::status::DeviceStatus;
 /// Leave: the program that is connected works on without the path.
 pub fn leaving(unit: &mut UnitState) -> Sent
     ensures state { unit.new ≡ table.unit_after unit.old (table.leaving unit.old unit.old.own) }
-    ensures sent { map_sent lent_up result ≡ (table.came_of (table.leaving unit.old unit.old.own)).sent }
+    ensures sent { map_sent plain_up result ≡ (table.came_of (table.leaving unit.old unit.old.own)).sent }
 {
     match unit.own {
         Own::Idle => None,
@@ -30,7 +32,7 @@ pub fn leaving(unit: &mut UnitState) -> Sent
 /// Leave from a place of the program that holds the device.
 fn leaving_from(unit: &mut UnitState, side: Side, number: u64, place: Place) -> Sent
     ensures state { unit.new ≡ table.unit_after unit.old (table.leaving_from unit.old side number place) }
-    ensures sent { map_sent lent_up result ≡ (table.came_of (table.leaving_from unit.old side number place)).sent }
+    ensures sent { map_sent plain_up result ≡ (table.came_of (table.leaving_from unit.old side number place)).sent }
 {
     match place {
         Place::On { path, connection } => {
@@ -42,7 +44,7 @@ fn leaving_from(unit: &mut UnitState, side: Side, number: u64, place: Place) -> 
             mark_again(&mut unit.at_hand);
             Some(OnPath {
                 path,
-                signal: Up::Leave { number, connection },
+                signal: PlainUp::of(Up::Leave { number, connection }),
             })
         }
         _ => None,
@@ -62,7 +64,7 @@ fn mark_again(at_hand: &mut Option<AtHand>)
 pub fn asking(unit: &mut UnitState, path: Path) -> Sent
     requires { words.last_connection unit.old.own < 2 ^ 63 }
     ensures state { unit.new ≡ table.unit_after unit.old (table.asking unit.old unit.old.own path) }
-    ensures sent { map_sent lent_up result ≡ (table.came_of (table.asking unit.old unit.old.own path)).sent }
+    ensures sent { map_sent plain_up result ≡ (table.came_of (table.asking unit.old unit.old.own path)).sent }
 {
     match unit.own {
         Own::Owned {
@@ -78,7 +80,7 @@ pub fn asking(unit: &mut UnitState, path: Path) -> Sent
             };
             Some(OnPath {
                 path,
-                signal: Up::Back { number, connection },
+                signal: PlainUp::of(Up::Back { number, connection }),
             })
         }
         _ => None,
@@ -89,7 +91,7 @@ pub fn asking(unit: &mut UnitState, path: Path) -> Sent
 pub fn attending(unit: &mut UnitState, side: Side, path: Path) -> Sent
     requires { unit.old.attentions < 2 ^ 63 }
     ensures state { unit.new ≡ table.unit_after unit.old (table.attending unit.old side path) }
-    ensures sent { map_sent lent_up result ≡ (table.came_of (table.attending unit.old side path)).sent }
+    ensures sent { map_sent plain_up result ≡ (table.came_of (table.attending unit.old side path)).sent }
 {
     if !is_idle(unit.own) || side_of(unit, side).fresh {
         return None;
@@ -101,10 +103,10 @@ pub fn attending(unit: &mut UnitState, side: Side, path: Path) -> Sent
     unit.end_owed = false;
     Some(OnPath {
         path,
-        signal: Up::Attn {
+        signal: PlainUp::of(Up::Attn {
             attention: number,
             status,
-        },
+        }),
     })
 }
 
@@ -140,14 +142,14 @@ pub fn restart(unit: &mut UnitState)
 
 /// Notice: of a side that is fresh.
 pub fn noticing(unit: &UnitState, side: Side, path: Path) -> Sent
-    ensures { map_sent lent_up result ≡ (table.came_of (table.noticing unit.now side path)).sent }
+    ensures { map_sent plain_up result ≡ (table.came_of (table.noticing unit.now side path)).sent }
 {
     if side_of(unit, side).fresh {
         Some(OnPath {
             path,
-            signal: Up::Notice {
+            signal: PlainUp::of(Up::Notice {
                 restarts: unit.restarts,
-            },
+            }),
         })
     } else {
         None

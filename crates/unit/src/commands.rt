@@ -3,13 +3,15 @@
 ghost use Rattle.std.specs.Prelude.{◌≡◌, ◌≤◌, IfSome, None, length};
 ghost use Rattle.chan_model.specs.UnitTable as table;
 ghost use Rattle.chan_model.specs.Parts as table_parts;
-ghost use Rattle.chan_model.specs.Signals.{lent_down, lent_up, map_taken};
+ghost use Rattle.chan_model.specs.Lent.{lent_down, plain_up};
+ghost use Rattle.chan_model.specs.Signals.{map_taken};
 ghost use Rattle.unit.specs.UnitWords as words;
 
 use crate::parts::{Came, follows, is_owner, is_owner_on};
 use chan_model::chunk::Chunk;
+use chan_model::lent::LentDown;
 use chan_model::names::Side;
-use chan_model::signal::{Down, LentDown, Taken};
+use chan_model::signal::{Down, Taken};
 use chan_model::unit_state::{AtHand, Progress, UnitState};
 
 /// Command: the next of the program that holds the device.
@@ -22,7 +24,7 @@ pub fn commanded(
     room: u16,
 ) -> Came
     ensures state { unit.new ≡ table.unit_after unit.old (table.commanded unit.old side number command code room) }
-    ensures came { map_taken lent_up result ≡ table.came_of (table.commanded unit.old side number command code room) }
+    ensures came { map_taken plain_up result ≡ table.came_of (table.commanded unit.old side number command code room) }
 {
     if is_owner(unit, side, number) && follows(command, unit.last_command) {
         unit.last_command = command;
@@ -55,7 +57,7 @@ fn new_command(code: u8, room: u16) -> AtHand
 pub fn is_of_command(unit: &UnitState, side: Side, signal: &LentDown<'_>) -> bool
     ensures { result ≡ words.is_of_command unit.now side (lent_down signal.now) }
 {
-    match *signal {
+    match *signal.kept {
         Down::Took {
             number,
             command,
@@ -75,7 +77,7 @@ pub fn is_of_command(unit: &UnitState, side: Side, signal: &LentDown<'_>) -> boo
 pub fn given(unit: &mut UnitState, sequence: u64, bytes: &[u8]) -> Came
     requires { length bytes.now ≤ 256 }
     ensures state { unit.new ≡ table.unit_after unit.old (table.given_next unit.old unit.old.at_hand sequence bytes.now) }
-    ensures came { map_taken lent_up result ≡ table.came_of (table.given_next unit.old unit.old.at_hand sequence bytes.now) }
+    ensures came { map_taken plain_up result ≡ table.came_of (table.given_next unit.old unit.old.at_hand sequence bytes.now) }
 {
     match &mut unit.at_hand {
         Some(command) if follows(sequence, command.sequence) => {
@@ -123,7 +125,7 @@ pub fn forget(kept: &mut Option<Chunk>)
 /// Took of the last chunk of the command at hand, where its Data is not answered.
 pub fn answered(unit: &mut UnitState, sequence: u64, room: u16) -> Came
     ensures state { unit.new ≡ table.unit_after unit.old (table.answered_last unit.old unit.old.at_hand sequence room) }
-    ensures came { map_taken lent_up result ≡ table.came_of (table.answered_last unit.old unit.old.at_hand sequence room) }
+    ensures came { map_taken plain_up result ≡ table.came_of (table.answered_last unit.old unit.old.at_hand sequence room) }
 {
     match &mut unit.at_hand {
         Some(command) if sequence == command.sequence && command.unanswered.is_some() => {

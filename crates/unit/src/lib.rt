@@ -9,15 +9,17 @@ mod signals;
 mod works;
 
 ghost use Rattle.std.specs.Prelude.{◌≡◌, ◌<◌, ◌≤◌, ◌^◌, ◌||◌, ℕ, Bool, IfSome, MatchOption, None, is_some, length};
-ghost use Rattle.chan_model.specs.Signals.{lent_down, lent_up, map_sent, map_taken};
+ghost use Rattle.chan_model.specs.Lent.{lent_down, lent_up, plain_up};
+ghost use Rattle.chan_model.specs.Signals.{map_sent, map_taken};
 ghost use Rattle.chan_model.specs.UnitReports as reports;
 ghost use Rattle.chan_model.specs.UnitTable as table;
 ghost use Rattle.chan_model.specs.Reports.{lent_works};
 ghost use Rattle.unit.specs.UnitWords as words;
 
+use chan_model::lent::{LentDown, LentUp, PlainUp};
 use chan_model::names::{Path, Side};
 use chan_model::report::{LentWork, Report, ReportPath, Work};
-use chan_model::signal::{KeptUp, LentDown, LentUp, OnPath, Taken};
+use chan_model::signal::{KeptUp, OnPath, Taken};
 use chan_model::unit_state::{Own, Place, SideState, UnitState};
 use std::marker::Model;
 
@@ -88,9 +90,9 @@ impl Unit {
         path: Path,
         signal: &LentDown<'_>,
         may: bool,
-    ) -> Taken<LentUp<'static>>
+    ) -> Taken<PlainUp>
         ensures state { self.new ≡ table.unit_after self.old (table.unit_takes self.old side path (lent_down signal.now) may) }
-        ensures came { map_taken lent_up result ≡ table.came_of (table.unit_takes self.old side path (lent_down signal.now) may) }
+        ensures came { map_taken plain_up result ≡ table.came_of (table.unit_takes self.old side path (lent_down signal.now) may) }
 
         // An answer goes by the path of the signal; the other side is left as it was.
         ensures path { IfSome result.sent (λ sent. sent.path ≡ path) }
@@ -123,7 +125,7 @@ impl Unit {
     }
 
     /// What came of the last report, the bytes of its Data lent.
-    pub fn lend(&self, came: &Taken<KeptUp>) -> Taken<LentUp<'_>>
+    pub fn lend<'a>(&'a self, came: &'a Taken<KeptUp>) -> Taken<LentUp<'a>>
         requires { words.AreAtHand self.now.at_hand came.now }
         ensures { map_taken lent_up result ≡ words.reported self.now.at_hand came.now }
     {
@@ -184,27 +186,27 @@ impl Unit {
     }
 
     /// Leaves the path of its program, which works on. None where no program is connected, and then nothing changes.
-    pub fn leave(&mut self) -> Option<OnPath<LentUp<'static>>>
+    pub fn leave(&mut self) -> Option<OnPath<PlainUp>>
         ensures state { self.new ≡ table.unit_after self.old (table.leaving self.old self.old.own) }
-        ensures sent { map_sent lent_up result ≡ (table.came_of (table.leaving self.old self.old.own)).sent }
+        ensures sent { map_sent plain_up result ≡ (table.came_of (table.leaving self.old self.old.own)).sent }
     {
         acts::leaving(&mut self.state)
     }
 
     /// Asks for a path. None where no program is without one, and then nothing changes.
-    pub fn ask(&mut self, path: Path) -> Option<OnPath<LentUp<'static>>>
+    pub fn ask(&mut self, path: Path) -> Option<OnPath<PlainUp>>
         requires { words.last_connection self.old.own < 2 ^ 63 }
         ensures state { self.new ≡ table.unit_after self.old (table.asking self.old self.old.own path) }
-        ensures sent { map_sent lent_up result ≡ (table.came_of (table.asking self.old self.old.own path)).sent }
+        ensures sent { map_sent plain_up result ≡ (table.came_of (table.asking self.old self.old.own path)).sent }
     {
         acts::asking(&mut self.state, path)
     }
 
     /// Asks a side for attention. None where a program holds the device or the side is fresh, and then nothing changes.
-    pub fn attention(&mut self, side: Side, path: Path) -> Option<OnPath<LentUp<'static>>>
+    pub fn attention(&mut self, side: Side, path: Path) -> Option<OnPath<PlainUp>>
         requires { self.old.attentions < 2 ^ 63 }
         ensures state { self.new ≡ table.unit_after self.old (table.attending self.old side path) }
-        ensures sent { map_sent lent_up result ≡ (table.came_of (table.attending self.old side path)).sent }
+        ensures sent { map_sent plain_up result ≡ (table.came_of (table.attending self.old side path)).sent }
     {
         acts::attending(&mut self.state, side, path)
     }
@@ -225,8 +227,8 @@ impl Unit {
     }
 
     /// Tells a side that is fresh how often it was restarted. None where the side is not fresh.
-    pub fn notice(&self, side: Side, path: Path) -> Option<OnPath<LentUp<'static>>>
-        ensures { map_sent lent_up result ≡ (table.came_of (table.noticing self.now side path)).sent }
+    pub fn notice(&self, side: Side, path: Path) -> Option<OnPath<PlainUp>>
+        ensures { map_sent plain_up result ≡ (table.came_of (table.noticing self.now side path)).sent }
     {
         acts::noticing(&self.state, side, path)
     }

@@ -4,15 +4,16 @@ ghost use Rattle.std.specs.Prelude.{◌≡◌, ◌==◌, ◌+◌};
 ghost use Rattle.chan_model.specs.UnitTable as table;
 ghost use Rattle.chan_model.specs.Parts as table_parts;
 
+use chan_model::lent::PlainUp;
 use chan_model::names::{Path, Side};
-use chan_model::signal::{LentUp, OnPath, Taken};
+use chan_model::signal::{OnPath, Taken};
 use chan_model::unit_state::{Own, Place, SideState, UnitState};
 
 /// What came of a signal; none of those that the unit answers with has bytes.
-pub type Came = Taken<LentUp<'static>>;
+pub type Came = Taken<PlainUp>;
 
 /// What the unit sends of itself; it has no bytes.
-pub type Sent = Option<OnPath<LentUp<'static>>>;
+pub type Sent = Option<OnPath<PlainUp>>;
 
 /// What is kept of a side.
 pub fn side_of(unit: &UnitState, side: Side) -> SideState

@@ -4,7 +4,8 @@ ghost use Rattle.std.specs.Prelude.{◌≡◌, ◌<◌, ◌≤◌, ◌==◌, ◌
 ghost use Rattle.chan_model.specs.UnitReports as reports;
 ghost use Rattle.chan_model.specs.Parts as parts;
 ghost use Rattle.chan_model.specs.Sides.{same_side};
-ghost use Rattle.chan_model.specs.Signals.{kept_length, lent_up, load_bytes, load_in, map_taken};
+ghost use Rattle.chan_model.specs.Lent.{lent_up};
+ghost use Rattle.chan_model.specs.Signals.{kept_length, load_bytes, load_in, map_taken};
 ghost use Rattle.chan_model.specs.UnitTable as table;
 ghost use Rattle.chan_model.specs.declared.signal.Up.TheVariants as up;
 ghost use Rattle.chan_model.specs.declared.unit_state.Place.TheVariants.{On};
@@ -13,9 +14,10 @@ ghost use Rattle.unit.specs.UnitWords as words;
 use crate::commands::forget;
 use bitflags::Flags;
 use chan_model::chunk::{Chunk, ChunkLength};
+use chan_model::lent::LentUp;
 use chan_model::names::{Path, Side};
 use chan_model::report::{DeviceAnswer, Report, ReportPath};
-use chan_model::signal::{KeptUp, LentUp, Load, OnPath, Taken, Up};
+use chan_model::signal::{KeptUp, Load, OnPath, Taken, Up};
 use chan_model::unit_state::{AtHand, Own, Place, Progress, UnitState};
 use scsw_irb::status::DeviceStatus;
 
@@ -294,7 +296,7 @@ fn unanswered(unit: &UnitState) -> &[u8]
 }
 
 /// What came of a report, the bytes of its Data lent.
-pub fn lend<'a>(unit: &'a UnitState, came: &Taken<KeptUp>) -> Taken<LentUp<'a>>
+pub fn lend<'a>(unit: &'a UnitState, came: &'a Taken<KeptUp>) -> Taken<LentUp<'a>>
     requires { words.AreAtHand unit.now.at_hand came.now }
     ensures { map_taken lent_up result ≡ words.reported unit.now.at_hand came.now }
 {

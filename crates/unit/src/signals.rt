@@ -5,21 +5,23 @@ ghost use Rattle.chan_model.specs.UnitTable as table;
 ghost use Rattle.chan_model.specs.Parts as table_parts;
 ghost use Rattle.chan_model.specs.declared.signal.Down.TheVariants as down;
 ghost use Rattle.chan_model.specs.declared.signal.Up.TheVariants as up;
-ghost use Rattle.chan_model.specs.Signals.{lent_down, lent_up, map_taken};
+ghost use Rattle.chan_model.specs.Lent.{lent_down, plain_up};
+ghost use Rattle.chan_model.specs.Signals.{map_taken};
 ghost use Rattle.unit.specs.UnitWords as words;
 
 use crate::commands::{answered, commanded, given, is_of_command};
 use crate::parts::{Came, free, is_owner, keep_side, owns, side_of};
+use chan_model::lent::{LentDown, PlainUp};
 use chan_model::names::{Path, Side};
-use chan_model::signal::{Down, LentDown, Taken, Up};
+use chan_model::signal::{Down, Taken, Up};
 use chan_model::unit_state::{Own, Place, SideState, UnitState};
 
 /// A signal of a side that came by a path.
 pub fn takes(unit: &mut UnitState, side: Side, path: Path, signal: &LentDown<'_>, may: bool) -> Came
     ensures state { unit.new ≡ table.unit_after unit.old (table.unit_takes unit.old side path (lent_down signal.now) may) }
-    ensures came { map_taken lent_up result ≡ table.came_of (table.unit_takes unit.old side path (lent_down signal.now) may) }
+    ensures came { map_taken plain_up result ≡ table.came_of (table.unit_takes unit.old side path (lent_down signal.now) may) }
 {
-    if let Down::Reset { number, restarts } = *signal {
+    if let Down::Reset { number, restarts } = *signal.kept {
         reset(unit, side, path, number, restarts)
     } else if side_of(unit, side).fresh {
         telling(unit, path)
@@ -31,9 +33,9 @@ pub fn takes(unit: &mut UnitState, side: Side, path: Path, signal: &LentDown<'_>
 /// A signal of a side that is not fresh, but Reset.
 fn works(unit: &mut UnitState, side: Side, path: Path, signal: &LentDown<'_>, may: bool) -> Came
     ensures state { unit.new ≡ table.unit_after unit.old (table.unit_works unit.old side path (lent_down signal.now) may) }
-    ensures came { map_taken lent_up result ≡ table.came_of (table.unit_works unit.old side path (lent_down signal.now) may) }
+    ensures came { map_taken plain_up result ≡ table.came_of (table.unit_works unit.old side path (lent_down signal.now) may) }
 {
-    match *signal {
+    match *signal.kept {
         Down::Select { number } => offered(unit, side, path, number, may),
         Down::Command {
             code,
@@ -58,20 +60,20 @@ fn works(unit: &mut UnitState, side: Side, path: Path, signal: &LentDown<'_>, ma
 
 /// In a side that is fresh: how often the device was restarted.
 fn telling(unit: &UnitState, path: Path) -> Came
-    ensures { map_taken lent_up result ≡ table.came_of (table.telling unit.now path) }
+    ensures { map_taken plain_up result ≡ table.came_of (table.telling unit.now path) }
 {
     Taken::sending(
         path,
-        Up::Notice {
+        PlainUp::of(Up::Notice {
             restarts: unit.restarts,
-        },
+        }),
     )
 }
 
 /// Select: ignored at or below the floor of its side.
 fn offered(unit: &mut UnitState, side: Side, path: Path, number: u64, may: bool) -> Came
     ensures state { unit.new ≡ table.unit_after unit.old (table.unit_works unit.old side path (down.Select number) may) }
-    ensures came { map_taken lent_up result ≡ table.came_of (table.unit_works unit.old side path (down.Select number) may) }
+    ensures came { map_taken plain_up result ≡ table.came_of (table.unit_works unit.old side path (down.Select number) may) }
 {
     let own = unit.own;
     if side_of(unit, side).floor < number {
@@ -100,14 +102,14 @@ fn raise(unit: &mut UnitState, side: Side, number: u64)
 /// Select above the floor: accepted where nothing holds the device and the control unit may serve it.
 fn selected(unit: &mut UnitState, own: Own, side: Side, path: Path, number: u64, may: bool) -> Came
     ensures state { unit.new ≡ table.unit_after unit.old (table.selected unit.old own side path number may) }
-    ensures came { map_taken lent_up result ≡ table.came_of (table.selected unit.old own side path number may) }
+    ensures came { map_taken plain_up result ≡ table.came_of (table.selected unit.old own side path number may) }
 {
     match own {
         Own::Idle if may => {
             hold(unit, side, path, number);
-            Taken::sending(path, Up::Accept { number })
+            Taken::sending(path, PlainUp::of(Up::Accept { number }))
         }
-        _ => Taken::sending(path, Up::Busy { number }),
+        _ => Taken::sending(path, PlainUp::of(Up::Busy { number })),
     }
 }
 
@@ -129,7 +131,7 @@ fn hold(unit: &mut UnitState, side: Side, path: Path, number: u64)
 /// Grant: of the connection asked for; an older one is answered by Leave.
 fn granted(unit: &mut UnitState, side: Side, path: Path, number: u64, connection: u64) -> Came
     ensures state { unit.new ≡ table.unit_after unit.old (table.granted unit.old unit.old.own side path number connection) }
-    ensures came { map_taken lent_up result ≡ table.came_of (table.granted unit.old unit.old.own side path number connection) }
+    ensures came { map_taken plain_up result ≡ table.came_of (table.granted unit.old unit.old.own side path number connection) }
 {
     let own = unit.own;
     match own {
@@ -154,7 +156,7 @@ fn granted_at(
     connection: u64,
 ) -> Came
     ensures state { unit.new ≡ table.unit_after unit.old (table.granted_at unit.old side number place path connection) }
-    ensures came { map_taken lent_up result ≡ table.came_of (table.granted_at unit.old side number place path connection) }
+    ensures came { map_taken plain_up result ≡ table.came_of (table.granted_at unit.old side number place path connection) }
 {
     match place {
         Place::Ask {
@@ -185,12 +187,12 @@ fn granted_at(
 
 /// Grant of an older connection than the last.
 fn granted_late(number: u64, path: Path, connection: u64, last: u64) -> Came
-    ensures { map_taken lent_up result ≡ (if nat_lt connection last
+    ensures { map_taken plain_up result ≡ (if nat_lt connection last
         then record { taken = true; sent = Some (record { path = path; signal = up.Leave number connection }) }
         else record { taken = false; sent = None }) }
 {
     if connection < last {
-        Taken::sending(path, Up::Leave { number, connection })
+        Taken::sending(path, PlainUp::of(Up::Leave { number, connection }))
     } else {
         Taken::ignored()
     }
@@ -199,7 +201,7 @@ fn granted_late(number: u64, path: Path, connection: u64, last: u64) -> Came
 /// Refuse: of the connection asked for.
 fn refused(unit: &mut UnitState, side: Side, number: u64, connection: u64) -> Came
     ensures state { unit.new ≡ table.unit_after unit.old (table.grant_refused unit.old unit.old.own side number connection) }
-    ensures came { map_taken lent_up result ≡ table.came_of (table.grant_refused unit.old unit.old.own side number connection) }
+    ensures came { map_taken plain_up result ≡ table.came_of (table.grant_refused unit.old unit.old.own side number connection) }
 {
     match unit.own {
         Own::Owned {
@@ -224,7 +226,7 @@ fn refused(unit: &mut UnitState, side: Side, number: u64, connection: u64) -> Ca
 /// Halt: once for a program.
 fn halting(unit: &mut UnitState, side: Side, number: u64) -> Came
     ensures state { unit.new ≡ table.unit_after unit.old (table_parts.unit_halting unit.old side number) }
-    ensures came { map_taken lent_up result ≡ table.came_of (table_parts.unit_halting unit.old side number) }
+    ensures came { map_taken plain_up result ≡ table.came_of (table_parts.unit_halting unit.old side number) }
 {
     if is_owner(unit, side, number) && !unit.halted {
         unit.halted = true;
@@ -237,11 +239,11 @@ fn halting(unit: &mut UnitState, side: Side, number: u64) -> Came
 /// Release: by the program that holds the device.
 fn releasing(unit: &mut UnitState, side: Side, path: Path, number: u64) -> Came
     ensures state { unit.new ≡ table.unit_after unit.old (table_parts.releasing unit.old side path number) }
-    ensures came { map_taken lent_up result ≡ table.came_of (table_parts.releasing unit.old side path number) }
+    ensures came { map_taken plain_up result ≡ table.came_of (table_parts.releasing unit.old side path number) }
 {
     if is_owner(unit, side, number) {
         free(unit);
-        Taken::sending(path, Up::Released { number })
+        Taken::sending(path, PlainUp::of(Up::Released { number }))
     } else {
         Taken::ignored()
     }
@@ -250,11 +252,11 @@ fn releasing(unit: &mut UnitState, side: Side, path: Path, number: u64) -> Came
 /// Reset: taken with the device's own restart count, where its side is fresh or its number above the floor.
 fn reset(unit: &mut UnitState, side: Side, path: Path, number: u64, restarts: u64) -> Came
     ensures state { unit.new ≡ table.unit_after unit.old (table.unit_takes unit.old side path (down.Reset number restarts) false) }
-    ensures came { map_taken lent_up result ≡ table.came_of (table.unit_takes unit.old side path (down.Reset number restarts) false) }
+    ensures came { map_taken plain_up result ≡ table.came_of (table.unit_takes unit.old side path (down.Reset number restarts) false) }
 {
     if resets(unit, side, number, restarts) {
         reset_side(unit, side, number);
-        Taken::sending(path, Up::Cleared { number })
+        Taken::sending(path, PlainUp::of(Up::Cleared { number }))
     } else if side_of(unit, side).fresh {
         telling(unit, path)
     } else {
@@ -290,7 +292,7 @@ fn reset_side(unit: &mut UnitState, side: Side, number: u64)
 /// Got: of the attention that is not answered.
 fn forgetting(unit: &mut UnitState, side: Side, attention: u64) -> Came
     ensures state { unit.new ≡ table.unit_after unit.old (table.forgetting unit.old unit.old.attention side attention) }
-    ensures came { map_taken lent_up result ≡ table.came_of (table.forgetting unit.old unit.old.attention side attention) }
+    ensures came { map_taken plain_up result ≡ table.came_of (table.forgetting unit.old unit.old.attention side attention) }
 {
     match unit.attention {
         Some(last) if last.side.same(side) && attention == last.number => {
@@ -305,7 +307,7 @@ fn forgetting(unit: &mut UnitState, side: Side, attention: u64) -> Came
 pub fn answers(unit: &UnitState, side: Side, signal: &LentDown<'_>) -> bool
     ensures { result ≡ words.is_unit_answered unit.now side (lent_down signal.now) }
 {
-    if let Down::Reset { number, restarts } = *signal {
+    if let Down::Reset { number, restarts } = *signal.kept {
         resets(unit, side, number, restarts) || side_of(unit, side).fresh
     } else {
         side_of(unit, side).fresh || is_work_answered(unit, side, signal)
@@ -316,7 +318,7 @@ pub fn answers(unit: &UnitState, side: Side, signal: &LentDown<'_>) -> bool
 fn is_work_answered(unit: &UnitState, side: Side, signal: &LentDown<'_>) -> bool
     ensures { result ≡ is_some (table.came_of (table.unit_works unit.now side 0 (lent_down signal.now) false)).sent }
 {
-    match *signal {
+    match *signal.kept {
         Down::Select { number } => side_of(unit, side).floor < number,
         Down::Grant { number, connection } => is_granted_late(unit, side, number, connection),
         Down::Release { number } => is_owner(unit, side, number),

@@ -14,13 +14,13 @@ mod ups;
 
 ghost use Rattle.std.specs.Prelude.{◌≡◌, ◌<◌, ◌↔◌, None, Some, IfOk, IsTrue, IsSome, MatchOption, OnErr, OnOk, length, true};
 ghost use Rattle.std.specs.Bool.{OnFalse};
-ghost use Rattle.chan_model.specs.Signals.{lent_down, lent_up};
+ghost use Rattle.chan_model.specs.Lent.{lent_down, lent_up};
 ghost use Rattle.wires.specs.Queues.{no_queues, queue, first_of, sent, taken, lost};
 
 use crate::downs::Downs;
 use crate::ups::Ups;
+use chan_model::lent::{LentDown, LentUp};
 use chan_model::names::Path;
-use chan_model::signal::{LentDown, LentUp};
 use std::alloc::{AllocError, Global};
 use std::marker::Model;
 use supply::{Given, Supply};

@@ -2,9 +2,9 @@
 
 ghost use Rattle.std.specs.Prelude.{◌≡◌, ◌<◌, ◌↔◌, [], ◌∷◌, ◌++◌, None, Some, IfOk, IsTrue, IsSome, MatchOption, OnErr, OnOk, length, replicate, slice_get, drop, true};
 ghost use Rattle.std.specs.Bool.{OnFalse};
-ghost use Rattle.chan_model.specs.Signals.{lent_up};
+ghost use Rattle.chan_model.specs.Lent.{lent_up};
 
-use chan_model::signal::LentUp;
+use chan_model::lent::LentUp;
 use chan_model::slots::UpSlot;
 use std::alloc::{AllocError, Global};
 use std::marker::Model;

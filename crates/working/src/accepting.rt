@@ -2,7 +2,7 @@
 
 ghost use Rattle.std.specs.Prelude.{◌≡◌, ◌<◌, ◌^◌, is_some};
 ghost use Rattle.chan_model.specs.HoldTable.{hold_takes};
-ghost use Rattle.chan_model.specs.Signals.{lent_down, lent_up};
+ghost use Rattle.chan_model.specs.Lent.{lent_up, plain_down};
 ghost use Rattle.working.specs.Sent.{came_so};
 ghost use Rattle.subchannel_model.specs.Causes.{with_cause};
 ghost use Rattle.subchannel_model.specs.Taking as spec;
@@ -19,8 +19,9 @@ use ccw_walk::Walk;
 use ccw_walk::check::Check;
 use ccw_walk::program::Advance;
 use chan_model::hold_state::HoldPhase;
+use chan_model::lent::{LentUp, PlainDown};
 use chan_model::names::Path;
-use chan_model::signal::{Down, LentDown, LentUp};
+use chan_model::signal::Down;
 use hold::Hold;
 use scsw_irb::scsw::Scsw;
 use status::make_pending;
@@ -131,17 +132,17 @@ fn take_over(state: &mut SubchannelState, program: Program, transfer: Transfer)
 }
 
 /// The room for the first bytes of a program's first command is found, and its device is told of both.
-fn tell_first(storage: &Storage, begun: &mut ActiveProgram, number: u64) -> LentDown<'static>
+fn tell_first(storage: &Storage, begun: &mut ActiveProgram, number: u64) -> PlainDown
     ensures begun { begun.new ≡ record begun.old { transfer = (transfer_spec.begun_with_room storage.now begun.old.transfer).transfer } }
-    ensures signal { lent_down result ≡ down.Command number begun.new.transfer.command begun.new.transfer.code (transfer_spec.begun_with_room storage.now begun.old.transfer).room }
+    ensures signal { plain_down result ≡ down.Command number begun.new.transfer.command begun.new.transfer.code (transfer_spec.begun_with_room storage.now begun.old.transfer).room }
 {
     let room = room_to_tell(storage, &mut begun.transfer);
-    Down::Command {
+    PlainDown::of(Down::Command {
         number,
         command: begun.transfer.command,
         code: begun.transfer.code,
         room,
-    }
+    })
 }
 
 /// The program takes the device with its first command, of which the device is told.
@@ -160,7 +161,7 @@ fn send_first(
     take_over(state, program, first);
     if let Some(begun) = &mut state.begun {
         let signal = tell_first(storage, begun, number);
-        sent.put(path, &signal);
+        sent.put(path, &signal.lend());
     }
     interrupt(state);
     true

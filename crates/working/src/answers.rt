@@ -2,14 +2,16 @@
 
 ghost use Rattle.std.specs.Prelude.{◌≡◌, None, Some};
 ghost use Rattle.chan_model.specs.HoldTable.{came_of, hold_after, hold_takes};
-ghost use Rattle.chan_model.specs.Signals.{lent_down, lent_up};
+ghost use Rattle.chan_model.specs.Lent.{lent_down, lent_up};
 ghost use Rattle.working.specs.Sent.{came_so};
 ghost use Rattle.subchannel_model.specs.Taking as spec;
 ghost use Rattle.working.specs.Stepping.{not_taken, subchannel_stepped, taken_with};
 
 use crate::sent::SentDown;
+use chan_model::lent::{LentDown, LentUp};
+use chan_model::lent_forms::lend_down;
 use chan_model::names::Path;
-use chan_model::signal::{LentDown, LentUp, OnPath};
+use chan_model::signal::OnPath;
 use hold::Hold;
 use subchannel_model::state::SubchannelState;
 
@@ -48,7 +50,7 @@ pub fn take_by(
     let came = hold.take(path, signal, may);
     match &came.sent {
         None => sent.clear(),
-        Some(OnPath { path, signal }) => sent.put(*path, signal),
+        Some(OnPath { path, signal }) => sent.put(*path, &signal.lend()),
     }
     came.taken
 }
@@ -59,7 +61,7 @@ pub(crate) fn let_go(state: &mut SubchannelState, sent: &mut SentDown) -> bool
     let mut hold = Hold::of(state.hold);
     let released = hold.let_go();
     state.hold = hold.state();
-    sent.put_any(&released);
+    sent.put_any(&lend_down(&released));
     true
 }
 

@@ -1,7 +1,7 @@
 //! What a subchannel does as a command ends.
 
 ghost use Rattle.std.specs.Prelude.{◌≡◌, ◌<◌, ◌^◌, IfSome};
-ghost use Rattle.chan_model.specs.Signals.{lent_up};
+ghost use Rattle.chan_model.specs.Lent.{lent_up};
 ghost use Rattle.working.specs.Sent.{came_so};
 ghost use Rattle.subchannel_model.specs.Causes.{with_cause};
 ghost use Rattle.subchannel_model.specs.Ends as end_spec;
@@ -20,8 +20,9 @@ use allegiance::allegiances;
 use allegiance::allegiances::dedicated;
 use ccw_walk::Walk;
 use ccw_walk::check::Check;
+use chan_model::lent::{LentUp, PlainDown};
 use chan_model::names::Path;
-use chan_model::signal::{Down, LentUp, Up};
+use chan_model::signal::{Down, Up};
 use hold::Hold;
 use status::ends::{chains_command, is_last_end};
 use status::{make_end_pending, make_pending};
@@ -36,7 +37,7 @@ use transfer::{CommandStart, WithRoom};
 pub fn end_by(path: Path, signal: &LentUp<'_>) -> Option<EndSignal>
     ensures { result ≡ working_spec.end_by path (lent_up signal.now) }
 {
-    match *signal {
+    match *signal.kept {
         Up::End {
             number,
             command,
@@ -94,14 +95,14 @@ fn send_next(
         parts.sends_next state.old (spec.with_end b) end.now command) }
 {
     let WithRoom { transfer, room } = command;
-    let next = Down::Command {
+    let next = PlainDown::of(Down::Command {
         number: end.number,
         command: transfer.command,
         code: transfer.code,
         room,
-    };
+    });
     move_on(state, transfer);
-    send(sent, end.path, &next)
+    send(sent, end.path, &next.lend())
 }
 
 /// The program is suspended instead of going on.

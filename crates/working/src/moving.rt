@@ -1,7 +1,8 @@
 //! What a subchannel does with the Data of a command.
 
 ghost use Rattle.std.specs.Prelude.{◌≡◌, ◌<◌, ◌≤◌, ◌^◌, IfSome, length};
-ghost use Rattle.chan_model.specs.Signals.{lent_up, load_bytes, load_of};
+ghost use Rattle.chan_model.specs.Lent.{lent_up};
+ghost use Rattle.chan_model.specs.Signals.{load_bytes, load_of};
 ghost use Rattle.working.specs.Sent.{came_so};
 ghost use Rattle.chan_model.specs.Loads.{load_length};
 ghost use Rattle.chan_model.specs.UnitReports.{is_outward as is_outward_code};
@@ -15,9 +16,10 @@ use crate::answers::ignored;
 use crate::intermediate::interrupt;
 use crate::sent::SentDown;
 use allegiance::allegiances::{AllegianceCause, dedicated};
-use chan_model::chunk::Bytes;
+use chan_model::chunk::ChunkLength;
+use chan_model::lent::{LentUp, PlainDown};
 use chan_model::names::Path;
-use chan_model::signal::{Down, LentUp, Load, Up};
+use chan_model::signal::{Down, Load, Up};
 use hold::Hold;
 use storage_keys::Storage;
 use subchannel_model::signals::DataSignal;
@@ -30,7 +32,7 @@ use transfer::commands::{find_room, is_outward};
 pub fn data_by(path: Path, signal: &LentUp<'_>) -> Option<DataSignal>
     ensures { result ≡ working_spec.data_by path (lent_up signal.now) }
 {
-    match *signal {
+    match *signal.kept {
         Up::Data {
             number,
             connection,
@@ -91,16 +93,14 @@ fn give(
 {
     absorb(storage, &mut begun.transfer, moved.sequence, count);
     let bytes = give_next(storage, &mut begun.transfer);
-    sent.put(
-        moved.path,
-        &Down::Give {
-            number: moved.number,
-            connection: moved.connection,
-            command: moved.command,
-            sequence: moved.sequence + 1,
-            bytes: Bytes::of(bytes.as_slice()),
-        },
-    );
+    let signal = Down::Give {
+        bytes: ChunkLength::of(bytes.as_slice()),
+        number: moved.number,
+        connection: moved.connection,
+        command: moved.command,
+        sequence: moved.sequence + 1,
+    };
+    sent.put(moved.path, &signal.lend(bytes.as_slice()));
 }
 
 /// The bytes that the device supplied are stored; it is told how many more may come.
@@ -118,15 +118,13 @@ fn take_in(
 {
     bring(storage, &mut begun.transfer, moved.sequence, bytes);
     let room = find_room(storage, &mut begun.transfer);
-    sent.put(
-        moved.path,
-        &Down::Took {
-            number: moved.number,
-            command: moved.command,
-            sequence: moved.sequence,
-            room,
-        },
-    );
+    let signal = PlainDown::of(Down::Took {
+        number: moved.number,
+        command: moved.command,
+        sequence: moved.sequence,
+        room,
+    });
+    sent.put(moved.path, &signal.lend());
 }
 
 /// How many bytes a Data is of.

@@ -1,11 +1,13 @@
 //! A place for a signal that may be sent on a path.
 
 ghost use Rattle.std.specs.Prelude.{◌≡◌, None, Some};
-ghost use Rattle.chan_model.specs.Signals.{lent_down, map_sent};
+ghost use Rattle.chan_model.specs.Lent.{lent_down};
+ghost use Rattle.chan_model.specs.Signals.{map_sent};
 ghost use Rattle.working.specs.Sent.{sent_path};
 
+use chan_model::lent::LentDown;
 use chan_model::names::Path;
-use chan_model::signal::{Down, LentDown, OnPath};
+use chan_model::signal::{Down, OnPath};
 use chan_model::slots::DownSlot;
 use std::marker::Model;
 

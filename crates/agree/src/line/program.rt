@@ -4,11 +4,13 @@ ghost use Rattle.std.specs.Prelude.{◌≡◌};
 ghost use Rattle.agree.specs.Replies as reply_spec;
 ghost use Rattle.agree.specs.Sending as spec;
 ghost use Rattle.chan_model.specs.HoldTable as table;
-ghost use Rattle.chan_model.specs.Signals.{lent_down, map_taken};
+ghost use Rattle.chan_model.specs.Lent.{plain_down};
+ghost use Rattle.chan_model.specs.Signals.{map_taken};
 
 use chan_model::hold_state::HoldPhase;
+use chan_model::lent::PlainDown;
 use chan_model::names::Path;
-use chan_model::signal::{Down, LentDown, OnPath, Taken, Up};
+use chan_model::signal::{Down, OnPath, Taken, Up};
 use hold::Hold;
 
 /// Whether the program of this number is connected on this path.
@@ -54,11 +56,12 @@ pub fn may_send(hold: &Hold, path: Path, signal: &Down) -> bool
 }
 
 /// What comes of a signal that the hold meets.
-pub fn met_by(hold: &mut Hold, signal: &OnPath<Up>, may: bool) -> Taken<LentDown<'static>>
+pub fn met_by(hold: &mut Hold, signal: &OnPath<Up>, may: bool) -> Taken<PlainDown>
     ensures state { hold.new ≡ table.hold_after hold.old (table.hold_takes hold.old signal.now.path signal.now.signal may) }
-    ensures came { map_taken lent_down result ≡ table.came_of (table.hold_takes hold.old signal.now.path signal.now.signal may) }
+    ensures came { map_taken plain_down result ≡ table.came_of (table.hold_takes hold.old signal.now.path signal.now.signal may) }
 {
-    hold.take(signal.path, &signal.signal.lend(), may)
+    let kept = signal.signal.keep();
+    hold.take(signal.path, &kept.lend(signal.signal.bytes()), may)
 }
 
 /// Whether a signal is taken, by the hold or by its program. `may` says, at Data and End, that the program waits for it.

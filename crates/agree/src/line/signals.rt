@@ -4,12 +4,14 @@ ghost use Rattle.std.specs.Prelude.{◌≡◌, ◌<◌, ◌≤◌, ◌+◌, ◌�
 ghost use Rattle.agree.specs.Lines as spec;
 ghost use Rattle.agree.specs.State as state_spec;
 ghost use Rattle.agreement_laws.specs.Links.{with_accepted};
-ghost use Rattle.chan_model.specs.Signals.{lent_up, map_sent};
+ghost use Rattle.chan_model.specs.Lent.{lent_up};
+ghost use Rattle.chan_model.specs.Signals.{map_sent};
 ghost use Rattle.chan_model.specs.declared.fault.Fault.TheVariants as fault_spec;
 
 use chan_model::fault::Fault;
+use chan_model::lent::LentUp;
 use chan_model::names::Path;
-use chan_model::signal::{Down, LentUp, OnPath, Up};
+use chan_model::signal::{Down, OnPath, Up};
 
 /// Whether a path is up.
 pub fn is_up(up: &[bool; 8], path: Path) -> bool
@@ -108,7 +110,7 @@ pub fn tell(
     ensures accepted_capacity { vec_capacity accepted.old ≤ vec_capacity accepted.new }
 {
     if let Some(signal) = sent {
-        if let Up::Accept { number } = signal.signal {
+        if let Up::Accept { number } = *signal.signal.kept {
             add(accepted, number);
         }
         if is_up(up, signal.path) {

@@ -11,6 +11,7 @@ use super::SideLine;
 use super::signals::{make_room, tell};
 use crate::reply::{WorldReply, own_up};
 use chan_model::fault::Fault;
+use chan_model::lent_forms::lend_up;
 use chan_model::names::{Path, Side};
 use chan_model::report::Report;
 use unit::Unit;
@@ -34,12 +35,15 @@ impl SideLine {
         }
         make_room(&mut self.ups, &mut self.accepted)?;
         let signal = self.downs[place].copy();
-        let came = unit.take(side, signal.path, &signal.signal.lend(), may);
+        let kept = signal.signal.keep();
+        let lent = kept.lend(signal.signal.bytes());
+        let came = unit.take(side, signal.path, &lent, may);
         if !keep {
             self.downs.remove(place);
         }
-        let answer = own_up(&came.sent);
-        tell(&mut self.ups, &mut self.accepted, &self.up, &came.sent);
+        let sent = lend_up(&came.sent);
+        let answer = own_up(&sent);
+        tell(&mut self.ups, &mut self.accepted, &self.up, &sent);
         Ok(WorldReply::Down {
             side,
             signal,
@@ -55,10 +59,11 @@ impl SideLine {
         ensures room { room_spec.LineTakes result self.old.room self.new.room }
     {
         make_room(&mut self.ups, &mut self.accepted)?;
-        let sent = unit.leave();
-        if sent.is_none() {
+        let came = unit.leave();
+        if came.is_none() {
             return Err(Fault::NotNow);
         }
+        let sent = lend_up(&came);
         let reply = WorldReply::of_unit(side, &sent);
         tell(&mut self.ups, &mut self.accepted, &self.up, &sent);
         Ok(reply)
@@ -72,10 +77,11 @@ impl SideLine {
         ensures room { room_spec.LineTakes result self.old.room self.new.room }
     {
         make_room(&mut self.ups, &mut self.accepted)?;
-        let sent = unit.ask(path);
-        if sent.is_none() {
+        let came = unit.ask(path);
+        if came.is_none() {
             return Err(Fault::NotNow);
         }
+        let sent = lend_up(&came);
         let reply = WorldReply::of_unit(side, &sent);
         tell(&mut self.ups, &mut self.accepted, &self.up, &sent);
         Ok(reply)
@@ -94,10 +100,11 @@ impl SideLine {
         ensures room { room_spec.LineTakes result self.old.room self.new.room }
     {
         make_room(&mut self.ups, &mut self.accepted)?;
-        let sent = unit.attention(side, path);
-        if sent.is_none() {
+        let came = unit.attention(side, path);
+        if came.is_none() {
             return Err(Fault::NotNow);
         }
+        let sent = lend_up(&came);
         let reply = WorldReply::of_unit(side, &sent);
         tell(&mut self.ups, &mut self.accepted, &self.up, &sent);
         Ok(reply)
@@ -110,10 +117,11 @@ impl SideLine {
         ensures room { room_spec.LineTakes result self.old.room self.new.room }
     {
         make_room(&mut self.ups, &mut self.accepted)?;
-        let sent = unit.notice(side, path);
-        if sent.is_none() {
+        let came = unit.notice(side, path);
+        if came.is_none() {
             return Err(Fault::NotNow);
         }
+        let sent = lend_up(&came);
         let reply = WorldReply::of_unit(side, &sent);
         tell(&mut self.ups, &mut self.accepted, &self.up, &sent);
         Ok(reply)

@@ -1,25 +1,28 @@
 //! What is written into a place stands there, bytes and all, whatever stood there before.
 
-use chan_model::chunk::Bytes;
+use chan_model::chunk::Chunk;
+use chan_model::lent::PlainDown;
 use chan_model::names::Path;
-use chan_model::signal::{Down, LentDown, OnPath};
+use chan_model::signal::{Down, OnPath};
 use working::sent::SentDown;
 
-/// A Give of these bytes.
-fn give(sequence: u64, bytes: Bytes<'_>) -> LentDown<'_> {
-    Down::Give {
+/// A Give of these bytes is put there.
+fn put_give(sent: &mut SentDown, path: Path, sequence: u64, bytes: Chunk) {
+    let give = Down::Give {
         number: 1,
         connection: 2,
         command: 3,
         sequence,
         bytes,
-    }
+    };
+    let kept = give.keep();
+    sent.put(path, &kept.lend(give.bytes()));
 }
 
 /// Whether the last of two Gives is put into another place, with its own bytes alone.
 fn is_last_put(sent: &mut SentDown, path: Path) -> bool {
-    sent.put(path, &give(4, Bytes::of(&[0xC1, 0xC2, 0xC3])));
-    sent.put(path, &give(5, Bytes::of(&[0xC4])));
+    put_give(sent, path, 4, Chunk::of(&[0xC1, 0xC2, 0xC3]));
+    put_give(sent, path, 5, Chunk::of(&[0xC4]));
     let mut other = SentDown::new();
     other.put_any(&sent.get());
     let last = other.own();
@@ -28,7 +31,8 @@ fn is_last_put(sent: &mut SentDown, path: Path) -> bool {
 
 /// Whether a Halt is sent that is put over what was there.
 fn is_halt_put(sent: &mut SentDown, path: Path) -> bool {
-    sent.put(path, &Down::Halt { number: 9 });
+    let halt = PlainDown::of(Down::Halt { number: 9 });
+    sent.put(path, &halt.lend());
     let halt = sent.own();
     matches!(
         halt,

@@ -2,6 +2,7 @@
 
 use crate::tests::setups::{begun, is_same_words, state_of_words, waiting};
 use chan_model::hold_state::{HoldPhase, HoldState};
+use chan_model::lent::{PlainDown, PlainUp};
 use chan_model::names::{Path, Side};
 use chan_model::paths::mask_of_paths;
 use chan_model::signal::{Down, Up};
@@ -25,11 +26,13 @@ fn second_path() -> Path {
 
 /// A signal waits each way.
 fn send(wires: &mut Wires, path: Path) {
+    let halt = PlainDown::of(Down::Halt { number: 1 });
+    let busy = PlainUp::of(Up::Busy { number: 1 });
     if !wires.down_is_full(path) {
-        wires.send_down(path, &Down::Halt { number: 1 });
+        wires.send_down(path, &halt.lend());
     }
     if !wires.up_is_full(path) {
-        wires.send_up(path, &Up::Busy { number: 1 });
+        wires.send_up(path, &busy.lend());
     }
 }
 

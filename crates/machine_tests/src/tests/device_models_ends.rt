@@ -4,9 +4,10 @@
 use ccw_codec::Class;
 use ccw_codec::command::class;
 use chan_model::chunk::Chunk;
+use chan_model::lent::PlainDown;
 use chan_model::names::{Path, Side};
 use chan_model::report::{Report, Work};
-use chan_model::signal::{Down, KeptUp, LentDown, Up};
+use chan_model::signal::{Down, KeptUp, Up};
 use device_law::answering::answer;
 use device_law::{Device, Finish};
 use scsw_irb::status::DeviceStatus;
@@ -88,23 +89,23 @@ fn end_shown<D: Device>(unit: &mut Unit, device: &mut D) -> Option<u8> {
 }
 
 /// Whether the unit takes a signal on path 2.
-fn takes(unit: &mut Unit, signal: &LentDown<'_>) -> bool {
+fn takes(unit: &mut Unit, signal: PlainDown) -> bool {
     let path = Path::new(2).unwrap();
-    unit.take(Side::First, path, signal, true).taken
+    unit.take(Side::First, path, &signal.lend(), true).taken
 }
 
 #[test]
 fn channel_end_that_was_sent_is_left_out_of_the_later_status(rt: HostRuntime) {
     let mut unit = Unit::new();
     let mut device = Rewinding;
-    let rewind = Down::Command {
+    let rewind = PlainDown::of(Down::Command {
         number: 1,
         command: 1,
         code: 7,
         room: 0,
-    };
-    let selected = takes(&mut unit, &Down::Select { number: 1 });
-    let begun = takes(&mut unit, &rewind);
+    });
+    let selected = takes(&mut unit, PlainDown::of(Down::Select { number: 1 }));
+    let begun = takes(&mut unit, rewind);
     let first = end_shown(&mut unit, &mut device);
     let second = end_shown(&mut unit, &mut device);
     let third = end_shown(&mut unit, &mut device);

@@ -1,48 +1,53 @@
 //! A program leaves, comes back and ends.
 
 use chan_model::hold_state::HoldPhase;
+use chan_model::lent::{PlainDown, PlainUp};
 use chan_model::names::Path;
-use chan_model::signal::{Down, LentDown, LentUp, OnPath, Up};
+use chan_model::signal::{Down, OnPath, Up};
 use hold::Hold;
 
 /// Whether the first program is offered, and its Select sent.
-fn is_offered(offered: &OnPath<LentDown<'_>>) -> bool {
-    matches!(offered.signal, Down::Select { number: 1 })
+fn is_offered(offered: &OnPath<PlainDown>) -> bool {
+    matches!(offered.signal.kept, Down::Select { number: 1 })
 }
 
 /// Whether the hold takes this signal that came by this path.
-fn takes(hold: &mut Hold, path: Path, signal: &LentUp<'_>) -> bool {
-    hold.take(path, signal, true).taken
+fn takes(hold: &mut Hold, path: Path, signal: PlainUp) -> bool {
+    hold.take(path, &signal.lend(), true).taken
 }
 
 /// Whether Accept is taken, and nothing is sent.
 fn is_accepted(hold: &mut Hold, path: Path) -> bool {
-    let accept = hold.take(path, &Up::Accept { number: 1 }, true);
+    let signal = PlainUp::of(Up::Accept { number: 1 });
+    let accept = hold.take(path, &signal.lend(), true);
     accept.taken && accept.sent.is_none()
 }
 
 /// Whether the program leaves its path by the first connection.
 fn leaves(hold: &mut Hold, path: Path) -> bool {
-    let leave = Up::Leave {
+    let leave = PlainUp::of(Up::Leave {
         number: 1,
         connection: 0,
-    };
-    takes(hold, path, &leave)
+    });
+    takes(hold, path, leave)
 }
 
 /// Whether the program comes back by the second connection, which is granted.
 fn comes_back(hold: &mut Hold, path: Path) -> bool {
-    let back = Up::Back {
+    let back = PlainUp::of(Up::Back {
         number: 1,
         connection: 1,
-    };
-    let grant = hold.take(path, &back, true).sent;
+    });
+    let grant = hold.take(path, &back.lend(), true).sent;
     matches!(
         grant,
         Some(OnPath {
-            signal: Down::Grant {
-                number: 1,
-                connection: 1
+            signal: PlainDown {
+                kept: Down::Grant {
+                    number: 1,
+                    connection: 1
+                },
+                ..
             },
             ..
         })
@@ -55,7 +60,10 @@ fn lets_go(hold: &mut Hold) -> bool {
     matches!(
         release,
         Some(OnPath {
-            signal: Down::Release { number: 1 },
+            signal: PlainDown {
+                kept: Down::Release { number: 1 },
+                ..
+            },
             ..
         })
     )
@@ -74,7 +82,7 @@ fn a_program_leaves_comes_back_and_ends(rt: HostRuntime) {
     let granted = comes_back(&mut hold, second);
     let back = hold.is_connected(second, 1, 1);
     let let_go = lets_go(&mut hold);
-    let released = takes(&mut hold, second, &Up::Released { number: 1 });
+    let released = takes(&mut hold, second, PlainUp::of(Up::Released { number: 1 }));
     let free = matches!(hold.state().phase, HoldPhase::Free);
     assert!(rt; offered && accepted && connected && left);
     assert!(rt; away && granted && back);
@@ -87,9 +95,12 @@ fn sends_reset(hold: &mut Hold, path: Path) -> bool {
     matches!(
         reset,
         Some(OnPath {
-            signal: Down::Reset {
-                number: 7,
-                restarts: 3
+            signal: PlainDown {
+                kept: Down::Reset {
+                    number: 7,
+                    restarts: 3
+                },
+                ..
             },
             ..
         })
@@ -100,13 +111,13 @@ fn sends_reset(hold: &mut Hold, path: Path) -> bool {
 fn a_reset_is_sent_again_where_its_path_is_lost(rt: HostRuntime) {
     let mut hold = Hold::new();
     let path = Path::new(4).unwrap();
-    let told = takes(&mut hold, path, &Up::Notice { restarts: 3 });
+    let told = takes(&mut hold, path, PlainUp::of(Up::Notice { restarts: 3 }));
     hold.reset(7);
     let lost_unsent = hold.path_down(path, 8);
     let sent = sends_reset(&mut hold, path);
     let lost = hold.path_down(path, 9);
-    let cleared_late = takes(&mut hold, path, &Up::Cleared { number: 7 });
-    let cleared = takes(&mut hold, path, &Up::Cleared { number: 9 });
+    let cleared_late = takes(&mut hold, path, PlainUp::of(Up::Cleared { number: 7 }));
+    let cleared = takes(&mut hold, path, PlainUp::of(Up::Cleared { number: 9 }));
     assert!(rt; told && !lost_unsent && sent);
     assert!(rt; lost && !cleared_late && cleared);
 }

@@ -1,7 +1,8 @@
 //! What a unit asks its device for, and what it sends.
 
+use chan_model::lent::PlainUp;
 use chan_model::report::{Call, DeviceAnswer, Report, ReportPath, Work};
-use chan_model::signal::{LentUp, Load, OnPath, Taken, Up};
+use chan_model::signal::{Load, OnPath, Taken, Up};
 use chan_model::unit_state::{Own, Place};
 use unit::Unit;
 
@@ -120,11 +121,14 @@ pub(crate) fn is_end(came: Taken<Up>) -> bool {
 }
 
 /// Whether a Notice of one restart was sent.
-pub(crate) fn is_notice(sent: &Option<OnPath<LentUp<'_>>>) -> bool {
+pub(crate) fn is_notice(sent: &Option<OnPath<PlainUp>>) -> bool {
     matches!(
         sent,
         Some(OnPath {
-            signal: Up::Notice { restarts: 1 },
+            signal: PlainUp {
+                kept: Up::Notice { restarts: 1 },
+                ..
+            },
             ..
         })
     )

@@ -5,9 +5,10 @@ use crate::tests::unit_answers::{
     is_refused, is_to_finish, is_to_send_again, most_asked, path_of,
 };
 use chan_model::chunk::Chunk;
+use chan_model::lent::{PlainDown, PlainUp};
 use chan_model::names::{Path, Side};
 use chan_model::report::{DeviceAnswer, Report, ReportPath};
-use chan_model::signal::{Down, LentUp, OnPath, Taken, Up};
+use chan_model::signal::{Down, OnPath, Taken, Up};
 use chan_model::unit_state::{Own, Place};
 use scsw_irb::status::DeviceStatus;
 use unit::Unit;
@@ -42,6 +43,11 @@ fn read(room: u16) -> Down {
 
 fn select() -> Down {
     Down::Select { number: 1 }
+}
+
+/// The same, as the unit meets it.
+fn met_select() -> PlainDown {
+    PlainDown::of(Down::Select { number: 1 })
 }
 
 /// One byte of a write.
@@ -81,7 +87,9 @@ fn ended() -> DeviceAnswer {
 
 /// Whether the unit takes a signal of a side that came by this path.
 fn takes(unit: &mut Unit, side: Side, path: Path, signal: &Down) -> bool {
-    unit.take(side, path, &signal.lend(), true).taken
+    let kept = signal.keep();
+    unit.take(side, path, &kept.lend(signal.bytes()), true)
+        .taken
 }
 
 /// The unit takes a report, while its chunks have small numbers.
@@ -106,7 +114,7 @@ fn reported(unit: &mut Unit, report: &Report) -> Taken<Up> {
 }
 
 /// What the unit sends to ask for a path, while its connections have small numbers.
-fn asked_for(unit: &mut Unit, path: Path) -> Option<OnPath<LentUp<'static>>> {
+fn asked_for(unit: &mut Unit, path: Path) -> Option<OnPath<PlainUp>> {
     let Own::Owned { place, .. } = unit.own() else {
         return None;
     };
@@ -117,7 +125,7 @@ fn asked_for(unit: &mut Unit, path: Path) -> Option<OnPath<LentUp<'static>>> {
 }
 
 /// What the unit sends to ask for attention, while its attentions have small numbers.
-fn attended(unit: &mut Unit, side: Side, path: Path) -> Option<OnPath<LentUp<'static>>> {
+fn attended(unit: &mut Unit, side: Side, path: Path) -> Option<OnPath<PlainUp>> {
     if unit.state().attentions < 8 {
         unit.attention(side, path)
     } else {
@@ -134,11 +142,16 @@ fn restart(unit: &mut Unit) {
 
 /// Whether Select is answered by Accept.
 fn is_accepted(unit: &mut Unit, path: Path) -> bool {
-    let accept = unit.take(Side::First, path, &select().lend(), true).sent;
+    let accept = unit
+        .take(Side::First, path, &met_select().lend(), true)
+        .sent;
     matches!(
         accept,
         Some(OnPath {
-            signal: Up::Accept { number: 1 },
+            signal: PlainUp {
+                kept: Up::Accept { number: 1 },
+                ..
+            },
             ..
         })
     )
@@ -146,13 +159,15 @@ fn is_accepted(unit: &mut Unit, path: Path) -> bool {
 
 /// Whether Release is answered by Released.
 fn is_released(unit: &mut Unit, path: Path) -> bool {
-    let release = unit
-        .take(Side::First, path, &Down::Release { number: 1 }, true)
-        .sent;
+    let release = PlainDown::of(Down::Release { number: 1 });
+    let released = unit.take(Side::First, path, &release.lend(), true).sent;
     matches!(
-        release,
+        released,
         Some(OnPath {
-            signal: Up::Released { number: 1 },
+            signal: PlainUp {
+                kept: Up::Released { number: 1 },
+                ..
+            },
             ..
         })
     )
@@ -163,7 +178,7 @@ fn a_write_is_carried_out(rt: HostRuntime) {
     let side = Side::First;
     let path = Path::new(6).unwrap();
     let mut unit = Unit::new();
-    let answered = unit.answers(side, &select().lend());
+    let answered = unit.answers(side, &met_select().lend());
     let accepted = is_accepted(&mut unit, path);
     let commanded = takes(&mut unit, side, path, &write());
     let code = code_to_begin(&unit);
@@ -313,9 +328,12 @@ fn leaves(unit: &mut Unit) -> bool {
     matches!(
         leave,
         Some(OnPath {
-            signal: Up::Leave {
-                number: 1,
-                connection: 0
+            signal: PlainUp {
+                kept: Up::Leave {
+                    number: 1,
+                    connection: 0
+                },
+                ..
             },
             ..
         })
@@ -328,9 +346,12 @@ fn asks_back(unit: &mut Unit, path: Path) -> bool {
     matches!(
         back,
         Some(OnPath {
-            signal: Up::Back {
-                number: 1,
-                connection: 1
+            signal: PlainUp {
+                kept: Up::Back {
+                    number: 1,
+                    connection: 1
+                },
+                ..
             },
             ..
         })
@@ -358,7 +379,10 @@ fn asks_for_attention(unit: &mut Unit, path: Path) -> bool {
     matches!(
         attention,
         Some(OnPath {
-            signal: Up::Attn { attention: 1, .. },
+            signal: PlainUp {
+                kept: Up::Attn { attention: 1, .. },
+                ..
+            },
             ..
         })
     )
@@ -366,21 +390,25 @@ fn asks_for_attention(unit: &mut Unit, path: Path) -> bool {
 
 /// Whether Select of a program of this number is answered by a Notice.
 fn is_told(unit: &mut Unit, path: Path, number: u64) -> bool {
-    let told = unit.take(Side::First, path, &Down::Select { number }, true);
+    let select = PlainDown::of(Down::Select { number });
+    let told = unit.take(Side::First, path, &select.lend(), true);
     is_notice(&told.sent)
 }
 
 /// Whether Reset is answered by Cleared.
 fn is_cleared(unit: &mut Unit, path: Path) -> bool {
-    let reset = Down::Reset {
+    let reset = PlainDown::of(Down::Reset {
         number: 5,
         restarts: 1,
-    };
-    let cleared = unit.take(Side::First, path, &reset, true).sent;
+    });
+    let cleared = unit.take(Side::First, path, &reset.lend(), true).sent;
     matches!(
         cleared,
         Some(OnPath {
-            signal: Up::Cleared { number: 5 },
+            signal: PlainUp {
+                kept: Up::Cleared { number: 5 },
+                ..
+            },
             ..
         })
     )
@@ -403,11 +431,14 @@ fn a_restart_is_told_to_both_sides(rt: HostRuntime) {
 }
 
 /// The status of the attention that was sent.
-fn attention_status(sent: &Option<OnPath<LentUp<'_>>>) -> Option<DeviceStatus> {
+fn attention_status(sent: &Option<OnPath<PlainUp>>) -> Option<DeviceStatus> {
     match sent {
         Some(
             OnPath {
-                signal: Up::Attn { status, .. },
+                signal: PlainUp {
+                    kept: Up::Attn { status, .. },
+                    ..
+                },
                 ..
             },
         ) => Some(*status),

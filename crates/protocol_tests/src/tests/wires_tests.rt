@@ -1,5 +1,6 @@
 //! Signals arrive in their order, and are lost with their path.
 
+use chan_model::lent::{PlainDown, PlainUp};
 use chan_model::names::Path;
 use chan_model::signal::{Down, Up};
 use std::alloc::AllocError;
@@ -19,7 +20,8 @@ fn first_up(wires: &Wires, path: Path) -> Option<Up> {
 fn sends_down(wires: &mut Wires, path: Path, number: u64) -> bool {
     let room = !wires.down_is_full(path);
     if room {
-        wires.send_down(path, &Down::Select { number });
+        let select = PlainDown::of(Down::Select { number });
+        wires.send_down(path, &select.lend());
     }
     room
 }
@@ -76,7 +78,8 @@ fn signals_arrive_in_order(rt: HostRuntime) -> Result<(), AllocError> {
 fn sends_up(wires: &mut Wires, path: Path, number: u64) -> bool {
     let room = !wires.up_is_full(path);
     if room {
-        wires.send_up(path, &Up::Busy { number });
+        let busy = PlainUp::of(Up::Busy { number });
+        wires.send_up(path, &busy.lend());
     }
     room
 }
@@ -128,7 +131,8 @@ fn signals_go_round(rt: HostRuntime) -> Result<(), AllocError> {
 fn sends_halt(wires: &mut Wires, path: Path) -> bool {
     let room = !wires.down_is_full(path);
     if room {
-        wires.send_down(path, &Down::Halt { number: 5 });
+        let halt = PlainDown::of(Down::Halt { number: 5 });
+        wires.send_down(path, &halt.lend());
     }
     room
 }

@@ -1,6 +1,6 @@
 use Rattle.std.proofs.Common.{sym, ◌∙◌}
 use Rattle.chan_model.specs.HoldTable.{hold_takes}
-use Rattle.chan_model.specs.Signals.{lent_up}
+use Rattle.chan_model.specs.Lent.{lent_up}
 use Rattle.subchannel.proofs.Returned.{back_refused}
 use Rattle.subchannel.proofs.returning.come_back.Goals as goal
 

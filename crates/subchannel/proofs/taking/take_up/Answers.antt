@@ -1,5 +1,6 @@
 use Rattle.std.proofs.Common.{◌≡◌, true, ap, ◌∙◌}
-use Rattle.chan_model.specs.Signals.{lent_up}
+use Rattle.chan_model.specs.Lent.{lent_up}
+use Rattle.chan_model.specs.Signals.{KeptUp, up_in}
 use Rattle.subchannel.specs.Answering.{is_data}
 use Rattle.subchannel.proofs.Working.{told_takes}
 use Rattle.subchannel.proofs.taking.take_up.Goals as goal
@@ -7,7 +8,7 @@ use Rattle.subchannel.proofs.taking.take_up.Goals as goal
 -- a Data
 pub returns-in-Data : goal.returns-in-Data
 returns-in-Data c =
-    let is : is_data (lent_up c.args.signal.now) ≡ true = ap (λ signal. is_data (lent_up signal)) c.in-Data.is in
+    let is : is_data (lent_up c.args.signal.now) ≡ true = ap (λ (k : KeptUp). is_data (up_in k c.args.signal.now.bytes.now)) c.in-Data.is in
     record {
       met = c.take_data.ensures ∙ told_takes c.args.returns c.args.storage.now c.args.state.now c.args.path (lent_up c.args.signal.now) is;
     }

@@ -1,7 +1,7 @@
 use Rattle.chan_model.specs.UnitTable.{came_of, unit_takes}
-use Rattle.chan_model.specs.Signals.{lent_down}
+use Rattle.chan_model.specs.Lent.{lent_down}
 use Rattle.unit.proofs.AnswerPaths.{takes-path}
-use Rattle.subchannel_steps.proofs.Answered.{tells_room}
+use Rattle.subchannel_steps.proofs.Answered.{tells_answered, tells_room}
 use Rattle.subchannel_steps.proofs.turns.answer_finds_full.Goals as goal
 
 pub returns-else-finds_up_full : goal.returns-else-finds_up_full
@@ -10,3 +10,10 @@ returns-else-finds_up_full c = λ may.
     let signal = lent_down c.args.signal.now in
     tells_room sub.state.pmcw.available sub.wires.up (came_of (unit_takes c.args.unit.now sub.setup.side c.args.path signal may)).sent c.args.path c.finds_up_full.result
     c.if-finds_up_full.false (takes-path c.args.unit.now sub.setup.side signal c.args.path may) c.finds_up_full.ensures
+
+pub returns-then-finds_up_full : goal.returns-then-finds_up_full
+returns-then-finds_up_full c = λ may.
+    let sub = c.args.sub.now in
+    let signal = lent_down c.args.signal.now in
+    tells_answered sub.state.pmcw.available sub.wires.up (came_of (unit_takes c.args.unit.now sub.setup.side c.args.path signal may)).sent c.args.path c.finds_up_full.result c.answers.result
+    c.if-finds_up_full.true (c.answers.ensures.answers c.args.path may) (takes-path c.args.unit.now sub.setup.side signal c.args.path may) c.finds_up_full.ensures

@@ -1,4 +1,6 @@
-use Rattle.std.proofs.Common.{◌≡◌, sym, ◌∙◌, ap, subst, ℕ, false, nat_lt, Ok, Some, length}
+use Rattle.std.proofs.Common.{◌≡◌, sym, ◌∙◌, ap, ap₂, subst, ℕ, false, nat_lt, Ok, Option, Some, length}
+use Rattle.chan_events.specs.declared.reply.Reply.TheVariants as reply
+use Rattle.chan_model.specs.declared.signal.OnPath.{OnPath}
 use Rattle.chan_events.specs.Replies.{Reply}
 use Rattle.chan_model.specs.UnitTable.{came_of, unit_takes}
 use Rattle.wires.specs.Queues.{Queues}
@@ -7,7 +9,8 @@ use Rattle.machine_model.specs.DownSteps.{down_shared}
 use Rattle.machine_model.specs.ReportSteps.{with_any_up}
 use Rattle.machine_model.specs.Sharing.{is_asked_for, may_take}
 use Rattle.subchannel_steps.proofs.Turning.{down-fronted, down-done, downed}
-use Rattle.chan_model.specs.Signals.{lent_down, lent_up, map_taken}
+use Rattle.chan_model.specs.Lent.{lent_down, plain_up}
+use Rattle.chan_model.specs.Signals.{Up, map_taken}
 use Rattle.subchannel_steps.proofs.turns.down_sub.Goals as goal
 
 pub returns-clause-gives : goal.returns-clause-gives
@@ -18,13 +21,13 @@ returns-clause-gives c =
     let k = sub.setup.«unit» in
     let path = c.in-Some.path in
     let signal = lent_down c.in-Some-front_down.front in
-    let came = map_taken lent_up c.take-came.result in
+    let came = map_taken plain_up c.take-came.result in
     let asks = is_asked_for u sub.setup.side signal in
     let step = unit_takes u sub.setup.side path signal (may_take members k asks) in
     let room : false ≡ finds_full sub.wires.up (carried_by sub (came_of step).sent) = (c.if-answer_finds_full.ensures (may_take members k asks)).0 in
     subst (λ (n : ℕ). down_shared members sub n u ≡ downed signal came c.send_any_up.new.sub c.take-came.new.«unit» c.take-came.new.sharing) c.in-Some.ensures.1
     (down-fronted members sub path u (Some signal) (ap (λ (n : ℕ). nat_lt n (length sub.setup.paths)) c.in-Some.ensures.1 ∙ c.in-Some.ensures.0) c.in-Some-front_down.ensures.first
     ∙ down-done members c.take-came.new.sharing k asks u c.take-came.new.«unit» sub c.send_any_up.new.sub path signal step came room c.take-came.ensures.came
-    (c.send_any_up.ensures ∙ ap (λ (w : Queues). with_any_up (record sub { wires = w }) came.sent) c.drop_down.ensures)
+    (c.send_any_up.ensures ∙ ap₂ (λ (w : Queues) (sent : Option (OnPath Up)). with_any_up (record sub { wires = w }) sent) c.drop_down.ensures c.lend_up-answer.ensures)
     c.take-came.ensures.state c.take-came.ensures.members)
-    ∙ ap (λ (r : Reply). Ok (record { turn = record { reply = r; sub = c.send_any_up.new.sub; «unit» = c.take-came.new.«unit» }; members = c.take-came.new.sharing })) (sym c.meet_down.ensures.reply)
+    ∙ ap (λ (r : Reply). Ok (record { turn = record { reply = r; sub = c.send_any_up.new.sub; «unit» = c.take-came.new.«unit» }; members = c.take-came.new.sharing })) (sym (c.meet_down.ensures.reply ∙ ap (λ (sent : Option (OnPath Up)). reply.Down signal came.taken sent) c.lend_up-answer.ensures))

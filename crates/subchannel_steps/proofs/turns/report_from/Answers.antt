@@ -3,7 +3,8 @@ use Rattle.chan_model.specs.UnitReports.{report_on}
 use Rattle.finding.specs.Tables.{engaged}
 use Rattle.subchannel_model.specs.declared.state.Subchannel.{Subchannel}
 use Rattle.subchannel_steps.proofs.Turning.{report-done}
-use Rattle.chan_model.specs.Signals.{lent_up, map_taken}
+use Rattle.chan_model.specs.Lent.{lent_up}
+use Rattle.chan_model.specs.Signals.{map_taken}
 use Rattle.subchannel_steps.proofs.turns.report_from.Goals as goal
 
 pub returns : goal.returns

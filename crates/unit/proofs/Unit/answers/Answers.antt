@@ -1,5 +1,5 @@
 use Rattle.std.proofs.Common.{◌∙◌, sym, ap}
-use Rattle.chan_model.specs.Signals.{lent_down}
+use Rattle.chan_model.specs.Lent.{lent_down}
 use Rattle.chan_model.specs.declared.unit_state.UnitState.{UnitState}
 use Rattle.chan_model.specs.UnitTable.{unit_takes}
 use Rattle.unit.proofs.Answered.{sends_one, sends_one-unit_takes}

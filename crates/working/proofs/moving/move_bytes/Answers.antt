@@ -11,7 +11,8 @@ use Rattle.chan_model.specs.Signals.{Load}
 use Rattle.working.specs.Sent.{came_so}
 use Rattle.transfer.specs.Chunks.{brought}
 use Rattle.working.specs.Stepping.{subchannel_stepped}
-use Rattle.chan_model.specs.Signals.{lent_up, load_of}
+use Rattle.chan_model.specs.Lent.{lent_up}
+use Rattle.chan_model.specs.Signals.{load_of}
 use Rattle.working.specs.Working.{give_next}
 use Rattle.working.proofs.moving.move_bytes.Goals as goal
 

@@ -1,5 +1,6 @@
 use Rattle.std.proofs.Common.{ap}
-use Rattle.chan_model.specs.Signals.{lent_down, lent_up, map_sent}
+use Rattle.chan_model.specs.Lent.{lent_down, lent_up}
+use Rattle.chan_model.specs.Signals.{map_sent}
 use Rattle.chan_events.proofs.MetSignals.{up-alone, up-answered}
 use Rattle.chan_events.proofs.reply.KeptReply.met_up.Goals as goal
 

@@ -1,15 +1,28 @@
-use Rattle.std.proofs.Common.{◌∙◌, ap, ap₂, [], ◌∷◌, ◌++◌}
+use Rattle.std.proofs.Common.{◌∙◌, ap, ap₂, List, ℕ, [], ◌∷◌, ◌++◌, drop, take, rules}
 use Rattle.event_log.specs.declared.entries.KeptEntry.{KeptEntry}
 use Rattle.event_log.specs.Entries.{entry_in}
-use Rattle.event_log.specs.Logs.{entries_at}
-use Rattle.event_log.proofs.Growing.{begun, kept-added}
+use Rattle.event_log.specs.Logs.{entries_at, written_reply}
+use Rattle.event_log.proofs.Growing.{added-all, all-taken, begun, kept-added}
 use Rattle.event_log.proofs.logs.Log.append_kept.Goals as goal
+
+pub invariant_of-self : goal.invariant_of-self
+invariant_of-self c =
+    let log = c.self.inside in
+    let is = c.self.invariant in
+    let kept : KeptEntry = record c.args.kept.now { start = log.start } in
+    let before = written_reply (drop log.count log.entries.items) in
+    let new = begun log.bytes.items (take log.count log.entries.items) log.start before is.written (ap (λ l. l.reply) c.self.view_is ∙ c.requires.fresh) in
+    added-all log.bytes.items c.args.bytes.now c.add_bytes.new.arena.items log.entries.items c.push_same.new.entries.items before kept log.count c.len-self-inside.result
+    c.add_bytes.ensures.items c.push_same.ensures.items (search rules) is.some is.written new c.requires.whole
 
 pub returns-clause-entries : goal.returns-clause-entries
 returns-clause-entries c =
     let log = c.self.inside in
+    let is = c.self.invariant in
     let kept : KeptEntry = record c.args.kept.now { start = log.start } in
-    let new = begun log.bytes.items log.entries.items log.start log.reply c.self.invariant (ap (λ l. l.reply) c.self.view_is ∙ c.requires.fresh) in
-    ap₂ entries_at c.add_bytes.ensures.items c.push_same.ensures.items
-    ∙ kept-added log.bytes.items c.args.bytes.now log.entries.items log.reply kept c.self.invariant new c.requires.whole
-    ∙ ap (λ l. l.entries ++ entry_in kept c.args.bytes.now ∷ []) c.self.view_is
+    let ks = take log.count log.entries.items in
+    let before = written_reply (drop log.count log.entries.items) in
+    let new = begun log.bytes.items ks log.start before is.written (ap (λ l. l.reply) c.self.view_is ∙ c.requires.fresh) in
+    ap₂ (λ (xs : List ℕ) (l : List KeptEntry). entries_at xs l) c.add_bytes.ensures.items (all-taken log.entries.items c.push_same.new.entries.items kept log.count c.push_same.ensures.items is.some)
+    ∙ (kept-added log.bytes.items c.args.bytes.now ks before kept is.written new c.requires.whole
+    ∙ ap (λ l. l.entries ++ entry_in kept c.args.bytes.now ∷ []) c.self.view_is)

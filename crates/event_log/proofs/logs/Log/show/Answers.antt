@@ -1,15 +1,19 @@
-use Rattle.std.proofs.Common.{arith, ◌∙◌, ap, List, ℕ, vec_capacity, vec_len, ◌-◌}
-use Rattle.event_log.specs.Logs.{entries_at}
-use Rattle.event_log.proofs.Growing.{entries-stay, room-grows}
+use Rattle.std.proofs.Common.{arith, ◌∙◌, ap, ap₂, List, ℕ, take, vec_capacity}
+use Rattle.event_log.specs.declared.entries.KeptEntry.{KeptEntry}
+use Rattle.event_log.specs.Logs.{entries_at, unfinished}
+use Rattle.event_log.proofs.Growing.{behind, entries-stay, room-grows}
+use Rattle.chan_events.specs.declared.reply.Reply.TheVariants as reply
 use Rattle.event_log.proofs.logs.Log.show.Goals as goal
 
 pub returns-clause-kept : goal.returns-clause-kept
 returns-clause-kept c =
     let log = c.self.inside in
+    let is = c.self.invariant in
+    let last = behind log.entries.items c.write.new.entries.items log.count (unfinished log.start (reply.Shown c.of.result)) is.some c.write.ensures.items in
     record {
       entries =
-          ap (λ (xs : List ℕ). entries_at xs log.entries.items) c.add_bytes.ensures.items
-          ∙ entries-stay log.bytes.items c.args.bytes.now log.start log.entries.items c.self.invariant.inside c.self.invariant.fit
-          ∙ ap (λ l. l.entries) c.self.view_is;
-      room = omega (arith, ap (λ l. l.room) c.self.view_is, room-grows (vec_capacity log.entries - vec_len log.entries) (vec_capacity log.bytes) (vec_capacity c.add_bytes.new.arena) log.start c.add_bytes.ensures.capacity);
+          ap₂ (λ (xs : List ℕ) (ks : List KeptEntry). entries_at xs ks) c.add_bytes.ensures.items last.front
+          ∙ (entries-stay log.bytes.items c.args.bytes.now log.start (take log.count log.entries.items) is.written.inside is.written.fit
+          ∙ ap (λ l. l.entries) c.self.view_is);
+      room = omega (arith, ap (λ l. l.room) c.self.view_is, room-grows (vec_capacity log.entries) (vec_capacity c.write.new.entries) log.count (vec_capacity log.bytes) (vec_capacity c.add_bytes.new.arena) log.start c.write.ensures.capacity c.add_bytes.ensures.capacity);
     }
