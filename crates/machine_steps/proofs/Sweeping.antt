@@ -71,8 +71,3 @@ numbers-if false w request = refl
 
 pub numbers-stay : (old new : Subchannel) (w : WaitingRequests) → (posted_for old new w).numbers ≡ w.numbers
 numbers-stay old new w = numbers-if (makes_status old new) w (request_of new)
-
--- where one is counted, its engine's count is one at least
-pub some-counted : (P : ℕ → Type 0) (chpid : Option ℕ) → ((c : ℕ) → chpid ≡ Some c → c < 0x100 → P c) → IfSome chpid (λ c. c < 0x100) → IfSome chpid P
-some-counted P None f small = tt
-some-counted P (Some c) f small = f c refl small
