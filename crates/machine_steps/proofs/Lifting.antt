@@ -1,6 +1,6 @@
 -- What an event does at one subchannel, as what it does to the whole.
-use Rattle.std.proofs.Common.{◌≡◌, refl, sym, ◌∙◌, ap, subst, ℕ, ◌+◌, ◌<◌, ◌≤◌, zero, suc, true, false, Option, None, Some, Result, Ok, Err, List, [], ◌∷◌, length, slice_index_or, Bool, nat_lt, if◌then◌else◌, arith}
-use Rattle.std.specs.Prelude.{◌^◌, slice_get, slice_set, slice_index, All, IfSome}
+use Rattle.std.proofs.Common.{◌≡◌, refl, sym, ◌∙◌, ap, subst, ℕ, ◌<◌, zero, suc, true, false, Option, None, Some, Result, Ok, Err, List, [], ◌∷◌, length, slice_index_or, Bool, nat_lt, if◌then◌else◌, arith}
+use Rattle.std.specs.Prelude.{slice_get, slice_set, All}
 use Rattle.std.proofs.lemmas.List.{set-get_or}
 use Rattle.std.proofs.lemmas.List.Elements.{All-get_or}
 use Rattle.std.proofs.lemmas.Option.{same_Some}
@@ -32,7 +32,7 @@ use Rattle.wires.specs.Queues.{queue}
 use Rattle.machine_model.specs.State.{State, place_of, found_of, sub_of, with_sub, state_with_unit}
 use Rattle.subchannel_model.proofs.Named.{found_with}
 use Rattle.subchannel_model.specs.Places.{Found, found_at, place_in, reached_in, sub_at, place_of_id}
-use Rattle.subchannel_model.specs.Choosing.{chosen, engages, marked_sub, paths_to_choose}
+use Rattle.subchannel_model.specs.Choosing.{chosen, marked_sub, paths_to_choose}
 use Rattle.machine_model.specs.Ruled.{RulesAt, GoesByRule}
 use Rattle.machine_model.proofs.Named.{outcome_of}
 use Rattle.machine_model.specs.Turns.{Outcome, SubTurn, UpTurn, DownTurn, SharedTurn, does, at_sub, at_storage, at_unit}

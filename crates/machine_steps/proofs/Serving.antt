@@ -93,8 +93,8 @@ module _ (table : List (Option ℕ)) (subs : List Subchannel) (place : ℕ) (old
   still-named c p false small b e =
       let q = k.engaged c p small (sym (freed-other table (engaged old) c (not-path (engaged old) c b)) ∙ e) in
       let away : p ≢ place = λ h.
-          let same : q.0 ≡ old = same_Some q.0 old (sym q.1 ∙ (ap (slice_get subs) h ∙ there)) in
-          absurd (cc (sym (sym (ap (engages c) same) ∙ q.2) ∙ (engages-is old c ∙ b))) in
+      let same : q.0 ≡ old = same_Some q.0 old (sym q.1 ∙ (ap (slice_get subs) h ∙ there)) in
+      absurd (cc (sym (sym (ap (engages c) same) ∙ q.2) ∙ (engages-is old c ∙ b))) in
       (q.0, get-other subs place new p away ∙ q.1, q.2)
 
   now-named : (c p : ℕ) (after : Bool) → c < 0x100 → is_path (engaged new) c ≡ after → server (served_at place (engaged old) (engaged new) table) c ≡ Some p → Names c p

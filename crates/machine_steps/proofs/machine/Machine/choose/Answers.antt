@@ -42,7 +42,7 @@ invariant_of-self g c =
     (c.paths_to_choose-paths.ensures ∙ ap (λ (subs : List Subchannel). paths_to_choose subs c.index.result.now) (c.of-served.ensures ∙ c.as_slice.ensures.value))
     c.choose-path.ensures.law c.choose-path.ensures.rule c.chosen-what.ensures.chosen c.choose_sub-answer.ensures.gives c.post.ensures in (
       subst (λ (s : State). Serves c.change.new.self (slice_set s.subs place after)) (sym c.self.view_is)
-      (served-performed c.engines.ensures.alone c.self.inside.engines c.change.new.self c.args.self.now _ (event.Choose c.args.word) answer place sub after
+          (served-performed c.engines.ensures.alone c.self.inside.engines c.change.new.self c.args.self.now _ (event.Choose c.args.word) answer place sub after
           c.engaged-before.result c.engaged-after.result (ap (λ (s : State). slice_get s.subs place) (sym c.self.view_is) ∙ gets old.subs place sub stands)
           (subst (λ (s : State). Serves c.self.inside.engines s.subs) c.self.view_is c.self.invariant.0) both.0
           (ap (λ (s : State). slice_set s.subs place after) c.self.view_is)
