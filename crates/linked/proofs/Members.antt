@@ -41,6 +41,10 @@ none-of : (x : ℕ) (xs : List ℕ) → AllByRecursion (λ y. nat_eq x y ≡ fal
 none-of x [] h = refl
 none-of x (y ∷ xs) h = neither h.0 (none-of x xs h.1)
 
+pub all-others : (x : ℕ) (xs : List ℕ) → has x xs ≡ false → AllByRecursion (λ y. nat_eq x y ≡ false) xs
+all-others x [] h = tt
+all-others x (y ∷ xs) h = (first-false (nat_eq x y) (has x xs) h, all-others x xs (second-false (nat_eq x y) (has x xs) h))
+
 pub head-apart : (x : ℕ) (xs : List ℕ) → IsDistinct nat_eq (x ∷ xs) → has x xs ≡ false
 head-apart x xs h = none-of x xs (IsDistinct-head nat_eq x xs h)
 
