@@ -6,5 +6,5 @@ use Rattle.interruptions.proofs.pending.Pending.first.Goals as goal
 
 pub returns : goal.returns
 returns c =
-    queue-first c.self.invariant c.as_slice.result.now c.from.result c.args.subclass c.first_of.result c.requires c.as_slice.ensures.value c.from.ensures c.first_of.ensures
+    queue-first c.self.invariant c.as_slice.result.now c.from.result c.args.subclass c.front.result c.requires c.as_slice.ensures.value c.from.ensures c.front.ensures
     ∙ ap (λ (w : WaitingRequests). first_of w.requests c.args.subclass) c.self.view_is

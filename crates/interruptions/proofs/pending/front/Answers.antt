@@ -5,7 +5,7 @@ use Rattle.linked.specs.Circles.{next_of}
 use Rattle.linked.proofs.Members.{differ}
 use Rattle.interruptions.specs.Places.{no_request, request_at}
 use Rattle.interruptions.proofs.Values.{first-request}
-use Rattle.interruptions.proofs.pending.first_of.Goals as goal
+use Rattle.interruptions.proofs.pending.front.Goals as goal
 
 pub returns-then-place-circle : goal.returns-then-place-circle
 returns-then-place-circle c = λ waiting h none.
