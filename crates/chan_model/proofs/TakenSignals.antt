@@ -3,7 +3,6 @@ use Rattle.std.proofs.Common.{◌≡◌, refl, sym, ◌∙◌, ap, subst, ℕ, �
 use Rattle.std.specs.Prelude.{if◌then◌else◌}
 use Rattle.std.proofs.lemmas.Bool.{eqb-true, and_parts, ltb-true}
 use Rattle.chan_model.specs.declared.names.Side.{Side}
-use Rattle.chan_model.specs.declared.names.Side.TheVariants.{First, Second}
 use Rattle.chan_model.specs.declared.signal.Down.TheVariants as down
 use Rattle.chan_model.specs.declared.signal.Up.TheVariants as up
 use Rattle.chan_model.specs.declared.unit_state.AtHand.{AtHand}
@@ -17,12 +16,7 @@ use Rattle.chan_model.specs.Sides.{same_side}
 use Rattle.chan_model.specs.Signals.{Down, Load}
 use Rattle.chan_model.specs.Parts.{is_place_on, reset_side}
 use Rattle.chan_model.specs.UnitTable.{UnitStep, changes, sends, side_of, is_owner, is_owner_on, freed, raised, selected, new_command, with_given, given_next, at_hand_answered, answered_load, answered_last, granted_at, granted, grant_refused_at, grant_refused, resets, forgetting, telling, unit_works, unit_takes}
-
-pub one-side : (k side : Side) → same_side k side ≡ true → k ≡ side
-one-side First First e = refl
-one-side First Second e = absurd (cc e)
-one-side Second First e = absurd (cc e)
-one-side Second Second e = refl
+use Rattle.chan_model.proofs.OneSide.{one-side}
 
 -- the program of this side and number holds the device, and is there
 abbrev pub IsAt : UnitState → Side → ℕ → Place → Type 0
