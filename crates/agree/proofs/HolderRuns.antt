@@ -5,7 +5,6 @@ use Rattle.chan_model.specs.declared.fault.Fault.TheVariants.{NoMemory}
 use Rattle.chan_model.specs.declared.names.Side.{Side}
 use Rattle.chan_model.specs.declared.names.Side.TheVariants.{First, Second}
 use Rattle.chan_model.specs.Signals.{Down}
-use Rattle.chan_model.specs.declared.signal.Down.TheVariants as down
 use Rattle.chan_model.specs.declared.signal.OnPath.{OnPath}
 use Rattle.chan_model.specs.Signals.{Up}
 use Rattle.chan_model.specs.declared.signal.Up.TheVariants as up
@@ -15,8 +14,10 @@ use Rattle.chan_model.specs.declared.unit_state.Place.TheVariants as place
 use Rattle.chan_model.specs.declared.unit_state.UnitState.{UnitState}
 use Rattle.chan_model.specs.Sides.{same_side}
 use Rattle.chan_model.specs.UnitTable.{UnitStep, came_of}
+use Rattle.chan_model.proofs.OneSide.{one-side, same-side}
 use Rattle.agreement_laws.specs.Moving.{HoldAct, UnitAct, Takes_down, Leaves, Asks, Attends, Notices, Reports, unit_steps, is_owner_side, Hold_acts, Unit_acts, LinksStep}
 use Rattle.agreement_laws.specs.Invariant.{IsGood}
+use Rattle.agreement_laws.proofs.SeenSignals.{taken-number}
 use Rattle.agree.specs.declared.event.WorldEvent.{WorldEvent}
 use Rattle.agree.specs.declared.event.WorldEvent.TheVariants as event
 use Rattle.agree.specs.declared.reply.WorldReply.{WorldReply}
@@ -26,7 +27,8 @@ use Rattle.agree.specs.State.{WorldState, links_of, line_of, opening_world}
 use Rattle.agree.specs.Turns.{WorldTurn, world_turn_of, counted, max_steps, world_turn, state_after, world_after}
 use Rattle.agree.specs.Replies.{told_down, told_up, met_reply, heard_reply, owner_reply, reply_of}
 use Rattle.agree.specs.Histories.{WorldEntry, entered, entries_of}
-use Rattle.agree.specs.OneHolder.{holder, Holding, SideAnswered, let_go, is_held_by, with_seen, with_restart, restarted_by, held_after, taken_after, side_seen, with_answered, held_in, holding_after, IsHolder, IsAnswerOf, IsSaidRight, IsReplyRight, nothing_held, AreOfHolder, HasOneHolder, with_accept, accepts_in, accepts_of, AreAbove, IsBegunOnce}
+use Rattle.agreement_laws.specs.HolderSeen.{holder, Holding, SideAnswered, let_go, is_held_by, with_seen, with_restart, held_after, side_seen, with_answered, IsHolder, IsAnswerOf, IsSaidRight, with_accept}
+use Rattle.agree.specs.OneHolder.{restarted_by, held_in, holding_after, IsReplyRight, nothing_held, AreOfHolder, HasOneHolder, accepts_in, accepts_of, AreAbove, IsBegunOnce}
 use Rattle.agree.proofs.Lasting.{event-lasts}
 use Rattle.agree.proofs.Making.{OnDone, done-weaker, Keeps, Ends, MadeOf, turn-made, heard_cause, met_cause}
 use Rattle.agree.proofs.Holdings.{holder_of, holding_of, Turns, takes-turns, takes-told-after, reports-keep, leaving-keeps, asking-keeps, attending-keeps, noticing-keeps}
@@ -36,7 +38,6 @@ use Rattle.agree.proofs.UnitActs as unit_acts
 use Rattle.agree.proofs.UnitPaths.{Held, held, held_at}
 use Rattle.agree.proofs.PathSteps.{Rising, reset-above}
 use Rattle.agree.proofs.PathRuns.{stepped}
-use Rattle.agree.proofs.Aparting.{one-side}
 
 -- an event is right, and what is seen is what the unit keeps
 abbrev pub Holds : WorldState → WorldEvent → WorldState → Type 0
@@ -112,11 +113,7 @@ owner-holds : (w new : WorldState) (act : UnitAct) (o : Own) → w.«unit».own 
     holdings.Keeps w.«unit» (unit_steps w.«unit» act) → LinksStep (links_of w) (Unit_acts act) (links_of new) →
     IsReplyRight (owner_reply o w.«unit» act) (holding_of w.«unit») × (holding_of new.«unit» ≡ held_in (owner_reply o w.«unit» act) (holding_of w.«unit»))
 owner-holds w new act own.Idle e acts keeps st = (tt, ap holding_of st.«unit» ∙ keeps)
-owner-holds w new act (own.Owned s t at) e acts keeps st = acts-hold s w new act (acts s (ap (λ (x : Own). is_owner_side x s) e ∙ one s)) keeps st
-  where
-    one : (j : Side) → same_side j j ≡ true
-    one First = refl
-    one Second = refl
+owner-holds w new act (own.Owned s t at) e acts keeps st = acts-hold s w new act (acts s (ap (λ (x : Own). is_owner_side x s) e ∙ same-side s)) keeps st
 
 hold-holds : (w new : WorldState) (s : Side) (act : HoldAct) (sent : Option (OnPath Down)) → LinksStep (links_of w) (Hold_acts s act) (links_of new) →
     IsReplyRight (told_down s sent) (holding_of w.«unit») × (holding_of new.«unit» ≡ held_in (told_down s sent) (holding_of w.«unit»))
@@ -253,26 +250,13 @@ said-rises side s k (up.End t n status more) ts right h = h
 said-rises side s k (up.Notice b) ts right h = h
 said-rises side s k (up.Attn a status) ts right h = h
 
-taken-rises : (side : Side) (k : Holding) (d : Down) (ts : List ℕ) → Rises side k (taken_after d k) ts ts
-taken-rises First k (down.Command t n code room) ts h = h
-taken-rises Second k (down.Command t n code room) ts h = h
-taken-rises side k (down.Select t) ts h = h
-taken-rises side k (down.Grant t c) ts h = h
-taken-rises side k (down.Refuse t c) ts h = h
-taken-rises side k (down.Took t n s room) ts h = h
-taken-rises side k (down.Give bytes t c n s) ts h = h
-taken-rises side k (down.Halt t) ts h = h
-taken-rises side k (down.Release t) ts h = h
-taken-rises side k (down.Reset r b) ts h = h
-taken-rises side k (down.Got a) ts h = h
-
 some-none : (x : OnPath Up) → Some x ≡ None → ⊥
 some-none x e = cc e
 
 reply-rises : (side : Side) (k : Holding) (r : WorldReply) (ts : List ℕ) → IsReplyRight r k → Rises side k (held_in r k) ts (accepts_in side r ts)
 reply-rises side k reply.Done ts right h = h
 reply-rises side k (reply.Down s x true (Some y)) ts right h = answer-rises side s k x.signal y.signal ts right.0 h
-reply-rises side k (reply.Down s x true None) ts right h = taken-rises side k x.signal ts h
+reply-rises side k (reply.Down s x true None) ts right h = subst (λ (n : ℕ). AreAbove n ts) (taken-number x.signal k side) h
 reply-rises side k (reply.Down s x false (Some y)) ts right h = absurd (some-none y right.0)
 reply-rises side k (reply.Down s x false None) ts right h = h
 reply-rises side k (reply.Up s x taken sent) ts right h = h

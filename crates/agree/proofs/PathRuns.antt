@@ -14,6 +14,7 @@ use Rattle.chan_model.specs.declared.unit_state.Own.TheVariants as own
 use Rattle.chan_model.specs.Sides.{same_side}
 use Rattle.chan_model.specs.UnitTable.{unit_after, owns, leaving, asking, attending, noticing}
 use Rattle.chan_model.specs.UnitReports.{report_of}
+use Rattle.chan_model.proofs.OneSide.{one-side, same-side}
 use Rattle.unit.specs.UnitWords.{LeavesOther}
 use Rattle.agreement_laws.specs.Links.{link_of}
 use Rattle.agreement_laws.specs.Moving.{HoldAct, Nothing, Lets_go, Is_reset, Sends, hold_acts, UnitAct, Leaves, Asks, Attends, Notices, Reports, unit_steps, is_to, is_owner_side, LinkCause, Hold_acts, Unit_acts, LinksStep}
@@ -27,8 +28,9 @@ use Rattle.agree.specs.Lines.{acts}
 use Rattle.agree.specs.Turns.{WorldTurn, all_reset, world_turn_of, counted, max_steps, world_turn, state_after, world_after}
 use Rattle.agree.specs.Replies.{told_down, chosen_act, met_reply, heard_reply, owner_reply, reply_of}
 use Rattle.agree.specs.Histories.{WorldEntry, entered, entries_of}
-use Rattle.agree.specs.ByItsPath.{cleared, SeenPaths, seen_in, seen_after, AreRight, nothing_seen, IsByItsPath}
-use Rattle.agree.proofs.Aparting.{one-side, attends-leaves, notices-leaves, leaving-leaves, asking-leaves, report-leaves}
+use Rattle.agreement_laws.specs.PathsSeen.{SeenPaths}
+use Rattle.agree.specs.ByItsPath.{cleared, seen_in, seen_after, AreRight, nothing_seen, IsByItsPath}
+use Rattle.agree.proofs.Aparting.{attends-leaves, notices-leaves, leaving-leaves, asking-leaves, report-leaves}
 use Rattle.agree.proofs.Lasting.{event-lasts}
 use Rattle.agree.proofs.Making.{OnDone, done-weaker, Keeps, Ends, Made, MadeOf, turn-made, heard_cause, met_cause, cause_of, first-reset, second-reset}
 use Rattle.agree.proofs.UnitActs.{Acts, reports-acts, leaving-acts, asking-acts, attending-acts, noticing-acts, apart-still}
@@ -90,11 +92,7 @@ owner-goes side w new k act own.Idle e to acts leaves idle st t = (
 owner-goes side w new k act (own.Owned s n at) e to acts leaves idle st t =
     let mine : is_owner_side w.«unit».own side ≡ same_side s side = ap (λ (x : Own). is_owner_side x side) e in
     said-right side s (links_of w) (links_of new) k act (to side ∙ mine) (λ h. acts (mine ∙ h))
-    (λ h. apart-still w.«unit» _ s side h (leaves s (ap (λ (x : Own). owns x s) e ∙ one s))) st t
-  where
-    one : (j : Side) → same_side j j ≡ true
-    one First = refl
-    one Second = refl
+    (λ h. apart-still w.«unit» _ s side h (leaves s (ap (λ (x : Own). owns x s) e ∙ same-side s))) st t
 
 pub event-goes : Rising → (side : Side) (k : SeenPaths) (w : WorldState) (e : WorldEvent) (new : WorldState) → IsGood (links_of w) → TiedIn side (links_of w) k → MadeOf w e new → Goes side k w e new
 event-goes rising side k w (event.Choose s p single) new g t made =

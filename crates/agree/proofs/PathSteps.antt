@@ -14,6 +14,7 @@ use Rattle.chan_model.specs.declared.signal.Up.TheVariants as up
 use Rattle.chan_model.specs.declared.unit_state.UnitState.{UnitState}
 use Rattle.chan_model.specs.Sides.{same_side}
 use Rattle.chan_model.specs.UnitTable.{unit_after, came_of, side_of, resets, restarted}
+use Rattle.chan_model.proofs.OneSide.{one-side, same-side}
 use Rattle.unit.proofs.Apart.{leaves-unit_takes}
 use Rattle.agreement_laws.specs.Links.{Link, Links, link_of}
 use Rattle.agreement_laws.specs.Moving.{HoldAct, Loses, Takes, Is_reset, still, hold_acts, hold_taken, UnitAct, Takes_down, Restarts, unit_steps, is_to, sent_by, sent_to, LinkStep, LinkCause, Hold_acts, Unit_acts, act_if, act_at, sent_at, LinksStep}
@@ -21,10 +22,10 @@ use Rattle.agreement_laws.specs.Invariant.{Ends, ends_of, IsSelectGood, IsDownGo
 use Rattle.agree.specs.declared.reply.WorldReply.{WorldReply}
 use Rattle.agree.specs.declared.reply.WorldReply.TheVariants as reply
 use Rattle.agree.specs.Replies.{told_down, told_up, is_taken, arrived_reply}
-use Rattle.agree.specs.ByItsPath.{cleared, cut_at, SeenPaths, sent_down, sent_up, seen_here, is_at, seen_in, IsHereRight, IsRight}
-use Rattle.agree.proofs.UnitPaths.{floor_of, IsStill, same-side, IsResetAbove, takes-takes}
+use Rattle.agreement_laws.specs.PathsSeen.{SeenPaths, sent_down, sent_up}
+use Rattle.agree.specs.ByItsPath.{cleared, cut_at, seen_here, is_at, seen_in, IsHereRight, IsRight}
+use Rattle.agree.proofs.UnitPaths.{floor_of, IsStill, IsResetAbove, takes-takes}
 use Rattle.agree.proofs.UnitActs.{Acts, apart-still}
-use Rattle.agree.proofs.Aparting.{one-side}
 use Rattle.agree.proofs.PathTies.{IsOfferOn, Tied, hold-stays, unit-after-same, unit-stays}
 use Rattle.agree.proofs.PathHolds.{Told, IsNumbered, AreNumbered, IsSendable, acts-told, cleared-tied, cut-tied, Heard, takes-heard}
 use Rattle.agree.proofs.PathUnits.{Met, takes-met, Said, acts-said}
@@ -84,16 +85,8 @@ abbrev pub Rising : Type 0
 Rising = (w : Links) (side : Side) (p r b : ℕ) → IsGood w → Contains (link_of w side).downs (record { path = p; signal = down.Reset r b }) → resets w.«unit» side r b ≡ true → (side_of w.«unit» side).floor < r
 
 pub reset-above : Rising → (w : Links) (side : Side) (p : ℕ) (d : Down) → IsGood w → Contains (link_of w side).downs (record { path = p; signal = d }) → IsResetAbove w.«unit» side d
-reset-above rising w side p (down.Reset r b) g there = λ e. rising w side p r b g there e
-reset-above rising w side p (down.Select t) g there = tt
-reset-above rising w side p (down.Command t n code room) g there = tt
-reset-above rising w side p (down.Grant t c) g there = tt
-reset-above rising w side p (down.Refuse t c) g there = tt
-reset-above rising w side p (down.Took t n s room) g there = tt
-reset-above rising w side p (down.Give bytes t c n s) g there = tt
-reset-above rising w side p (down.Halt t) g there = tt
-reset-above rising w side p (down.Release t) g there = tt
-reset-above rising w side p (down.Got a) g there = tt
+reset-above rising w side p d g there r b is e =
+    rising w side p r b g (subst (λ (x : Down). Contains (link_of w side).downs (record { path = p; signal = x })) is there) e
 
 -- the step at one side
 step-link : (side : Side) (old new : Links) (cause : LinkCause) → LinksStep old cause new →

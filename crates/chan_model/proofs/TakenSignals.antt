@@ -62,6 +62,7 @@ on-owner (own.Owned k v place) side t c e =
   where
     same-place : (other : Place) → own.Owned k v place ≡ own.Owned side t other → other ≡ place
     same-place other is = cc is
+
     on : (x : Place) → is_place_on x c ≡ true → own.Owned k v place ≡ own.Owned side t x → (q : ℕ) × (own.Owned k v place ≡ own.Owned side t (On q c))
     on (On q d) h is = (q, is ∙ ap (λ (m : ℕ). own.Owned side t (On q m)) (sym (eqb-true c d h)))
     on (Ask q d) h is = absurd (cc h)
@@ -200,3 +201,25 @@ takes-by u side p (down.Release t) may = fresh-takes u side p (down.Release t) _
 takes-by u side p (down.Reset r b) may =
     takes-if u side p (down.Reset r b) (resets u side r b) _ _ (λ e. Resets r b e) (fresh-takes u side p (down.Reset r b) None (Ignores (down.Reset r b)))
 takes-by u side p (down.Got a) may = fresh-takes u side p (down.Got a) _ (works-takes u side p (down.Got a) may)
+
+-- to a side that is fresh it answers a Reset that it takes by Cleared, and all else by Notice
+if-true : (P : Option UnitStep → Type 0) (b : Bool) (x y : Option UnitStep) → b ≡ true → P x → P (if b then x else y)
+if-true P true x y e h = h
+if-true P false x y e h = absurd (cc e)
+
+if-either : (P : Option UnitStep → Type 0) (b : Bool) (x y : Option UnitStep) → P x → P y → P (if b then x else y)
+if-either P true x y g h = g
+if-either P false x y g h = h
+
+pub takes-fresh : (P : Option UnitStep → Type 0) (u : UnitState) (side : Side) (p : ℕ) (d : Down) (may : Bool) → (side_of u side).fresh ≡ true → P (telling u p) →
+    ((r : ℕ) → P (sends (reset_side u side r) p (up.Cleared r))) → P (unit_takes u side p d may)
+takes-fresh P u side p (down.Reset r b) may fresh told cleared = if-either P (resets u side r b) _ _ (cleared r) (if-true P (side_of u side).fresh _ None fresh told)
+takes-fresh P u side p (down.Select t) may fresh told cleared = if-true P (side_of u side).fresh _ _ fresh told
+takes-fresh P u side p (down.Command t n code room) may fresh told cleared = if-true P (side_of u side).fresh _ _ fresh told
+takes-fresh P u side p (down.Grant t c) may fresh told cleared = if-true P (side_of u side).fresh _ _ fresh told
+takes-fresh P u side p (down.Refuse t c) may fresh told cleared = if-true P (side_of u side).fresh _ _ fresh told
+takes-fresh P u side p (down.Took t n s room) may fresh told cleared = if-true P (side_of u side).fresh _ _ fresh told
+takes-fresh P u side p (down.Give bytes t c n s) may fresh told cleared = if-true P (side_of u side).fresh _ _ fresh told
+takes-fresh P u side p (down.Halt t) may fresh told cleared = if-true P (side_of u side).fresh _ _ fresh told
+takes-fresh P u side p (down.Release t) may fresh told cleared = if-true P (side_of u side).fresh _ _ fresh told
+takes-fresh P u side p (down.Got a) may fresh told cleared = if-true P (side_of u side).fresh _ _ fresh told
