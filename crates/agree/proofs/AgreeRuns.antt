@@ -22,7 +22,7 @@ use Rattle.chan_model.specs.UnitTable.{side_of}
 use Rattle.agreement_laws.specs.Invariant.{IsGood}
 use Rattle.agreement_laws.specs.Moving.{hold_stepped, hold_offered, hold_taken, hold_acts, reset_again, still, UnitAct, Leaves, Asks, Reports}
 use Rattle.chan_model.proofs.OneSide.{one-side}
-use Rattle.agreement_laws.proofs.SeenSignals.{IsSent, Commands, Answers, Gives, Halts, sent-as}
+use Rattle.agreement_laws.proofs.SeenSignals.{Rises, IsSent, Commands, Answers, Gives, Halts, sent-as}
 use Rattle.agree.specs.declared.event.WorldEvent.{WorldEvent}
 use Rattle.agree.specs.declared.event.WorldEvent.TheVariants as event
 use Rattle.agree.specs.declared.reply.WorldReply.TheVariants as reply
@@ -40,7 +40,6 @@ use Rattle.agree.proofs.Lasting.{Means, event-lasts}
 use Rattle.agree.proofs.Making.{OnDone, done-weaker, Keeps, Ends, MadeOf, turn-made}
 use Rattle.agree.proofs.Holdings.{holder_of, holding_of, side-restarted}
 use Rattle.agree.proofs.HolderRuns.{event-holds}
-use Rattle.agree.proofs.PathSteps.{Rising}
 
 -- the program of this number holds the device by the hold
 abbrev IsHeldBy : HoldPhase → ℕ → Type 0
@@ -307,21 +306,21 @@ bounded-agrees : (w : WorldState) (e : WorldEvent) (b : Bool) (turn : WorldTurn)
 bounded-agrees w e true turn h = h
 bounded-agrees w e false turn h = tt
 
-turn-agrees : Means → Rising → (w : WorldState) (e : WorldEvent) → IsGood (links_of w) → OnDone (Goes w e) (world_turn w e)
-turn-agrees means rising w e g =
+turn-agrees : Means → Rises → (w : WorldState) (e : WorldEvent) → IsGood (links_of w) → OnDone (Goes w e) (world_turn w e)
+turn-agrees means rises w e g =
     bounded-agrees w e (nat_lt w.steps max_steps) (counted w.steps (world_turn_of w e))
     (counted-agrees w e w.steps (world_turn_of w e)
-    (done-weaker (MadeOf w e) (Goes w e) (λ new made. (event-agrees means w e new g made, (event-holds rising w e new g made).1)) (world_turn_of w e) (turn-made w e)))
+    (done-weaker (MadeOf w e) (Goes w e) (λ new made. (event-agrees means w e new g made, (event-holds rises w e new g made).1)) (world_turn_of w e) (turn-made w e)))
 
 entered-agrees : (w : WorldState) (e : WorldEvent) (turn : WorldTurn) (entries : List WorldEntry) → OnDone (Goes w e) turn → AreAgreed (holding_of (state_after w turn).«unit») entries →
     AreAgreed (holding_of w.«unit») (entered w e turn entries)
 entered-agrees w e (Ok new) entries h rest = (h.0, subst (λ (k : Holding). AreAgreed k entries) h.1 rest)
 entered-agrees w e (Err f) entries h rest = rest
 
-list-agrees : Keeps → Ends → Means → Rising → (w : WorldState) (es : List WorldEvent) → IsWell w → AreAgreed (holding_of w.«unit») (entries_of w es)
-list-agrees keeps ends means rising w [] well = tt
-list-agrees keeps ends means rising w (e ∷ es) well =
-    entered-agrees w e (world_turn w e) (entries_of (world_after w e) es) (turn-agrees means rising w e well.good) (list-agrees keeps ends means rising (world_after w e) es (event-lasts keeps ends w e well).0)
+list-agrees : Keeps → Ends → Means → Rises → (w : WorldState) (es : List WorldEvent) → IsWell w → AreAgreed (holding_of w.«unit») (entries_of w es)
+list-agrees keeps ends means rises w [] well = tt
+list-agrees keeps ends means rises w (e ∷ es) well =
+    entered-agrees w e (world_turn w e) (entries_of (world_after w e) es) (turn-agrees means rises w e well.good) (list-agrees keeps ends means rises (world_after w e) es (event-lasts keeps ends w e well).0)
 
-pub both_agree : Keeps → Ends → Means → Rising → IsWell opening_world → (es : List WorldEvent) → DoBothAgree (entries_of opening_world es)
-both_agree keeps ends means rising well es = list-agrees keeps ends means rising opening_world es well
+pub both_agree : Keeps → Ends → Means → Rises → IsWell opening_world → (es : List WorldEvent) → DoBothAgree (entries_of opening_world es)
+both_agree keeps ends means rises well es = list-agrees keeps ends means rises opening_world es well

@@ -26,8 +26,9 @@ use Rattle.chan_model.specs.UnitTable.{UnitStep, came_of, unit_after, sends, sid
 use Rattle.chan_model.specs.Parts.{reset_side}
 use Rattle.chan_model.proofs.TakenSignals.{Takes, Ignores, Notices, Accepts, Denies, Begins, Joins, Leaves, Parts, Answers, Gives, Halts, Frees, Resets, Forgets, takes-by, takes-fresh}
 use Rattle.chan_model.proofs.Named.{report_absorbed, sent_again}
+use Rattle.agreement_laws.proofs.SeenSignals.{IsResetAbove}
 use Rattle.agreement_laws.specs.HolderSeen.{Holder, Holding, SideAnswered, side_seen, with_seen, with_answered, let_go, is_held_by, held_met, IsMetRight, IsTold}
-use Rattle.agree.proofs.UnitPaths.{floor_of, IsResetAbove}
+use Rattle.agree.proofs.UnitPaths.{floor_of}
 
 -- what a unit keeps of it
 abbrev pub holder_of : Own → Option Holder

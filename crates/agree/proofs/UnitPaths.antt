@@ -16,9 +16,9 @@ use Rattle.chan_model.specs.declared.unit_state.UnitState.{UnitState}
 use Rattle.chan_model.specs.Sides.{same_side}
 use Rattle.chan_model.specs.Parts.{reset_side}
 use Rattle.chan_model.proofs.Named.{without_side}
-use Rattle.chan_model.specs.UnitTable.{UnitStep, side_of, with_side, freed, raised, owns, resets, unit_takes, new_command}
+use Rattle.chan_model.specs.UnitTable.{UnitStep, side_of, with_side, freed, raised, owns, unit_takes, new_command}
 use Rattle.chan_model.proofs.TakenSignals as taken
-use Rattle.agreement_laws.proofs.SeenSignals.{IsPlainDown}
+use Rattle.agreement_laws.proofs.SeenSignals.{IsPlainDown, IsResetAbove}
 
 -- the program of a side that holds the device, and where it is
 pub record Held : Type 0 where
@@ -135,10 +135,6 @@ not-owned (own.Owned k t at) side e = ap (λ (b : Bool). if b then Some (held t 
 without-held : (u : UnitState) (side : Side) (b : Bool) → owns u.own side ≡ b → held_at (if b then freed u else u).own side ≡ None
 without-held u side true e = refl
 without-held u side false e = not-owned u.own side e
-
--- a Reset that is taken is above the floor
-abbrev pub IsResetAbove : UnitState → Side → Down → Type 0
-IsResetAbove u side d = (r b : ℕ) → d ≡ down.Reset r b → resets u side r b ≡ true → floor_of u side < r
 
 reset-frees : (side : Side) (u : UnitState) (p r b : ℕ) → floor_of u side < r → Takes side u p (down.Reset r b) (telling_by (reset_side u side r) p (up.Cleared r))
 reset-frees side u p r b above =

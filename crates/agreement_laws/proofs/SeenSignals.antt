@@ -1,12 +1,17 @@
 -- Signals down by kind: those that a hold sends for its program, and what each leaves of what is seen of a side and of its unit.
-use Rattle.std.specs.Prelude.{◌≡◌, refl, ℕ, ◌||◌, true, Option, Some, List}
+use Rattle.std.proofs.Common.{subst}
+use Rattle.std.specs.Prelude.{◌≡◌, ◌<◌, refl, ℕ, ◌||◌, true, Option, Some, List, Contains}
 use Rattle.chan_model.specs.declared.names.Side.{Side}
 use Rattle.chan_model.specs.declared.names.Side.TheVariants.{First, Second}
 use Rattle.chan_model.specs.declared.hold_state.HoldPhase.{HoldPhase}
 use Rattle.chan_model.specs.declared.signal.Down.TheVariants as down
 use Rattle.chan_model.specs.HoldTable.{is_connected}
 use Rattle.chan_model.specs.Signals.{Down}
+use Rattle.chan_model.specs.declared.unit_state.UnitState.{UnitState}
+use Rattle.chan_model.specs.UnitTable.{resets, side_of}
 use Rattle.agreement_laws.specs.HolderSeen.{Holding, side_seen, taken_after}
+use Rattle.agreement_laws.specs.Invariant.{IsGood}
+use Rattle.agreement_laws.specs.Links.{Links, link_of}
 use Rattle.agreement_laws.specs.Moving.{IsOfProgram}
 use Rattle.agreement_laws.specs.PathsSeen.{Connected, granted_on, way_of, TakesRight}
 use Rattle.agreement_laws.specs.Sending.{is_away, is_on_path, may_send}
@@ -85,3 +90,15 @@ tied-more ks ls p (down.Halt t) more tied = tt
 tied-more ks ls p (down.Release t) more tied = tt
 tied-more ks ls p (down.Reset r b) more tied = tt
 tied-more ks ls p (down.Got a) more tied = tt
+
+-- a Reset that the unit would take is above the floor of its side, where the laws say so of one that may arrive
+abbrev pub IsResetAbove : UnitState → Side → Down → Type 0
+IsResetAbove u side d = (r b : ℕ) → d ≡ down.Reset r b → resets u side r b ≡ true → (side_of u side).floor < r
+
+abbrev pub Rises : Type 0
+Rises = (w : Links) (side : Side) (p r b : ℕ) → IsGood w → Contains (link_of w side).downs (record { path = p; signal = down.Reset r b }) →
+    resets w.«unit» side r b ≡ true → (side_of w.«unit» side).floor < r
+
+pub reset-above : Rises → (w : Links) (side : Side) (p : ℕ) (d : Down) → IsGood w → Contains (link_of w side).downs (record { path = p; signal = d }) → IsResetAbove w.«unit» side d
+reset-above rises w side p d good there r b is e =
+    rises w side p r b good (subst (λ (x : Down). Contains (link_of w side).downs (record { path = p; signal = x })) is there) e
