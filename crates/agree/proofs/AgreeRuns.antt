@@ -9,7 +9,6 @@ use Rattle.chan_model.specs.declared.hold_state.HoldState.{HoldState}
 use Rattle.chan_model.specs.declared.names.Side.{Side}
 use Rattle.chan_model.specs.declared.names.Side.TheVariants.{First, Second}
 use Rattle.chan_model.specs.Signals.{Down}
-use Rattle.chan_model.specs.declared.signal.Down.TheVariants as down
 use Rattle.chan_model.specs.declared.signal.OnPath.{OnPath}
 use Rattle.chan_model.specs.Signals.{Up}
 use Rattle.chan_model.specs.declared.signal.Up.TheVariants as up
@@ -22,23 +21,25 @@ use Rattle.chan_model.specs.HoldTable.{HoldStep, program_begun, offer_accepted, 
 use Rattle.chan_model.specs.UnitTable.{side_of}
 use Rattle.agreement_laws.specs.Invariant.{IsGood}
 use Rattle.agreement_laws.specs.Moving.{hold_stepped, hold_offered, hold_taken, hold_acts, reset_again, still, UnitAct, Leaves, Asks, Reports}
+use Rattle.chan_model.proofs.OneSide.{one-side}
+use Rattle.agreement_laws.proofs.SeenSignals.{Rises, IsSent, Commands, Answers, Gives, Halts, sent-as}
 use Rattle.agree.specs.declared.event.WorldEvent.{WorldEvent}
 use Rattle.agree.specs.declared.event.WorldEvent.TheVariants as event
 use Rattle.agree.specs.declared.reply.WorldReply.TheVariants as reply
 use Rattle.agree.specs.Bounds.{IsWell}
 use Rattle.agree.specs.State.{WorldState, links_of, line_of, opening_world}
-use Rattle.agree.specs.Sending.{is_on_path, is_away, may_send}
+use Rattle.agreement_laws.specs.Sending.{is_on_path, is_away}
 use Rattle.agree.specs.Turns.{WorldTurn, world_turn_of, counted, max_steps, world_turn, state_after, world_after}
 use Rattle.agree.specs.Replies.{told_down, told_up, is_taken, chosen_act, heard_reply, met_reply, owner_reply, reply_of}
 use Rattle.agree.specs.Histories.{WorldEntry, entered, entries_of}
-use Rattle.agree.specs.OneHolder.{holder, Holding, is_held_by, holding_after}
-use Rattle.agree.specs.BothAgree.{IsRestarted, IsHolderOr, IsUnheldOr, ComesOfHolder, GoesToHolder, AgreesIn, AreAgreed, DoBothAgree}
+use Rattle.agreement_laws.specs.HolderSeen.{holder, Holding, is_held_by}
+use Rattle.agree.specs.OneHolder.{holding_after}
+use Rattle.agreement_laws.specs.HolderSeen.{IsRestarted, IsHolderOr, IsUnheldOr, ComesOfHolder, GoesToHolder}
+use Rattle.agree.specs.BothAgree.{AgreesIn, AreAgreed, DoBothAgree}
 use Rattle.agree.proofs.Lasting.{Means, event-lasts}
 use Rattle.agree.proofs.Making.{OnDone, done-weaker, Keeps, Ends, MadeOf, turn-made}
 use Rattle.agree.proofs.Holdings.{holder_of, holding_of, side-restarted}
 use Rattle.agree.proofs.HolderRuns.{event-holds}
-use Rattle.agree.proofs.PathSteps.{Rising}
-use Rattle.agree.proofs.Aparting.{one-side}
 
 -- the program of this number holds the device by the hold
 abbrev IsHeldBy : HoldPhase → ℕ → Type 0
@@ -120,18 +121,12 @@ either true b e = inl refl
 either false b e = inr e
 
 -- what a side sends for its program
-sends-agrees : (u : UnitState) (side : Side) (phase : HoldPhase) (p : ℕ) (d : Down) → may_send phase p d ≡ true → IsAgreedAt phase u side → GoesToHolder (holding_of u) side d
-sends-agrees u side phase p (down.Command t n code room) e a = held-agrees u side phase t (path-held phase t p e) a
-sends-agrees u side phase p (down.Took t n s room) e a = held-agrees u side phase t (path-held phase t p e) a
-sends-agrees u side phase p (down.Give bytes t c n s) e a = held-agrees u side phase t (connected-held phase p t c e) a
-sends-agrees u side phase p (down.Halt t) e a =
-    held-agrees u side phase t (elim (either (is_on_path phase t p) (is_away phase t) e) [ inl on ↦ path-held phase t p on | inr away ↦ away-held phase t away ]) a
-sends-agrees u side phase p (down.Select t) e a = absurd (cc e)
-sends-agrees u side phase p (down.Grant t c) e a = absurd (cc e)
-sends-agrees u side phase p (down.Refuse t c) e a = absurd (cc e)
-sends-agrees u side phase p (down.Release t) e a = absurd (cc e)
-sends-agrees u side phase p (down.Reset r b) e a = absurd (cc e)
-sends-agrees u side phase p (down.Got x) e a = absurd (cc e)
+sent-agrees : (u : UnitState) (side : Side) (phase : HoldPhase) (p : ℕ) (d : Down) → IsSent phase p d → IsAgreedAt phase u side → GoesToHolder (holding_of u) side d
+sent-agrees u side phase p _ (Commands t n code room on) a = held-agrees u side phase t (path-held phase t p on) a
+sent-agrees u side phase p _ (Answers t n s room on) a = held-agrees u side phase t (path-held phase t p on) a
+sent-agrees u side phase p _ (Gives bytes t c n s on) a = held-agrees u side phase t (connected-held phase p t c on) a
+sent-agrees u side phase p _ (Halts t there) a =
+    held-agrees u side phase t (elim (either (is_on_path phase t p) (is_away phase t) there) [ inl on ↦ path-held phase t p on | inr away ↦ away-held phase t away ]) a
 
 -- as it is chosen, and as it lets the device go
 chosen-agrees : (u : UnitState) (side : Side) (n : ℕ) (h : HoldState) (phase : HoldPhase) (p : ℕ) (single : Bool) → h.phase ≡ phase → IsAgreedAt phase u side → AgreesIn (told_down side (hold_acts n h (chosen_act phase p single)).sent) (holding_of u)
@@ -290,7 +285,7 @@ event-agrees means w (event.PathDown s p) new g made = tt
 event-agrees means w (event.PathUp s p) new g made = tt
 event-agrees means w (event.PathReset s p) new g made = tt
 event-agrees means w (event.LetGo s) new g made = lets_go-agrees w.«unit» s (line_of w s).link.drawn (line_of w s).link.hold (line_of w s).link.hold.phase (agreed-at means w s g)
-event-agrees means w (event.Send s p signal) new g made = sends-agrees w.«unit» s (line_of w s).link.hold.phase p signal made.0 (agreed-at means w s g)
+event-agrees means w (event.Send s p signal) new g made = sent-agrees w.«unit» s (line_of w s).link.hold.phase p signal (sent-as (line_of w s).link.hold.phase p signal made.0) (agreed-at means w s g)
 event-agrees means w (event.Clear s) new g made = tt
 event-agrees means w event.SubsystemReset new g made = tt
 event-agrees means w event.Leave new g made = owner-agrees w w.«unit».own Leaves
@@ -311,21 +306,21 @@ bounded-agrees : (w : WorldState) (e : WorldEvent) (b : Bool) (turn : WorldTurn)
 bounded-agrees w e true turn h = h
 bounded-agrees w e false turn h = tt
 
-turn-agrees : Means → Rising → (w : WorldState) (e : WorldEvent) → IsGood (links_of w) → OnDone (Goes w e) (world_turn w e)
-turn-agrees means rising w e g =
+turn-agrees : Means → Rises → (w : WorldState) (e : WorldEvent) → IsGood (links_of w) → OnDone (Goes w e) (world_turn w e)
+turn-agrees means rises w e g =
     bounded-agrees w e (nat_lt w.steps max_steps) (counted w.steps (world_turn_of w e))
     (counted-agrees w e w.steps (world_turn_of w e)
-    (done-weaker (MadeOf w e) (Goes w e) (λ new made. (event-agrees means w e new g made, (event-holds rising w e new g made).1)) (world_turn_of w e) (turn-made w e)))
+    (done-weaker (MadeOf w e) (Goes w e) (λ new made. (event-agrees means w e new g made, (event-holds rises w e new g made).1)) (world_turn_of w e) (turn-made w e)))
 
 entered-agrees : (w : WorldState) (e : WorldEvent) (turn : WorldTurn) (entries : List WorldEntry) → OnDone (Goes w e) turn → AreAgreed (holding_of (state_after w turn).«unit») entries →
     AreAgreed (holding_of w.«unit») (entered w e turn entries)
 entered-agrees w e (Ok new) entries h rest = (h.0, subst (λ (k : Holding). AreAgreed k entries) h.1 rest)
 entered-agrees w e (Err f) entries h rest = rest
 
-list-agrees : Keeps → Ends → Means → Rising → (w : WorldState) (es : List WorldEvent) → IsWell w → AreAgreed (holding_of w.«unit») (entries_of w es)
-list-agrees keeps ends means rising w [] well = tt
-list-agrees keeps ends means rising w (e ∷ es) well =
-    entered-agrees w e (world_turn w e) (entries_of (world_after w e) es) (turn-agrees means rising w e well.good) (list-agrees keeps ends means rising (world_after w e) es (event-lasts keeps ends w e well).0)
+list-agrees : Keeps → Ends → Means → Rises → (w : WorldState) (es : List WorldEvent) → IsWell w → AreAgreed (holding_of w.«unit») (entries_of w es)
+list-agrees keeps ends means rises w [] well = tt
+list-agrees keeps ends means rises w (e ∷ es) well =
+    entered-agrees w e (world_turn w e) (entries_of (world_after w e) es) (turn-agrees means rises w e well.good) (list-agrees keeps ends means rises (world_after w e) es (event-lasts keeps ends w e well).0)
 
-pub both_agree : Keeps → Ends → Means → Rising → IsWell opening_world → (es : List WorldEvent) → DoBothAgree (entries_of opening_world es)
-both_agree keeps ends means rising well es = list-agrees keeps ends means rising opening_world es well
+pub both_agree : Keeps → Ends → Means → Rises → IsWell opening_world → (es : List WorldEvent) → DoBothAgree (entries_of opening_world es)
+both_agree keeps ends means rises well es = list-agrees keeps ends means rises opening_world es well

@@ -13,9 +13,9 @@ use Rattle.chan_model.specs.declared.unit_state.Own.{Own}
 use Rattle.chan_model.specs.declared.unit_state.Own.TheVariants as own
 use Rattle.chan_model.specs.declared.unit_state.Place.TheVariants as place
 use Rattle.chan_model.specs.declared.unit_state.UnitState.{UnitState}
-use Rattle.chan_model.specs.Sides.{same_side}
 use Rattle.chan_model.specs.UnitTable.{unit_after, owns, is_idle, leaving, asking, attending, telling, noticing, side_of}
 use Rattle.chan_model.specs.UnitReports.{unit_reports}
+use Rattle.chan_model.proofs.OneSide.{one-side}
 use Rattle.unit.specs.UnitWords.{LeavesOther}
 use Rattle.unit.proofs.Apart.{leaves-same, leaves-program, leaves-changed, leaves-if, leaves-unit_takes, owns-other, apart}
 use Rattle.agreement_laws.specs.Moving.{UnitAct, Takes_down, Leaves, Asks, Attends, Notices, Reports, unit_steps, is_owner_side}
@@ -97,12 +97,6 @@ OfOwner w new = (side : Side) → owns w.«unit».own side ≡ true → IsApart 
 pub owner-same : (o : Own) (side : Side) → owns o side ≡ is_owner_side o side
 owner-same own.Idle side = refl
 owner-same (own.Owned k t at) side = refl
-
-pub one-side : (k side : Side) → same_side k side ≡ true → k ≡ side
-one-side First First e = refl
-one-side First Second e = absurd (cc e)
-one-side Second First e = absurd (cc e)
-one-side Second Second e = refl
 
 owner-apart : (w : WorldState) (act : UnitAct) → ((side : Side) → owns w.«unit».own side ≡ true → Keeps side w.«unit» act) →
     OnDone (OfOwner w) (at_owner w w.«unit».own (λ side. at_world_unit w side (acts_for (both_of w side) act)))

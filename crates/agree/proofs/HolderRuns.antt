@@ -5,7 +5,6 @@ use Rattle.chan_model.specs.declared.fault.Fault.TheVariants.{NoMemory}
 use Rattle.chan_model.specs.declared.names.Side.{Side}
 use Rattle.chan_model.specs.declared.names.Side.TheVariants.{First, Second}
 use Rattle.chan_model.specs.Signals.{Down}
-use Rattle.chan_model.specs.declared.signal.Down.TheVariants as down
 use Rattle.chan_model.specs.declared.signal.OnPath.{OnPath}
 use Rattle.chan_model.specs.Signals.{Up}
 use Rattle.chan_model.specs.declared.signal.Up.TheVariants as up
@@ -15,8 +14,10 @@ use Rattle.chan_model.specs.declared.unit_state.Place.TheVariants as place
 use Rattle.chan_model.specs.declared.unit_state.UnitState.{UnitState}
 use Rattle.chan_model.specs.Sides.{same_side}
 use Rattle.chan_model.specs.UnitTable.{UnitStep, came_of}
+use Rattle.chan_model.proofs.OneSide.{one-side, same-side}
 use Rattle.agreement_laws.specs.Moving.{HoldAct, UnitAct, Takes_down, Leaves, Asks, Attends, Notices, Reports, unit_steps, is_owner_side, Hold_acts, Unit_acts, LinksStep}
 use Rattle.agreement_laws.specs.Invariant.{IsGood}
+use Rattle.agreement_laws.proofs.SeenSignals.{Rises, reset-above, taken-number}
 use Rattle.agree.specs.declared.event.WorldEvent.{WorldEvent}
 use Rattle.agree.specs.declared.event.WorldEvent.TheVariants as event
 use Rattle.agree.specs.declared.reply.WorldReply.{WorldReply}
@@ -26,7 +27,8 @@ use Rattle.agree.specs.State.{WorldState, links_of, line_of, opening_world}
 use Rattle.agree.specs.Turns.{WorldTurn, world_turn_of, counted, max_steps, world_turn, state_after, world_after}
 use Rattle.agree.specs.Replies.{told_down, told_up, met_reply, heard_reply, owner_reply, reply_of}
 use Rattle.agree.specs.Histories.{WorldEntry, entered, entries_of}
-use Rattle.agree.specs.OneHolder.{holder, Holding, SideAnswered, let_go, is_held_by, with_seen, with_restart, restarted_by, held_after, taken_after, side_seen, with_answered, held_in, holding_after, IsHolder, IsAnswerOf, IsSaidRight, IsReplyRight, nothing_held, AreOfHolder, HasOneHolder, with_accept, accepts_in, accepts_of, AreAbove, IsBegunOnce}
+use Rattle.agreement_laws.specs.HolderSeen.{holder, Holding, SideAnswered, let_go, is_held_by, with_seen, with_restart, held_after, side_seen, with_answered, IsHolder, IsAnswerOf, IsSaidRight, with_accept}
+use Rattle.agree.specs.OneHolder.{restarted_by, held_in, holding_after, IsReplyRight, nothing_held, AreOfHolder, HasOneHolder, accepts_in, accepts_of, AreAbove, IsBegunOnce}
 use Rattle.agree.proofs.Lasting.{event-lasts}
 use Rattle.agree.proofs.Making.{OnDone, done-weaker, Keeps, Ends, MadeOf, turn-made, heard_cause, met_cause}
 use Rattle.agree.proofs.Holdings.{holder_of, holding_of, Turns, takes-turns, takes-told-after, reports-keep, leaving-keeps, asking-keeps, attending-keeps, noticing-keeps}
@@ -34,9 +36,7 @@ use Rattle.agree.proofs.Holdings as holdings
 use Rattle.agree.proofs.UnitActs.{IsOfConnection, Acts, Idles, Says, Begins, Asks, Sends, reports-acts, leaving-acts, asking-acts, attending-acts, noticing-acts}
 use Rattle.agree.proofs.UnitActs as unit_acts
 use Rattle.agree.proofs.UnitPaths.{Held, held, held_at}
-use Rattle.agree.proofs.PathSteps.{Rising, reset-above}
 use Rattle.agree.proofs.PathRuns.{stepped}
-use Rattle.agree.proofs.Aparting.{one-side}
 
 -- an event is right, and what is seen is what the unit keeps
 abbrev pub Holds : WorldState → WorldEvent → WorldState → Type 0
@@ -59,11 +59,11 @@ heard-unit w new s may None st = ap holding_of st.«unit»
 heard-unit w new s may (Some x) st = ap holding_of st.«unit»
 
 -- a signal arrives at the unit
-met-holds : Rising → (s : Side) (w new : WorldState) (may : Bool) (o : Option (OnPath Down)) → IsGood (links_of w) → LinksStep (links_of w) (met_cause s o may) (links_of new) →
+met-holds : Rises → (s : Side) (w new : WorldState) (may : Bool) (o : Option (OnPath Down)) → IsGood (links_of w) → LinksStep (links_of w) (met_cause s o may) (links_of new) →
     IsReplyRight (met_reply s w.«unit» o may) (holding_of w.«unit») × (holding_of new.«unit» ≡ held_in (met_reply s w.«unit» o may) (holding_of w.«unit»))
-met-holds rising s w new may None g st = (tt, ap holding_of st.«unit»)
-met-holds rising s w new may (Some x) g st =
-    let above = reset-above rising (links_of w) s x.path x.signal g st.given in
+met-holds rises s w new may None g st = (tt, ap holding_of st.«unit»)
+met-holds rises s w new may (Some x) g st =
+    let above = reset-above rises (links_of w) s x.path x.signal g st.given in
     let turns : Turns w.«unit» s x.signal (unit_steps w.«unit» (Takes_down s x may)) = takes-turns w.«unit» s x.path x.signal may above in
     ((turns.right, λ e. takes-told-after w.«unit» s x.path x.signal may e), ap holding_of st.«unit» ∙ turns.next)
 
@@ -112,37 +112,33 @@ owner-holds : (w new : WorldState) (act : UnitAct) (o : Own) → w.«unit».own 
     holdings.Keeps w.«unit» (unit_steps w.«unit» act) → LinksStep (links_of w) (Unit_acts act) (links_of new) →
     IsReplyRight (owner_reply o w.«unit» act) (holding_of w.«unit») × (holding_of new.«unit» ≡ held_in (owner_reply o w.«unit» act) (holding_of w.«unit»))
 owner-holds w new act own.Idle e acts keeps st = (tt, ap holding_of st.«unit» ∙ keeps)
-owner-holds w new act (own.Owned s t at) e acts keeps st = acts-hold s w new act (acts s (ap (λ (x : Own). is_owner_side x s) e ∙ one s)) keeps st
-  where
-    one : (j : Side) → same_side j j ≡ true
-    one First = refl
-    one Second = refl
+owner-holds w new act (own.Owned s t at) e acts keeps st = acts-hold s w new act (acts s (ap (λ (x : Own). is_owner_side x s) e ∙ same-side s)) keeps st
 
 hold-holds : (w new : WorldState) (s : Side) (act : HoldAct) (sent : Option (OnPath Down)) → LinksStep (links_of w) (Hold_acts s act) (links_of new) →
     IsReplyRight (told_down s sent) (holding_of w.«unit») × (holding_of new.«unit» ≡ held_in (told_down s sent) (holding_of w.«unit»))
 hold-holds w new s act sent st = let right = told-right s (holding_of w.«unit») sent in (right.0, hold-unit w new s act st ∙ sym right.1)
 
-pub event-holds : Rising → (w : WorldState) (e : WorldEvent) (new : WorldState) → IsGood (links_of w) → MadeOf w e new → Holds w e new
-event-holds rising w (event.Choose s p single) new g made = hold-holds w new s _ _ (stepped w (event.Choose s p single) new made)
-event-holds rising w (event.Down s place keep may) new g made = met-holds rising s w new may (slice_get (line_of w s).link.downs place) g (stepped w (event.Down s place keep may) new made)
-event-holds rising w (event.Up s place keep may) new g made =
+pub event-holds : Rises → (w : WorldState) (e : WorldEvent) (new : WorldState) → IsGood (links_of w) → MadeOf w e new → Holds w e new
+event-holds rises w (event.Choose s p single) new g made = hold-holds w new s _ _ (stepped w (event.Choose s p single) new made)
+event-holds rises w (event.Down s place keep may) new g made = met-holds rises s w new may (slice_get (line_of w s).link.downs place) g (stepped w (event.Down s place keep may) new made)
+event-holds rises w (event.Up s place keep may) new g made =
     let o : Option (OnPath Up) = slice_get (line_of w s).link.ups place in
     let right = heard-right s w may o (holding_of w.«unit») in (right.0, heard-unit w new s may o (stepped w (event.Up s place keep may) new made) ∙ sym right.1)
-event-holds rising w (event.LoseDown s place) new g made = hold-holds w new s _ None (stepped w (event.LoseDown s place) new made)
-event-holds rising w (event.LoseUp s place) new g made = hold-holds w new s _ None (stepped w (event.LoseUp s place) new made)
-event-holds rising w (event.PathDown s p) new g made = hold-holds w new s _ None (stepped w (event.PathDown s p) new made)
-event-holds rising w (event.PathUp s p) new g made = hold-holds w new s _ None (stepped w (event.PathUp s p) new made)
-event-holds rising w (event.PathReset s p) new g made = hold-holds w new s _ None (stepped w (event.PathReset s p) new made)
-event-holds rising w (event.LetGo s) new g made = hold-holds w new s _ _ (stepped w (event.LetGo s) new made)
-event-holds rising w (event.Send s p signal) new g made = hold-holds w new s _ (Some (record { path = p; signal = signal })) (stepped w (event.Send s p signal) new made.1)
-event-holds rising w (event.Clear s) new g made = hold-holds w new s _ None (stepped w (event.Clear s) new made)
-event-holds rising w event.SubsystemReset new g made = (tt, ap (λ (x : WorldState). holding_of x.«unit») made)
-event-holds rising w event.Leave new g made = owner-holds w new Leaves w.«unit».own refl (λ s h. leaving-acts s w.«unit» h) (leaving-keeps w.«unit» w.«unit».own refl) (stepped w event.Leave new made)
-event-holds rising w (event.Ask p) new g made = owner-holds w new (Asks p) w.«unit».own refl (λ s h. asking-acts s w.«unit» p h) (asking-keeps w.«unit» w.«unit».own p refl) (stepped w (event.Ask p) new made)
-event-holds rising w (event.Attention s p) new g made = acts-hold s w new (Attends s p) (attending-acts s w.«unit» p) (attending-keeps w.«unit» s p) (stepped w (event.Attention s p) new made)
-event-holds rising w (event.Notice s p) new g made = acts-hold s w new (Notices s p) (noticing-acts s w.«unit» p) (noticing-keeps w.«unit» s p) (stepped w (event.Notice s p) new made)
-event-holds rising w event.Restart new g made = (tt, ap holding_of (stepped w event.Restart new made).«unit»)
-event-holds rising w (event.Report report) new g made =
+event-holds rises w (event.LoseDown s place) new g made = hold-holds w new s _ None (stepped w (event.LoseDown s place) new made)
+event-holds rises w (event.LoseUp s place) new g made = hold-holds w new s _ None (stepped w (event.LoseUp s place) new made)
+event-holds rises w (event.PathDown s p) new g made = hold-holds w new s _ None (stepped w (event.PathDown s p) new made)
+event-holds rises w (event.PathUp s p) new g made = hold-holds w new s _ None (stepped w (event.PathUp s p) new made)
+event-holds rises w (event.PathReset s p) new g made = hold-holds w new s _ None (stepped w (event.PathReset s p) new made)
+event-holds rises w (event.LetGo s) new g made = hold-holds w new s _ _ (stepped w (event.LetGo s) new made)
+event-holds rises w (event.Send s p signal) new g made = hold-holds w new s _ (Some (record { path = p; signal = signal })) (stepped w (event.Send s p signal) new made.1)
+event-holds rises w (event.Clear s) new g made = hold-holds w new s _ None (stepped w (event.Clear s) new made)
+event-holds rises w event.SubsystemReset new g made = (tt, ap (λ (x : WorldState). holding_of x.«unit») made)
+event-holds rises w event.Leave new g made = owner-holds w new Leaves w.«unit».own refl (λ s h. leaving-acts s w.«unit» h) (leaving-keeps w.«unit» w.«unit».own refl) (stepped w event.Leave new made)
+event-holds rises w (event.Ask p) new g made = owner-holds w new (Asks p) w.«unit».own refl (λ s h. asking-acts s w.«unit» p h) (asking-keeps w.«unit» w.«unit».own p refl) (stepped w (event.Ask p) new made)
+event-holds rises w (event.Attention s p) new g made = acts-hold s w new (Attends s p) (attending-acts s w.«unit» p) (attending-keeps w.«unit» s p) (stepped w (event.Attention s p) new made)
+event-holds rises w (event.Notice s p) new g made = acts-hold s w new (Notices s p) (noticing-acts s w.«unit» p) (noticing-keeps w.«unit» s p) (stepped w (event.Notice s p) new made)
+event-holds rises w event.Restart new g made = (tt, ap holding_of (stepped w event.Restart new made).«unit»)
+event-holds rises w (event.Report report) new g made =
     owner-holds w new (Reports report) w.«unit».own refl (λ s h. reports-acts s w.«unit» report h) (reports-keep w.«unit» report) (stepped w (event.Report report) new made)
 
 counted-holds : (w : WorldState) (e : WorldEvent) (n : ℕ) (turn : WorldTurn) → OnDone (Holds w e) turn → OnDone (Holds w e) (counted n turn)
@@ -153,23 +149,23 @@ bounded-holds : (w : WorldState) (e : WorldEvent) (b : Bool) (turn : WorldTurn) 
 bounded-holds w e true turn h = h
 bounded-holds w e false turn h = tt
 
-turn-holds : Rising → (w : WorldState) (e : WorldEvent) → IsGood (links_of w) → OnDone (Holds w e) (world_turn w e)
-turn-holds rising w e g =
+turn-holds : Rises → (w : WorldState) (e : WorldEvent) → IsGood (links_of w) → OnDone (Holds w e) (world_turn w e)
+turn-holds rises w e g =
     bounded-holds w e (nat_lt w.steps max_steps) (counted w.steps (world_turn_of w e))
-    (counted-holds w e w.steps (world_turn_of w e) (done-weaker (MadeOf w e) (Holds w e) (λ new made. event-holds rising w e new g made) (world_turn_of w e) (turn-made w e)))
+    (counted-holds w e w.steps (world_turn_of w e) (done-weaker (MadeOf w e) (Holds w e) (λ new made. event-holds rises w e new g made) (world_turn_of w e) (turn-made w e)))
 
 entered-holds : (w : WorldState) (e : WorldEvent) (turn : WorldTurn) (entries : List WorldEntry) → OnDone (Holds w e) turn → AreOfHolder (holding_of (state_after w turn).«unit») entries →
     AreOfHolder (holding_of w.«unit») (entered w e turn entries)
 entered-holds w e (Ok new) entries h rest = (h.0, subst (λ (k : Holding). AreOfHolder k entries) h.1 rest)
 entered-holds w e (Err f) entries h rest = rest
 
-list-holds : Keeps → Ends → Rising → (w : WorldState) (es : List WorldEvent) → IsWell w → AreOfHolder (holding_of w.«unit») (entries_of w es)
-list-holds keeps ends rising w [] well = tt
-list-holds keeps ends rising w (e ∷ es) well =
-    entered-holds w e (world_turn w e) (entries_of (world_after w e) es) (turn-holds rising w e well.good) (list-holds keeps ends rising (world_after w e) es (event-lasts keeps ends w e well).0)
+list-holds : Keeps → Ends → Rises → (w : WorldState) (es : List WorldEvent) → IsWell w → AreOfHolder (holding_of w.«unit») (entries_of w es)
+list-holds keeps ends rises w [] well = tt
+list-holds keeps ends rises w (e ∷ es) well =
+    entered-holds w e (world_turn w e) (entries_of (world_after w e) es) (turn-holds rises w e well.good) (list-holds keeps ends rises (world_after w e) es (event-lasts keeps ends w e well).0)
 
-pub one_holder : Keeps → Ends → Rising → IsWell opening_world → (es : List WorldEvent) → HasOneHolder (entries_of opening_world es)
-one_holder keeps ends rising well es = list-holds keeps ends rising opening_world es well
+pub one_holder : Keeps → Ends → Rises → IsWell opening_world → (es : List WorldEvent) → HasOneHolder (entries_of opening_world es)
+one_holder keeps ends rises well es = list-holds keeps ends rises opening_world es well
 
 -- begun once: what is above a number stays so, and the number that a side answered last never falls
 above-lower : (m n : ℕ) (ts : List ℕ) → m ≤ n → AreAbove n ts → AreAbove m ts
@@ -204,22 +200,22 @@ restarted-last event.Restart k side = restart-last k side
 restarted-last (event.Report report) k side = refl
 
 -- the numbers of the rest, where this is seen next, are above the last with this one
-abbrev Rises : Side → Holding → Holding → List ℕ → List ℕ → Type 0
-Rises side k next ts all = AreAbove (last_of next side) ts → AreAbove (last_of k side) all
+abbrev NumbersRise : Side → Holding → Holding → List ℕ → List ℕ → Type 0
+NumbersRise side k next ts all = AreAbove (last_of next side) ts → AreAbove (last_of k side) all
 
-accept-rises : (side s : Side) (k : Holding) (t : ℕ) (ts : List ℕ) → last_of k s < t → Rises side k (held_after s (up.Accept t) k) ts (with_accept side s (up.Accept t) ts)
+accept-rises : (side s : Side) (k : Holding) (t : ℕ) (ts : List ℕ) → last_of k s < t → NumbersRise side k (held_after s (up.Accept t) k) ts (with_accept side s (up.Accept t) ts)
 accept-rises First First k t ts l h = (l, h)
 accept-rises First Second k t ts l h = h
 accept-rises Second First k t ts l h = h
 accept-rises Second Second k t ts l h = (l, h)
 
-answered-rises : (side s : Side) (k : Holding) (t : ℕ) (ts : List ℕ) → last_of k s < t → Rises side k (with_answered k s t) ts ts
+answered-rises : (side s : Side) (k : Holding) (t : ℕ) (ts : List ℕ) → last_of k s < t → NumbersRise side k (with_answered k s t) ts ts
 answered-rises First First k t ts l h = above-lower (last_of k First) t ts (omega (arith, l)) h
 answered-rises First Second k t ts l h = h
 answered-rises Second First k t ts l h = h
 answered-rises Second Second k t ts l h = above-lower (last_of k Second) t ts (omega (arith, l)) h
 
-cleared-rises : (side s : Side) (k : Holding) (b : Bool) (x : SideAnswered) (ts : List ℕ) → last_of k s < x.number → Rises side k (with_seen (if b then let_go k else k) s x) ts ts
+cleared-rises : (side s : Side) (k : Holding) (b : Bool) (x : SideAnswered) (ts : List ℕ) → last_of k s < x.number → NumbersRise side k (with_seen (if b then let_go k else k) s x) ts ts
 cleared-rises First First k true x ts l h = above-lower (last_of k First) x.number ts (omega (arith, l)) h
 cleared-rises First First k false x ts l h = above-lower (last_of k First) x.number ts (omega (arith, l)) h
 cleared-rises First Second k true x ts l h = h
@@ -229,7 +225,7 @@ cleared-rises Second First k false x ts l h = h
 cleared-rises Second Second k true x ts l h = above-lower (last_of k Second) x.number ts (omega (arith, l)) h
 cleared-rises Second Second k false x ts l h = above-lower (last_of k Second) x.number ts (omega (arith, l)) h
 
-answer-rises : (side s : Side) (k : Holding) (d : Down) (y : Up) (ts : List ℕ) → IsAnswerOf k s d y → Rises side k (held_after s y k) ts (with_accept side s y ts)
+answer-rises : (side s : Side) (k : Holding) (d : Down) (y : Up) (ts : List ℕ) → IsAnswerOf k s d y → NumbersRise side k (held_after s y k) ts (with_accept side s y ts)
 answer-rises side s k d (up.Accept t) ts right h = accept-rises side s k t ts right.2 h
 answer-rises side s k d (up.Busy t) ts right h = answered-rises side s k t ts right.1 h
 answer-rises side s k d (up.Cleared r) ts right h = cleared-rises side s k (is_held_by k.holder s) (record { number = r; restarted = false }) ts right.1 h
@@ -241,7 +237,7 @@ answer-rises side s k d (up.Data load t c n m) ts right h = absurd right
 answer-rises side s k d (up.End t n status more) ts right h = absurd right
 answer-rises side s k d (up.Attn a status) ts right h = absurd right
 
-said-rises : (side s : Side) (k : Holding) (y : Up) (ts : List ℕ) → IsSaidRight k s y → Rises side k k ts (with_accept side s y ts)
+said-rises : (side s : Side) (k : Holding) (y : Up) (ts : List ℕ) → IsSaidRight k s y → NumbersRise side k k ts (with_accept side s y ts)
 said-rises side s k (up.Accept t) ts right h = absurd right
 said-rises side s k (up.Busy t) ts right h = absurd right
 said-rises side s k (up.Cleared r) ts right h = absurd right
@@ -253,26 +249,13 @@ said-rises side s k (up.End t n status more) ts right h = h
 said-rises side s k (up.Notice b) ts right h = h
 said-rises side s k (up.Attn a status) ts right h = h
 
-taken-rises : (side : Side) (k : Holding) (d : Down) (ts : List ℕ) → Rises side k (taken_after d k) ts ts
-taken-rises First k (down.Command t n code room) ts h = h
-taken-rises Second k (down.Command t n code room) ts h = h
-taken-rises side k (down.Select t) ts h = h
-taken-rises side k (down.Grant t c) ts h = h
-taken-rises side k (down.Refuse t c) ts h = h
-taken-rises side k (down.Took t n s room) ts h = h
-taken-rises side k (down.Give bytes t c n s) ts h = h
-taken-rises side k (down.Halt t) ts h = h
-taken-rises side k (down.Release t) ts h = h
-taken-rises side k (down.Reset r b) ts h = h
-taken-rises side k (down.Got a) ts h = h
-
 some-none : (x : OnPath Up) → Some x ≡ None → ⊥
 some-none x e = cc e
 
-reply-rises : (side : Side) (k : Holding) (r : WorldReply) (ts : List ℕ) → IsReplyRight r k → Rises side k (held_in r k) ts (accepts_in side r ts)
+reply-rises : (side : Side) (k : Holding) (r : WorldReply) (ts : List ℕ) → IsReplyRight r k → NumbersRise side k (held_in r k) ts (accepts_in side r ts)
 reply-rises side k reply.Done ts right h = h
 reply-rises side k (reply.Down s x true (Some y)) ts right h = answer-rises side s k x.signal y.signal ts right.0 h
-reply-rises side k (reply.Down s x true None) ts right h = taken-rises side k x.signal ts h
+reply-rises side k (reply.Down s x true None) ts right h = subst (λ (n : ℕ). AreAbove n ts) (taken-number x.signal k side) h
 reply-rises side k (reply.Down s x false (Some y)) ts right h = absurd (some-none y right.0)
 reply-rises side k (reply.Down s x false None) ts right h = h
 reply-rises side k (reply.Up s x taken sent) ts right h = h

@@ -9,19 +9,19 @@ use Rattle.chan_model.specs.declared.names.Side.{Side}
 use Rattle.chan_model.specs.declared.names.Side.TheVariants.{First, Second}
 use Rattle.chan_model.specs.declared.signal.OnPath.{OnPath}
 use Rattle.chan_model.specs.Signals.{Down}
-use Rattle.chan_model.specs.declared.signal.Down.TheVariants as down
 use Rattle.chan_model.specs.Signals.{Up}
 use Rattle.chan_model.specs.declared.unit_state.Own.{Own}
 use Rattle.chan_model.specs.declared.unit_state.Own.TheVariants as own
 use Rattle.chan_model.specs.Sides.{same_side}
 use Rattle.chan_model.specs.UnitTable.{UnitStep, unit_after, came_of, restarted}
 use Rattle.agreement_laws.specs.Links.{Link, Links, link_of}
-use Rattle.agreement_laws.specs.Moving.{HoldAct, Nothing, Offers, Sends_reset, Lets_go, Is_reset, Loses, Takes, Sends, IsOfProgram, still, hold_acts, UnitAct, Takes_down, Leaves, Asks, Attends, Restarts, Notices, Reports, unit_steps, is_to, is_owner_side, sent_by, sent_to, LinkStep, LinkCause, Hold_acts, Unit_acts, IsHoldGiven, IsUnitGiven, LinksStep}
+use Rattle.agreement_laws.specs.Moving.{HoldAct, Nothing, Offers, Sends_reset, Lets_go, Is_reset, Loses, Takes, Sends, still, hold_acts, UnitAct, Takes_down, Leaves, Asks, Attends, Restarts, Notices, Reports, unit_steps, is_to, is_owner_side, sent_by, sent_to, LinkStep, LinkCause, Hold_acts, Unit_acts, IsHoldGiven, IsUnitGiven, LinksStep}
 use Rattle.agreement_laws.specs.Invariant.{IsGood}
 use Rattle.agreement_laws.specs.Claims.{IsResetTaken, EndsByReset}
+use Rattle.agreement_laws.proofs.SeenSignals.{sent-as, sent-of_program}
 use Rattle.agree.specs.declared.event.WorldEvent.{WorldEvent}
 use Rattle.agree.specs.declared.event.WorldEvent.TheVariants as event
-use Rattle.agree.specs.Sending.{may_send}
+use Rattle.agreement_laws.specs.Sending.{may_send}
 use Rattle.agree.specs.State.{LineState, WorldState, links_of, line_of, with_line, is_up}
 use Rattle.chan_model.specs.declared.fault.Fault.TheVariants.{NoSuchPath, NotSent, NotNow}
 use Rattle.agree.specs.Lines.{LineTurn, UnitLine, acts, line_told, unit_stepped, stepping, acts_for, with_downs, with_ups, line_with_path, left_after, without_path, line_chosen, line_let_go, line_sends, heard, hears, met, unit_meets, loses_down, loses_up, cut, goes_down, comes_up, is_cut}
@@ -241,25 +241,12 @@ let_go-made w e side (hold.On t q c) its = act-made w e side Lets_go its tt
 let_go-made w e side (hold.Away t) its = tt
 let_go-made w e side (hold.Letting t q) its = tt
 
--- what a hold may send is a signal of a program
-sent-of_program : (phase : HoldPhase) (p : ℕ) (d : Down) → may_send phase p d ≡ true → IsOfProgram d
-sent-of_program phase p (down.Command t n code room) is = tt
-sent-of_program phase p (down.Took t n s room) is = tt
-sent-of_program phase p (down.Give bytes t c n s) is = tt
-sent-of_program phase p (down.Halt t) is = tt
-sent-of_program phase p (down.Select t) is = absurd (cc is)
-sent-of_program phase p (down.Grant t c) is = absurd (cc is)
-sent-of_program phase p (down.Refuse t c) is = absurd (cc is)
-sent-of_program phase p (down.Release t) is = absurd (cc is)
-sent-of_program phase p (down.Reset r b) is = absurd (cc is)
-sent-of_program phase p (down.Got a) is = absurd (cc is)
-
 sends-made : (w : WorldState) (e : WorldEvent) (side : Side) (p : ℕ) (d : Down) → Hold_acts side (Sends (record { path = p; signal = d })) ≡ cause_of w e →
     OnDone (λ l. (may_send (line_of w side).link.hold.phase p d ≡ true) × Made w e (with_line w side l)) (line_sends (line_of w side) p d)
 sends-made w e side p d its =
     let l : LineState = line_of w side in
     done-where (λ m. (may_send l.link.hold.phase p d ≡ true) × Made w e (with_line w side m)) (may_send l.link.hold.phase p d) NotNow (acts l (Sends (record { path = p; signal = d })))
-    (λ is. (is, act-made w e side (Sends (record { path = p; signal = d })) its (sent-of_program l.link.hold.phase p d is)))
+    (λ is. (is, act-made w e side (Sends (record { path = p; signal = d })) its (sent-of_program l.link.hold.phase p d (sent-as l.link.hold.phase p d is))))
 
 heard-made : (w : WorldState) (e : WorldEvent) (side : Side) (place : ℕ) (keep may : Bool) (x : Option (OnPath Up)) → slice_get (line_of w side).link.ups place ≡ x → heard_cause side x may ≡ cause_of w e →
     OnDone (λ l. Made w e (with_line w side l)) (heard (line_of w side) x place keep may)

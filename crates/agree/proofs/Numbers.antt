@@ -19,7 +19,7 @@ use Rattle.chan_model.specs.UnitTable.{unit_after}
 use Rattle.agreement_laws.specs.Moving.{HoldAct, Nothing, Offers, Sends_reset, Lets_go, Is_reset, Loses, Takes, Sends, hold_acts, hold_stepped, hold_offered, reset_again, still, hold_taken, UnitAct, Takes_down, Leaves, Asks, Attends, Restarts, Notices, Reports, unit_steps}
 use Rattle.agree.specs.declared.event.WorldEvent.{WorldEvent}
 use Rattle.agree.specs.declared.event.WorldEvent.TheVariants as event
-use Rattle.agree.specs.Sending.{may_send}
+use Rattle.agreement_laws.specs.Sending.{may_send}
 use Rattle.agree.specs.State.{LineState, WorldState, line_of, with_line, is_up}
 use Rattle.agree.specs.Lines as line
 use Rattle.agree.specs.Lines.{LineTurn, acts_for, line_chosen, line_let_go, line_sends, heard, hears, met, unit_meets, loses_down, loses_up, cut, goes_down, comes_up, is_cut, with_downs, with_ups, line_with_path}

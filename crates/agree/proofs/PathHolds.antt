@@ -17,10 +17,12 @@ use Rattle.chan_model.specs.HoldTable.{HoldStep, hold_quietly, program_begun, of
 use Rattle.chan_model.specs.ResetCauses.{is_path, engaged_path, rests_on}
 use Rattle.agreement_laws.specs.Links.{Link}
 use Rattle.agreement_laws.specs.Moving.{HoldAct, Nothing, Offers, Sends_reset, Lets_go, Is_reset, Loses, Takes, Sends, HoldActed, still, hold_stepped, hold_offered, reset_again, hold_taken, hold_acts, LinkStep}
+use Rattle.agreement_laws.proofs.SeenSignals.{IsSent, Commands, Answers, Gives, Halts, sent-as}
 use Rattle.agree.specs.declared.reply.WorldReply.TheVariants as reply
-use Rattle.agree.specs.ByItsPath.{Offered, cleared, cut_offer, cut_connected, cut_at, IsOffered, Connected, linked, SeenPaths, way_of, sent_down, answered_down, taken_up, seen_here, IsConnected, IsNumber, IsHaltOn, GoesRight, ArrivesRight, ComesRight, IsHereRight}
+use Rattle.agreement_laws.specs.PathsSeen.{Offered, IsOffered, Connected, linked, SeenPaths, way_of, sent_down, answered_down, taken_up, IsConnected, IsNumber, IsHaltOn, GoesRight, ArrivesRight, ComesRight}
+use Rattle.agree.specs.ByItsPath.{cleared, cut_offer, cut_connected, cut_at, seen_here, IsHereRight}
 use Rattle.agree.specs.Replies.{is_taken}
-use Rattle.agree.specs.Sending.{is_on_path, is_away, may_send}
+use Rattle.agreement_laws.specs.Sending.{is_on_path, is_away, may_send}
 use Rattle.agree.proofs.PathTies.{IsOfferTied, IsPhaseTied, IsAnswerTied, answer-same, IsPhaseWay, IsUpTied, Tied, hold-after, hold-stays, hold-turns}
 
 -- what the hold sent of itself or for its program is right, and the tie goes on
@@ -193,27 +195,21 @@ either false b e = inr e
 sending : (l : Link) (p : ℕ) (d : Down) → HoldActed
 sending l p d = record { drawn = l.drawn; hold = l.hold; sent = Some (record { path = p; signal = d }) }
 
-sends-told : (side : Side) (u : UnitState) (l : Link) (k : SeenPaths) (p : ℕ) (d : Down) → may_send l.hold.phase p d ≡ true → Tied side u l k →
+sent-told : (side : Side) (u : UnitState) (l : Link) (k : SeenPaths) (p : ℕ) (d : Down) → IsSent l.hold.phase p d → Tied side u l k →
     ToldBy side u l k (hold_acts l.drawn l.hold (Sends (record { path = p; signal = d })))
-sends-told side u l k p (down.Command v n code room) e t new s = record { right = on-path l.hold.phase k.connected v p e t.connected; tied = hold-stays side u l new k _ t s refl refl tt }
-sends-told side u l k p (down.Took v n c room) e t new s = record { right = on-path l.hold.phase k.connected v p e t.connected; tied = hold-stays side u l new k _ t s refl refl tt }
-sends-told side u l k p (down.Give bytes v c n m) e t new s =
-    let on = on-connection l.hold.phase k.ways k.connected v p c e t.connected t.hold_way in record { right = on.0; tied = hold-stays side u l new k _ t s refl refl on.1 }
-sends-told side u l k p (down.Halt v) e t new s =
+sent-told side u l k p _ (Commands v n code room is) t new s = record { right = on-path l.hold.phase k.connected v p is t.connected; tied = hold-stays side u l new k _ t s refl refl tt }
+sent-told side u l k p _ (Answers v n c room is) t new s = record { right = on-path l.hold.phase k.connected v p is t.connected; tied = hold-stays side u l new k _ t s refl refl tt }
+sent-told side u l k p _ (Gives bytes v c n m is) t new s =
+    let on = on-connection l.hold.phase k.ways k.connected v p c is t.connected t.hold_way in record { right = on.0; tied = hold-stays side u l new k _ t s refl refl on.1 }
+sent-told side u l k p _ (Halts v there) t new s =
     record {
       right =
-          elim (either (is_on_path l.hold.phase v p) (is_away l.hold.phase v) e) [
+          elim (either (is_on_path l.hold.phase v p) (is_away l.hold.phase v) there) [
             | inl on ↦ halt-of k.connected v p (on-path l.hold.phase k.connected v p on t.connected)
             | inr away ↦ halt-away l.hold.phase k.connected v p away t.connected
           ];
       tied = hold-stays side u l new k _ t s refl refl tt;
     }
-sends-told side u l k p (down.Select v) e t new s = absurd (cc e)
-sends-told side u l k p (down.Grant v c) e t new s = absurd (cc e)
-sends-told side u l k p (down.Refuse v c) e t new s = absurd (cc e)
-sends-told side u l k p (down.Release v) e t new s = absurd (cc e)
-sends-told side u l k p (down.Reset r b) e t new s = absurd (cc e)
-sends-told side u l k p (down.Got a) e t new s = absurd (cc e)
 
 abbrev pub IsSendable : HoldPhase → HoldAct → Type 0
 IsSendable phase (Takes x may) = ⊥
@@ -228,7 +224,7 @@ acts-told side u l k Lets_go g numbered t = lets_go-told side u l k l.hold.phase
 acts-told side u l k Is_reset g numbered t = reset-told side u l k t
 acts-told side u l k (Loses p) g numbered t = loses-told side u l k (rests_on l.hold p) t
 acts-told side u l k (Takes x may) g numbered t = absurd g
-acts-told side u l k (Sends x) g numbered t = sends-told side u l k x.path x.signal g t
+acts-told side u l k (Sends x) g numbered t = sent-told side u l k x.path x.signal (sent-as l.hold.phase x.path x.signal g) t
 
 -- a signal that arrives is taken or not
 pub record Heard (side : Side) (u : UnitState) (new : Link) (k : SeenPaths) (x : OnPath Up) (taken : Bool) (sent : Option (OnPath Down)) : Type 0 where

@@ -14,10 +14,12 @@ use Rattle.chan_model.specs.declared.unit_state.Own.TheVariants as own
 use Rattle.chan_model.specs.Sides.{same_side}
 use Rattle.chan_model.specs.UnitTable.{unit_after, owns, leaving, asking, attending, noticing}
 use Rattle.chan_model.specs.UnitReports.{report_of}
+use Rattle.chan_model.proofs.OneSide.{one-side, same-side}
 use Rattle.unit.specs.UnitWords.{LeavesOther}
 use Rattle.agreement_laws.specs.Links.{link_of}
 use Rattle.agreement_laws.specs.Moving.{HoldAct, Nothing, Lets_go, Is_reset, Sends, hold_acts, UnitAct, Leaves, Asks, Attends, Notices, Reports, unit_steps, is_to, is_owner_side, LinkCause, Hold_acts, Unit_acts, LinksStep}
 use Rattle.agreement_laws.specs.Invariant.{IsGood}
+use Rattle.agreement_laws.proofs.SeenSignals.{Rises}
 use Rattle.agree.specs.declared.event.WorldEvent.{WorldEvent}
 use Rattle.agree.specs.declared.event.WorldEvent.TheVariants as event
 use Rattle.agree.specs.declared.reply.WorldReply.TheVariants as reply
@@ -27,15 +29,16 @@ use Rattle.agree.specs.Lines.{acts}
 use Rattle.agree.specs.Turns.{WorldTurn, all_reset, world_turn_of, counted, max_steps, world_turn, state_after, world_after}
 use Rattle.agree.specs.Replies.{told_down, chosen_act, met_reply, heard_reply, owner_reply, reply_of}
 use Rattle.agree.specs.Histories.{WorldEntry, entered, entries_of}
-use Rattle.agree.specs.ByItsPath.{cleared, SeenPaths, seen_in, seen_after, AreRight, nothing_seen, IsByItsPath}
-use Rattle.agree.proofs.Aparting.{one-side, attends-leaves, notices-leaves, leaving-leaves, asking-leaves, report-leaves}
+use Rattle.agreement_laws.specs.PathsSeen.{SeenPaths}
+use Rattle.agree.specs.ByItsPath.{cleared, seen_in, seen_after, AreRight, nothing_seen, IsByItsPath}
+use Rattle.agree.proofs.Aparting.{attends-leaves, notices-leaves, leaving-leaves, asking-leaves, report-leaves}
 use Rattle.agree.proofs.Lasting.{event-lasts}
 use Rattle.agree.proofs.Making.{OnDone, done-weaker, Keeps, Ends, Made, MadeOf, turn-made, heard_cause, met_cause, cause_of, first-reset, second-reset}
 use Rattle.agree.proofs.UnitActs.{Acts, reports-acts, leaving-acts, asking-acts, attending-acts, noticing-acts, apart-still}
 use Rattle.agree.proofs.UnitPaths.{IsStill}
 use Rattle.agree.proofs.UnitPaths as paths
 use Rattle.agree.proofs.PathHolds.{IsSendable}
-use Rattle.agree.proofs.PathSteps.{TiedIn, Right, Rising, hold-right, clear-right, cut-right, heard-right, other-unit, said-right, met-right, restart-right}
+use Rattle.agree.proofs.PathSteps.{TiedIn, Right, hold-right, clear-right, cut-right, heard-right, other-unit, said-right, met-right, restart-right}
 
 pub at-line : (w : WorldState) (s : Side) → link_of (links_of w) s ≡ (line_of w s).link
 at-line w First = refl
@@ -71,10 +74,10 @@ heard-goes : (side s : Side) (w new : WorldState) (k : SeenPaths) (may : Bool) (
 heard-goes side s w new k may None g st t = quiet-right side s w new k Nothing refl g tt st t
 heard-goes side s w new k may (Some x) g st t = heard-right side s (links_of w) (links_of new) k x may (line_of w s).link (at-line w s) st t
 
-met-goes : Rising → (side s : Side) (w new : WorldState) (k : SeenPaths) (may : Bool) (o : Option (OnPath Down)) → IsGood (links_of w) → LinksStep (links_of w) (met_cause s o may) (links_of new) → TiedIn side (links_of w) k →
+met-goes : Rises → (side s : Side) (w new : WorldState) (k : SeenPaths) (may : Bool) (o : Option (OnPath Down)) → IsGood (links_of w) → LinksStep (links_of w) (met_cause s o may) (links_of new) → TiedIn side (links_of w) k →
     Right side (met_reply s w.«unit» o may) k (links_of new) (seen_in side (met_reply s w.«unit» o may) k)
-met-goes rising side s w new k may None g st t = quiet-right side s w new k Nothing refl g tt st t
-met-goes rising side s w new k may (Some x) g st t = met-right rising side s (links_of w) (links_of new) k x may g st t
+met-goes rises side s w new k may None g st t = quiet-right side s w new k Nothing refl g tt st t
+met-goes rises side s w new k may (Some x) g st t = met-right rises side s (links_of w) (links_of new) k x may g st t
 
 -- of the side whose program holds the device
 owner-goes : (side : Side) (w new : WorldState) (k : SeenPaths) (act : UnitAct) (o : Own) → w.«unit».own ≡ o → ((s : Side) → is_to w.«unit» act s ≡ is_owner_side w.«unit».own s) →
@@ -90,30 +93,26 @@ owner-goes side w new k act own.Idle e to acts leaves idle st t = (
 owner-goes side w new k act (own.Owned s n at) e to acts leaves idle st t =
     let mine : is_owner_side w.«unit».own side ≡ same_side s side = ap (λ (x : Own). is_owner_side x side) e in
     said-right side s (links_of w) (links_of new) k act (to side ∙ mine) (λ h. acts (mine ∙ h))
-    (λ h. apart-still w.«unit» _ s side h (leaves s (ap (λ (x : Own). owns x s) e ∙ one s))) st t
-  where
-    one : (j : Side) → same_side j j ≡ true
-    one First = refl
-    one Second = refl
+    (λ h. apart-still w.«unit» _ s side h (leaves s (ap (λ (x : Own). owns x s) e ∙ same-side s))) st t
 
-pub event-goes : Rising → (side : Side) (k : SeenPaths) (w : WorldState) (e : WorldEvent) (new : WorldState) → IsGood (links_of w) → TiedIn side (links_of w) k → MadeOf w e new → Goes side k w e new
-event-goes rising side k w (event.Choose s p single) new g t made =
+pub event-goes : Rises → (side : Side) (k : SeenPaths) (w : WorldState) (e : WorldEvent) (new : WorldState) → IsGood (links_of w) → TiedIn side (links_of w) k → MadeOf w e new → Goes side k w e new
+event-goes rises side k w (event.Choose s p single) new g t made =
     holds-right side s w new k (chosen_act (line_of w s).link.hold.phase p single) g (chosen-sendable (line_of w s).link.hold.phase (line_of w s).link.hold.phase p single)
     (stepped w (event.Choose s p single) new made) t
-event-goes rising side k w (event.Down s place keep may) new g t made =
-    met-goes rising side s w new k may (slice_get (line_of w s).link.downs place) g (stepped w (event.Down s place keep may) new made) t
-event-goes rising side k w (event.Up s place keep may) new g t made =
+event-goes rises side k w (event.Down s place keep may) new g t made =
+    met-goes rises side s w new k may (slice_get (line_of w s).link.downs place) g (stepped w (event.Down s place keep may) new made) t
+event-goes rises side k w (event.Up s place keep may) new g t made =
     heard-goes side s w new k may (slice_get (line_of w s).link.ups place) g (stepped w (event.Up s place keep may) new made) t
-event-goes rising side k w (event.LoseDown s place) new g t made = quiet-right side s w new k Nothing refl g tt (stepped w (event.LoseDown s place) new made) t
-event-goes rising side k w (event.LoseUp s place) new g t made = quiet-right side s w new k Nothing refl g tt (stepped w (event.LoseUp s place) new made) t
-event-goes rising side k w (event.PathDown s p) new g t made = (λ h. absurd (cc h), cut-right side s (links_of w) (links_of new) k p (stepped w (event.PathDown s p) new made) t)
-event-goes rising side k w (event.PathUp s p) new g t made = quiet-right side s w new k Nothing refl g tt (stepped w (event.PathUp s p) new made) t
-event-goes rising side k w (event.PathReset s p) new g t made = (λ h. absurd (cc h), cut-right side s (links_of w) (links_of new) k p (stepped w (event.PathReset s p) new made) t)
-event-goes rising side k w (event.LetGo s) new g t made = holds-right side s w new k Lets_go g tt (stepped w (event.LetGo s) new made) t
-event-goes rising side k w (event.Send s p signal) new g t made =
+event-goes rises side k w (event.LoseDown s place) new g t made = quiet-right side s w new k Nothing refl g tt (stepped w (event.LoseDown s place) new made) t
+event-goes rises side k w (event.LoseUp s place) new g t made = quiet-right side s w new k Nothing refl g tt (stepped w (event.LoseUp s place) new made) t
+event-goes rises side k w (event.PathDown s p) new g t made = (λ h. absurd (cc h), cut-right side s (links_of w) (links_of new) k p (stepped w (event.PathDown s p) new made) t)
+event-goes rises side k w (event.PathUp s p) new g t made = quiet-right side s w new k Nothing refl g tt (stepped w (event.PathUp s p) new made) t
+event-goes rises side k w (event.PathReset s p) new g t made = (λ h. absurd (cc h), cut-right side s (links_of w) (links_of new) k p (stepped w (event.PathReset s p) new made) t)
+event-goes rises side k w (event.LetGo s) new g t made = holds-right side s w new k Lets_go g tt (stepped w (event.LetGo s) new made) t
+event-goes rises side k w (event.Send s p signal) new g t made =
     holds-right side s w new k (Sends (record { path = p; signal = signal })) g made.0 (stepped w (event.Send s p signal) new made.1) t
-event-goes rising side k w (event.Clear s) new g t made = (λ h. absurd (cc h), clear-right side s (links_of w) (links_of new) k (stepped w (event.Clear s) new made) t)
-event-goes rising side k w event.SubsystemReset new g t made =
+event-goes rises side k w (event.Clear s) new g t made = (λ h. absurd (cc h), clear-right side s (links_of w) (links_of new) k (stepped w (event.Clear s) new made) t)
+event-goes rises side k w event.SubsystemReset new g t made =
     let mid : WorldState = with_line w First (acts w.first Is_reset) in
     let one = clear-right side First (links_of w) (links_of mid) k (stepped w (event.Clear First) mid (first-reset w)) t in
     let two = clear-right side Second (links_of mid) (links_of (all_reset w)) (if same_side First side then cleared k else k) (stepped mid (event.Clear Second) (all_reset w) (second-reset mid)) one in (
@@ -125,20 +124,20 @@ event-goes rising side k w event.SubsystemReset new g t made =
         TiedIn j (links_of (all_reset w)) (cleared k)
     both First h = h
     both Second h = h
-event-goes rising side k w event.Leave new g t made =
+event-goes rises side k w event.Leave new g t made =
     owner-goes side w new k Leaves w.«unit».own refl (λ s. refl) (λ h. leaving-acts side w.«unit» h) (λ s e. leaving-leaves s w.«unit» w.«unit».own e e)
     (λ e. subst (λ (o : Own). IsStill w.«unit» (unit_after w.«unit» (leaving w.«unit» o)) side) (sym e) (paths.still w.«unit» side)) (stepped w event.Leave new made) t
-event-goes rising side k w (event.Ask p) new g t made =
+event-goes rises side k w (event.Ask p) new g t made =
     owner-goes side w new k (Asks p) w.«unit».own refl (λ s. refl) (λ h. asking-acts side w.«unit» p h) (λ s e. asking-leaves s w.«unit» w.«unit».own p e e)
     (λ e. subst (λ (o : Own). IsStill w.«unit» (unit_after w.«unit» (asking w.«unit» o p)) side) (sym e) (paths.still w.«unit» side)) (stepped w (event.Ask p) new made) t
-event-goes rising side k w (event.Attention s p) new g t made =
+event-goes rises side k w (event.Attention s p) new g t made =
     said-right side s (links_of w) (links_of new) k (Attends s p) refl (λ h. subst (λ (j : Side). Acts side w.«unit» (attending w.«unit» j p)) (sym (one-side s side h)) (attending-acts side w.«unit» p))
     (λ h. apart-still w.«unit» _ s side h (attends-leaves s w.«unit» p)) (stepped w (event.Attention s p) new made) t
-event-goes rising side k w (event.Notice s p) new g t made =
+event-goes rises side k w (event.Notice s p) new g t made =
     said-right side s (links_of w) (links_of new) k (Notices s p) refl (λ h. subst (λ (j : Side). Acts side w.«unit» (noticing w.«unit» j p)) (sym (one-side s side h)) (noticing-acts side w.«unit» p))
     (λ h. apart-still w.«unit» _ s side h (notices-leaves s w.«unit» p)) (stepped w (event.Notice s p) new made) t
-event-goes rising side k w event.Restart new g t made = (λ h. absurd (cc h), restart-right side (links_of w) (links_of new) k (stepped w event.Restart new made) t)
-event-goes rising side k w (event.Report report) new g t made =
+event-goes rises side k w event.Restart new g t made = (λ h. absurd (cc h), restart-right side (links_of w) (links_of new) k (stepped w event.Restart new made) t)
+event-goes rises side k w (event.Report report) new g t made =
     owner-goes side w new k (Reports report) w.«unit».own refl (λ s. refl) (λ h. reports-acts side w.«unit» report h) (λ s e. report-leaves s w.«unit» report e)
     (λ e. subst (λ (o : Own). IsStill w.«unit» (unit_after w.«unit» (report_of w.«unit» o report)) side) (sym e) (paths.still w.«unit» side)) (stepped w (event.Report report) new made) t
 
@@ -151,21 +150,21 @@ bounded-goes : (side : Side) (k : SeenPaths) (w : WorldState) (e : WorldEvent) (
 bounded-goes side k w e true turn h = h
 bounded-goes side k w e false turn h = tt
 
-turn-goes : Rising → (side : Side) (k : SeenPaths) (w : WorldState) (e : WorldEvent) → IsGood (links_of w) → TiedIn side (links_of w) k → OnDone (Goes side k w e) (world_turn w e)
-turn-goes rising side k w e g t =
+turn-goes : Rises → (side : Side) (k : SeenPaths) (w : WorldState) (e : WorldEvent) → IsGood (links_of w) → TiedIn side (links_of w) k → OnDone (Goes side k w e) (world_turn w e)
+turn-goes rises side k w e g t =
     bounded-goes side k w e (nat_lt w.steps max_steps) (counted w.steps (world_turn_of w e))
-    (counted-goes side k w e w.steps (world_turn_of w e) (done-weaker (MadeOf w e) (Goes side k w e) (λ new made. event-goes rising side k w e new g t made) (world_turn_of w e) (turn-made w e)))
+    (counted-goes side k w e w.steps (world_turn_of w e) (done-weaker (MadeOf w e) (Goes side k w e) (λ new made. event-goes rises side k w e new g t made) (world_turn_of w e) (turn-made w e)))
 
 entered-right : (side : Side) (k : SeenPaths) (w : WorldState) (e : WorldEvent) (turn : WorldTurn) (entries : List WorldEntry) → OnDone (Goes side k w e) turn →
     ((next : SeenPaths) → TiedIn side (links_of (state_after w turn)) next → AreRight side next entries) → TiedIn side (links_of w) k → AreRight side k (entered w e turn entries)
 entered-right side k w e (Ok new) entries h rest t = (h.0, rest (seen_after side e (reply_of w e) k) h.1)
 entered-right side k w e (Err f) entries h rest t = rest k t
 
-pub list-right : Keeps → Ends → Rising → (side : Side) (k : SeenPaths) (w : WorldState) (es : List WorldEvent) → IsWell w → TiedIn side (links_of w) k → AreRight side k (entries_of w es)
-list-right keeps ends rising side k w [] well t = tt
-list-right keeps ends rising side k w (e ∷ es) well t =
-    entered-right side k w e (world_turn w e) (entries_of (world_after w e) es) (turn-goes rising side k w e well.good t)
-    (λ next h. list-right keeps ends rising side next (world_after w e) es (event-lasts keeps ends w e well).0 h) t
+pub list-right : Keeps → Ends → Rises → (side : Side) (k : SeenPaths) (w : WorldState) (es : List WorldEvent) → IsWell w → TiedIn side (links_of w) k → AreRight side k (entries_of w es)
+list-right keeps ends rises side k w [] well t = tt
+list-right keeps ends rises side k w (e ∷ es) well t =
+    entered-right side k w e (world_turn w e) (entries_of (world_after w e) es) (turn-goes rises side k w e well.good t)
+    (λ next h. list-right keeps ends rises side next (world_after w e) es (event-lasts keeps ends w e well).0 h) t
 
 -- at the opening
 none-there : {A : Type 0} → (x : A) → Contains [] x → ⊥
@@ -175,5 +174,5 @@ open-tied : (side : Side) → TiedIn side (links_of opening_world) nothing_seen
 open-tied First = record { offered = tt; connected = refl; answered = tt; moving = refl; hold_way = tt; unit_way = tt; below = tt; last = tt; mine = tt; downs = λ x c. absurd (none-there x c); ups = λ x c. absurd (none-there x c) }
 open-tied Second = record { offered = tt; connected = refl; answered = tt; moving = refl; hold_way = tt; unit_way = tt; below = tt; last = tt; mine = tt; downs = λ x c. absurd (none-there x c); ups = λ x c. absurd (none-there x c) }
 
-pub by_its_path : Keeps → Ends → Rising → IsWell opening_world → (es : List WorldEvent) → IsByItsPath (entries_of opening_world es)
-by_its_path keeps ends rising well es side = list-right keeps ends rising side nothing_seen opening_world es well (open-tied side)
+pub by_its_path : Keeps → Ends → Rises → IsWell opening_world → (es : List WorldEvent) → IsByItsPath (entries_of opening_world es)
+by_its_path keeps ends rises well es side = list-right keeps ends rises side nothing_seen opening_world es well (open-tied side)

@@ -13,18 +13,20 @@ use Rattle.chan_model.specs.Signals.{Up}
 use Rattle.chan_model.specs.declared.signal.Up.TheVariants as up
 use Rattle.chan_model.specs.declared.unit_state.UnitState.{UnitState}
 use Rattle.chan_model.specs.Sides.{same_side}
-use Rattle.chan_model.specs.UnitTable.{unit_after, came_of, side_of, resets, restarted}
+use Rattle.chan_model.specs.UnitTable.{unit_after, came_of, restarted}
+use Rattle.chan_model.proofs.OneSide.{one-side, same-side}
 use Rattle.unit.proofs.Apart.{leaves-unit_takes}
 use Rattle.agreement_laws.specs.Links.{Link, Links, link_of}
 use Rattle.agreement_laws.specs.Moving.{HoldAct, Loses, Takes, Is_reset, still, hold_acts, hold_taken, UnitAct, Takes_down, Restarts, unit_steps, is_to, sent_by, sent_to, LinkStep, LinkCause, Hold_acts, Unit_acts, act_if, act_at, sent_at, LinksStep}
 use Rattle.agreement_laws.specs.Invariant.{Ends, ends_of, IsSelectGood, IsDownGood, IsUpGood, IsSideGood, IsGood}
+use Rattle.agreement_laws.proofs.SeenSignals.{Rises, reset-above}
 use Rattle.agree.specs.declared.reply.WorldReply.{WorldReply}
 use Rattle.agree.specs.declared.reply.WorldReply.TheVariants as reply
 use Rattle.agree.specs.Replies.{told_down, told_up, is_taken, arrived_reply}
-use Rattle.agree.specs.ByItsPath.{cleared, cut_at, SeenPaths, sent_down, sent_up, seen_here, is_at, seen_in, IsHereRight, IsRight}
-use Rattle.agree.proofs.UnitPaths.{floor_of, IsStill, same-side, IsResetAbove, takes-takes}
+use Rattle.agreement_laws.specs.PathsSeen.{SeenPaths, sent_down, sent_up}
+use Rattle.agree.specs.ByItsPath.{cleared, cut_at, seen_here, is_at, seen_in, IsHereRight, IsRight}
+use Rattle.agree.proofs.UnitPaths.{floor_of, IsStill, takes-takes}
 use Rattle.agree.proofs.UnitActs.{Acts, apart-still}
-use Rattle.agree.proofs.Aparting.{one-side}
 use Rattle.agree.proofs.PathTies.{IsOfferOn, Tied, hold-stays, unit-after-same, unit-stays}
 use Rattle.agree.proofs.PathHolds.{Told, IsNumbered, AreNumbered, IsSendable, acts-told, cleared-tied, cut-tied, Heard, takes-heard}
 use Rattle.agree.proofs.PathUnits.{Met, takes-met, Said, acts-said}
@@ -78,22 +80,6 @@ offer-on w side x g there t e l =
     let good : IsDownGood (ends_of (link_of w side).drawn (link_of w side).hold w.«unit» side) x.path (down.Select t) =
     subst (λ (d : Down). IsDownGood (ends_of (link_of w side).drawn (link_of w side).hold w.«unit» side) x.path d) e (down-good w side x g there) in
     select-on (link_of w side).hold.phase (floor_of w.«unit» side) x.path t l good.1
-
--- what the laws say of a Reset that may arrive
-abbrev pub Rising : Type 0
-Rising = (w : Links) (side : Side) (p r b : ℕ) → IsGood w → Contains (link_of w side).downs (record { path = p; signal = down.Reset r b }) → resets w.«unit» side r b ≡ true → (side_of w.«unit» side).floor < r
-
-pub reset-above : Rising → (w : Links) (side : Side) (p : ℕ) (d : Down) → IsGood w → Contains (link_of w side).downs (record { path = p; signal = d }) → IsResetAbove w.«unit» side d
-reset-above rising w side p (down.Reset r b) g there = λ e. rising w side p r b g there e
-reset-above rising w side p (down.Select t) g there = tt
-reset-above rising w side p (down.Command t n code room) g there = tt
-reset-above rising w side p (down.Grant t c) g there = tt
-reset-above rising w side p (down.Refuse t c) g there = tt
-reset-above rising w side p (down.Took t n s room) g there = tt
-reset-above rising w side p (down.Give bytes t c n s) g there = tt
-reset-above rising w side p (down.Halt t) g there = tt
-reset-above rising w side p (down.Release t) g there = tt
-reset-above rising w side p (down.Got a) g there = tt
 
 -- the step at one side
 step-link : (side : Side) (old new : Links) (cause : LinkCause) → LinksStep old cause new →
@@ -252,9 +238,9 @@ pub said-right : (side s : Side) (old new : Links) (k : SeenPaths) (act : UnitAc
 said-right side s old new k act to acts apart st t = said-by side s (same_side s side) refl old new k act to acts apart st t
 
 -- a signal arrives at the unit
-met-by : Rising → (side s : Side) (b : Bool) → same_side s side ≡ b → (old new : Links) (k : SeenPaths) (x : OnPath Down) (may : Bool) → IsGood old → LinksStep old (Unit_acts (Takes_down s x may)) new → TiedIn side old k →
+met-by : Rises → (side s : Side) (b : Bool) → same_side s side ≡ b → (old new : Links) (k : SeenPaths) (x : OnPath Down) (may : Bool) → IsGood old → LinksStep old (Unit_acts (Takes_down s x may)) new → TiedIn side old k →
     Right side (arrived_reply s x (came_of (unit_steps old.«unit» (Takes_down s x may)))) k new (seen_in side (arrived_reply s x (came_of (unit_steps old.«unit» (Takes_down s x may)))) k)
-met-by rising side s true is old new k x may g st t =
+met-by rises side s true is old new k x may g st t =
     subst (λ (j : Side). LinksStep old (Unit_acts (Takes_down j x may)) new →
     Right side (arrived_reply j x (came_of (unit_steps old.«unit» (Takes_down j x may)))) k new (seen_in side (arrived_reply j x (came_of (unit_steps old.«unit» (Takes_down j x may)))) k)) (sym (one-side s side is))
     (λ st.
@@ -262,17 +248,17 @@ met-by rising side s true is old new k x may g st t =
     let r : WorldReply = arrived_reply side x (came_of (unit_steps old.«unit» act)) in
     let h : Met side (unit_after old.«unit» (unit_steps old.«unit» act)) (link_of new side) k x (came_of (unit_steps old.«unit» act)).taken (came_of (unit_steps old.«unit» act)).sent =
     takes-met side old.«unit» (link_of old side) k x.path x.signal (unit_steps old.«unit» act) (t.downs x st.given) (offer-on old side x g st.given) t
-    (takes-takes side old.«unit» x.path x.signal may (reset-above rising old side x.path x.signal g st.given)) (link_of new side)
+    (takes-takes side old.«unit» x.path x.signal may (reset-above rises old side x.path x.signal g st.given)) (link_of new side)
     (unit-link side old new act true (same-side side) st) in
     here side r k new (same-side side) h.right (now-tied side old new act (seen_here r k) st h.tied))
     st
-met-by rising side s false is old new k x may g st t =
+met-by rises side s false is old new k x may g st t =
     not-here side (arrived_reply s x (came_of (unit_steps old.«unit» (Takes_down s x may)))) k new is
     (other-unit side old new (Takes_down s x may) k is (apart-still old.«unit» _ s side is (leaves-unit_takes s old.«unit» x.path x.signal may)) st t)
 
-pub met-right : Rising → (side s : Side) (old new : Links) (k : SeenPaths) (x : OnPath Down) (may : Bool) → IsGood old → LinksStep old (Unit_acts (Takes_down s x may)) new → TiedIn side old k →
+pub met-right : Rises → (side s : Side) (old new : Links) (k : SeenPaths) (x : OnPath Down) (may : Bool) → IsGood old → LinksStep old (Unit_acts (Takes_down s x may)) new → TiedIn side old k →
     Right side (arrived_reply s x (came_of (unit_steps old.«unit» (Takes_down s x may)))) k new (seen_in side (arrived_reply s x (came_of (unit_steps old.«unit» (Takes_down s x may)))) k)
-met-right rising side s old new k x may g st t = met-by rising side s (same_side s side) refl old new k x may g st t
+met-right rises side s old new k x may g st t = met-by rises side s (same_side s side) refl old new k x may g st t
 
 -- a restart
 restart-floor : (u : UnitState) (side : Side) → floor_of u side ≤ floor_of (restarted u) side

@@ -8,7 +8,6 @@ use Rattle.chan_model.specs.declared.hold_state.HoldPhase.TheVariants as hold
 use Rattle.chan_model.specs.declared.hold_state.HoldState.{HoldState}
 use Rattle.chan_model.specs.declared.names.Side.{Side}
 use Rattle.chan_model.specs.Signals.{Down}
-use Rattle.chan_model.specs.declared.signal.Down.TheVariants as down
 use Rattle.chan_model.specs.declared.signal.OnPath.{OnPath}
 use Rattle.chan_model.specs.Signals.{Up}
 use Rattle.chan_model.specs.declared.signal.Up.TheVariants as up
@@ -18,7 +17,8 @@ use Rattle.chan_model.specs.declared.unit_state.UnitState.{UnitState}
 use Rattle.unit.specs.UnitWords.{connection_of}
 use Rattle.agreement_laws.specs.Links.{Link, Carries}
 use Rattle.agreement_laws.specs.Moving.{HoldActed, still, LinkStep}
-use Rattle.agree.specs.ByItsPath.{Connected, linked, Offered, SeenPaths, way_of}
+use Rattle.agreement_laws.specs.PathsSeen.{Connected, linked, Offered, SeenPaths, way_of}
+use Rattle.agreement_laws.proofs.SeenSignals.{IsDownTied, tied-more}
 use Rattle.agree.proofs.UnitPaths.{Held, holds, floor_of, IsStill}
 
 -- ways
@@ -133,11 +133,6 @@ mine-higher f g (Some h) le m = omega (arith, le, m)
 abbrev pub IsOfferOn : HoldPhase → ℕ → ℕ → Type 0
 IsOfferOn (hold.Offer u q) t p = u ≡ t → p ≡ q
 IsOfferOn phase t p = Unit {0}
-
-abbrev pub IsDownTied : List Connected → ℕ → Down → Type 0
-IsDownTied ks p (down.Grant t c) = way_of ks t c ≡ Some p
-IsDownTied ks p (down.Give bytes t c n s) = way_of ks t c ≡ Some p
-IsDownTied ks p d = Unit {0}
 
 abbrev pub IsUpTied : List Connected → HoldPhase → ℕ → Up → Type 0
 IsUpTied ks phase p (up.Accept t) = (way_of ks t 0 ≡ Some p) × IsOfferOn phase t p
@@ -270,16 +265,7 @@ more-phase ks one (hold.Letting u q) n h = tt
 more-phase ks one (hold.Reset r) n h = tt
 
 more-down : (ks : List Connected) (one : Connected) (p : ℕ) (d : Down) → way_of ks one.number one.connection ≡ None → IsDownTied ks p d → IsDownTied (one ∷ ks) p d
-more-down ks one p (down.Select t) n h = tt
-more-down ks one p (down.Command t m code room) n h = tt
-more-down ks one p (down.Grant t c) n h = way-kept one ks t c p n h
-more-down ks one p (down.Refuse t c) n h = tt
-more-down ks one p (down.Took t m s room) n h = tt
-more-down ks one p (down.Give bytes t c m s) n h = way-kept one ks t c p n h
-more-down ks one p (down.Halt t) n h = tt
-more-down ks one p (down.Release t) n h = tt
-more-down ks one p (down.Reset r b) n h = tt
-more-down ks one p (down.Got a) n h = tt
+more-down ks one p d n h = tied-more ks (one ∷ ks) p d (λ t c. way-kept one ks t c p n) h
 
 more-up : (ks : List Connected) (one : Connected) (phase : HoldPhase) (p : ℕ) (x : Up) → way_of ks one.number one.connection ≡ None → IsUpTied ks phase p x → IsUpTied (one ∷ ks) phase p x
 more-up ks one phase p (up.Accept t) n h = (way-kept one ks t 0 p n h.0, h.1)

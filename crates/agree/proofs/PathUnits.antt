@@ -16,9 +16,11 @@ use Rattle.unit.specs.UnitWords.{connection_of}
 use Rattle.agreement_laws.specs.Links.{Link}
 use Rattle.agreement_laws.specs.Moving.{still, LinkStep, sent_by}
 use Rattle.agree.specs.declared.reply.WorldReply.TheVariants as reply
-use Rattle.agree.specs.ByItsPath.{Connected, linked, SeenPaths, way_of, seen_here, sent_up, IsConnected, SendsRight, IsHereRight}
-use Rattle.agree.proofs.PathTies.{way-new, Each, each-weaker, none-above, none-beyond, moving_of, IsHeldWay, IsLast, IsMine, IsOfferOn, IsDownTied, IsUpTied, Tied, unit-after-same, unit-after-more, unit-stays}
-use Rattle.agree.proofs.UnitPaths.{Held, held, holds, floor_of, IsQuiet, IsFreeing, IsPlainDown, telling_by, IsStill, Takes, Ignores, Tells, Changes, Gives, Frees, Accepts, Joins, Parts, Answers}
+use Rattle.agreement_laws.specs.PathsSeen.{Connected, linked, SeenPaths, way_of, sent_up, IsConnected, SendsRight}
+use Rattle.agree.specs.ByItsPath.{seen_here, IsHereRight}
+use Rattle.agree.proofs.PathTies.{way-new, Each, each-weaker, none-above, none-beyond, moving_of, IsHeldWay, IsLast, IsMine, IsOfferOn, IsUpTied, Tied, unit-after-same, unit-after-more, unit-stays}
+use Rattle.agreement_laws.proofs.SeenSignals.{IsDownTied, IsPlainDown, plain-taken}
+use Rattle.agree.proofs.UnitPaths.{Held, held, holds, floor_of, IsQuiet, IsFreeing, telling_by, IsStill, Takes, Ignores, Tells, Changes, Gives, Frees, Accepts, Joins, Parts, Answers}
 use Rattle.agree.proofs.UnitActs.{IsOfConnection, IsOffPath, Acts, Idles, Says, Begins, Leaves, Asks, Sends}
 
 quiet-up : (ks : List Connected) (phase : HoldPhase) (p : ℕ) (x : Up) → IsQuiet x → IsUpTied ks phase p x
@@ -77,16 +79,9 @@ frees-met side u v l k p d (up.End t n status more) q none le tie new s = absurd
 
 changes-met : (side : Side) (u v : UnitState) (l : Link) (k : SeenPaths) (p : ℕ) (d : Down) → IsPlainDown d → (m : Option Connected) → m ≡ k.moving → ((new : Link) → LinkStep l (still l.drawn l.hold) None new → Tied side v new (record k { moving = m })) →
     (new : Link) → LinkStep l (still l.drawn l.hold) None new → Tied side v new (record k { moving = m }) → Met side v new k (record { path = p; signal = d }) true None
-changes-met side u v l k p (down.Select t) q m e f new s h = record { right = tt; tied = subst (λ (y : Option Connected). Tied side v new (record k { moving = y })) e h }
-changes-met side u v l k p (down.Command t n code room) q m e f new s h = record { right = tt; tied = subst (λ (y : Option Connected). Tied side v new (record k { moving = y })) e h }
-changes-met side u v l k p (down.Refuse t c) q m e f new s h = record { right = tt; tied = subst (λ (y : Option Connected). Tied side v new (record k { moving = y })) e h }
-changes-met side u v l k p (down.Took t n c room) q m e f new s h = record { right = tt; tied = subst (λ (y : Option Connected). Tied side v new (record k { moving = y })) e h }
-changes-met side u v l k p (down.Halt t) q m e f new s h = record { right = tt; tied = subst (λ (y : Option Connected). Tied side v new (record k { moving = y })) e h }
-changes-met side u v l k p (down.Release t) q m e f new s h = record { right = tt; tied = subst (λ (y : Option Connected). Tied side v new (record k { moving = y })) e h }
-changes-met side u v l k p (down.Reset r b) q m e f new s h = record { right = tt; tied = subst (λ (y : Option Connected). Tied side v new (record k { moving = y })) e h }
-changes-met side u v l k p (down.Got a) q m e f new s h = record { right = tt; tied = subst (λ (y : Option Connected). Tied side v new (record k { moving = y })) e h }
-changes-met side u v l k p (down.Grant t c) q m e f new s h = absurd q
-changes-met side u v l k p (down.Give bytes t c n m) q w e f new s h = absurd q
+changes-met side u v l k p d plain m e f new s h =
+    let kept = plain-taken k.moving p d plain in
+    record { right = kept.0; tied = subst (λ (y : Option Connected). Tied side v new (record k { moving = y })) (e ∙ sym kept.1) h }
 
 -- where a program is at the unit
 held-way : (ks : List Connected) (f : ℕ) (h : Option Held) (one : Held) → h ≡ Some one → IsHeldWay ks (Some one) → IsLast ks (Some one) → one.number ≤ f → IsHeldWay ks h × IsLast ks h × IsMine f h

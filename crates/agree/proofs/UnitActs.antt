@@ -26,7 +26,7 @@ use Rattle.chan_model.proofs.Named.{report_absorbed, sent_again}
 use Rattle.chan_model.specs.UnitTable.{UnitStep, side_of, owns, telling, noticing, leaving, asking, attending, is_idle, marked_again}
 use Rattle.unit.specs.UnitWords.{connection_of, LeavesOther, other_of}
 use Rattle.agreement_laws.specs.Moving.{is_owner_side}
-use Rattle.agree.specs.OneHolder.{IsSaidRight}
+use Rattle.agreement_laws.specs.HolderSeen.{IsSaidRight}
 use Rattle.agree.proofs.Holdings.{holding_of, idle-unheld, side-restarted}
 use Rattle.agree.proofs.UnitPaths.{held, held_at, holds, floor_of, IsQuiet, silently, telling_by, IsStill, still, still-as, own-floor, not-owned}
 

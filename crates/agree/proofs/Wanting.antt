@@ -17,7 +17,7 @@ use Rattle.chan_model.specs.UnitTable.{UnitStep}
 use Rattle.agreement_laws.specs.Moving.{Sends, UnitAct, Leaves, Asks, Attends, Notices, Reports, unit_steps}
 use Rattle.agree.specs.declared.event.WorldEvent.{WorldEvent}
 use Rattle.agree.specs.declared.event.WorldEvent.TheVariants as event
-use Rattle.agree.specs.Sending.{may_send}
+use Rattle.agreement_laws.specs.Sending.{may_send}
 use Rattle.agree.specs.State.{LineState, WorldState, line_of, is_up}
 use Rattle.agree.specs.Lines.{GivesTurn, LineTurn, UnitLine, acts_for, stepping, line_chosen, line_let_go, line_sends, acts, heard, hears, met, unit_meets, loses_down, loses_up, cut, goes_down, comes_up, is_cut, with_downs, with_ups, line_with_path}
 use Rattle.agree.specs.Turns.{WorldTurn, at_side, at_world_unit, at_owner, both_of, on_path, path_named, world_turn_of, counted, max_steps, world_turn}

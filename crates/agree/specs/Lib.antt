@@ -1,5 +1,4 @@
 pub mod State
-pub mod Sending
 pub mod Lines
 pub mod Turns
 pub mod Replies

@@ -12,7 +12,7 @@ use Rattle.chan_model.specs.declared.unit_state.UnitState.{UnitState}
 use Rattle.chan_model.specs.UnitTable.{UnitStep, unit_after, came_of}
 use Rattle.agreement_laws.specs.Links.{with_accepted}
 use Rattle.agreement_laws.specs.Moving.{HoldAct, HoldActed, hold_acts, Offers, Sends_reset, Lets_go, Loses, Takes, Sends, UnitAct, Takes_down, unit_steps}
-use Rattle.agree.specs.Sending.{may_send}
+use Rattle.agreement_laws.specs.Sending.{may_send}
 use Rattle.agree.specs.State.{LineState, is_up}
 
 -- the signals with one sent behind them; on a path that is down it vanishes

@@ -1,87 +1,13 @@
 -- One holder of a device, over wires that lose, repeat and mix signals: a unit accepts a program where none holds it, and what it takes
 -- of a program, and sends for one, is of the one that holds it; the numbers that it answers to a side rise (own).
-use Rattle.std.specs.Prelude.{◌≡◌, ◌<◌, ℕ, ◌+◌, Bool, true, false, if◌then◌else◌, Option, None, Some, List, [], ◌∷◌}
+use Rattle.std.specs.Prelude.{◌≡◌, ◌<◌, ℕ, true, false, None, Some, List, [], ◌∷◌}
 use Rattle.chan_model.specs.declared.names.Side.{Side}
-use Rattle.chan_model.specs.declared.names.Side.TheVariants.{First, Second}
-use Rattle.chan_model.specs.Signals.{Down}
-use Rattle.chan_model.specs.declared.signal.Down.TheVariants as down
-use Rattle.chan_model.specs.declared.signal.OnPath.{OnPath}
-use Rattle.chan_model.specs.Signals.{Up}
-use Rattle.chan_model.specs.declared.signal.Up.TheVariants as up
-use Rattle.chan_model.specs.Sides.{same_side}
+use Rattle.agreement_laws.specs.HolderSeen.{Holding, held_met, side_seen, with_accept, with_restart, IsMetRight, IsSaidRight, IsTold}
 use Rattle.agree.specs.declared.event.WorldEvent.{WorldEvent}
 use Rattle.agree.specs.declared.event.WorldEvent.TheVariants as event
 use Rattle.agree.specs.declared.reply.WorldReply.{WorldReply}
 use Rattle.agree.specs.declared.reply.WorldReply.TheVariants as reply
 use Rattle.agree.specs.Histories.{WorldEntry}
-
--- a program holds the device: of this side, under this number
-pub record Holder : Type 0 where
-  pub side : Side
-  pub number : ℕ
-
-abbrev pub holder : Side → ℕ → Option Holder
-holder side t = Some (record { side = side; number = t })
-
--- what is seen of a side of the unit: the number that it answered last, and whether the unit was restarted since it last sent Cleared
-pub record SideAnswered : Type 0 where
-  pub number : ℕ
-  pub restarted : Bool
-
--- how often the unit was restarted, the program that holds its device, the number of the command that it took last of it, and its sides
-pub record Holding : Type 0 where
-  pub restarts : ℕ
-  pub holder : Option Holder
-  pub command : ℕ
-  pub first : SideAnswered
-  pub second : SideAnswered
-
-abbrev pub side_seen : Holding → Side → SideAnswered
-side_seen k First = k.first
-side_seen k Second = k.second
-
-abbrev pub with_seen : Holding → Side → SideAnswered → Holding
-with_seen k First x = record k { first = x }
-with_seen k Second x = record k { second = x }
-
-abbrev pub with_answered : Holding → Side → ℕ → Holding
-with_answered k side t = with_seen k side (record (side_seen k side) { number = t })
-
-abbrev pub let_go : Holding → Holding
-let_go k = record k { holder = None; command = 0 }
-
-abbrev pub is_held_by : Option Holder → Side → Bool
-is_held_by None side = false
-is_held_by (Some h) side = same_side h.side side
-
--- the unit is restarted
-abbrev pub with_restart : Holding → Holding
-with_restart k = record {
-  restarts = k.restarts + 1;
-  holder = None;
-  command = 0;
-  first = record k.first { restarted = true };
-  second = record k.second { restarted = true };
-}
-
--- the unit answered this side: by Accept its program holds the device, by Released it holds it no more, nor by Cleared where it was of
--- this side
-abbrev pub held_after : Side → Up → Holding → Holding
-held_after side (up.Accept t) k = record (with_answered k side t) { holder = holder side t; command = 0 }
-held_after side (up.Busy t) k = with_answered k side t
-held_after side (up.Released t) k = let_go k
-held_after side (up.Cleared r) k = with_seen (if is_held_by k.holder side then let_go k else k) side (record { number = r; restarted = false })
-held_after side signal k = k
-
--- the unit took a signal without an answer
-abbrev pub taken_after : Down → Holding → Holding
-taken_after (down.Command t n code room) k = record k { command = n }
-taken_after signal k = k
-
-abbrev pub held_met : Side → Down → Bool → Option (OnPath Up) → Holding → Holding
-held_met side signal true (Some sent) k = held_after side sent.signal k
-held_met side signal true None k = taken_after signal k
-held_met side signal false sent k = k
 
 abbrev pub held_in : WorldReply → Holding → Holding
 held_in (reply.Down side x taken sent) k = held_met side x.signal taken sent k
@@ -93,69 +19,6 @@ restarted_by e k = k
 
 abbrev pub holding_after : WorldEvent → WorldReply → Holding → Holding
 holding_after e r k = restarted_by e (held_in r k)
-
--- the program of this side and number holds the device; no program holds it; the number is above all that this side answered
-abbrev pub IsHolder : Holding → Side → ℕ → Type 0
-IsHolder k side t = k.holder ≡ holder side t
-
-abbrev pub IsUnheld : Holding → Type 0
-IsUnheld k = k.holder ≡ None
-
-abbrev pub IsHigher : Holding → Side → ℕ → Type 0
-IsHigher k side t = (side_seen k side).number < t
-
--- What is taken without an answer is of the program that holds the device: its commands one by one, and chunks of the last. Got is of no
--- program.
-abbrev pub IsTakenRight : Holding → Side → Down → Type 0
-IsTakenRight k side (down.Select t) = ⊥
-IsTakenRight k side (down.Command t n code room) = IsHolder k side t × (n ≡ k.command + 1)
-IsTakenRight k side (down.Grant t c) = IsHolder k side t
-IsTakenRight k side (down.Refuse t c) = IsHolder k side t
-IsTakenRight k side (down.Took t n s room) = IsHolder k side t × (n ≡ k.command)
-IsTakenRight k side (down.Give bytes t c n s) = IsHolder k side t × (n ≡ k.command)
-IsTakenRight k side (down.Halt t) = IsHolder k side t
-IsTakenRight k side (down.Release t) = ⊥
-IsTakenRight k side (down.Reset r b) = ⊥
-IsTakenRight k side (down.Got a) = Unit {0}
-
--- Accept and Busy answer a Select of their number, and Cleared a Reset of its that knows of all restarts, each above all before; Accept
--- where no program holds the device. Released answers a Release, and Leave a Grant, of the program that holds it. Notice tells how often
--- the unit was restarted, where it was since Cleared. Nothing else is sent.
-abbrev pub IsAnswerOf : Holding → Side → Down → Up → Type 0
-IsAnswerOf k side signal (up.Accept t) = (signal ≡ down.Select t) × IsUnheld k × IsHigher k side t
-IsAnswerOf k side signal (up.Busy t) = (signal ≡ down.Select t) × IsHigher k side t
-IsAnswerOf k side signal (up.Released t) = (signal ≡ down.Release t) × IsHolder k side t
-IsAnswerOf k side signal (up.Leave t c) = (signal ≡ down.Grant t c) × IsHolder k side t
-IsAnswerOf k side signal (up.Cleared r) = (signal ≡ down.Reset r k.restarts) × IsHigher k side r
-IsAnswerOf k side signal (up.Notice b) = (b ≡ k.restarts) × ((side_seen k side).restarted ≡ true)
-IsAnswerOf k side signal sent = ⊥
-
--- what is not taken is not answered
-abbrev pub IsMetRight : Side → Down → Bool → Option (OnPath Up) → Holding → Type 0
-IsMetRight side signal true (Some sent) k = IsAnswerOf k side signal sent.signal
-IsMetRight side signal true None k = IsTakenRight k side signal
-IsMetRight side signal false sent k = sent ≡ None
-
--- after a restart a side answers each signal by Notice, until it sends Cleared
-abbrev pub IsRestartWord : Up → Type 0
-IsRestartWord (up.Notice b) = Unit {0}
-IsRestartWord (up.Cleared r) = Unit {0}
-IsRestartWord sent = ⊥
-
-abbrev pub IsTold : Bool → Option (OnPath Up) → Type 0
-IsTold true (Some sent) = IsRestartWord sent.signal
-IsTold true None = ⊥
-IsTold false sent = ⊥
-
--- what the unit sends of itself, or for its device, is of the program that holds it; an Attn where none does, and not after a restart
-abbrev pub IsSaidRight : Holding → Side → Up → Type 0
-IsSaidRight k side (up.Data load t c n s) = IsHolder k side t
-IsSaidRight k side (up.End t n status more) = IsHolder k side t
-IsSaidRight k side (up.Leave t c) = IsHolder k side t
-IsSaidRight k side (up.Back t c) = IsHolder k side t
-IsSaidRight k side (up.Notice b) = (b ≡ k.restarts) × ((side_seen k side).restarted ≡ true)
-IsSaidRight k side (up.Attn a status) = IsUnheld k × ((side_seen k side).restarted ≡ false)
-IsSaidRight k side x = ⊥
 
 abbrev pub IsReplyRight : WorldReply → Holding → Type 0
 IsReplyRight (reply.Down side x taken sent) k = IsMetRight side x.signal taken sent k × ((side_seen k side).restarted ≡ true → IsTold taken sent)
@@ -181,10 +44,6 @@ abbrev pub HasOneHolder : List WorldEntry → Type 0
 HasOneHolder h = AreOfHolder nothing_held h
 
 -- Begun once: the numbers of the Accepts that are sent to a side rise, so that of one number at most one is ever sent.
-abbrev pub with_accept : Side → Side → Up → List ℕ → List ℕ
-with_accept side s (up.Accept t) ts = if same_side s side then t ∷ ts else ts
-with_accept side s x ts = ts
-
 abbrev pub accepts_in : Side → WorldReply → List ℕ → List ℕ
 accepts_in side (reply.Down s x taken (Some sent)) ts = with_accept side s sent.signal ts
 accepts_in side (reply.SentUp s x) ts = with_accept side s x.signal ts

@@ -1,5 +1,5 @@
 -- A unit answers Cleared only where it takes a Reset, with its number.
-use Rattle.std.proofs.Common.{◌≡◌, ℕ, ◌+◌, ◌==◌, ◌&&◌, not, Bool, true, false, nat_lt, nat_le, length, Option, None, Some, List, refl, subst}
+use Rattle.std.proofs.Common.{◌≡◌, ℕ, ◌==◌, ◌&&◌, not, Bool, true, false, nat_le, length, Option, None, Some, List, refl, subst}
 use Rattle.std.specs.Prelude.{if◌then◌else◌}
 use Rattle.chan_model.specs.declared.names.Side.{Side}
 use Rattle.chan_model.specs.declared.hold_state.HoldPhase.{HoldPhase}
@@ -10,11 +10,9 @@ use Rattle.chan_model.specs.declared.report.DeviceAnswer.TheVariants as answer
 use Rattle.chan_model.specs.Signals.{Load}
 use Rattle.chan_model.specs.declared.signal.OnPath.{OnPath}
 use Rattle.chan_model.specs.Signals.{Down}
-use Rattle.chan_model.specs.declared.signal.Down.TheVariants as down
 use Rattle.chan_model.specs.Signals.{Up}
 use Rattle.chan_model.specs.declared.signal.Up.TheVariants as up
 use Rattle.chan_model.specs.declared.unit_state.AtHand.{AtHand}
-use Rattle.chan_model.specs.declared.unit_state.Attention.{Attention}
 use Rattle.chan_model.specs.declared.unit_state.Own.{Own}
 use Rattle.chan_model.specs.declared.unit_state.Own.TheVariants as own
 use Rattle.chan_model.specs.declared.unit_state.Place.{Place}
@@ -23,13 +21,14 @@ use Rattle.chan_model.specs.declared.unit_state.Progress.{Progress}
 use Rattle.chan_model.specs.declared.unit_state.Progress.TheVariants as progress
 use Rattle.chan_model.specs.declared.unit_state.UnitState.{UnitState}
 use Rattle.chan_model.specs.Sides.{same_side}
-use Rattle.chan_model.specs.UnitTable.{UnitStep, side_of, is_owner, is_owner_on, is_idle, selected, raised, given_next, answered_load, answered_last, granted_at, granted, grant_refused_at, grant_refused, forgetting, telling, resets, sends, unit_works, unit_takes, leaving, asking, attending, noticing}
-use Rattle.chan_model.specs.Parts.{reset_side}
+use Rattle.chan_model.specs.UnitTable.{UnitStep, side_of, is_idle, telling, unit_takes, leaving, asking, attending, noticing}
 use Rattle.chan_model.proofs.Named.{report_absorbed, sent_again}
 use Rattle.chan_model.specs.UnitReports.{is_to_supply, most_of, answer_taken, report_on, report_of, is_outward, may_end}
+use Rattle.chan_model.proofs.OneSide.{one-side}
+use Rattle.chan_model.proofs.TakenSignals.{Takes, Ignores, Accepts, Denies, Begins, Joins, Parts, Answers, Gives, Halts, Frees, Resets, Forgets, takes-by}
+use Rattle.chan_model.proofs.TakenSignals as taken
 use Rattle.agreement_laws.specs.Moving.{UnitAct, Takes_down, Leaves, Asks, Attends, Restarts, Notices, Reports, is_owner_side, sent_by, sent_to, up_sent}
 use Rattle.agreement_laws.specs.Claims.{IsReset, IsTakenBy}
-use Rattle.agreement_laws.proofs.UnitActs.{same-sides}
 
 -- what is sent is no Cleared
 abbrev IsOther : Up → Type 0
@@ -46,60 +45,6 @@ IsOtherStep step = IsOtherSent (sent_by step)
 other-if : (b : Bool) (s t : Option UnitStep) → IsOtherStep s → IsOtherStep t → IsOtherStep (if b then s else t)
 other-if true s t f g = f
 other-if false s t f g = g
-
-selected-other : (u : UnitState) (o : Own) (side : Side) (p t : ℕ) (may : Bool) → IsOtherStep (selected u o side p t may)
-selected-other u own.Idle side p t true = tt
-selected-other u own.Idle side p t false = tt
-selected-other u (own.Owned k v place) side p t may = tt
-
-granted_at-other : (u : UnitState) (side : Side) (t : ℕ) (place : Place) (p c : ℕ) → IsOtherStep (granted_at u side t place p c)
-granted_at-other u side t (On q d) p c = other-if (nat_lt c d) _ None tt tt
-granted_at-other u side t (Ask q d) p c = other-if (c == d) (Some _) _ tt (other-if (nat_lt c d) _ None tt tt)
-granted_at-other u side t (Away d) p c = other-if (nat_lt c d) _ None tt tt
-
-granted-other : (u : UnitState) (o : Own) (side : Side) (p t c : ℕ) → IsOtherStep (granted u o side p t c)
-granted-other u own.Idle side p t c = tt
-granted-other u (own.Owned k v place) side p t c = other-if (same_side k side && (t == v)) _ None (granted_at-other u k v place p c) tt
-
-refused_at-other : (u : UnitState) (side : Side) (t : ℕ) (place : Place) (c : ℕ) → IsOtherStep (grant_refused_at u side t place c)
-refused_at-other u side t (On q d) c = tt
-refused_at-other u side t (Ask q d) c = other-if (c == d) (Some _) None tt tt
-refused_at-other u side t (Away d) c = tt
-
-refused-other : (u : UnitState) (o : Own) (side : Side) (t c : ℕ) → IsOtherStep (grant_refused u o side t c)
-refused-other u own.Idle side t c = tt
-refused-other u (own.Owned k v place) side t c = other-if (same_side k side && (t == v)) _ None (refused_at-other u k v place c) tt
-
-loaded-other : (u : UnitState) (x : AtHand) (load : Option Load) (room : ℕ) → IsOtherStep (answered_load u x load room)
-loaded-other u x None room = tt
-loaded-other u x (Some load) room = tt
-
-answered-other : (u : UnitState) (x : Option AtHand) (s room : ℕ) → IsOtherStep (answered_last u x s room)
-answered-other u None s room = tt
-answered-other u (Some x) s room = other-if (s == x.sequence) _ None (loaded-other u x x.unanswered room) tt
-
-given-other : (u : UnitState) (x : Option AtHand) (s : ℕ) (bytes : List ℕ) → IsOtherStep (given_next u x s bytes)
-given-other u None s bytes = tt
-given-other u (Some x) s bytes = other-if (s == x.sequence + 1) (Some _) None tt tt
-
-forgetting-other : (u : UnitState) (x : Option Attention) (side : Side) (a : ℕ) → IsOtherStep (forgetting u x side a)
-forgetting-other u None side a = tt
-forgetting-other u (Some x) side a = other-if (same_side x.side side && (a == x.number)) (Some _) None tt tt
-
-works-other : (u : UnitState) (side : Side) (p : ℕ) (d : Down) (may : Bool) → IsOtherStep (unit_works u side p d may)
-works-other u side p (down.Select t) may = other-if (nat_lt (side_of u side).floor t) _ None (selected-other (raised u side t) u.own side p t may) tt
-works-other u side p (down.Command t n code room) may = other-if (is_owner u.own side t && (n == u.last_command + 1)) (Some _) None tt tt
-works-other u side p (down.Grant t c) may = granted-other u u.own side p t c
-works-other u side p (down.Refuse t c) may = refused-other u u.own side t c
-works-other u side p (down.Took t n s room) may = other-if (is_owner u.own side t && (n == u.last_command)) _ None (answered-other u u.at_hand s room) tt
-works-other u side p (down.Give bytes t c n s) may = other-if (is_owner_on u.own side t c && (n == u.last_command)) _ None (given-other u u.at_hand s bytes) tt
-works-other u side p (down.Halt t) may = other-if (is_owner u.own side t && not u.halted) (Some _) None tt tt
-works-other u side p (down.Release t) may = other-if (is_owner u.own side t) _ None tt tt
-works-other u side p (down.Reset r b) may = tt
-works-other u side p (down.Got a) may = forgetting-other u u.attention side a
-
-fresh-other : (u : UnitState) (side : Side) (p : ℕ) (d : Down) (may : Bool) → IsOtherStep (if (side_of u side).fresh then telling u p else unit_works u side p d may)
-fresh-other u side p d may = other-if (side_of u side).fresh (telling u p) (unit_works u side p d may) tt (works-other u side p d may)
 
 -- the acts of the unit itself
 leaving-other : (u : UnitState) (o : Own) → IsOtherStep (leaving u o)
@@ -182,23 +127,21 @@ same-reset (hold.Away u) p r a = absurd a
 same-reset (hold.Letting u q) p r a = absurd a
 same-reset (hold.Reset v) p r a = cc
 
-reset-taken : (u : UnitState) (h : HoldPhase) (side : Side) (p r : ℕ) (taken fresh : Bool) (v : UnitState) → IsAnswered h (sent_by (if taken then sends v p (up.Cleared r) else (if fresh then telling u p else None))) →
-    (h ≡ hold.Reset r) × (taken ≡ true)
-reset-taken u h side p r true fresh v a = (same-reset h p r a, refl)
-reset-taken u h side p r false true v a = absurd (no-answer h (Some _) tt a)
-reset-taken u h side p r false false v a = absurd (no-answer h None tt a)
-
-signal-taken : (u : UnitState) (h : HoldPhase) (side : Side) (p : ℕ) (d : Down) (may : Bool) → IsAnswered h (sent_by (unit_takes u side p d may)) → IsReset u h side d
-signal-taken u h side p (down.Reset r b) may a = reset-taken u h side p r (resets u side r b) (side_of u side).fresh (reset_side u side r) a
-signal-taken u h side p (down.Select t) may a = absurd (no-answer h _ (fresh-other u side p (down.Select t) may) a)
-signal-taken u h side p (down.Command t n code room) may a = absurd (no-answer h _ (fresh-other u side p (down.Command t n code room) may) a)
-signal-taken u h side p (down.Grant t c) may a = absurd (no-answer h _ (fresh-other u side p (down.Grant t c) may) a)
-signal-taken u h side p (down.Refuse t c) may a = absurd (no-answer h _ (fresh-other u side p (down.Refuse t c) may) a)
-signal-taken u h side p (down.Took t n s room) may a = absurd (no-answer h _ (fresh-other u side p (down.Took t n s room) may) a)
-signal-taken u h side p (down.Give bytes t c n s) may a = absurd (no-answer h _ (fresh-other u side p (down.Give bytes t c n s) may) a)
-signal-taken u h side p (down.Halt t) may a = absurd (no-answer h _ (fresh-other u side p (down.Halt t) may) a)
-signal-taken u h side p (down.Release t) may a = absurd (no-answer h _ (fresh-other u side p (down.Release t) may) a)
-signal-taken u h side p (down.Got x) may a = absurd (no-answer h _ (fresh-other u side p (down.Got x) may) a)
+signal-taken : (u : UnitState) (h : HoldPhase) (side : Side) (p : ℕ) (d : Down) (step : Option UnitStep) → Takes u side p d step → IsAnswered h (sent_by step) → IsReset u h side d
+signal-taken u h side p _ _ (Ignores d) a = absurd (no-answer h None tt a)
+signal-taken u h side p _ _ (taken.Notices d fresh) a = absurd (no-answer h (Some _) tt a)
+signal-taken u h side p _ _ (Accepts t above idle) a = absurd (no-answer h (Some _) tt a)
+signal-taken u h side p _ _ (Denies t above) a = absurd (no-answer h (Some _) tt a)
+signal-taken u h side p _ _ (Begins t n code room place is next) a = absurd (no-answer h None tt a)
+signal-taken u h side p _ _ (Joins t c q is) a = absurd (no-answer h None tt a)
+signal-taken u h side p _ _ (taken.Leaves t c place is) a = absurd (no-answer h (Some _) tt a)
+signal-taken u h side p _ _ (Parts t c q is) a = absurd (no-answer h None tt a)
+signal-taken u h side p _ _ (Answers t s room place x load is hand last loaded) a = absurd (no-answer h None tt a)
+signal-taken u h side p _ _ (Gives bytes t c s q x is hand next) a = absurd (no-answer h None tt a)
+signal-taken u h side p _ _ (Halts t place is first) a = absurd (no-answer h None tt a)
+signal-taken u h side p _ _ (Frees t place is) a = absurd (no-answer h (Some _) tt a)
+signal-taken u h side p _ _ (Resets r b is) a = (same-reset h p r a, is)
+signal-taken u h side p _ _ (Forgets x) a = absurd (no-answer h None tt a)
 
 not-answered : (b : Bool) (h : HoldPhase) (step : Option UnitStep) → IsOtherStep step → IsAnswered h (sent_to b (sent_by step)) → ⊥
 not-answered b h step o a = no-answer h (sent_by step) o (answered-to b h (sent_by step) a).1
@@ -206,7 +149,7 @@ not-answered b h step o a = no-answer h (sent_by step) o (answered-to b h (sent_
 pub answer-taken : (u : UnitState) (h : HoldPhase) (act : UnitAct) (side : Side) → IsAnswered h (up_sent u act side) → IsTakenBy u h act side
 answer-taken u h (Takes_down k x may) side a =
     let both : (same_side k side ≡ true) × IsAnswered h (sent_by (unit_takes u k x.path x.signal may)) = answered-to (same_side k side) h (sent_by (unit_takes u k x.path x.signal may)) a in
-    (both.0, subst (λ (j : Side). IsReset u h j x.signal) (same-sides k side both.0) (signal-taken u h k x.path x.signal may both.1))
+    (both.0, subst (λ (j : Side). IsReset u h j x.signal) (one-side k side both.0) (signal-taken u h k x.path x.signal _ (takes-by u k x.path x.signal may) both.1))
 answer-taken u h Leaves side a = not-answered (is_owner_side u.own side) h (leaving u u.own) (leaving-other u u.own) a
 answer-taken u h (Asks p) side a = not-answered (is_owner_side u.own side) h (asking u u.own p) (asking-other u u.own p) a
 answer-taken u h (Attends k p) side a =

@@ -8,3 +8,4 @@ mod Clearing
 mod Meaning
 mod StepKeeps
 mod Above
+pub mod SeenSignals

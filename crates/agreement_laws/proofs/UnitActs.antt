@@ -21,6 +21,7 @@ use Rattle.chan_model.specs.declared.unit_state.SideState.{SideState}
 use Rattle.chan_model.specs.declared.unit_state.UnitState.{UnitState}
 use Rattle.chan_model.specs.Sides.{same_side}
 use Rattle.chan_model.specs.UnitTable.{UnitStep, changes, sends, side_of, is_owner, owns, freed, raised, selected, given_next, answered_load, answered_last, granted_at, granted, grant_refused_at, grant_refused, forgetting, telling, unit_after}
+use Rattle.chan_model.proofs.OneSide.{one-side}
 use Rattle.agreement_laws.specs.Moving.{sent_by}
 use Rattle.agreement_laws.specs.Invariant.{Owns, Ends, ends_seen, ends_of, seen_by, seen_own, IsGrantGood, IsDownGood, IsFreshFree}
 use Rattle.agreement_laws.proofs.UnitKeeps.{IsNotFresh, UnitMoves, Stays, Accepts, Is_busy, Is_granted, Is_refused, Releases, Tells, IsPlainSent}
@@ -158,12 +159,6 @@ pub forgetting-steps : (side : Side) (u : UnitState) (x : Option Attention) (a :
 forgetting-steps side u None a P = nothing side u P
 forgetting-steps side u (Some x) a P = unseen-if side u _ (same_side x.side side && (a == x.number)) P refl refl refl refl
 
-pub same-sides : (k side : Side) → same_side k side ≡ true → k ≡ side
-same-sides First First e = refl
-same-sides First Second e = cc
-same-sides Second First e = cc
-same-sides Second Second e = refl
-
 late-steps : (side : Side) (u : UnitState) (v p c : ℕ) (late : Bool) (P : Ends → Type 0) → IsStep side u (if late then sends u p (up.Leave v c) else None) P
 late-steps side u v p c late P = step-if side u late _ P (unseen side u u _ P refl refl refl refl tt)
 
@@ -202,7 +197,7 @@ owner-steps : (side : Side) (u : UnitState) (k : Side) (v : ℕ) (place : Place)
     IsStep side (at side u (own.Owned k v place) x y) (if is then step (at side u (own.Owned k v place) x y) k v else None) (P t)
 owner-steps side u k v place x y t true step P e s =
     let both : (same_side k side ≡ true) × ((t == v) ≡ true) = and_parts (same_side k side) (t == v) e in
-    let sides : side ≡ k = sym (same-sides k side both.0) in
+    let sides : side ≡ k = sym (one-side k side both.0) in
     let numbers : v ≡ t = sym (eqb-true t v both.1) in
     subst (λ (w : ℕ). IsStep side (at side u (own.Owned k v place) x y) (step (at side u (own.Owned k v place) x y) k v) (P w)) numbers
     (subst (λ (j : Side). IsStep side (at side u (own.Owned j v place) x y) (step (at side u (own.Owned j v place) x y) j v) (P v)) sides s)
@@ -248,7 +243,7 @@ owned-releases : (side : Side) (u : UnitState) (k : Side) (v : ℕ) (place : Pla
     IsStep side (at side u (own.Owned k v place) (working f) y) (if is then sends (freed (at side u (own.Owned k v place) (working f) y)) p (up.Released t) else None) (IsGiven p (down.Release t))
 owned-releases side u k v place f y p t true e =
     let both : (same_side k side ≡ true) × ((t == v) ≡ true) = and_parts (same_side k side) (t == v) e in
-    let sides : side ≡ k = sym (same-sides k side both.0) in
+    let sides : side ≡ k = sym (one-side k side both.0) in
     let numbers : v ≡ t = sym (eqb-true t v both.1) in
     subst (λ (w : ℕ). IsStep side (at side u (own.Owned k v place) (working f) y) (sends (freed (at side u (own.Owned k v place) (working f) y)) p (up.Released w)) (IsGiven p (down.Release w))) numbers
     (subst (λ (j : Side). IsStep side (at side u (own.Owned j v place) (working f) y) (sends (freed (at side u (own.Owned j v place) (working f) y)) p (up.Released v)) (IsGiven p (down.Release v))) sides

@@ -2,23 +2,15 @@
 use Rattle.std.proofs.Common.{◌≡◌, ◌≤◌, ℕ, ◌∙◌, refl, sym, ap, ap₂, arith, List, ◌++◌, None, Some, length, take, drop, take-add, length-drop, length-take-le}
 use Rattle.std.proofs.lemmas.List.{drop-append-le, take-append-le}
 use Rattle.chan_model.specs.declared.report.DeviceAnswer.TheVariants as answer
-use Rattle.chan_model.specs.declared.signal.Down.TheVariants as down
-use Rattle.chan_model.specs.declared.signal.Load.TheVariants as load
-use Rattle.chan_model.specs.declared.signal.Up.TheVariants as up
 use Rattle.chan_events.specs.declared.event.Event.TheVariants as event
 use Rattle.chan_events.specs.declared.reply.Reply.TheVariants as reply
 use Rattle.chan_events.specs.Events.{Event, KeptEvent, map_event, event_in, event_length, event_bytes}
 use Rattle.chan_events.specs.Replies.{KeptReply, Reply, down_met, map_reply, reply_in, reply_length, reply_bytes, up_met}
 use Rattle.chan_model.specs.Reports.{DeviceAnswer, KeptAnswer, answer_bytes, answer_in, answer_length, map_answer, map_report}
-use Rattle.chan_model.specs.Signals.{Down, KeptDown, KeptUp, Up, map_down, map_load, map_up, down_in, down_length, down_bytes, up_in, up_length, up_bytes}
+use Rattle.chan_model.specs.Signals.{Down, KeptDown, KeptUp, Up, down_in, down_length, up_in, up_length}
+use Rattle.chan_model.proofs.KeptSignals.{kept_of_down, kept_of_up, down-kept, up-kept}
 
--- what is kept of signals, events and replies
-abbrev kept_of_down : Down → KeptDown
-kept_of_down signal = map_down length signal
-
-abbrev kept_of_up : Up → KeptUp
-kept_of_up signal = map_up (λ l. map_load length l) signal
-
+-- what is kept of answers, events and replies
 abbrev kept_of_answer : DeviceAnswer → KeptAnswer
 kept_of_answer a = map_answer length a
 
@@ -28,44 +20,16 @@ kept_of_event e = map_event length (λ r. map_report kept_of_answer r) e
 abbrev pub kept_of_reply : Reply → KeptReply
 kept_of_reply r = map_reply length kept_of_up kept_of_down r
 
--- is what is kept of the signal, event or reply that it is with its bytes
-taken-length : (n : ℕ) (bytes : List ℕ) → n ≤ length bytes → length (take n bytes) ≡ n
-taken-length n bytes fits = length-take-le n bytes fits
-
-down-kept : (k : KeptDown) (bytes : List ℕ) → down_length k ≤ length bytes → kept_of_down (down_in k bytes) ≡ k
-down-kept (down.Select number) bytes fits = refl
-down-kept (down.Command number command code room) bytes fits = refl
-down-kept (down.Grant number connection) bytes fits = refl
-down-kept (down.Refuse number connection) bytes fits = refl
-down-kept (down.Took number command sequence room) bytes fits = refl
-down-kept (down.Give count number connection command sequence) bytes fits = ap (λ n. down.Give n number connection command sequence) (taken-length count bytes fits)
-down-kept (down.Halt number) bytes fits = refl
-down-kept (down.Release number) bytes fits = refl
-down-kept (down.Reset number restarts) bytes fits = refl
-down-kept (down.Got attention) bytes fits = refl
-
-up-kept : (k : KeptUp) (bytes : List ℕ) → up_length k ≤ length bytes → kept_of_up (up_in k bytes) ≡ k
-up-kept (up.Accept number) bytes fits = refl
-up-kept (up.Busy number) bytes fits = refl
-up-kept (up.Leave number connection) bytes fits = refl
-up-kept (up.Back number connection) bytes fits = refl
-up-kept (up.Data (load.Absorbed count) number connection command sequence) bytes fits = refl
-up-kept (up.Data (load.Bytes count) number connection command sequence) bytes fits = ap (λ n. up.Data (load.Bytes n) number connection command sequence) (taken-length count bytes fits)
-up-kept (up.End number command status more) bytes fits = refl
-up-kept (up.Released number) bytes fits = refl
-up-kept (up.Cleared number) bytes fits = refl
-up-kept (up.Notice restarts) bytes fits = refl
-up-kept (up.Attn attention status) bytes fits = refl
-
+-- is what is kept of the answer, event or reply that it is with its bytes
 answer-kept : (k : KeptAnswer) (bytes : List ℕ) → answer_length k ≤ length bytes → kept_of_answer (answer_in k bytes) ≡ k
 answer-kept answer.Begins bytes fits = refl
 answer-kept (answer.Absorbed count) bytes fits = refl
-answer-kept (answer.Supplied count) bytes fits = ap (λ n. answer.Supplied n) (taken-length count bytes fits)
+answer-kept (answer.Supplied count) bytes fits = ap (λ n. answer.Supplied n) (length-take-le count bytes fits)
 answer-kept answer.Again bytes fits = refl
 answer-kept (answer.Ended status more) bytes fits = refl
 
 pub event-kept : (k : KeptEvent) (bytes : List ℕ) → event_length k ≤ length bytes → kept_of_event (event_in k bytes) ≡ k
-event-kept (event.Put address count) bytes fits = ap (λ n. event.Put address n) (taken-length count bytes fits)
+event-kept (event.Put address count) bytes fits = ap (λ n. event.Put address n) (length-take-le count bytes fits)
 event-kept (event.SetKey address key) bytes fits = refl
 event-kept (event.SetPrefix cpu address) bytes fits = refl
 event-kept (event.Show address length) bytes fits = refl
@@ -85,7 +49,7 @@ event-kept event.SystemReset bytes fits = refl
 
 pub reply-kept : (k : KeptReply) (bytes : List ℕ) → reply_length k ≤ length bytes → kept_of_reply (reply_in k bytes) ≡ k
 reply-kept reply.Done bytes fits = refl
-reply-kept (reply.Shown count) bytes fits = ap (λ n. reply.Shown n) (taken-length count bytes fits)
+reply-kept (reply.Shown count) bytes fits = ap (λ n. reply.Shown n) (length-take-le count bytes fits)
 reply-kept (reply.Code a) bytes fits = refl
 reply-kept (reply.Status a scsw) bytes fits = refl
 reply-kept (reply.Interruption code) bytes fits = refl
@@ -97,41 +61,16 @@ reply-kept (reply.ResetSent number path) bytes fits = refl
 reply-kept (reply.HaltSent number path) bytes fits = refl
 reply-kept reply.Pending bytes fits = refl
 reply-kept reply.Idle bytes fits = refl
-reply-kept (reply.Up signal taken None) bytes fits = ap (λ (k : KeptUp). reply.Up k taken None) (up-kept signal bytes fits)
+reply-kept (reply.Up signal taken None) bytes fits = ap (λ (k : KeptUp). reply.Up k taken None) ((up-kept signal).same bytes fits)
 reply-kept (reply.Up signal taken (Some sent)) bytes fits =
-    ap₂ (λ (k : KeptUp) (l : KeptDown). reply.Up k taken (Some (record { path = sent.path; signal = l }))) (up-kept signal bytes (omega (arith, fits)))
-    (down-kept sent.signal (drop (up_length signal) bytes) (omega (arith, fits, length-drop (up_length signal) bytes)))
-reply-kept (reply.Down signal taken None) bytes fits = ap (λ (k : KeptDown). reply.Down k taken None) (down-kept signal bytes fits)
+    ap₂ (λ (k : KeptUp) (l : KeptDown). reply.Up k taken (Some (record { path = sent.path; signal = l }))) ((up-kept signal).same bytes (omega (arith, fits)))
+    ((down-kept sent.signal).same (drop (up_length signal) bytes) (omega (arith, fits, length-drop (up_length signal) bytes)))
+reply-kept (reply.Down signal taken None) bytes fits = ap (λ (k : KeptDown). reply.Down k taken None) ((down-kept signal).same bytes fits)
 reply-kept (reply.Down signal taken (Some sent)) bytes fits =
-    ap₂ (λ (k : KeptDown) (l : KeptUp). reply.Down k taken (Some (record { path = sent.path; signal = l }))) (down-kept signal bytes (omega (arith, fits)))
-    (up-kept sent.signal (drop (down_length signal) bytes) (omega (arith, fits, length-drop (down_length signal) bytes)))
+    ap₂ (λ (k : KeptDown) (l : KeptUp). reply.Down k taken (Some (record { path = sent.path; signal = l }))) ((down-kept signal).same bytes (omega (arith, fits)))
+    ((up-kept sent.signal).same (drop (down_length signal) bytes) (omega (arith, fits, length-drop (down_length signal) bytes)))
 
 -- and has these bytes
-down-bytes : (k : KeptDown) (bytes : List ℕ) → down_bytes (down_in k bytes) ≡ take (down_length k) bytes
-down-bytes (down.Select number) bytes = refl
-down-bytes (down.Command number command code room) bytes = refl
-down-bytes (down.Grant number connection) bytes = refl
-down-bytes (down.Refuse number connection) bytes = refl
-down-bytes (down.Took number command sequence room) bytes = refl
-down-bytes (down.Give count number connection command sequence) bytes = refl
-down-bytes (down.Halt number) bytes = refl
-down-bytes (down.Release number) bytes = refl
-down-bytes (down.Reset number restarts) bytes = refl
-down-bytes (down.Got attention) bytes = refl
-
-up-bytes : (k : KeptUp) (bytes : List ℕ) → up_bytes (up_in k bytes) ≡ take (up_length k) bytes
-up-bytes (up.Accept number) bytes = refl
-up-bytes (up.Busy number) bytes = refl
-up-bytes (up.Leave number connection) bytes = refl
-up-bytes (up.Back number connection) bytes = refl
-up-bytes (up.Data (load.Absorbed count) number connection command sequence) bytes = refl
-up-bytes (up.Data (load.Bytes count) number connection command sequence) bytes = refl
-up-bytes (up.End number command status more) bytes = refl
-up-bytes (up.Released number) bytes = refl
-up-bytes (up.Cleared number) bytes = refl
-up-bytes (up.Notice restarts) bytes = refl
-up-bytes (up.Attn attention status) bytes = refl
-
 answer-bytes : (k : KeptAnswer) (bytes : List ℕ) → answer_bytes (answer_in k bytes) ≡ take (answer_length k) bytes
 answer-bytes answer.Begins bytes = refl
 answer-bytes (answer.Absorbed count) bytes = refl
@@ -171,43 +110,18 @@ reply-bytes (reply.ResetSent number path) bytes = refl
 reply-bytes (reply.HaltSent number path) bytes = refl
 reply-bytes reply.Pending bytes = refl
 reply-bytes reply.Idle bytes = refl
-reply-bytes (reply.Up signal taken None) bytes = up-bytes signal bytes
+reply-bytes (reply.Up signal taken None) bytes = (up-kept signal).brings bytes
 reply-bytes (reply.Up signal taken (Some sent)) bytes =
-    ap₂ (λ (a b : List ℕ). a ++ b) (up-bytes signal bytes) (down-bytes sent.signal (drop (up_length signal) bytes)) ∙ sym (take-add (up_length signal) (down_length sent.signal) bytes)
-reply-bytes (reply.Down signal taken None) bytes = down-bytes signal bytes
+    ap₂ (λ (a b : List ℕ). a ++ b) ((up-kept signal).brings bytes) ((down-kept sent.signal).brings (drop (up_length signal) bytes)) ∙ sym (take-add (up_length signal) (down_length sent.signal) bytes)
+reply-bytes (reply.Down signal taken None) bytes = (down-kept signal).brings bytes
 reply-bytes (reply.Down signal taken (Some sent)) bytes =
-    ap₂ (λ (a b : List ℕ). a ++ b) (down-bytes signal bytes) (up-bytes sent.signal (drop (down_length signal) bytes)) ∙ sym (take-add (down_length signal) (up_length sent.signal) bytes)
+    ap₂ (λ (a b : List ℕ). a ++ b) ((down-kept signal).brings bytes) ((up-kept sent.signal).brings (drop (down_length signal) bytes)) ∙ sym (take-add (down_length signal) (up_length sent.signal) bytes)
 
 -- a reply that is Done has no bytes
 pub reply-done : (k : KeptReply) (bytes : List ℕ) → reply_length k ≤ length bytes → reply_in k bytes ≡ reply.Done → reply_length k ≡ 0
 reply-done k bytes fits is = ap reply_length (sym (reply-kept k bytes fits) ∙ ap kept_of_reply is)
 
--- what follows the bytes of a signal or of a reply makes no difference
-down-front : (k : KeptDown) (bytes rest : List ℕ) → down_length k ≤ length bytes → down_in k (bytes ++ rest) ≡ down_in k bytes
-down-front (down.Select number) bytes rest fits = refl
-down-front (down.Command number command code room) bytes rest fits = refl
-down-front (down.Grant number connection) bytes rest fits = refl
-down-front (down.Refuse number connection) bytes rest fits = refl
-down-front (down.Took number command sequence room) bytes rest fits = refl
-down-front (down.Give count number connection command sequence) bytes rest fits = ap (λ bs. down.Give bs number connection command sequence) (take-append-le count bytes rest fits)
-down-front (down.Halt number) bytes rest fits = refl
-down-front (down.Release number) bytes rest fits = refl
-down-front (down.Reset number restarts) bytes rest fits = refl
-down-front (down.Got attention) bytes rest fits = refl
-
-up-front : (k : KeptUp) (bytes rest : List ℕ) → up_length k ≤ length bytes → up_in k (bytes ++ rest) ≡ up_in k bytes
-up-front (up.Accept number) bytes rest fits = refl
-up-front (up.Busy number) bytes rest fits = refl
-up-front (up.Leave number connection) bytes rest fits = refl
-up-front (up.Back number connection) bytes rest fits = refl
-up-front (up.Data (load.Absorbed count) number connection command sequence) bytes rest fits = refl
-up-front (up.Data (load.Bytes count) number connection command sequence) bytes rest fits = ap (λ bs. up.Data (load.Bytes bs) number connection command sequence) (take-append-le count bytes rest fits)
-up-front (up.End number command status more) bytes rest fits = refl
-up-front (up.Released number) bytes rest fits = refl
-up-front (up.Cleared number) bytes rest fits = refl
-up-front (up.Notice restarts) bytes rest fits = refl
-up-front (up.Attn attention status) bytes rest fits = refl
-
+-- what follows the bytes of a reply makes no difference
 pub reply-front : (k : KeptReply) (bytes rest : List ℕ) → reply_length k ≤ length bytes → reply_in k (bytes ++ rest) ≡ reply_in k bytes
 reply-front reply.Done bytes rest fits = refl
 reply-front (reply.Shown count) bytes rest fits = ap (λ bs. reply.Shown bs) (take-append-le count bytes rest fits)
@@ -222,13 +136,13 @@ reply-front (reply.ResetSent number path) bytes rest fits = refl
 reply-front (reply.HaltSent number path) bytes rest fits = refl
 reply-front reply.Pending bytes rest fits = refl
 reply-front reply.Idle bytes rest fits = refl
-reply-front (reply.Up signal taken None) bytes rest fits = ap (λ (x : Up). reply.Up x taken None) (up-front signal bytes rest fits)
+reply-front (reply.Up signal taken None) bytes rest fits = ap (λ (x : Up). reply.Up x taken None) ((up-kept signal).front bytes rest fits)
 reply-front (reply.Up signal taken (Some sent)) bytes rest fits =
-    ap₂ (λ x y. up_met taken sent.path x y) (up-front signal bytes rest (omega (arith, fits)))
+    ap₂ (λ x y. up_met taken sent.path x y) ((up-kept signal).front bytes rest (omega (arith, fits)))
     (ap (down_in sent.signal) (drop-append-le (up_length signal) bytes rest (omega (arith, fits)))
-    ∙ down-front sent.signal (drop (up_length signal) bytes) rest (omega (arith, fits, length-drop (up_length signal) bytes)))
-reply-front (reply.Down signal taken None) bytes rest fits = ap (λ (x : Down). reply.Down x taken None) (down-front signal bytes rest fits)
+    ∙ (down-kept sent.signal).front (drop (up_length signal) bytes) rest (omega (arith, fits, length-drop (up_length signal) bytes)))
+reply-front (reply.Down signal taken None) bytes rest fits = ap (λ (x : Down). reply.Down x taken None) ((down-kept signal).front bytes rest fits)
 reply-front (reply.Down signal taken (Some sent)) bytes rest fits =
-    ap₂ (λ x y. down_met taken sent.path x y) (down-front signal bytes rest (omega (arith, fits)))
+    ap₂ (λ x y. down_met taken sent.path x y) ((down-kept signal).front bytes rest (omega (arith, fits)))
     (ap (up_in sent.signal) (drop-append-le (down_length signal) bytes rest (omega (arith, fits)))
-    ∙ up-front sent.signal (drop (down_length signal) bytes) rest (omega (arith, fits, length-drop (down_length signal) bytes)))
+    ∙ (up-kept sent.signal).front (drop (down_length signal) bytes) rest (omega (arith, fits, length-drop (down_length signal) bytes)))

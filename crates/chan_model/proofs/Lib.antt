@@ -1,1 +1,4 @@
 pub mod Named
+pub mod OneSide
+pub mod KeptSignals
+pub mod TakenSignals

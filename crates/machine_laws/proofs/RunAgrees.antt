@@ -1,7 +1,7 @@
 -- After each run of a lawful set-up each unit has such links: each subchannel and its unit agree, and the starts of a
 -- subchannel that began a program rise.
 use Rattle.std.proofs.Common.{◌≡◌, refl, sym, ◌∙◌, ap, subst, ℕ, ◌<◌, ◌==◌, Bool, true, false, Option, None, Some, Result, List, [], ◌∷◌, ◌++◌, arith}
-use Rattle.std.specs.Prelude.{if◌then◌else◌, map, slice_get, slice_set, AllPairs, IfOk, Contains}
+use Rattle.std.specs.Prelude.{if◌then◌else◌, map, slice_get, slice_set, AllPairs, IfOk}
 use Rattle.std.proofs.lemmas.Bool.{eqb-true, eq-eqb, and_parts}
 use Rattle.chan_model.specs.declared.fault.Fault.{Fault}
 use Rattle.chan_model.specs.declared.hold_state.HoldPhase.{HoldPhase}
@@ -26,6 +26,7 @@ use Rattle.channel_config.specs.Setup.{Setup, set_count}
 use Rattle.channel_config.specs.SubchannelWords.{subchannel_named}
 use Rattle.orb_block.specs.declared.Orb.{Orb}
 use Rattle.schib_block.specs.declared.pmcw.Pmcw as block
+use Rattle.agreement_laws.proofs.SeenSignals.{Rises}
 use Rattle.agreement_laws.specs.Links.{Links, link_of, opening_links}
 use Rattle.agreement_laws.specs.Invariant.{IsGood}
 use Rattle.agreement_laws.specs.Claims.{IsSound}
@@ -348,11 +349,6 @@ pub run-agrees : IsGood opening_links → AreLaws → (setup : Setup) (h : List 
 run-agrees good laws setup h s lawful run =
     let told = run-told laws setup (record { set = 0; number = 0 }) h s lawful good run in
     linked-agree laws.means s _ _ told.1.linked
-
--- a Reset that the unit would take is above its floor
-abbrev pub Rises : Type 0
-Rises = (w : Links) (side : Side) (p r b : ℕ) → IsGood w → Contains (link_of w side).downs (record { path = p; signal = down.Reset r b }) → resets w.«unit» side r b ≡ true →
-    (side_of w.«unit» side).floor < r
 
 linked-above : Rises → (s : State) (which : Option ℕ) (k : StartCounts) → AreLinked s.subs s.units which k → AreAbove s
 linked-above rises s which k l = λ place sub u p r b e f front takes.

@@ -1,8 +1,7 @@
 -- Each event raises the numbers of a unit by one at most: that of its last chunk, of its last connection and of its last
 -- attention, and how often it was restarted.
-use Rattle.std.proofs.Common.{◌≡◌, refl, sym, ◌∙◌, subst, ℕ, ◌+◌, ◌≤◌, Bool, true, false, ◌==◌, ◌&&◌, not, nat_lt, nat_le, length, Option, None, Some, List, arith}
+use Rattle.std.proofs.Common.{◌≡◌, refl, sym, ◌∙◌, subst, ℕ, ◌+◌, ◌≤◌, Bool, true, false, ◌==◌, ◌&&◌, not, nat_le, length, Option, None, Some, List, arith}
 use Rattle.std.specs.Prelude.{if◌then◌else◌}
-use Rattle.std.proofs.lemmas.Bool.{eqb-true}
 use Rattle.chan_model.specs.declared.names.Side.{Side}
 use Rattle.chan_model.specs.declared.names.Side.TheVariants.{First, Second}
 use Rattle.scsw_irb.specs.declared.status.DeviceStatus.{DeviceStatus}
@@ -10,10 +9,8 @@ use Rattle.chan_model.specs.Reports.{DeviceAnswer}
 use Rattle.chan_model.specs.declared.report.DeviceAnswer.TheVariants as answer
 use Rattle.chan_model.specs.Reports.{Report}
 use Rattle.chan_model.specs.Signals.{Down}
-use Rattle.chan_model.specs.declared.signal.Down.TheVariants as down
 use Rattle.chan_model.specs.Signals.{Load}
 use Rattle.chan_model.specs.declared.unit_state.AtHand.{AtHand}
-use Rattle.chan_model.specs.declared.unit_state.Attention.{Attention}
 use Rattle.chan_model.specs.declared.unit_state.Own.{Own}
 use Rattle.chan_model.specs.declared.unit_state.Own.TheVariants as own
 use Rattle.chan_model.specs.declared.unit_state.Place.{Place}
@@ -24,8 +21,10 @@ use Rattle.chan_model.specs.declared.unit_state.SideState.{SideState}
 use Rattle.chan_model.specs.declared.unit_state.UnitState.{UnitState}
 use Rattle.chan_model.specs.Sides.{same_side}
 use Rattle.chan_model.proofs.Named.{without_side, report_absorbed, sent_again}
-use Rattle.chan_model.specs.UnitTable.{UnitStep, changes, with_given, at_hand_answered, side_of, with_side, owns, is_owner, is_owner_on, freed, raised, selected, given_next, answered_load, answered_last, granted_at, granted, grant_refused_at, grant_refused, resets, forgetting, unit_works, unit_takes, unit_after, telling, is_idle, marked_again, leaving_from, leaving, asking_from, asking, restarted}
+use Rattle.chan_model.specs.UnitTable.{UnitStep, side_of, with_side, owns, freed, raised, unit_takes, unit_after, is_idle, marked_again, leaving_from, leaving, asking_from, asking, restarted}
 use Rattle.chan_model.specs.UnitReports.{is_outward, is_to_supply, most_of, may_end, shown_end, end_sent, command_begun, with_supplied, report_supplied, answer_taken, report_on, report_of, unit_reports}
+use Rattle.chan_model.specs.Parts.{reset_side}
+use Rattle.chan_model.proofs.TakenSignals.{Takes, Ignores, Notices, Accepts, Denies, Begins, Joins, Leaves, Parts, Answers, Gives, Halts, Frees, Resets, Forgets, takes-by}
 use Rattle.chan_events.specs.declared.event.UnitAct.{UnitAct}
 use Rattle.chan_events.specs.declared.event.UnitAct.TheVariants as act
 use Rattle.machine_model.specs.Bounds.{IsAtWithin, IsPlaceWithin, IsOwnWithin}
@@ -98,72 +97,9 @@ side-hand : (u : UnitState) (side : Side) (s : SideState) → (with_side u side 
 side-hand u First s = refl
 side-hand u Second s = refl
 
--- Select, at a side whose floor was raised
-selected-plain : (u : UnitState) (o : Own) (side : Side) (p t : ℕ) (may : Bool) → IsPlainStep u (selected (raised u side t) o side p t may)
-selected-plain u own.Idle side p t true = plain u _ (side-restarts u side _) (side-attentions u side _) (λ n w. omega arith) (λ n w. tt)
-selected-plain u own.Idle side p t false = same-hand u _ (side-restarts u side _) (side-attentions u side _) (side-own u side _) (side-hand u side _)
-selected-plain u (own.Owned k v place) side p t may = same-hand u _ (side-restarts u side _) (side-attentions u side _) (side-own u side _) (side-hand u side _)
-
 -- with another command at hand
 with-hand : (u : UnitState) (x : AtHand) → ((n : ℕ) → IsAtWithin n u.at_hand → x.sequence ≤ n + 1) → IsPlain u (record u { at_hand = Some x })
 with-hand u x f = plain u (record u { at_hand = Some x }) refl refl (λ n w. own-later n u.own w) f
-
-given-plain : (u : UnitState) (x : Option AtHand) (s : ℕ) (bytes : List ℕ) → u.at_hand ≡ x → IsPlainStep u (given_next u x s bytes)
-given-plain u None s bytes h = stays u
-given-plain u (Some x) s bytes h = given-if (s == x.sequence + 1) refl
-  where
-    given-if : (c : Bool) → (s == x.sequence + 1) ≡ c → IsPlainStep u (if c then changes (record u { at_hand = Some (with_given x s bytes) }) else None)
-    given-if true e =
-        with-hand u (with_given x s bytes)
-        (λ n w. let w : x.sequence ≤ n = subst (IsAtWithin n) h w in omega (arith, eqb-true s (x.sequence + 1) e, w))
-    given-if false e = stays u
-
-load-plain : (u : UnitState) (x : AtHand) (load : Option Load) (room : ℕ) → u.at_hand ≡ Some x → IsPlainStep u (answered_load u x load room)
-load-plain u x None room h = stays u
-load-plain u x (Some load) room h =
-    with-hand u (at_hand_answered x load room) (λ n w. let w : x.sequence ≤ n = subst (IsAtWithin n) h w in omega (arith, w))
-
-answered-plain : (u : UnitState) (x : Option AtHand) (s room : ℕ) → u.at_hand ≡ x → IsPlainStep u (answered_last u x s room)
-answered-plain u None s room h = stays u
-answered-plain u (Some x) s room h = if-plain u (s == x.sequence) _ None (load-plain u x x.unanswered room h) (stays u)
-
-granted_at-plain : (u : UnitState) (side : Side) (t : ℕ) (place : Place) (p c : ℕ) → u.own ≡ own.Owned side t place → IsPlainStep u (granted_at u side t place p c)
-granted_at-plain u side t (Ask q d) p c e =
-    if-plain u (c == d) _ _ (moved-on u _ _ refl refl refl e (λ n w. omega (arith, w))) (if-plain u (nat_lt c d) _ None (stays u) (stays u))
-granted_at-plain u side t (On q d) p c e = if-plain u (nat_lt c d) _ None (stays u) (stays u)
-granted_at-plain u side t (Away d) p c e = if-plain u (nat_lt c d) _ None (stays u) (stays u)
-
-granted-plain : (u : UnitState) (o : Own) (side : Side) (p t c : ℕ) → u.own ≡ o → IsPlainStep u (granted u o side p t c)
-granted-plain u own.Idle side p t c e = stays u
-granted-plain u (own.Owned k v place) side p t c e = if-plain u (same_side k side && (t == v)) _ None (granted_at-plain u k v place p c e) (stays u)
-
-refused_at-plain : (u : UnitState) (side : Side) (t : ℕ) (place : Place) (c : ℕ) → u.own ≡ own.Owned side t place → IsPlainStep u (grant_refused_at u side t place c)
-refused_at-plain u side t (Ask q d) c e = if-plain u (c == d) _ None (moved-on u _ _ refl refl refl e (λ n w. omega (arith, w))) (stays u)
-refused_at-plain u side t (On q d) c e = stays u
-refused_at-plain u side t (Away d) c e = stays u
-
-refused-plain : (u : UnitState) (o : Own) (side : Side) (t c : ℕ) → u.own ≡ o → IsPlainStep u (grant_refused u o side t c)
-refused-plain u own.Idle side t c e = stays u
-refused-plain u (own.Owned k v place) side t c e = if-plain u (same_side k side && (t == v)) _ None (refused_at-plain u k v place c e) (stays u)
-
-forgetting-plain : (u : UnitState) (x : Option Attention) (side : Side) (a : ℕ) → IsPlainStep u (forgetting u x side a)
-forgetting-plain u None side a = stays u
-forgetting-plain u (Some x) side a = if-plain u (same_side x.side side && (a == x.number)) _ None (same-hand u _ refl refl refl refl) (stays u)
-
-works-plain : (u : UnitState) (side : Side) (p : ℕ) (d : Down) (may : Bool) → IsPlainStep u (unit_works u side p d may)
-works-plain u side p (down.Select t) may = if-plain u (nat_lt (side_of u side).floor t) _ None (selected-plain u u.own side p t may) (stays u)
-works-plain u side p (down.Command t n code room) may =
-    if-plain u (is_owner u.own side t && (n == u.last_command + 1)) _ None (plain u _ refl refl (λ n w. own-later n u.own w) (λ n w. omega arith)) (stays u)
-works-plain u side p (down.Grant t c) may = granted-plain u u.own side p t c refl
-works-plain u side p (down.Refuse t c) may = refused-plain u u.own side t c refl
-works-plain u side p (down.Took t n s room) may =
-    if-plain u (is_owner u.own side t && (n == u.last_command)) _ None (answered-plain u u.at_hand s room refl) (stays u)
-works-plain u side p (down.Give bytes t c n s) may =
-    if-plain u (is_owner_on u.own side t c && (n == u.last_command)) _ None (given-plain u u.at_hand s bytes refl) (stays u)
-works-plain u side p (down.Halt t) may = if-plain u (is_owner u.own side t && not u.halted) _ None (same-hand u _ refl refl refl refl) (stays u)
-works-plain u side p (down.Release t) may = if-plain u (is_owner u.own side t) _ None (plain u _ refl refl (λ n w. tt) (λ n w. tt)) (stays u)
-works-plain u side p (down.Reset r c) may = stays u
-works-plain u side p (down.Got a) may = forgetting-plain u u.attention side a
 
 without-restarts : (u : UnitState) (c : Bool) → (if c then freed u else u).restarts ≡ u.restarts
 without-restarts u true = refl
@@ -181,28 +117,37 @@ without-hand : (u : UnitState) (c : Bool) (n : ℕ) → IsAtWithin n u.at_hand �
 without-hand u true n w = tt
 without-hand u false n w = at-later n u.at_hand w
 
-fresh-plain : (u : UnitState) (side : Side) (p : ℕ) (step : Option UnitStep) → IsPlainStep u step → IsPlainStep u (if (side_of u side).fresh then telling u p else step)
-fresh-plain u side p step h = if-plain u (side_of u side).fresh (telling u p) step (stays u) h
+-- a side whose floor was raised
+raised-plain : (u : UnitState) (side : Side) (t : ℕ) → IsPlain u (raised u side t)
+raised-plain u side t = same-hand u _ (side-restarts u side _) (side-attentions u side _) (side-own u side _) (side-hand u side _)
 
-reset-plain : (u : UnitState) (side : Side) (p r c : ℕ) (may : Bool) → IsPlainStep u (unit_takes u side p (down.Reset r c) may)
-reset-plain u side p r c may =
-    if-plain u (resets u side r c) _ _
-    (plain u _ (side-restarts (without_side u side) side _ ∙ without-restarts u (owns u.own side)) (side-attentions (without_side u side) side _ ∙ without-attentions u (owns u.own side))
+reset-plain : (u : UnitState) (side : Side) (r : ℕ) → IsPlain u (reset_side u side r)
+reset-plain u side r =
+    plain u _ (side-restarts (without_side u side) side _ ∙ without-restarts u (owns u.own side)) (side-attentions (without_side u side) side _ ∙ without-attentions u (owns u.own side))
     (λ n w. subst (IsOwnWithin (n + 1)) (sym (side-own (without_side u side) side _)) (without-own u (owns u.own side) n w))
-    (λ n w. subst (IsAtWithin (n + 1)) (sym (side-hand (without_side u side) side _)) (without-hand u (owns u.own side) n w)))
-    (fresh-plain u side p None (stays u))
+    (λ n w. subst (IsAtWithin (n + 1)) (sym (side-hand (without_side u side) side _)) (without-hand u (owns u.own side) n w))
+
+next-hand : (u : UnitState) (x y : AtHand) → u.at_hand ≡ Some x → y.sequence ≤ x.sequence + 1 → IsPlain u (record u { at_hand = Some y })
+next-hand u x y hand le = with-hand u y (λ n w. let w : x.sequence ≤ n = subst (IsAtWithin n) hand w in omega (arith, w, le))
+
+taken-plain : (u : UnitState) (side : Side) (p : ℕ) (d : Down) (step : Option UnitStep) → Takes u side p d step → IsPlainStep u step
+taken-plain u side p _ _ (Ignores d) = stays u
+taken-plain u side p _ _ (Notices d fresh) = stays u
+taken-plain u side p _ _ (Accepts t above idle) = plain u _ (side-restarts u side _) (side-attentions u side _) (λ n w. omega arith) (λ n w. tt)
+taken-plain u side p _ _ (Denies t above) = raised-plain u side t
+taken-plain u side p _ _ (Begins t n code room at is next) = plain u _ refl refl (λ m w. own-later m u.own w) (λ m w. omega arith)
+taken-plain u side p _ _ (Joins t c q is) = moved-on u _ _ refl refl refl is (λ n w. omega (arith, w))
+taken-plain u side p _ _ (Leaves t c at is) = stays u
+taken-plain u side p _ _ (Parts t c q is) = moved-on u _ _ refl refl refl is (λ n w. omega (arith, w))
+taken-plain u side p _ _ (Answers t s room at x load is hand last loaded) = next-hand u x _ hand (omega arith)
+taken-plain u side p _ _ (Gives bytes t c s q x is hand next) = next-hand u x _ hand (omega (arith, next))
+taken-plain u side p _ _ (Halts t at is first) = same-hand u _ refl refl refl refl
+taken-plain u side p _ _ (Frees t at is) = plain u _ refl refl (λ n w. tt) (λ n w. tt)
+taken-plain u side p _ _ (Resets r b is) = reset-plain u side r
+taken-plain u side p _ _ (Forgets a) = same-hand u _ refl refl refl refl
 
 pub takes-plain : (u : UnitState) (side : Side) (p : ℕ) (d : Down) (may : Bool) → IsPlainStep u (unit_takes u side p d may)
-takes-plain u side p (down.Select t) may = fresh-plain u side p _ (works-plain u side p (down.Select t) may)
-takes-plain u side p (down.Command t n code room) may = fresh-plain u side p _ (works-plain u side p (down.Command t n code room) may)
-takes-plain u side p (down.Grant t c) may = fresh-plain u side p _ (works-plain u side p (down.Grant t c) may)
-takes-plain u side p (down.Refuse t c) may = fresh-plain u side p _ (works-plain u side p (down.Refuse t c) may)
-takes-plain u side p (down.Took t n s room) may = fresh-plain u side p _ (works-plain u side p (down.Took t n s room) may)
-takes-plain u side p (down.Give bytes t c n s) may = fresh-plain u side p _ (works-plain u side p (down.Give bytes t c n s) may)
-takes-plain u side p (down.Halt t) may = fresh-plain u side p _ (works-plain u side p (down.Halt t) may)
-takes-plain u side p (down.Release t) may = fresh-plain u side p _ (works-plain u side p (down.Release t) may)
-takes-plain u side p (down.Reset r c) may = reset-plain u side p r c may
-takes-plain u side p (down.Got a) may = fresh-plain u side p _ (works-plain u side p (down.Got a) may)
+takes-plain u side p d may = taken-plain u side p d _ (takes-by u side p d may)
 
 -- reports
 hand-same : (u : UnitState) (x y : AtHand) → u.at_hand ≡ Some x → y.sequence ≡ x.sequence → IsPlain u (record u { at_hand = Some y })

@@ -1,5 +1,5 @@
 -- What a unit sends: it accepts a program only as an answer to its Select, on the same path.
-use Rattle.std.proofs.Common.{◌≡◌, refl, ℕ, ◌+◌, ◌==◌, ◌&&◌, nat_le, nat_lt, Bool, true, false, not, Option, None, Some, List, length, if◌then◌else◌}
+use Rattle.std.proofs.Common.{◌≡◌, refl, ℕ, ◌==◌, ◌&&◌, nat_le, Bool, true, false, not, Option, None, Some, List, length, if◌then◌else◌}
 use Rattle.chan_model.specs.declared.names.Side.{Side}
 use Rattle.chan_model.specs.Reports.{DeviceAnswer}
 use Rattle.chan_model.specs.declared.report.DeviceAnswer.TheVariants as answer
@@ -11,7 +11,6 @@ use Rattle.chan_model.specs.declared.signal.OnPath.{OnPath}
 use Rattle.chan_model.specs.Signals.{Up}
 use Rattle.chan_model.specs.declared.signal.Up.TheVariants as up
 use Rattle.chan_model.specs.declared.unit_state.AtHand.{AtHand}
-use Rattle.chan_model.specs.declared.unit_state.Attention.{Attention}
 use Rattle.chan_model.specs.declared.unit_state.Own.{Own}
 use Rattle.chan_model.specs.declared.unit_state.Own.TheVariants as own
 use Rattle.chan_model.specs.declared.unit_state.Place.{Place}
@@ -22,7 +21,8 @@ use Rattle.chan_model.specs.declared.unit_state.UnitState.{UnitState}
 use Rattle.chan_model.specs.Sides.{same_side}
 use Rattle.chan_model.specs.UnitReports.{is_outward, may_end, most_of, is_to_supply, command_begun, answer_taken, report_on, report_of, unit_reports}
 use Rattle.chan_model.proofs.Named.{report_absorbed, sent_again}
-use Rattle.chan_model.specs.UnitTable.{UnitStep, came_of, side_of, raised, selected, is_owner, is_owner_on, given_next, answered_load, answered_last, granted_at, granted, grant_refused_at, grant_refused, resets, forgetting, telling, unit_works, unit_takes, leaving_from, leaving, asking_from, asking, is_idle}
+use Rattle.chan_model.specs.UnitTable.{UnitStep, came_of, side_of, telling, unit_takes, leaving_from, leaving, asking_from, asking, is_idle}
+use Rattle.chan_model.proofs.TakenSignals.{Takes, Ignores, Notices, Accepts, Denies, Begins, Joins, Leaves, Parts, Answers, Gives, Halts, Frees, Resets, Forgets, takes-by}
 use Rattle.chan_events.specs.declared.event.UnitAct.{UnitAct}
 use Rattle.chan_events.specs.declared.event.UnitAct.TheVariants as act
 use Rattle.machine_model.specs.ActSteps.{acts}
@@ -68,87 +68,25 @@ if-sends : (b : Bool) (x y : Option UnitStep) → Sends x → Sends y → Sends 
 if-sends true x y k l = k
 if-sends false x y k l = l
 
-if-echo : (p : ℕ) (d : Down) (b : Bool) (x y : Option UnitStep) → AreEchoes p d (came_of x).sent → AreEchoes p d (came_of y).sent →
-    AreEchoes p d (came_of (if b then x else y)).sent
-if-echo p d true x y k l = k
-if-echo p d false x y k l = l
-
 -- the signals from the subchannel
-selected-echo : (u : UnitState) (o : Own) (side : Side) (p t : ℕ) (may : Bool) → AreEchoes p (down.Select t) (came_of (selected u o side p t may)).sent
-selected-echo u own.Idle side p t true = (refl, refl)
-selected-echo u own.Idle side p t false = tt
-selected-echo u (own.Owned k v at) side p t may = tt
-
-granted_at-sends : (u : UnitState) (side : Side) (t : ℕ) (at : Place) (p c : ℕ) → Sends (granted_at u side t at p c)
-granted_at-sends u side t (place.Ask q d) p c = if-sends (c == d) _ _ tt (if-sends (nat_lt c d) _ None tt tt)
-granted_at-sends u side t (place.On q d) p c = if-sends (nat_lt c d) _ None tt tt
-granted_at-sends u side t (place.Away d) p c = if-sends (nat_lt c d) _ None tt tt
-
-granted-sends : (u : UnitState) (o : Own) (side : Side) (p t c : ℕ) → Sends (granted u o side p t c)
-granted-sends u own.Idle side p t c = tt
-granted-sends u (own.Owned k v at) side p t c = if-sends (same_side k side && (t == v)) (granted_at u k v at p c) None (granted_at-sends u k v at p c) tt
-
-refused_at-sends : (u : UnitState) (side : Side) (t : ℕ) (at : Place) (c : ℕ) → Sends (grant_refused_at u side t at c)
-refused_at-sends u side t (place.Ask q d) c = if-sends (c == d) _ None tt tt
-refused_at-sends u side t (place.On q d) c = tt
-refused_at-sends u side t (place.Away d) c = tt
-
-refused-sends : (u : UnitState) (o : Own) (side : Side) (t c : ℕ) → Sends (grant_refused u o side t c)
-refused-sends u own.Idle side t c = tt
-refused-sends u (own.Owned k v at) side t c = if-sends (same_side k side && (t == v)) (grant_refused_at u k v at c) None (refused_at-sends u k v at c) tt
-
-load-sends : (u : UnitState) (x : AtHand) (load : Option Load) (room : ℕ) → Sends (answered_load u x load room)
-load-sends u x None room = tt
-load-sends u x (Some load) room = tt
-
-last-sends : (u : UnitState) (x : Option AtHand) (s room : ℕ) → Sends (answered_last u x s room)
-last-sends u None s room = tt
-last-sends u (Some x) s room = if-sends (s == x.sequence) (answered_load u x x.unanswered room) None (load-sends u x x.unanswered room) tt
-
-next-sends : (u : UnitState) (x : Option AtHand) (s : ℕ) (bytes : List ℕ) → Sends (given_next u x s bytes)
-next-sends u None s bytes = tt
-next-sends u (Some x) s bytes = if-sends (s == x.sequence + 1) _ None tt tt
-
-forgetting-sends : (u : UnitState) (x : Option Attention) (side : Side) (a : ℕ) → Sends (forgetting u x side a)
-forgetting-sends u None side a = tt
-forgetting-sends u (Some x) side a = if-sends (same_side x.side side && (a == x.number)) _ None tt tt
-
-works-echo : (u : UnitState) (side : Side) (p : ℕ) (d : Down) (may : Bool) → AreEchoes p d (came_of (unit_works u side p d may)).sent
-works-echo u side p (down.Select t) may =
-    if-echo p (down.Select t) (nat_lt (side_of u side).floor t) (selected (raised u side t) u.own side p t may) None
-    (selected-echo (raised u side t) u.own side p t may) tt
-works-echo u side p (down.Command t n code room) may =
-    others-echo p (down.Command t n code room) _ (if-sends (is_owner u.own side t && (n == u.last_command + 1)) _ None tt tt)
-works-echo u side p (down.Grant t c) may = others-echo p (down.Grant t c) _ (granted-sends u u.own side p t c)
-works-echo u side p (down.Refuse t c) may = others-echo p (down.Refuse t c) _ (refused-sends u u.own side t c)
-works-echo u side p (down.Took t n s room) may =
-    others-echo p (down.Took t n s room) _
-    (if-sends (is_owner u.own side t && (n == u.last_command)) (answered_last u u.at_hand s room) None (last-sends u u.at_hand s room) tt)
-works-echo u side p (down.Give bytes t c n s) may =
-    others-echo p (down.Give bytes t c n s) _
-    (if-sends (is_owner_on u.own side t c && (n == u.last_command)) (given_next u u.at_hand s bytes) None (next-sends u u.at_hand s bytes) tt)
-works-echo u side p (down.Halt t) may = others-echo p (down.Halt t) _ (if-sends (is_owner u.own side t && not u.halted) _ None tt tt)
-works-echo u side p (down.Release t) may = others-echo p (down.Release t) _ (if-sends (is_owner u.own side t) _ None tt tt)
-works-echo u side p (down.Reset r b) may = tt
-works-echo u side p (down.Got a) may = others-echo p (down.Got a) _ (forgetting-sends u u.attention side a)
-
-fresh-echo : (u : UnitState) (side : Side) (p : ℕ) (d : Down) (may : Bool) →
-    AreEchoes p d (came_of (if (side_of u side).fresh then telling u p else unit_works u side p d may)).sent
-fresh-echo u side p d may = if-echo p d (side_of u side).fresh (telling u p) (unit_works u side p d may) tt (works-echo u side p d may)
+taken-echo : (u : UnitState) (side : Side) (p : ℕ) (d : Down) (step : Option UnitStep) → Takes u side p d step → AreEchoes p d (came_of step).sent
+taken-echo u side p _ _ (Ignores d) = tt
+taken-echo u side p _ _ (Notices d fresh) = tt
+taken-echo u side p _ _ (Accepts t above idle) = (refl, refl)
+taken-echo u side p _ _ (Denies t above) = tt
+taken-echo u side p _ _ (Begins t n code room at is next) = tt
+taken-echo u side p _ _ (Joins t c q is) = tt
+taken-echo u side p _ _ (Leaves t c at is) = tt
+taken-echo u side p _ _ (Parts t c q is) = tt
+taken-echo u side p _ _ (Answers t s room at x load is hand last loaded) = tt
+taken-echo u side p _ _ (Gives bytes t c s q x is hand next) = tt
+taken-echo u side p _ _ (Halts t at is first) = tt
+taken-echo u side p _ _ (Frees t at is) = tt
+taken-echo u side p _ _ (Resets r b is) = tt
+taken-echo u side p _ _ (Forgets a) = tt
 
 pub takes-echo : (u : UnitState) (side : Side) (p : ℕ) (d : Down) (may : Bool) → AreEchoes p d (came_of (unit_takes u side p d may)).sent
-takes-echo u side p (down.Select t) may = fresh-echo u side p (down.Select t) may
-takes-echo u side p (down.Command t n code room) may = fresh-echo u side p (down.Command t n code room) may
-takes-echo u side p (down.Grant t c) may = fresh-echo u side p (down.Grant t c) may
-takes-echo u side p (down.Refuse t c) may = fresh-echo u side p (down.Refuse t c) may
-takes-echo u side p (down.Took t n s room) may = fresh-echo u side p (down.Took t n s room) may
-takes-echo u side p (down.Give bytes t c n s) may = fresh-echo u side p (down.Give bytes t c n s) may
-takes-echo u side p (down.Halt t) may = fresh-echo u side p (down.Halt t) may
-takes-echo u side p (down.Release t) may = fresh-echo u side p (down.Release t) may
-takes-echo u side p (down.Reset r b) may =
-    others-echo p (down.Reset r b) _
-    (if-sends (resets u side r b) _ (if (side_of u side).fresh then telling u p else None) tt (if-sends (side_of u side).fresh (telling u p) None tt tt))
-takes-echo u side p (down.Got a) may = fresh-echo u side p (down.Got a) may
+takes-echo u side p d may = taken-echo u side p d _ (takes-by u side p d may)
 
 -- its reports
 begun-sends : (u : UnitState) (p t c : ℕ) (x : AtHand) → Sends (command_begun u p t c x)

@@ -18,7 +18,6 @@ mod Caused
 mod Holds
 mod Endings
 mod HoldMeets
-mod UnitPlaces
 mod UnitSides
 mod UnitOrders
 mod UnitGrowth

@@ -1,6 +1,6 @@
 -- What a unit does with a signal to the command at hand, and what it sends then.
-use Rattle.std.proofs.Common.{◌≡◌, refl, sym, ◌∙◌, ap, subst, ℕ, ◌+◌, Bool, true, false, ◌==◌, ◌&&◌, not, nat_lt, Option, None, Some, List}
-use Rattle.std.specs.Prelude.{if◌then◌else◌, IfSome}
+use Rattle.std.proofs.Common.{◌≡◌, refl, sym, ◌∙◌, ap, subst, ℕ, ◌+◌, Bool, true, false, ◌==◌, ◌&&◌, nat_lt, Option, None, Some, List, inl, inr}
+use Rattle.std.specs.Prelude.{◌⊎◌, if◌then◌else◌, IfSome}
 use Rattle.std.proofs.lemmas.Bool.{eqb-true, and_parts}
 use Rattle.chan_model.specs.declared.names.Side.{Side}
 use Rattle.chan_model.specs.declared.names.Side.TheVariants.{First, Second}
@@ -10,7 +10,6 @@ use Rattle.chan_model.specs.Signals.{Load}
 use Rattle.chan_model.specs.Signals.{Up}
 use Rattle.chan_model.specs.declared.signal.Up.TheVariants as up
 use Rattle.chan_model.specs.declared.unit_state.AtHand.{AtHand}
-use Rattle.chan_model.specs.declared.unit_state.Attention.{Attention}
 use Rattle.chan_model.specs.declared.unit_state.Own.{Own}
 use Rattle.chan_model.specs.declared.unit_state.Own.TheVariants as own
 use Rattle.chan_model.specs.declared.unit_state.Place.{Place}
@@ -19,11 +18,11 @@ use Rattle.chan_model.specs.declared.unit_state.SideState.{SideState}
 use Rattle.chan_model.specs.declared.unit_state.UnitState.{UnitState}
 use Rattle.chan_model.specs.Sides.{same_side}
 use Rattle.chan_model.proofs.Named.{without_side}
-use Rattle.chan_model.specs.UnitTable.{UnitStep, came_of, changes, sends, with_given, at_hand_answered, new_command, side_of, with_side, owns, is_owner, is_owner_on, freed, raised, selected, given_next, answered_load, answered_last, granted_at, granted, grant_refused_at, grant_refused, resets, forgetting, unit_works, unit_takes, unit_after, telling}
+use Rattle.chan_model.specs.UnitTable.{UnitStep, came_of, changes, with_given, at_hand_answered, new_command, side_of, with_side, owns, is_owner, is_owner_on, freed, raised, selected, given_next, answered_load, answered_last, unit_takes, unit_after, telling}
 use Rattle.chan_model.specs.Parts.{is_place_on, reset_side}
+use Rattle.chan_model.proofs.TakenSignals.{IsAt, Takes, Ignores, Notices, Accepts, Denies, Begins, Joins, Leaves, Parts, Answers, Gives, Halts, Frees, Resets, Forgets, takes-by}
 use Rattle.program_laws.proofs.MachineTraces.{silent}
-use Rattle.program_laws.proofs.UnitPlaces.{IsOfPlace, granted-leaves, refused-leaves, forgetting-leaves}
-use Rattle.program_laws.proofs.UnitSides.{side-own, one-owner, other-owner}
+use Rattle.program_laws.proofs.UnitSides.{side-own, other-owner}
 use Rattle.program_laws.proofs.UnitOrders.{one-number}
 
 -- a program of the side that holds the device held it before, with the same command at hand
@@ -35,10 +34,6 @@ IsCalmStep side u step = IsCalm side u (unit_after u step)
 
 pub calm : (side : Side) (u : UnitState) → IsCalm side u u
 calm side u t e = (e, refl)
-
-if-calm : (side : Side) (u : UnitState) (c : Bool) (x y : Option UnitStep) → IsCalmStep side u x → IsCalmStep side u y → IsCalmStep side u (if c then x else y)
-if-calm side u true x y e f = e
-if-calm side u false x y e f = f
 
 calm-own : (side : Side) (u v : UnitState) → v.own ≡ u.own → v.at_hand ≡ u.at_hand → IsCalm side u v
 calm-own side u v o h t e = (ap (λ (x : Own). is_owner x side t) (sym o) ∙ e, h)
@@ -56,14 +51,6 @@ side-hand Second u s = refl
 calm-side : (side k : Side) (u : UnitState) (s : SideState) → IsCalm side u (with_side u k s)
 calm-side side k u s = calm-own side u (with_side u k s) (side-own k u s) (side-hand k u s)
 
--- the signals that leave it, of any side
-calm-places : (side : Side) → IsOfPlace (IsCalm side)
-calm-places side = record {
-  same = calm side;
-  placed = calm-place side;
-  forgotten = λ u. calm-own side u (record u { attention = None }) refl refl;
-}
-
 calm-then : (side : Side) (u v w : UnitState) → IsCalm side u v → IsCalm side v w → IsCalm side u w
 calm-then side u v w a b t e = let f = b t e in let g = a t f.0 in (g.0, f.1 ∙ g.1)
 
@@ -71,98 +58,48 @@ freed-where : (side : Side) (u : UnitState) (c : Bool) → IsCalm side u (if c t
 freed-where side u true = calm-idle side u (freed u) refl
 freed-where side u false = calm side u
 
+-- the signals that leave it, of any side
 abbrev pub IsEasy : Down → Type 0
 IsEasy (down.Select t) = ⊥
 IsEasy (down.Command t n code room) = ⊥
-IsEasy (down.Grant t c) = Unit {0}
-IsEasy (down.Refuse t c) = Unit {0}
 IsEasy (down.Took t n s room) = ⊥
 IsEasy (down.Give bytes t c n s) = ⊥
-IsEasy (down.Halt t) = Unit {0}
-IsEasy (down.Release t) = Unit {0}
-IsEasy (down.Reset r b) = Unit {0}
-IsEasy (down.Got a) = Unit {0}
-
-fresh-calm : (side : Side) (u : UnitState) (k : Side) (p : ℕ) (step : Option UnitStep) → IsCalmStep side u step → IsCalmStep side u (if (side_of u k).fresh then telling u p else step)
-fresh-calm side u k p step h = if-calm side u (side_of u k).fresh (telling u p) step (calm side u) h
-
-pub easy-calm : (may : Bool) → (side : Side) (u : UnitState) (k : Side) (p : ℕ) (d : Down) → IsEasy d → IsCalmStep side u (unit_takes u k p d may)
-easy-calm may side u k p (down.Select t) m = absurd m
-easy-calm may side u k p (down.Command t n code room) m = absurd m
-easy-calm may side u k p (down.Grant t c) m = fresh-calm side u k p _ (granted-leaves (IsCalm side) (calm-places side) u u.own k p t c refl)
-easy-calm may side u k p (down.Refuse t c) m = fresh-calm side u k p _ (refused-leaves (IsCalm side) (calm-places side) u u.own k t c refl)
-easy-calm may side u k p (down.Took t n s room) m = absurd m
-easy-calm may side u k p (down.Give bytes t c n s) m = absurd m
-easy-calm may side u k p (down.Halt t) m =
-    fresh-calm side u k p _ (if-calm side u (is_owner u.own k t && not u.halted) _ None (calm-own side u (record u { halted = true }) refl refl) (calm side u))
-easy-calm may side u k p (down.Release t) m = fresh-calm side u k p _ (if-calm side u (is_owner u.own k t) _ None (calm-idle side u (freed u) refl) (calm side u))
-easy-calm may side u k p (down.Reset r b) m =
-    if-calm side u (resets u k r b) _ _ (calm-then side u (without_side u k) (reset_side u k r) (freed-where side u (owns u.own k)) (calm-side side k (without_side u k) _))
-    (fresh-calm side u k p None (calm side u))
-easy-calm may side u k p (down.Got a) m = fresh-calm side u k p _ (forgetting-leaves (IsCalm side) (calm-places side) u u.attention k a)
+IsEasy d = Unit {0}
 
 -- what a program that holds the device does is no matter of the other side
-owner-calm : (side k : Side) (u v : UnitState) (t : ℕ) → same_side k side ≡ false → is_owner u.own k t ≡ true → v.own ≡ u.own → IsCalm side u v
-owner-calm side k u v t e o s n f = absurd (one-owner side k u.own t n e o (ap (λ (x : Own). is_owner x side n) (sym s) ∙ f))
+owner-calm : (side k : Side) (u v : UnitState) (t : ℕ) (place : Place) → same_side k side ≡ false → IsAt u k t place → v.own ≡ u.own → IsCalm side u v
+owner-calm side k u v t place e is o n f = absurd (other-owner side k t n place e (ap (λ (x : Own). is_owner x side n) (sym (o ∙ is)) ∙ f))
 
-owned-calm : (side k : Side) (u : UnitState) (t : ℕ) (step : Option UnitStep) (b c : Bool) → same_side k side ≡ false → is_owner u.own k t ≡ b → (unit_after u step).own ≡ u.own →
-    IsCalmStep side u (if b && c then step else None)
-owned-calm side k u t step true true e o s = owner-calm side k u (unit_after u step) t e o s
-owned-calm side k u t step true false e o s = calm side u
-owned-calm side k u t step false c e o s = calm side u
+taken-calm : (side : Side) (u : UnitState) (k : Side) (p : ℕ) (d : Down) (step : Option UnitStep) → IsEasy d ⊎ (same_side k side ≡ false) → Takes u k p d step → IsCalmStep side u step
+taken-calm side u k p _ _ h (Ignores d) = calm side u
+taken-calm side u k p _ _ h (Notices d fresh) = calm side u
+taken-calm side u k p _ _ (inl m) (Accepts t above idle) = absurd m
+taken-calm side u k p _ _ (inr e) (Accepts t above idle) = λ n f. absurd (other-owner side k t n (On p 0) e f)
+taken-calm side u k p _ _ h (Denies t above) = calm-side side k u _
+taken-calm side u k p _ _ (inl m) (Begins t n code room place is next) = absurd m
+taken-calm side u k p _ _ (inr e) (Begins t n code room place is next) = owner-calm side k u (record u { last_command = n; at_hand = Some (new_command code room) }) t place e is refl
+taken-calm side u k p _ _ h (Joins t c q is) = calm-place side k t (Ask q c) (On q c) u is
+taken-calm side u k p _ _ h (Leaves t c place is) = calm side u
+taken-calm side u k p _ _ h (Parts t c q is) = calm-place side k t (Ask q c) (Away c) u is
+taken-calm side u k p _ _ (inl m) (Answers t s room place x load is hand last loaded) = absurd m
+taken-calm side u k p _ _ (inr e) (Answers t s room place x load is hand last loaded) = owner-calm side k u (record u { at_hand = Some (at_hand_answered x load room) }) t place e is refl
+taken-calm side u k p _ _ (inl m) (Gives bytes t c s q x is hand next) = absurd m
+taken-calm side u k p _ _ (inr e) (Gives bytes t c s q x is hand next) = owner-calm side k u (record u { at_hand = Some (with_given x s bytes) }) t (On q c) e is refl
+taken-calm side u k p _ _ h (Halts t place is first) = calm-own side u (record u { halted = true }) refl refl
+taken-calm side u k p _ _ h (Frees t place is) = calm-idle side u (freed u) refl
+taken-calm side u k p _ _ h (Resets r b is) = calm-then side u (without_side u k) (reset_side u k r) (freed-where side u (owns u.own k)) (calm-side side k (without_side u k) _)
+taken-calm side u k p _ _ h (Forgets a) = calm-own side u (record u { attention = None }) refl refl
 
-given-own : (u : UnitState) (x : Option AtHand) (s : ℕ) (bytes : List ℕ) → (unit_after u (given_next u x s bytes)).own ≡ u.own
-given-own u None s bytes = refl
-given-own u (Some x) s bytes = by (s == x.sequence + 1)
-  where
-    by : (c : Bool) → (unit_after u (if c then changes (record u { at_hand = Some (with_given x s bytes) }) else None)).own ≡ u.own
-    by true = refl
-    by false = refl
+pub easy-calm : (may : Bool) → (side : Side) (u : UnitState) (k : Side) (p : ℕ) (d : Down) → IsEasy d → IsCalmStep side u (unit_takes u k p d may)
+easy-calm may side u k p d m = taken-calm side u k p d _ (inl m) (takes-by u k p d may)
 
-load-own : (u : UnitState) (x : AtHand) (l : Option Load) (room : ℕ) → (unit_after u (answered_load u x l room)).own ≡ u.own
-load-own u x None room = refl
-load-own u x (Some l) room = refl
-
-answered-own : (u : UnitState) (x : Option AtHand) (s room : ℕ) → (unit_after u (answered_last u x s room)).own ≡ u.own
-answered-own u None s room = refl
-answered-own u (Some x) s room = by (s == x.sequence)
-  where
-    by : (c : Bool) → (unit_after u (if c then answered_load u x x.unanswered room else None)).own ≡ u.own
-    by true = load-own u x x.unanswered room
-    by false = refl
+pub other-calm : (may : Bool) → (side : Side) (u : UnitState) (k : Side) (p : ℕ) (d : Down) → same_side k side ≡ false → IsCalmStep side u (unit_takes u k p d may)
+other-calm may side u k p d e = taken-calm side u k p d _ (inr e) (takes-by u k p d may)
 
 -- an owner by a connection is an owner
 pub is-owner-on : (o : Own) (side : Side) (t c : ℕ) → is_owner_on o side t c ≡ true → is_owner o side t ≡ true
 is-owner-on own.Idle side t c e = absurd (cc e)
 is-owner-on (own.Owned k v place) side t c e = (and_parts (same_side k side && (t == v)) (is_place_on place c) e).0
-
-given-other : (side k : Side) (u : UnitState) (t c n s : ℕ) (bytes : List ℕ) (b e : Bool) → same_side k side ≡ false → is_owner_on u.own k t c ≡ b →
-    IsCalmStep side u (if b && e then given_next u u.at_hand s bytes else None)
-given-other side k u t c n s bytes true true z o =
-    owner-calm side k u (unit_after u (given_next u u.at_hand s bytes)) t z (is-owner-on u.own k t c o) (given-own u u.at_hand s bytes)
-given-other side k u t c n s bytes true false z o = calm side u
-given-other side k u t c n s bytes false e z o = calm side u
-
-selected-calm : (may : Bool) → (side : Side) (u : UnitState) (o : Own) (k : Side) (p t : ℕ) → same_side k side ≡ false → IsCalmStep side u (selected (raised u k t) o k p t may)
-selected-calm false side u own.Idle k p t e = calm-side side k u _
-selected-calm true side u own.Idle k p t e = λ n f. absurd (other-owner side k t n (On p 0) e f)
-selected-calm may side u (own.Owned j v place) k p t e = calm-side side k u _
-
-pub other-calm : (may : Bool) → (side : Side) (u : UnitState) (k : Side) (p : ℕ) (d : Down) → same_side k side ≡ false → IsCalmStep side u (unit_takes u k p d may)
-other-calm may side u k p (down.Select t) e = fresh-calm side u k p _ (if-calm side u (nat_lt (side_of u k).floor t) _ None (selected-calm may side u u.own k p t e) (calm side u))
-other-calm may side u k p (down.Command t n code room) e =
-    fresh-calm side u k p _
-    (owned-calm side k u t (changes (record u { last_command = n; at_hand = Some (new_command code room) })) (is_owner u.own k t) (n == u.last_command + 1) e refl refl)
-other-calm may side u k p (down.Grant t c) e = easy-calm may side u k p (down.Grant t c) tt
-other-calm may side u k p (down.Refuse t c) e = easy-calm may side u k p (down.Refuse t c) tt
-other-calm may side u k p (down.Took t n s room) e =
-    fresh-calm side u k p _ (owned-calm side k u t (answered_last u u.at_hand s room) (is_owner u.own k t) (n == u.last_command) e refl (answered-own u u.at_hand s room))
-other-calm may side u k p (down.Give bytes t c n s) e =
-    fresh-calm side u k p _ (given-other side k u t c n s bytes (is_owner_on u.own k t c) (n == u.last_command) e refl)
-other-calm may side u k p (down.Halt t) e = easy-calm may side u k p (down.Halt t) tt
-other-calm may side u k p (down.Release t) e = easy-calm may side u k p (down.Release t) tt
-other-calm may side u k p (down.Reset r b) e = easy-calm may side u k p (down.Reset r b) tt
-other-calm may side u k p (down.Got a) e = easy-calm may side u k p (down.Got a) tt
 
 -- what holds of the command at hand of a program
 abbrev pub IsHeld : Side → ℕ → (Option AtHand → Type 0) → UnitState → Type 0
@@ -278,76 +215,21 @@ pub if-quiet : (c : Bool) (x y : Option UnitStep) → IsQuietStep x → IsQuietS
 if-quiet true x y e f = e
 if-quiet false x y e f = f
 
-selected-quiet : (u : UnitState) (o : Own) (k : Side) (p t : ℕ) (may : Bool) → IsQuietStep (selected u o k p t may)
-selected-quiet u own.Idle k p t true = tt
-selected-quiet u own.Idle k p t false = tt
-selected-quiet u (own.Owned j v place) k p t may = tt
-
-given-quiet : (u : UnitState) (x : Option AtHand) (s : ℕ) (bytes : List ℕ) → IsQuietStep (given_next u x s bytes)
-given-quiet u None s bytes = tt
-given-quiet u (Some x) s bytes = if-quiet (s == x.sequence + 1) (changes (record u { at_hand = Some (with_given x s bytes) })) None tt tt
-
-load-quiet : (u : UnitState) (x : AtHand) (l : Option Load) (room : ℕ) → IsQuietStep (answered_load u x l room)
-load-quiet u x None room = tt
-load-quiet u x (Some l) room = tt
-
-last-quiet : (u : UnitState) (x : Option AtHand) (s room : ℕ) → IsQuietStep (answered_last u x s room)
-last-quiet u None s room = tt
-last-quiet u (Some x) s room = if-quiet (s == x.sequence) (answered_load u x x.unanswered room) None (load-quiet u x x.unanswered room) tt
-
-leave-quiet : (u : UnitState) (p t c : ℕ) (b : Bool) → IsQuietStep (if b then sends u p (up.Leave t c) else None)
-leave-quiet u p t c true = tt
-leave-quiet u p t c false = tt
-
-granted_at-quiet : (u : UnitState) (k : Side) (t : ℕ) (place : Place) (p c : ℕ) → IsQuietStep (granted_at u k t place p c)
-granted_at-quiet u k t (Ask q d) p c =
-    if-quiet (c == d) (changes (record u { own = own.Owned k t (On q d) })) (if nat_lt c d then sends u p (up.Leave t c) else None) tt (leave-quiet u p t c (nat_lt c d))
-granted_at-quiet u k t (On q d) p c = leave-quiet u p t c (nat_lt c d)
-granted_at-quiet u k t (Away d) p c = leave-quiet u p t c (nat_lt c d)
-
-granted-quiet : (u : UnitState) (o : Own) (k : Side) (p t c : ℕ) → IsQuietStep (granted u o k p t c)
-granted-quiet u own.Idle k p t c = tt
-granted-quiet u (own.Owned j v place) k p t c = if-quiet (same_side j k && (t == v)) (granted_at u j v place p c) None (granted_at-quiet u j v place p c) tt
-
-refused_at-quiet : (u : UnitState) (k : Side) (t : ℕ) (place : Place) (c : ℕ) → IsQuietStep (grant_refused_at u k t place c)
-refused_at-quiet u k t (Ask q d) c = if-quiet (c == d) (changes (record u { own = own.Owned k t (Away d) })) None tt tt
-refused_at-quiet u k t (On q d) c = tt
-refused_at-quiet u k t (Away d) c = tt
-
-refused-quiet : (u : UnitState) (o : Own) (k : Side) (t c : ℕ) → IsQuietStep (grant_refused u o k t c)
-refused-quiet u own.Idle k t c = tt
-refused-quiet u (own.Owned j v place) k t c = if-quiet (same_side j k && (t == v)) (grant_refused_at u j v place c) None (refused_at-quiet u j v place c) tt
-
-forgetting-quiet : (u : UnitState) (x : Option Attention) (k : Side) (a : ℕ) → IsQuietStep (forgetting u x k a)
-forgetting-quiet u None k a = tt
-forgetting-quiet u (Some x) k a = if-quiet (same_side x.side k && (a == x.number)) (changes (record u { attention = None })) None tt tt
-
-works-quiet : (may : Bool) → (u : UnitState) (k : Side) (p : ℕ) (d : Down) → IsQuietStep (unit_works u k p d may)
-works-quiet may u k p (down.Select t) =
-    if-quiet (nat_lt (side_of u k).floor t) (selected (raised u k t) u.own k p t may) None (selected-quiet (raised u k t) u.own k p t may) tt
-works-quiet may u k p (down.Command t n code room) =
-    if-quiet (is_owner u.own k t && (n == u.last_command + 1)) (changes (record u { last_command = n; at_hand = Some (new_command code room) })) None tt tt
-works-quiet may u k p (down.Grant t c) = granted-quiet u u.own k p t c
-works-quiet may u k p (down.Refuse t c) = refused-quiet u u.own k t c
-works-quiet may u k p (down.Took t n s room) = if-quiet (is_owner u.own k t && (n == u.last_command)) (answered_last u u.at_hand s room) None (last-quiet u u.at_hand s room) tt
-works-quiet may u k p (down.Give bytes t c n s) = if-quiet (is_owner_on u.own k t c && (n == u.last_command)) (given_next u u.at_hand s bytes) None (given-quiet u u.at_hand s bytes) tt
-works-quiet may u k p (down.Halt t) = if-quiet (is_owner u.own k t && not u.halted) (changes (record u { halted = true })) None tt tt
-works-quiet may u k p (down.Release t) = if-quiet (is_owner u.own k t) (sends (freed u) p (up.Released t)) None tt tt
-works-quiet may u k p (down.Reset r b) = tt
-works-quiet may u k p (down.Got a) = forgetting-quiet u u.attention k a
-
-fresh-quiet : (u : UnitState) (k : Side) (p : ℕ) (step : Option UnitStep) → IsQuietStep step → IsQuietStep (if (side_of u k).fresh then telling u p else step)
-fresh-quiet u k p step h = if-quiet (side_of u k).fresh (telling u p) step tt h
+taken-quiet : (u : UnitState) (k : Side) (p : ℕ) (d : Down) (step : Option UnitStep) → Takes u k p d step → IsQuietStep step
+taken-quiet u k p _ _ (Ignores d) = tt
+taken-quiet u k p _ _ (Notices d fresh) = tt
+taken-quiet u k p _ _ (Accepts t above idle) = tt
+taken-quiet u k p _ _ (Denies t above) = tt
+taken-quiet u k p _ _ (Begins t n code room place is next) = tt
+taken-quiet u k p _ _ (Joins t c q is) = tt
+taken-quiet u k p _ _ (Leaves t c place is) = tt
+taken-quiet u k p _ _ (Parts t c q is) = tt
+taken-quiet u k p _ _ (Answers t s room place x load is hand last loaded) = tt
+taken-quiet u k p _ _ (Gives bytes t c s q x is hand next) = tt
+taken-quiet u k p _ _ (Halts t place is first) = tt
+taken-quiet u k p _ _ (Frees t place is) = tt
+taken-quiet u k p _ _ (Resets r b is) = tt
+taken-quiet u k p _ _ (Forgets a) = tt
 
 pub takes-quiet : (may : Bool) → (u : UnitState) (k : Side) (p : ℕ) (d : Down) → IsQuietStep (unit_takes u k p d may)
-takes-quiet may u k p (down.Select t) = fresh-quiet u k p (unit_works u k p (down.Select t) may) (works-quiet may u k p (down.Select t))
-takes-quiet may u k p (down.Command t n code room) = fresh-quiet u k p (unit_works u k p (down.Command t n code room) may) (works-quiet may u k p (down.Command t n code room))
-takes-quiet may u k p (down.Grant t c) = fresh-quiet u k p (unit_works u k p (down.Grant t c) may) (works-quiet may u k p (down.Grant t c))
-takes-quiet may u k p (down.Refuse t c) = fresh-quiet u k p (unit_works u k p (down.Refuse t c) may) (works-quiet may u k p (down.Refuse t c))
-takes-quiet may u k p (down.Took t n s room) = fresh-quiet u k p (unit_works u k p (down.Took t n s room) may) (works-quiet may u k p (down.Took t n s room))
-takes-quiet may u k p (down.Give bytes t c n s) = fresh-quiet u k p (unit_works u k p (down.Give bytes t c n s) may) (works-quiet may u k p (down.Give bytes t c n s))
-takes-quiet may u k p (down.Halt t) = fresh-quiet u k p (unit_works u k p (down.Halt t) may) (works-quiet may u k p (down.Halt t))
-takes-quiet may u k p (down.Release t) = fresh-quiet u k p (unit_works u k p (down.Release t) may) (works-quiet may u k p (down.Release t))
-takes-quiet may u k p (down.Reset r b) =
-    if-quiet (resets u k r b) (sends (reset_side u k r) p (up.Cleared r)) (if (side_of u k).fresh then telling u p else None) tt (fresh-quiet u k p None tt)
-takes-quiet may u k p (down.Got a) = fresh-quiet u k p (unit_works u k p (down.Got a) may) (works-quiet may u k p (down.Got a))
+takes-quiet may u k p d = taken-quiet u k p d _ (takes-by u k p d may)

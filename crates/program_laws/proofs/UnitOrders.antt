@@ -42,14 +42,8 @@ IsCommanded number sent codes t n code = (t ≤ number) × (t ≡ number → (n 
 abbrev pub IsDown : ℕ → ℕ → ℕ → List ℕ → Down → Type 0
 IsDown drawn number sent codes (down.Select t) = t ≤ number
 IsDown drawn number sent codes (down.Command t n code room) = IsCommanded number sent codes t n code
-IsDown drawn number sent codes (down.Grant t c) = Unit {0}
-IsDown drawn number sent codes (down.Refuse t c) = Unit {0}
-IsDown drawn number sent codes (down.Took t n s room) = Unit {0}
-IsDown drawn number sent codes (down.Give bytes t c n s) = Unit {0}
-IsDown drawn number sent codes (down.Halt t) = Unit {0}
-IsDown drawn number sent codes (down.Release t) = Unit {0}
 IsDown drawn number sent codes (down.Reset r b) = r ≤ drawn
-IsDown drawn number sent codes (down.Got a) = Unit {0}
+IsDown drawn number sent codes d = Unit {0}
 
 abbrev pub AreOn : {A : Type 0} → (A → Type 0) → List (List A) → Type 0
 AreOn P queues = (p : ℕ) → All P (queue queues p)
@@ -100,17 +94,24 @@ nth-more more codes n code k = record {
   count = k.count;
 }
 
+-- where the numbers do not fall, and a Command is still of the codes
+down-later : (drawn later number next sent after : ℕ) (codes news : List ℕ) (d : Down) → drawn ≤ later → number ≤ next →
+    ((t n code : ℕ) → IsCommanded number sent codes t n code → IsCommanded next after news t n code) → IsDown drawn number sent codes d → IsDown later next after news d
+down-later drawn later number next sent after codes news (down.Select t) reset program command h = omega (arith, program, h)
+down-later drawn later number next sent after codes news (down.Command t n code room) reset program command h = command t n code h
+down-later drawn later number next sent after codes news (down.Grant t c) reset program command h = tt
+down-later drawn later number next sent after codes news (down.Refuse t c) reset program command h = tt
+down-later drawn later number next sent after codes news (down.Took t n s room) reset program command h = tt
+down-later drawn later number next sent after codes news (down.Give bytes t c n s) reset program command h = tt
+down-later drawn later number next sent after codes news (down.Halt t) reset program command h = tt
+down-later drawn later number next sent after codes news (down.Release t) reset program command h = tt
+down-later drawn later number next sent after codes news (down.Reset r b) reset program command h = omega (arith, reset, h)
+down-later drawn later number next sent after codes news (down.Got a) reset program command h = tt
+
 down-more : (drawn number sent after : ℕ) (more codes : List ℕ) (d : Down) → sent ≤ after → IsDown drawn number sent codes d → IsDown drawn number after (more ++ codes) d
-down-more drawn number sent after more codes (down.Select t) le h = h
-down-more drawn number sent after more codes (down.Command t n code room) le h = (h.0, λ e. let k = h.1 e in (omega (arith, k.0, le), nth-more more codes n code k.1))
-down-more drawn number sent after more codes (down.Grant t c) le h = tt
-down-more drawn number sent after more codes (down.Refuse t c) le h = tt
-down-more drawn number sent after more codes (down.Took t n s room) le h = tt
-down-more drawn number sent after more codes (down.Give bytes t c n s) le h = tt
-down-more drawn number sent after more codes (down.Halt t) le h = tt
-down-more drawn number sent after more codes (down.Release t) le h = tt
-down-more drawn number sent after more codes (down.Reset r b) le h = h
-down-more drawn number sent after more codes (down.Got a) le h = tt
+down-more drawn number sent after more codes d le h =
+    down-later drawn drawn number number sent after codes (more ++ codes) d (omega arith) (omega arith)
+    (λ t n code h. (h.0, λ e. let k = h.1 e in (omega (arith, k.0, le), nth-more more codes n code k.1))) h
 
 -- the hold sends something, or nothing, as the codes grow or stay
 pub hold-sends : (side : Side) (drawn number sent after : ℕ) (codes more took : List ℕ) (wires : List (List Down)) (u : UnitState) (one : Option (OnPath Down)) →
@@ -127,16 +128,8 @@ hold-sends side drawn number sent after codes more took wires u one k le h = rec
 
 -- before the first Command there is none on the wires, and the codes may be any
 down-first : (drawn number after : ℕ) (codes news : List ℕ) (d : Down) → IsDown drawn number 0 codes d → IsDown drawn number after news d
-down-first drawn number after codes news (down.Select t) h = h
-down-first drawn number after codes news (down.Command t n code room) h = (h.0, λ e. let k = h.1 e in absurd (omega (arith, k.0, k.1.count)))
-down-first drawn number after codes news (down.Grant t c) h = tt
-down-first drawn number after codes news (down.Refuse t c) h = tt
-down-first drawn number after codes news (down.Took t n s room) h = tt
-down-first drawn number after codes news (down.Give bytes t c n s) h = tt
-down-first drawn number after codes news (down.Halt t) h = tt
-down-first drawn number after codes news (down.Release t) h = tt
-down-first drawn number after codes news (down.Reset r b) h = h
-down-first drawn number after codes news (down.Got a) h = tt
+down-first drawn number after codes news d h =
+    down-later drawn drawn number number 0 after codes news d (omega arith) (omega arith) (λ t n code h. (h.0, λ e. let k = h.1 e in absurd (omega (arith, k.0, k.1.count)))) h
 
 none-took : (took : List ℕ) → length took ≤ 0 → took ≡ []
 none-took [] le = refl
@@ -155,16 +148,8 @@ hold-begins side drawn number after codes news took wires u one k h = record {
 
 -- a greater number is drawn
 down-new : (drawn number sent after : ℕ) (codes : List ℕ) (d : Down) → number ≤ drawn → drawn < after → IsDown drawn number sent codes d → IsDown after after 0 [] d
-down-new drawn number sent after codes (down.Select t) le lt h = omega (arith, h, le, lt)
-down-new drawn number sent after codes (down.Command t n code room) le lt h = (omega (arith, h.0, le, lt), λ e. absurd (omega (arith, h.0, e, le, lt)))
-down-new drawn number sent after codes (down.Grant t c) le lt h = tt
-down-new drawn number sent after codes (down.Refuse t c) le lt h = tt
-down-new drawn number sent after codes (down.Took t n s room) le lt h = tt
-down-new drawn number sent after codes (down.Give bytes t c n s) le lt h = tt
-down-new drawn number sent after codes (down.Halt t) le lt h = tt
-down-new drawn number sent after codes (down.Release t) le lt h = tt
-down-new drawn number sent after codes (down.Reset r b) le lt h = omega (arith, h, lt)
-down-new drawn number sent after codes (down.Got a) le lt h = tt
+down-new drawn number sent after codes d le lt h =
+    down-later drawn after number after sent 0 codes [] d (omega (arith, lt)) (omega (arith, le, lt)) (λ t n code h. (omega (arith, h.0, le, lt), λ e. absurd (omega (arith, h.0, e, le, lt)))) h
 
 pub hold-offers : (side : Side) (drawn number sent after : ℕ) (codes took : List ℕ) (wires : List (List Down)) (u : UnitState) (path : ℕ) → number ≤ drawn → drawn < after →
     IsOrdered side drawn number sent codes took wires u → IsOrdered side after after 0 [] [] (with_any_sent wires (Some (record { path = path; signal = down.Select after }))) u
@@ -186,16 +171,7 @@ hold-offers side drawn number sent after codes took wires u path le lt k = recor
 
 -- a number is drawn for a Reset
 down-drawn : (drawn later number sent : ℕ) (codes : List ℕ) (d : Down) → drawn ≤ later → IsDown drawn number sent codes d → IsDown later number sent codes d
-down-drawn drawn later number sent codes (down.Select t) le h = h
-down-drawn drawn later number sent codes (down.Command t n code room) le h = h
-down-drawn drawn later number sent codes (down.Grant t c) le h = tt
-down-drawn drawn later number sent codes (down.Refuse t c) le h = tt
-down-drawn drawn later number sent codes (down.Took t n s room) le h = tt
-down-drawn drawn later number sent codes (down.Give bytes t c n s) le h = tt
-down-drawn drawn later number sent codes (down.Halt t) le h = tt
-down-drawn drawn later number sent codes (down.Release t) le h = tt
-down-drawn drawn later number sent codes (down.Reset r b) le h = omega (arith, h, le)
-down-drawn drawn later number sent codes (down.Got a) le h = tt
+down-drawn drawn later number sent codes d le h = down-later drawn later number number sent sent codes codes d le (omega arith) (λ t n code h. h) h
 
 pub hold-draws : (side : Side) (drawn later number sent : ℕ) (codes took : List ℕ) (wires : List (List Down)) (u : UnitState) → drawn ≤ later →
     IsOrdered side drawn number sent codes took wires u → IsOrdered side later number sent codes took wires u

@@ -1,7 +1,7 @@
 -- What a unit does with a signal or a report leaves the number of each side, and the program that holds it, as they were,
 -- but for a Select, a Command and a Reset of that side.
-use Rattle.std.proofs.Common.{◌≡◌, refl, sym, ◌∙◌, ap, ℕ, ◌+◌, Bool, true, false, ◌==◌, ◌&&◌, not, nat_lt, nat_le, length, Option, None, Some, List}
-use Rattle.std.specs.Prelude.{if◌then◌else◌}
+use Rattle.std.proofs.Common.{◌≡◌, refl, sym, ◌∙◌, ap, ℕ, Bool, true, false, ◌==◌, ◌&&◌, nat_le, length, Option, None, Some, List, inl, inr}
+use Rattle.std.specs.Prelude.{◌⊎◌, if◌then◌else◌}
 use Rattle.scsw_irb.specs.declared.status.DeviceStatus.{DeviceStatus}
 use Rattle.chan_model.specs.declared.names.Side.{Side}
 use Rattle.chan_model.specs.declared.names.Side.TheVariants.{First, Second}
@@ -22,9 +22,9 @@ use Rattle.chan_model.specs.declared.unit_state.SideState.{SideState}
 use Rattle.chan_model.specs.declared.unit_state.UnitState.{UnitState}
 use Rattle.chan_model.specs.Sides.{same_side}
 use Rattle.chan_model.proofs.Named.{without_side, report_absorbed, sent_again}
-use Rattle.chan_model.specs.UnitTable.{UnitStep, changes, with_given, side_of, with_side, owns, is_owner, is_owner_on, freed, raised, selected, given_next, answered_load, answered_last, resets, unit_works, unit_takes, unit_after, telling}
-use Rattle.chan_model.specs.Parts.{reset_side}
-use Rattle.program_laws.proofs.UnitPlaces.{IsOfPlace, granted-leaves, refused-leaves, forgetting-leaves}
+use Rattle.chan_model.specs.UnitTable.{UnitStep, at_hand_answered, with_given, side_of, with_side, owns, is_owner, freed, raised, unit_takes, unit_after}
+use Rattle.chan_model.specs.Parts.{held, reset_side}
+use Rattle.chan_model.proofs.TakenSignals.{IsAt, Takes, Ignores, Notices, Accepts, Denies, Begins, Joins, Leaves, Parts, Answers, Gives, Halts, Frees, Resets, Forgets, takes-by}
 use Rattle.chan_model.specs.UnitReports.{is_outward, is_to_supply, most_of, may_end, shown_end, end_sent, command_begun, report_supplied, answer_taken, report_on, report_of, unit_reports}
 
 -- what is kept of a side is as it was, and a program of it that holds the device held it before, with the same last command
@@ -89,36 +89,6 @@ other-owner First Second n t place e f = absurd (cc f)
 other-owner Second First n t place e f = absurd (cc f)
 other-owner Second Second n t place e f = absurd (cc e)
 
--- an owner of one side is of no other
-pub one-owner : (side k : Side) (o : Own) (n t : ℕ) → same_side k side ≡ false → is_owner o k n ≡ true → is_owner o side t ≡ true → ⊥
-one-owner side k own.Idle n t e f g = absurd (cc f)
-one-owner First First (own.Owned j m place) n t e f g = absurd (cc e)
-one-owner Second Second (own.Owned j m place) n t e f g = absurd (cc e)
-one-owner First Second (own.Owned First m place) n t e f g = absurd (cc f)
-one-owner First Second (own.Owned Second m place) n t e f g = absurd (cc g)
-one-owner Second First (own.Owned First m place) n t e f g = absurd (cc g)
-one-owner Second First (own.Owned Second m place) n t e f g = absurd (cc f)
-
--- the signals of any side that leave it
-given-still : (side : Side) (u : UnitState) (x : Option AtHand) (s : ℕ) (bytes : List ℕ) → IsStillStep side u (given_next u x s bytes)
-given-still side u None s bytes = still side u
-given-still side u (Some x) s bytes = if-still side u (s == x.sequence + 1) _ None (with-hand side u (Some (with_given x s bytes))) (still side u)
-
-load-still : (side : Side) (u : UnitState) (x : AtHand) (load : Option Load) (room : ℕ) → IsStillStep side u (answered_load u x load room)
-load-still side u x None room = still side u
-load-still side u x (Some load) room = with-hand side u _
-
-answered-still : (side : Side) (u : UnitState) (x : Option AtHand) (s room : ℕ) → IsStillStep side u (answered_last u x s room)
-answered-still side u None s room = still side u
-answered-still side u (Some x) s room = if-still side u (s == x.sequence) _ None (load-still side u x x.unanswered room) (still side u)
-
-still-places : (side : Side) → IsOfPlace (IsStill side)
-still-places side = record {
-  same = still side;
-  placed = same-program side;
-  forgotten = λ u. same-own side u (record u { attention = None }) (same-sides side u (record u { attention = None }) refl refl) refl refl;
-}
-
 halted-still : (side : Side) (u : UnitState) → IsStill side u (record u { halted = true })
 halted-still side u = same-own side u (record u { halted = true }) (same-sides side u (record u { halted = true }) refl refl) refl refl
 
@@ -129,67 +99,8 @@ freed-still side u = no-owner side u (freed u) (same-sides side u (freed u) refl
 abbrev pub IsMild : Down → Type 0
 IsMild (down.Select t) = ⊥
 IsMild (down.Command t n code room) = ⊥
-IsMild (down.Grant t c) = Unit {0}
-IsMild (down.Refuse t c) = Unit {0}
-IsMild (down.Took t n s room) = Unit {0}
-IsMild (down.Give bytes t c n s) = Unit {0}
-IsMild (down.Halt t) = Unit {0}
-IsMild (down.Release t) = Unit {0}
 IsMild (down.Reset r b) = ⊥
-IsMild (down.Got a) = Unit {0}
-
-mild-works : (side : Side) (u : UnitState) (k : Side) (p : ℕ) (d : Down) (may : Bool) → IsMild d → IsStillStep side u (unit_works u k p d may)
-mild-works side u k p (down.Select t) may m = absurd m
-mild-works side u k p (down.Command t n code room) may m = absurd m
-mild-works side u k p (down.Grant t c) may m = granted-leaves (IsStill side) (still-places side) u u.own k p t c refl
-mild-works side u k p (down.Refuse t c) may m = refused-leaves (IsStill side) (still-places side) u u.own k t c refl
-mild-works side u k p (down.Took t n s room) may m =
-    if-still side u (is_owner u.own k t && (n == u.last_command)) _ None (answered-still side u u.at_hand s room) (still side u)
-mild-works side u k p (down.Give bytes t c n s) may m =
-    if-still side u (is_owner_on u.own k t c && (n == u.last_command)) _ None (given-still side u u.at_hand s bytes) (still side u)
-mild-works side u k p (down.Halt t) may m = if-still side u (is_owner u.own k t && not u.halted) _ None (halted-still side u) (still side u)
-mild-works side u k p (down.Release t) may m = if-still side u (is_owner u.own k t) _ None (freed-still side u) (still side u)
-mild-works side u k p (down.Reset r b) may m = absurd m
-mild-works side u k p (down.Got a) may m = forgetting-leaves (IsStill side) (still-places side) u u.attention k a
-
-fresh-still : (side : Side) (u : UnitState) (k : Side) (p : ℕ) (step : Option UnitStep) → IsStillStep side u step → IsStillStep side u (if (side_of u k).fresh then telling u p else step)
-fresh-still side u k p step h = if-still side u (side_of u k).fresh (telling u p) step (still side u) h
-
-pub mild-still : (side : Side) (u : UnitState) (k : Side) (p : ℕ) (d : Down) (may : Bool) → IsMild d → IsStillStep side u (unit_takes u k p d may)
-mild-still side u k p (down.Select t) may m = absurd m
-mild-still side u k p (down.Command t n code room) may m = absurd m
-mild-still side u k p (down.Grant t c) may m = fresh-still side u k p _ (mild-works side u k p (down.Grant t c) may m)
-mild-still side u k p (down.Refuse t c) may m = fresh-still side u k p _ (mild-works side u k p (down.Refuse t c) may m)
-mild-still side u k p (down.Took t n s room) may m = fresh-still side u k p _ (mild-works side u k p (down.Took t n s room) may m)
-mild-still side u k p (down.Give bytes t c n s) may m = fresh-still side u k p _ (mild-works side u k p (down.Give bytes t c n s) may m)
-mild-still side u k p (down.Halt t) may m = fresh-still side u k p _ (mild-works side u k p (down.Halt t) may m)
-mild-still side u k p (down.Release t) may m = fresh-still side u k p _ (mild-works side u k p (down.Release t) may m)
-mild-still side u k p (down.Reset r b) may m = absurd m
-mild-still side u k p (down.Got a) may m = fresh-still side u k p _ (mild-works side u k p (down.Got a) may m)
-
--- every signal of the other side leaves this one
-selected-other : (side : Side) (u : UnitState) (o : Own) (k : Side) (p t : ℕ) (may : Bool) → same_side k side ≡ false → IsStillStep side u (selected (raised u k t) o k p t may)
-selected-other side u own.Idle k p t true e = record {
-  side_state = other-held side k e;
-  owner = λ n f. absurd (other-owner side k t n (On p 0) e f);
-}
-  where
-    other-held : (side k : Side) → same_side k side ≡ false → side_of (unit_after u (selected (raised u k t) own.Idle k p t true)) side ≡ side_of u side
-    other-held First First e = absurd (cc e)
-    other-held First Second e = refl
-    other-held Second First e = refl
-    other-held Second Second e = absurd (cc e)
-selected-other side u own.Idle k p t false e = same-raised side k u _ e
-selected-other side u (own.Owned j v place) k p t may e = same-raised side k u _ e
-
-commanded-other : (side : Side) (u : UnitState) (k : Side) (t n : ℕ) (x : Option AtHand) (b : Bool) → same_side k side ≡ false → is_owner u.own k t ≡ b → (c : Bool) →
-    IsStillStep side u (if b && c then changes (record u { last_command = n; at_hand = x }) else None)
-commanded-other side u k t n x false e f c = still side u
-commanded-other side u k t n x true e f false = still side u
-commanded-other side u k t n x true e f true = record {
-  side_state = same-sides side u (record u { last_command = n; at_hand = x }) refl refl;
-  owner = λ m g. absurd (one-owner side k u.own t m e f g);
-}
+IsMild d = Unit {0}
 
 freed-where : (side : Side) (u : UnitState) (c : Bool) → IsStill side u (if c then freed u else u)
 freed-where side u true = freed-still side u
@@ -205,19 +116,48 @@ reset-other : (side : Side) (u : UnitState) (k : Side) (r : ℕ) → same_side k
 reset-other side u k r e =
     still-after side u (without_side u k) (reset_side u k r) (freed-where side u (owns u.own k)) (same-raised side k (without_side u k) _ e)
 
+-- a program of the other side
+begun-other : (side k : Side) (u : UnitState) (t p : ℕ) → same_side k side ≡ false → IsStill side u (held (raised u k t) k t p)
+begun-other side k u t p e = record { side_state = held-side side k e; owner = λ n f. absurd (other-owner side k t n (On p 0) e f) }
+  where
+    held-side : (side k : Side) → same_side k side ≡ false → side_of (held (raised u k t) k t p) side ≡ side_of u side
+    held-side First First e = absurd (cc e)
+    held-side First Second e = refl
+    held-side Second First e = refl
+    held-side Second Second e = absurd (cc e)
+
+commanded-other : (side k : Side) (u : UnitState) (t n : ℕ) (place : Place) (x : Option AtHand) → same_side k side ≡ false → IsAt u k t place → IsStill side u (record u { last_command = n; at_hand = x })
+commanded-other side k u t n place x e is = record {
+  side_state = same-sides side u (record u { last_command = n; at_hand = x }) refl refl;
+  owner = λ m f. absurd (other-owner side k t m place e (sym (ap (λ (o : Own). is_owner o side m) is) ∙ f));
+}
+
+-- a mild signal, and every signal of the other side, leaves it
+taken-still : (side : Side) (u : UnitState) (k : Side) (p : ℕ) (d : Down) (step : Option UnitStep) → IsMild d ⊎ (same_side k side ≡ false) → Takes u k p d step → IsStillStep side u step
+taken-still side u k p _ _ h (Ignores d) = still side u
+taken-still side u k p _ _ h (Notices d fresh) = still side u
+taken-still side u k p _ _ (inl m) (Accepts t above idle) = absurd m
+taken-still side u k p _ _ (inr e) (Accepts t above idle) = begun-other side k u t p e
+taken-still side u k p _ _ (inl m) (Denies t above) = absurd m
+taken-still side u k p _ _ (inr e) (Denies t above) = same-raised side k u _ e
+taken-still side u k p _ _ (inl m) (Begins t n code room place is next) = absurd m
+taken-still side u k p _ _ (inr e) (Begins t n code room place is next) = commanded-other side k u t n place _ e is
+taken-still side u k p _ _ h (Joins t c q is) = same-program side k t (Ask q c) (On q c) u is
+taken-still side u k p _ _ h (Leaves t c place is) = still side u
+taken-still side u k p _ _ h (Parts t c q is) = same-program side k t (Ask q c) (Away c) u is
+taken-still side u k p _ _ h (Answers t s room place x load is hand last loaded) = with-hand side u (Some (at_hand_answered x load room))
+taken-still side u k p _ _ h (Gives bytes t c s q x is hand next) = with-hand side u (Some (with_given x s bytes))
+taken-still side u k p _ _ h (Halts t place is first) = halted-still side u
+taken-still side u k p _ _ h (Frees t place is) = freed-still side u
+taken-still side u k p _ _ (inl m) (Resets r b is) = absurd m
+taken-still side u k p _ _ (inr e) (Resets r b is) = reset-other side u k r e
+taken-still side u k p _ _ h (Forgets a) = same-own side u (record u { attention = None }) (same-sides side u (record u { attention = None }) refl refl) refl refl
+
+pub mild-still : (side : Side) (u : UnitState) (k : Side) (p : ℕ) (d : Down) (may : Bool) → IsMild d → IsStillStep side u (unit_takes u k p d may)
+mild-still side u k p d may m = taken-still side u k p d _ (inl m) (takes-by u k p d may)
+
 pub other-still : (side : Side) (u : UnitState) (k : Side) (p : ℕ) (d : Down) (may : Bool) → same_side k side ≡ false → IsStillStep side u (unit_takes u k p d may)
-other-still side u k p (down.Select t) may e =
-    fresh-still side u k p _ (if-still side u (nat_lt (side_of u k).floor t) _ None (selected-other side u u.own k p t may e) (still side u))
-other-still side u k p (down.Command t n code room) may e = fresh-still side u k p _ (commanded-other side u k t n _ (is_owner u.own k t) e refl (n == u.last_command + 1))
-other-still side u k p (down.Grant t c) may e = mild-still side u k p (down.Grant t c) may tt
-other-still side u k p (down.Refuse t c) may e = mild-still side u k p (down.Refuse t c) may tt
-other-still side u k p (down.Took t n s room) may e = mild-still side u k p (down.Took t n s room) may tt
-other-still side u k p (down.Give bytes t c n s) may e = mild-still side u k p (down.Give bytes t c n s) may tt
-other-still side u k p (down.Halt t) may e = mild-still side u k p (down.Halt t) may tt
-other-still side u k p (down.Release t) may e = mild-still side u k p (down.Release t) may tt
-other-still side u k p (down.Reset r b) may e =
-    if-still side u (resets u k r b) _ _ (reset-other side u k r e) (fresh-still side u k p None (still side u))
-other-still side u k p (down.Got a) may e = mild-still side u k p (down.Got a) may tt
+other-still side u k p d may e = taken-still side u k p d _ (inr e) (takes-by u k p d may)
 
 -- a report is of the command at hand alone
 begun-still : (side : Side) (u : UnitState) (p t c : ℕ) (x : AtHand) → IsStillStep side u (command_begun u p t c x)

@@ -108,48 +108,26 @@ plain-up k side (up.Notice b) n = tt
 plain-up k side (up.Attn a status) n = tt
 
 plain-down : (k : Holding) (side : Side) (d : Down) → meets.IsPlainDown d → GoesToHolder k side d
-plain-down k side (down.Select t) n = tt
-plain-down k side (down.Command t m code room) n = absurd n
-plain-down k side (down.Grant t c) n = absurd n
-plain-down k side (down.Refuse t c) n = tt
-plain-down k side (down.Took t m s room) n = absurd n
-plain-down k side (down.Give bytes t c m s) n = absurd n
-plain-down k side (down.Halt t) n = tt
-plain-down k side (down.Release t) n = tt
-plain-down k side (down.Reset r b) n = tt
-plain-down k side (down.Got a) n = tt
+plain-down k side _ (meets.Offers t) = tt
+plain-down k side _ (meets.Refuses t c) = tt
+plain-down k side _ (meets.Halts t) = tt
+plain-down k side _ (meets.Resets r b) = tt
+plain-down k side _ (meets.Answers a) = tt
 
 plain-answer : (k : Holding) (side : Side) (sent : Option (OnPath Down)) → ArePlainDown sent → IsAnswerToHolder k side sent
 plain-answer k side None n = tt
 plain-answer k side (Some s) n = plain-down k side s.signal n
 
 command-goes : (k : Holding) (side : Side) (t p q : ℕ) (d : Down) → meets.IsCommandOn t p q d → IsHolderOr k side t → GoesToHolder k side d
-command-goes k side t p q (down.Select v) n h = absurd n
-command-goes k side t p q (down.Command v m code room) n h = subst (λ (w : ℕ). IsHolderOr k side w) n.0 h
-command-goes k side t p q (down.Grant v c) n h = absurd n
-command-goes k side t p q (down.Refuse v c) n h = absurd n
-command-goes k side t p q (down.Took v m s room) n h = absurd n
-command-goes k side t p q (down.Give bytes v c m s) n h = absurd n
-command-goes k side t p q (down.Halt v) n h = absurd n
-command-goes k side t p q (down.Release v) n h = absurd n
-command-goes k side t p q (down.Reset r b) n h = absurd n
-command-goes k side t p q (down.Got a) n h = absurd n
+command-goes k side t p q _ (meets.Sends_command v m code room number path) h = subst (λ (w : ℕ). IsHolderOr k side w) number h
 
 command-answer : (k : Holding) (side : Side) (t p : ℕ) (sent : Option (OnPath Down)) → AreCommandsOn t p sent → IsHolderOr k side t → IsAnswerToHolder k side sent
 command-answer k side t p None n h = tt
 command-answer k side t p (Some s) n h = command-goes k side t p s.path s.signal n h
 
 data-goes : (k : Holding) (side : Side) (t p c q : ℕ) (d : Down) → meets.IsDataAnswer t p c q d → IsHolderOr k side t → GoesToHolder k side d
-data-goes k side t p c q (down.Select v) n h = absurd n
-data-goes k side t p c q (down.Command v m code room) n h = absurd n
-data-goes k side t p c q (down.Grant v d) n h = absurd n
-data-goes k side t p c q (down.Refuse v d) n h = absurd n
-data-goes k side t p c q (down.Took v m s room) n h = subst (λ (w : ℕ). IsHolderOr k side w) n.0 h
-data-goes k side t p c q (down.Give bytes v d m s) n h = subst (λ (w : ℕ). IsHolderOr k side w) n.0 h
-data-goes k side t p c q (down.Halt v) n h = absurd n
-data-goes k side t p c q (down.Release v) n h = absurd n
-data-goes k side t p c q (down.Reset r b) n h = absurd n
-data-goes k side t p c q (down.Got a) n h = absurd n
+data-goes k side t p c q _ (meets.Sends_room v m s room number path) h = subst (λ (w : ℕ). IsHolderOr k side w) number h
+data-goes k side t p c q _ (meets.Sends_bytes bytes v d m s number path connection) h = subst (λ (w : ℕ). IsHolderOr k side w) number h
 
 data-answer : (k : Holding) (side : Side) (t p c : ℕ) (sent : Option (OnPath Down)) → AreDataAnswers t p c sent → IsHolderOr k side t → IsAnswerToHolder k side sent
 data-answer k side t p c None n h = tt

@@ -28,7 +28,7 @@ use Rattle.seen_laws.specs.Devices as seen
 use Rattle.seen_laws.specs.Devices.{Connected, Asking, Apart, Transfer, Held, Asked, commanded, with_transfer, answered, given, Holding, SideSeen, side_seen, with_seen, with_answered, let_go, is_held_by, is_holder, with_holder, parted, moved, held_after, quiet_after, acted_after, held_met}
 use Rattle.seen_laws.specs.OneHolder.{is_unanswered, is_next, is_asked, ignores, takes_if, answers, answers_if, holds_and, is_connected_by, is_asking, connection_of, grant_due, works_due, reply_due, IsHigher, IsNumbered, IsAnswerNumbered}
 use Rattle.seen_laws.proofs.UnitMoves.{floor_of}
-use Rattle.seen_laws.proofs.UnitSends.{IsResetAbove}
+use Rattle.agreement_laws.proofs.SeenSignals.{IsResetAbove}
 
 -- what a unit keeps of it
 abbrev pub place_of : Place → seen.Place
@@ -337,9 +337,9 @@ reset-next u side p r =
 reset-turns : (u : UnitState) (side : Side) (p r b : ℕ) (may free : Bool) → IsResetAbove u side (down.Reset r b) →
     Turns u side p (down.Reset r b) (unit_takes u side p (down.Reset r b) may) (reply_due (holding_of u) side p free (down.Reset r b))
 reset-turns u First p r b may free above =
-    reset-if u First p r b (b == u.restarts) u.first.fresh (nat_lt u.first.floor r) _ (λ e. above-answered u First r (above e)) (reset-next u First p r)
+    reset-if u First p r b (b == u.restarts) u.first.fresh (nat_lt u.first.floor r) _ (λ e. above-answered u First r (above r b refl e)) (reset-next u First p r)
 reset-turns u Second p r b may free above =
-    reset-if u Second p r b (b == u.restarts) u.second.fresh (nat_lt u.second.floor r) _ (λ e. above-answered u Second r (above e)) (reset-next u Second p r)
+    reset-if u Second p r b (b == u.restarts) u.second.fresh (nat_lt u.second.floor r) _ (λ e. above-answered u Second r (above r b refl e)) (reset-next u Second p r)
 
 abbrev Takes : UnitState → Side → ℕ → Down → Bool → Bool → Type 0
 Takes u side p d may free = Turns u side p d (unit_takes u side p d may) (reply_due (holding_of u) side p free d)

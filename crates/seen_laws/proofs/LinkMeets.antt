@@ -6,7 +6,6 @@ use Rattle.chan_model.specs.declared.hold_state.HoldPhase.{HoldPhase}
 use Rattle.chan_model.specs.declared.hold_state.HoldPhase.TheVariants as hold
 use Rattle.chan_model.specs.declared.hold_state.HoldState.{HoldState}
 use Rattle.chan_model.specs.Signals.{Down}
-use Rattle.chan_model.specs.declared.signal.Down.TheVariants as down
 use Rattle.chan_model.specs.Signals.{Load}
 use Rattle.chan_model.specs.declared.signal.OnPath.{OnPath}
 use Rattle.chan_model.specs.declared.signal.Taken.{Taken}
@@ -40,7 +39,7 @@ use Rattle.chan_model.specs.Signals.{load_bytes}
 use Rattle.machine_laws.proofs.SameState.{IsSame, is-same, same-then, cause-same, interrupted-same, moving-same, suspending-same, halt_done-same, clear_done-same, attention-same}
 use Rattle.seen_laws.specs.Links.{Link, Offered, accepted, engaged_by, link_sent, SubSeen, sub_met, program_of, mover_of, IsSilent, IsTaken}
 use Rattle.seen_laws.proofs.LinkHolds.{Stands, IsHeldAs, phased, is_offer_of, same-offered, certain, IsSentAs, AreSentAs, Turned, TurnedBy, ignored, busy-turned, left-turned, released-turned, cleared-turned, back-turned, attended-turned}
-use Rattle.seen_laws.proofs.Meets.{Meets, Ignored, Turns, Begins, Declines, Moves, Ends, Ends_last, Leaves, Grants, IsPlainUp, AreCommandsOn, AreDataAnswers, takes-meets}
+use Rattle.seen_laws.proofs.Meets.{Meets, Ignored, Turns, Begins, Declines, Moves, Ends, Ends_last, Leaves, Grants, IsPlainUp, AreCommandsOn, AreDataAnswers, takes-meets, Sends_command, Sends_room, Sends_bytes}
 
 -- the hold was left as it was, but for its phase
 abbrev Rephased : HoldState → HoldState → Type 0
@@ -221,32 +220,15 @@ ignored-noted (up.Notice b) h phase s = absurd s
 ignored-noted (up.Attn a status) h phase s = absurd s
 
 command-link : (t p q : ℕ) (d : Down) (l : Link) → AreCommandsOn t p (Some (record { path = q; signal = d })) → (link_sent (Some (record { path = q; signal = d })) l ≡ l)
-command-link t p q (down.Select u) l a = absurd a
-command-link t p q (down.Command u n code room) l a = refl
-command-link t p q (down.Grant u d) l a = absurd a
-command-link t p q (down.Refuse u d) l a = absurd a
-command-link t p q (down.Took u n s room) l a = absurd a
-command-link t p q (down.Give bytes u d n s) l a = absurd a
-command-link t p q (down.Halt u) l a = absurd a
-command-link t p q (down.Release u) l a = absurd a
-command-link t p q (down.Reset r b) l a = absurd a
-command-link t p q (down.Got b) l a = absurd a
+command-link t p q _ l (Sends_command u n code room number path) = refl
 
 commands-link : (t p : ℕ) (one : Option (OnPath Down)) (l : Link) → AreCommandsOn t p one → link_sent one l ≡ l
 commands-link t p None l a = refl
 commands-link t p (Some s) l a = command-link t p s.path s.signal l a
 
 data-link : (t p c q : ℕ) (d : Down) (l : Link) → AreDataAnswers t p c (Some (record { path = q; signal = d })) → (link_sent (Some (record { path = q; signal = d })) l ≡ l)
-data-link t p c q (down.Select u) l a = absurd a
-data-link t p c q (down.Command u n code room) l a = absurd a
-data-link t p c q (down.Grant u d) l a = absurd a
-data-link t p c q (down.Refuse u d) l a = absurd a
-data-link t p c q (down.Took u n s room) l a = refl
-data-link t p c q (down.Give bytes u d n s) l a = refl
-data-link t p c q (down.Halt u) l a = absurd a
-data-link t p c q (down.Release u) l a = absurd a
-data-link t p c q (down.Reset r b) l a = absurd a
-data-link t p c q (down.Got b) l a = absurd a
+data-link t p c q _ l (Sends_room u n s room number path) = refl
+data-link t p c q _ l (Sends_bytes bytes u d n s number path connection) = refl
 
 data-links : (t p c : ℕ) (one : Option (OnPath Down)) (l : Link) → AreDataAnswers t p c one → link_sent one l ≡ l
 data-links t p c None l a = refl
@@ -257,32 +239,15 @@ as-number : (o : Option ℕ) (t u : ℕ) → o ≡ Some t → t ≡ u → o ≡ 
 as-number o t u e f = e ∙ ap Some f
 
 command-sent : (k : SubSeen) (path : ℕ) (x : Up) (t p q : ℕ) (d : Down) → program_of x ≡ Some t → AreCommandsOn t p (Some (record { path = q; signal = d })) → IsSentAs k path x q d
-command-sent k path x t p q (down.Select u) e a = absurd a
-command-sent k path x t p q (down.Command u n code room) e a = as-number (program_of x) t u e a.0
-command-sent k path x t p q (down.Grant u d) e a = absurd a
-command-sent k path x t p q (down.Refuse u d) e a = absurd a
-command-sent k path x t p q (down.Took u n s room) e a = absurd a
-command-sent k path x t p q (down.Give bytes u d n s) e a = absurd a
-command-sent k path x t p q (down.Halt u) e a = absurd a
-command-sent k path x t p q (down.Release u) e a = absurd a
-command-sent k path x t p q (down.Reset r b) e a = absurd a
-command-sent k path x t p q (down.Got b) e a = absurd a
+command-sent k path x t p q _ e (Sends_command u n code room number way) = as-number (program_of x) t u e number
 
 commands-sent : (k : SubSeen) (path : ℕ) (x : Up) (t p : ℕ) (one : Option (OnPath Down)) → program_of x ≡ Some t → IsSilent true x → AreCommandsOn t p one → AreSentAs k path x true one
 commands-sent k path x t p None e quiet a = quiet
 commands-sent k path x t p (Some s) e quiet a = command-sent k path x t p s.path s.signal e a
 
 data-sent : (k : SubSeen) (path : ℕ) (x : Up) (t p c q : ℕ) (d : Down) → mover_of x ≡ Some t → AreDataAnswers t p c (Some (record { path = q; signal = d })) → IsSentAs k path x q d
-data-sent k path x t p c q (down.Select u) e a = absurd a
-data-sent k path x t p c q (down.Command u n code room) e a = absurd a
-data-sent k path x t p c q (down.Grant u d) e a = absurd a
-data-sent k path x t p c q (down.Refuse u d) e a = absurd a
-data-sent k path x t p c q (down.Took u n s room) e a = as-number (mover_of x) t u e a.0
-data-sent k path x t p c q (down.Give bytes u d n s) e a = as-number (mover_of x) t u e a.0
-data-sent k path x t p c q (down.Halt u) e a = absurd a
-data-sent k path x t p c q (down.Release u) e a = absurd a
-data-sent k path x t p c q (down.Reset r b) e a = absurd a
-data-sent k path x t p c q (down.Got b) e a = absurd a
+data-sent k path x t p c q _ e (Sends_room u n s room number way) = as-number (mover_of x) t u e number
+data-sent k path x t p c q _ e (Sends_bytes bytes u d n s number way connection) = as-number (mover_of x) t u e number
 
 datas-sent : (k : SubSeen) (path : ℕ) (x : Up) (t p c : ℕ) (one : Option (OnPath Down)) → mover_of x ≡ Some t → IsSilent true x → AreDataAnswers t p c one → AreSentAs k path x true one
 datas-sent k path x t p c None e quiet a = quiet

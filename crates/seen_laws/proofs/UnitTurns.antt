@@ -6,7 +6,6 @@ use Rattle.chan_events.specs.declared.reply.Reply.TheVariants as reply
 use Rattle.chan_model.specs.declared.fault.Fault.{Fault}
 use Rattle.chan_model.specs.declared.names.Side.{Side}
 use Rattle.chan_model.specs.Signals.{Down}
-use Rattle.chan_model.specs.declared.signal.Down.TheVariants as down
 use Rattle.chan_model.specs.declared.signal.OnPath.{OnPath}
 use Rattle.chan_model.specs.Signals.{Up}
 use Rattle.chan_model.specs.declared.unit_state.UnitState.{UnitState}
@@ -29,7 +28,7 @@ use Rattle.machine_model.specs.Turns.{DownTurn}
 use Rattle.seen_laws.specs.Devices.{first_named, setup_named, held_met}
 use Rattle.seen_laws.specs.OneHolder.{IsAnswerNumbered, reply_due}
 use Rattle.machine_laws.specs.Agreeing.{AreAbove}
-use Rattle.seen_laws.proofs.UnitSends.{IsResetAbove}
+use Rattle.agreement_laws.proofs.SeenSignals.{IsResetAbove}
 use Rattle.seen_laws.proofs.Holdings.{holding_of, reply_of, Turns, IsAsked, takes-turns}
 use Rattle.seen_laws.proofs.MemberSteps.{IsSunk}
 use Rattle.seen_laws.proofs.Sharers.{asked-holds, idle-stays}
@@ -77,16 +76,7 @@ abbrev AreAboveFor : Subchannel → UnitState → Type 0
 AreAboveFor sub u = (p : ℕ) (d : Down) → slice_get (queue sub.wires.down p) 0 ≡ Some d → IsResetAbove u sub.setup.side d
 
 above-for : (s : State) (place : ℕ) (sub : Subchannel) (u : UnitState) → AreAbove s → slice_get s.subs place ≡ Some sub → slice_get s.units sub.setup.«unit» ≡ Some u → AreAboveFor sub u
-above-for s place sub u above there found p (down.Select t) front = tt
-above-for s place sub u above there found p (down.Command t n code room) front = tt
-above-for s place sub u above there found p (down.Grant t c) front = tt
-above-for s place sub u above there found p (down.Refuse t c) front = tt
-above-for s place sub u above there found p (down.Took t n q room) front = tt
-above-for s place sub u above there found p (down.Give bytes t c n q) front = tt
-above-for s place sub u above there found p (down.Halt t) front = tt
-above-for s place sub u above there found p (down.Release t) front = tt
-above-for s place sub u above there found p (down.Reset r b) front = λ e. above place sub u p r b there found front e
-above-for s place sub u above there found p (down.Got a) front = tt
+above-for s place sub u above there found p d front r b is e = above place sub u p r b there found (front ∙ ap (λ (x : Down). Some x) is) e
 
 -- what its front signal does, and whether the control unit is asked
 pub record IsMet (sub : Subchannel) (path : ℕ) (u : UnitState) (may : Bool) (t : DownTurn) : Type 0 where

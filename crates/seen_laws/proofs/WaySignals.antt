@@ -38,7 +38,7 @@ use Rattle.seen_laws.specs.OneHolder.{is_next, answers, takes_if, holds_and, is_
 use Rattle.seen_laws.specs.DevicePaths.{Ways, way_met, IsUpBy, IsDownBy, IsGivenTo, IsTakenBy}
 use Rattle.seen_laws.proofs.Holdings.{transfer_in, holder_in, holding_of}
 use Rattle.seen_laws.proofs.Lists.{OnSent}
-use Rattle.seen_laws.proofs.Meets.{Meets, Ignored, Turns, Begins, Declines, Moves, Ends, Ends_last, Leaves, Grants, IsPlainDown, ArePlainDown, IsCommandOn, AreCommandsOn, IsDataAnswer}
+use Rattle.seen_laws.proofs.Meets.{Meets, Ignored, Turns, Begins, Declines, Moves, Ends, Ends_last, Leaves, Grants, IsPlainDown, ArePlainDown, IsCommandOn, AreCommandsOn, IsDataAnswer, Offers, Refuses, Halts, Resets, Answers, Sends_command, Sends_room, Sends_bytes}
 use Rattle.seen_laws.proofs.UnitMoves.{owner-of-act}
 use Rattle.seen_laws.proofs.Ways.{OnWay, IsPast, IsPlaced, OwnWay, Follows, accept-way, way_acted, act-follows}
 
@@ -240,45 +240,23 @@ plain-way ways k side None a = tt
 plain-way ways k side (Some s) a = by s.signal a
   where
     by : (d : Down) → IsPlainDown d → DownWay ways k side s.path d
-    by (down.Select t) n = tt
-    by (down.Command t m code room) n = tt
-    by (down.Grant t c) n = absurd n
-    by (down.Refuse t c) n = tt
-    by (down.Took t m q room) n = tt
-    by (down.Give bytes t c m q) n = absurd n
-    by (down.Halt t) n = tt
-    by (down.Release t) n = tt
-    by (down.Reset r b) n = tt
-    by (down.Got b) n = tt
+    by _ (Offers t) = tt
+    by _ (Refuses t c) = tt
+    by _ (Halts t) = tt
+    by _ (Resets r b) = tt
+    by _ (Answers b) = tt
 
 command-way : (ways : Ways) (k : Holding) (side : Side) (t p q : ℕ) (d : Down) → IsCommandOn t p q d → DownWay ways k side q d
-command-way ways k side t p q (down.Select u) a = tt
-command-way ways k side t p q (down.Command u m code room) a = tt
-command-way ways k side t p q (down.Grant u c) a = absurd a
-command-way ways k side t p q (down.Refuse u c) a = tt
-command-way ways k side t p q (down.Took u m s room) a = tt
-command-way ways k side t p q (down.Give bytes u c m s) a = absurd a
-command-way ways k side t p q (down.Halt u) a = tt
-command-way ways k side t p q (down.Release u) a = tt
-command-way ways k side t p q (down.Reset r b) a = tt
-command-way ways k side t p q (down.Got b) a = tt
+command-way ways k side t p q _ (Sends_command u m code room number path) = tt
 
 commands-way : (ways : Ways) (k : Holding) (side : Side) (t p : ℕ) (one : Option (OnPath Down)) → AreCommandsOn t p one → OnSent (λ q d. DownWay ways k side q d) one
 commands-way ways k side t p None a = tt
 commands-way ways k side t p (Some s) a = command-way ways k side t p s.path s.signal a
 
 data-way : (ways : Ways) (k : Holding) (side : Side) (t p c q : ℕ) (d : Down) → IsDataAnswer t p c q d → OnWay ways k side p t c → DownWay ways k side q d
-data-way ways k side t p c q (down.Select u) a w = tt
-data-way ways k side t p c q (down.Command u m code room) a w = tt
-data-way ways k side t p c q (down.Grant u e) a w = absurd a
-data-way ways k side t p c q (down.Refuse u e) a w = tt
-data-way ways k side t p c q (down.Took u m s room) a w = tt
-data-way ways k side t p c q (down.Give bytes u e m s) a w =
-    subst (λ (x : ℕ). OnWay ways k side x u e) a.1 (subst (λ (x : ℕ). OnWay ways k side p x e) a.0 (subst (λ (x : ℕ). OnWay ways k side p t x) a.2 w))
-data-way ways k side t p c q (down.Halt u) a w = tt
-data-way ways k side t p c q (down.Release u) a w = tt
-data-way ways k side t p c q (down.Reset r b) a w = tt
-data-way ways k side t p c q (down.Got b) a w = tt
+data-way ways k side t p c q _ (Sends_room u m s room number path) w = tt
+data-way ways k side t p c q _ (Sends_bytes bytes u e m s number path connection) w =
+    subst (λ (x : ℕ). OnWay ways k side x u e) path (subst (λ (x : ℕ). OnWay ways k side p x e) number (subst (λ (x : ℕ). OnWay ways k side p t x) connection w))
 
 pub met-way : (ways : Ways) (k : Holding) (side : Side) (p : ℕ) (x : Up) (phase : HoldPhase) (came : Bool) (sent : Option (OnPath Down)) (next : HoldPhase) → Meets p x phase came sent next →
     UpWay ways k side p x → OnSent (λ q d. DownWay ways k side q d) sent

@@ -30,6 +30,7 @@ use Rattle.seen_laws.proofs.Bounds.{EachUp, EachDown, each-sent, each-lost}
 use Rattle.seen_laws.proofs.UnitTurns.{if-ok}
 use Rattle.seen_laws.proofs.Lists.{each-weaker, OnSent}
 use Rattle.seen_laws.proofs.Meets.{ArePlainDown, takes-meets}
+use Rattle.seen_laws.proofs.Meets as meets
 use Rattle.seen_laws.proofs.Ways.{OwnWay, Follows}
 use Rattle.seen_laws.proofs.WaySignals.{UpWay, DownWay, up-follows, down-follows, plain-way, met-way}
 
@@ -87,16 +88,16 @@ choose-plain : (sub : Subchannel) (c : Chosen) → IfOk (choose_sub sub c) (IsCa
 choose-plain sub Idle = Keeps sub refl refl
 choose-plain sub (Resets r path) =
     if-ok (IsCarried sub) (finds_full sub.wires.down (carried_by sub (Some (record { path = path; signal = down.Reset r sub.state.hold.known })))) _ _ tt
-    (Sends _ sub.state.pmcw.available (Some (record { path = path; signal = down.Reset r sub.state.hold.known })) refl tt refl refl)
+    (Sends _ sub.state.pmcw.available (Some (record { path = path; signal = down.Reset r sub.state.hold.known })) refl (meets.Resets r sub.state.hold.known) refl refl)
 choose-plain sub PerformsClear = Keeps _ refl refl
 choose-plain sub (Halts t path) =
     if-ok (IsCarried sub) (finds_full sub.wires.down (carried_by sub (Some (record { path = path; signal = down.Halt t })))) _ _ tt
-    (Sends _ sub.state.pmcw.available (Some (record { path = path; signal = down.Halt t })) refl tt refl refl)
+    (Sends _ sub.state.pmcw.available (Some (record { path = path; signal = down.Halt t })) refl (meets.Halts t) refl refl)
 choose-plain sub PerformsHalt = Keeps _ refl refl
 choose-plain sub FindsNoPath = Keeps _ refl refl
 choose-plain sub (Offers c path) =
     if-ok (IsCarried sub) (finds_full sub.wires.down (carried_by sub (Some (record { path = path; signal = down.Select (sub.state.drawn + 1) })))) _ _ tt
-    (Sends _ sub.state.pmcw.available (Some (record { path = path; signal = down.Select (sub.state.drawn + 1) })) refl tt refl refl)
+    (Sends _ sub.state.pmcw.available (Some (record { path = path; signal = down.Select (sub.state.drawn + 1) })) refl (meets.Offers (sub.state.drawn + 1)) refl refl)
 
 marked-carries : (sub after : Subchannel) (choice : Option ℕ) → Carries (marked_sub sub choice) after → Carries sub after
 marked-carries sub _ choice (Keeps after e f) = Keeps after e f

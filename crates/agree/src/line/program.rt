@@ -2,7 +2,7 @@
 
 ghost use Rattle.std.specs.Prelude.{◌≡◌};
 ghost use Rattle.agree.specs.Replies as reply_spec;
-ghost use Rattle.agree.specs.Sending as spec;
+ghost use Rattle.agreement_laws.specs.Sending as spec;
 ghost use Rattle.chan_model.specs.HoldTable as table;
 ghost use Rattle.chan_model.specs.Lent.{plain_down};
 ghost use Rattle.chan_model.specs.Signals.{map_taken};
