@@ -24,7 +24,7 @@ use Rattle.subchannel_model.specs.Places.{place_in}
 use Rattle.shown_laws.specs.Functions.{keeps_functions, functions_by, functions_after}
 use Rattle.shown_laws.specs.Shown.{names, is_about, is_accepted}
 use Rattle.shown_laws.proofs.Effects.{seen}
-use Rattle.shown_laws.proofs.Executed.{reply_of, code_for, state_left}
+use Rattle.step_laws.proofs.Executed.{reply_of, code_for, state_left}
 use Rattle.shown_laws.proofs.Fitting.{Fits, fits-opens, turned-fits}
 use Rattle.shown_laws.proofs.Following.{turned-follows}
 use Rattle.shown_laws.proofs.Runs.{AreLaws, run-keeps}

@@ -110,7 +110,7 @@ pub stays-masked : (a : Option Orb) (s : State) (e : Event) (r : Reply) (new : S
 stays-masked a s e r new place step walk same not masked = λ id sub named here.
     let mine : place_in id s.subs ≡ Some place = sym (place-stays id s.subs new.subs same) ∙ named in
     let old : (x : Subchannel) × (slice_get s.subs place ≡ Some x) = placed (is_named id) s.subs place mine in
-    turned-masked a s.sets id e r old.0 sub.state not (masked id old.0 mine old.1) (step-turns s id place old.0 mine old.1 e r new walk step sub here)
+    turned-masked a s.sets id e r old.0 sub.state not (masked id old.0 mine old.1) (step-turns s id place old.0 mine old.1 e r new step sub here)
 
 -- START SUBCHANNEL: one subchannel is set
 pub set-masked : (a b : Option Orb) (subs news : List Subchannel) (at place : ℕ) (x after : Subchannel) → SameSetups subs news → slice_get subs at ≡ Some x → news ≡ slice_set subs at after →

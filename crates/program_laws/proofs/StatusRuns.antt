@@ -253,7 +253,7 @@ module _ (laws : AreLaws) (setup : Setup) (h : List Entry) (old : State) (run : 
   -- what is so of the subchannel by its name
   module _ (id : SubchannelId) (named : place_in id old.subs ≡ Some place) (sub : Subchannel) (here : slice_get new.subs place ≡ Some sub) where
     turns : Turned old.sets id e r was sub.state
-    turns = step-turns old id place was named there e r new (laws.walks old e r new step) step sub here
+    turns = step-turns old id place was named there e r new step sub here
 
     wholly : IsWhole was.state
     wholly = whole laws setup id h old run place was named there

@@ -1,5 +1,5 @@
 -- After each run the engines that are seen to serve a subchannel are those that do: each entry is right.
-use Rattle.std.proofs.Common.{◌≡◌, refl, sym, ◌∙◌, ap, subst, ℕ, zero, suc, ◌+◌, ◌*◌, ◌<◌, ◌==◌, ◌&&◌, ◌||◌, nat_lt, Bool, true, false, not, Option, None, Some, Result, Ok, Err, List, [], ◌∷◌, ◌++◌, length, map, slice_get, slice_index_or, IfOk, if◌then◌else◌, inl, inr, arith}
+use Rattle.std.proofs.Common.{◌≡◌, refl, sym, ◌∙◌, ap, subst, ℕ, zero, suc, ◌+◌, ◌*◌, ◌<◌, ◌==◌, ◌&&◌, ◌||◌, nat_lt, Bool, true, false, not, Option, None, Some, Result, List, [], ◌∷◌, ◌++◌, length, map, slice_get, slice_index_or, IfOk, if◌then◌else◌, inl, inr, arith}
 use Rattle.std.specs.List.{list_any, range_with_len}
 use Rattle.std.proofs.lemmas.Bool.{eqb-true, and_from}
 use Rattle.std.proofs.lemmas.Option.{slice_get_within, get_or_from_slice_get}
@@ -7,8 +7,6 @@ use Rattle.std.proofs.lemmas.List.FromFn.{get_or-range_with_len, length-range_wi
 use Rattle.allegiance.specs.PathUse.{is_member, each_path, reachable_paths}
 use Rattle.chan_events.specs.Events.{Event}
 use Rattle.chan_events.specs.declared.event.Event.TheVariants as event
-use Rattle.chan_events.specs.declared.event.OtherInstruction.{OtherInstruction}
-use Rattle.chan_events.specs.declared.event.OtherInstruction.TheVariants as other
 use Rattle.chan_events.specs.declared.reply.Entry.{Entry}
 use Rattle.chan_events.specs.Replies.{Reply}
 use Rattle.chan_events.specs.declared.reply.Reply.TheVariants as reply
@@ -29,8 +27,7 @@ use Rattle.channel_config.specs.Lawful.{IsLawful}
 use Rattle.channel_config.specs.Setup.{Setup, set_count}
 use Rattle.channel_config.specs.SubchannelWords.{subchannel_named}
 use Rattle.path_select.specs.Choice.{IsChoice}
-use Rattle.storage_keys.specs.declared.StorageFault.{StorageFault}
-use Rattle.storage_keys.specs.Storage.{Contents, operand_check}
+use Rattle.storage_keys.specs.Storage.{Contents}
 use Rattle.wires.specs.Queues.{queue}
 use Rattle.subchannel_model.specs.declared.state.Chosen.{Chosen}
 use Rattle.subchannel_model.specs.declared.state.Chosen.TheVariants.{Idle, Resets, PerformsClear, Halts, PerformsHalt, FindsNoPath, Offers}
@@ -42,7 +39,7 @@ use Rattle.machine_model.specs.ChooseSteps.{choose_sub}
 use Rattle.machine_model.specs.OtherSteps.{engaged_byte, engaged_bytes, engaged_chpids}
 use Rattle.machine_model.specs.State.{State, opening_of}
 use Rattle.machine_model.specs.Steps.{Run, Opened, Stepped, Step}
-use Rattle.machine_model.specs.Turns.{Outcome, does, where_tested, SubTurn, UpTurn}
+use Rattle.machine_model.specs.Turns.{SubTurn, UpTurn}
 use Rattle.machine_model.specs.UpSteps.{may_return, returns_at, up_front, up_sub}
 use Rattle.machine_model.proofs.Named.{returns_by}
 use Rattle.subchannel_model.specs.Taking.{takes_up}
@@ -62,7 +59,8 @@ use Rattle.seen_laws.proofs.LinkLists.{AreTied, of-named}
 use Rattle.seen_laws.proofs.LinkPaths.{member-up}
 use Rattle.seen_laws.proofs.LinkRuns.{AreSeen, AreOnePath, IsRunSeen, run-seen, through-more, right-more}
 use Rattle.seen_laws.proofs.LinkSubs.{IsTied}
-use Rattle.seen_laws.proofs.OwnRuns.{settled-answered}
+use Rattle.step_laws.proofs.Turns as turn
+use Rattle.step_laws.proofs.Turns.{TurnOf, HasTurn, step-turn}
 
 -- the path whose engine serves it
 engaged-at : (phase : HoldPhase) (sent : Option ℕ) → engaged_by (link_at phase sent) ≡ engaged_path phase
@@ -335,40 +333,29 @@ status-is : (k : Seen) (s : State) → AreSeen k s → engaged_bytes (engaged_ch
 unfolding engaged_bytes engaged_chpids status_bytes
 status-is k s tied = map-same (engaged_byte (mapped_chpids s.subs)) (status_byte (serves k)) (range_with_len 0 32) (λ i x e. byte-same k s x (range-at 32 i x e) tied)
 
-stored-ok : (engaged : List ℕ) (check : Result (Unit {0}) StorageFault) (left : State) → IfOk (where_tested check (does (reply.Paths engaged) left)) (λ t. t.reply ≡ reply.Paths engaged)
-stored-ok engaged (Ok u) left = refl
-stored-ok engaged (Err f) left = tt
-
-status-shown : (s : State) (cpu address : ℕ) (r : Reply) (new : State) (k : Seen) → Step s (event.ExecuteOther cpu (other.Stcps address)) r new → AreSeen k s → r ≡ reply.Paths (status_bytes (serves k))
-status-shown s cpu address r new k step tied =
-    let engaged : List ℕ = engaged_bytes (engaged_chpids s.subs 0x100) 32 in
-    settled-answered s (event.ExecuteOther cpu (other.Stcps address)) step.0 r new (λ y xs. y ≡ reply.Paths engaged) step.2
-    (subst (λ (o : Outcome). IfOk o (λ t. t.reply ≡ reply.Paths engaged)) (sym step.1) (stored-ok engaged (operand_check s.storage cpu address 32 32) _))
-    ∙ ap (λ (bytes : List ℕ). reply.Paths bytes) (status-is k s tied)
-
-other-shown : (s : State) (cpu : ℕ) (i : OtherInstruction) (r : Reply) (new : State) (k : Seen) → Step s (event.ExecuteOther cpu i) r new → AreSeen k s → ShowsServed k (event.ExecuteOther cpu i) r
-other-shown s cpu (other.Tpi mask address) r new k step tied = tt
-other-shown s cpu (other.Rchp path) r new k step tied = tt
-other-shown s cpu (other.Stcrw address) r new k step tied = tt
-other-shown s cpu (other.Stcps address) r new k step tied = status-shown s cpu address r new k step tied
+turn-shown : (s : State) (e : Event) (r : Reply) (new : State) (k : Seen) → TurnOf s e r new → AreSeen k s → ShowsServed k e r
+turn-shown s _ _ _ k (turn.Puts address bytes storage e) tied = tt
+turn-shown s _ _ _ k (turn.SetsKey address key storage e) tied = tt
+turn-shown s _ _ _ k (turn.SetsPrefix cpu address storage e) tied = tt
+turn-shown s _ _ _ k (turn.Shows address count bytes e) tied = tt
+turn-shown s _ _ _ k (turn.Executes cpu i id q r storage subs n e blocks left done) tied = tt
+turn-shown s _ _ _ k (turn.Interrupts cpu mask address) tied = tt
+turn-shown s _ _ _ k (turn.AsksReset cpu path) tied = tt
+turn-shown s _ _ _ k (turn.StoresReport cpu address) tied = tt
+turn-shown s _ _ _ k (turn.StoresPaths cpu address) tied = ap (λ (bytes : List ℕ). reply.Paths bytes) (status-is k s tied)
+turn-shown s _ _ _ k (turn.Chosen word place sub choice t named there is ok) tied = tt
+turn-shown s _ _ _ k (turn.Meets word path place sub t named there ok) tied = tt
+turn-shown s _ _ _ k (turn.Takes word path place sub u t named there found ok) tied = tt
+turn-shown s _ _ _ k (turn.Reports at place sub u report t found first there ok) tied = tt
+turn-shown s _ _ _ k (turn.Acts at place sub u what side t found is first there ok) tied = tt
+turn-shown s _ _ _ k (turn.Restarts at u found) tied = tt
+turn-shown s _ _ _ k (turn.GoesDown chpid) tied = tt
+turn-shown s _ _ _ k (turn.ComesUp chpid) tied = tt
+turn-shown s _ _ _ k (turn.IsReset chpid asked) tied = tt
+turn-shown s _ _ _ k turn.ResetsAll tied = tt
 
 shown : (s : State) (e : Event) (r : Reply) (new : State) (k : Seen) → Step s e r new → AreSeen k s → ShowsServed k e r
-shown s (event.Put address bytes) r new k step tied = tt
-shown s (event.SetKey address key) r new k step tied = tt
-shown s (event.SetPrefix cpu address) r new k step tied = tt
-shown s (event.Show address count) r new k step tied = tt
-shown s (event.Execute cpu i) r new k step tied = tt
-shown s (event.ExecuteOther cpu i) r new k step tied = other-shown s cpu i r new k step tied
-shown s (event.Choose word) r new k step tied = tt
-shown s (event.Up word path) r new k step tied = tt
-shown s (event.Down word path) r new k step tied = tt
-shown s (event.Report at report) r new k step tied = tt
-shown s (event.Act at what) r new k step tied = tt
-shown s (event.Restart at) r new k step tied = tt
-shown s (event.PathDown chpid) r new k step tied = tt
-shown s (event.PathUp chpid) r new k step tied = tt
-shown s (event.PathReset chpid) r new k step tied = tt
-shown s event.SystemReset r new k step tied = tt
+shown s e r new k step tied = let is : HasTurn s e r new = step-turn s e r new step in turn-shown s e r is.left k is.turn tied
 
 -- along a run
 pub run-one-engine : AreWalks → AreOnePath → (setup : Setup) (h : List Entry) (s : State) → IsLawful setup → Run (opening_of setup) h s → HasOneEngine setup h

@@ -14,7 +14,7 @@ use Rattle.chan_model.specs.ConditionCodes.{answer_of_code}
 use Rattle.channel_config.specs.declared.names.SubchannelId.{SubchannelId}
 use Rattle.channel_config.specs.declared.parts.SubchannelSetup.{SubchannelSetup}
 use Rattle.channel_config.specs.Setup.{Setup}
-use Rattle.machine_laws.specs.Codes.{code_by}
+use Rattle.step_laws.specs.Codes.{code_by}
 use Rattle.machine_laws.specs.Claims.{is_id}
 use Rattle.machine_model.specs.InstructionSteps.{subchannel_word}
 use Rattle.machine_model.specs.State.{State, opening_of}
@@ -25,7 +25,8 @@ use Rattle.subchannel_model.specs.Opening.{opened}
 use Rattle.subchannel_model.specs.Places.{Found, found_at, first_place, place_in}
 use Rattle.shown_laws.specs.Codes.{code_in, IsThree, AreThree}
 use Rattle.shown_laws.specs.Shown.{names}
-use Rattle.shown_laws.proofs.Executed.{IsDone, IsExecuted, executed}
+use Rattle.step_laws.proofs.Executed.{IsDone}
+use Rattle.shown_laws.proofs.Executed.{IsExecuted, executed}
 use Rattle.shown_laws.proofs.Named.{same-id}
 use Rattle.shown_laws.proofs.Runs.{AreLaws, IsPassed, passed, place-by, sets-stay}
 

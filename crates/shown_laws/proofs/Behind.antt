@@ -59,7 +59,7 @@ use Rattle.shown_laws.specs.Behind.{behind_met, behind_after}
 use Rattle.shown_laws.specs.Shown.{is_about}
 use Rattle.shown_laws.proofs.Chosen.{nopath-chosen}
 use Rattle.shown_laws.proofs.Effects.{Seen, seen}
-use Rattle.shown_laws.proofs.Executed.{IsEffect, reply_of, code_for, state_left}
+use Rattle.step_laws.proofs.Executed.{IsEffect, reply_of, code_for, state_left}
 use Rattle.shown_laws.proofs.Holding.{Held, none-some, not-held}
 use Rattle.shown_laws.proofs.Showing.{IsWhole}
 use Rattle.shown_laws.proofs.Signals.{Comes, Ignored, Taken, takes-comes}

@@ -26,7 +26,7 @@ use Rattle.shown_laws.proofs.Bytes.{Brought, brought-if, cause-brought, IsZero, 
 use Rattle.shown_laws.proofs.Chosen.{IsWhy, why-chosen}
 use Rattle.shown_laws.proofs.Deferring.{pair-left, effect-made, no-clear}
 use Rattle.shown_laws.proofs.Effects.{seen}
-use Rattle.shown_laws.proofs.Executed.{reply_of, code_for, state_left}
+use Rattle.step_laws.proofs.Executed.{reply_of, code_for, state_left}
 use Rattle.shown_laws.proofs.Fitting.{Fits, run-fits}
 use Rattle.shown_laws.proofs.Runs.{AreLaws, run-between}
 use Rattle.shown_laws.proofs.Standing.{Stands}

@@ -2,7 +2,7 @@
 use Rattle.std.proofs.Common.{◌≡◌, refl, Some}
 use Rattle.chan_events.specs.declared.event.Instruction.{Instruction}
 use Rattle.chan_events.specs.declared.event.Instruction.TheVariants as instruction
-use Rattle.machine_laws.specs.Codes.{code_by}
+use Rattle.step_laws.specs.Codes.{code_by}
 use Rattle.subchannel_model.specs.declared.state.SubchannelState.{SubchannelState}
 use Rattle.subchannel_model.specs.Conditions.{condition_of}
 use Rattle.shown_laws.specs.CodeTable.{code_due}

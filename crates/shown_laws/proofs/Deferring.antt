@@ -45,7 +45,7 @@ use Rattle.shown_laws.specs.Shown.{names, is_about, is_accepted}
 use Rattle.shown_laws.proofs.Chosen.{IsCandidate, IsWhy, why-chosen}
 use Rattle.shown_laws.proofs.Coding.{Coded, coded-if, cause-coded, loses-stays, takes-coded}
 use Rattle.shown_laws.proofs.Effects.{seen}
-use Rattle.shown_laws.proofs.Executed.{IsEffect, reply_of, code_for, state_left}
+use Rattle.step_laws.proofs.Executed.{IsEffect, reply_of, code_for, state_left}
 use Rattle.shown_laws.proofs.Fitting.{Fits, run-fits}
 use Rattle.shown_laws.proofs.Runs.{AreLaws, status_of, run-between}
 use Rattle.shown_laws.proofs.Standing.{Stands}

@@ -44,7 +44,7 @@ use Rattle.shown_laws.proofs.CodeTable.{code-is}
 use Rattle.shown_laws.specs.Codes.{told_by, enabled_by, enabled_with, code_in, enabled_after, enabled_through, enabled_in, MayBe, IsCodeRight, AreCodesRight}
 use Rattle.shown_laws.specs.Shown.{names, is_about}
 use Rattle.shown_laws.proofs.Effects.{Seen, seen, of_seen, Effect, Nothing, Causes, Takes, TakesAsking, Moves, MovesAsking, Suspends, SuspendsShowing, SendsHalt}
-use Rattle.shown_laws.proofs.Executed.{IsEffect, reply_of, code_for, state_left}
+use Rattle.step_laws.proofs.Executed.{IsEffect, reply_of, code_for, state_left}
 use Rattle.shown_laws.proofs.Holding.{Held}
 use Rattle.shown_laws.proofs.Runs.{AreLaws, status_of, run-between, run-keeps}
 use Rattle.shown_laws.proofs.Signals.{Comes, Ignored, Taken, lost-goes, takes-comes}

@@ -47,7 +47,7 @@ use Rattle.subchannel_model.specs.Test.{tested, ended_scsw, suspended_scsw, test
 use Rattle.subchannel_model.specs.Parts.{scsw_joined}
 use Rattle.shown_laws.proofs.Chosen.{clear-chosen, nopath-chosen}
 use Rattle.shown_laws.proofs.Effects.{Seen, seen, of_seen, caused, IsTimely, Effect, Nothing, Causes, Takes, TakesAsking, Moves, MovesAsking, Suspends, SuspendsShowing, SendsHalt, causes, made-activity, made-functions, joined-functions}
-use Rattle.shown_laws.proofs.Executed.{IsEffect, code_for}
+use Rattle.step_laws.proofs.Executed.{IsEffect, code_for}
 use Rattle.shown_laws.proofs.Holding.{Held, not-held}
 use Rattle.shown_laws.proofs.Runs.{AreLaws, run-keeps}
 use Rattle.shown_laws.proofs.Signals.{Comes, Ignored, Taken, lost-goes, takes-comes}

@@ -52,7 +52,7 @@ use Rattle.subchannel_model.specs.Ends.{last_shown, work_shown}
 use Rattle.shown_laws.specs.Functions.{IsNoNew, functions_by, active_alone, activity_by, activity_chosen, changes_status, Follows, DoFunctionsFollow}
 use Rattle.shown_laws.specs.Shown.{StoredStatus, names, is_about, is_accepted}
 use Rattle.shown_laws.proofs.Effects.{Seen, seen, of_seen, IsTimely, Effect, Nothing, Causes, Takes, TakesAsking, Moves, MovesAsking, Suspends, SuspendsShowing, SendsHalt, taken_over, moved, still, made-functions, joined-functions}
-use Rattle.shown_laws.proofs.Executed.{IsEffect, reply_of, code_for, state_left}
+use Rattle.step_laws.proofs.Executed.{IsEffect, reply_of, code_for, state_left}
 use Rattle.shown_laws.proofs.Fitting.{Fits, cause-activity, asked-functions, chosen-effect, marked-fits, run-fits}
 use Rattle.shown_laws.proofs.Holding.{Held}
 use Rattle.shown_laws.proofs.Runs.{AreLaws, status_of, run-between}

@@ -25,15 +25,16 @@ use Rattle.machine_model.specs.InstructionSteps.{subchannel_word}
 use Rattle.machine_model.specs.Requests.{reply_code, drops, requests_after, requests_dropped, request_of}
 use Rattle.machine_model.specs.State.{State, sub_of}
 use Rattle.machine_model.specs.Steps.{Step}
-use Rattle.step_laws.proofs.Places.{alone, both-true, first-passes}
+use Rattle.step_laws.proofs.Places.{alone, both-true, first-passes, found-there}
 use Rattle.subchannel_model.specs.declared.state.Subchannel.{Subchannel}
 use Rattle.subchannel_model.specs.declared.state.SubchannelState.{SubchannelState}
 use Rattle.subchannel_model.specs.Places.{Found, found_at, is_named, place_in, place_of_id, sub_at}
 use Rattle.shown_laws.specs.Interruptions.{is_given, shows_status, takes_away, IsAlone}
 use Rattle.shown_laws.specs.Shown.{names, is_accepted}
 use Rattle.shown_laws.proofs.Asking.{asked_by, step-asked}
-use Rattle.shown_laws.proofs.Executed.{IsDone, IsLeft, IsExecuted, reply_of, code_for, state_left, executed}
-use Rattle.shown_laws.proofs.Named.{found-there, same-id}
+use Rattle.step_laws.proofs.Executed.{IsDone, IsLeft, reply_of, code_for, state_left}
+use Rattle.shown_laws.proofs.Executed.{IsExecuted, executed}
+use Rattle.shown_laws.proofs.Named.{same-id}
 use Rattle.shown_laws.proofs.Waiting.{is_for, asks, all-keep, all-own, all-why, dropped-own, dropped-other, dropped-was}
 
 -- what an instruction takes away

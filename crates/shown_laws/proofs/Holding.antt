@@ -53,7 +53,7 @@ use Rattle.subchannel_model.specs.Taking.{Met, meets, ignoring, quietly, let_go,
 use Rattle.chan_model.specs.Signals.{load_bytes}
 use Rattle.subchannel_model.specs.Test.{tested, ends_suspended}
 use Rattle.shown_laws.proofs.Chosen.{why-chosen, IsWhy}
-use Rattle.shown_laws.proofs.Executed.{IsEffect, code_for}
+use Rattle.step_laws.proofs.Executed.{IsEffect, code_for}
 use Rattle.shown_laws.proofs.Turned.{Turned, Executes, Chooses, Meets, Sweeps, Rests, state_chosen}
 
 abbrev pub Held : SubchannelState → Type 0

@@ -32,7 +32,7 @@ use Rattle.subchannel_model.specs.Programs.{without_programs}
 use Rattle.subchannel_model.specs.Test.{ends_suspended, tested}
 use Rattle.shown_laws.specs.Paths.{used_met, used_after, used_through, used_in, ShowsLastUsed}
 use Rattle.shown_laws.specs.Shown.{names, is_about, is_accepted}
-use Rattle.shown_laws.proofs.Executed.{IsEffect, reply_of, code_for, state_left}
+use Rattle.step_laws.proofs.Executed.{IsEffect, reply_of, code_for, state_left}
 use Rattle.shown_laws.proofs.Runs.{AreLaws, IsPassed, passed, passed-next, sets-stay, run-keeps}
 use Rattle.shown_laws.proofs.Turned.{Turned, Executes, Chooses, Meets, Sweeps, Rests}
 use Rattle.shown_laws.proofs.Using.{IsSame, if-same, loses-same, shows-same, chosen-same, takes-uses}

@@ -50,7 +50,7 @@ use Rattle.shown_laws.specs.Shown.{StoredStatus, names, is_about, is_accepted}
 use Rattle.shown_laws.proofs.Counted.{IsCounted, none-made, none-counted, cause-counted, effect-counted}
 use Rattle.shown_laws.proofs.Effects.{Seen, seen, effect-one}
 use Rattle.shown_laws.proofs.Enabling.{run-enabled}
-use Rattle.shown_laws.proofs.Executed.{IsEffect, reply_of, code_for, state_left}
+use Rattle.step_laws.proofs.Executed.{IsEffect, reply_of, code_for, state_left}
 use Rattle.shown_laws.proofs.Following.{is_zero, reply-accepted, left-is, both-is}
 use Rattle.shown_laws.proofs.Holding.{Held}
 use Rattle.shown_laws.proofs.Runs.{AreLaws, status_of, run-between}

@@ -133,7 +133,7 @@ module _ (laws : AreLaws) (tables : AreTables) (setup : Setup) (id : SubchannelI
       place_in id s.subs ≡ Some place → slice_get new.subs place ≡ Some after → Move place s e r new after
   moves h s e r new place after run step mine is =
       let was : (x : Subchannel) × (slice_get s.subs place ≡ Some x) = placed (is_named id) s.subs place mine in
-      let turned : Turned s.sets id e r was.0 after.state = step-turns s id place was.0 mine was.1 e r new (laws.walks s e r new step) step after is in
+      let turned : Turned s.sets id e r was.0 after.state = step-turns s id place was.0 mine was.1 e r new step after is in
       record {
         sub = was.0;
         there = was.1;

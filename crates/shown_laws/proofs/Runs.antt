@@ -19,12 +19,13 @@ use Rattle.subchannel_model.proofs.Named.{one_later}
 use Rattle.subchannel_model.specs.declared.state.Subchannel.{Subchannel}
 use Rattle.subchannel_model.specs.declared.state.SubchannelState.{SubchannelState}
 use Rattle.subchannel_model.specs.Places.{Found, found_at, first_place, is_named, place_in}
-use Rattle.step_laws.proofs.Places.{map-get}
+use Rattle.step_laws.proofs.Places.{map-get, found-there}
 use Rattle.step_laws.specs.Walks.{AreWalks}
 use Rattle.subchannel_model.specs.Opening.{opening_subchannel, opened}
 use Rattle.shown_laws.specs.Shown.{StoredStatus, names, stored_in, stored_by, Between}
-use Rattle.shown_laws.proofs.Executed.{IsDone, IsExecuted, executed, set-same}
-use Rattle.shown_laws.proofs.Named.{found-there, same-id}
+use Rattle.step_laws.proofs.Executed.{IsDone, set-same}
+use Rattle.shown_laws.proofs.Executed.{IsExecuted, executed}
+use Rattle.shown_laws.proofs.Named.{same-id}
 use Rattle.shown_laws.proofs.Turned.{Turned, step-turns}
 
 -- what is shown of a subchannel
@@ -126,7 +127,7 @@ run-keeps laws setup id P opens keeps _ _ (Stepped h old e r new run step) place
     let at : place_in id old.subs ≡ Some place = sym (place-stays id old.subs new.subs (laws.setups old e r new step)) ∙ named in
     let was : (x : Subchannel) × (slice_get old.subs place ≡ Some x) = placed (is_named id) old.subs place at in
     let turned : Turned old.sets id e r was.0 sub.state =
-    step-turns old id place was.0 at was.1 e r new (laws.walks old e r new step) step sub there in
+    step-turns old id place was.0 at was.1 e r new step sub there in
     keeps h e r was.0 sub.state (run-keeps laws setup id P opens keeps h old run place was.0 at was.1)
     (subst (λ (n : ℕ). Turned n id e r was.0 sub.state) (sets-stay laws setup h old run) turned)
 
@@ -226,7 +227,7 @@ run-between laws setup id Claim is h s run before after a b c old new eq shows-a
     (sym left.named ∙ place-stays id second.was.subs second.is.subs (laws.setups second.was b.event b.reply second.is second.step) ∙ named) in
     let after-there : slice_get second.is.subs was.place ≡ Some left.sub = ap (λ (n : ℕ). slice_get second.is.subs n) (sym same) ∙ left.there in
     let turned : Turned second.was.sets id b.event b.reply was.sub left.sub.state =
-    step-turns second.was id was.place was.sub named there b.event b.reply second.is (laws.walks second.was b.event b.reply second.is second.step) second.step left.sub after-there in
+    step-turns second.was id was.place was.sub named there b.event b.reply second.is second.step left.sub after-there in
     shown-so Claim (before ++ a ∷ []) old (status_of was.sub.state) new (status_of left.sub.state) b.event b.reply was.shows left.shows
     (is (before ++ a ∷ []) second.was b.event b.reply was.place was.sub left.sub.state second.run named there
     (subst (λ (n : ℕ). Turned n id b.event b.reply was.sub left.sub.state) (sets-stay laws setup _ second.was second.run) turned))

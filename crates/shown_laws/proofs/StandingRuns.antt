@@ -44,7 +44,7 @@ use Rattle.subchannel_model.specs.Cancel.{cancelled, waits}
 use Rattle.subchannel_model.specs.Status.{intermediate_alone, without_status}
 use Rattle.subchannel_model.specs.Test.{tested, ended_scsw, suspended_scsw, tested_wholly}
 use Rattle.shown_laws.proofs.Effects.{Seen, seen}
-use Rattle.shown_laws.proofs.Executed.{IsEffect, code_for}
+use Rattle.step_laws.proofs.Executed.{IsEffect, code_for}
 use Rattle.shown_laws.proofs.Fitting.{chosen-effect, zero-two}
 use Rattle.shown_laws.proofs.Holding.{Held, turned-held}
 use Rattle.shown_laws.proofs.Runs.{AreLaws, run-keeps}
