@@ -1,10 +1,8 @@
 -- After each step an offer that is over by what was seen is over, and each other goes ahead.
-use Rattle.std.proofs.Common.{◌≡◌, refl, sym, ◌∙◌, ap, subst, ℕ, ◌||◌, Bool, true, false, Option, None, Some, Result, Ok, Err, List, inl, inr}
+use Rattle.std.proofs.Common.{◌≡◌, refl, sym, ◌∙◌, ap, subst, ℕ, ◌||◌, Bool, true, false, Option, None, Some, Result, List, inl, inr}
 use Rattle.std.specs.Prelude.{if◌then◌else◌, slice_get, slice_set, IfOk}
 use Rattle.std.proofs.lemmas.Bool.{eq-eqb}
 use Rattle.schib_block.specs.declared.pmcw.Pmcw as block
-use Rattle.storage_keys.specs.declared.StorageFault.{StorageFault}
-use Rattle.storage_keys.specs.Storage.{operand_check}
 use Rattle.chan_model.specs.declared.answer.Answer.TheVariants as answer
 use Rattle.chan_model.specs.declared.answer.ConditionCode.{ConditionCode}
 use Rattle.chan_model.specs.declared.answer.ConditionCode.TheVariants as code
@@ -17,8 +15,6 @@ use Rattle.chan_events.specs.declared.event.Event.TheVariants as event
 use Rattle.chan_events.specs.declared.event.Instruction.TheVariants as instruction
 use Rattle.chan_events.specs.Replies.{Reply}
 use Rattle.chan_events.specs.declared.reply.Reply.TheVariants as reply
-use Rattle.channel_config.specs.declared.names.SubchannelId.{SubchannelId}
-use Rattle.channel_config.specs.SubchannelWords.{subchannel_named}
 use Rattle.subchannel_model.specs.declared.state.Subchannel.{Subchannel}
 use Rattle.subchannel_model.specs.declared.state.SubchannelState.{SubchannelState}
 use Rattle.subchannel_model.specs.declared.status.Condition.{Condition}
@@ -31,21 +27,24 @@ use Rattle.subchannel_model.specs.Places.{Found, place_in, place_of_id, found_at
 use Rattle.subchannel_model.specs.Resume.{resumed}
 use Rattle.subchannel_model.specs.Start.{started}
 use Rattle.subchannel_model.specs.Test.{ends_suspended, tested_wholly, tsch_code}
-use Rattle.machine_model.specs.InstructionSteps.{subchannel_word, function_sub, test_with, test_at, test_sub, code_at}
+use Rattle.machine_model.specs.InstructionSteps.{subchannel_word, function_sub, test_with, code_at}
 use Rattle.machine_model.specs.PathSteps.{swept}
 use Rattle.machine_model.specs.State.{State, place_of}
 use Rattle.machine_model.specs.Steps.{Step}
-use Rattle.machine_model.specs.Turns.{SubTurn, UpTurn, DownTurn, Outcome, with_state, where_tested}
-use Rattle.machine_model.proofs.Named.{Executes_on}
+use Rattle.machine_model.specs.Turns.{SubTurn, UpTurn, DownTurn, with_state}
 use Rattle.step_laws.specs.Walks as walked
 use Rattle.step_laws.specs.Walks.{Walked, Function, Resumes, Clears, Cancels, effect_of, instruction_of, OneSub, OneUnit}
-use Rattle.step_laws.proofs.Places.{set-get, map-get}
+use Rattle.step_laws.proofs.Places.{set-get, map-get, found-there}
 use Rattle.seen_laws.specs.BeginsItsOwn.{is_code_zero, over_by, over_chosen}
 use Rattle.seen_laws.proofs.OwnSteps.{IsApart, down-apart, step-apart, act-apart}
-use Rattle.seen_laws.proofs.OwnRuns.{found-there, settled-answered, Answered, Unfound, There, halt-answered, cancel-answered}
+use Rattle.seen_laws.proofs.OwnRuns.{Answered, Unfound, There, halt-answered, cancel-answered}
 use Rattle.program_laws.specs.ProgramTold.{over_tested, over_after}
 use Rattle.program_laws.proofs.Starting as starting_step
 use Rattle.program_laws.proofs.Overs.{Owned, same-tied, reset-tied, halt-owned, cancel-owned, start-owned, test-owned, resume-just, IsTurn, chosen-owned, up-owned, same-just, swept-owned, not-eqb}
+use Rattle.subchannel_model.specs.Conditions.{left_by}
+use Rattle.step_laws.proofs.Executed.{IsDone, reply_of}
+use Rattle.step_laws.proofs.Turns as turn
+use Rattle.step_laws.proofs.Turns.{TurnOf, HasTurn, step-turn}
 
 -- at a place
 abbrev pub OwnedAt : Bool → List Subchannel → ℕ → Type 0
@@ -208,26 +207,27 @@ tested-by s word at x code.One n there = Untouched at x (with_state x x.state) _
 tested-by s word at x code.Two n there = Untouched at x (with_state x x.state) _ there refl (λ over. refl)
 tested-by s word at x code.Three n there = Untouched at x (with_state x x.state) _ there refl (λ over. refl)
 
-test-turned : (s : State) (cpu word address at : ℕ) (x : Subchannel) (c : ConditionCode) → place_of s word ≡ Some at → slice_get s.subs at ≡ Some x →
-    IfOk (test_sub s cpu address (record { place = at; sub = x }) c) (λ t. Tested s word t.reply t.state.subs)
-test-turned s cpu word address at x code.Zero n there = tested-by s word at x code.Zero n there
-test-turned s cpu word address at x code.One n there = tested-by s word at x code.One n there
-test-turned s cpu word address at x code.Two n there = tested-by s word at x code.Two n there
-test-turned s cpu word address at x code.Three n there = tested-by s word at x code.Three n there
+done-tested : (s : State) (word address : ℕ) (p : Option ℕ) (q : Option Found) (r : Reply) (new : State) → place_of s word ≡ p → found_at s.subs p ≡ q →
+    IsDone s (instruction.Tsch word address) q r new → Tested s word r new.subs
+done-tested s word address p None r new n e k =
+    subst (λ (xs : List Subchannel). Tested s word r xs) (sym k.subs) (subst (λ (x : Reply). Tested s word x s.subs) (sym k.replies) (Untested _ (λ over. refl)))
+done-tested s word address p (Some f) r new n e k =
+    let there : (p ≡ Some f.place) × (slice_get s.subs f.place ≡ Some f.sub) = found-there s.subs p f e in
+    let c : ConditionCode = code_at tsch_code f.sub in
+    subst (λ (xs : List Subchannel). Tested s word r xs)
+    (sym (k.subs ∙ ap (λ (x : SubchannelState). slice_set s.subs f.place (with_state f.sub (left_by c f.sub.state x))) k.is))
+    (subst (λ (x : Reply). Tested s word x (slice_set s.subs f.place (test_with f.sub c).sub))
+    (sym (k.replies ∙ ap (λ (x : SubchannelState). reply_of (instruction.Tsch word address) c f.sub.state (left_by c f.sub.state x)) k.is))
+    (tested-by s word f.place f.sub c (n ∙ there.0) there.1))
 
-found-tested : (s : State) (cpu word address : ℕ) (p : Option ℕ) (q : Option Found) (r : Result (Unit {0}) StorageFault) → place_of s word ≡ p → found_at s.subs p ≡ q →
-    IfOk (where_tested r (test_at s cpu address q)) (λ t. Tested s word t.reply t.state.subs)
-found-tested s cpu word address p q (Err f) n e = tt
-found-tested s cpu word address p None (Ok u) n e = Untested _ (λ over. refl)
-found-tested s cpu word address p (Some f) (Ok u) n e =
-    let there = found-there s.subs p f e in test-turned s cpu word address f.place f.sub (code_at tsch_code f.sub) (n ∙ there.0) there.1
+turn-tested : (s : State) (cpu word address : ℕ) (r : Reply) (new : State) → TurnOf s (event.Execute cpu (instruction.Tsch word address)) r new → Tested s word r new.subs
+turn-tested s cpu word address _ _ (turn.Executes _ _ id q r storage subs n e blocks left done) =
+    done-tested s word address (place_in id s.subs) q r (record s { storage = storage; subs = subs }) (ap (place_of_id s.subs) n) e done
 
-on-tested : (s : State) (cpu word address : ℕ) (x : Option SubchannelId) (o : Outcome) → subchannel_named s.sets word ≡ x → Executes_on s cpu (instruction.Tsch word address) x o →
-    IfOk o (λ t. Tested s word t.reply t.state.subs)
-on-tested s cpu word address None o n w = subst (λ (y : Outcome). IfOk y (λ t. Tested s word t.reply t.state.subs)) (sym w) tt
-on-tested s cpu word address (Some id) o n w =
-    subst (λ (y : Outcome). IfOk y (λ t. Tested s word t.reply t.state.subs)) (sym w)
-    (found-tested s cpu word address (place_in id s.subs) (found_at s.subs (place_in id s.subs)) (operand_check s.storage cpu address 64 4) (ap (place_of_id s.subs) n) refl)
+step-tested : (s : State) (cpu word address : ℕ) (r : Reply) (new : State) → Step s (event.Execute cpu (instruction.Tsch word address)) r new → Tested s word r new.subs
+step-tested s cpu word address r new step =
+    let is : HasTurn s (event.Execute cpu (instruction.Tsch word address)) r new = step-turn s (event.Execute cpu (instruction.Tsch word address)) r new step in
+    subst (λ (x : State). Tested s word r x.subs) (sym is.settles) (turn-tested s cpu word address r is.left is.turn)
 
 if-same : (b x y : Bool) → y ≡ x → (if b then y else x) ≡ x
 if-same true x y e = e
@@ -297,16 +297,13 @@ step-owned over s (event.Execute cpu (instruction.Ssch word address)) r new plac
     (started-owned over s cpu word address place r new.subs (starting_step.step-started s cpu word address r new step) owned)
 step-owned over s (event.Execute cpu (instruction.Tsch word address)) r new place step walk owned =
     as-if (is_path (place_of s word) place) new.subs place (over_tested r over) over (λ b. over_after b (event.Execute cpu (instruction.Tsch word address)) r over) refl refl
-    (tested-owned over s word place r new.subs
-    (settled-answered s (event.Execute cpu (instruction.Tsch word address)) step.0 r new (Tested s word) step.2 (on-tested s cpu word address (subchannel_named s.sets word) step.0 refl step.1)) owned)
+    (tested-owned over s word place r new.subs (step-tested s cpu word address r new step) owned)
 step-owned over s (event.Execute cpu (instruction.Hsch word)) r new place step walk owned =
     as-if (is_path (place_of s word) place) new.subs place (over_by r over) over (λ b. over_after b (event.Execute cpu (instruction.Hsch word)) r over) refl refl
-    (answered-owned over s word place hsch_code halted r new.subs (halt-owned over)
-    (settled-answered s (event.Execute cpu (instruction.Hsch word)) step.0 r new (Answered s word hsch_code halted) step.2 (halt-answered s cpu word (subchannel_named s.sets word) step.0 refl step.1)) owned)
+    (answered-owned over s word place hsch_code halted r new.subs (halt-owned over) (halt-answered s cpu word r new step) owned)
 step-owned over s (event.Execute cpu (instruction.Xsch word)) r new place step walk owned =
     as-if (is_path (place_of s word) place) new.subs place (over_by r over) over (λ b. over_after b (event.Execute cpu (instruction.Xsch word)) r over) refl refl
-    (answered-owned over s word place xsch_code cancelled r new.subs (cancel-owned over)
-    (settled-answered s (event.Execute cpu (instruction.Xsch word)) step.0 r new (Answered s word xsch_code cancelled) step.2 (cancel-answered s cpu word (subchannel_named s.sets word) step.0 refl step.1)) owned)
+    (answered-owned over s word place xsch_code cancelled r new.subs (cancel-owned over) (cancel-answered s cpu word r new step) owned)
 step-owned over s (event.Execute cpu (instruction.Stsch word address)) r new place step walk owned = others over s (event.Execute cpu (instruction.Stsch word address)) r new place walk tt owned
 step-owned over s (event.Execute cpu (instruction.Msch word address)) r new place step walk owned = others over s (event.Execute cpu (instruction.Msch word address)) r new place walk tt owned
 step-owned over s (event.Execute cpu (instruction.Enable word subclass multipath)) r new place step walk owned =
