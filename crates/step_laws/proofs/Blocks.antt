@@ -216,25 +216,15 @@ turn-as : (s : State) (e : Event) (r : Reply) (new : State) → TurnOf s e r new
 turn-as s _ _ _ (turn.Puts address bytes storage e) = (put-of s.storage storage address bytes e, refl, refl, refl)
 turn-as s _ _ _ (turn.SetsKey address key storage e) = (key-of s.storage storage address key e, refl, refl, refl)
 turn-as s _ _ _ (turn.SetsPrefix cpu address storage e) = (cpu_prefix-of s.storage storage cpu address e, refl, refl, refl)
-turn-as s _ _ _ (turn.Shows address count bytes e) = (refl, refl, refl, refl)
 turn-as s _ _ _ (turn.Executes cpu i id q r storage subs n e blocks left done) = (blocks, refl, refl, refl)
 turn-as s _ _ _ (turn.Interrupts cpu mask address) = (code-of s.storage cpu address _, refl, refl, answer-room s.requests (requests.answer s.requests mask))
-turn-as s _ _ _ (turn.AsksReset cpu path) = (refl, refl, refl, refl)
-turn-as s _ _ _ (turn.StoresReport cpu address) = (refl, refl, refl, refl)
-turn-as s _ _ _ (turn.StoresPaths cpu address) = (refl, refl, refl, refl)
-turn-as s _ _ _ (turn.Chosen word place sub choice t named there is ok) = (refl, refl, refl, refl)
 turn-as s _ _ _ (turn.Meets word path place sub t named there ok) =
     let n : ℕ = length s.storage.keys in
     (subst (UpOf n) ok (up-of n (returns_at s.subs sub path) s.storage sub path refl), refl, refl, refl)
 turn-as s _ _ _ (turn.Takes word path place sub u t named there found ok) =
     (refl, refl, after-groups s.members sub.setup.«unit» (asks_at sub path u) u t.«unit», refl)
-turn-as s _ _ _ (turn.Reports at place sub u report t found first there ok) = (refl, refl, refl, refl)
-turn-as s _ _ _ (turn.Acts at place sub u what side t found is first there ok) = (refl, refl, refl, refl)
 turn-as s _ _ _ (turn.Restarts at u found) = (refl, refl, over-groups s.members at (is_let_go u (restarted u)), refl)
-turn-as s _ _ _ (turn.GoesDown chpid) = (refl, refl, refl, refl)
-turn-as s _ _ _ (turn.ComesUp chpid) = (refl, refl, refl, refl)
-turn-as s _ _ _ (turn.IsReset chpid asked) = (refl, refl, refl, refl)
-turn-as s _ _ _ turn.ResetsAll = (refl, refl, refl, refl)
+turn-as s _ _ _ t = (refl, refl, refl, refl)
 
 -- requests that are posted or dropped leave room as it was
 posted-room : (old new : Subchannel) (waiting : WaitingRequests) → (posted_for old new waiting).numbers ≡ waiting.numbers
@@ -253,22 +243,8 @@ after-room waiting None i r = refl
 after-room waiting (Some sub) i r = either (λ (w : WaitingRequests). w.numbers ≡ waiting.numbers) (drops i (reply_code r)) _ waiting refl refl
 
 dropped-room : (s : State) (e : Event) (r : Reply) (waiting : WaitingRequests) → (requests_dropped s e r waiting).numbers ≡ waiting.numbers
-dropped-room s (event.Put address bytes) r waiting = refl
-dropped-room s (event.SetKey address key) r waiting = refl
-dropped-room s (event.SetPrefix cpu address) r waiting = refl
-dropped-room s (event.Show address count) r waiting = refl
 dropped-room s (event.Execute cpu i) r waiting = after-room waiting (sub_of s (subchannel_word i)) i r
-dropped-room s (event.ExecuteOther cpu i) r waiting = refl
-dropped-room s (event.Choose word) r waiting = refl
-dropped-room s (event.Up word path) r waiting = refl
-dropped-room s (event.Down word path) r waiting = refl
-dropped-room s (event.Report at report) r waiting = refl
-dropped-room s (event.Act at what) r waiting = refl
-dropped-room s (event.Restart at) r waiting = refl
-dropped-room s (event.PathDown chpid) r waiting = refl
-dropped-room s (event.PathUp chpid) r waiting = refl
-dropped-room s (event.PathReset chpid) r waiting = refl
-dropped-room s event.SystemReset r waiting = refl
+dropped-room s e r waiting = refl
 
 step-as : (s : State) (e : Event) (r : Reply) (new : State) → Step s e r new → IsAs s new
 step-as s e r new step =

@@ -150,12 +150,8 @@ module _ (s : State) where
       OkDone cpu (instruction.Tsch word address) (Some f) (test_sub s cpu address f c)
   test-done cpu word address f code.Zero e =
       record { own = refl; blocks = refl; storage = test-stored cpu word address f code.Zero e; done = test-left word address f code.Zero _ e refl }
-  test-done cpu word address f code.One e =
-      record { own = refl; blocks = refl; storage = test-stored cpu word address f code.One e; done = test-left word address f code.One _ e refl }
-  test-done cpu word address f code.Two e =
-      record { own = refl; blocks = refl; storage = test-stored cpu word address f code.Two e; done = test-left word address f code.Two _ e refl }
-  test-done cpu word address f code.Three e =
-      record { own = refl; blocks = refl; storage = test-stored cpu word address f code.Three e; done = test-left word address f code.Three _ e refl }
+  test-done cpu word address f c e =
+      record { own = refl; blocks = refl; storage = test-stored cpu word address f c e; done = test-left word address f c _ e refl }
 
   tests-done : (cpu word address : ℕ) (q : Option Found) (r : Result (Unit {0}) StorageFault) → OkDone cpu (instruction.Tsch word address) q (tests s cpu address q r)
   tests-done cpu word address q (Err x) = tt

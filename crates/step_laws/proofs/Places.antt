@@ -33,11 +33,9 @@ get-set (z ∷ xs) zero x y e = refl
 get-set (z ∷ xs) (suc k) x y e = get-set xs k x y e
 
 pub get-other : {A : Type 0} (xs : List A) (k : ℕ) (y : A) (i : ℕ) → i ≢ k → slice_get (slice_set xs k y) i ≡ slice_get xs i
-get-other [] k y i n = refl
 get-other (z ∷ xs) zero y zero n = absurd (n refl)
-get-other (z ∷ xs) zero y (suc i) n = refl
-get-other (z ∷ xs) (suc k) y zero n = refl
 get-other (z ∷ xs) (suc k) y (suc i) n = get-other xs k y i (λ h. n (ap suc h))
+get-other other k y i n = refl
 
 -- an element of a list that was mapped
 some-mapped : {A B : Type 0} (f : A → B) (o : Option A) (y : B) → option_map f o ≡ Some y → (x : A) × (o ≡ Some x) × (f x ≡ y)

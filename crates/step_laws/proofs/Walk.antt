@@ -39,14 +39,7 @@ use Rattle.step_laws.proofs.Executed.{IsDone, IsLeft, absent_reply, code_for, re
 module _ (s : State) where
   absent-quiet : (cpu : ℕ) (i : Instruction) (r : Reply) → r ≡ absent_reply i → IsQuiet (event.Execute cpu i) r
   absent-quiet cpu (instruction.Ssch word address) r e = ap is_start e
-  absent-quiet cpu (instruction.Tsch word address) r e = tt
-  absent-quiet cpu (instruction.Stsch word address) r e = tt
-  absent-quiet cpu (instruction.Msch word address) r e = tt
-  absent-quiet cpu (instruction.Enable word subclass multipath) r e = tt
-  absent-quiet cpu (instruction.Rsch word) r e = tt
-  absent-quiet cpu (instruction.Hsch word) r e = tt
-  absent-quiet cpu (instruction.Csch word) r e = tt
-  absent-quiet cpu (instruction.Xsch word) r e = tt
+  absent-quiet cpu i r e = tt
 
   -- the effect is this one
   one-left : (i : Instruction) (r : Reply) (new : State) (f : Found) (x : SubchannelState) (k : IsLeft s i r new f) → k.effect ≡ x →
@@ -110,15 +103,7 @@ module _ (s : State) where
 
   -- whatever requests are left of it
   turn-walks : (e : Event) (r : Reply) (new : State) (waiting : WaitingRequests) → TurnOf s e r new → Walked s e r (record new { requests = waiting })
-  turn-walks _ _ _ waiting (turn.Puts address bytes storage e) = walked.Stays _ _ _ tt refl refl refl refl
-  turn-walks _ _ _ waiting (turn.SetsKey address key storage e) = walked.Stays _ _ _ tt refl refl refl refl
-  turn-walks _ _ _ waiting (turn.SetsPrefix cpu address storage e) = walked.Stays _ _ _ tt refl refl refl refl
-  turn-walks _ _ _ waiting (turn.Shows address count bytes e) = walked.Stays _ _ _ tt refl refl refl refl
   turn-walks _ _ _ waiting (turn.Executes cpu i id q r storage subs n e blocks left done) = executed-walks cpu i id q r _ waiting n e refl refl refl done
-  turn-walks _ _ _ waiting (turn.Interrupts cpu mask address) = walked.Stays _ _ _ tt refl refl refl refl
-  turn-walks _ _ _ waiting (turn.AsksReset cpu path) = walked.Stays _ _ _ tt refl refl refl refl
-  turn-walks _ _ _ waiting (turn.StoresReport cpu address) = walked.Stays _ _ _ tt refl refl refl refl
-  turn-walks _ _ _ waiting (turn.StoresPaths cpu address) = walked.Stays _ _ _ tt refl refl refl refl
   turn-walks _ _ _ waiting (turn.Chosen word place sub choice t named there is ok) =
       walked.Chosen word place sub choice t _ named is (chosen-suits sub choice) ok (record { there = there; sets = refl; up = refl; subs = refl; units = refl })
   turn-walks _ _ _ waiting (turn.Meets word path place sub t named there ok) =
@@ -138,6 +123,7 @@ module _ (s : State) where
   turn-walks _ _ _ waiting (turn.ComesUp chpid) = walked.Swept _ _ (sweep.ComesUp chpid) _ tt refl refl refl (record { event = refl; up = refl })
   turn-walks _ _ _ waiting (turn.IsReset chpid asked) = walked.Swept _ _ (sweep.PathReset chpid) _ tt refl refl refl (record { event = refl; up = refl })
   turn-walks _ _ _ waiting turn.ResetsAll = walked.Swept _ _ sweep.SystemReset _ tt refl refl refl (record { event = refl; up = refl })
+  turn-walks _ _ _ waiting t = walked.Stays _ _ _ tt refl refl refl refl
 
   pub step-walks : (e : Event) (r : Reply) (new : State) → Step s e r new → Walked s e r new
   step-walks e r new step =
