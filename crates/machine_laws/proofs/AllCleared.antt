@@ -70,24 +70,18 @@ module _ (s : State) where
   test-zero : (cpu word address : ℕ) (c : ConditionCode) (before after : SubchannelState) (place : ℕ) (sub : Subchannel) →
       IsClearing s (event.Execute cpu (instruction.Tsch word address)) (reply_of (instruction.Tsch word address) c before after) place sub → IsZeroAt c word place
   test-zero cpu word address code.Zero before after place sub k = (refl, k)
-  test-zero cpu word address code.One before after place sub k = absurd k
-  test-zero cpu word address code.Two before after place sub k = absurd k
-  test-zero cpu word address code.Three before after place sub k = absurd k
+  test-zero cpu word address c before after place sub k = absurd k
 
   clear-zero : (cpu word : ℕ) (c : ConditionCode) (before after : SubchannelState) (place : ℕ) (sub : Subchannel) →
       IsClearing s (event.Execute cpu (instruction.Csch word)) (reply_of (instruction.Csch word) c before after) place sub → IsZeroAt c word place
   clear-zero cpu word code.Zero before after place sub k = (refl, k)
-  clear-zero cpu word code.One before after place sub k = absurd k
-  clear-zero cpu word code.Two before after place sub k = absurd k
-  clear-zero cpu word code.Three before after place sub k = absurd k
+  clear-zero cpu word c before after place sub k = absurd k
 
   halt-zero : (cpu word : ℕ) (c : ConditionCode) (before after : SubchannelState) (place : ℕ) (sub : Subchannel) →
       IsClearing s (event.Execute cpu (instruction.Hsch word)) (reply_of (instruction.Hsch word) c before after) place sub →
       IsZeroAt c word place × (drops_status sub.state.scsw ≡ true)
   halt-zero cpu word code.Zero before after place sub k = ((refl, k.0), k.1)
-  halt-zero cpu word code.One before after place sub k = absurd k
-  halt-zero cpu word code.Two before after place sub k = absurd k
-  halt-zero cpu word code.Three before after place sub k = absurd k
+  halt-zero cpu word c before after place sub k = absurd k
 
   -- so its effect is left
   effect-cleared : (i : Instruction) (sub : Subchannel) (effect x : SubchannelState) → code_for i sub ≡ code.Zero → effect ≡ x → x.serials.cleared ≡ sub.state.serials.made →
@@ -115,24 +109,12 @@ module _ (s : State) where
       one-cleared (place_of s word) f _ new place sub after at was k.subs
       (λ same. effect-cleared i f.sub k.effect _ zero.0.0 k.is
       (dropped-cleared f.sub.state (drops_status f.sub.state.scsw) (ap (λ (x : Subchannel). drops_status x.state.scsw) same ∙ zero.1))) there left zero.0.1
-  left-cleared cpu (instruction.Ssch word address) f r new at was k place sub after there left is = absurd is
-  left-cleared cpu (instruction.Stsch word address) f r new at was k place sub after there left is = absurd is
-  left-cleared cpu (instruction.Msch word address) f r new at was k place sub after there left is = absurd is
-  left-cleared cpu (instruction.Enable word subclass multipath) f r new at was k place sub after there left is = absurd is
-  left-cleared cpu (instruction.Rsch word) f r new at was k place sub after there left is = absurd is
-  left-cleared cpu (instruction.Xsch word) f r new at was k place sub after there left is = absurd is
+  left-cleared cpu i f r new at was k place sub after there left is = absurd is
 
   -- an instruction that found nothing answers code 3
   absent-cleared : (cpu : ℕ) (i : Instruction) (place : ℕ) (sub : Subchannel) → IsClearing s (event.Execute cpu i) (absent_reply i) place sub → ⊥
   absent-cleared cpu (instruction.Ssch word address) place sub k = k
-  absent-cleared cpu (instruction.Tsch word address) place sub k = k
-  absent-cleared cpu (instruction.Stsch word address) place sub k = k
-  absent-cleared cpu (instruction.Msch word address) place sub k = k
-  absent-cleared cpu (instruction.Enable word subclass multipath) place sub k = k
-  absent-cleared cpu (instruction.Rsch word) place sub k = k
-  absent-cleared cpu (instruction.Hsch word) place sub k = k
-  absent-cleared cpu (instruction.Csch word) place sub k = k
-  absent-cleared cpu (instruction.Xsch word) place sub k = k
+  absent-cleared cpu i place sub k = k
 
   executed-cleared : (cpu : ℕ) (i : Instruction) (id : SubchannelId) (q : Option Found) (r : Reply) (new : State) → subchannel_named s.sets (subchannel_word i) ≡ Some id →
       found_at s.subs (place_in id s.subs) ≡ q → IsDone s i q r new → IsAllCleared (event.Execute cpu i) r new
@@ -150,25 +132,14 @@ module _ (s : State) where
       ∙ ap (λ (x : Subchannel). x.state.serials.made) (same_Some got.0 sub (sym got.1 ∙ there))
 
   turn-cleared : (e : Event) (r : Reply) (new : State) → TurnOf s e r new → IsAllCleared e r new
-  turn-cleared _ _ _ (turn.Puts address bytes storage e) = λ place sub after there left k. absurd k
-  turn-cleared _ _ _ (turn.SetsKey address key storage e) = λ place sub after there left k. absurd k
-  turn-cleared _ _ _ (turn.SetsPrefix cpu address storage e) = λ place sub after there left k. absurd k
-  turn-cleared _ _ _ (turn.Shows address count bytes e) = λ place sub after there left k. absurd k
   turn-cleared _ _ _ (turn.Executes cpu i id q r storage subs n e blocks left done) = executed-cleared cpu i id q r _ n e done
-  turn-cleared _ _ _ (turn.Interrupts cpu mask address) = λ place sub after there left k. absurd k
-  turn-cleared _ _ _ (turn.AsksReset cpu path) = λ place sub after there left k. absurd k
-  turn-cleared _ _ _ (turn.StoresReport cpu address) = λ place sub after there left k. absurd k
-  turn-cleared _ _ _ (turn.StoresPaths cpu address) = λ place sub after there left k. absurd k
   turn-cleared _ _ _ (turn.Chosen word place sub choice t named there is ok) = λ place sub after there left k. absurd k
   turn-cleared _ _ _ (turn.Meets word path place sub t named there ok) = λ place sub after there left k. absurd k
   turn-cleared _ _ _ (turn.Takes word path place sub u t named there found ok) = λ place sub after there left k. absurd k
   turn-cleared _ _ _ (turn.Reports at place sub u report t found first there ok) = λ place sub after there left k. absurd k
   turn-cleared _ _ _ (turn.Acts at place sub u what side t found is first there ok) = λ place sub after there left k. absurd k
-  turn-cleared _ _ _ (turn.Restarts at u found) = λ place sub after there left k. absurd k
-  turn-cleared _ _ _ (turn.GoesDown chpid) = λ place sub after there left k. absurd k
-  turn-cleared _ _ _ (turn.ComesUp chpid) = λ place sub after there left k. absurd k
-  turn-cleared _ _ _ (turn.IsReset chpid asked) = λ place sub after there left k. absurd k
   turn-cleared _ _ _ turn.ResetsAll = system-cleared
+  turn-cleared _ _ _ t = λ place sub after there left k. absurd k
 
   pub clears-by-cause : (e : Event) (r : Reply) (new : State) → Walked s e r new → Step s e r new → ClearsByCause s e r new
   clears-by-cause e r new w step place sub after there left =

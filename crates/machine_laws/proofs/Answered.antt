@@ -69,16 +69,10 @@ if-answer false a scsw = refl
 
 reply-answers : (i : Instruction) (sub : Subchannel) (x : SubchannelState) → IsEffect i sub x →
     answer_in (reply_of i (code_for i sub) sub.state (state_left i sub x)) ≡ Some (answer_of_code (code_for i sub) (state_left i sub x).serials)
-reply-answers (instruction.Ssch word address) sub x is = refl
 reply-answers (instruction.Tsch word address) sub x is = if-answer (stores_irb (code_for (instruction.Tsch word address) sub)) _ sub.state.scsw
 reply-answers (instruction.Stsch word address) sub x is =
     ap (λ (y : SubchannelState). Some (answer_of_code (code_for (instruction.Stsch word address) sub) y.serials)) (sym is)
-reply-answers (instruction.Msch word address) sub x is = refl
-reply-answers (instruction.Enable word subclass multipath) sub x is = refl
-reply-answers (instruction.Rsch word) sub x is = refl
-reply-answers (instruction.Hsch word) sub x is = refl
-reply-answers (instruction.Csch word) sub x is = refl
-reply-answers (instruction.Xsch word) sub x is = refl
+reply-answers i sub x is = refl
 
 module _ (s : State) where
   -- by what is named before and after
@@ -109,25 +103,11 @@ module _ (s : State) where
       (subst (λ (x : Option SubchannelId). IsAnsweredAs i (Some id) r x new) (sym after) (found-answers i id q r new e k))
 
   turn-answers : (e : Event) (r : Reply) (new : State) (waiting : WaitingRequests) → TurnOf s e r new → IsByTable s e r (record new { requests = waiting })
-  turn-answers _ _ _ waiting (turn.Puts address bytes storage e) = tt
-  turn-answers _ _ _ waiting (turn.SetsKey address key storage e) = tt
-  turn-answers _ _ _ waiting (turn.SetsPrefix cpu address storage e) = tt
-  turn-answers _ _ _ waiting (turn.Shows address count bytes e) = tt
   turn-answers _ _ _ waiting (turn.Executes cpu i id q r storage subs n e blocks left done) = executes-answer cpu i id q r _ n e refl done
   turn-answers _ _ _ waiting (turn.Interrupts cpu mask address) = refl
   turn-answers _ _ _ waiting (turn.AsksReset cpu path) = refl
   turn-answers _ _ _ waiting (turn.StoresReport cpu address) = refl
-  turn-answers _ _ _ waiting (turn.StoresPaths cpu address) = tt
-  turn-answers _ _ _ waiting (turn.Chosen word place sub choice t named there is ok) = tt
-  turn-answers _ _ _ waiting (turn.Meets word path place sub t named there ok) = tt
-  turn-answers _ _ _ waiting (turn.Takes word path place sub u t named there found ok) = tt
-  turn-answers _ _ _ waiting (turn.Reports at place sub u report t found first there ok) = tt
-  turn-answers _ _ _ waiting (turn.Acts at place sub u what side t found is first there ok) = tt
-  turn-answers _ _ _ waiting (turn.Restarts at u found) = tt
-  turn-answers _ _ _ waiting (turn.GoesDown chpid) = tt
-  turn-answers _ _ _ waiting (turn.ComesUp chpid) = tt
-  turn-answers _ _ _ waiting (turn.IsReset chpid asked) = tt
-  turn-answers _ _ _ waiting turn.ResetsAll = tt
+  turn-answers _ _ _ waiting t = tt
 
   pub step-answers : (e : Event) (r : Reply) (new : State) → Step s e r new → IsByTable s e r new
   step-answers e r new step =

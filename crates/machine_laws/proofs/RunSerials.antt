@@ -200,9 +200,7 @@ test-shows n id s word address f r new sound stays at there k = by (code_for i f
             reached = omega (arith, all.1);
           },
         )
-    by code.One is = inl (ap serial_shown (replies code.One is))
-    by code.Two is = inl (ap serial_shown (replies code.Two is))
-    by code.Three is = inl (ap serial_shown (replies code.Three is))
+    by c is = inl (ap serial_shown (replies c is))
 
 pub same-id : (a b : SubchannelId) → is_same_id a b ≡ true → a ≡ b
 same-id a b e =
@@ -229,40 +227,16 @@ named-shows n id named s word address q r new true a stays e k same =
 executes-shows : (n : ℕ) (id named : SubchannelId) (s : State) (i : Instruction) (q : Option Found) (r : Reply) (new : State) → All (SoundSub n) s.subs →
     place_in id new.subs ≡ place_in id s.subs → subchannel_named s.sets (subchannel_word i) ≡ Some named → found_at s.subs (place_in named s.subs) ≡ q → IsDone s i q r new →
     Shows id s new (serial_by s.sets id i r)
-executes-shows n id named s (instruction.Ssch word address) q r new a stays at e k = inl refl
 executes-shows n id named s (instruction.Tsch word address) q r new a stays at e k =
     subst (λ (x : Option SubchannelId). Shows id s new (if is_id x id then serial_shown r else [])) (sym at)
     (named-shows n id named s word address q r new (is_same_id named id) a stays e k refl)
-executes-shows n id named s (instruction.Stsch word address) q r new a stays at e k = inl refl
-executes-shows n id named s (instruction.Msch word address) q r new a stays at e k = inl refl
-executes-shows n id named s (instruction.Enable word subclass multipath) q r new a stays at e k = inl refl
-executes-shows n id named s (instruction.Rsch word) q r new a stays at e k = inl refl
-executes-shows n id named s (instruction.Hsch word) q r new a stays at e k = inl refl
-executes-shows n id named s (instruction.Csch word) q r new a stays at e k = inl refl
-executes-shows n id named s (instruction.Xsch word) q r new a stays at e k = inl refl
+executes-shows n id named s i q r new a stays at e k = inl refl
 
 turn-shows : (n : ℕ) (id : SubchannelId) (s : State) (e : Event) (r : Reply) (new : State) (waiting : WaitingRequests) → All (SoundSub n) s.subs →
     place_in id new.subs ≡ place_in id s.subs → TurnOf s e r new → Shows id s (record new { requests = waiting }) (serial_of s.sets id e r)
-turn-shows n id s _ _ _ waiting a stays (turn.Puts address bytes storage e) = inl refl
-turn-shows n id s _ _ _ waiting a stays (turn.SetsKey address key storage e) = inl refl
-turn-shows n id s _ _ _ waiting a stays (turn.SetsPrefix cpu address storage e) = inl refl
-turn-shows n id s _ _ _ waiting a stays (turn.Shows address count bytes e) = inl refl
 turn-shows n id s _ _ _ waiting a stays (turn.Executes cpu i named q r storage subs at e blocks left done) =
     executes-shows n id named s i q r (record s { storage = storage; subs = subs; requests = waiting }) a stays at e (done-settled s i q r _ waiting done)
-turn-shows n id s _ _ _ waiting a stays (turn.Interrupts cpu mask address) = inl refl
-turn-shows n id s _ _ _ waiting a stays (turn.AsksReset cpu path) = inl refl
-turn-shows n id s _ _ _ waiting a stays (turn.StoresReport cpu address) = inl refl
-turn-shows n id s _ _ _ waiting a stays (turn.StoresPaths cpu address) = inl refl
-turn-shows n id s _ _ _ waiting a stays (turn.Chosen word place sub choice t named there is ok) = inl refl
-turn-shows n id s _ _ _ waiting a stays (turn.Meets word path place sub t named there ok) = inl refl
-turn-shows n id s _ _ _ waiting a stays (turn.Takes word path place sub u t named there found ok) = inl refl
-turn-shows n id s _ _ _ waiting a stays (turn.Reports at place sub u report t found first there ok) = inl refl
-turn-shows n id s _ _ _ waiting a stays (turn.Acts at place sub u what side t found is first there ok) = inl refl
-turn-shows n id s _ _ _ waiting a stays (turn.Restarts at u found) = inl refl
-turn-shows n id s _ _ _ waiting a stays (turn.GoesDown chpid) = inl refl
-turn-shows n id s _ _ _ waiting a stays (turn.ComesUp chpid) = inl refl
-turn-shows n id s _ _ _ waiting a stays (turn.IsReset chpid asked) = inl refl
-turn-shows n id s _ _ _ waiting a stays turn.ResetsAll = inl refl
+turn-shows n id s _ _ _ waiting a stays t = inl refl
 
 step-shows : (n : ℕ) (id : SubchannelId) (s : State) (e : Event) (r : Reply) (new : State) →
     All (SoundSub n) s.subs → place_in id new.subs ≡ place_in id s.subs → Step s e r new → Shows id s new (serial_of s.sets id e r)

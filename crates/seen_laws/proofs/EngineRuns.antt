@@ -64,13 +64,9 @@ use Rattle.step_laws.proofs.Turns.{TurnOf, HasTurn, step-turn}
 
 -- the path whose engine serves it
 engaged-at : (phase : HoldPhase) (sent : Option ℕ) → engaged_by (link_at phase sent) ≡ engaged_path phase
-engaged-at hold.Free sent = refl
-engaged-at (hold.Offer t p) sent = refl
-engaged-at (hold.On t p c) sent = refl
-engaged-at (hold.Away t) sent = refl
-engaged-at (hold.Letting t p) sent = refl
 engaged-at (hold.Reset r) None = refl
 engaged-at (hold.Reset r) (Some p) = refl
+engaged-at other sent = refl
 
 engaged-is : (k : SubSeen) (phase : HoldPhase) (sent : Option ℕ) → Stands k phase sent → engaged_by k.link ≡ engaged_path phase
 engaged-is k phase sent (inl e) = ap engaged_by e ∙ engaged-at phase sent
@@ -159,18 +155,15 @@ if-ok P false x y e f = f
 
 offer-idle : (k : Seen) (s : State) (j : SubSeen) (sub : Subchannel) (choice : Option ℕ) (c : Chosen) → IsChoice (paths_to_choose s.subs sub) choice → IsFitFor c sub.state.hold → IsOffer choice c →
     AreSeen k s → IsTied k.up j sub → IfOk (choose_sub (marked_sub sub choice) c) (λ t. IsOfferRight k t.reply j)
-offer-idle k s j sub choice Idle x fits o tied tie = tt
 offer-idle k s j sub choice (Resets r path) x fits o tied tie =
     if-ok (λ (t : SubTurn). IsOfferRight k t.reply j) (finds_full sub.wires.down (carried_by sub (Some (record { path = path; signal = down.Reset r sub.state.hold.known })))) _ _ tt tt
-offer-idle k s j sub choice PerformsClear x fits o tied tie = tt
 offer-idle k s j sub choice (Halts t path) x fits o tied tie =
     if-ok (λ (t : SubTurn). IsOfferRight k t.reply j) (finds_full sub.wires.down (carried_by sub (Some (record { path = path; signal = down.Halt t })))) _ _ tt tt
-offer-idle k s j sub choice PerformsHalt x fits o tied tie = tt
-offer-idle k s j sub choice FindsNoPath x fits o tied tie = tt
 offer-idle k s j sub choice (Offers c path) x fits o tied tie =
     let parts = without-parts (reachable_paths (path_use sub)) (engaged_paths s.subs sub) path (offer-usable s.subs sub choice path x fits o) in
     if-ok (λ (t : SubTurn). IsOfferRight k t.reply j) (finds_full sub.wires.down (carried_by sub (Some (record { path = path; signal = down.Select (sub.state.drawn + 1) })))) _ _ tt
     (idle-is k s j sub path tied tie (usable-free s.subs sub path parts.0 parts.1))
+offer-idle k s j sub choice other x fits o tied tie = tt
 
 -- a Back is granted by the path of its Accept
 not-member : (f : ℕ → Bool) (p : ℕ) → f p ≡ false → not (is_member (each_path f) p) ≡ true
@@ -205,18 +198,15 @@ not-granted p t c taken = absurd (cc taken)
 
 back-granted : (h : HoldState) (phase : HoldPhase) (reset : Option ℕ) (j : SubSeen) (p u c : ℕ) (may : Bool) → Stands j phase reset → j.link ≡ Apart u → may ≡ true →
     IsGrant p u c (came_of (asked_back (record h { phase = phase }) phase p u c may)).taken (came_of (asked_back (record h { phase = phase }) phase p u c may)).sent
-back-granted h hold.Free reset j p u c may (inl e) apart m = absurd (cc (sym e ∙ apart))
-back-granted h (hold.Offer t q) reset j p u c may (inl e) apart m = absurd (cc (sym e ∙ apart))
-back-granted h (hold.On t q d) reset j p u c may (inl e) apart m = absurd (cc (sym e ∙ apart))
 back-granted h (hold.Away t) reset j p u c may (inl e) apart m =
     let same : u ≡ t = cc (sym apart ∙ e) in grant-if (record h { phase = hold.Away t }) p u t c may ((u == t) && nat_lt h.seen c) refl same m
-back-granted h (hold.Letting t q) reset j p u c may (inl e) apart m = absurd (cc (sym e ∙ apart))
 back-granted h (hold.Reset r) reset j p u c may s apart m = not-granted p u c
 back-granted h hold.Free reset j p u c may (inr d) apart m = not-granted p u c
 back-granted h (hold.Offer t q) reset j p u c may (inr d) apart m = not-granted p u c
 back-granted h (hold.On t q e) reset j p u c may (inr d) apart m = absurd (cc d.is_reset)
 back-granted h (hold.Away t) reset j p u c may (inr d) apart m = absurd (cc d.is_reset)
 back-granted h (hold.Letting t q) reset j p u c may (inr d) apart m = not-granted p u c
+back-granted h other reset j p u c may (inl e) apart m = absurd (cc (sym e ∙ apart))
 
 grant-due : (k : Seen) (j : SubSeen) (p u c : ℕ) (taken : Bool) (sent : Option (OnPath Down)) → (j.link ≡ Apart u → j.first ≡ Some p → IsUp k.up j p → IsIdle k j p → IsGrant p u c taken sent) →
     IsGrantDue k p (reply.Up (up.Back u c) taken sent) j
@@ -254,26 +244,12 @@ up-due k s returns storage j sub p may tied tie =
     (front-due k s returns storage j sub p (slice_get (queue sub.wires.up p) 0) refl may tied tie) tt
 
 quiet-idle : (sets : ℕ) (k : Seen) (e : Event) (r : Reply) → IsQuiet e r → GoesByIdle sets k e r
-quiet-idle sets k (event.Put address bytes) r q = tt
-quiet-idle sets k (event.SetKey address key) r q = tt
-quiet-idle sets k (event.SetPrefix cpu address) r q = tt
-quiet-idle sets k (event.Show address count) r q = tt
-quiet-idle sets k (event.Execute cpu i) r q = tt
-quiet-idle sets k (event.ExecuteOther cpu i) r q = tt
 quiet-idle sets k (event.Choose word) r q = absurd q
 quiet-idle sets k (event.Up word path) r q = absurd q
-quiet-idle sets k (event.Down word path) r q = tt
-quiet-idle sets k (event.Report at report) r q = tt
-quiet-idle sets k (event.Act at what) r q = tt
-quiet-idle sets k (event.Restart at) r q = tt
-quiet-idle sets k (event.PathDown chpid) r q = tt
-quiet-idle sets k (event.PathUp chpid) r q = tt
-quiet-idle sets k (event.PathReset chpid) r q = tt
-quiet-idle sets k event.SystemReset r q = tt
+quiet-idle sets k e r q = tt
 
 walked-idle : (s : State) (e : Event) (r : Reply) (new : State) (k : Seen) → Walked s e r new → AreSeen k s → GoesByIdle s.sets k e r
 walked-idle s _ _ _ k (walked.Stays e r new q sets subs units up) tied = quiet-idle s.sets k e r q
-walked-idle s _ _ _ k (walked.Started cpu word address place sub orb c new n one) tied = tt
 walked-idle s _ _ _ k (walked.Tested e r place sub c new q one address by answers) tied = quiet-idle s.sets k e r q
 walked-idle s _ _ _ k (walked.Modified e r place sub given c new q one) tied = quiet-idle s.sets k e r q
 walked-idle s _ _ _ k (walked.Performed e r place sub f c new q one by answers) tied = quiet-idle s.sets k e r q
@@ -290,11 +266,8 @@ walked-idle s _ _ _ k (walked.Met word path returns place sub t new n ok one may
           subst (λ (p : ℕ). IsIdle k j p) (sym g.1) (idle-is k s j sub path tied tie (return-parts s.subs sub path (returns-right s.subs sub path returns may g.0)).0),
       subst (λ (r : Result UpTurn Fault). IfOk r (λ t. IsGrantDue k path t.reply j)) ok (up-due k s returns s.storage j sub path may tied tie),
     )) tied
-walked-idle s _ _ _ k (walked.Sunk word path may owed place sub u t new n ok one) tied = tt
-walked-idle s _ _ _ k (walked.Reported at place sub u report t new n reached ok one) tied = tt
-walked-idle s _ _ _ k (walked.Acted at place sub u what t new side its ok one) tied = tt
-walked-idle s _ _ _ k (walked.Restarted at owed u r new found sets subs units up) tied = tt
 walked-idle s _ _ _ k (walked.Swept e r what new q sets subs units by) tied = quiet-idle s.sets k e r q
+walked-idle s _ _ _ k w tied = tt
 
 -- STORE CHANNEL PATH STATUS
 map-same : (f g : ℕ → ℕ) (xs : List ℕ) → ((i x : ℕ) → slice_get xs i ≡ Some x → f x ≡ g x) → map f xs ≡ map g xs
@@ -334,25 +307,8 @@ unfolding engaged_bytes engaged_chpids status_bytes
 status-is k s tied = map-same (engaged_byte (mapped_chpids s.subs)) (status_byte (serves k)) (range_with_len 0 32) (λ i x e. byte-same k s x (range-at 32 i x e) tied)
 
 turn-shown : (s : State) (e : Event) (r : Reply) (new : State) (k : Seen) → TurnOf s e r new → AreSeen k s → ShowsServed k e r
-turn-shown s _ _ _ k (turn.Puts address bytes storage e) tied = tt
-turn-shown s _ _ _ k (turn.SetsKey address key storage e) tied = tt
-turn-shown s _ _ _ k (turn.SetsPrefix cpu address storage e) tied = tt
-turn-shown s _ _ _ k (turn.Shows address count bytes e) tied = tt
-turn-shown s _ _ _ k (turn.Executes cpu i id q r storage subs n e blocks left done) tied = tt
-turn-shown s _ _ _ k (turn.Interrupts cpu mask address) tied = tt
-turn-shown s _ _ _ k (turn.AsksReset cpu path) tied = tt
-turn-shown s _ _ _ k (turn.StoresReport cpu address) tied = tt
 turn-shown s _ _ _ k (turn.StoresPaths cpu address) tied = ap (λ (bytes : List ℕ). reply.Paths bytes) (status-is k s tied)
-turn-shown s _ _ _ k (turn.Chosen word place sub choice t named there is ok) tied = tt
-turn-shown s _ _ _ k (turn.Meets word path place sub t named there ok) tied = tt
-turn-shown s _ _ _ k (turn.Takes word path place sub u t named there found ok) tied = tt
-turn-shown s _ _ _ k (turn.Reports at place sub u report t found first there ok) tied = tt
-turn-shown s _ _ _ k (turn.Acts at place sub u what side t found is first there ok) tied = tt
-turn-shown s _ _ _ k (turn.Restarts at u found) tied = tt
-turn-shown s _ _ _ k (turn.GoesDown chpid) tied = tt
-turn-shown s _ _ _ k (turn.ComesUp chpid) tied = tt
-turn-shown s _ _ _ k (turn.IsReset chpid asked) tied = tt
-turn-shown s _ _ _ k turn.ResetsAll tied = tt
+turn-shown s _ _ _ k t tied = tt
 
 shown : (s : State) (e : Event) (r : Reply) (new : State) (k : Seen) → Step s e r new → AreSeen k s → ShowsServed k e r
 shown s e r new k step tied = let is : HasTurn s e r new = step-turn s e r new step in turn-shown s e r is.left k is.turn tied

@@ -214,17 +214,6 @@ act-right s at what r new seen acting units begun =
 
 turn-right : (s : State) (e : Event) (r : Reply) (new : State) (waiting : WaitingRequests) (seen : Seen) → TurnOf s e r new → AreAbove s → AreMembers s → AreSeen s.units seen → AreBegun s.members seen →
     IsRight s e r (record new { requests = waiting }) seen
-turn-right s _ _ _ waiting seen (turn.Puts address bytes storage e) above members units begun = record { right = tt; units = units; begun = begun }
-turn-right s _ _ _ waiting seen (turn.SetsKey address key storage e) above members units begun = record { right = tt; units = units; begun = begun }
-turn-right s _ _ _ waiting seen (turn.SetsPrefix cpu address storage e) above members units begun = record { right = tt; units = units; begun = begun }
-turn-right s _ _ _ waiting seen (turn.Shows address count bytes e) above members units begun = record { right = tt; units = units; begun = begun }
-turn-right s _ _ _ waiting seen (turn.Executes cpu i id q r storage subs n e blocks left done) above members units begun = record { right = tt; units = units; begun = begun }
-turn-right s _ _ _ waiting seen (turn.Interrupts cpu mask address) above members units begun = record { right = tt; units = units; begun = begun }
-turn-right s _ _ _ waiting seen (turn.AsksReset cpu path) above members units begun = record { right = tt; units = units; begun = begun }
-turn-right s _ _ _ waiting seen (turn.StoresReport cpu address) above members units begun = record { right = tt; units = units; begun = begun }
-turn-right s _ _ _ waiting seen (turn.StoresPaths cpu address) above members units begun = record { right = tt; units = units; begun = begun }
-turn-right s _ _ _ waiting seen (turn.Chosen word place sub choice t named there is ok) above members units begun = record { right = tt; units = units; begun = begun }
-turn-right s _ _ _ waiting seen (turn.Meets word path place sub t named there ok) above members units begun = record { right = tt; units = units; begun = begun }
 turn-right s _ _ _ waiting seen (turn.Takes word path place sub u t named there found ok) above members units begun =
     let k : IsSunk s word path t.reply _ = turn-sunk s word path t.reply _ waiting (turn.Takes word path place sub u t named there found ok) in
     sunk-right s word path t.reply _ seen k (sunk-turned s word path t.reply _ k above) members units begun
@@ -234,10 +223,7 @@ turn-right s _ _ _ waiting seen (turn.Acts at place sub u what side t found is f
     act-right s at what t.reply _ seen (turn-acting s at what t.reply _ waiting (turn.Acts at place sub u what side t found is first there ok)) units begun
 turn-right s _ _ _ waiting seen (turn.Restarts at u found) above members units begun =
     restart-right s at reply.Done _ seen (turn-restarted s at reply.Done _ waiting (turn.Restarts at u found)) units begun
-turn-right s _ _ _ waiting seen (turn.GoesDown chpid) above members units begun = record { right = tt; units = units; begun = begun }
-turn-right s _ _ _ waiting seen (turn.ComesUp chpid) above members units begun = record { right = tt; units = units; begun = begun }
-turn-right s _ _ _ waiting seen (turn.IsReset chpid asked) above members units begun = record { right = tt; units = units; begun = begun }
-turn-right s _ _ _ waiting seen turn.ResetsAll above members units begun = record { right = tt; units = units; begun = begun }
+turn-right s _ _ _ waiting seen t above members units begun = record { right = tt; units = units; begun = begun }
 
 step-right : (s : State) (e : Event) (r : Reply) (new : State) (seen : Seen) → Step s e r new → AreAbove s → AreMembers s → AreSeen s.units seen → AreBegun s.members seen → IsRight s e r new seen
 step-right s e r new seen step above members units begun =

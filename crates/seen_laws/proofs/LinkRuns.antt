@@ -70,30 +70,16 @@ record IsPlain (sets : ℕ) (e : Event) (r : Reply) (k : Seen) : Type 0 where
   right : IsEntryRight sets k e r
 
 plain : (sets : ℕ) (e : Event) (r : Reply) (k : Seen) → IsQuiet e r → IsCalm e → IsPlain sets e r k
-plain sets (event.Put address bytes) r k q c = record { same = refl; right = tt }
-plain sets (event.SetKey address key) r k q c = record { same = refl; right = tt }
-plain sets (event.SetPrefix cpu address) r k q c = record { same = refl; right = tt }
-plain sets (event.Show address count) r k q c = record { same = refl; right = tt }
-plain sets (event.Execute cpu (instruction.Ssch word address)) r k q c = record { same = refl; right = tt }
-plain sets (event.Execute cpu (instruction.Tsch word address)) r k q c = record { same = refl; right = tt }
-plain sets (event.Execute cpu (instruction.Stsch word address)) r k q c = record { same = refl; right = tt }
-plain sets (event.Execute cpu (instruction.Msch word address)) r k q c = record { same = refl; right = tt }
-plain sets (event.Execute cpu (instruction.Enable word subclass multipath)) r k q c = record { same = refl; right = tt }
-plain sets (event.Execute cpu (instruction.Rsch word)) r k q c = record { same = refl; right = tt }
-plain sets (event.Execute cpu (instruction.Hsch word)) r k q c = record { same = refl; right = tt }
 plain sets (event.Execute cpu (instruction.Csch word)) r k q c = absurd c
-plain sets (event.Execute cpu (instruction.Xsch word)) r k q c = record { same = refl; right = tt }
-plain sets (event.ExecuteOther cpu i) r k q c = record { same = refl; right = tt }
 plain sets (event.Choose word) r k q c = absurd q
 plain sets (event.Up word path) r k q c = absurd q
 plain sets (event.Down word path) r k q c = absurd q
 plain sets (event.Report at report) r k q c = absurd q
-plain sets (event.Act at what) r k q c = record { same = refl; right = tt }
-plain sets (event.Restart at) r k q c = record { same = refl; right = tt }
 plain sets (event.PathDown chpid) r k q c = absurd c
 plain sets (event.PathUp chpid) r k q c = absurd c
 plain sets (event.PathReset chpid) r k q c = absurd c
 plain sets event.SystemReset r k q c = absurd c
+plain sets e r k q c = record { same = refl; right = tt }
 
 plain-step : (s : State) (e : Event) (r : Reply) (new : State) (k : Seen) → IsPlain s.sets e r k → AreSeen k new → IsSeenStep s e r new k
 plain-step s e r new k p tied = record { right = p.right; tied = subst (λ (y : Seen). AreSeen y new) (sym p.same) tied }
@@ -105,16 +91,12 @@ same-seen : (s new : State) (k : Seen) → new.subs ≡ s.subs → AreSeen k s �
 same-seen s new k subs tied = subst (λ (xs : List Subchannel). AreTied k.up k.subs xs) (sym subs) tied
 
 not-clear : (f : Function) (cpu word : ℕ) → IsCalm (event.Execute cpu (instruction_of f word)) → IsNotClear f
-not-clear Resumes cpu word c = tt
-not-clear walked.Halts cpu word c = tt
 not-clear Clears cpu word c = c
-not-clear Cancels cpu word c = tt
+not-clear other cpu word c = tt
 
 no-sweep : (what : Sweep) → IsCalm (sweep_event what) → ⊥
 no-sweep (sweep.GoesDown chpid) c = c
-no-sweep (sweep.ComesUp chpid) c = c
-no-sweep (sweep.PathReset chpid) c = c
-no-sweep sweep.SystemReset c = c
+no-sweep other c = c
 
 marked-tied : (is_up : ℕ → Bool) (k : SubSeen) (sub : Subchannel) (choice : Option ℕ) → IsTied is_up k sub → IsTied is_up k (marked_sub sub choice)
 marked-tied is_up k sub choice tie = same-tied is_up k sub (marked_sub sub choice).state (is-same sub.state (marked_sub sub choice).state refl refl refl) tie
@@ -191,9 +173,7 @@ code-tied : (s : State) (word place : ℕ) (sub : Subchannel) (c : ConditionCode
     AreTied is_up (change_named (subchannel_named s.sets word) (sub_cleared (function_sub sub c (cleared sub.state)).reply) ks) (slice_set s.subs place (function_sub sub c (cleared sub.state)).sub)
 code-tied s word place sub code.Zero is_up ks n there tied =
     named-tied is_up (subchannel_named s.sets word) sub_reset ks s.subs place sub (with_state sub (cleared sub.state)) n there (λ j tie. clear-tied is_up j sub tie) tied
-code-tied s word place sub code.One is_up ks n there tied = named-tied is_up (subchannel_named s.sets word) (λ j. j) ks s.subs place sub sub n there (λ j tie. tie) tied
-code-tied s word place sub code.Two is_up ks n there tied = named-tied is_up (subchannel_named s.sets word) (λ j. j) ks s.subs place sub sub n there (λ j tie. tie) tied
-code-tied s word place sub code.Three is_up ks n there tied = named-tied is_up (subchannel_named s.sets word) (λ j. j) ks s.subs place sub sub n there (λ j tie. tie) tied
+code-tied s word place sub c is_up ks n there tied = named-tied is_up (subchannel_named s.sets word) (λ j. j) ks s.subs place sub sub n there (λ j tie. tie) tied
 
 cleared-seen : (s : State) (word : ℕ) (r : Reply) (subs : List Subchannel) (is_up : ℕ → Bool) (ks : List SubSeen) → Answered s word csch_code cleared r subs → AreTied is_up ks s.subs →
     AreTied is_up (change_named (subchannel_named s.sets word) (sub_cleared r) ks) subs
@@ -244,25 +224,7 @@ step-seen walks s event.SystemReset r new k step engaged tied =
       tied = subst (λ (xs : List Subchannel). AreTied k.up (map sub_reset k.subs) xs) (sym (swept-subs s sweep.SystemReset r new step))
           (tied-map k.up k.up sub_reset (swept sweep.SystemReset) k.subs s.subs (λ j sub tie. system-tied k.up j sub tie) tied);
     }
-step-seen walks s (event.Execute cpu (instruction.Ssch word address)) r new k step engaged tied = walked-seen s _ r new k (walks s _ r new step) tt engaged tied
-step-seen walks s (event.Execute cpu (instruction.Tsch word address)) r new k step engaged tied = walked-seen s _ r new k (walks s _ r new step) tt engaged tied
-step-seen walks s (event.Execute cpu (instruction.Stsch word address)) r new k step engaged tied = walked-seen s _ r new k (walks s _ r new step) tt engaged tied
-step-seen walks s (event.Execute cpu (instruction.Msch word address)) r new k step engaged tied = walked-seen s _ r new k (walks s _ r new step) tt engaged tied
-step-seen walks s (event.Execute cpu (instruction.Enable word subclass multipath)) r new k step engaged tied = walked-seen s _ r new k (walks s _ r new step) tt engaged tied
-step-seen walks s (event.Execute cpu (instruction.Rsch word)) r new k step engaged tied = walked-seen s _ r new k (walks s _ r new step) tt engaged tied
-step-seen walks s (event.Execute cpu (instruction.Hsch word)) r new k step engaged tied = walked-seen s _ r new k (walks s _ r new step) tt engaged tied
-step-seen walks s (event.Execute cpu (instruction.Xsch word)) r new k step engaged tied = walked-seen s _ r new k (walks s _ r new step) tt engaged tied
-step-seen walks s (event.Put address bytes) r new k step engaged tied = walked-seen s _ r new k (walks s _ r new step) tt engaged tied
-step-seen walks s (event.SetKey address key) r new k step engaged tied = walked-seen s _ r new k (walks s _ r new step) tt engaged tied
-step-seen walks s (event.SetPrefix cpu address) r new k step engaged tied = walked-seen s _ r new k (walks s _ r new step) tt engaged tied
-step-seen walks s (event.Show address count) r new k step engaged tied = walked-seen s _ r new k (walks s _ r new step) tt engaged tied
-step-seen walks s (event.ExecuteOther cpu i) r new k step engaged tied = walked-seen s _ r new k (walks s _ r new step) tt engaged tied
-step-seen walks s (event.Choose word) r new k step engaged tied = walked-seen s _ r new k (walks s _ r new step) tt engaged tied
-step-seen walks s (event.Up word path) r new k step engaged tied = walked-seen s _ r new k (walks s _ r new step) tt engaged tied
-step-seen walks s (event.Down word path) r new k step engaged tied = walked-seen s _ r new k (walks s _ r new step) tt engaged tied
-step-seen walks s (event.Report at report) r new k step engaged tied = walked-seen s _ r new k (walks s _ r new step) tt engaged tied
-step-seen walks s (event.Act at what) r new k step engaged tied = walked-seen s _ r new k (walks s _ r new step) tt engaged tied
-step-seen walks s (event.Restart at) r new k step engaged tied = walked-seen s _ r new k (walks s _ r new step) tt engaged tied
+step-seen walks s e r new k step engaged tied = walked-seen s _ r new k (walks s _ r new step) tt engaged tied
 
 -- along a run
 pub through-more : (sets : ℕ) (k : Seen) (h : List Entry) (x : Entry) → seen_through sets k (h ++ x ∷ []) ≡ seen_after sets x.event x.reply (seen_through sets k h)

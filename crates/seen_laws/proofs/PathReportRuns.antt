@@ -160,12 +160,6 @@ asked-right k s chpid low seen =
     ∙ ap (λ (b : Bool). reset_code (record { up = λ c. k.up chpid; asked = λ c. b; reports = [] }) 0) (sym (seen.asked_seen chpid))
 
 turn-seen : (k : PathsSeen) (s : State) (e : Event) (r : Reply) (new : State) → TurnOf s e r new → IsSeen k s.up s.reports → IsStepSeen k e r new
-turn-seen k s _ _ _ (turn.Puts address bytes storage e) seen = record { right = tt; seen = seen }
-turn-seen k s _ _ _ (turn.SetsKey address key storage e) seen = record { right = tt; seen = seen }
-turn-seen k s _ _ _ (turn.SetsPrefix cpu address storage e) seen = record { right = tt; seen = seen }
-turn-seen k s _ _ _ (turn.Shows address count bytes e) seen = record { right = tt; seen = seen }
-turn-seen k s _ _ _ (turn.Executes cpu i id q r storage subs n e blocks left done) seen = record { right = tt; seen = seen }
-turn-seen k s _ _ _ (turn.Interrupts cpu mask address) seen = record { right = tt; seen = seen }
 turn-seen k s _ _ _ (turn.AsksReset cpu path) seen =
     let chpid : ℕ = field_of path 24 31 in
     let low : chpid < 0x100 = byte-low path in
@@ -180,17 +174,11 @@ turn-seen k s _ _ _ (turn.StoresReport cpu address) seen = record {
     all_asked = seen.all_asked;
   };
 }
-turn-seen k s _ _ _ (turn.StoresPaths cpu address) seen = record { right = tt; seen = seen }
-turn-seen k s _ _ _ (turn.Chosen word place sub choice t named there is ok) seen = record { right = tt; seen = seen }
-turn-seen k s _ _ _ (turn.Meets word path place sub t named there ok) seen = record { right = tt; seen = seen }
-turn-seen k s _ _ _ (turn.Takes word path place sub u t named there found ok) seen = record { right = tt; seen = seen }
-turn-seen k s _ _ _ (turn.Reports at place sub u report t found first there ok) seen = record { right = tt; seen = seen }
-turn-seen k s _ _ _ (turn.Acts at place sub u what side t found is first there ok) seen = record { right = tt; seen = seen }
-turn-seen k s _ _ _ (turn.Restarts at u found) seen = record { right = tt; seen = seen }
 turn-seen k s _ _ _ (turn.GoesDown chpid) seen = record { right = tt; seen = down-seen k s chpid seen }
 turn-seen k s _ _ _ (turn.ComesUp chpid) seen = record { right = tt; seen = back-seen k s chpid seen }
 turn-seen k s _ _ _ (turn.IsReset chpid asked) seen = record { right = seen.asked_seen chpid ∙ asked; seen = done-seen k s chpid seen }
 turn-seen k s _ _ _ turn.ResetsAll seen = record { right = tt; seen = wiped-seen k s seen }
+turn-seen k s _ _ _ t seen = record { right = tt; seen = seen }
 
 step-seen : (k : PathsSeen) (s : State) (e : Event) (r : Reply) (new : State) → Step s e r new → IsSeen k s.up s.reports → IsStepSeen k e r new
 step-seen k s e r new step seen =

@@ -286,10 +286,8 @@ if-same false x = refl
 
 way-act : (sets : ℕ) (subs : List SubchannelSetup) (i : ℕ) (j : Side) (at : ℕ) (what : UnitAct) (r : Reply) (k : Holding) (w : Ways) →
     (if at == i then way_acted j what k.holder w else w) ≡ ways_after sets subs i j (event.Act at what) r k w
-way-act sets subs i j at act.Leave r k w = if-same (at == i) w
 way-act sets subs i j at (act.Ask path) r k w = refl
-way-act sets subs i j at (act.Attention path side) r k w = if-same (at == i) w
-way-act sets subs i j at (act.Notice path side) r k w = if-same (at == i) w
+way-act sets subs i j at other r k w = if-same (at == i) w
 
 act-if : (b : Bool) (k : Holding) (side : Side) (what : UnitAct) (w : Ways) → Follows k (if b then acted_after what k else k) side w (if b then way_acted side what k.holder w else w)
 act-if true k side what w = act-follows k side what w
@@ -326,16 +324,8 @@ act-by s at what r new seen ways acting units all =
 
 turn-by : (s : State) (e : Event) (r : Reply) (new : State) (waiting : WaitingRequests) (seen : Seen) (ways : AllWays) → TurnOf s e r new → AreAbove s → AreSeen s.units seen → AreWayed s.subs seen ways →
     IsStepBy s e r (record new { requests = waiting }) seen ways
-turn-by s _ _ _ waiting seen ways (turn.Puts address bytes storage e) above units all = record { entry = λ at side. tt; wayed = all }
-turn-by s _ _ _ waiting seen ways (turn.SetsKey address key storage e) above units all = record { entry = λ at side. tt; wayed = all }
-turn-by s _ _ _ waiting seen ways (turn.SetsPrefix cpu address storage e) above units all = record { entry = λ at side. tt; wayed = all }
-turn-by s _ _ _ waiting seen ways (turn.Shows address count bytes e) above units all = record { entry = λ at side. tt; wayed = all }
 turn-by s _ _ _ waiting seen ways (turn.Executes cpu i id q r storage subs n e blocks left done) above units all =
     record { entry = λ at side. tt; wayed = executed-wayed s i (place_in id s.subs) q r (record s { storage = storage; subs = subs }) seen ways e done all }
-turn-by s _ _ _ waiting seen ways (turn.Interrupts cpu mask address) above units all = record { entry = λ at side. tt; wayed = all }
-turn-by s _ _ _ waiting seen ways (turn.AsksReset cpu path) above units all = record { entry = λ at side. tt; wayed = all }
-turn-by s _ _ _ waiting seen ways (turn.StoresReport cpu address) above units all = record { entry = λ at side. tt; wayed = all }
-turn-by s _ _ _ waiting seen ways (turn.StoresPaths cpu address) above units all = record { entry = λ at side. tt; wayed = all }
 turn-by s _ _ _ waiting seen ways (turn.Chosen word place sub choice t named there is ok) above units all =
     record {
       entry = λ at side. tt;
@@ -362,6 +352,7 @@ turn-by s _ _ _ waiting seen ways (turn.IsReset chpid asked) above units all =
     record { entry = λ at side. tt; wayed = swept-wayed (swept (sweep.PathReset chpid)) (swept-carries (sweep.PathReset chpid)) s.subs seen ways all }
 turn-by s _ _ _ waiting seen ways turn.ResetsAll above units all =
     record { entry = λ at side. tt; wayed = swept-wayed (swept sweep.SystemReset) (swept-carries sweep.SystemReset) s.subs seen ways all }
+turn-by s _ _ _ waiting seen ways t above units all = record { entry = λ at side. tt; wayed = all }
 
 step-by : (s : State) (e : Event) (r : Reply) (new : State) (seen : Seen) (ways : AllWays) → Step s e r new → AreAbove s → AreSeen s.units seen → AreWayed s.subs seen ways →
     IsStepBy s e r new seen ways
