@@ -75,9 +75,7 @@ target-fetched : (storage : Contents) (orb : Orb) (before : List Act) (address :
     AreFetched storage orb before (with_target storage (after_block (walk_place orb before) address bytes) r (Block address bytes ∷ []))
 target-fetched storage orb before address bytes (Transfers target) e =
     (fetch-fetched storage orb (Block address bytes ∷ before) target, (e, tt))
-target-fetched storage orb before address bytes (Takes ccw) e = (e, tt)
-target-fetched storage orb before address bytes Suspends e = (e, tt)
-target-fetched storage orb before address bytes Shows e = (e, tt)
+target-fetched storage orb before address bytes other e = (e, tt)
 
 from-by : (storage : Contents) (orb : Orb) (before : List Act) (address : ℕ) (test : Bool) (answer : Result (List ℕ) StorageFault) →
     ((role_of orb before).first && is_program_misplaced orb address) ≡ test → fetched storage orb.key address 8 ≡ answer →

@@ -62,14 +62,11 @@ module _ (laws : AreLaws) (accesses : AreAccesses) where
   signal-meets returns storage s p (up.End t n status more) k h o =
       end-meets laws accesses storage s k (record { path = p; number = t; command = n; status = status; more = more }) (is_on s.hold.phase t) refl h
       (signal-held laws accesses returns storage s p (up.End t n status more) k h)
-  signal-meets returns storage s p (up.Busy t) k h o = (refl, refl, none-counted s (takes_up returns storage s p (up.Busy t)).step.state k refl)
-  signal-meets returns storage s p (up.Leave t c) k h o = (refl, refl, none-counted s (takes_up returns storage s p (up.Leave t c)).step.state k refl)
-  signal-meets returns storage s p (up.Back t c) k h o = (refl, refl, none-counted s (takes_up returns storage s p (up.Back t c)).step.state k refl)
-  signal-meets returns storage s p (up.Released t) k h o = (refl, refl, none-counted s (takes_up returns storage s p (up.Released t)).step.state k refl)
   signal-meets returns storage s p (up.Cleared r) k h o = (refl, refl, cleared-zero s s.hold.phase r)
   signal-meets returns storage s p (up.Notice b) k h o =
       (refl, refl, of-program s (takes_up returns storage s p (up.Notice b)).step.state (Some k) h (noticed-shows s b (nat_lt s.hold.known b)))
   signal-meets returns storage s p (up.Attn a status) k h o = (refl, refl, attended-left s p a status)
+  signal-meets returns storage s p x k h o = (refl, refl, none-counted s (takes_up returns storage s p x).step.state k refl)
 
   -- where nothing was offered
   unoffered : (returns : Bool) (storage : Contents) (s : SubchannelState) (p : ℕ) (signal : Up) → IsUntold s → MeetsNone storage (takes_up returns storage s p signal).storage s (takes_up returns storage s p signal).step.state signal
@@ -91,22 +88,6 @@ module _ (laws : AreLaws) (accesses : AreAccesses) where
         (λ x. IsStandingShown s (if is_on x t then end_of storage s s.begun (record { path = p; number = t; command = n; status = status; more = more }) else ignoring s).state)
         s.hold.phase s.drawn u.phase (none-left s s refl) (λ r. none-left s s refl),
   )
-  unoffered returns storage s p (up.Busy t) u = (
-    refl,
-    none-left s (takes_up returns storage s p (up.Busy t)).step.state refl,
-  )
-  unoffered returns storage s p (up.Leave t c) u = (
-    refl,
-    none-left s (takes_up returns storage s p (up.Leave t c)).step.state refl,
-  )
-  unoffered returns storage s p (up.Back t c) u = (
-    refl,
-    none-left s (takes_up returns storage s p (up.Back t c)).step.state refl,
-  )
-  unoffered returns storage s p (up.Released t) u = (
-    refl,
-    none-left s (takes_up returns storage s p (up.Released t)).step.state refl,
-  )
   unoffered returns storage s p (up.Cleared r) u = (
     refl,
     cleared-zero s s.hold.phase r,
@@ -118,6 +99,10 @@ module _ (laws : AreLaws) (accesses : AreAccesses) where
   unoffered returns storage s p (up.Attn a status) u = (
     refl,
     attended-left s p a status,
+  )
+  unoffered returns storage s p x u = (
+    refl,
+    none-left s (takes_up returns storage s p x).step.state refl,
   )
 
   -- of a program that there is, where its subchannel agrees with it
@@ -208,18 +193,4 @@ module _ (laws : AreLaws) (accesses : AreAccesses) where
     step-goes (event.Up word path) r new step =
         let is : HasTurn s (event.Up word path) r new = step-turn s (event.Up word path) r new step in
         subst (Goes (event.Up word path) r) (sym is.settles) (up-goes word path r is.left _ is.turn)
-    step-goes (event.Put address bytes) r new step = (refl, other-goes (event.Put address bytes) r new step (λ w p e. cc e))
-    step-goes (event.SetKey address key) r new step = (refl, other-goes (event.SetKey address key) r new step (λ w p e. cc e))
-    step-goes (event.SetPrefix cpu address) r new step = (refl, other-goes (event.SetPrefix cpu address) r new step (λ w p e. cc e))
-    step-goes (event.Show address count) r new step = (refl, other-goes (event.Show address count) r new step (λ w p e. cc e))
-    step-goes (event.Execute cpu i) r new step = (refl, other-goes (event.Execute cpu i) r new step (λ w p e. cc e))
-    step-goes (event.ExecuteOther cpu i) r new step = (refl, other-goes (event.ExecuteOther cpu i) r new step (λ w p e. cc e))
-    step-goes (event.Choose word) r new step = (refl, other-goes (event.Choose word) r new step (λ w p e. cc e))
-    step-goes (event.Down word path) r new step = (refl, other-goes (event.Down word path) r new step (λ w p e. cc e))
-    step-goes (event.Report at report) r new step = (refl, other-goes (event.Report at report) r new step (λ w p e. cc e))
-    step-goes (event.Act at what) r new step = (refl, other-goes (event.Act at what) r new step (λ w p e. cc e))
-    step-goes (event.Restart at) r new step = (refl, other-goes (event.Restart at) r new step (λ w p e. cc e))
-    step-goes (event.PathDown chpid) r new step = (refl, other-goes (event.PathDown chpid) r new step (λ w p e. cc e))
-    step-goes (event.PathUp chpid) r new step = (refl, other-goes (event.PathUp chpid) r new step (λ w p e. cc e))
-    step-goes (event.PathReset chpid) r new step = (refl, other-goes (event.PathReset chpid) r new step (λ w p e. cc e))
-    step-goes event.SystemReset r new step = (refl, other-goes event.SystemReset r new step (λ w p e. cc e))
+    step-goes v r new step = (refl, other-goes v r new step (λ w p e. cc e))

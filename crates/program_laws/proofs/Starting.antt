@@ -39,9 +39,7 @@ started-by : (s : State) (cpu word address place : ℕ) (sub : Subchannel) (orb 
     IsOrbAt s.storage cpu address orb →
     Started s cpu word address (function_sub sub c (started sub.state orb)).reply (slice_set s.subs place (function_sub sub c (started sub.state orb)).sub)
 started-by s cpu word address place sub orb code.Zero n there at = Starts place sub orb (started sub.state orb).serials n there at
-started-by s cpu word address place sub orb code.One n there at = Refused place sub (with_state sub sub.state) _ there refl refl
-started-by s cpu word address place sub orb code.Two n there at = Refused place sub (with_state sub sub.state) _ there refl refl
-started-by s cpu word address place sub orb code.Three n there at = Refused place sub (with_state sub sub.state) _ there refl refl
+started-by s cpu word address place sub orb c n there at = Refused place sub (with_state sub sub.state) _ there refl refl
 
 abbrev IsTurn : State → ℕ → ℕ → ℕ → Outcome → Type 0
 IsTurn s cpu word address o = IfOk o (λ t. Started s cpu word address t.reply t.state.subs)

@@ -56,7 +56,6 @@ test-stores s cpu word address sub false a storage e = e
 
 executes-stores : (s : State) (cpu : ℕ) (i : Instruction) (q : Option Found) (r : Reply) (new : State) → IsStorageLeft s cpu i q new.storage → IsDone s i q r new →
     StoresBy s.storage (event.Execute cpu i) r new.storage
-executes-stores s cpu (instruction.Ssch word address) q r new left k = left
 executes-stores s cpu (instruction.Tsch word address) None r new left k =
     subst (λ (x : Reply). StoresBy s.storage (event.Execute cpu (instruction.Tsch word address)) x new.storage) (sym k.replies) left
 executes-stores s cpu (instruction.Tsch word address) (Some f) r new left k =
@@ -67,15 +66,11 @@ executes-stores s cpu (instruction.Stsch word address) None r new left k =
 executes-stores s cpu (instruction.Stsch word address) (Some f) r new left k =
     subst (λ (x : Reply). StoresBy s.storage (event.Execute cpu (instruction.Stsch word address)) x new.storage) (sym k.replies)
     (image_of (schib_tables (schib_of f.sub)), length-schib (schib_of f.sub), left)
-executes-stores s cpu (instruction.Msch word address) q r new left k = left
 executes-stores s cpu (instruction.Enable word subclass multipath) None r new left k =
     let words : List ℕ = enabling_word (word_at left.0 1) subclass multipath ∷ [] in inr (bytes_of_words words, length-words words, left.1)
 executes-stores s cpu (instruction.Enable word subclass multipath) (Some f) r new left k =
     inl (image_of (schib_tables (enabling_schib f.sub subclass multipath)), length-schib (enabling_schib f.sub subclass multipath), left)
-executes-stores s cpu (instruction.Rsch word) q r new left k = left
-executes-stores s cpu (instruction.Hsch word) q r new left k = left
-executes-stores s cpu (instruction.Csch word) q r new left k = left
-executes-stores s cpu (instruction.Xsch word) q r new left k = left
+executes-stores s cpu i q r new left k = left
 
 -- instructions that name no subchannel
 length-code : (address : ℕ) (code : IntCode) (z : Bool) → (address == 0) ≡ z → length (bytes_of_words (code_words address code)) ≡ (if z then 12 else 8)
@@ -96,20 +91,10 @@ turn-stores s _ _ _ (turn.SetsPrefix cpu address storage e) = e
 turn-stores s _ _ _ (turn.Shows address count bytes e) = (e, refl)
 turn-stores s _ _ _ (turn.Executes cpu i id q r storage subs n e blocks left done) = executes-stores s cpu i q r (record s { storage = storage; subs = subs }) left done
 turn-stores s _ _ _ (turn.Interrupts cpu mask address) = tpi-stores s.storage cpu address (answer s.requests mask)
-turn-stores s _ _ _ (turn.AsksReset cpu path) = refl
 turn-stores s _ _ _ (turn.StoresReport cpu address) =
     let words : List ℕ = report_word (oldest s.reports) ∷ [] in (bytes_of_words words, length-words words, refl)
-turn-stores s _ _ _ (turn.StoresPaths cpu address) = refl
-turn-stores s _ _ _ (turn.Chosen word place sub choice t named there is ok) = refl
 turn-stores s _ _ _ (turn.Meets word path place sub t named there ok) = tt
-turn-stores s _ _ _ (turn.Takes word path place sub u t named there found ok) = refl
-turn-stores s _ _ _ (turn.Reports at place sub u report t found first there ok) = refl
-turn-stores s _ _ _ (turn.Acts at place sub u what side t found is first there ok) = refl
-turn-stores s _ _ _ (turn.Restarts at u found) = refl
-turn-stores s _ _ _ (turn.GoesDown chpid) = refl
-turn-stores s _ _ _ (turn.ComesUp chpid) = refl
-turn-stores s _ _ _ (turn.IsReset chpid asked) = refl
-turn-stores s _ _ _ turn.ResetsAll = refl
+turn-stores s _ _ _ t = refl
 
 pub step-stores : (s : State) (e : Event) (r : Reply) (new : State) → Step s e r new → StoresBy s.storage e r new.storage
 step-stores s e r new step =

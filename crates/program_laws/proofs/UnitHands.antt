@@ -74,25 +74,16 @@ freed-where side u false = calm side u
 abbrev pub IsEasy : Down → Type 0
 IsEasy (down.Select t) = ⊥
 IsEasy (down.Command t n code room) = ⊥
-IsEasy (down.Grant t c) = Unit {0}
-IsEasy (down.Refuse t c) = Unit {0}
 IsEasy (down.Took t n s room) = ⊥
 IsEasy (down.Give bytes t c n s) = ⊥
-IsEasy (down.Halt t) = Unit {0}
-IsEasy (down.Release t) = Unit {0}
-IsEasy (down.Reset r b) = Unit {0}
-IsEasy (down.Got a) = Unit {0}
+IsEasy d = Unit {0}
 
 fresh-calm : (side : Side) (u : UnitState) (k : Side) (p : ℕ) (step : Option UnitStep) → IsCalmStep side u step → IsCalmStep side u (if (side_of u k).fresh then telling u p else step)
 fresh-calm side u k p step h = if-calm side u (side_of u k).fresh (telling u p) step (calm side u) h
 
 pub easy-calm : (may : Bool) → (side : Side) (u : UnitState) (k : Side) (p : ℕ) (d : Down) → IsEasy d → IsCalmStep side u (unit_takes u k p d may)
-easy-calm may side u k p (down.Select t) m = absurd m
-easy-calm may side u k p (down.Command t n code room) m = absurd m
 easy-calm may side u k p (down.Grant t c) m = fresh-calm side u k p _ (granted-leaves (IsCalm side) (calm-places side) u u.own k p t c refl)
 easy-calm may side u k p (down.Refuse t c) m = fresh-calm side u k p _ (refused-leaves (IsCalm side) (calm-places side) u u.own k t c refl)
-easy-calm may side u k p (down.Took t n s room) m = absurd m
-easy-calm may side u k p (down.Give bytes t c n s) m = absurd m
 easy-calm may side u k p (down.Halt t) m =
     fresh-calm side u k p _ (if-calm side u (is_owner u.own k t && not u.halted) _ None (calm-own side u (record u { halted = true }) refl refl) (calm side u))
 easy-calm may side u k p (down.Release t) m = fresh-calm side u k p _ (if-calm side u (is_owner u.own k t) _ None (calm-idle side u (freed u) refl) (calm side u))
@@ -100,6 +91,7 @@ easy-calm may side u k p (down.Reset r b) m =
     if-calm side u (resets u k r b) _ _ (calm-then side u (without_side u k) (reset_side u k r) (freed-where side u (owns u.own k)) (calm-side side k (without_side u k) _))
     (fresh-calm side u k p None (calm side u))
 easy-calm may side u k p (down.Got a) m = fresh-calm side u k p _ (forgetting-leaves (IsCalm side) (calm-places side) u u.attention k a)
+easy-calm may side u k p d m = absurd m
 
 -- what a program that holds the device does is no matter of the other side
 owner-calm : (side k : Side) (u v : UnitState) (t : ℕ) → same_side k side ≡ false → is_owner u.own k t ≡ true → v.own ≡ u.own → IsCalm side u v
@@ -153,16 +145,11 @@ other-calm may side u k p (down.Select t) e = fresh-calm side u k p _ (if-calm s
 other-calm may side u k p (down.Command t n code room) e =
     fresh-calm side u k p _
     (owned-calm side k u t (changes (record u { last_command = n; at_hand = Some (new_command code room) })) (is_owner u.own k t) (n == u.last_command + 1) e refl refl)
-other-calm may side u k p (down.Grant t c) e = easy-calm may side u k p (down.Grant t c) tt
-other-calm may side u k p (down.Refuse t c) e = easy-calm may side u k p (down.Refuse t c) tt
 other-calm may side u k p (down.Took t n s room) e =
     fresh-calm side u k p _ (owned-calm side k u t (answered_last u u.at_hand s room) (is_owner u.own k t) (n == u.last_command) e refl (answered-own u u.at_hand s room))
 other-calm may side u k p (down.Give bytes t c n s) e =
     fresh-calm side u k p _ (given-other side k u t c n s bytes (is_owner_on u.own k t c) (n == u.last_command) e refl)
-other-calm may side u k p (down.Halt t) e = easy-calm may side u k p (down.Halt t) tt
-other-calm may side u k p (down.Release t) e = easy-calm may side u k p (down.Release t) tt
-other-calm may side u k p (down.Reset r b) e = easy-calm may side u k p (down.Reset r b) tt
-other-calm may side u k p (down.Got a) e = easy-calm may side u k p (down.Got a) tt
+other-calm may side u k p d e = easy-calm may side u k p d tt
 
 -- what holds of the command at hand of a program
 abbrev pub IsHeld : Side → ℕ → (Option AtHand → Type 0) → UnitState → Type 0
@@ -260,16 +247,9 @@ command-held may side number P u p t n code room h f =
 
 -- it tells nothing of the command
 abbrev pub IsQuiet : Up → Type 0
-IsQuiet (up.Accept t) = Unit {0}
-IsQuiet (up.Busy t) = Unit {0}
-IsQuiet (up.Leave t c) = Unit {0}
-IsQuiet (up.Back t c) = Unit {0}
 IsQuiet (up.Data l t c n s) = ⊥
 IsQuiet (up.End t n status more) = ⊥
-IsQuiet (up.Released t) = Unit {0}
-IsQuiet (up.Cleared r) = Unit {0}
-IsQuiet (up.Notice b) = Unit {0}
-IsQuiet (up.Attn a status) = Unit {0}
+IsQuiet x = Unit {0}
 
 abbrev pub IsQuietStep : Option UnitStep → Type 0
 IsQuietStep step = IfSome (came_of step).sent (λ x. IsQuiet x.signal)
@@ -340,14 +320,6 @@ fresh-quiet : (u : UnitState) (k : Side) (p : ℕ) (step : Option UnitStep) → 
 fresh-quiet u k p step h = if-quiet (side_of u k).fresh (telling u p) step tt h
 
 pub takes-quiet : (may : Bool) → (u : UnitState) (k : Side) (p : ℕ) (d : Down) → IsQuietStep (unit_takes u k p d may)
-takes-quiet may u k p (down.Select t) = fresh-quiet u k p (unit_works u k p (down.Select t) may) (works-quiet may u k p (down.Select t))
-takes-quiet may u k p (down.Command t n code room) = fresh-quiet u k p (unit_works u k p (down.Command t n code room) may) (works-quiet may u k p (down.Command t n code room))
-takes-quiet may u k p (down.Grant t c) = fresh-quiet u k p (unit_works u k p (down.Grant t c) may) (works-quiet may u k p (down.Grant t c))
-takes-quiet may u k p (down.Refuse t c) = fresh-quiet u k p (unit_works u k p (down.Refuse t c) may) (works-quiet may u k p (down.Refuse t c))
-takes-quiet may u k p (down.Took t n s room) = fresh-quiet u k p (unit_works u k p (down.Took t n s room) may) (works-quiet may u k p (down.Took t n s room))
-takes-quiet may u k p (down.Give bytes t c n s) = fresh-quiet u k p (unit_works u k p (down.Give bytes t c n s) may) (works-quiet may u k p (down.Give bytes t c n s))
-takes-quiet may u k p (down.Halt t) = fresh-quiet u k p (unit_works u k p (down.Halt t) may) (works-quiet may u k p (down.Halt t))
-takes-quiet may u k p (down.Release t) = fresh-quiet u k p (unit_works u k p (down.Release t) may) (works-quiet may u k p (down.Release t))
 takes-quiet may u k p (down.Reset r b) =
     if-quiet (resets u k r b) (sends (reset_side u k r) p (up.Cleared r)) (if (side_of u k).fresh then telling u p else None) tt (fresh-quiet u k p None tt)
-takes-quiet may u k p (down.Got a) = fresh-quiet u k p (unit_works u k p (down.Got a) may) (works-quiet may u k p (down.Got a))
+takes-quiet may u k p d = fresh-quiet u k p (unit_works u k p d may) (works-quiet may u k p d)

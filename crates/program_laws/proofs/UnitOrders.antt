@@ -42,14 +42,8 @@ IsCommanded number sent codes t n code = (t ≤ number) × (t ≡ number → (n 
 abbrev pub IsDown : ℕ → ℕ → ℕ → List ℕ → Down → Type 0
 IsDown drawn number sent codes (down.Select t) = t ≤ number
 IsDown drawn number sent codes (down.Command t n code room) = IsCommanded number sent codes t n code
-IsDown drawn number sent codes (down.Grant t c) = Unit {0}
-IsDown drawn number sent codes (down.Refuse t c) = Unit {0}
-IsDown drawn number sent codes (down.Took t n s room) = Unit {0}
-IsDown drawn number sent codes (down.Give bytes t c n s) = Unit {0}
-IsDown drawn number sent codes (down.Halt t) = Unit {0}
-IsDown drawn number sent codes (down.Release t) = Unit {0}
 IsDown drawn number sent codes (down.Reset r b) = r ≤ drawn
-IsDown drawn number sent codes (down.Got a) = Unit {0}
+IsDown drawn number sent codes d = Unit {0}
 
 abbrev pub AreOn : {A : Type 0} → (A → Type 0) → List (List A) → Type 0
 AreOn P queues = (p : ℕ) → All P (queue queues p)
@@ -103,14 +97,8 @@ nth-more more codes n code k = record {
 down-more : (drawn number sent after : ℕ) (more codes : List ℕ) (d : Down) → sent ≤ after → IsDown drawn number sent codes d → IsDown drawn number after (more ++ codes) d
 down-more drawn number sent after more codes (down.Select t) le h = h
 down-more drawn number sent after more codes (down.Command t n code room) le h = (h.0, λ e. let k = h.1 e in (omega (arith, k.0, le), nth-more more codes n code k.1))
-down-more drawn number sent after more codes (down.Grant t c) le h = tt
-down-more drawn number sent after more codes (down.Refuse t c) le h = tt
-down-more drawn number sent after more codes (down.Took t n s room) le h = tt
-down-more drawn number sent after more codes (down.Give bytes t c n s) le h = tt
-down-more drawn number sent after more codes (down.Halt t) le h = tt
-down-more drawn number sent after more codes (down.Release t) le h = tt
 down-more drawn number sent after more codes (down.Reset r b) le h = h
-down-more drawn number sent after more codes (down.Got a) le h = tt
+down-more drawn number sent after more codes d le h = tt
 
 -- the hold sends something, or nothing, as the codes grow or stay
 pub hold-sends : (side : Side) (drawn number sent after : ℕ) (codes more took : List ℕ) (wires : List (List Down)) (u : UnitState) (one : Option (OnPath Down)) →
@@ -129,14 +117,8 @@ hold-sends side drawn number sent after codes more took wires u one k le h = rec
 down-first : (drawn number after : ℕ) (codes news : List ℕ) (d : Down) → IsDown drawn number 0 codes d → IsDown drawn number after news d
 down-first drawn number after codes news (down.Select t) h = h
 down-first drawn number after codes news (down.Command t n code room) h = (h.0, λ e. let k = h.1 e in absurd (omega (arith, k.0, k.1.count)))
-down-first drawn number after codes news (down.Grant t c) h = tt
-down-first drawn number after codes news (down.Refuse t c) h = tt
-down-first drawn number after codes news (down.Took t n s room) h = tt
-down-first drawn number after codes news (down.Give bytes t c n s) h = tt
-down-first drawn number after codes news (down.Halt t) h = tt
-down-first drawn number after codes news (down.Release t) h = tt
 down-first drawn number after codes news (down.Reset r b) h = h
-down-first drawn number after codes news (down.Got a) h = tt
+down-first drawn number after codes news d h = tt
 
 none-took : (took : List ℕ) → length took ≤ 0 → took ≡ []
 none-took [] le = refl
@@ -157,14 +139,8 @@ hold-begins side drawn number after codes news took wires u one k h = record {
 down-new : (drawn number sent after : ℕ) (codes : List ℕ) (d : Down) → number ≤ drawn → drawn < after → IsDown drawn number sent codes d → IsDown after after 0 [] d
 down-new drawn number sent after codes (down.Select t) le lt h = omega (arith, h, le, lt)
 down-new drawn number sent after codes (down.Command t n code room) le lt h = (omega (arith, h.0, le, lt), λ e. absurd (omega (arith, h.0, e, le, lt)))
-down-new drawn number sent after codes (down.Grant t c) le lt h = tt
-down-new drawn number sent after codes (down.Refuse t c) le lt h = tt
-down-new drawn number sent after codes (down.Took t n s room) le lt h = tt
-down-new drawn number sent after codes (down.Give bytes t c n s) le lt h = tt
-down-new drawn number sent after codes (down.Halt t) le lt h = tt
-down-new drawn number sent after codes (down.Release t) le lt h = tt
 down-new drawn number sent after codes (down.Reset r b) le lt h = omega (arith, h, lt)
-down-new drawn number sent after codes (down.Got a) le lt h = tt
+down-new drawn number sent after codes d le lt h = tt
 
 pub hold-offers : (side : Side) (drawn number sent after : ℕ) (codes took : List ℕ) (wires : List (List Down)) (u : UnitState) (path : ℕ) → number ≤ drawn → drawn < after →
     IsOrdered side drawn number sent codes took wires u → IsOrdered side after after 0 [] [] (with_any_sent wires (Some (record { path = path; signal = down.Select after }))) u
@@ -188,14 +164,8 @@ hold-offers side drawn number sent after codes took wires u path le lt k = recor
 down-drawn : (drawn later number sent : ℕ) (codes : List ℕ) (d : Down) → drawn ≤ later → IsDown drawn number sent codes d → IsDown later number sent codes d
 down-drawn drawn later number sent codes (down.Select t) le h = h
 down-drawn drawn later number sent codes (down.Command t n code room) le h = h
-down-drawn drawn later number sent codes (down.Grant t c) le h = tt
-down-drawn drawn later number sent codes (down.Refuse t c) le h = tt
-down-drawn drawn later number sent codes (down.Took t n s room) le h = tt
-down-drawn drawn later number sent codes (down.Give bytes t c n s) le h = tt
-down-drawn drawn later number sent codes (down.Halt t) le h = tt
-down-drawn drawn later number sent codes (down.Release t) le h = tt
 down-drawn drawn later number sent codes (down.Reset r b) le h = omega (arith, h, le)
-down-drawn drawn later number sent codes (down.Got a) le h = tt
+down-drawn drawn later number sent codes d le h = tt
 
 pub hold-draws : (side : Side) (drawn later number sent : ℕ) (codes took : List ℕ) (wires : List (List Down)) (u : UnitState) → drawn ≤ later →
     IsOrdered side drawn number sent codes took wires u → IsOrdered side later number sent codes took wires u
@@ -382,15 +352,9 @@ old-side side drawn number sent codes took wires u p d step false f k = f refl
 mild-took : (number : ℕ) (b : Bool) (d : Down) (took : List ℕ) → IsMild d → took_after number b d took ≡ took
 mild-took number true (down.Select t) took m = absurd m
 mild-took number true (down.Command t n code room) took m = absurd m
-mild-took number true (down.Grant t c) took m = refl
-mild-took number true (down.Refuse t c) took m = refl
-mild-took number true (down.Took t n s room) took m = refl
-mild-took number true (down.Give bytes t c n s) took m = refl
-mild-took number true (down.Halt t) took m = refl
-mild-took number true (down.Release t) took m = refl
 mild-took number true (down.Reset r b) took m = absurd m
-mild-took number true (down.Got a) took m = refl
 mild-took number false d took m = refl
+mild-took number true d took m = refl
 
 select-took : (number : ℕ) (b : Bool) (t : ℕ) (took : List ℕ) → took_after number b (down.Select t) took ≡ took
 select-took number true t took = refl
@@ -465,12 +429,6 @@ unit-takes may side drawn number sent codes took wires u p (down.Select t) most 
 unit-takes may side drawn number sent codes took wires u p (down.Command t n code room) most h rises k =
     old-side side drawn number sent codes took wires u p (down.Command t n code room) (unit_works u side p (down.Command t n code room) may) (side_of u side).fresh
     (λ old. commanded-if side drawn number sent codes took wires u t n code room (Some (new_command code room)) (is_owner u.own side t) (n == u.last_command + 1) refl refl h k) k
-unit-takes may side drawn number sent codes took wires u p (down.Grant t c) most h rises k = mild-taken may side drawn number sent codes took wires u p (down.Grant t c) tt k
-unit-takes may side drawn number sent codes took wires u p (down.Refuse t c) most h rises k = mild-taken may side drawn number sent codes took wires u p (down.Refuse t c) tt k
-unit-takes may side drawn number sent codes took wires u p (down.Took t n s room) most h rises k = mild-taken may side drawn number sent codes took wires u p (down.Took t n s room) tt k
-unit-takes may side drawn number sent codes took wires u p (down.Give bytes t c n s) most h rises k = mild-taken may side drawn number sent codes took wires u p (down.Give bytes t c n s) tt k
-unit-takes may side drawn number sent codes took wires u p (down.Halt t) most h rises k = mild-taken may side drawn number sent codes took wires u p (down.Halt t) tt k
-unit-takes may side drawn number sent codes took wires u p (down.Release t) most h rises k = mild-taken may side drawn number sent codes took wires u p (down.Release t) tt k
 unit-takes may side drawn number sent codes took wires u p (down.Reset r b) most h rises k =
     reset-by side drawn number sent codes took wires u p r b (b == u.restarts) (side_of u side).fresh (nat_lt (side_of u side).floor r) rises h k
-unit-takes may side drawn number sent codes took wires u p (down.Got a) most h rises k = mild-taken may side drawn number sent codes took wires u p (down.Got a) tt k
+unit-takes may side drawn number sent codes took wires u p d most h rises k = mild-taken may side drawn number sent codes took wires u p d tt k

@@ -129,18 +129,10 @@ freed-still side u = no-owner side u (freed u) (same-sides side u (freed u) refl
 abbrev pub IsMild : Down → Type 0
 IsMild (down.Select t) = ⊥
 IsMild (down.Command t n code room) = ⊥
-IsMild (down.Grant t c) = Unit {0}
-IsMild (down.Refuse t c) = Unit {0}
-IsMild (down.Took t n s room) = Unit {0}
-IsMild (down.Give bytes t c n s) = Unit {0}
-IsMild (down.Halt t) = Unit {0}
-IsMild (down.Release t) = Unit {0}
 IsMild (down.Reset r b) = ⊥
-IsMild (down.Got a) = Unit {0}
+IsMild d = Unit {0}
 
 mild-works : (side : Side) (u : UnitState) (k : Side) (p : ℕ) (d : Down) (may : Bool) → IsMild d → IsStillStep side u (unit_works u k p d may)
-mild-works side u k p (down.Select t) may m = absurd m
-mild-works side u k p (down.Command t n code room) may m = absurd m
 mild-works side u k p (down.Grant t c) may m = granted-leaves (IsStill side) (still-places side) u u.own k p t c refl
 mild-works side u k p (down.Refuse t c) may m = refused-leaves (IsStill side) (still-places side) u u.own k t c refl
 mild-works side u k p (down.Took t n s room) may m =
@@ -149,8 +141,8 @@ mild-works side u k p (down.Give bytes t c n s) may m =
     if-still side u (is_owner_on u.own k t c && (n == u.last_command)) _ None (given-still side u u.at_hand s bytes) (still side u)
 mild-works side u k p (down.Halt t) may m = if-still side u (is_owner u.own k t && not u.halted) _ None (halted-still side u) (still side u)
 mild-works side u k p (down.Release t) may m = if-still side u (is_owner u.own k t) _ None (freed-still side u) (still side u)
-mild-works side u k p (down.Reset r b) may m = absurd m
 mild-works side u k p (down.Got a) may m = forgetting-leaves (IsStill side) (still-places side) u u.attention k a
+mild-works side u k p d may m = absurd m
 
 fresh-still : (side : Side) (u : UnitState) (k : Side) (p : ℕ) (step : Option UnitStep) → IsStillStep side u step → IsStillStep side u (if (side_of u k).fresh then telling u p else step)
 fresh-still side u k p step h = if-still side u (side_of u k).fresh (telling u p) step (still side u) h
@@ -158,14 +150,8 @@ fresh-still side u k p step h = if-still side u (side_of u k).fresh (telling u p
 pub mild-still : (side : Side) (u : UnitState) (k : Side) (p : ℕ) (d : Down) (may : Bool) → IsMild d → IsStillStep side u (unit_takes u k p d may)
 mild-still side u k p (down.Select t) may m = absurd m
 mild-still side u k p (down.Command t n code room) may m = absurd m
-mild-still side u k p (down.Grant t c) may m = fresh-still side u k p _ (mild-works side u k p (down.Grant t c) may m)
-mild-still side u k p (down.Refuse t c) may m = fresh-still side u k p _ (mild-works side u k p (down.Refuse t c) may m)
-mild-still side u k p (down.Took t n s room) may m = fresh-still side u k p _ (mild-works side u k p (down.Took t n s room) may m)
-mild-still side u k p (down.Give bytes t c n s) may m = fresh-still side u k p _ (mild-works side u k p (down.Give bytes t c n s) may m)
-mild-still side u k p (down.Halt t) may m = fresh-still side u k p _ (mild-works side u k p (down.Halt t) may m)
-mild-still side u k p (down.Release t) may m = fresh-still side u k p _ (mild-works side u k p (down.Release t) may m)
 mild-still side u k p (down.Reset r b) may m = absurd m
-mild-still side u k p (down.Got a) may m = fresh-still side u k p _ (mild-works side u k p (down.Got a) may m)
+mild-still side u k p d may m = fresh-still side u k p _ (mild-works side u k p d may m)
 
 -- every signal of the other side leaves this one
 selected-other : (side : Side) (u : UnitState) (o : Own) (k : Side) (p t : ℕ) (may : Bool) → same_side k side ≡ false → IsStillStep side u (selected (raised u k t) o k p t may)
@@ -209,15 +195,9 @@ pub other-still : (side : Side) (u : UnitState) (k : Side) (p : ℕ) (d : Down) 
 other-still side u k p (down.Select t) may e =
     fresh-still side u k p _ (if-still side u (nat_lt (side_of u k).floor t) _ None (selected-other side u u.own k p t may e) (still side u))
 other-still side u k p (down.Command t n code room) may e = fresh-still side u k p _ (commanded-other side u k t n _ (is_owner u.own k t) e refl (n == u.last_command + 1))
-other-still side u k p (down.Grant t c) may e = mild-still side u k p (down.Grant t c) may tt
-other-still side u k p (down.Refuse t c) may e = mild-still side u k p (down.Refuse t c) may tt
-other-still side u k p (down.Took t n s room) may e = mild-still side u k p (down.Took t n s room) may tt
-other-still side u k p (down.Give bytes t c n s) may e = mild-still side u k p (down.Give bytes t c n s) may tt
-other-still side u k p (down.Halt t) may e = mild-still side u k p (down.Halt t) may tt
-other-still side u k p (down.Release t) may e = mild-still side u k p (down.Release t) may tt
 other-still side u k p (down.Reset r b) may e =
     if-still side u (resets u k r b) _ _ (reset-other side u k r e) (fresh-still side u k p None (still side u))
-other-still side u k p (down.Got a) may e = mild-still side u k p (down.Got a) may tt
+other-still side u k p d may e = mild-still side u k p d may tt
 
 -- a report is of the command at hand alone
 begun-still : (side : Side) (u : UnitState) (p t c : ℕ) (x : AtHand) → IsStillStep side u (command_begun u p t c x)
@@ -238,10 +218,6 @@ ended-still : (side : Side) (u : UnitState) (p t : ℕ) (x : AtHand) (may : Bool
 ended-still side u p t x may status more = if-still side u may (end_sent u p t x status more) None (with-hand side u _) (still side u)
 
 answer-still : (side : Side) (u : UnitState) (p t c : ℕ) (x : AtHand) (at : Progress) (a : DeviceAnswer) → IsStillStep side u (answer_taken u p t c x at a)
-answer-still side u p t c x progress.New (answer.Ended status more) = ended-still side u p t x (may_end u.halted x progress.New status more) (shown_end progress.New status) more
-answer-still side u p t c x progress.Working (answer.Ended status more) = ended-still side u p t x (may_end u.halted x progress.Working status more) (shown_end progress.Working status) more
-answer-still side u p t c x progress.ChannelEnded (answer.Ended status more) = ended-still side u p t x (may_end u.halted x progress.ChannelEnded status more) (shown_end progress.ChannelEnded status) more
-answer-still side u p t c x progress.Ended (answer.Ended status more) = ended-still side u p t x (may_end u.halted x progress.Ended status more) (shown_end progress.Ended status) more
 answer-still side u p t c x progress.New answer.Begins = begun-still side u p t c x
 answer-still side u p t c x progress.Working answer.Begins = still side u
 answer-still side u p t c x progress.ChannelEnded answer.Begins = still side u
@@ -258,6 +234,7 @@ answer-still side u p t c x progress.New answer.Again = still side u
 answer-still side u p t c x progress.Working answer.Again = again-still side u p t c x x.unanswered
 answer-still side u p t c x progress.ChannelEnded answer.Again = still side u
 answer-still side u p t c x progress.Ended answer.Again = still side u
+answer-still side u p t c x other (answer.Ended status more) = ended-still side u p t x (may_end u.halted x other status more) (shown_end other status) more
 
 report_on-still : (side : Side) (u : UnitState) (t : ℕ) (place : Place) (x : Option AtHand) (r : Report) → IsStillStep side u (report_on u t place x r)
 report_on-still side u t (On p c) (Some x) r = if-still side u (r.sequence == x.sequence) _ None (answer-still side u p t c x x.progress r.answer) (still side u)

@@ -21,24 +21,7 @@ asked_by s e r = s.requests
 
 turn-asked : (s : State) (e : Event) (r : Reply) (new : State) → TurnOf s e r new → new.requests ≡ asked_by s e r
 turn-asked s _ _ _ (turn.Puts address bytes storage e) = refl
-turn-asked s _ _ _ (turn.SetsKey address key storage e) = refl
-turn-asked s _ _ _ (turn.SetsPrefix cpu address storage e) = refl
-turn-asked s _ _ _ (turn.Shows address count bytes e) = refl
-turn-asked s _ _ _ (turn.Executes cpu i id q r storage subs n e blocks left done) = refl
-turn-asked s _ _ _ (turn.Interrupts cpu mask address) = refl
-turn-asked s _ _ _ (turn.AsksReset cpu path) = refl
-turn-asked s _ _ _ (turn.StoresReport cpu address) = refl
-turn-asked s _ _ _ (turn.StoresPaths cpu address) = refl
-turn-asked s _ _ _ (turn.Chosen word place sub choice t named there is ok) = refl
-turn-asked s _ _ _ (turn.Meets word path place sub t named there ok) = refl
-turn-asked s _ _ _ (turn.Takes word path place sub u t named there found ok) = refl
-turn-asked s _ _ _ (turn.Reports at place sub u report t found first there ok) = refl
-turn-asked s _ _ _ (turn.Acts at place sub u what side t found is first there ok) = refl
-turn-asked s _ _ _ (turn.Restarts at u found) = refl
-turn-asked s _ _ _ (turn.GoesDown chpid) = refl
-turn-asked s _ _ _ (turn.ComesUp chpid) = refl
-turn-asked s _ _ _ (turn.IsReset chpid asked) = refl
-turn-asked s _ _ _ turn.ResetsAll = refl
+turn-asked s _ _ _ t = refl
 
 pub step-asked : (s : State) (e : Event) (r : Reply) (new : State) → Step s e r new →
     new.requests ≡ posted_all s.subs new.subs (requests_dropped s e r (asked_by s e r))

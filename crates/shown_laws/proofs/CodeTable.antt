@@ -9,11 +9,4 @@ use Rattle.shown_laws.specs.CodeTable.{code_due}
 
 pub code-is : (i : Instruction) (s : SubchannelState) → code_by i (condition_of (Some s)) ≡ code_due i s.pmcw.enabled s.scsw
 code-is (instruction.Ssch word address) s = refl
-code-is (instruction.Tsch word address) s = refl
-code-is (instruction.Stsch word address) s = refl
-code-is (instruction.Msch word address) s = refl
-code-is (instruction.Rsch word) s = refl
-code-is (instruction.Hsch word) s = refl
-code-is (instruction.Csch word) s = refl
-code-is (instruction.Xsch word) s = refl
-code-is (instruction.Enable word subclass multipath) s = refl
+code-is i s = refl

@@ -167,34 +167,13 @@ module _ (id : SubchannelId) (s new : State) (shown : StoredStatus) where
 
   instruction-stored : (cpu : ℕ) (i : Instruction) (r : Reply) → Step s (event.Execute cpu i) r new → stored_by s.sets id (event.Execute cpu i) r ≡ Some shown →
       IsStored id s new shown
-  instruction-stored cpu (instruction.Ssch word address) r step e = absurd (cc e)
-  instruction-stored cpu (instruction.Tsch word address) r step e = absurd (cc e)
   instruction-stored cpu (instruction.Stsch word address) r step e =
       if-stored cpu word address r (names s.sets id word) refl (executed s cpu (instruction.Stsch word address) r new step) e
-  instruction-stored cpu (instruction.Msch word address) r step e = absurd (cc e)
-  instruction-stored cpu (instruction.Enable word subclass multipath) r step e = absurd (cc e)
-  instruction-stored cpu (instruction.Rsch word) r step e = absurd (cc e)
-  instruction-stored cpu (instruction.Hsch word) r step e = absurd (cc e)
-  instruction-stored cpu (instruction.Csch word) r step e = absurd (cc e)
-  instruction-stored cpu (instruction.Xsch word) r step e = absurd (cc e)
+  instruction-stored cpu i r step e = absurd (cc e)
 
   pub step-stored : (e : Event) (r : Reply) → Step s e r new → stored_by s.sets id e r ≡ Some shown → IsStored id s new shown
-  step-stored (event.Put address bytes) r step e = absurd (cc e)
-  step-stored (event.SetKey address key) r step e = absurd (cc e)
-  step-stored (event.SetPrefix cpu address) r step e = absurd (cc e)
-  step-stored (event.Show address count) r step e = absurd (cc e)
   step-stored (event.Execute cpu i) r step e = instruction-stored cpu i r step e
-  step-stored (event.ExecuteOther cpu i) r step e = absurd (cc e)
-  step-stored (event.Choose word) r step e = absurd (cc e)
-  step-stored (event.Up word path) r step e = absurd (cc e)
-  step-stored (event.Down word path) r step e = absurd (cc e)
-  step-stored (event.Report at report) r step e = absurd (cc e)
-  step-stored (event.Act at what) r step e = absurd (cc e)
-  step-stored (event.Restart at) r step e = absurd (cc e)
-  step-stored (event.PathDown chpid) r step e = absurd (cc e)
-  step-stored (event.PathUp chpid) r step e = absurd (cc e)
-  step-stored (event.PathReset chpid) r step e = absurd (cc e)
-  step-stored event.SystemReset r step e = absurd (cc e)
+  step-stored v r step e = absurd (cc e)
 
 -- what is so of each step of a run, of the subchannel of a name, is so between what is shown of it
 abbrev pub IsOfSteps : (setup : Setup) → SubchannelId → (List Entry → StoredStatus → Event → Reply → StoredStatus → Type 0) → Type 0

@@ -66,11 +66,9 @@ use Rattle.step_laws.proofs.Turns.{TurnOf, HasTurn, step-turn}
 abbrev pub reply_chosen : SubchannelState → Chosen → Reply
 reply_chosen s Idle = reply.Idle
 reply_chosen s (Resets r path) = reply.ResetSent r path
-reply_chosen s PerformsClear = reply.Pending
 reply_chosen s (Halts t path) = reply.HaltSent t path
-reply_chosen s PerformsHalt = reply.Pending
-reply_chosen s FindsNoPath = reply.Pending
 reply_chosen s (Offers c path) = reply.Offered (s.drawn + 1) path c.resumes
+reply_chosen s other = reply.Pending
 
 abbrev pub state_chosen : SubchannelState → Chosen → SubchannelState
 state_chosen s Idle = s
@@ -127,12 +125,8 @@ choice-left sub (Offers c path) t ok =
     send-chosen sub (offered sub.state c.program path) _ (reply.Offered (sub.state.drawn + 1) path c.resumes) _ t refl ok
 
 unsent-away : (h : HoldState) (phase : HoldPhase) → is_away phase ≡ true → unsent_reset (record h { phase = phase }) ≡ None
-unsent-away h hold.Free e = refl
-unsent-away h (hold.Offer t p) e = refl
-unsent-away h (hold.On t p c) e = refl
-unsent-away h (hold.Away t) e = refl
-unsent-away h (hold.Letting t p) e = refl
 unsent-away h (hold.Reset r) e = absurd (cc e)
+unsent-away h other e = refl
 
 away-choice : (subs : List Subchannel) (sub : Subchannel) (choice : Option ℕ) → IsChoice (paths_to_choose subs sub) choice → IsAwayChoice sub choice
 away-choice subs sub choice is pending away =
@@ -274,16 +268,8 @@ module _ (s : State) (id : SubchannelId) (place : ℕ) (sub : Subchannel) (mine 
 
   -- each turn of an event
   turn-turns : (e : Event) (r : Reply) (new : State) → TurnOf s e r new → Turns e r new
-  turn-turns _ _ _ (turn.Puts address bytes storage e) = rests _ _ s refl refl
-  turn-turns _ _ _ (turn.SetsKey address key storage e) = rests _ _ s refl refl
-  turn-turns _ _ _ (turn.SetsPrefix cpu address storage e) = rests _ _ s refl refl
-  turn-turns _ _ _ (turn.Shows address count bytes e) = rests _ _ s refl refl
   turn-turns _ _ _ (turn.Executes cpu i named q r storage subs n e blocks left done) =
       executed-turns cpu i r (record s { storage = storage; subs = subs }) (as-executed s i named q r storage subs s.requests n e done)
-  turn-turns _ _ _ (turn.Interrupts cpu mask address) = rests _ _ s refl refl
-  turn-turns _ _ _ (turn.AsksReset cpu path) = rests _ _ s refl refl
-  turn-turns _ _ _ (turn.StoresReport cpu address) = rests _ _ s refl refl
-  turn-turns _ _ _ (turn.StoresPaths cpu address) = rests _ _ s refl refl
   turn-turns _ _ _ (turn.Chosen word k x choice t n at is ok) =
       let was : (t.reply ≡ reply_chosen (marked_sub x choice).state (chosen x choice)) × (t.sub.state ≡ state_chosen (marked_sub x choice).state (chosen x choice)) =
       choice-left (marked_sub x choice) (chosen x choice) t ok in
@@ -306,11 +292,11 @@ module _ (s : State) (id : SubchannelId) (place : ℕ) (sub : Subchannel) (mine 
       apart-turns _ t.reply (with_sub s k t.sub) k x t.sub refl at refl (subst (λ (r : Result DownTurn Fault). IfOk r (IsApart x)) ok (step-apart x (unit_reports u report)))
   turn-turns _ _ _ (turn.Acts unit k x u what side t found is first at ok) =
       apart-turns _ t.reply (with_sub s k t.sub) k x t.sub refl at refl (subst (λ (r : Result DownTurn Fault). IfOk r (IsApart x)) ok (act-apart x u what))
-  turn-turns _ _ _ (turn.Restarts unit u found) = rests _ _ s refl refl
   turn-turns _ _ _ (turn.GoesDown chpid) = swept-turns (sweep.GoesDown chpid) reply.Done (with_swept s (sweep.GoesDown chpid)) refl
   turn-turns _ _ _ (turn.ComesUp chpid) = swept-turns (sweep.ComesUp chpid) reply.Done (with_swept s (sweep.ComesUp chpid)) refl
   turn-turns _ _ _ (turn.IsReset chpid asked) = swept-turns (sweep.PathReset chpid) reply.Done (with_swept s (sweep.PathReset chpid)) refl
   turn-turns _ _ _ turn.ResetsAll = swept-turns sweep.SystemReset reply.Done (with_swept s sweep.SystemReset) refl
+  turn-turns _ _ _ t = rests _ _ s refl refl
 
   -- each step
   pub step-turns : (e : Event) (r : Reply) (new : State) → Step s e r new → Turns e r new

@@ -44,10 +44,8 @@ given-same : (storage : Contents) (t : Transfer) → IsSame t (next_given storag
 given-same storage t = given_from-same storage (located_transfer storage t) ∙ located-same storage t
 
 chained_to-same : (t : Transfer) (walk : WalkPlace) (a : Option Advance) → IsSame t (chained_to t walk a)
-chained_to-same t walk None = refl
 chained_to-same t walk (Some (Takes ccw)) = refl
-chained_to-same t walk (Some Suspends) = refl
-chained_to-same t walk (Some (Stops check)) = refl
+chained_to-same t walk other = refl
 
 chained-same : (storage : Contents) (t : Transfer) → IsSame t (chained storage t)
 chained-same storage t =
