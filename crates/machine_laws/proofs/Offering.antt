@@ -13,7 +13,7 @@ use Rattle.chan_model.specs.declared.signal.Down.TheVariants as down
 use Rattle.path_select.specs.Choice.{IsChoice, IsUsable}
 use Rattle.subchannel_model.specs.declared.state.Candidate.{Candidate}
 use Rattle.subchannel_model.specs.declared.state.Chosen.{Chosen}
-use Rattle.subchannel_model.specs.declared.state.Chosen.TheVariants.{Idle, Resets, PerformsClear, Halts, PerformsHalt, FindsNoPath, Offers}
+use Rattle.subchannel_model.specs.declared.state.Chosen.TheVariants.{Idle, Resets, Halts, Offers}
 use Rattle.subchannel_model.specs.declared.state.Subchannel.{Subchannel}
 use Rattle.subchannel_model.proofs.Named.{paths_by, unsent_at}
 use Rattle.subchannel_model.specs.Choosing.{unsent_reset, is_away, first_some, candidate, path_use, engaged_paths, return_paths, paths_to_choose, reset_chosen, clear_chosen, halt_at, over_unless, offer_at, chosen, marked_sub}

@@ -177,8 +177,10 @@ test-shows n id s word address f r new sound stays at there k = by (code_for i f
   where
     i : Instruction
     i = instruction.Tsch word address
+
     replies : (c : ConditionCode) → code_for i f.sub ≡ c → r ≡ reply_of i c f.sub.state (left_by c f.sub.state k.effect)
     replies c is = k.replies ∙ ap (λ (x : ConditionCode). reply_of i x f.sub.state (left_by x f.sub.state k.effect)) is
+
     by : (c : ConditionCode) → code_for i f.sub ≡ c → Shows id s new (serial_shown r)
     by code.Zero is =
         let pending : f.sub.state.scsw.status.pending ≡ true =

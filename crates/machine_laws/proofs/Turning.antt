@@ -16,7 +16,7 @@ use Rattle.schib_block.specs.declared.pmcw.Pmcw as block
 use Rattle.wires.specs.Queues.{queue}
 use Rattle.allegiance.specs.PathUse.{reachable_paths}
 use Rattle.subchannel_model.specs.declared.state.Chosen.{Chosen}
-use Rattle.subchannel_model.specs.declared.state.Chosen.TheVariants.{Idle, Resets, PerformsClear, Halts, PerformsHalt, FindsNoPath, Offers}
+use Rattle.subchannel_model.specs.declared.state.Chosen.TheVariants.{Halts, Offers}
 use Rattle.subchannel_model.specs.declared.state.PmcwState.{PmcwState}
 use Rattle.subchannel_model.specs.declared.state.Subchannel.{Subchannel}
 use Rattle.subchannel_model.specs.Cancel.{cancelled}

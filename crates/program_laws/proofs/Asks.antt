@@ -15,7 +15,7 @@ use Rattle.ccw_walk.specs.declared.check.Check.{Check}
 use Rattle.ccw_walk.specs.declared.program.Advance.{Advance}
 use Rattle.ccw_walk.specs.declared.program.Advance.TheVariants as advance
 use Rattle.ccw_walk.specs.declared.program.Reading.{Reading}
-use Rattle.ccw_walk.specs.declared.program.Reading.TheVariants.{Transfers, Takes, Suspends, Shows}
+use Rattle.ccw_walk.specs.declared.program.Reading.TheVariants.{Transfers}
 use Rattle.ccw_walk.specs.declared.program.Ended.{Ended}
 use Rattle.ccw_walk.specs.Acts.{Act, Block, End, Used_up}
 use Rattle.ccw_walk.specs.Blocks.{reads}

@@ -28,7 +28,7 @@ use Rattle.step_laws.proofs.Executed.{reply_of, code_for, state_left}
 use Rattle.shown_laws.proofs.Fitting.{Fits, fits-opens, turned-fits}
 use Rattle.shown_laws.proofs.Following.{turned-follows}
 use Rattle.shown_laws.proofs.Runs.{AreLaws, run-keeps}
-use Rattle.shown_laws.proofs.Turned.{Turned, Executes, Chooses, Meets, Sweeps, Rests}
+use Rattle.shown_laws.proofs.Turned.{Turned, Executes, Sweeps, Rests}
 use Rattle.program_laws.specs.ProgramTold.{halt_by, halted_after}
 
 -- what an event is about, by the name of the subchannel

@@ -51,7 +51,7 @@ use Rattle.program_laws.proofs.Holds.{IsPhase, IsHeld, IsUnheld, HasWork, HeldBy
 use Rattle.program_laws.proofs.UnitSides.{other-owner}
 use Rattle.program_laws.proofs.UnitOrders.{IsDown, IsNumbered, on-first}
 use Rattle.program_laws.proofs.UnitHands.{IsCalm, IsQuiet, other-calm}
-use Rattle.program_laws.proofs.UnitTold.{IsTold, Begins_out, Begins_in, Absorbs, Supplies, Tells_again, Ends, IsReportTaken, report-taken}
+use Rattle.program_laws.proofs.UnitTold.{IsTold, Begins_in, Tells_again, Ends, IsReportTaken, report-taken}
 use Rattle.program_laws.proofs.LinkNeeds.{held-needs}
 use Rattle.program_laws.proofs.LinkOrders.{IsLinked, number_of, took_of, number-drawn}
 use Rattle.program_laws.proofs.LinkIdle.{IsIdle, IsNoOffer, idle-meets}

@@ -23,7 +23,7 @@ use Rattle.chan_model.specs.UnitTable.{UnitStep, side_of, resets, unit_takes, un
 use Rattle.chan_model.specs.UnitReports.{unit_reports}
 use Rattle.wires.specs.Queues.{queue, first_of, taken}
 use Rattle.subchannel_model.specs.declared.state.Chosen.{Chosen}
-use Rattle.subchannel_model.specs.declared.state.Chosen.TheVariants.{Idle, Resets, PerformsClear, Halts, PerformsHalt, FindsNoPath, Offers}
+use Rattle.subchannel_model.specs.declared.state.Chosen.TheVariants.{Resets, Halts, FindsNoPath, Offers}
 use Rattle.subchannel_model.specs.declared.cause.StatusCause.TheVariants as cause
 use Rattle.subchannel_model.specs.declared.state.Program.{Program}
 use Rattle.subchannel_model.specs.declared.state.Subchannel.{Subchannel}

@@ -1,5 +1,5 @@
 -- The paths that choosing marks: what is chosen tells the same.
-use Rattle.std.proofs.Common.{◌≡◌, refl, true, false, Option, Some}
+use Rattle.std.proofs.Common.{◌≡◌, refl, true, Option, Some}
 use Rattle.chan_events.specs.Replies.{Reply}
 use Rattle.chan_events.specs.declared.reply.Reply.TheVariants as reply
 use Rattle.scsw_irb.specs.declared.scsw.Scsw.{Scsw}

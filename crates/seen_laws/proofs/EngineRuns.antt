@@ -30,7 +30,7 @@ use Rattle.path_select.specs.Choice.{IsChoice}
 use Rattle.storage_keys.specs.Storage.{Contents}
 use Rattle.wires.specs.Queues.{queue}
 use Rattle.subchannel_model.specs.declared.state.Chosen.{Chosen}
-use Rattle.subchannel_model.specs.declared.state.Chosen.TheVariants.{Idle, Resets, PerformsClear, Halts, PerformsHalt, FindsNoPath, Offers}
+use Rattle.subchannel_model.specs.declared.state.Chosen.TheVariants.{Resets, Halts, Offers}
 use Rattle.subchannel_model.specs.declared.state.Subchannel.{Subchannel}
 use Rattle.subchannel_model.specs.Choosing.{engages, any_engages, is_engaged, path_use, engaged_paths, return_paths, paths_to_choose, chosen, marked_sub, IsFitFor}
 use Rattle.subchannel_model.specs.Sending.{carried_by, finds_full}

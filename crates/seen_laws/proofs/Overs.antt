@@ -46,7 +46,7 @@ use Rattle.subchannel_model.specs.Taking.{quietly, ignoring, let_go, standing, g
 use Rattle.subchannel_model.proofs.Named.{with_known}
 use Rattle.machine_laws.proofs.SameHold.{suspending-same, cause-same}
 use Rattle.seen_laws.specs.BeginsItsOwn.{IsAnswered, IsAcceptRight}
-use Rattle.seen_laws.proofs.Meets.{Meets, Ignored, Turns, Begins, Declines, Moves, Ends, Ends_last, Leaves, Grants, IsGone, IsPlainUp, releases, phase-of, reset-gone, takes-meets}
+use Rattle.seen_laws.proofs.Meets.{Meets, Ignored, Turns, IsGone, IsPlainUp, releases, phase-of, reset-gone, takes-meets}
 use Rattle.seen_laws.proofs.Starts.{Within}
 
 abbrev pub IsHalting : SubchannelState → Type 0

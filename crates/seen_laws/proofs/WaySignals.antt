@@ -38,7 +38,7 @@ use Rattle.seen_laws.specs.OneHolder.{is_next, answers, takes_if, holds_and, is_
 use Rattle.seen_laws.specs.DevicePaths.{Ways, way_met, IsUpBy, IsDownBy, IsGivenTo, IsTakenBy}
 use Rattle.seen_laws.proofs.Holdings.{transfer_in, holder_in, holding_of}
 use Rattle.seen_laws.proofs.Lists.{OnSent}
-use Rattle.seen_laws.proofs.Meets.{Meets, Ignored, Turns, Begins, Declines, Moves, Ends, Ends_last, Leaves, Grants, IsPlainDown, ArePlainDown, IsCommandOn, AreCommandsOn, IsDataAnswer}
+use Rattle.seen_laws.proofs.Meets.{Meets, Turns, Begins, Moves, Ends, Grants, IsPlainDown, ArePlainDown, IsCommandOn, AreCommandsOn, IsDataAnswer}
 use Rattle.seen_laws.proofs.UnitMoves.{owner-of-act}
 use Rattle.seen_laws.proofs.Ways.{OnWay, IsPast, IsPlaced, OwnWay, Follows, accept-way, way_acted, act-follows}
 

@@ -28,7 +28,7 @@ use Rattle.shown_laws.proofs.Standing.{Stands}
 use Rattle.shown_laws.proofs.StandingRuns.{run-stands}
 use Rattle.step_laws.proofs.Places.{both-true}
 use Rattle.shown_laws.proofs.Runs.{AreLaws, status_of, run-between}
-use Rattle.shown_laws.proofs.Turned.{Turned, Executes, Chooses, Meets, Sweeps, Rests, reply_chosen, state_chosen}
+use Rattle.shown_laws.proofs.Turned.{Turned, Chooses, Sweeps, Rests, reply_chosen, state_chosen}
 
 start-candidate : (pending : Bool) (w : Option Program) (c : Candidate) → starting pending w ≡ Some c → (pending ≡ true) × (c.resumes ≡ false)
 start-candidate false w c e = absurd (cc e)

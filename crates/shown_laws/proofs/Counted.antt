@@ -14,7 +14,7 @@ use Rattle.subchannel_model.specs.Causes.{row_of, scsw_before, without_begun, wi
 use Rattle.subchannel_model.specs.Parts.{scsw_joined}
 use Rattle.subchannel_model.specs.Status.{scsw_made, serials_made}
 use Rattle.shown_laws.specs.Serials.{beside}
-use Rattle.shown_laws.proofs.Effects.{Seen, seen, of_seen, Effect, Nothing, Causes, Takes, TakesAsking, Moves, MovesAsking, Suspends, SuspendsShowing, SendsHalt, taken_over, moved, still}
+use Rattle.shown_laws.proofs.Effects.{Seen, seen, of_seen, Effect, Nothing, Causes, TakesAsking, MovesAsking, SuspendsShowing, taken_over, moved, still}
 
 abbrev pub made_by : Bool → ℕ → ℕ → ℕ
 made_by enabled n made = if enabled then made + n else made

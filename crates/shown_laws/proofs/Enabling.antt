@@ -29,7 +29,7 @@ use Rattle.subchannel_model.specs.declared.cause.StatusCause.{StatusCause}
 use Rattle.subchannel_model.specs.declared.cause.StatusCause.TheVariants as cause
 use Rattle.subchannel_model.specs.declared.state.ActiveProgram.{ActiveProgram}
 use Rattle.subchannel_model.specs.declared.state.Chosen.{Chosen}
-use Rattle.subchannel_model.specs.declared.state.Chosen.TheVariants.{Idle, Resets, PerformsClear, Halts, PerformsHalt, FindsNoPath, Offers}
+use Rattle.subchannel_model.specs.declared.state.Chosen.TheVariants.{FindsNoPath}
 use Rattle.subchannel_model.specs.declared.state.Program.{Program}
 use Rattle.subchannel_model.specs.declared.state.Subchannel.{Subchannel}
 use Rattle.subchannel_model.specs.declared.state.SubchannelState.{SubchannelState}
@@ -43,7 +43,7 @@ use Rattle.subchannel_model.specs.Test.{tested, ends_suspended}
 use Rattle.shown_laws.proofs.CodeTable.{code-is}
 use Rattle.shown_laws.specs.Codes.{told_by, enabled_by, enabled_with, code_in, enabled_after, enabled_through, enabled_in, MayBe, IsCodeRight, AreCodesRight}
 use Rattle.shown_laws.specs.Shown.{names, is_about}
-use Rattle.shown_laws.proofs.Effects.{Seen, seen, of_seen, Effect, Nothing, Causes, Takes, TakesAsking, Moves, MovesAsking, Suspends, SuspendsShowing, SendsHalt}
+use Rattle.shown_laws.proofs.Effects.{Seen, seen, of_seen, Effect, Causes}
 use Rattle.step_laws.proofs.Executed.{IsEffect, reply_of, code_for, state_left}
 use Rattle.shown_laws.proofs.Holding.{Held}
 use Rattle.shown_laws.proofs.Runs.{AreLaws, status_of, run-between, run-keeps}

@@ -32,7 +32,7 @@ use Rattle.seen_laws.proofs.Returning.{IsAvailable, up-available, first-returns}
 use Rattle.shown_laws.specs.Halts.{IsFirstDown, IsHaltDone, IsHaltDoneFor, IsHaltRight, AreHaltsDone}
 use Rattle.shown_laws.specs.Shown.{StoredStatus, is_about}
 use Rattle.shown_laws.proofs.Runs.{AreLaws, status_of, run-between}
-use Rattle.shown_laws.proofs.Turned.{Turned, IsAwayChoice, Executes, Chooses, Meets, Sweeps, Rests, reply_chosen}
+use Rattle.shown_laws.proofs.Turned.{Turned, IsAwayChoice, Chooses, Sweeps, Rests, reply_chosen}
 
 -- the number of a Reset that is due, by the phase
 abbrev unsent_at : HoldPhase → Option ℕ → Option ℕ

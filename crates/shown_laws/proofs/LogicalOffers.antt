@@ -20,7 +20,7 @@ use Rattle.path_select.specs.Choice.{IsChoice}
 use Rattle.machine_laws.proofs.Offering.{IsOffer, chosen-offer, offer-usable}
 use Rattle.machine_laws.proofs.PathSets.{both-parts, without-parts, each-true, each-within}
 use Rattle.subchannel_model.specs.declared.state.Chosen.{Chosen}
-use Rattle.subchannel_model.specs.declared.state.Chosen.TheVariants.{Idle, Resets, PerformsClear, Halts, PerformsHalt, FindsNoPath, Offers}
+use Rattle.subchannel_model.specs.declared.state.Chosen.TheVariants.{Resets, Halts, Offers}
 use Rattle.subchannel_model.specs.declared.state.Subchannel.{Subchannel}
 use Rattle.subchannel_model.specs.Choosing.{chosen, engaged_paths, marked_sub, path_use, paths_to_choose}
 use Rattle.subchannel_model.specs.Places.{place_in, place_of_id, sub_at}

@@ -1,10 +1,10 @@
 -- Bytes that move, and rooms that are told, leave whether the next command is chained to.
-use Rattle.std.proofs.Common.{◌≡◌, refl, ◌∙◌, ℕ, ◌+◌, ◌==◌, Bool, true, false, Option, None, Some, Result, Ok, Err, List, [], length}
+use Rattle.std.proofs.Common.{◌≡◌, refl, ◌∙◌, ℕ, ◌+◌, ◌==◌, Bool, true, false, Option, Some, Result, Ok, Err, List, [], length}
 use Rattle.std.specs.Prelude.{if◌then◌else◌, is_some, min}
 use Rattle.storage_keys.specs.Storage.{Contents}
 use Rattle.ccw_walk.specs.declared.check.Check.{Check}
 use Rattle.ccw_walk.specs.declared.program.Advance.{Advance}
-use Rattle.ccw_walk.specs.declared.program.Advance.TheVariants.{Takes, Suspends, Stops}
+use Rattle.ccw_walk.specs.declared.program.Advance.TheVariants.{Takes}
 use Rattle.ccw_walk.specs.Walks.{WalkPlace, after_acts, advance_acts, advance_of}
 use Rattle.ccw_walk.proofs.Named.{after_used_up}
 use Rattle.data_move.specs.Moving as movement
