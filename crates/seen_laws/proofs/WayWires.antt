@@ -10,7 +10,7 @@ use Rattle.chan_model.specs.Signals.{Up}
 use Rattle.storage_keys.specs.Storage.{Contents}
 use Rattle.wires.specs.Queues.{queue, taken, lost}
 use Rattle.subchannel_model.specs.declared.state.Chosen.{Chosen}
-use Rattle.subchannel_model.specs.declared.state.Chosen.TheVariants.{Idle, Resets, PerformsClear, Halts, PerformsHalt, FindsNoPath, Offers}
+use Rattle.subchannel_model.specs.declared.state.Chosen.TheVariants.{Idle, Resets, Halts, Offers}
 use Rattle.subchannel_model.specs.declared.state.Subchannel.{Subchannel}
 use Rattle.subchannel_model.specs.declared.state.UpStep.{UpStep}
 use Rattle.subchannel_model.specs.Choosing.{marked_sub}
