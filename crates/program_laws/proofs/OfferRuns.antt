@@ -190,9 +190,6 @@ up-offers returns storage sub path t k e o =
     (up_front-offers returns storage sub path (slice_get (queue sub.wires.up path) 0) k o) tt)
 
 -- an offer
-standing-none : (w : Option Program) (b : _) (st : ProgramPosition) (k : ProgramTrace) → IsStanding w b (Some st) k → w ≡ None
-standing-none w b st k x = x.0
-
 waits-offered : (w : Option Program) (program : Program) (start t : ℕ) → w ≡ Some program → IsOfferedStart w start (traced.trace_offered t program.orb)
 waits-offered None program start t e = tt
 waits-offered (Some x) program start t e = λ n. (let same : x ≡ program = cc e in ap (λ (y : Program). y.orb) same, refl, refl)

@@ -179,10 +179,6 @@ started-owned over s cpu word address place _ _ (starting_step.Starts at x orb s
     zero-owned over s word at place x (with_state x (started x.state orb)) (reply.Code (answer.Zero serials)) n there refl (start-owned over x.state orb) owned
 
 -- TEST SUBCHANNEL
-abbrev tests_by : Reply → Bool
-tests_by (reply.Status (answer.Zero serials) scsw) = true
-tests_by r = false
-
 data Tested (s : State) (word : ℕ) : Reply → List Subchannel → Type 0 where
   Untested : (r : Reply) → ((over : Bool) → over_tested r over ≡ over) → Tested s word r s.subs
   Untouched : (at : ℕ) (x after : Subchannel) (r : Reply) → slice_get s.subs at ≡ Some x → after.state ≡ x.state → ((over : Bool) → over_tested r over ≡ over) → Tested s word r (slice_set s.subs at after)

@@ -288,11 +288,6 @@ bound-lost phase next us ds f o k stays b = record {
   joint = joint-stays phase next (lost us k) (lost ds k) o stays (joint-lost phase k us ds o b.joint);
 }
 
--- a number above the floor is new
-new-off : (t f : ℕ) (o : Option Connected) → f < t → IsOwnBelow f o → IsOff_for t o
-new-off t f None l b = tt
-new-off t f (Some k) l b = λ e. let n : k.number ≤ f = b in absurd (omega (arith, l, n, e))
-
 pub bound-offered : (phase : HoldPhase) (us : List (List Up)) (ds : List (List Down)) (f t q : ℕ) (o : Option Connected) (available : List Bool) (one : Option (OnPath Down)) → f < t →
     AreOtherDowns one → IsBound phase us ds f o → IsBound (hold.Offer t q) us (with_any_sent ds (carried available one)) f o
 bound-offered phase us ds f t q o available one l a b =

@@ -109,10 +109,6 @@ not-false : (b : Bool) → not b ≡ true → b ≡ false
 not-false true e = absurd (cc e)
 not-false false e = refl
 
-not-back : (b : Bool) → not b ≡ false → b ≡ true
-not-back true e = refl
-not-back false e = absurd (cc e)
-
 get-mapped : (ms : List Member) (i : ℕ) (m : Member) → slice_get ms i ≡ Some m → slice_get (map group_of ms) i ≡ Some m.group
 get-mapped [] i m e = absurd (cc e)
 get-mapped (x ∷ xs) zero m e = let same : x ≡ m = cc e in ap (λ (y : Member). Some y.group) same

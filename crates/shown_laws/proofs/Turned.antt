@@ -35,7 +35,7 @@ use Rattle.machine_model.specs.PathSteps.{swept, with_swept}
 use Rattle.machine_model.specs.ReportSteps.{report_taken}
 use Rattle.machine_model.specs.State.{State, place_of, with_sub}
 use Rattle.machine_model.specs.Steps.{Step}
-use Rattle.machine_model.specs.Turns.{Outcome, SubTurn, UpTurn, DownTurn, with_state}
+use Rattle.machine_model.specs.Turns.{SubTurn, UpTurn, DownTurn, with_state}
 use Rattle.machine_model.specs.UpSteps.{up_front, up_sub}
 use Rattle.step_laws.proofs.Places.{set-get, map-get, found-there}
 use Rattle.step_laws.specs.Walks.{sweep_event}
@@ -194,9 +194,6 @@ act-apart sub u what = if-ok (IsApart sub) (has_path_of_act sub what) (report_ta
 module _ (s : State) (id : SubchannelId) (place : ℕ) (sub : Subchannel) (mine : place_in id s.subs ≡ Some place) (there : slice_get s.subs place ≡ Some sub) where
   abbrev Turns : Event → Reply → State → Type 0
   Turns e r new = (after : Subchannel) → slice_get new.subs place ≡ Some after → Turned s.sets id e r sub after.state
-
-  abbrev OkTurns : Event → Outcome → Type 0
-  OkTurns e o = IfOk o (λ t. Turns e t.reply t.state)
 
   rests : (e : Event) (r : Reply) (new : State) → is_about s.sets id e ≡ false → new.subs ≡ s.subs → Turns e r new
   rests e r new about same after left =
