@@ -24,12 +24,11 @@ use Rattle.machine_model.specs.declared.state.Sweep.TheVariants as sweep
 use Rattle.machine_model.specs.InstructionSteps.{subchannel_word}
 use Rattle.machine_model.specs.PathSteps.{swept, reset_system}
 use Rattle.machine_model.specs.Steps.{Step}
-use Rattle.step_laws.proofs.Places.{get-set, map-get}
+use Rattle.step_laws.proofs.Places.{get-set, map-get, found-there}
 use Rattle.machine_laws.specs.Clearing.{IsClearing, ClearsByCause}
 use Rattle.step_laws.specs.Walks.{Walked}
 use Rattle.machine_laws.proofs.Following.{step-follows}
 use Rattle.subchannel_model.specs.Conditions.{left_by}
-use Rattle.step_laws.proofs.Places.{found-there}
 use Rattle.step_laws.proofs.Executed.{IsDone, IsLeft, absent_reply, code_for, reply_of, state_left}
 use Rattle.step_laws.proofs.Turns as turn
 use Rattle.step_laws.proofs.Turns.{TurnOf, HasTurn, step-turn}

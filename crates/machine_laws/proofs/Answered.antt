@@ -17,18 +17,16 @@ use Rattle.subchannel_model.specs.Conditions.{condition_of}
 use Rattle.subchannel_model.proofs.Named.{found_with, one_later}
 use Rattle.subchannel_model.specs.Places.{Found, found_at, is_named, place_in, place_of_id, sub_at}
 use Rattle.machine_model.specs.State.{State}
-use Rattle.machine_model.specs.InstructionSteps.{subchannel_word}
+use Rattle.machine_model.specs.InstructionSteps.{subchannel_word, stores_irb}
 use Rattle.machine_model.specs.Steps.{Step}
-use Rattle.step_laws.proofs.Places.{get-set}
+use Rattle.step_laws.proofs.Places.{get-set, found-there}
 use Rattle.machine_laws.proofs.NamedAnswers.{state_of}
 use Rattle.machine_laws.specs.Codes.{serials_of, answer_in, IsByTable}
 use Rattle.step_laws.specs.Codes.{code_by}
 use Rattle.chan_model.specs.declared.answer.Answer.{Answer}
 use Rattle.scsw_irb.specs.declared.scsw.Scsw.{Scsw}
 use Rattle.interruptions.specs.Requests.{WaitingRequests}
-use Rattle.machine_model.specs.InstructionSteps.{stores_irb}
 use Rattle.machine_model.specs.Turns.{with_state}
-use Rattle.step_laws.proofs.Places.{found-there}
 use Rattle.step_laws.proofs.Executed.{IsEffect, IsDone, code_for, reply_of, state_left}
 use Rattle.step_laws.proofs.Turns as turn
 use Rattle.step_laws.proofs.Turns.{TurnOf, HasTurn, step-turn}

@@ -5,8 +5,7 @@ use Rattle.storage_keys.specs.Storage.{Contents}
 use Rattle.chan_model.specs.declared.hold_state.HoldPhase.{HoldPhase}
 use Rattle.chan_model.specs.declared.hold_state.HoldPhase.TheVariants as hold
 use Rattle.chan_model.specs.declared.hold_state.HoldState.{HoldState}
-use Rattle.chan_model.specs.Signals.{Load}
-use Rattle.chan_model.specs.Signals.{Up}
+use Rattle.chan_model.specs.Signals.{Load, Up, load_bytes}
 use Rattle.chan_model.specs.declared.signal.Up.TheVariants as up
 use Rattle.chan_model.specs.Loads.{load_length}
 use Rattle.chan_model.specs.HoldTable.{HoldStep, hold_quietly, refusing, granting, program_begun, offer_accepted, found_busy, left, asked_back, released, attended, hold_after, came_of, is_connected, is_on}
@@ -28,7 +27,6 @@ use Rattle.subchannel_model.specs.Causes.{with_cause}
 use Rattle.subchannel_model.specs.Ends.{has_status_modifier, chains_command}
 use Rattle.subchannel_model.proofs.Named.{give_next, with_attention}
 use Rattle.subchannel_model.specs.Taking.{Met, meets, ignoring, quietly, let_go, by_hold, interrupted, path_used, taking_over, suspending, standing, goes_ahead, beginning, begin_standing, halt_done, accept, take_in, move_bytes, move_data, with_end, end_taken, chaining, goes_on, stops_at, command_ended, end_of, may_attend, takes_up}
-use Rattle.chan_model.specs.Signals.{load_bytes}
 use Rattle.subchannel_model.specs.Parts.{chain_with, end_shown_at}
 use Rattle.machine_laws.proofs.CalmStatus.{IsAsReset, as-same, IsCalm, calm-same, calm-then, counts-same, cause-calm, interrupted-calm, moving-calm, suspending-calm, halt_done-calm, attention-calm, let_go-calm}
 

@@ -1,5 +1,5 @@
 -- What clears no status of a subchannel, and neither resets its hold nor ends a reset.
-use Rattle.std.proofs.Common.{◌≡◌, ◌≤◌, refl, sym, ◌∙◌, arith, ℕ, ◌+◌, Bool, true, false, Option, None, Some, inl, inr}
+use Rattle.std.proofs.Common.{◌≡◌, ◌≤◌, refl, sym, ◌∙◌, arith, ℕ, ◌+◌, Bool, true, false, Option, None, Some, inl, inr, ap}
 use Rattle.std.specs.Prelude.{◌⊎◌, if◌then◌else◌}
 use Rattle.chan_model.specs.declared.hold_state.HoldPhase.{HoldPhase}
 use Rattle.chan_model.specs.declared.hold_state.HoldPhase.TheVariants as hold
@@ -22,6 +22,8 @@ use Rattle.subchannel_model.specs.Parts.{scsw_joined, suspended_alone, standing_
 use Rattle.subchannel_model.specs.Losing.{reset_drawn, reset_with}
 use Rattle.subchannel_model.specs.Status.{scsw_made, serials_made}
 use Rattle.subchannel_model.specs.Taking.{let_go, without_pci, interrupted, with_transfer, moving_on, suspending, halt_done, clear_done}
+use Rattle.subchannel_model.specs.declared.state.PmcwState.{PmcwState}
+use Rattle.machine_laws.proofs.Beside.{left-beside}
 
 -- one phase is a reset under a number exactly where the other is
 pub record IsAsReset (old new : HoldPhase) : Type 0 where
@@ -119,23 +121,8 @@ left-calm s cause.NoPath = without_waiting-calm s s.waiting
 left-calm s other = calm-same s _ refl refl refl refl
 
 -- no cause enables or disables a subchannel
-after_end-enabled : (s : SubchannelState) (b : ActiveProgram) (last : Bool) → (programs_after_end s b last).pmcw.enabled ≡ s.pmcw.enabled
-after_end-enabled s b true = refl
-after_end-enabled s b false = refl
-
-without_begun-enabled : (s : SubchannelState) (b : Option ActiveProgram) → (without_begun b s).pmcw.enabled ≡ s.pmcw.enabled
-without_begun-enabled s None = refl
-without_begun-enabled s (Some b) = refl
-
-without_waiting-enabled : (s : SubchannelState) (w : Option Program) → (without_waiting w s).pmcw.enabled ≡ s.pmcw.enabled
-without_waiting-enabled s None = refl
-without_waiting-enabled s (Some w) = refl
-
 left-enabled : (s : SubchannelState) (c : StatusCause) → (row_of s c).left.pmcw.enabled ≡ s.pmcw.enabled
-left-enabled s (cause.End b status more) = after_end-enabled s b (is_last_end status)
-left-enabled s (cause.FetchFault tried check count) = without_begun-enabled s s.begun
-left-enabled s cause.NoPath = without_waiting-enabled s s.waiting
-left-enabled s other = refl
+left-enabled s c = ap (λ (p : PmcwState). p.enabled) (left-beside s c).pmcw
 
 pub cause-calm : (s : SubchannelState) (c : StatusCause) → IsCalm s (with_cause s c)
 cause-calm s c = row-calm s (row_of s c) (scsw_before s.scsw c) (left-enabled s c) (left-calm s c)

@@ -20,7 +20,7 @@ use Rattle.channel_config.specs.Lawful.{IsLawful}
 use Rattle.channel_config.specs.Setup.{Setup}
 use Rattle.agreement_laws.specs.Claims.{IsResetDue, DoAgree}
 use Rattle.agreement_laws.specs.Invariant.{IsGood}
-use Rattle.agreement_laws.specs.Links.{Links, link_of, opening_links}
+use Rattle.agreement_laws.specs.Links.{Links, link_of, opening_links, Link}
 use Rattle.subchannel_model.specs.declared.state.Subchannel.{Subchannel}
 use Rattle.subchannel_model.specs.Choosing.{chosen, marked_sub}
 use Rattle.subchannel_model.specs.Start.{started}
@@ -47,7 +47,6 @@ use Rattle.machine_laws.proofs.Moves.{if-ok}
 use Rattle.machine_laws.proofs.RunAgrees.{start-hold, test-hold, modify-hold, function-hold, run-told}
 use Rattle.machine_laws.proofs.TaleEvents.{Tells, start-tells, test-tells, modify-tells, function-tells, choose-tells, marked-tells, up_sub-tells}
 use Rattle.machine_laws.proofs.UnitEvents.{Follows, IsKept, hold-kept, down-kept, report-kept, act-kept, owing-kept, told_links, links-wider, restart-good, with_owed, owed-link, owed-due}
-use Rattle.agreement_laws.specs.Links.{Link}
 use Rattle.agreement_laws.specs.Moving.{Restarts}
 use Rattle.step_laws.proofs.Marks.{marked-suits}
 use Rattle.step_laws.proofs.Places.{set-get, map-get}

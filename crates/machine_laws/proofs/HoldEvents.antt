@@ -6,11 +6,9 @@ use Rattle.chan_model.specs.declared.hold_state.HoldPhase.{HoldPhase}
 use Rattle.chan_model.specs.declared.hold_state.HoldPhase.TheVariants as hold
 use Rattle.chan_model.specs.declared.hold_state.HoldState.{HoldState}
 use Rattle.chan_model.specs.declared.fault.Fault.{Fault}
-use Rattle.chan_model.specs.Signals.{Down}
+use Rattle.chan_model.specs.Signals.{Down, Load, Up, load_bytes}
 use Rattle.chan_model.specs.declared.signal.Down.TheVariants as down
-use Rattle.chan_model.specs.Signals.{Load}
 use Rattle.chan_model.specs.declared.signal.OnPath.{OnPath}
-use Rattle.chan_model.specs.Signals.{Up}
 use Rattle.chan_model.specs.declared.signal.Up.TheVariants as up
 use Rattle.chan_model.specs.HoldTable.{HoldStep, program_begun, hold_after, hold_takes, is_connected, is_on, letting_go, sending_reset, came_of}
 use Rattle.chan_model.specs.UnitReports.{is_last_end, is_outward, has_device_end}
@@ -47,7 +45,6 @@ use Rattle.subchannel_model.specs.Sending.{carried_by, finds_full}
 use Rattle.machine_model.specs.UpSteps.{up_front, up_sub}
 use Rattle.subchannel_model.proofs.Named.{with_known, give_next, with_attention}
 use Rattle.subchannel_model.specs.Taking.{Met, meets, ignoring, quietly, sending, let_go, by_hold, moving_on, giving, answering, take_in, standing, goes_ahead, path_used, taking_over, interrupted, suspending, beginning, begin_standing, halt_done, accept, move_bytes, move_data, with_end, end_taken, chaining, goes_on, stops_at, command_ended, end_of, reset_taken, may_attend, takes_up}
-use Rattle.chan_model.specs.Signals.{load_bytes}
 use Rattle.subchannel_model.specs.Parts.{chain_with, end_shown_at, has_any}
 use Rattle.subchannel_model.specs.Losing.{is_offered_or_held, reset_for}
 use Rattle.machine_laws.proofs.Resetting.{reset-acted}

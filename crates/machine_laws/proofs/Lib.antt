@@ -4,6 +4,7 @@ mod Moves
 mod RunSound
 mod RunSerials
 pub mod Growth
+pub mod Beside
 pub mod SameHold
 mod HoldEvents
 mod UnitPlain

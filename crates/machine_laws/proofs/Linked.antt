@@ -16,7 +16,7 @@ use Rattle.channel_config.specs.declared.parts.UnitKind.{UnitKind}
 use Rattle.channel_config.specs.Lawful.{IsLawful}
 use Rattle.channel_config.specs.Setup.{Setup}
 use Rattle.wires.specs.Queues.{queue}
-use Rattle.agreement_laws.specs.Links.{Links, link_of, opening_links}
+use Rattle.agreement_laws.specs.Links.{Links, link_of, opening_links, Link}
 use Rattle.agreement_laws.specs.Invariant.{IsGood}
 use Rattle.subchannel_model.specs.declared.state.Subchannel.{Subchannel}
 use Rattle.machine_model.specs.State.{opening_of, idle_of}
@@ -31,7 +31,6 @@ use Rattle.machine_laws.proofs.HoldEvents.{IsOfHold}
 use Rattle.machine_laws.proofs.TaleEvents.{Tells}
 use Rattle.machine_laws.proofs.Tales.{IsTold, told-opened, told-wider}
 use Rattle.machine_laws.proofs.UnitEvents.{Follows, IsKept, hold-kept, told_links, links-wider, told-accepted, restart-good, restart-passed, with_owed, owed-link, owed-good, owed-passed, owed-accepted}
-use Rattle.agreement_laws.specs.Links.{Link}
 use Rattle.agreement_laws.specs.Moving.{Restarts}
 use Rattle.step_laws.proofs.Places.{set-get, map-get, one-place}
 

@@ -46,8 +46,7 @@ use Rattle.machine_model.specs.Steps.{Run, Opened, Stepped}
 use Rattle.machine_model.specs.Sharing.{owing}
 use Rattle.machine_laws.specs.Agreeing.{IsAgreed, AllAgree, AreAbove, IsEnd}
 use Rattle.machine_laws.specs.Beginnings.{StartCounts, with_offer, with_taken, starts_after, starts_by, starts, IsBegunOnce}
-use Rattle.machine_laws.proofs.Named.{with_start}
-use Rattle.machine_laws.proofs.Named.{is_same_id, no_starts}
+use Rattle.machine_laws.proofs.Named.{with_start, is_same_id, no_starts}
 use Rattle.machine_laws.specs.Claims.{is_id}
 use Rattle.step_laws.specs.Walks as walked
 use Rattle.machine_model.specs.PathSteps.{swept}

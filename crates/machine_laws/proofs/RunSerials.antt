@@ -17,25 +17,22 @@ use Rattle.chan_model.specs.declared.answer.ConditionCode.TheVariants as code
 use Rattle.chan_events.specs.declared.reply.Entry.{Entry}
 use Rattle.chan_events.specs.Replies.{Reply}
 use Rattle.chan_model.specs.ConditionCodes.{in_order}
-use Rattle.subchannel_model.specs.Conditions.{is_operational, condition_of}
+use Rattle.subchannel_model.specs.Conditions.{is_operational, condition_of, left_by}
 use Rattle.subchannel_model.specs.declared.state.Subchannel.{Subchannel}
 use Rattle.interruptions.specs.Requests.{WaitingRequests}
 use Rattle.machine_model.specs.State.{State, opening_of}
 use Rattle.subchannel_model.proofs.Named.{one_later}
-use Rattle.subchannel_model.specs.Places.{found_at, is_named, place_in, sub_at}
+use Rattle.subchannel_model.specs.Places.{found_at, is_named, place_in, sub_at, Found}
 use Rattle.subchannel_model.specs.declared.state.SubchannelState.{SubchannelState}
 use Rattle.subchannel_model.specs.Test.{ends_suspended, tested_wholly, tested}
 use Rattle.subchannel_model.specs.Programs.{without_programs}
 use Rattle.machine_model.specs.Turns.{with_state}
 use Rattle.machine_model.specs.Steps.{Step, Run, Opened, Stepped}
 use Rattle.step_laws.specs.Walks.{AreWalks}
-use Rattle.machine_laws.proofs.Named.{is_same_id, serial_by, serial_at}
+use Rattle.machine_laws.proofs.Named.{is_same_id, serial_by, serial_at, serial_shown}
 use Rattle.machine_laws.specs.Claims.{IsLaterSubchannel, is_id, serial_of, serials}
-use Rattle.machine_laws.proofs.Named.{serial_shown}
 use Rattle.machine_laws.proofs.Sound.{AreNumbered}
 use Rattle.machine_laws.proofs.RunSound.{SoundSub, one-of, run-sound, step-sets, step-later}
-use Rattle.subchannel_model.specs.Conditions.{left_by}
-use Rattle.subchannel_model.specs.Places.{Found}
 use Rattle.machine_model.specs.InstructionSteps.{subchannel_word}
 use Rattle.step_laws.proofs.Places.{get-set, found-there}
 use Rattle.step_laws.proofs.Executed.{IsDone, IsLeft, code_for, reply_of, state_left, done-settled}

@@ -11,10 +11,8 @@ use Rattle.ccw_walk.specs.Walks.{WalkPlace}
 use Rattle.chan_model.specs.declared.hold_state.HoldPhase.{HoldPhase}
 use Rattle.chan_model.specs.declared.hold_state.HoldPhase.TheVariants as hold
 use Rattle.chan_model.specs.declared.hold_state.HoldState.{HoldState}
-use Rattle.chan_model.specs.Signals.{Down}
-use Rattle.chan_model.specs.Signals.{Load}
+use Rattle.chan_model.specs.Signals.{Down, Load, Up, load_bytes}
 use Rattle.chan_model.specs.declared.signal.Taken.{Taken}
-use Rattle.chan_model.specs.Signals.{Up}
 use Rattle.chan_model.specs.declared.signal.Up.TheVariants as up
 use Rattle.subchannel_model.specs.declared.status.Shown.{Shown}
 use Rattle.chan_model.specs.HoldTable.{HoldStep, hold_takes, hold_after, came_of, is_connected, is_on}
@@ -52,7 +50,6 @@ use Rattle.subchannel_model.specs.SystemReset.{state_reset}
 use Rattle.chan_model.specs.ResetCauses.{rests_on}
 use Rattle.subchannel_model.proofs.Named.{with_known, with_pci_of, give_next}
 use Rattle.subchannel_model.specs.Taking.{Met, meets, ignoring, quietly, without_pci, standing, goes_ahead, taking_over, suspending, beginning, begin_standing, halt_done, accepted_by, accept_by, with_transfer, moving_on, take_in, move_bytes, move_data, take_data, with_end, end_taken, chaining, goes_on, stops_at, command_ended, end_of, end_command, reset_taken, may_attend, takes_up, path_used, let_go}
-use Rattle.chan_model.specs.Signals.{load_bytes}
 use Rattle.subchannel_model.proofs.Cleared.{none-uncleared, tested-pending}
 use Rattle.step_laws.specs.Walks.{Function, Resumes, Halts, Clears, Cancels, effect_of}
 

@@ -12,10 +12,9 @@ use Rattle.chan_model.specs.declared.names.Side.{Side}
 use Rattle.chan_model.specs.declared.answer.ConditionCode.{ConditionCode}
 use Rattle.chan_model.specs.declared.answer.ConditionCode.TheVariants as code
 use Rattle.chan_events.specs.declared.reply.Reply.TheVariants as reply
-use Rattle.chan_model.specs.Signals.{Down}
+use Rattle.chan_model.specs.Signals.{Down, Up}
 use Rattle.chan_model.specs.declared.signal.Down.TheVariants as down
 use Rattle.chan_model.specs.declared.signal.OnPath.{OnPath}
-use Rattle.chan_model.specs.Signals.{Up}
 use Rattle.chan_model.specs.declared.signal.Up.TheVariants as up
 use Rattle.chan_model.specs.declared.unit_state.Own.{Own}
 use Rattle.chan_model.specs.declared.unit_state.Own.TheVariants as own
@@ -50,10 +49,8 @@ use Rattle.machine_model.specs.ChooseSteps.{choose_sub}
 use Rattle.subchannel_model.specs.Sending.{carried_by, finds_full}
 use Rattle.machine_model.specs.UpSteps.{up_front, up_sub}
 use Rattle.subchannel_model.specs.Taking.{takes_up}
-use Rattle.machine_laws.proofs.Named.{starts_with_sent}
+use Rattle.machine_laws.proofs.Named.{starts_with_sent, with_start, starts_with_answer}
 use Rattle.machine_laws.specs.Beginnings.{StartCounts, with_offer, with_taken}
-use Rattle.machine_laws.proofs.Named.{with_start}
-use Rattle.machine_laws.proofs.Named.{starts_with_answer}
 use Rattle.machine_laws.proofs.Moves.{if-ok}
 use Rattle.machine_laws.proofs.Tales.{IsAccepted, AreSpent, AreSpentBut, IsTold, told-wider, told-same, told-turned, told-start, told-offer, told-resume, busy-spent, begun-of}
 use Rattle.machine_laws.proofs.Waits.{IsBegunHeld, Waits, Turned, IsCalm, kept, none, cause-calm, without_waiting-begun, none-held, held-on, moved-as, calm-turned}

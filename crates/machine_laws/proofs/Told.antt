@@ -3,9 +3,8 @@
 use Rattle.std.proofs.Common.{◌≡◌, ℕ, ◌≤◌, Option, None, List, arith}
 use Rattle.chan_model.specs.declared.hold_state.HoldPhase.{HoldPhase}
 use Rattle.chan_model.specs.declared.hold_state.HoldPhase.TheVariants as hold
-use Rattle.chan_model.specs.Signals.{Down}
+use Rattle.chan_model.specs.Signals.{Down, Up}
 use Rattle.chan_model.specs.declared.signal.Down.TheVariants as down
-use Rattle.chan_model.specs.Signals.{Up}
 use Rattle.chan_model.specs.declared.signal.Up.TheVariants as up
 use Rattle.subchannel_model.specs.declared.state.Subchannel.{Subchannel}
 use Rattle.machine_laws.proofs.WaitingSignals.{EachSignal, signals-weaker}

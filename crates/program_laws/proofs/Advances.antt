@@ -15,9 +15,8 @@ use Rattle.ccw_walk.specs.declared.program.Reading.TheVariants.{Transfers, Takes
 use Rattle.ccw_walk.specs.Acts.{Act, Block, Unfetched, Used_up, End, Word}
 use Rattle.ccw_walk.specs.Blocks.{reads}
 use Rattle.ccw_walk.specs.Programs.{Command, next, next_after, role_of, role_after, commands, commands_after}
-use Rattle.ccw_walk.proofs.Named.{acts_at}
+use Rattle.ccw_walk.proofs.Named.{acts_at, after_block, act_of_fetch, with_target, block_advance}
 use Rattle.ccw_walk.specs.Walks.{WalkPlace, walk_place, is_program_misplaced, fetch_act, acts_from, advance_acts, advance_of}
-use Rattle.ccw_walk.proofs.Named.{after_block, act_of_fetch, with_target, block_advance}
 use Rattle.idaw.specs.Places.{Reach}
 use Rattle.program_laws.specs.Claims.{shows_check, has_check, EndsAtCheck}
 use Rattle.program_laws.specs.DataAreas.{data_areas, reaches_after}

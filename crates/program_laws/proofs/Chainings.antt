@@ -12,9 +12,8 @@ use Rattle.ccw_walk.specs.declared.program.Advance.TheVariants as advance
 use Rattle.ccw_walk.specs.declared.program.Reading.TheVariants.{Takes}
 use Rattle.ccw_walk.specs.Acts.{Act, Used_up}
 use Rattle.ccw_walk.specs.Programs.{IsProgram, Command, role_of, latest, next, tried, commands, commands_after, join_last}
-use Rattle.ccw_walk.proofs.Named.{acts_at}
+use Rattle.ccw_walk.proofs.Named.{acts_at, after_used_up}
 use Rattle.ccw_walk.specs.Walks.{WalkPlace, walk_place, after_acts, advance_acts, advance_of}
-use Rattle.ccw_walk.proofs.Named.{after_used_up}
 use Rattle.idaw.specs.Lists.{block, kind_of}
 use Rattle.idaw.specs.Places.{Reach, place_of_byte, each_below, places_of_bytes}
 use Rattle.data_move.specs.Moving as movement
@@ -22,10 +21,9 @@ use Rattle.data_move.specs.Moving.{Moving, moved, next_place, residual, IsAt}
 use Rattle.transfer.specs.declared.Transfer.{Transfer}
 use Rattle.transfer.specs.Commands.{data_of}
 use Rattle.transfer.specs.Chunks.{chains_data, chained_to, chained_from, chained, with_moved, moved_on}
-use Rattle.program_laws.proofs.Named.{chained_reach}
+use Rattle.program_laws.proofs.Named.{chained_reach, reaches_with}
 use Rattle.program_laws.specs.Claims.{has_check, EndsAtCheck}
 use Rattle.program_laws.specs.DataAreas.{reach, data_areas, reaches_after}
-use Rattle.program_laws.proofs.Named.{reaches_with}
 use Rattle.program_laws.proofs.MachineActs as doing
 use Rattle.program_laws.specs.Traces.{CommandTrace}
 use Rattle.program_laws.proofs.MachineActs.{chained_acts, with_acts, with_places}

@@ -41,12 +41,11 @@ use Rattle.program_laws.specs.Tells.{command_sent, is_length_wrong, IsChained, C
 use Rattle.program_laws.proofs.Asks.{BeginsAsking, next-asking, asked-interrupts, only-asked, none-sent}
 use Rattle.program_laws.proofs.Latest.{IsLatest, latest-of, next-chains}
 use Rattle.program_laws.proofs.Used.{rest-none}
-use Rattle.program_laws.proofs.Ties.{spot-counts}
+use Rattle.program_laws.proofs.Ties.{spot-counts, AreLaws}
 use Rattle.program_laws.specs.DataAreas.{data_areas, counts}
 use Rattle.program_laws.proofs.MachineActs.{next_acts}
 use Rattle.program_laws.proofs.MachineTraces as stories
 use Rattle.program_laws.proofs.Accesses.{AreAccesses}
-use Rattle.program_laws.proofs.Ties.{AreLaws}
 use Rattle.program_laws.proofs.Holds.{IsPhase, HasWork, IsHeld}
 use Rattle.program_laws.proofs.HoldMeets.{chains-facts, next-went, end-left}
 use Rattle.program_laws.proofs.Fetches.{next-adds}

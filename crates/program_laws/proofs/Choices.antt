@@ -7,16 +7,14 @@ use Rattle.chan_model.specs.declared.fault.Fault.{Fault}
 use Rattle.chan_model.specs.declared.fault.Fault.TheVariants as fault
 use Rattle.chan_model.specs.declared.hold_state.HoldPhase.{HoldPhase}
 use Rattle.chan_model.specs.declared.hold_state.HoldPhase.TheVariants as hold
-use Rattle.chan_model.specs.Signals.{Up}
+use Rattle.chan_model.specs.Signals.{Up, Down}
 use Rattle.chan_model.specs.declared.signal.Up.TheVariants as up
-use Rattle.chan_model.specs.Signals.{Down}
 use Rattle.chan_model.specs.declared.signal.Down.TheVariants as down
 use Rattle.chan_model.specs.declared.signal.OnPath.{OnPath}
 use Rattle.chan_events.specs.declared.reply.Entry.{Entry}
 use Rattle.chan_events.specs.declared.reply.Reply.TheVariants as reply
-use Rattle.chan_model.specs.Reports.{DeviceAnswer}
+use Rattle.chan_model.specs.Reports.{DeviceAnswer, Report}
 use Rattle.chan_model.specs.declared.report.DeviceAnswer.TheVariants as answer
-use Rattle.chan_model.specs.Reports.{Report}
 use Rattle.chan_model.specs.declared.unit_state.AtHand.{AtHand}
 use Rattle.chan_model.specs.declared.unit_state.UnitState.{UnitState}
 use Rattle.chan_model.specs.UnitTable as unit_table
@@ -68,9 +66,8 @@ use Rattle.machine_model.specs.PathSteps.{swept}
 use Rattle.step_laws.specs.Walks.{IsFound, Suits}
 use Rattle.machine_laws.proofs.TaleEvents.{reset-phase}
 use Rattle.program_laws.specs.Traces as traced
-use Rattle.program_laws.proofs.Named.{offered_for, resumed_for, IsCopied}
+use Rattle.program_laws.proofs.Named.{offered_for, resumed_for, IsCopied, takes, reported}
 use Rattle.program_laws.specs.Traces.{ProgramTrace, chosen_at, taken_at, absorbs, reported_at}
-use Rattle.program_laws.proofs.Named.{takes, reported}
 use Rattle.program_laws.proofs.MachineTraces.{met_with, met_at, trace, trace_after}
 use Rattle.program_laws.proofs.Turns.{PlaceStep, Stays, Starts_with_orb, Is_tested, Is_resumed, Is_halted, Is_cleared, Is_cancelled, Is_modified, Is_chosen, Meets, Sinks, Is_reported, Other_sinks, Other_reported, Unit_acts, Is_swept, step-happens}
 use Rattle.program_laws.proofs.Accesses.{AreAccesses}

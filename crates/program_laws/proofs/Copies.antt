@@ -6,8 +6,7 @@ use Rattle.storage_keys.specs.Storage.{Contents}
 use Rattle.scsw_irb.specs.declared.status.DeviceStatus.{DeviceStatus}
 use Rattle.chan_model.specs.declared.hold_state.HoldPhase.{HoldPhase}
 use Rattle.chan_model.specs.declared.hold_state.HoldPhase.TheVariants as hold
-use Rattle.chan_model.specs.Signals.{Load}
-use Rattle.chan_model.specs.Signals.{Up}
+use Rattle.chan_model.specs.Signals.{Load, Up, load_bytes}
 use Rattle.chan_model.specs.declared.signal.Up.TheVariants as up
 use Rattle.chan_model.specs.HoldTable.{HoldStep, hold_takes, hold_after, came_of, is_connected, is_on}
 use Rattle.chan_model.specs.Loads.{load_length}
@@ -29,12 +28,10 @@ use Rattle.subchannel_model.specs.declared.state.ProgramPosition.{ProgramPositio
 use Rattle.subchannel_model.specs.declared.state.SubchannelState.{SubchannelState}
 use Rattle.subchannel_model.specs.Ends.{has_status_modifier, chains_command}
 use Rattle.subchannel_model.specs.Taking.{goes_ahead}
-use Rattle.chan_model.specs.Signals.{load_bytes}
 use Rattle.program_laws.proofs.MachineActs as doing
-use Rattle.program_laws.specs.Traces.{CommandTrace, no_trace}
+use Rattle.program_laws.specs.Traces.{CommandTrace, no_trace, ProgramTrace, past_part}
 use Rattle.program_laws.proofs.MachineActs.{with_acts, with_places, with_copy, located_acts, chunk_of, chained_acts, trace_answered, gives, with_arrival, storing, takes_in, first_acts, next_acts}
 use Rattle.program_laws.proofs.MachineTraces as stories
-use Rattle.program_laws.specs.Traces.{ProgramTrace, past_part}
 use Rattle.program_laws.proofs.MachineTraces.{trace_meets}
 use Rattle.program_laws.proofs.Named.{IsCopied}
 use Rattle.program_laws.specs.Claims.{part_of}

@@ -15,9 +15,8 @@ use Rattle.ccw_walk.specs.declared.program.Reading.TheVariants.{Transfers}
 use Rattle.ccw_walk.specs.Acts.{Act, Block, Unfetched, Used_up, End}
 use Rattle.ccw_walk.specs.Blocks.{reads}
 use Rattle.ccw_walk.specs.Programs.{IsProgram, role_of, next, commands}
-use Rattle.ccw_walk.proofs.Named.{acts_at}
+use Rattle.ccw_walk.proofs.Named.{acts_at, after_block, after_used_up, walk_after_end, act_of_fetch, with_target}
 use Rattle.ccw_walk.specs.Walks.{WalkPlace, walk_place, is_program_misplaced, fetch_act, acts_from, advance_acts}
-use Rattle.ccw_walk.proofs.Named.{after_block, after_used_up, walk_after_end, act_of_fetch, with_target}
 use Rattle.idaw.specs.declared.ListKind.{ListKind}
 use Rattle.idaw.specs.Lists.{kind_of, width, address_of_word, word_fault}
 use Rattle.idaw.specs.declared.WordFault.{WordFault}

@@ -47,10 +47,9 @@ use Rattle.subchannel_model.specs.Parts as taking_parts
 use Rattle.subchannel_model.proofs.Named as pieces
 use Rattle.subchannel_model.specs.Taking.{takes_up, goes_ahead, path_used, let_go, with_end, without_pci, interrupted, taking_over, from_start, suspended_as, standing_as, suspending}
 use Rattle.subchannel_model.specs.Parts.{standing_still, suspended_alone, has_any}
-use Rattle.program_laws.specs.Traces.{CommandTrace, no_trace}
+use Rattle.program_laws.specs.Traces.{CommandTrace, no_trace, ProgramTrace, past_part}
 use Rattle.program_laws.proofs.MachineActs.{with_acts, goes_acts, first_acts, next_acts, gives, takes_in}
 use Rattle.program_laws.proofs.MachineTraces as stories
-use Rattle.program_laws.specs.Traces.{ProgramTrace, past_part}
 use Rattle.program_laws.proofs.MachineTraces.{trace_meets}
 use Rattle.program_laws.specs.Claims.{IsBeginning, places_of, places_arrived, IsSuspended, EndsAtCheck}
 use Rattle.program_laws.specs.DataAreas.{data_areas, counts}

@@ -50,11 +50,10 @@ use Rattle.subchannel_model.specs.Taking.{goes_ahead, from_start, takes_up, with
 use Rattle.subchannel_model.specs.Sending.{with_any_sent}
 use Rattle.wires.specs.Queues.{taken}
 use Rattle.program_laws.specs.DataAreas.{data_areas}
-use Rattle.program_laws.specs.Traces.{CommandTrace, no_trace}
+use Rattle.program_laws.specs.Traces.{CommandTrace, no_trace, ProgramTrace}
 use Rattle.program_laws.proofs.MachineActs.{with_acts, gives, takes_in, first_acts, next_acts}
 use Rattle.program_laws.proofs.MachineTraces as stories
 use Rattle.program_laws.specs.Traces as traced
-use Rattle.program_laws.specs.Traces.{ProgramTrace}
 use Rattle.program_laws.proofs.MachineTraces.{trace_meets}
 use Rattle.program_laws.specs.Claims.{AbsorbsInOrder}
 use Rattle.program_laws.proofs.Ties.{AreLaws}

@@ -7,11 +7,9 @@ use Rattle.std.proofs.lemmas.List.Elements.{All-nil}
 use Rattle.orb_block.specs.declared.Orb.{Orb}
 use Rattle.chan_model.specs.declared.names.Side.{Side}
 use Rattle.chan_events.specs.declared.reply.Reply.TheVariants as reply
-use Rattle.chan_model.specs.Signals.{Down}
+use Rattle.chan_model.specs.Signals.{Down, Load, Up}
 use Rattle.chan_model.specs.declared.signal.Down.TheVariants as down
-use Rattle.chan_model.specs.Signals.{Load}
 use Rattle.chan_model.specs.declared.signal.OnPath.{OnPath}
-use Rattle.chan_model.specs.Signals.{Up}
 use Rattle.chan_model.specs.declared.unit_state.AtHand.{AtHand}
 use Rattle.chan_model.specs.declared.unit_state.UnitState.{UnitState}
 use Rattle.chan_model.specs.UnitTable.{UnitStep, came_of, changes, new_command, side_of, is_owner, unit_takes, unit_after, telling}
@@ -21,9 +19,8 @@ use Rattle.transfer.specs.declared.Transfer.{Transfer}
 use Rattle.wires.specs.Queues.{queue, taken}
 use Rattle.subchannel_model.specs.declared.state.ActiveProgram.{ActiveProgram}
 use Rattle.subchannel_model.specs.Sending.{with_any_sent}
-use Rattle.program_laws.specs.Traces.{CommandTrace}
+use Rattle.program_laws.specs.Traces.{CommandTrace, ProgramTrace, taken_at}
 use Rattle.program_laws.proofs.MachineTraces.{silent, silent_by}
-use Rattle.program_laws.specs.Traces.{ProgramTrace, taken_at}
 use Rattle.program_laws.specs.Claims.{AbsorbsInOrder, IsFirstOf}
 use Rattle.program_laws.proofs.UnitOrders.{IsNth, IsDown, IsOrdered, ends-same}
 use Rattle.program_laws.proofs.UnitGrowth.{codes_of}

@@ -6,14 +6,12 @@ use Rattle.chan_model.specs.declared.fault.Fault.TheVariants as fault
 use Rattle.chan_model.specs.declared.hold_state.HoldPhase.{HoldPhase}
 use Rattle.chan_model.specs.declared.hold_state.HoldPhase.TheVariants as hold
 use Rattle.chan_model.specs.declared.names.Side.{Side}
-use Rattle.chan_model.specs.Reports.{DeviceAnswer}
+use Rattle.chan_model.specs.Reports.{DeviceAnswer, Report}
 use Rattle.chan_model.specs.declared.report.DeviceAnswer.TheVariants as answer
-use Rattle.chan_model.specs.Reports.{Report}
 use Rattle.chan_events.specs.declared.reply.Reply.TheVariants as reply
-use Rattle.chan_model.specs.Signals.{Down}
+use Rattle.chan_model.specs.Signals.{Down, Up}
 use Rattle.chan_model.specs.declared.signal.Down.TheVariants as down
 use Rattle.chan_model.specs.declared.signal.OnPath.{OnPath}
-use Rattle.chan_model.specs.Signals.{Up}
 use Rattle.chan_model.specs.declared.unit_state.AtHand.{AtHand}
 use Rattle.chan_model.specs.declared.unit_state.UnitState.{UnitState}
 use Rattle.chan_model.specs.HoldTable.{is_on}
@@ -38,9 +36,8 @@ use Rattle.machine_model.specs.DownSteps.{down_front, down_sub}
 use Rattle.machine_model.specs.ReportSteps.{report_taken}
 use Rattle.step_laws.specs.Walks.{IsFound, Suits}
 use Rattle.program_laws.proofs.MachineTraces.{silent_by, trace_meets, met_with, met_at}
-use Rattle.program_laws.proofs.Named.{offered_for}
+use Rattle.program_laws.proofs.Named.{offered_for, reported}
 use Rattle.program_laws.specs.Traces.{ProgramTrace, trace_offered, chosen_at, taken_at, absorbs, reported_at}
-use Rattle.program_laws.proofs.Named.{reported}
 use Rattle.ccw_walk.specs.Programs.{Command, commands, code}
 use Rattle.program_laws.proofs.Caused.{cause-kept}
 use Rattle.program_laws.proofs.Holds.{IsUnheld, IsUntold}

@@ -5,13 +5,10 @@ use Rattle.std.proofs.lemmas.Bool.{eqb-true, eq-eqb}
 use Rattle.scsw_irb.specs.declared.status.DeviceStatus.{DeviceStatus}
 use Rattle.chan_model.specs.declared.names.Side.{Side}
 use Rattle.chan_model.specs.declared.names.Side.TheVariants.{First, Second}
-use Rattle.chan_model.specs.Reports.{DeviceAnswer}
+use Rattle.chan_model.specs.Reports.{DeviceAnswer, Report}
 use Rattle.chan_model.specs.declared.report.DeviceAnswer.TheVariants as answer
-use Rattle.chan_model.specs.Reports.{Report}
-use Rattle.chan_model.specs.Signals.{Down}
-use Rattle.chan_model.specs.Signals.{Load}
+use Rattle.chan_model.specs.Signals.{Down, Load, Up}
 use Rattle.chan_model.specs.declared.signal.Load.TheVariants as load
-use Rattle.chan_model.specs.Signals.{Up}
 use Rattle.chan_model.specs.declared.signal.Up.TheVariants as up
 use Rattle.chan_model.specs.declared.unit_state.AtHand.{AtHand}
 use Rattle.chan_model.specs.declared.unit_state.Own.{Own}

@@ -2,11 +2,9 @@
 use Rattle.std.proofs.Common.{◌≡◌, ◌∙◌, ℕ, ◌+◌, ◌<◌, ◌≤◌, Bool, true, false, Option, None, Some, List, arith}
 use Rattle.std.specs.Prelude.{slice_get, IfSome}
 use Rattle.chan_model.specs.declared.names.Side.{Side}
-use Rattle.chan_model.specs.Signals.{Down}
+use Rattle.chan_model.specs.Signals.{Down, Load, Up}
 use Rattle.chan_model.specs.declared.signal.Down.TheVariants as down
-use Rattle.chan_model.specs.Signals.{Load}
 use Rattle.chan_model.specs.declared.signal.OnPath.{OnPath}
-use Rattle.chan_model.specs.Signals.{Up}
 use Rattle.chan_model.specs.declared.signal.Up.TheVariants as up
 use Rattle.chan_model.specs.declared.unit_state.AtHand.{AtHand}
 use Rattle.chan_model.specs.declared.unit_state.Progress.{Progress}

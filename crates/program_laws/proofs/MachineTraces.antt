@@ -6,8 +6,7 @@ use Rattle.chan_model.specs.declared.hold_state.HoldPhase.{HoldPhase}
 use Rattle.chan_model.specs.declared.hold_state.HoldPhase.TheVariants as hold
 use Rattle.chan_model.specs.declared.signal.Taken.{Taken}
 use Rattle.chan_model.specs.declared.signal.OnPath.{OnPath}
-use Rattle.chan_model.specs.Signals.{Load}
-use Rattle.chan_model.specs.Signals.{Up}
+use Rattle.chan_model.specs.Signals.{Load, Up, load_bytes}
 use Rattle.chan_model.specs.declared.signal.Up.TheVariants as up
 use Rattle.chan_events.specs.Events.{Event}
 use Rattle.chan_events.specs.declared.event.Event.TheVariants as event
@@ -34,7 +33,6 @@ use Rattle.machine_model.specs.State.{State, place_of}
 use Rattle.subchannel_model.specs.Places.{reached_in}
 use Rattle.subchannel_model.specs.Ends.{has_status_modifier, chains_command}
 use Rattle.subchannel_model.specs.Taking.{goes_ahead}
-use Rattle.chan_model.specs.Signals.{load_bytes}
 use Rattle.machine_model.specs.Steps.{Run, Opened, Stepped}
 use Rattle.program_laws.proofs.MachineActs.{with_acts, first_acts, next_acts, gives, takes_in}
 use Rattle.program_laws.specs.Traces.{no_trace, ProgramTrace, past_part, chosen_at, taken_at, reported_at}

@@ -22,8 +22,7 @@ use Rattle.ccw_walk.specs.declared.check.Check.TheVariants as check
 use Rattle.chan_model.specs.Signals.{Down}
 use Rattle.chan_model.specs.declared.signal.Down.TheVariants as down
 use Rattle.chan_model.specs.declared.unit_state.UnitState.{UnitState}
-use Rattle.chan_model.specs.Reports.{Report}
-use Rattle.chan_model.specs.Reports.{DeviceAnswer}
+use Rattle.chan_model.specs.Reports.{Report, DeviceAnswer}
 use Rattle.chan_model.specs.declared.report.DeviceAnswer.TheVariants.{Absorbed}
 
 abbrev pub resumed_for : ℕ → Option ProgramTrace → Option ProgramTrace

@@ -11,7 +11,6 @@ use Rattle.ccw_walk.specs.declared.program.Advance.{Advance}
 use Rattle.ccw_walk.specs.declared.program.Advance.TheVariants as advance
 use Rattle.ccw_walk.proofs.Named.{after_used_up}
 use Rattle.data_move.specs.Accesses as access
-use Rattle.data_move.specs.Accesses.{checked}
 use Rattle.data_move.specs.Moving.{Moving, room}
 use Rattle.transfer.specs.declared.NextChunk.{NextChunk}
 use Rattle.transfer.specs.declared.Transfer.{Transfer}
@@ -35,9 +34,6 @@ use Rattle.program_laws.proofs.Moves.{given_by, gives-told, cant-by, brought-tol
 -- the flags of a transfer, and the number of its last chunk, as bytes are moved
 abbrev SameFlags : Transfer → Transfer → Type 0
 SameFlags t u = (u.sequence ≡ t.sequence) × (u.offered ≡ t.offered) × (u.stopped ≡ t.stopped) × (u.ended ≡ t.ended) × (u.unchained ≡ t.unchained)
-
-then-flags : (t u v : Transfer) → SameFlags t u → SameFlags u v → SameFlags t v
-then-flags t u v a b = (b.0 ∙ a.0, b.1 ∙ a.1, b.2 ∙ a.2, b.3 ∙ a.3, b.4 ∙ a.4)
 
 chained_to-flags : (t : Transfer) (walk : WalkPlace) (a : Option Advance) → SameFlags t (chained_to t walk a)
 chained_to-flags t walk (Some (advance.Takes ccw)) = (refl, refl, refl, refl, refl)

@@ -8,14 +8,12 @@ use Rattle.chan_model.specs.declared.fault.Fault.TheVariants as fault
 use Rattle.chan_model.specs.declared.hold_state.HoldPhase.{HoldPhase}
 use Rattle.chan_model.specs.declared.hold_state.HoldPhase.TheVariants as hold
 use Rattle.chan_model.specs.declared.hold_state.HoldState.{HoldState}
-use Rattle.chan_model.specs.Signals.{Up}
+use Rattle.chan_model.specs.Signals.{Up, Down}
 use Rattle.chan_model.specs.declared.signal.Up.TheVariants as up
-use Rattle.chan_model.specs.Signals.{Down}
 use Rattle.chan_model.specs.declared.signal.Down.TheVariants as down
 use Rattle.chan_model.specs.declared.signal.OnPath.{OnPath}
-use Rattle.chan_model.specs.Reports.{DeviceAnswer}
+use Rattle.chan_model.specs.Reports.{DeviceAnswer, Report}
 use Rattle.chan_model.specs.declared.report.DeviceAnswer.TheVariants as answer
-use Rattle.chan_model.specs.Reports.{Report}
 use Rattle.chan_model.specs.declared.unit_state.AtHand.{AtHand}
 use Rattle.chan_model.specs.declared.unit_state.UnitState.{UnitState}
 use Rattle.chan_model.specs.UnitTable as unit_table
@@ -190,9 +188,6 @@ up-offers returns storage sub path t k e o =
     (up_front-offers returns storage sub path (slice_get (queue sub.wires.up path) 0) k o) tt)
 
 -- an offer
-standing-none : (w : Option Program) (b : _) (st : ProgramPosition) (k : ProgramTrace) → IsStanding w b (Some st) k → w ≡ None
-standing-none w b st k x = x.0
-
 waits-offered : (w : Option Program) (program : Program) (start t : ℕ) → w ≡ Some program → IsOfferedStart w start (traced.trace_offered t program.orb)
 waits-offered None program start t e = tt
 waits-offered (Some x) program start t e = λ n. (let same : x ≡ program = cc e in ap (λ (y : Program). y.orb) same, refl, refl)

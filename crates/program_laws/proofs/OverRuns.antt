@@ -20,7 +20,7 @@ use Rattle.subchannel_model.specs.declared.state.SubchannelState.{SubchannelStat
 use Rattle.subchannel_model.specs.declared.status.Condition.{Condition}
 use Rattle.subchannel_model.specs.Cancel.{cancelled, xsch_code}
 use Rattle.subchannel_model.specs.Clear.{cleared}
-use Rattle.subchannel_model.specs.Conditions.{condition_of}
+use Rattle.subchannel_model.specs.Conditions.{condition_of, left_by}
 use Rattle.subchannel_model.specs.Halt.{halted, hsch_code}
 use Rattle.subchannel_model.specs.Modify.{modified_state}
 use Rattle.subchannel_model.specs.Places.{Found, place_in, place_of_id, found_at}
@@ -41,7 +41,6 @@ use Rattle.seen_laws.proofs.OwnRuns.{Answered, Unfound, There, halt-answered, ca
 use Rattle.program_laws.specs.ProgramTold.{over_tested, over_after}
 use Rattle.program_laws.proofs.Starting as starting_step
 use Rattle.program_laws.proofs.Overs.{Owned, same-tied, reset-tied, halt-owned, cancel-owned, start-owned, test-owned, resume-just, IsTurn, chosen-owned, up-owned, same-just, swept-owned, not-eqb}
-use Rattle.subchannel_model.specs.Conditions.{left_by}
 use Rattle.step_laws.proofs.Executed.{IsDone, reply_of}
 use Rattle.step_laws.proofs.Turns as turn
 use Rattle.step_laws.proofs.Turns.{TurnOf, HasTurn, step-turn}
@@ -179,10 +178,6 @@ started-owned over s cpu word address place _ _ (starting_step.Starts at x orb s
     zero-owned over s word at place x (with_state x (started x.state orb)) (reply.Code (answer.Zero serials)) n there refl (start-owned over x.state orb) owned
 
 -- TEST SUBCHANNEL
-abbrev tests_by : Reply → Bool
-tests_by (reply.Status (answer.Zero serials) scsw) = true
-tests_by r = false
-
 data Tested (s : State) (word : ℕ) : Reply → List Subchannel → Type 0 where
   Untested : (r : Reply) → ((over : Bool) → over_tested r over ≡ over) → Tested s word r s.subs
   Untouched : (at : ℕ) (x after : Subchannel) (r : Reply) → slice_get s.subs at ≡ Some x → after.state ≡ x.state → ((over : Bool) → over_tested r over ≡ over) → Tested s word r (slice_set s.subs at after)

@@ -10,8 +10,7 @@ use Rattle.channel_config.specs.declared.parts.SubchannelSetup.{SubchannelSetup}
 use Rattle.chan_model.specs.declared.fault.Fault.{Fault}
 use Rattle.chan_model.specs.declared.names.Side.{Side}
 use Rattle.chan_events.specs.declared.reply.Entry.{Entry}
-use Rattle.chan_model.specs.Signals.{Down}
-use Rattle.chan_model.specs.Signals.{Up}
+use Rattle.chan_model.specs.Signals.{Down, Up}
 use Rattle.chan_model.specs.declared.unit_state.UnitState.{UnitState}
 use Rattle.chan_model.specs.UnitTable.{idle_unit}
 use Rattle.chan_model.specs.UnitReports.{unit_reports}

@@ -7,7 +7,7 @@ use Rattle.scsw_irb.specs.declared.serials.Serials.{Serials}
 use Rattle.scsw_irb.specs.declared.status.DeviceStatus.{DeviceStatus}
 use Rattle.scsw_irb.specs.Empty.{no_status}
 use Rattle.storage_keys.specs.Storage.{Contents}
-use Rattle.chan_model.specs.Signals.{Load}
+use Rattle.chan_model.specs.Signals.{Load, load_bytes}
 use Rattle.chan_model.specs.Loads.{load_length}
 use Rattle.chan_model.specs.UnitReports.{is_outward, is_last_end}
 use Rattle.ccw_walk.specs.declared.check.Check.{Check}
@@ -34,7 +34,6 @@ use Rattle.subchannel_model.specs.Causes.{without_begun, fetch_fault_shown, pci_
 use Rattle.subchannel_model.specs.Taking as taking
 use Rattle.subchannel_model.proofs.Named as pieces
 use Rattle.subchannel_model.specs.Taking.{let_go, with_end, without_pci}
-use Rattle.chan_model.specs.Signals.{load_bytes}
 use Rattle.program_laws.proofs.MachineActs.{with_acts, next_acts}
 use Rattle.program_laws.specs.DataAreas.{data_areas, counts}
 use Rattle.program_laws.proofs.Named.{IsRest, IsRestAt}

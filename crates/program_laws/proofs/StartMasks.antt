@@ -1,6 +1,6 @@
 -- While the start function is in progress, the logical-path mask is that of the operation-request block of the start that was accepted
 -- last; and a start or a resume is pending only where it is in progress. No signal and no instruction but START SUBCHANNEL changes that.
-use Rattle.std.proofs.Common.{◌≡◌, refl, sym, ◌∙◌, subst, ℕ, ◌&&◌, ◌||◌, not, Bool, true, false, Option, None, Some, List}
+use Rattle.std.proofs.Common.{◌≡◌, refl, sym, ◌∙◌, subst, ℕ, ◌&&◌, ◌||◌, not, Bool, true, false, Option, None, Some, List, ap}
 use Rattle.std.specs.Prelude.{if◌then◌else◌}
 use Rattle.orb_block.specs.declared.Orb.{Orb}
 use Rattle.schib_block.specs.declared.pmcw.Pmcw as block
@@ -22,7 +22,7 @@ use Rattle.subchannel_model.specs.declared.cause.StatusCause.TheVariants as caus
 use Rattle.subchannel_model.specs.declared.state.ActiveProgram.{ActiveProgram}
 use Rattle.subchannel_model.specs.declared.state.Program.{Program}
 use Rattle.subchannel_model.specs.declared.state.SubchannelState.{SubchannelState}
-use Rattle.subchannel_model.specs.Causes.{without_begun, without_waiting, programs_after_end, row_of, scsw_before, with_cause}
+use Rattle.subchannel_model.specs.Causes.{row_of, scsw_before, with_cause}
 use Rattle.subchannel_model.specs.Conditions.{any_function, start_alone, left_by, found_operational}
 use Rattle.subchannel_model.specs.Ends.{work_shown, last_shown}
 use Rattle.subchannel_model.specs.Halt.{halted, drops_status, status_dropped, halt_begun}
@@ -40,6 +40,7 @@ use Rattle.subchannel_model.specs.Taking.{taking_over, working, takes_up}
 use Rattle.machine_model.specs.InstructionSteps.{code_at}
 use Rattle.program_laws.proofs.Signals.{signal-kept, reset-kept}
 use Rattle.shown_laws.proofs.Fitting.{zero-two}
+use Rattle.machine_laws.proofs.Beside.{left-beside}
 
 abbrev pub IsMaskOf : Option Orb → List Bool → Type 0
 IsMaskOf started logical = (orb : Orb) × (started ≡ Some orb) × (logical ≡ paths_of_mask orb.paths)
@@ -56,23 +57,8 @@ abbrev pub Masked : Option Orb → SubchannelState → Type 0
 Masked started s = Masks started s.pmcw.logical s.scsw.functions s.scsw.activity
 
 -- a status that is made leaves the mask, turns no function on, and but for an intermediate status that was asked for leaves nothing pending
-after_end-logical : (s : SubchannelState) (b : ActiveProgram) (last : Bool) → (programs_after_end s b last).pmcw.logical ≡ s.pmcw.logical
-after_end-logical s b true = refl
-after_end-logical s b false = refl
-
-begun-logical : (s : SubchannelState) (b : Option ActiveProgram) → (without_begun b s).pmcw.logical ≡ s.pmcw.logical
-begun-logical s None = refl
-begun-logical s (Some b) = refl
-
-waiting-logical : (s : SubchannelState) (w : Option Program) → (without_waiting w s).pmcw.logical ≡ s.pmcw.logical
-waiting-logical s None = refl
-waiting-logical s (Some w) = refl
-
 left-logical : (s : SubchannelState) (c : StatusCause) → (row_of s c).left.pmcw.logical ≡ s.pmcw.logical
-left-logical s (cause.End b status more) = after_end-logical s b (is_last_end status)
-left-logical s (cause.FetchFault tried check count) = begun-logical s s.begun
-left-logical s cause.NoPath = waiting-logical s s.waiting
-left-logical s other = refl
+left-logical s c = ap (λ (p : PmcwState). p.logical) (left-beside s c).pmcw
 
 before-start : (enabled : Bool) (scsw : Scsw) (c : StatusCause) → (if enabled then scsw_before scsw c else scsw).functions.start ≡ true → scsw.functions.start ≡ true
 before-start false scsw c e = e

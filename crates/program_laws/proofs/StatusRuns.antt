@@ -31,8 +31,7 @@ use Rattle.subchannel_model.specs.Places.{place_in, place_of_id}
 use Rattle.program_laws.specs.Tells.{GoesBy}
 use Rattle.program_laws.specs.Traces.{ProgramTrace}
 use Rattle.shown_laws.specs.Behind.{behind_met, behind_after}
-use Rattle.shown_laws.specs.Shown.{is_about as is_about_id}
-use Rattle.shown_laws.specs.Shown.{StoredStatus, names, stored_in}
+use Rattle.shown_laws.specs.Shown.{is_about as is_about_id, StoredStatus, names, stored_in}
 use Rattle.shown_laws.proofs.Behind.{IsBehind, IsEnd, turned-behind, turned-begun}
 use Rattle.shown_laws.proofs.Named.{named-is, same-id}
 use Rattle.shown_laws.proofs.Runs.{AreLaws, IsStored, status_of, place-stays, step-stored}

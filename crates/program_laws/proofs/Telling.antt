@@ -6,13 +6,11 @@ use Rattle.orb_block.specs.declared.Orb.{Orb}
 use Rattle.scsw_irb.specs.declared.status.DeviceStatus.{DeviceStatus}
 use Rattle.storage_keys.specs.Storage.{Contents}
 use Rattle.chan_model.specs.declared.fault.Fault.{Fault}
-use Rattle.chan_model.specs.Reports.{DeviceAnswer}
+use Rattle.chan_model.specs.Reports.{DeviceAnswer, Report}
 use Rattle.chan_model.specs.declared.report.DeviceAnswer.TheVariants as device
-use Rattle.chan_model.specs.Reports.{Report}
-use Rattle.chan_model.specs.Signals.{Down}
+use Rattle.chan_model.specs.Signals.{Down, Up}
 use Rattle.chan_model.specs.declared.signal.Down.TheVariants as down
 use Rattle.chan_model.specs.declared.signal.OnPath.{OnPath}
-use Rattle.chan_model.specs.Signals.{Up}
 use Rattle.chan_model.specs.declared.signal.Up.TheVariants as up
 use Rattle.chan_model.specs.declared.unit_state.AtHand.{AtHand}
 use Rattle.chan_model.specs.declared.unit_state.UnitState.{UnitState}

@@ -36,9 +36,8 @@ use Rattle.channel_config.specs.Lawful.{IsLawful}
 use Rattle.channel_config.specs.Setup.{Setup}
 use Rattle.machine_model.specs.State.{State, opening_of}
 use Rattle.machine_model.specs.Steps.{Run}
-use Rattle.program_laws.proofs.Named.{word_after, has_leftmost_bit, is_outside, where_right}
+use Rattle.program_laws.proofs.Named.{word_after, has_leftmost_bit, is_outside, where_right, reaches_with}
 use Rattle.program_laws.specs.DataAreas.{reach, brings_in, data_areas, reaches_after, counts}
-use Rattle.program_laws.proofs.Named.{reaches_with}
 use Rattle.program_laws.proofs.MachineActs.{act_of_right, act_of_word, word_acts, located_acts, room_acts}
 use Rattle.program_laws.specs.Claims.{IsBeginning, IsSuspended, has_check, EndsAtCheck}
 use Rattle.program_laws.proofs.Lists.{some-begin, length-places, length-each_below}

@@ -2,11 +2,10 @@
 use Rattle.std.proofs.Common.{◌≡◌, refl, sym, ◌∙◌, ap, subst, ℕ, ◌+◌, ◌-◌, ◌≤◌, Bool, length, Option, None, Some, List, [], ◌∷◌, ◌++◌, take, inl, inr, arith}
 use Rattle.std.specs.Prelude.{◌⊎◌, All, Contains}
 use Rattle.std.specs.List.{flat_map}
-use Rattle.std.proofs.lemmas.List.{append-nil}
+use Rattle.std.proofs.lemmas.List.{append-nil, take-append-le}
 use Rattle.std.proofs.lemmas.List.Elements.{All-nil, All-push, All-weaker}
 use Rattle.std.proofs.lemmas.Grind.{flat_map-append}
 use Rattle.std.proofs.Math.Seq.{take-length}
-use Rattle.std.proofs.lemmas.List.{take-append-le}
 use Rattle.chan_model.specs.Signals.{Load}
 use Rattle.chan_model.specs.declared.unit_state.AtHand.{AtHand}
 use Rattle.chan_model.specs.declared.unit_state.Progress.{Progress}

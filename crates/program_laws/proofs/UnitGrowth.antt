@@ -10,8 +10,7 @@ use Rattle.storage_keys.specs.Storage.{Contents}
 use Rattle.chan_model.specs.declared.hold_state.HoldPhase.{HoldPhase}
 use Rattle.chan_model.specs.declared.hold_state.HoldPhase.TheVariants as hold
 use Rattle.chan_model.specs.declared.hold_state.HoldState.{HoldState}
-use Rattle.chan_model.specs.Signals.{Load}
-use Rattle.chan_model.specs.Signals.{Up}
+use Rattle.chan_model.specs.Signals.{Load, Up, load_bytes}
 use Rattle.chan_model.specs.declared.signal.Up.TheVariants as up
 use Rattle.chan_model.specs.HoldTable.{HoldStep, hold_after, came_of, is_connected, is_on}
 use Rattle.chan_model.specs.HoldTable as hold_table
@@ -35,10 +34,8 @@ use Rattle.subchannel_model.specs.declared.state.ProgramPosition.{ProgramPositio
 use Rattle.subchannel_model.specs.declared.state.SubchannelState.{SubchannelState}
 use Rattle.subchannel_model.specs.Ends.{has_status_modifier, chains_command}
 use Rattle.subchannel_model.specs.Taking.{goes_ahead}
-use Rattle.chan_model.specs.Signals.{load_bytes}
-use Rattle.program_laws.specs.Traces.{CommandTrace, no_trace}
+use Rattle.program_laws.specs.Traces.{CommandTrace, no_trace, ProgramTrace, past_part}
 use Rattle.program_laws.proofs.MachineActs.{with_acts, with_places, trace_moved_on, trace_answered, with_copy, copying, trace_giving, gives, with_arrival, storing, arriving, takes_in, located_acts, chained_acts, chunk_of, first_acts, next_acts}
-use Rattle.program_laws.specs.Traces.{ProgramTrace, past_part}
 use Rattle.program_laws.proofs.MachineTraces.{trace_goes_on, trace_begins, begins_anew, begins_again, again_as, begins_as, accepted_at, trace_accepted, moves, answers, ends_alone, with_ended, chains, trace_ends, trace_meets}
 
 -- the codes of the commands after the earlier ones, the latest first

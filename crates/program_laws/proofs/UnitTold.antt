@@ -4,9 +4,8 @@ use Rattle.std.specs.Prelude.{if◌then◌else◌}
 use Rattle.std.proofs.lemmas.Bool.{eqb-true, leb-true, and_parts}
 use Rattle.scsw_irb.specs.declared.status.DeviceStatus.{DeviceStatus}
 use Rattle.chan_model.specs.declared.names.Side.{Side}
-use Rattle.chan_model.specs.Reports.{DeviceAnswer}
+use Rattle.chan_model.specs.Reports.{DeviceAnswer, Report}
 use Rattle.chan_model.specs.declared.report.DeviceAnswer.TheVariants as answer
-use Rattle.chan_model.specs.Reports.{Report}
 use Rattle.chan_model.specs.Signals.{Load}
 use Rattle.chan_model.specs.declared.signal.Load.TheVariants as load
 use Rattle.chan_model.specs.declared.signal.Up.TheVariants as up

@@ -3,10 +3,9 @@ use Rattle.std.proofs.Common.{◌≡◌, refl, sym, ◌∙◌, subst, ℕ, ◌<�
 use Rattle.chan_model.specs.declared.hold_state.HoldPhase.{HoldPhase}
 use Rattle.chan_model.specs.declared.hold_state.HoldPhase.TheVariants as hold
 use Rattle.chan_model.specs.declared.names.Side.{Side}
-use Rattle.chan_model.specs.Signals.{Down}
+use Rattle.chan_model.specs.Signals.{Down, Up}
 use Rattle.chan_model.specs.declared.signal.Down.TheVariants as down
 use Rattle.chan_model.specs.declared.signal.OnPath.{OnPath}
-use Rattle.chan_model.specs.Signals.{Up}
 use Rattle.chan_model.specs.declared.signal.Up.TheVariants as up
 use Rattle.chan_model.specs.declared.unit_state.UnitState.{UnitState}
 use Rattle.wires.specs.Queues.{queue, taken, lost}
@@ -287,11 +286,6 @@ bound-lost phase next us ds f o k stays b = record {
   own = b.own;
   joint = joint-stays phase next (lost us k) (lost ds k) o stays (joint-lost phase k us ds o b.joint);
 }
-
--- a number above the floor is new
-new-off : (t f : ℕ) (o : Option Connected) → f < t → IsOwnBelow f o → IsOff_for t o
-new-off t f None l b = tt
-new-off t f (Some k) l b = λ e. let n : k.number ≤ f = b in absurd (omega (arith, l, n, e))
 
 pub bound-offered : (phase : HoldPhase) (us : List (List Up)) (ds : List (List Down)) (f t q : ℕ) (o : Option Connected) (available : List Bool) (one : Option (OnPath Down)) → f < t →
     AreOtherDowns one → IsBound phase us ds f o → IsBound (hold.Offer t q) us (with_any_sent ds (carried available one)) f o

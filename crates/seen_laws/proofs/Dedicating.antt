@@ -8,13 +8,11 @@ use Rattle.chan_model.specs.declared.hold_state.HoldPhase.{HoldPhase}
 use Rattle.chan_model.specs.declared.hold_state.HoldPhase.TheVariants as hold
 use Rattle.chan_model.specs.declared.hold_state.HoldState.{HoldState}
 use Rattle.chan_model.specs.declared.signal.Down.TheVariants as down
-use Rattle.chan_model.specs.Signals.{Load}
-use Rattle.chan_model.specs.Signals.{Up}
+use Rattle.chan_model.specs.Signals.{Load, Up, load_bytes}
 use Rattle.chan_model.specs.declared.signal.Up.TheVariants as up
 use Rattle.chan_model.specs.HoldTable.{HoldStep, program_begun, offer_accepted, hold_takes, came_of, is_connected, is_on}
 use Rattle.chan_model.specs.Loads.{load_length}
 use Rattle.chan_model.specs.UnitReports.{is_last_end, is_outward, has_device_end, has_unit_check}
-use Rattle.data_move.specs.Moving.{residual}
 use Rattle.storage_keys.specs.Storage.{Contents}
 use Rattle.transfer.specs.declared.Beginning.{Beginning}
 use Rattle.transfer.specs.declared.CommandStart.{CommandStart}
@@ -33,20 +31,19 @@ use Rattle.subchannel_model.specs.declared.state.ProgramPosition.{ProgramPositio
 use Rattle.subchannel_model.specs.declared.state.Subchannel.{Subchannel}
 use Rattle.subchannel_model.specs.declared.state.SubchannelState.{SubchannelState}
 use Rattle.subchannel_model.specs.declared.state.UpStep.{UpStep}
-use Rattle.subchannel_model.specs.Causes.{without_begun, without_waiting, programs_after_end, with_cause}
+use Rattle.subchannel_model.specs.Causes.{with_cause}
 use Rattle.subchannel_model.specs.Ends.{has_status_modifier, breaks_chain, chains_command, has_unit_exception, shows_length}
 use Rattle.subchannel_model.specs.Halt.{status_dropped, halt_begun, halted, drops_status}
 use Rattle.subchannel_model.specs.Losing.{is_offered_or_held, reset_with, reset_for, loses_at, shows_at}
-use Rattle.subchannel_model.specs.Parts.{suspended_alone, standing_still, chain_with, end_shown_at, has_any}
-use Rattle.subchannel_model.specs.Programs.{without_programs}
+use Rattle.subchannel_model.specs.Parts.{chain_with, end_shown_at, has_any}
 use Rattle.subchannel_model.specs.Sending.{carried_by, finds_full}
-use Rattle.subchannel_model.specs.Test.{tested_wholly, ends_suspended, tested}
+use Rattle.subchannel_model.specs.Test.{tested_wholly}
 use Rattle.subchannel_model.proofs.Named.{with_known, give_next, with_attention}
-use Rattle.subchannel_model.specs.Taking.{Met, meets, ignoring, quietly, let_go, by_hold, without_pci, interrupted, standing, goes_ahead, path_used, taking_over, suspending, beginning, begin_standing, halt_done, clear_done, accept, take_in, move_bytes, move_data, with_end, end_taken, dedicated_by_end, chaining, goes_on, stops_at, command_ended, end_of, reset_taken, may_attend, takes_up}
-use Rattle.chan_model.specs.Signals.{load_bytes}
+use Rattle.subchannel_model.specs.Taking.{Met, meets, ignoring, quietly, let_go, by_hold, interrupted, standing, goes_ahead, path_used, taking_over, suspending, beginning, begin_standing, halt_done, clear_done, accept, take_in, move_bytes, move_data, with_end, end_taken, dedicated_by_end, chaining, goes_on, stops_at, command_ended, end_of, reset_taken, may_attend, takes_up}
 use Rattle.machine_model.specs.ChooseSteps.{choose_sub}
 use Rattle.machine_model.specs.Turns.{SubTurn}
 use Rattle.chan_model.specs.ResetCauses.{rests_on}
+use Rattle.machine_laws.proofs.Beside.{cause-beside, interrupted-beside, suspending-beside, halt_done-beside, clear_done-beside, attention-beside, tested-beside}
 
 -- it stays
 abbrev pub IsStill : SubchannelState → SubchannelState → Type 0
@@ -56,46 +53,26 @@ if-still : (s : SubchannelState) (b : Bool) (x y : SubchannelState) → IsStill 
 if-still s true x y e f = e
 if-still s false x y e f = f
 
-after_end-still : (s : SubchannelState) (b : ActiveProgram) (last : Bool) → IsStill s (programs_after_end s b last)
-after_end-still s b true = refl
-after_end-still s b false = refl
-
-without_begun-still : (s : SubchannelState) (b : Option ActiveProgram) → IsStill s (without_begun b s)
-without_begun-still s None = refl
-without_begun-still s (Some b) = refl
-
-without_waiting-still : (s : SubchannelState) (w : Option Program) → IsStill s (without_waiting w s)
-without_waiting-still s None = refl
-without_waiting-still s (Some w) = refl
-
 pub cause-still : (s : SubchannelState) (c : StatusCause) → IsStill s (with_cause s c)
-cause-still s (cause.End b status more) = after_end-still s b (is_last_end status)
-cause-still s (cause.FetchFault tried check count) = without_begun-still s s.begun
-cause-still s cause.NoPath = without_waiting-still s s.waiting
-cause-still s other = refl
+cause-still s c = (cause-beside s c).dedicated
 
 interrupted-still : (s : SubchannelState) (b : Option ActiveProgram) → IsStill s (interrupted s b)
-interrupted-still s None = refl
-interrupted-still s (Some b) =
-    if-still s b.transfer.pci_pending (with_cause (record s { begun = Some (without_pci b) }) (cause.Pci b.transfer.walk.tried (residual b.transfer.moving))) s refl refl
+interrupted-still s b = (interrupted-beside s b).dedicated
 
 suspending-still : (s : SubchannelState) (program : Program) (walk : WalkPlace) (count : ℕ) → IsStill s (suspending s program walk count)
-suspending-still s program walk count =
-    if-still s program.orb.suppress_suspended
-    (record (standing_still s program walk count) { scsw = suspended_alone s.scsw }) (with_cause (standing_still s program walk count) (cause.Suspension walk.tried count)) refl refl
+suspending-still s program walk count = (suspending-beside s program walk count).dedicated
 
 halt_done-still : (s : SubchannelState) → IsStill s (halt_done s)
-halt_done-still s = if-still s s.scsw.activity.halt_pending (with_cause s cause.HaltDone) s refl refl
+halt_done-still s = (halt_done-beside s).dedicated
 
 clear_done-still : (s : SubchannelState) → IsStill s (clear_done s)
-clear_done-still s = if-still s s.scsw.activity.clear_pending (with_cause s cause.ClearDone) s refl refl
+clear_done-still s = (clear_done-beside s).dedicated
 
 attention-still : (s : SubchannelState) (shows : Bool) → IsStill s (with_attention s shows)
-attention-still s shows = if-still s shows (with_cause s cause.Attention) s refl refl
+attention-still s shows = (attention-beside s shows).dedicated
 
--- the instructions
 pub tested-still : (s : SubchannelState) → IsStill s (tested_wholly s)
-tested-still s = if-still s (ends_suspended s.scsw) (without_programs (tested s)) (tested s) refl refl
+tested-still s = (tested-beside s).dedicated
 
 pub halted-still : (s : SubchannelState) → IsStill s (halted s)
 halted-still s = if-still s (drops_status s.scsw) (status_dropped (halt_begun s)) (halt_begun s) refl refl

@@ -7,10 +7,9 @@ use Rattle.chan_events.specs.declared.reply.Reply.TheVariants as reply
 use Rattle.chan_model.specs.declared.hold_state.HoldPhase.{HoldPhase}
 use Rattle.chan_model.specs.declared.hold_state.HoldPhase.TheVariants as hold
 use Rattle.chan_model.specs.declared.hold_state.HoldState.{HoldState}
-use Rattle.chan_model.specs.Signals.{Down}
+use Rattle.chan_model.specs.Signals.{Down, Up}
 use Rattle.chan_model.specs.declared.signal.Down.TheVariants as down
 use Rattle.chan_model.specs.declared.signal.OnPath.{OnPath}
-use Rattle.chan_model.specs.Signals.{Up}
 use Rattle.chan_model.specs.declared.signal.Up.TheVariants as up
 use Rattle.chan_model.specs.HoldTable.{HoldStep, found_busy, left, refusing, granting, asked_back, released, reset_cleared, attended, hold_after, came_of}
 use Rattle.seen_laws.specs.Links.{Link, Nowhere, Offered, Connected, Apart, Leaving, Resetting, Reset_sent, SubSeen, sub_met, is_offered, is_leaving, is_reset_sent, is_held_for, is_connected_by, program_of, mover_of, IsSilent, IsTaken}

@@ -13,7 +13,7 @@ use Rattle.chan_events.specs.declared.reply.Reply.TheVariants as reply
 use Rattle.subchannel_model.specs.declared.state.Subchannel.{Subchannel}
 use Rattle.subchannel_model.specs.Places.{reaches, reached_in}
 use Rattle.subchannel_model.specs.Sending.{carried_by, finds_full}
-use Rattle.machine_model.specs.State.{State, place_of}
+use Rattle.machine_model.specs.State.{State, place_of, with_sub, state_with_unit}
 use Rattle.machine_model.specs.Turns.{DownTurn}
 use Rattle.machine_model.specs.DownSteps.{asks_at, down_sub}
 use Rattle.machine_model.specs.ReportSteps.{with_any_up, report_taken}
@@ -22,7 +22,6 @@ use Rattle.machine_model.specs.ActSteps.{has_path_of_act, acts}
 use Rattle.step_laws.proofs.Places.{first-passes, reached-there}
 use Rattle.step_laws.specs.Walks.{IsOfSide}
 use Rattle.interruptions.specs.Requests.{WaitingRequests}
-use Rattle.machine_model.specs.State.{with_sub, state_with_unit}
 use Rattle.step_laws.proofs.Turns as turn
 use Rattle.step_laws.proofs.Turns.{TurnOf}
 

@@ -5,10 +5,9 @@ use Rattle.std.specs.Prelude.{◌⊎◌}
 use Rattle.std.specs.List.{list_any}
 use Rattle.std.proofs.lemmas.Bool.{eqb-true, eq-eqb, and_parts}
 use Rattle.chan_model.specs.declared.names.Side.{Side}
-use Rattle.chan_model.specs.Signals.{Down}
+use Rattle.chan_model.specs.Signals.{Down, Up}
 use Rattle.chan_model.specs.declared.signal.Down.TheVariants as down
 use Rattle.chan_model.specs.declared.signal.OnPath.{OnPath}
-use Rattle.chan_model.specs.Signals.{Up}
 use Rattle.chan_model.specs.declared.unit_state.Attention.{Attention}
 use Rattle.chan_model.specs.declared.unit_state.Own.{Own}
 use Rattle.chan_model.specs.declared.unit_state.Own.TheVariants as own
@@ -108,10 +107,6 @@ not-begun false c e f = refl
 not-false : (b : Bool) → not b ≡ true → b ≡ false
 not-false true e = absurd (cc e)
 not-false false e = refl
-
-not-back : (b : Bool) → not b ≡ false → b ≡ true
-not-back true e = refl
-not-back false e = absurd (cc e)
 
 get-mapped : (ms : List Member) (i : ℕ) (m : Member) → slice_get ms i ≡ Some m → slice_get (map group_of ms) i ≡ Some m.group
 get-mapped [] i m e = absurd (cc e)

@@ -5,9 +5,8 @@ use Rattle.chan_events.specs.Replies.{Reply}
 use Rattle.chan_events.specs.declared.reply.Reply.TheVariants as reply
 use Rattle.chan_model.specs.declared.fault.Fault.{Fault}
 use Rattle.chan_model.specs.declared.names.Side.{Side}
-use Rattle.chan_model.specs.Signals.{Down}
+use Rattle.chan_model.specs.Signals.{Down, Up}
 use Rattle.chan_model.specs.declared.signal.OnPath.{OnPath}
-use Rattle.chan_model.specs.Signals.{Up}
 use Rattle.chan_model.specs.declared.unit_state.UnitState.{UnitState}
 use Rattle.chan_model.specs.UnitTable as unit_table
 use Rattle.chan_model.specs.UnitTable.{UnitStep, unit_takes, unit_after, restarted, is_idle}

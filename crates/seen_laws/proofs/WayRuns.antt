@@ -11,9 +11,8 @@ use Rattle.chan_events.specs.declared.reply.Reply.TheVariants as reply
 use Rattle.chan_model.specs.declared.fault.Fault.{Fault}
 use Rattle.chan_model.specs.declared.names.Side.{Side}
 use Rattle.chan_model.specs.Reports.{Report}
-use Rattle.chan_model.specs.Signals.{Down}
+use Rattle.chan_model.specs.Signals.{Down, Up}
 use Rattle.chan_model.specs.declared.signal.OnPath.{OnPath}
-use Rattle.chan_model.specs.Signals.{Up}
 use Rattle.chan_model.specs.declared.unit_state.UnitState.{UnitState}
 use Rattle.chan_model.specs.Sides.{same_side}
 use Rattle.chan_model.specs.UnitReports.{unit_reports}
@@ -33,8 +32,8 @@ use Rattle.machine_model.specs.PathSteps.{swept}
 use Rattle.machine_model.specs.ReportSteps.{with_any_up}
 use Rattle.machine_model.specs.State.{State, opening_of}
 use Rattle.machine_model.specs.Steps.{Run, Opened, Stepped, Step}
-use Rattle.machine_model.specs.Turns.{SubTurn, UpTurn}
-use Rattle.step_laws.proofs.Places.{set-get, map-get, same-side, one-side, both-true}
+use Rattle.machine_model.specs.Turns.{SubTurn, UpTurn, with_state}
+use Rattle.step_laws.proofs.Places.{set-get, map-get, same-side, one-side, both-true, found-there}
 use Rattle.step_laws.specs.Walks.{OneSub}
 use Rattle.machine_laws.specs.Agreeing.{AreAbove}
 use Rattle.seen_laws.specs.Devices.{Transfer, Holding, with_holder, with_transfer, reported, side_seen, with_restart, setup_named, acted_after, held_met, holding_met, holding_after, nothing_held}
@@ -56,8 +55,6 @@ use Rattle.machine_model.specs.declared.state.Sweep.TheVariants as sweep
 use Rattle.machine_model.specs.UpSteps.{returns_at}
 use Rattle.chan_events.specs.declared.event.Instruction.{Instruction}
 use Rattle.subchannel_model.specs.Places.{Found, found_at, place_in}
-use Rattle.machine_model.specs.Turns.{with_state}
-use Rattle.step_laws.proofs.Places.{found-there}
 use Rattle.step_laws.proofs.Executed.{IsDone, state_left}
 use Rattle.step_laws.proofs.Turns as turn
 use Rattle.step_laws.proofs.Turns.{TurnOf, HasTurn, step-turn}

@@ -10,10 +10,8 @@ use Rattle.storage_keys.specs.Storage.{Contents}
 use Rattle.chan_model.specs.declared.hold_state.HoldPhase.{HoldPhase}
 use Rattle.chan_model.specs.declared.hold_state.HoldPhase.TheVariants as hold
 use Rattle.chan_model.specs.declared.hold_state.HoldState.{HoldState}
-use Rattle.chan_model.specs.Signals.{Down}
-use Rattle.chan_model.specs.Signals.{Load}
+use Rattle.chan_model.specs.Signals.{Down, Load, Up, load_bytes}
 use Rattle.chan_model.specs.declared.signal.OnPath.{OnPath}
-use Rattle.chan_model.specs.Signals.{Up}
 use Rattle.chan_model.specs.declared.signal.Up.TheVariants as up
 use Rattle.chan_model.specs.HoldTable.{HoldStep, program_begun, offer_accepted, hold_takes, came_of, is_connected, is_on, letting_go}
 use Rattle.chan_model.specs.Loads.{load_length}
@@ -45,7 +43,6 @@ use Rattle.subchannel_model.specs.Losing.{is_offered_or_held, reset_drawn, reset
 use Rattle.subchannel_model.specs.Parts.{suspended_alone, standing_still, chain_with, end_shown_at, has_any, scsw_joined}
 use Rattle.subchannel_model.specs.Status.{check_bits, scsw_made, serials_made, with_joined, no_device_status, no_subchannel_status}
 use Rattle.subchannel_model.specs.Taking.{Met, meets, ignoring, quietly, let_go, by_hold, without_pci, interrupted, standing, goes_ahead, path_used, taking_over, suspending, beginning, begin_standing, halt_done, accept, giving, take_in, move_bytes, move_data, with_end, with_transfer, end_taken, chaining, goes_on, stops_at, command_ended, end_of, reset_taken, may_attend, takes_up}
-use Rattle.chan_model.specs.Signals.{load_bytes}
 use Rattle.subchannel_model.proofs.Named.{with_known, with_attention}
 use Rattle.shown_laws.specs.StatusBytes.{joined_byte, Brings, is_command, BringsStop, BringsEnd, BringsChain, BringsAnswered, IsSignalBrought}
 use Rattle.shown_laws.proofs.Counted.{IsKept, cause-kept}

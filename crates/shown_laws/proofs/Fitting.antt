@@ -35,7 +35,7 @@ use Rattle.subchannel_model.specs.declared.state.Subchannel.{Subchannel}
 use Rattle.subchannel_model.specs.declared.state.SubchannelState.{SubchannelState}
 use Rattle.subchannel_model.specs.Causes.{row_of, scsw_before, with_cause}
 use Rattle.subchannel_model.specs.Choosing.{chosen, marked_sub}
-use Rattle.subchannel_model.specs.Conditions.{any_function, start_alone, left_by}
+use Rattle.subchannel_model.specs.Conditions.{start_alone, left_by}
 use Rattle.subchannel_model.specs.Ends.{last_shown, work_shown}
 use Rattle.subchannel_model.specs.Halt.{drops_status, status_dropped, halt_begun}
 use Rattle.subchannel_model.specs.Losing.{path_lost, path_index, loses_at, loses, shows_at}
@@ -46,7 +46,7 @@ use Rattle.subchannel_model.specs.Status.{intermediate_alone, without_status}
 use Rattle.subchannel_model.specs.Test.{tested, ended_scsw, suspended_scsw, tested_wholly}
 use Rattle.subchannel_model.specs.Parts.{scsw_joined}
 use Rattle.shown_laws.proofs.Chosen.{clear-chosen, nopath-chosen}
-use Rattle.shown_laws.proofs.Effects.{Seen, seen, of_seen, caused, IsTimely, Effect, Nothing, Causes, Takes, TakesAsking, Moves, MovesAsking, Suspends, SuspendsShowing, SendsHalt, causes, made-activity, made-functions, joined-functions}
+use Rattle.shown_laws.proofs.Effects.{Seen, seen, of_seen, IsTimely, Effect, Nothing, Causes, Takes, TakesAsking, Moves, MovesAsking, Suspends, SuspendsShowing, SendsHalt, causes, made-activity, made-functions, joined-functions}
 use Rattle.step_laws.proofs.Executed.{IsEffect, code_for}
 use Rattle.shown_laws.proofs.Holding.{Held, not-held}
 use Rattle.shown_laws.proofs.Runs.{AreLaws, run-keeps}
@@ -154,12 +154,6 @@ pub marked-fits : (sub : Subchannel) (choice : Option ℕ) → Fits (seen sub.st
 marked-fits sub choice fits = record { clears = fits.clears; starts = fits.starts }
 
 -- instructions
-any-clear : (f : FunctionControl) → f ≡ clear_alone → any_function f ≡ true
-any-clear f e = ap any_function e
-
-alone-clear : (f : FunctionControl) → f ≡ clear_alone → start_alone f ≡ false
-alone-clear f e = ap start_alone e
-
 -- an instruction leaves its effect where its code is 0
 left-fits : (c : ConditionCode) (s effect : SubchannelState) → Fits (seen s) → (c ≡ code.Zero → Fits (seen effect)) → Fits (seen (left_by c s effect))
 left-fits code.Zero s effect fits f = f refl
@@ -170,10 +164,6 @@ zero-two true false false e = refl
 zero-two true false true e = absurd (cc e)
 zero-two true true two e = absurd (cc e)
 zero-two false one two e = absurd (cc e)
-
-ended-fits : (s : SubchannelState) (scsw : Scsw) (w : Option Program) → scsw.activity.start_pending ≡ false → scsw.activity.clear_pending ≡ false →
-    Fits (record (seen s) { scsw = scsw; waiting = w })
-ended-fits s scsw w a b = idle-fits _ b a
 
 -- TEST
 module _ (s : SubchannelState) (fits : Fits (seen s)) where

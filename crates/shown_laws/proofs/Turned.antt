@@ -12,8 +12,7 @@ use Rattle.chan_model.specs.declared.fault.Fault.TheVariants as fault
 use Rattle.chan_model.specs.declared.hold_state.HoldPhase.{HoldPhase}
 use Rattle.chan_model.specs.declared.hold_state.HoldPhase.TheVariants as hold
 use Rattle.chan_model.specs.declared.hold_state.HoldState.{HoldState}
-use Rattle.chan_model.specs.Signals.{Down}
-use Rattle.chan_model.specs.Signals.{Up}
+use Rattle.chan_model.specs.Signals.{Down, Up}
 use Rattle.chan_model.specs.declared.unit_state.UnitState.{UnitState}
 use Rattle.chan_model.specs.UnitReports.{unit_reports}
 use Rattle.chan_model.specs.UnitTable as unit_table
@@ -29,14 +28,14 @@ use Rattle.machine_model.specs.declared.state.Sweep.{Sweep}
 use Rattle.machine_model.specs.declared.state.Sweep.TheVariants as sweep
 use Rattle.machine_model.specs.ActSteps.{has_path_of_act, acts, act_sub}
 use Rattle.machine_model.specs.ChooseSteps.{choose_sub}
-use Rattle.machine_model.specs.DownSteps.{down_front, down_sub}
+use Rattle.machine_model.specs.DownSteps.{down_front, down_sub, asks_at}
 use Rattle.machine_model.specs.InstructionSteps.{subchannel_word}
 use Rattle.machine_model.specs.PathSteps.{swept, with_swept}
 use Rattle.machine_model.specs.ReportSteps.{report_taken}
 use Rattle.machine_model.specs.State.{State, place_of, with_sub}
 use Rattle.machine_model.specs.Steps.{Step}
-use Rattle.machine_model.specs.Turns.{Outcome, SubTurn, UpTurn, DownTurn, with_state}
-use Rattle.machine_model.specs.UpSteps.{up_front, up_sub}
+use Rattle.machine_model.specs.Turns.{SubTurn, UpTurn, DownTurn, with_state}
+use Rattle.machine_model.specs.UpSteps.{up_front, up_sub, returns_at}
 use Rattle.step_laws.proofs.Places.{set-get, map-get, found-there}
 use Rattle.step_laws.specs.Walks.{sweep_event}
 use Rattle.subchannel_model.proofs.Named.{found_with}
@@ -56,9 +55,7 @@ use Rattle.shown_laws.specs.Shown.{names, is_about}
 use Rattle.step_laws.proofs.Executed.{IsEffect, reply_of, code_for, state_left, IsDone}
 use Rattle.shown_laws.proofs.Executed.{IsExecuted, as-executed}
 use Rattle.shown_laws.proofs.Named.{same-id, named-is, named-place}
-use Rattle.machine_model.specs.DownSteps.{asks_at}
 use Rattle.machine_model.specs.Sharing.{may_take}
-use Rattle.machine_model.specs.UpSteps.{returns_at}
 use Rattle.step_laws.proofs.Turns as turn
 use Rattle.step_laws.proofs.Turns.{TurnOf, HasTurn, step-turn}
 
@@ -194,9 +191,6 @@ act-apart sub u what = if-ok (IsApart sub) (has_path_of_act sub what) (report_ta
 module _ (s : State) (id : SubchannelId) (place : ℕ) (sub : Subchannel) (mine : place_in id s.subs ≡ Some place) (there : slice_get s.subs place ≡ Some sub) where
   abbrev Turns : Event → Reply → State → Type 0
   Turns e r new = (after : Subchannel) → slice_get new.subs place ≡ Some after → Turned s.sets id e r sub after.state
-
-  abbrev OkTurns : Event → Outcome → Type 0
-  OkTurns e o = IfOk o (λ t. Turns e t.reply t.state)
 
   rests : (e : Event) (r : Reply) (new : State) → is_about s.sets id e ≡ false → new.subs ≡ s.subs → Turns e r new
   rests e r new about same after left =

@@ -8,8 +8,7 @@ use Rattle.chan_events.specs.declared.reply.Reply.TheVariants as reply
 use Rattle.chan_model.specs.declared.hold_state.HoldPhase.{HoldPhase}
 use Rattle.chan_model.specs.declared.hold_state.HoldPhase.TheVariants as hold
 use Rattle.chan_model.specs.declared.hold_state.HoldState.{HoldState}
-use Rattle.chan_model.specs.Signals.{Load}
-use Rattle.chan_model.specs.Signals.{Up}
+use Rattle.chan_model.specs.Signals.{Load, Up, load_bytes}
 use Rattle.chan_model.specs.declared.signal.Up.TheVariants as up
 use Rattle.chan_model.specs.HoldTable.{HoldStep, program_begun, offer_accepted, asked_back, letting_go, hold_takes, came_of, is_connected, is_on}
 use Rattle.chan_model.specs.Loads.{load_length}
@@ -33,15 +32,16 @@ use Rattle.subchannel_model.specs.declared.state.ProgramPosition.{ProgramPositio
 use Rattle.subchannel_model.specs.declared.state.Subchannel.{Subchannel}
 use Rattle.subchannel_model.specs.declared.state.SubchannelState.{SubchannelState}
 use Rattle.subchannel_model.specs.declared.state.UpStep.{UpStep}
-use Rattle.subchannel_model.specs.Causes.{without_begun, without_waiting, programs_after_end, with_cause}
+use Rattle.subchannel_model.specs.Causes.{without_begun, with_cause}
 use Rattle.subchannel_model.specs.Ends.{has_status_modifier, chains_command}
 use Rattle.subchannel_model.specs.Losing.{is_offered_or_held, reset_with, reset_for, loses_at, shows_at}
 use Rattle.subchannel_model.specs.Parts.{suspended_alone, standing_still, chain_with, end_shown_at, has_any}
 use Rattle.subchannel_model.proofs.Named.{with_known, with_attention}
-use Rattle.subchannel_model.specs.Taking.{Met, meets, ignoring, quietly, let_go, by_hold, without_pci, interrupted, standing, goes_ahead, path_used, taking_over, suspending, beginning, begin_standing, halt_done, clear_done, accept, back, giving, take_in, move_bytes, move_data, with_end, with_transfer, end_taken, chaining, goes_on, stops_at, command_ended, end_of, reset_taken, may_attend, takes_up}
-use Rattle.chan_model.specs.Signals.{load_bytes}
+use Rattle.subchannel_model.specs.Taking.{Met, meets, ignoring, quietly, let_go, by_hold, interrupted, standing, goes_ahead, path_used, taking_over, suspending, beginning, begin_standing, halt_done, clear_done, accept, back, giving, take_in, move_bytes, move_data, with_end, with_transfer, end_taken, chaining, goes_on, stops_at, command_ended, end_of, reset_taken, may_attend, takes_up}
 use Rattle.shown_laws.specs.Paths.{used_met}
 use Rattle.shown_laws.proofs.Turned.{state_chosen}
+use Rattle.subchannel_model.specs.declared.state.PmcwState.{PmcwState}
+use Rattle.machine_laws.proofs.Beside.{IsBeside, cause-beside, interrupted-beside, suspending-beside, halt_done-beside, clear_done-beside}
 
 -- it stays
 abbrev pub IsSame : SubchannelState → SubchannelState → Type 0
@@ -51,39 +51,23 @@ pub if-same : (s : SubchannelState) (b : Bool) (x y : SubchannelState) → IsSam
 if-same s true x y e f = e
 if-same s false x y e f = f
 
-after_end-same : (s : SubchannelState) (b : ActiveProgram) (last : Bool) → IsSame s (programs_after_end s b last)
-after_end-same s b true = refl
-after_end-same s b false = refl
-
-without_begun-same : (s : SubchannelState) (b : Option ActiveProgram) → IsSame s (without_begun b s)
-without_begun-same s None = refl
-without_begun-same s (Some b) = refl
-
-without_waiting-same : (s : SubchannelState) (w : Option Program) → IsSame s (without_waiting w s)
-without_waiting-same s None = refl
-without_waiting-same s (Some w) = refl
+same-used : (s x : SubchannelState) → IsBeside s x → IsSame s x
+same-used s x k = ap (λ (p : PmcwState). p.last_used) k.pmcw
 
 pub cause-same : (s : SubchannelState) (c : StatusCause) → IsSame s (with_cause s c)
-cause-same s (cause.End b status more) = after_end-same s b (is_last_end status)
-cause-same s (cause.FetchFault tried check count) = without_begun-same s s.begun
-cause-same s cause.NoPath = without_waiting-same s s.waiting
-cause-same s other = refl
+cause-same s c = same-used s (with_cause s c) (cause-beside s c)
 
 interrupted-same : (s : SubchannelState) (b : Option ActiveProgram) → IsSame s (interrupted s b)
-interrupted-same s None = refl
-interrupted-same s (Some b) =
-    if-same s b.transfer.pci_pending (with_cause (record s { begun = Some (without_pci b) }) (cause.Pci b.transfer.walk.tried (residual b.transfer.moving))) s refl refl
+interrupted-same s b = same-used s (interrupted s b) (interrupted-beside s b)
 
 suspending-same : (s : SubchannelState) (program : Program) (walk : WalkPlace) (count : ℕ) → IsSame s (suspending s program walk count)
-suspending-same s program walk count =
-    if-same s program.orb.suppress_suspended
-    (record (standing_still s program walk count) { scsw = suspended_alone s.scsw }) (with_cause (standing_still s program walk count) (cause.Suspension walk.tried count)) refl refl
+suspending-same s program walk count = same-used s (suspending s program walk count) (suspending-beside s program walk count)
 
 halt_done-same : (s : SubchannelState) → IsSame s (halt_done s)
-halt_done-same s = if-same s s.scsw.activity.halt_pending (with_cause s cause.HaltDone) s refl refl
+halt_done-same s = same-used s (halt_done s) (halt_done-beside s)
 
 clear_done-same : (s : SubchannelState) → IsSame s (clear_done s)
-clear_done-same s = if-same s s.scsw.activity.clear_pending (with_cause s cause.ClearDone) s refl refl
+clear_done-same s = same-used s (clear_done s) (clear_done-beside s)
 
 -- a path that is lost
 reset-same : (s : SubchannelState) (shows : Bool) → IsSame s (reset_with s shows)

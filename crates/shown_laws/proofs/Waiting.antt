@@ -10,7 +10,6 @@ use Rattle.scsw_irb.specs.declared.code.IntCode.{IntCode}
 use Rattle.interruptions.specs.Requests.{WaitingRequests, is_of, stands, posted, request_dropped, is_enabled, lowest, answer}
 use Rattle.channel_config.specs.declared.names.SubchannelId.{SubchannelId}
 use Rattle.machine_model.specs.Requests.{request_of, posted_for, posted_all}
-use Rattle.step_laws.proofs.Places.{both-true}
 use Rattle.subchannel_model.specs.declared.state.Subchannel.{Subchannel}
 
 abbrev pub is_for : SubchannelId → IntCode → Bool
@@ -35,11 +34,6 @@ or-parts false b e = inr e
 pub for-parts : (id : SubchannelId) (code : IntCode) → is_for id code ≡ true → (code.set ≡ id.set) × (code.subchannel ≡ id.number)
 for-parts id code e =
     let p = and_parts (code.set == id.set) (code.subchannel == id.number) e in (eqb-true code.set id.set p.0, eqb-true code.subchannel id.number p.1)
-
-for-same : (id : SubchannelId) (a b : IntCode) → a.set ≡ b.set → a.subchannel ≡ b.subchannel → is_for id a ≡ true → is_for id b ≡ true
-for-same id a b e f h =
-    let p = for-parts id a h in
-    both-true (b.set == id.set) (b.subchannel == id.number) (eq-eqb b.set id.set (sym e ∙ p.0)) (eq-eqb b.subchannel id.number (sym f ∙ p.1))
 
 -- a request that is posted
 pub posted-keeps : (id : SubchannelId) (w : WaitingRequests) (code : IntCode) → asks id w ≡ true → asks id (posted w code) ≡ true

@@ -5,8 +5,8 @@ use Rattle.chan_events.specs.Replies.{Reply}
 use Rattle.interruptions.specs.Requests.{WaitingRequests}
 use Rattle.chan_model.specs.declared.names.Side.{Side}
 use Rattle.chan_model.specs.UnitTable.{restarted}
-use Rattle.subchannel_model.specs.Places.{reaches}
-use Rattle.machine_model.specs.State.{State}
+use Rattle.subchannel_model.specs.Places.{reaches, Found, found_at, place_in, place_of_id}
+use Rattle.machine_model.specs.State.{State, place_of}
 use Rattle.machine_model.specs.UpSteps.{returns_at}
 use Rattle.machine_model.specs.DownSteps.{asks_at}
 use Rattle.machine_model.specs.Sharing.{may_take}
@@ -28,11 +28,9 @@ use Rattle.channel_config.specs.declared.names.SubchannelId.{SubchannelId}
 use Rattle.channel_config.specs.SubchannelWords.{subchannel_named}
 use Rattle.subchannel_model.specs.declared.state.SubchannelState.{SubchannelState}
 use Rattle.subchannel_model.specs.Enable.{enabling}
-use Rattle.subchannel_model.specs.Places.{Found, found_at, place_in, place_of_id}
 use Rattle.subchannel_model.specs.Start.{started}
 use Rattle.subchannel_model.specs.Store.{pmcw_of}
 use Rattle.machine_model.specs.InstructionSteps.{subchannel_word}
-use Rattle.machine_model.specs.State.{place_of}
 use Rattle.machine_model.specs.Turns.{with_state}
 use Rattle.step_laws.proofs.Executed.{IsDone, IsLeft, absent_reply, code_for, reply_of, state_left, set-same}
 
