@@ -97,8 +97,8 @@ module _ (t : Tables) (xs : List ℕ) (r : IntCode) (order queues : Circles) (su
     ordered = o.own xs w.ordered (with-order t.requests xs w.own w.distinct) (neither (large-apart p 0 (omega arith) (omega arith)) none);
     alone = λ k large bound out.
         let parts : (has k xs || nat_eq k p) ≡ false = sym (has-end k xs p) ∙ out in
-        o.alone xs w.ordered k (flipped k 0 (large-apart k 0 large (omega arith))) (flipped k p (second-false (has k xs) (nat_eq k p) parts))
-        (w.alone k large bound (first-false (has k xs) (nat_eq k p) parts));
+        o.others xs w.ordered k [] (w.alone k large bound (first-false (has k xs) (nat_eq k p) parts))
+        (neither (flipped k 0 (large-apart k 0 large (omega arith))) refl) (neither (flipped k p (second-false (has k xs) (nat_eq k p) parts)) refl);
     queue = posted-circle;
     bits = λ k small.
         let zs = of_subclass t.requests k xs in
@@ -151,10 +151,10 @@ module _ (t : Tables) (xs : List ℕ) (p : ℕ) (order queues : Circles) (summar
     below = λ k is. w.below k (in-filter (λ other. not (nat_eq p other)) xs k is);
     distinct = distinct-filter (λ other. not (nat_eq p other)) xs w.distinct;
     ordered = o.own 0 xs w.ordered (with-order t.requests xs w.own w.distinct) found;
-    alone = λ k big bound out. elim (nat_eq p k) as (λ b. nat_eq p k ≡ b → next_of order k ≡ k) [
-      | true ↦ λ same. subst (λ (j : ℕ). next_of order j ≡ j) (eqb-true p k same) o.itself
-      | false ↦ λ other. o.alone 0 xs w.ordered found k
-          (w.alone k big bound (not-true (λ is. true≢false (sym (stays-in (λ j. not (nat_eq p j)) xs k is (ap not other)) ∙ out))))
+    alone = λ k big bound out. elim (nat_eq p k) as (λ b. nat_eq p k ≡ b → IsCircle order k []) [
+      | true ↦ λ same. subst (λ (j : ℕ). IsCircle order j []) (eqb-true p k same) o.itself
+      | false ↦ λ other. o.others 0 xs w.ordered found k []
+          (w.alone k big bound (not-true (λ is. true≢false (sym (stays-in (λ j. not (nat_eq p j)) xs k is (ap not other)) ∙ out)))) (neither other refl)
     ] refl;
     queue = dropped-circle;
     bits = λ k small.

@@ -109,7 +109,7 @@ made numbers count requests order queues e a b long =
       below = λ p found. cc;
       distinct = tt;
       ordered = (a.next 0 (omega (arith, e)), a.former 0 (omega (arith, e)));
-      alone = λ p large below out. a.next p (omega (arith, e, below));
+      alone = λ p large below out. (a.next p (omega (arith, e, below)), a.former p (omega (arith, e, below)));
       queue = λ k small. (b.next k (omega (arith, e, small)), b.former k (omega (arith, e, small)));
       bits = λ k small. no-bit k small;
     } in
@@ -209,7 +209,7 @@ module _ {t : Tables} (a : AreQueued t) where
       let within : number < t.numbers = ltb-true number t.numbers (and_parts (nat_lt set 4) (nat_lt number t.numbers) h).1 in
       (elim (has p places) as (λ b. has p places ≡ b → not (next_of t.order p == p) ≡ b) [
         | true ↦ λ is. ap not (moves (next_of t.order) (former_of t.order) 0 places 0 p a.wait.ordered a.wait.distinct (no-place t.requests places 0 a.wait.own (omega arith)) is)
-        | false ↦ λ is. ap not (eq-eqb (next_of t.order p) p (a.wait.alone p (omega (arith, e)) (omega (arith, e, small, within)) is))
+        | false ↦ λ is. ap not (eq-eqb (next_of t.order p) p (a.wait.alone p (omega (arith, e)) (omega (arith, e, small, within)) is).0)
       ] refl)
       ∙ ap (λ (x : ℕ). has x places) e
       ∙ sym (stands-is t.requests set number places small a.wait.own)

@@ -58,7 +58,7 @@ pub record Wait (t : Tables) (places : List ℕ) : Type 0 where
   pub below : (p : ℕ) → has p places ≡ true → p < place_of 0 t.numbers
   pub distinct : IsDistinct nat_eq places
   pub ordered : IsCircle t.order 0 places
-  pub alone : (p : ℕ) → 8 ≤ p → p < place_of 0 t.numbers → has p places ≡ false → next_of t.order p ≡ p
+  pub alone : (p : ℕ) → 8 ≤ p → p < place_of 0 t.numbers → has p places ≡ false → IsCircle t.order p []
   pub queue : (subclass : ℕ) → subclass < 8 → IsCircle t.queues subclass (of_subclass t.requests subclass places)
   pub bits : (subclass : ℕ) → subclass < 8 → has_subclass t.summary subclass ≡ is_some (of_subclass t.requests subclass places)
 

@@ -5,8 +5,8 @@ use Rattle.std.specs.List.{IsDistinct}
 use Rattle.std.proofs.lemmas.List.{length-set, get_or-set_same, get_or-set_other}
 use Rattle.linked.specs.Circles.{AreLinked, Circles, former_of, next_of, pushed, taken}
 use Rattle.linked.specs.Paths.{IsCircle, IsPath, IsPut, IsTaken, has, without}
-use Rattle.linked.proofs.Members.{apart, differ, first-false, flipped, gone, head-apart, neither, not-own, second-false}
-use Rattle.linked.proofs.Walks.{changed, changed-at, changed-other, frame-former, frame-next, former-next, last-is, last-next, next-former, not-source, not-target, pushed-path, same-path, taken-path}
+use Rattle.linked.proofs.Members.{apart, first-false, flipped, gone, head-apart, neither, not-own, second-false}
+use Rattle.linked.proofs.Walks.{changed, changed-at, frame-former, frame-next, former-next, last-is, last-next, next-former, not-source, not-target, pushed-path, same-path, taken-path}
 
 -- the tables written with numbers that were read before
 abbrev pub put_after : Circles → ℕ → ℕ → ℕ → Circles
@@ -65,25 +65,17 @@ module _ (c : Circles) (l : AreLinked c.next c.former) where
         (second-false (nat_eq p k) (has p ys) other) (first-false (nat_eq p k) (has p ys) other))
         out away)
 
-    put-alone : (xs : List ℕ) → IsCircle c at xs → (q : ℕ) → nat_eq at q ≡ false → nat_eq p q ≡ false → n q ≡ q → next_of (pushed c at p) q ≡ q
-    put-alone xs g q far other e =
-        let source : nat_eq (f at) q ≡ false = differ (f at) q (λ same. apart at q far (sym (last-next n f at xs at g) ∙ ap n same ∙ e)) in
-        set-twice c.next (f at) p p at q (l.former at a) b ∙ changed-other (changed n (f at) p) p at q other ∙ changed-other n (f at) p q source ∙ e
-
     pub is-put : IsPut c at p (pushed c at p)
-    is-put = record { long = set-twice-long c.next (f at) p p at; own = put-own; others = put-others; alone = put-alone }
+    is-put = record { long = set-twice-long c.next (f at) p p at; own = put-own; others = put-others }
 
   -- a number is taken out
   module _ (p : ℕ) (b : p < length c.next) where
-    now-next : (q : ℕ) → next_of (taken c p) q ≡ changed (changed n (f p) (n p)) p p q
-    now-next q = set-twice c.next (f p) (n p) p p q (l.former p b) b
-
     -- a path without the number
     past : (k : ℕ) (ys : List ℕ) → IsPath (changed n (f p) (n p)) (changed f (n p) (f p)) k ys k → has p (k ∷ ys) ≡ false → IsCircle (taken c p) k ys
     past k ys h other =
         let m = changed (changed n (f p) (n p)) p p in
         same-path m (changed (changed f (n p) (f p)) p p) (next_of (taken c p)) (former_of (taken c p)) k ys k
-        now-next (λ q. set-twice c.former (n p) (f p) p p q (omega (arith, l.same, l.next p b)) (omega (arith, l.same, b)))
+        (λ q. set-twice c.next (f p) (n p) p p q (l.former p b) b) (λ q. set-twice c.former (n p) (f p) p p q (omega (arith, l.same, l.next p b)) (omega (arith, l.same, b)))
         (frame-former m (changed f (n p) (f p)) k ys k p p
         (frame-next (changed n (f p) (n p)) (changed f (n p) (f p)) k ys k p p h other)
         (second-false (nat_eq p k) (has p ys) other) (first-false (nat_eq p k) (has p ys) other))
@@ -102,17 +94,11 @@ module _ (c : Circles) (l : AreLinked c.next c.former) where
         let target = not-target n f k ys k (n p) h (ap (λ (z : ℕ). has z (k ∷ ys)) forth ∙ other) in
         past k ys (frame-former (changed n (f p) (n p)) f k ys k (n p) (f p) (frame-next n f k ys k (f p) (n p) h source) target.0 target.1) other
 
-    itself : next_of (taken c p) p ≡ p
-    itself = now-next p ∙ changed-at (changed n (f p) (n p)) p p p refl
-
-    taken-alone : (at : ℕ) (xs : List ℕ) → IsCircle c at xs → has p xs ≡ true → (q : ℕ) → n q ≡ q → next_of (taken c p) q ≡ q
-    taken-alone at xs g among q e =
-        elim (nat_eq p q) as (λ v. nat_eq p q ≡ v → next_of (taken c p) q ≡ q) [
-          | true ↦ λ same. subst (λ (z : ℕ). next_of (taken c p) z ≡ z) (eqb-true p q same) itself
-          | false ↦ λ other.
-              let source : nat_eq (f p) q ≡ false = differ (f p) q (λ same. apart p q other (sym (next-former n f at xs at p g among) ∙ ap n same ∙ e)) in
-              now-next q ∙ changed-other (changed n (f p) (n p)) p p q other ∙ changed-other n (f p) (n p) q source ∙ e
-        ] refl
+    itself : IsCircle (taken c p) p []
+    itself = (
+      set-twice c.next (f p) (n p) p p p (l.former p b) b ∙ changed-at (changed n (f p) (n p)) p p p refl,
+      set-twice c.former (n p) (f p) p p p (omega (arith, l.same, l.next p b)) (omega (arith, l.same, b)) ∙ changed-at (changed f (n p) (f p)) p p p refl,
+    )
 
     pub is-taken : IsTaken c p (taken c p)
-    is-taken = record { long = set-twice-long c.next (f p) (n p) p p; itself = itself; own = taken-own; others = taken-others; alone = taken-alone }
+    is-taken = record { long = set-twice-long c.next (f p) (n p) p p; itself = itself; own = taken-own; others = taken-others }

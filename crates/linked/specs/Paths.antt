@@ -23,18 +23,16 @@ abbrev pub follow : (ℕ → ℕ) → ℕ → ℕ → ℕ → List ℕ
 follow next zero first last = []
 follow next (suc most) first last = if next first == last then [] else next first ∷ follow next most (next first) last
 
--- a number was put into the circle of another: it comes last there; other circles and numbers that were alone are as before
+-- a number was put into the circle of another: it comes last there, and other circles are as before
 pub record IsPut (old : Circles) (at number : ℕ) (new : Circles) : Type 0 where
   pub long : length new.next ≡ length old.next
   pub own : (numbers : List ℕ) → IsCircle old at numbers → IsDistinct nat_eq (at ∷ numbers) → has number (at ∷ numbers) ≡ false → IsCircle new at (numbers ++ number ∷ [])
   pub others : (numbers : List ℕ) → IsCircle old at numbers → (other : ℕ) (rest : List ℕ) → IsCircle old other rest → has at (other ∷ rest) ≡ false → has number (other ∷ rest) ≡ false → IsCircle new other rest
-  pub alone : (numbers : List ℕ) → IsCircle old at numbers → (other : ℕ) → nat_eq at other ≡ false → nat_eq number other ≡ false → next_of old other ≡ other → next_of new other ≡ other
 
--- a number was taken out of the circle that it stood in: the others there stay in order, and it is alone; other circles and
--- numbers that were alone are as before
+-- a number was taken out of the circle that it stood in: the others there stay in order, it is alone, and other circles are as
+-- before
 pub record IsTaken (old : Circles) (number : ℕ) (new : Circles) : Type 0 where
   pub long : length new.next ≡ length old.next
-  pub itself : next_of new number ≡ number
+  pub itself : IsCircle new number []
   pub own : (at : ℕ) (numbers : List ℕ) → IsCircle old at numbers → IsDistinct nat_eq (at ∷ numbers) → has number numbers ≡ true → IsCircle new at (without number numbers)
   pub others : (at : ℕ) (numbers : List ℕ) → IsCircle old at numbers → has number numbers ≡ true → (other : ℕ) (rest : List ℕ) → IsCircle old other rest → has number (other ∷ rest) ≡ false → IsCircle new other rest
-  pub alone : (at : ℕ) (numbers : List ℕ) → IsCircle old at numbers → has number numbers ≡ true → (other : ℕ) → next_of old other ≡ other → next_of new other ≡ other
