@@ -34,7 +34,8 @@ use Rattle.machine_model.specs.ReportSteps.{with_any_up}
 use Rattle.machine_model.specs.State.{State, opening_of}
 use Rattle.machine_model.specs.Steps.{Run, Opened, Stepped, Step}
 use Rattle.machine_model.specs.Turns.{SubTurn, UpTurn}
-use Rattle.step_laws.proofs.Places.{set-get, map-get, same-side, one-side, both-true}
+use Rattle.chan_model.proofs.OneSide.{same-side, one-side}
+use Rattle.step_laws.proofs.Places.{set-get, map-get, both-true}
 use Rattle.step_laws.specs.Walks as walked
 use Rattle.step_laws.specs.Walks.{AreWalks, Walked, IsQuiet, OneSub}
 use Rattle.machine_laws.specs.Agreeing.{AreAbove}

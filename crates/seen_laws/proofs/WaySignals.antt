@@ -30,7 +30,7 @@ use Rattle.chan_model.specs.UnitReports.{is_outward, may_end, most_of, is_to_sup
 use Rattle.chan_model.specs.UnitTable.{UnitStep, came_of, side_of, leaving_from, leaving, asking_from, asking, is_idle, telling}
 use Rattle.chan_model.proofs.Named.{report_absorbed, sent_again}
 use Rattle.machine_model.specs.ActSteps.{acts}
-use Rattle.step_laws.proofs.Places.{same-side}
+use Rattle.chan_model.proofs.OneSide.{same-side}
 use Rattle.step_laws.specs.Walks.{IsOfSide}
 use Rattle.seen_laws.specs.Devices as seen
 use Rattle.seen_laws.specs.Devices.{Connected, Asking, Apart, Held, Holding, side_seen, is_holder, moved, acted_after, held_met}
