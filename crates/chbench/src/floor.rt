@@ -1,6 +1,8 @@
 //! What events are performed at: a channel subsystem by itself, or one in a core, by a seat of it.
 
 use chan_events::event::Event;
+use chan_events::reply::Reply;
+use chan_model::chunk::CHUNK_BYTES;
 use chan_model::names::Side;
 use chan_model::report::{DeviceAnswer, Report, Work};
 use core_lock::guarded::Guarded;
@@ -79,6 +81,27 @@ impl ReportPlace {
     }
 }
 
+/// Whether a reply has no more bytes than two signals may have. Each reply that is a value is looked at in this way, from a call
+/// that is not built in, so that what is counted is what one pays who reads it.
+#[inline(never)]
+fn is_whole(reply: &Reply) -> bool {
+    bytes_of(reply) <= 2 * CHUNK_BYTES
+}
+
+/// How many bytes a reply has.
+fn bytes_of(reply: &Reply) -> usize {
+    match reply {
+        Reply::Shown { bytes } => bytes.len(),
+        Reply::Up { signal, sent, .. } => {
+            signal.bytes().len() + sent.as_ref().map_or(0, |sent| sent.signal.bytes().len())
+        }
+        Reply::Down { signal, sent, .. } => {
+            signal.bytes().len() + sent.as_ref().map_or(0, |sent| sent.signal.bytes().len())
+        }
+        _ => 0,
+    }
+}
+
 /// A channel subsystem whose answers are values.
 #[derive(Drop)]
 pub struct Answering {
@@ -98,14 +121,20 @@ impl Answering {
 
 impl Floor for Answering {
     fn accepts(&mut self, event: &Event) -> bool {
-        self.subsystem.step(event).is_ok()
+        match &self.subsystem.step(event) {
+            Ok(reply) => is_whole(reply),
+            Err(_) => false,
+        }
     }
 
     fn reports(&mut self, unit: u32, device: &mut AnyDevice) -> bool {
         if !self.report.write(&self.subsystem, unit, device) {
             return false;
         }
-        self.subsystem.step(&self.report.event).is_ok()
+        match &self.subsystem.step(&self.report.event) {
+            Ok(reply) => is_whole(reply),
+            Err(_) => false,
+        }
     }
 
     fn subsystem(&self) -> &Subsystem<Rotating> {
@@ -158,16 +187,20 @@ pub struct Seated<J: Naming> {
 
 impl<J: Naming> Floor for Seated<J> {
     fn accepts(&mut self, event: &Event) -> bool {
-        self.guarded.enter(&mut self.seat, event).is_ok()
+        match &self.guarded.enter(&mut self.seat, event) {
+            Ok(reply) => is_whole(reply),
+            Err(_) => false,
+        }
     }
 
     fn reports(&mut self, unit: u32, device: &mut AnyDevice) -> bool {
         if !self.report.write(self.guarded.subsystem(), unit, device) {
             return false;
         }
-        self.guarded
-            .enter(&mut self.seat, &self.report.event)
-            .is_ok()
+        match &self.guarded.enter(&mut self.seat, &self.report.event) {
+            Ok(reply) => is_whole(reply),
+            Err(_) => false,
+        }
     }
 
     fn subsystem(&self) -> &Subsystem<Rotating> {

@@ -1,5 +1,5 @@
 mod FirstPlaces
 mod Filling
 mod Lookups
-pub mod Changing
+pub mod Serving
 pub mod Keeping

@@ -1,5 +1,5 @@
 -- What is kept beside the subchannels, so that an event need not pass through all of them (own).
-use Rattle.std.specs.Prelude.{◌≡◌, ℕ, ◌+◌, ◌*◌, ◌<◌, ◌/◌, ◌%◌, nat_lt, List, Option, None, Some, length, slice_get, slice_set, slice_index, count_by, cond, if◌then◌else◌}
+use Rattle.std.specs.Prelude.{◌≡◌, ℕ, ◌+◌, ◌*◌, ◌<◌, ◌/◌, ◌%◌, nat_lt, List, Option, None, Some, true, length, slice_get, slice_set, slice_index_or, if◌then◌else◌}
 use Rattle.chan_model.specs.declared.names.Side.{Side}
 use Rattle.chan_model.specs.declared.names.Side.TheVariants.{First, Second}
 use Rattle.chan_model.specs.ResetCauses.{engaged_path}
@@ -7,7 +7,6 @@ use Rattle.chan_model.specs.Sides.{same_side}
 use Rattle.channel_config.specs.declared.names.SubchannelId.{SubchannelId}
 use Rattle.subchannel_model.specs.declared.state.Subchannel.{Subchannel}
 use Rattle.subchannel_model.specs.Places.{place_in, reached_in}
-use Rattle.chan_model.specs.ResetCauses.{is_path}
 use Rattle.subchannel_model.specs.Choosing.{engages}
 
 -- the places of the subchannels by their names, and by the side of the unit that they reach
@@ -68,10 +67,22 @@ chpid_at sub (Some path) = slice_get sub.setup.paths path
 abbrev pub engaged : Subchannel → Option ℕ
 engaged sub = chpid_at sub (engaged_path sub.state.hold.phase)
 
--- one where this is the channel path
-abbrev pub one : Option ℕ → ℕ → ℕ
-one chpid c = cond (is_path chpid c) 1 0
+-- the entry of an engine: the place of the subchannel that it serves
+abbrev pub server : List (Option ℕ) → ℕ → Option ℕ
+server table c = slice_index_or table c None
 
--- the counts are how many of these subchannels engage each channel path
-abbrev pub Counts : List ℕ → List Subchannel → Type 0
-Counts counts subs = (c : ℕ) → c < 0x100 → slice_index counts c ≡ count_by (engages c) subs
+-- the engines serve these subchannels: one that engages the engine of a channel path is the one that its entry names, and the
+-- one that an entry names engages that engine
+pub record Serves (table : List (Option ℕ)) (subs : List Subchannel) : Type 0 where
+  pub size : length table ≡ 0x100
+  pub named : (c place : ℕ) (sub : Subchannel) → c < 0x100 → slice_get subs place ≡ Some sub → engages c sub ≡ true → server table c ≡ Some place
+  pub engaged : (c place : ℕ) → c < 0x100 → server table c ≡ Some place → (sub : Subchannel) × (slice_get subs place ≡ Some sub) × (engages c sub ≡ true)
+
+-- the engine of a channel path serves no subchannel
+abbrev pub without_server : List (Option ℕ) → Option ℕ → List (Option ℕ)
+without_server table None = table
+without_server table (Some c) = slice_set table c None
+
+-- the subchannel at a place, which engaged the engine before, engages the engine after
+abbrev pub served_at : ℕ → Option ℕ → Option ℕ → List (Option ℕ) → List (Option ℕ)
+served_at place before after table = with_entry (without_server table before) after place

@@ -1,6 +1,6 @@
-//! Which engines of channel paths are engaged: an engine serves one subchannel at a time (own).
+//! Which subchannel the engine of each channel path serves: one at a time (SA22-7832, chapter 15, the active allegiance).
 
-ghost use Rattle.std.specs.Prelude.{◌≡◌, ◌<◌, ◌≤◌, ◌+◌, ◌^◌, ℕ, IfSome, slice_index, replicate};
+ghost use Rattle.std.specs.Prelude.{◌≡◌, ◌<◌, IfSome, None, replicate};
 ghost use Rattle.subchannel_model.specs.Choosing as choosing_spec;
 ghost use Rattle.finding.specs.Tables as spec;
 
@@ -18,89 +18,77 @@ pub fn engaged(sub: &Subchannel) -> Option<u8>
     sub.setup.paths.as_slice().get(path.index()).copied()
 }
 
-/// How many subchannels engage the engine of each channel path, by its identifier (CHPID).
+/// Which subchannel the engine of each channel path serves, by its identifier (CHPID): the place of that subchannel, or none.
 #[derive(Drop)]
 pub struct Engines {
-    counts: [usize; 256],
+    places: [Option<usize>; 256],
 }
 
 impl Model for Engines {
-    ghost use Rattle.std.specs.Prelude.{ℕ, List};
+    ghost use Rattle.std.specs.Prelude.{ℕ, List, Option};
 
-    ghost Value = { List ℕ };
+    ghost Value = { List (Option ℕ) };
 
-    ghost view = { λ e. e.counts };
+    ghost view = { λ e. e.places };
 }
 
 impl Engines {
-    /// No engine is engaged.
-    fn new() -> Self
-        ensures { result ≡ replicate 0x100 0 }
+    /// No engine serves a subchannel.
+    pub fn new() -> Self
+        ensures { result ≡ replicate 0x100 None }
     {
-        Engines { counts: [0; 256] }
-    }
-
-    /// How many of these subchannels engage each engine.
-    pub fn of(subs: &[Subchannel]) -> Self
-        ensures { spec.Counts result subs.now }
-    {
-        let mut engines = Engines::new();
-        for sub in subs {
-            engines.change(None, engaged(sub));
+        Engines {
+            places: [None; 256],
         }
-        engines
     }
 
-    /// How many subchannels engage the engine of this channel path.
-    fn count(&self, chpid: u8) -> usize
-        ensures { result ≡ slice_index self.now chpid }
+    /// The place of the subchannel that the engine of this channel path serves; None where it serves none.
+    pub fn server(&self, chpid: u8) -> Option<usize>
+        ensures { result ≡ spec.server self.now chpid }
     {
-        self.counts[usize::from(chpid)]
+        self.places[usize::from(chpid)]
     }
 
-    /// One subchannel, which engaged the engine `before`, comes to engage the engine `after`; either may be none, or both
-    /// the same.
-    pub fn change(&mut self, before: Option<u8>, after: Option<u8>)
-        requires some { IfSome before (λ c. 1 ≤ slice_index self.old c) }
-        requires room { (c : ℕ) → c < 0x100 → slice_index self.old c < 2 ^ 63 }
-        ensures { (c : ℕ) → c < 0x100 →
-            slice_index self.new c + spec.one before c ≡ slice_index self.old c + spec.one after c }
+    /// The subchannel at this place, which engaged the engine `before`, comes to engage the engine `after`; either may be none,
+    /// or both the same.
+    pub fn change(&mut self, place: usize, before: Option<u8>, after: Option<u8>)
+        ensures { self.new ≡ spec.served_at place before after self.old }
     {
         if let Some(chpid) = before {
-            self.counts[usize::from(chpid)] -= 1;
+            self.places[usize::from(chpid)] = None;
         }
         if let Some(chpid) = after {
-            self.counts[usize::from(chpid)] += 1;
+            self.places[usize::from(chpid)] = Some(place);
         }
     }
 }
 
-/// Subchannels, beside how many of them engage each engine. To a contract it is the list of the subchannels.
+/// Subchannels, beside which of them each engine serves. To a contract it is the list of the subchannels.
 #[derive(Drop)]
-pub struct Counted<'a> {
+pub struct Served<'a> {
     subs: &'a [Subchannel],
     engines: &'a Engines,
 }
 
-impl<'a> Model for Counted<'a> {
+impl<'a> Model for Served<'a> {
     ghost use Rattle.std.specs.Prelude.{List};
     ghost use Rattle.subchannel_model.specs.declared.state.Subchannel.{Subchannel};
-    ghost use Rattle.finding.specs.Tables.{Counts};
+    ghost use Rattle.finding.specs.Tables.{Serves};
 
     ghost Value = { List Subchannel };
 
-    ghost view = { λ c. c.subs.now };
+    ghost view = { λ s. s.subs.now };
 
-    ghost invariant = { λ c. Counts c.engines.now c.subs.now };
+    ghost invariant = { λ s. Serves s.engines.now s.subs.now };
 }
 
-impl<'a> Counted<'a> {
-    /// These subchannels, with their own counts.
+impl<'a> Served<'a> {
+    /// These subchannels, with the engines that serve them.
     pub fn of(subs: &'a [Subchannel], engines: &'a Engines) -> Self
-        requires { spec.Counts engines.now subs.now }
+        requires { spec.Serves engines.now subs.now }
         ensures { result ≡ subs.now }
     {
-        Counted { subs, engines }
+        Served { subs, engines }
     }
 
     /// Whether some subchannel engages the engine of this channel path.
@@ -108,6 +96,6 @@ impl<'a> Counted<'a> {
         ensures { result ≡ choosing_spec.any_engages self.now chpid }
     {
         let engines = self.engines;
-        engines.count(chpid) != 0
+        engines.server(chpid).is_some()
     }
 }

@@ -1,10 +1,10 @@
-//! Where a subchannel stands among all, and which engines of channel paths are engaged, without a search (own).
+//! Where a subchannel stands among all, and which of them the engine of each channel path serves, without a search (own).
 //!
 //! Used alone, this crate promises: `Places` answers what a search through the subchannels finds, the first that has a name
-//! or that reaches a side of a unit, whatever names there are; `Counted` answers whether some subchannel engages the engine
+//! or that reaches a side of a unit, whatever names there are; `Served` answers whether some subchannel engages the engine
 //! of a channel path. Tables of places are made in one pass, and stay right while no subchannel comes, goes or is set up
-//! otherwise; `Places::of` alone takes memory, and refuses only where its supply refused a request. Counts of engines stay right where each
-//! change of a subchannel is told to `Engines::change`.
+//! otherwise; `Places::of` alone takes memory, and refuses only where its supply refused a request. The table of engines has one
+//! subchannel at most for each, and stays right where each change of a subchannel is told to `Engines::change`.
 #![tactic(auto)]
 
 pub mod engines;

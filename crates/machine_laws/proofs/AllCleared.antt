@@ -1,9 +1,7 @@
 -- What clears status of a subchannel clears all that was made before.
-use Rattle.std.proofs.Common.{◌≡◌, refl, sym, ◌∙◌, ap, subst, ℕ, Bool, true, false, Option, None, Some, Result, Ok, Err}
+use Rattle.std.proofs.Common.{◌≡◌, refl, sym, ◌∙◌, ap, subst, ℕ, Bool, true, false, Option, None, Some, List}
 use Rattle.std.proofs.lemmas.Option.{same_Some}
-use Rattle.std.specs.Prelude.{slice_get, slice_set, if◌then◌else◌, IfOk}
-use Rattle.storage_keys.specs.declared.StorageFault.{StorageFault}
-use Rattle.storage_keys.specs.Storage.{operand_check}
+use Rattle.std.specs.Prelude.{slice_get, slice_set, if◌then◌else◌}
 use Rattle.channel_config.specs.declared.names.SubchannelId.{SubchannelId}
 use Rattle.channel_config.specs.SubchannelWords.{subchannel_named}
 use Rattle.chan_model.specs.declared.answer.ConditionCode.{ConditionCode}
@@ -16,25 +14,25 @@ use Rattle.chan_events.specs.Replies.{Reply}
 use Rattle.chan_events.specs.declared.reply.Reply.TheVariants as reply
 use Rattle.subchannel_model.specs.declared.state.Subchannel.{Subchannel}
 use Rattle.subchannel_model.specs.declared.state.SubchannelState.{SubchannelState}
-use Rattle.subchannel_model.specs.Clear.{csch_code, cleared}
-use Rattle.subchannel_model.specs.Halt.{hsch_code, drops_status, status_dropped, halt_begun, halted}
+use Rattle.subchannel_model.specs.Clear.{cleared}
+use Rattle.subchannel_model.specs.Halt.{drops_status, status_dropped, halt_begun}
 use Rattle.subchannel_model.specs.Places.{Found, found_at, place_in, place_of_id}
 use Rattle.subchannel_model.specs.Programs.{without_programs}
-use Rattle.subchannel_model.specs.Test.{tsch_code, ends_suspended, tested}
+use Rattle.subchannel_model.specs.Test.{ends_suspended, tested}
 use Rattle.machine_model.specs.State.{State, place_of}
 use Rattle.machine_model.specs.declared.state.Sweep.TheVariants as sweep
-use Rattle.machine_model.specs.InstructionSteps.{code_at, function_sub, function_at, test_with, test_sub, Executes_at, subchannel_word}
-use Rattle.machine_model.proofs.Named.{tests, Executes_on}
+use Rattle.machine_model.specs.InstructionSteps.{subchannel_word}
 use Rattle.machine_model.specs.PathSteps.{swept, reset_system}
-use Rattle.machine_model.proofs.Named.{requests_settled}
-use Rattle.machine_model.specs.Requests.{settled}
 use Rattle.machine_model.specs.Steps.{Step}
-use Rattle.machine_model.specs.Turns.{Turn, Outcome, does, at_place}
 use Rattle.step_laws.proofs.Places.{get-set, map-get}
 use Rattle.machine_laws.specs.Clearing.{IsClearing, ClearsByCause}
 use Rattle.step_laws.specs.Walks.{Walked}
-use Rattle.machine_laws.proofs.Answered.{found-place}
 use Rattle.machine_laws.proofs.Following.{step-follows}
+use Rattle.subchannel_model.specs.Conditions.{left_by}
+use Rattle.step_laws.proofs.Places.{found-there}
+use Rattle.step_laws.proofs.Executed.{IsDone, IsLeft, absent_reply, code_for, reply_of, state_left}
+use Rattle.step_laws.proofs.Turns as turn
+use Rattle.step_laws.proofs.Turns.{TurnOf, HasTurn, step-turn}
 
 -- TEST, and HALT where it drops the status
 wholly-cleared : (s : SubchannelState) (ends : Bool) → (if ends then without_programs (tested s) else tested s).serials.cleared ≡ s.serials.made
@@ -52,134 +50,99 @@ module _ (s : State) where
       (place : ℕ) (sub after : Subchannel) → slice_get s.subs place ≡ Some sub → slice_get new.subs place ≡ Some after → IsClearing s e r place sub →
       after.state.serials.cleared ≡ sub.state.serials.made
 
-  abbrev OkCleared : Event → Outcome → Type 0
-  OkCleared e o = IfOk o (λ t. IsAllCleared e t.reply t.state)
-
   -- the subchannel that the instruction names was found and changed, where it was so
-  one-cleared : (If : Subchannel → Type 0) (p : Option ℕ) (f : Found) (y : Subchannel) (place : ℕ) (sub after : Subchannel) →
-      found_at s.subs p ≡ Some f →
-      (If f.sub → y.state.serials.cleared ≡ f.sub.state.serials.made) → slice_get s.subs place ≡ Some sub →
-      slice_get (slice_set s.subs f.place y) place ≡ Some after →
-      p ≡ Some place → If sub → after.state.serials.cleared ≡ sub.state.serials.made
-  one-cleared If p f y place sub after found clears there left at k =
-      let was : (p ≡ Some f.place) × (slice_get s.subs f.place ≡ Some f.sub) = found-place s.subs p f found in
-      let same : f.place ≡ place = same_Some f.place place (sym was.0 ∙ at) in
-      let sub-same : f.sub ≡ sub = same_Some f.sub sub (sym was.1 ∙ ap (λ (i : ℕ). slice_get s.subs i) same ∙ there) in
+  one-cleared : (p : Option ℕ) (f : Found) (y : Subchannel) (new : State) (place : ℕ) (sub after : Subchannel) → p ≡ Some f.place →
+      slice_get s.subs f.place ≡ Some f.sub → new.subs ≡ slice_set s.subs f.place y → (f.sub ≡ sub → y.state.serials.cleared ≡ f.sub.state.serials.made) →
+      slice_get s.subs place ≡ Some sub → slice_get new.subs place ≡ Some after → p ≡ Some place → after.state.serials.cleared ≡ sub.state.serials.made
+  one-cleared p f y new place sub after found was subs clears there left at =
+      let same : f.place ≡ place = same_Some f.place place (sym found ∙ at) in
+      let sub-same : f.sub ≡ sub = same_Some f.sub sub (sym was ∙ ap (λ (i : ℕ). slice_get s.subs i) same ∙ there) in
       let new-same : y ≡ after =
-      same_Some y after (sym (get-set s.subs f.place f.sub y was.1) ∙ ap (λ (i : ℕ). slice_get (slice_set s.subs f.place y) i) same ∙ left) in
-      ap (λ (x : Subchannel). x.state.serials.cleared) (sym new-same)
-      ∙ clears (subst If (sym sub-same) k)
-      ∙ ap (λ (x : Subchannel). x.state.serials.made) sub-same
+      same_Some y after
+      (sym (get-set s.subs f.place f.sub y was) ∙ ap (λ (i : ℕ). slice_get (slice_set s.subs f.place y) i) same
+      ∙ ap (λ (xs : List Subchannel). slice_get xs place) (sym subs) ∙ left) in
+      ap (λ (x : Subchannel). x.state.serials.cleared) (sym new-same) ∙ clears sub-same ∙ ap (λ (x : Subchannel). x.state.serials.made) sub-same
 
-  test-cleared : (cpu word address : ℕ) (f : Found) (c : ConditionCode) → found_at s.subs (place_of s word) ≡ Some f →
-      OkCleared (event.Execute cpu (instruction.Tsch word address)) (test_sub s cpu address f c)
-  test-cleared cpu word address f code.Zero found place sub after there left k =
-      one-cleared (λ x. Unit {0}) (place_of s word) f (test_with f.sub code.Zero).sub place sub after found
-      (λ u. wholly-cleared f.sub.state (ends_suspended f.sub.state.scsw)) there left k tt
-  test-cleared cpu word address f code.One found place sub after there left k = absurd k
-  test-cleared cpu word address f code.Two found place sub after there left k = absurd k
-  test-cleared cpu word address f code.Three found place sub after there left k = absurd k
+  -- with code 0, of the subchannel that is named
+  abbrev IsZeroAt : ConditionCode → ℕ → ℕ → Type 0
+  IsZeroAt c word place = (c ≡ code.Zero) × (place_of s word ≡ Some place)
 
-  tests-cleared : (cpu word address : ℕ) (q : Option Found) (r : Result (Unit {0}) StorageFault) → found_at s.subs (place_of s word) ≡ q →
-      OkCleared (event.Execute cpu (instruction.Tsch word address)) (tests s cpu address q r)
-  tests-cleared cpu word address q (Err f) found = tt
-  tests-cleared cpu word address None (Ok u) found = λ place sub after there left k. absurd k
-  tests-cleared cpu word address (Some f) (Ok u) found = test-cleared cpu word address f (code_at tsch_code f.sub) found
+  test-zero : (cpu word address : ℕ) (c : ConditionCode) (before after : SubchannelState) (place : ℕ) (sub : Subchannel) →
+      IsClearing s (event.Execute cpu (instruction.Tsch word address)) (reply_of (instruction.Tsch word address) c before after) place sub → IsZeroAt c word place
+  test-zero cpu word address code.Zero before after place sub k = (refl, k)
+  test-zero cpu word address c before after place sub k = absurd k
 
-  clear-cleared : (cpu word : ℕ) (f : Found) (c : ConditionCode) → found_at s.subs (place_of s word) ≡ Some f →
-      OkCleared (event.Execute cpu (instruction.Csch word)) (at_place s f.place (function_sub f.sub c (cleared f.sub.state)))
-  clear-cleared cpu word f code.Zero found place sub after there left k =
-      one-cleared (λ x. Unit {0}) (place_of s word) f (function_sub f.sub code.Zero (cleared f.sub.state)).sub place sub after found
-      (λ u. refl) there left k tt
-  clear-cleared cpu word f code.One found place sub after there left k = absurd k
-  clear-cleared cpu word f code.Two found place sub after there left k = absurd k
-  clear-cleared cpu word f code.Three found place sub after there left k = absurd k
+  clear-zero : (cpu word : ℕ) (c : ConditionCode) (before after : SubchannelState) (place : ℕ) (sub : Subchannel) →
+      IsClearing s (event.Execute cpu (instruction.Csch word)) (reply_of (instruction.Csch word) c before after) place sub → IsZeroAt c word place
+  clear-zero cpu word code.Zero before after place sub k = (refl, k)
+  clear-zero cpu word c before after place sub k = absurd k
 
-  clears-cleared : (cpu word : ℕ) (q : Option Found) → found_at s.subs (place_of s word) ≡ q →
-      OkCleared (event.Execute cpu (instruction.Csch word)) (function_at s q csch_code (λ sub. cleared sub.state))
-  clears-cleared cpu word None found = λ place sub after there left k. absurd k
-  clears-cleared cpu word (Some f) found = clear-cleared cpu word f (code_at csch_code f.sub) found
+  halt-zero : (cpu word : ℕ) (c : ConditionCode) (before after : SubchannelState) (place : ℕ) (sub : Subchannel) →
+      IsClearing s (event.Execute cpu (instruction.Hsch word)) (reply_of (instruction.Hsch word) c before after) place sub →
+      IsZeroAt c word place × (drops_status sub.state.scsw ≡ true)
+  halt-zero cpu word code.Zero before after place sub k = ((refl, k.0), k.1)
+  halt-zero cpu word c before after place sub k = absurd k
 
-  halt-cleared : (cpu word : ℕ) (f : Found) (c : ConditionCode) → found_at s.subs (place_of s word) ≡ Some f →
-      OkCleared (event.Execute cpu (instruction.Hsch word)) (at_place s f.place (function_sub f.sub c (halted f.sub.state)))
-  halt-cleared cpu word f code.Zero found place sub after there left k =
-      one-cleared (λ x. drops_status x.state.scsw ≡ true) (place_of s word) f
-      (function_sub f.sub code.Zero (halted f.sub.state)).sub place sub after found
-      (λ e. dropped-cleared f.sub.state (drops_status f.sub.state.scsw) e) there left k.0 k.1
-  halt-cleared cpu word f code.One found place sub after there left k = absurd k
-  halt-cleared cpu word f code.Two found place sub after there left k = absurd k
-  halt-cleared cpu word f code.Three found place sub after there left k = absurd k
+  -- so its effect is left
+  effect-cleared : (i : Instruction) (sub : Subchannel) (effect x : SubchannelState) → code_for i sub ≡ code.Zero → effect ≡ x → x.serials.cleared ≡ sub.state.serials.made →
+      (state_left i sub effect).serials.cleared ≡ sub.state.serials.made
+  effect-cleared i sub effect x zero is clears =
+      ap (λ (c : ConditionCode). (left_by c sub.state effect).serials.cleared) zero ∙ ap (λ (y : SubchannelState). y.serials.cleared) is ∙ clears
 
-  halts-cleared : (cpu word : ℕ) (q : Option Found) → found_at s.subs (place_of s word) ≡ q →
-      OkCleared (event.Execute cpu (instruction.Hsch word)) (function_at s q hsch_code (λ sub. halted sub.state))
-  halts-cleared cpu word None found = λ place sub after there left k. absurd k
-  halts-cleared cpu word (Some f) found = halt-cleared cpu word f (code_at hsch_code f.sub) found
+  left-cleared : (cpu : ℕ) (i : Instruction) (f : Found) (r : Reply) (new : State) → place_of s (subchannel_word i) ≡ Some f.place → slice_get s.subs f.place ≡ Some f.sub →
+      IsLeft s i r new f → IsAllCleared (event.Execute cpu i) r new
+  left-cleared cpu (instruction.Tsch word address) f r new at was k place sub after there left is =
+      let i : Instruction = instruction.Tsch word address in
+      let zero : IsZeroAt (code_for i f.sub) word place =
+      test-zero cpu word address (code_for i f.sub) f.sub.state (state_left i f.sub k.effect) place sub (subst (λ (x : Reply). IsClearing s (event.Execute cpu i) x place sub) k.replies is) in
+      one-cleared (place_of s word) f _ new place sub after at was k.subs
+      (λ same. effect-cleared i f.sub k.effect _ zero.0 k.is (wholly-cleared f.sub.state (ends_suspended f.sub.state.scsw))) there left zero.1
+  left-cleared cpu (instruction.Csch word) f r new at was k place sub after there left is =
+      let i : Instruction = instruction.Csch word in
+      let zero : IsZeroAt (code_for i f.sub) word place =
+      clear-zero cpu word (code_for i f.sub) f.sub.state (state_left i f.sub k.effect) place sub (subst (λ (x : Reply). IsClearing s (event.Execute cpu i) x place sub) k.replies is) in
+      one-cleared (place_of s word) f _ new place sub after at was k.subs (λ same. effect-cleared i f.sub k.effect (cleared f.sub.state) zero.0 k.is refl) there left zero.1
+  left-cleared cpu (instruction.Hsch word) f r new at was k place sub after there left is =
+      let i : Instruction = instruction.Hsch word in
+      let zero : IsZeroAt (code_for i f.sub) word place × (drops_status sub.state.scsw ≡ true) =
+      halt-zero cpu word (code_for i f.sub) f.sub.state (state_left i f.sub k.effect) place sub (subst (λ (x : Reply). IsClearing s (event.Execute cpu i) x place sub) k.replies is) in
+      one-cleared (place_of s word) f _ new place sub after at was k.subs
+      (λ same. effect-cleared i f.sub k.effect _ zero.0.0 k.is
+      (dropped-cleared f.sub.state (drops_status f.sub.state.scsw) (ap (λ (x : Subchannel). drops_status x.state.scsw) same ∙ zero.1))) there left zero.0.1
+  left-cleared cpu i f r new at was k place sub after there left is = absurd is
 
-  -- what is left of the requests for interruptions is nothing to it
-  settled-cleared : (e : Event) (r : Reply) (new : State) (o : Outcome) → OkCleared e o → does r new ≡ settled s e o → IsAllCleared e r new
-  settled-cleared e r new (Err f) k m = absurd (cc m)
-  settled-cleared e r new (Ok t) k m =
-      let same : record { reply = r; state = new } ≡ record t { state = record t.state { requests = requests_settled s e t } } = cc m in
-      subst (λ (x : Turn). IsAllCleared e x.reply x.state) (sym same) k
+  -- an instruction that found nothing answers code 3
+  absent-cleared : (cpu : ℕ) (i : Instruction) (place : ℕ) (sub : Subchannel) → IsClearing s (event.Execute cpu i) (absent_reply i) place sub → ⊥
+  absent-cleared cpu (instruction.Ssch word address) place sub k = k
+  absent-cleared cpu i place sub k = k
 
-  -- an instruction that comes to this outcome for what it finds
-  executed-cleared : (cpu : ℕ) (i : Instruction) (does-so : Option Found → Outcome) (named : Option SubchannelId) (o : Outcome) →
-      ((q : Option Found) (o : Outcome) → Executes_at s cpu i q o → o ≡ does-so q) →
-      ((q : Option Found) → found_at s.subs (place_of s (subchannel_word i)) ≡ q → OkCleared (event.Execute cpu i) (does-so q)) →
-      subchannel_named s.sets (subchannel_word i) ≡ named → Executes_on s cpu i named o → OkCleared (event.Execute cpu i) o
-  executed-cleared cpu i does-so None o so k n w = subst (OkCleared (event.Execute cpu i)) (sym w) tt
-  executed-cleared cpu i does-so (Some id) o so k n w =
-      let q : Option Found = found_at s.subs (place_in id s.subs) in
-      subst (OkCleared (event.Execute cpu i)) (sym (so q o w)) (k q (ap (λ (x : Option SubchannelId). found_at s.subs (place_of_id s.subs x)) n))
+  executed-cleared : (cpu : ℕ) (i : Instruction) (id : SubchannelId) (q : Option Found) (r : Reply) (new : State) → subchannel_named s.sets (subchannel_word i) ≡ Some id →
+      found_at s.subs (place_in id s.subs) ≡ q → IsDone s i q r new → IsAllCleared (event.Execute cpu i) r new
+  executed-cleared cpu i id None r new n e k place sub after there left is =
+      absurd (absent-cleared cpu i place sub (subst (λ (x : Reply). IsClearing s (event.Execute cpu i) x place sub) k.replies is))
+  executed-cleared cpu i id (Some f) r new n e k place sub after was left is =
+      let there : (place_in id s.subs ≡ Some f.place) × (slice_get s.subs f.place ≡ Some f.sub) = found-there s.subs (place_in id s.subs) f e in
+      left-cleared cpu i f r new (ap (place_of_id s.subs) n ∙ there.0) there.1 k place sub after was left is
 
-  instruction-cleared : (cpu : ℕ) (i : Instruction) (r : Reply) (new : State) → Step s (event.Execute cpu i) r new →
-      IsAllCleared (event.Execute cpu i) r new
-  instruction-cleared cpu (instruction.Tsch word address) r new (o, w, m) =
-      settled-cleared (event.Execute cpu (instruction.Tsch word address)) r new o
-      (executed-cleared cpu (instruction.Tsch word address)
-      (λ q. tests s cpu address q (operand_check s.storage cpu address 64 4)) (subchannel_named s.sets word) o
-      (λ q o e. e) (λ q found. tests-cleared cpu word address q (operand_check s.storage cpu address 64 4) found) refl w) m
-  instruction-cleared cpu (instruction.Csch word) r new (o, w, m) =
-      settled-cleared (event.Execute cpu (instruction.Csch word)) r new o
-      (executed-cleared cpu (instruction.Csch word) (λ q. function_at s q csch_code (λ sub. cleared sub.state)) (subchannel_named s.sets word) o
-      (λ q o e. e) (clears-cleared cpu word) refl w) m
-  instruction-cleared cpu (instruction.Hsch word) r new (o, w, m) =
-      settled-cleared (event.Execute cpu (instruction.Hsch word)) r new o
-      (executed-cleared cpu (instruction.Hsch word) (λ q. function_at s q hsch_code (λ sub. halted sub.state)) (subchannel_named s.sets word) o
-      (λ q o e. e) (halts-cleared cpu word) refl w) m
-  instruction-cleared cpu (instruction.Ssch word address) r new step = λ place sub after there left k. absurd k
-  instruction-cleared cpu (instruction.Stsch word address) r new step = λ place sub after there left k. absurd k
-  instruction-cleared cpu (instruction.Msch word address) r new step = λ place sub after there left k. absurd k
-  instruction-cleared cpu (instruction.Enable word subclass multipath) r new step = λ place sub after there left k. absurd k
-  instruction-cleared cpu (instruction.Rsch word) r new step = λ place sub after there left k. absurd k
-  instruction-cleared cpu (instruction.Xsch word) r new step = λ place sub after there left k. absurd k
-
-  system-cleared : OkCleared event.SystemReset (does reply.Done (reset_system s))
+  system-cleared : IsAllCleared event.SystemReset reply.Done (reset_system s)
   system-cleared place sub after there left k =
       let got : (x : Subchannel) × (slice_get s.subs place ≡ Some x) × (swept sweep.SystemReset x ≡ after) =
       map-get (swept sweep.SystemReset) s.subs place after left in
       ap (λ (x : Subchannel). x.state.serials.cleared) (sym got.2)
       ∙ ap (λ (x : Subchannel). x.state.serials.made) (same_Some got.0 sub (sym got.1 ∙ there))
 
-  step-cleared : (e : Event) (r : Reply) (new : State) → Step s e r new → IsAllCleared e r new
-  step-cleared (event.Put address bytes) r new step = λ place sub after there left k. absurd k
-  step-cleared (event.SetKey address key) r new step = λ place sub after there left k. absurd k
-  step-cleared (event.SetPrefix cpu address) r new step = λ place sub after there left k. absurd k
-  step-cleared (event.Show address count) r new step = λ place sub after there left k. absurd k
-  step-cleared (event.Execute cpu i) r new step = instruction-cleared cpu i r new step
-  step-cleared (event.ExecuteOther cpu i) r new step = λ place sub after there left k. absurd k
-  step-cleared (event.Choose word) r new step = λ place sub after there left k. absurd k
-  step-cleared (event.Up word path) r new step = λ place sub after there left k. absurd k
-  step-cleared (event.Down word path) r new step = λ place sub after there left k. absurd k
-  step-cleared (event.Report at report) r new step = λ place sub after there left k. absurd k
-  step-cleared (event.Act at act) r new step = λ place sub after there left k. absurd k
-  step-cleared (event.Restart at) r new step = λ place sub after there left k. absurd k
-  step-cleared (event.PathDown chpid) r new step = λ place sub after there left k. absurd k
-  step-cleared (event.PathUp chpid) r new step = λ place sub after there left k. absurd k
-  step-cleared (event.PathReset chpid) r new step = λ place sub after there left k. absurd k
-  step-cleared event.SystemReset r new (o, w, m) =
-      settled-cleared event.SystemReset r new o (subst (OkCleared event.SystemReset) (sym w) system-cleared) m
+  turn-cleared : (e : Event) (r : Reply) (new : State) → TurnOf s e r new → IsAllCleared e r new
+  turn-cleared _ _ _ (turn.Executes cpu i id q r storage subs n e blocks left done) = executed-cleared cpu i id q r _ n e done
+  turn-cleared _ _ _ (turn.Chosen word place sub choice t named there is ok) = λ place sub after there left k. absurd k
+  turn-cleared _ _ _ (turn.Meets word path place sub t named there ok) = λ place sub after there left k. absurd k
+  turn-cleared _ _ _ (turn.Takes word path place sub u t named there found ok) = λ place sub after there left k. absurd k
+  turn-cleared _ _ _ (turn.Reports at place sub u report t found first there ok) = λ place sub after there left k. absurd k
+  turn-cleared _ _ _ (turn.Acts at place sub u what side t found is first there ok) = λ place sub after there left k. absurd k
+  turn-cleared _ _ _ turn.ResetsAll = system-cleared
+  turn-cleared _ _ _ t = λ place sub after there left k. absurd k
 
   pub clears-by-cause : (e : Event) (r : Reply) (new : State) → Walked s e r new → Step s e r new → ClearsByCause s e r new
   clears-by-cause e r new w step place sub after there left =
-      ((step-follows s e r new w place sub after there left).clears, step-cleared e r new step place sub after there left)
+      let is : HasTurn s e r new = step-turn s e r new step in
+      let all : IsAllCleared e r new = subst (IsAllCleared e r) (sym is.settles) (turn-cleared e r is.left is.turn) in
+      ((step-follows s e r new w place sub after there left).clears, all place sub after there left)

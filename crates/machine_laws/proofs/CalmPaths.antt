@@ -73,62 +73,38 @@ abbrev pub with_phase : HoldState → HoldPhase → HoldState
 with_phase h phase = record h { phase = phase }
 
 let-step : (h : HoldState) (phase : HoldPhase) → IsCalmStep (with_phase h phase) (letting_go (with_phase h phase) phase)
-let-step h hold.Free = no-step (with_phase h hold.Free)
-let-step h (hold.Offer t p) = no-step (with_phase h (hold.Offer t p))
 let-step h (hold.On t p c) =
     record { hold = record { engaged = λ q e. e; offered = λ u q e. absurd (cc e); remembers = λ accepted m. tt }; sent = tt }
-let-step h (hold.Away t) = no-step (with_phase h (hold.Away t))
-let-step h (hold.Letting t p) = no-step (with_phase h (hold.Letting t p))
-let-step h (hold.Reset r) = no-step (with_phase h (hold.Reset r))
+let-step h other = no-step (with_phase h other)
 
 pub busy-step : (h : HoldState) (phase : HoldPhase) (u : ℕ) → IsCalmStep (with_phase h phase) (found_busy (with_phase h phase) phase u)
-busy-step h hold.Free u = no-step (with_phase h hold.Free)
 busy-step h (hold.Offer t p) u =
     if-step (with_phase h (hold.Offer t p)) (u == t) (hold_quietly (with_phase h hold.Free))
     (record { hold = record { engaged = λ q e. absurd (cc e); offered = λ v q e. absurd (cc e); remembers = λ accepted m. tt }; sent = tt })
-busy-step h (hold.On t p c) u = no-step (with_phase h (hold.On t p c))
-busy-step h (hold.Away t) u = no-step (with_phase h (hold.Away t))
-busy-step h (hold.Letting t p) u = no-step (with_phase h (hold.Letting t p))
-busy-step h (hold.Reset r) u = no-step (with_phase h (hold.Reset r))
+busy-step h other u = no-step (with_phase h other)
 
 pub left-step : (h : HoldState) (phase : HoldPhase) (u d : ℕ) → IsCalmStep (with_phase h phase) (left (with_phase h phase) phase u d)
-left-step h hold.Free u d = no-step (with_phase h hold.Free)
-left-step h (hold.Offer t p) u d = no-step (with_phase h (hold.Offer t p))
 left-step h (hold.On t p c) u d =
     if-step (with_phase h (hold.On t p c)) ((u == t) && (d == c)) (hold_quietly (with_phase h (hold.Away t)))
     (record { hold = record { engaged = λ q e. absurd (cc e); offered = λ v q e. absurd (cc e); remembers = λ accepted m. m }; sent = tt })
-left-step h (hold.Away t) u d = no-step (with_phase h (hold.Away t))
-left-step h (hold.Letting t p) u d = no-step (with_phase h (hold.Letting t p))
-left-step h (hold.Reset r) u d = no-step (with_phase h (hold.Reset r))
+left-step h other u d = no-step (with_phase h other)
 
 pub released-step : (h : HoldState) (phase : HoldPhase) (u : ℕ) → IsCalmStep (with_phase h phase) (released (with_phase h phase) phase u)
-released-step h hold.Free u = no-step (with_phase h hold.Free)
-released-step h (hold.Offer t p) u = no-step (with_phase h (hold.Offer t p))
-released-step h (hold.On t p c) u = no-step (with_phase h (hold.On t p c))
-released-step h (hold.Away t) u = no-step (with_phase h (hold.Away t))
 released-step h (hold.Letting t p) u =
     if-step (with_phase h (hold.Letting t p)) (u == t) (hold_quietly (with_phase h hold.Free))
     (record { hold = record { engaged = λ q e. absurd (cc e); offered = λ v q e. absurd (cc e); remembers = λ accepted m. tt }; sent = tt })
-released-step h (hold.Reset r) u = no-step (with_phase h (hold.Reset r))
+released-step h other u = no-step (with_phase h other)
 
 pub cleared-step : (h : HoldState) (phase : HoldPhase) (u : ℕ) → IsCalmStep (with_phase h phase) (reset_cleared (with_phase h phase) phase u)
-cleared-step h hold.Free u = no-step (with_phase h hold.Free)
-cleared-step h (hold.Offer t p) u = no-step (with_phase h (hold.Offer t p))
-cleared-step h (hold.On t p c) u = no-step (with_phase h (hold.On t p c))
-cleared-step h (hold.Away t) u = no-step (with_phase h (hold.Away t))
-cleared-step h (hold.Letting t p) u = no-step (with_phase h (hold.Letting t p))
 cleared-step h (hold.Reset r) u =
     if-step (with_phase h (hold.Reset r)) (u == r) (hold_quietly (record h { phase = hold.Free; reset_path = None }))
     (record { hold = record { engaged = λ q e. absurd (cc e); offered = λ v q e. absurd (cc e); remembers = λ accepted m. tt }; sent = tt })
+cleared-step h other u = no-step (with_phase h other)
 
 pub attended-step : (h : HoldState) (phase : HoldPhase) (p a : ℕ) (may : Bool) → IsCalmStep (with_phase h phase) (attended (with_phase h phase) phase p a may)
 attended-step h hold.Free p a may =
     if-step (with_phase h hold.Free) may (hold_sending (with_phase h hold.Free) p (down.Got a)) (record { hold = still-hold (with_phase h hold.Free); sent = tt })
-attended-step h (hold.Offer t q) p a may = no-step (with_phase h (hold.Offer t q))
-attended-step h (hold.On t q c) p a may = no-step (with_phase h (hold.On t q c))
-attended-step h (hold.Away t) p a may = no-step (with_phase h (hold.Away t))
-attended-step h (hold.Letting t q) p a may = no-step (with_phase h (hold.Letting t q))
-attended-step h (hold.Reset r) p a may = no-step (with_phase h (hold.Reset r))
+attended-step h other p a may = no-step (with_phase h other)
 
 -- what is left of the subchannel by them, and a status that is made then
 pub step-calm : (s x : SubchannelState) (step : Option HoldStep) → IsCalmStep s.hold step → IsSame (record s { hold = hold_after s.hold step }) x →

@@ -42,29 +42,19 @@ if-as h phase true x y e f = e
 if-as h phase false x y e f = f
 
 busy-as : (h : HoldState) (phase : HoldPhase) (u : ℕ) → h.phase ≡ phase → LeavesAs h phase (found_busy h phase u)
-busy-as h hold.Free u e = as-same hold.Free h.phase e
 busy-as h (hold.Offer t p) u e =
     if-as h (hold.Offer t p) (u == t) (Some (hold_quietly (record h { phase = hold.Free }))) None
     (record { still = λ n k. absurd (cc k); was = λ n k. absurd (cc k) })
     (as-same (hold.Offer t p) h.phase e)
-busy-as h (hold.On t p c) u e = as-same (hold.On t p c) h.phase e
-busy-as h (hold.Away t) u e = as-same (hold.Away t) h.phase e
-busy-as h (hold.Letting t p) u e = as-same (hold.Letting t p) h.phase e
-busy-as h (hold.Reset r) u e = as-same (hold.Reset r) h.phase e
+busy-as h other u e = as-same other h.phase e
 
 left-as : (h : HoldState) (phase : HoldPhase) (u d : ℕ) → h.phase ≡ phase → LeavesAs h phase (left h phase u d)
-left-as h hold.Free u d e = as-same hold.Free h.phase e
-left-as h (hold.Offer t p) u d e = as-same (hold.Offer t p) h.phase e
 left-as h (hold.On t p c) u d e =
     if-as h (hold.On t p c) ((u == t) && (d == c)) (Some (hold_quietly (record h { phase = hold.Away t }))) None
     (record { still = λ n k. absurd (cc k); was = λ n k. absurd (cc k) }) (as-same (hold.On t p c) h.phase e)
-left-as h (hold.Away t) u d e = as-same (hold.Away t) h.phase e
-left-as h (hold.Letting t p) u d e = as-same (hold.Letting t p) h.phase e
-left-as h (hold.Reset r) u d e = as-same (hold.Reset r) h.phase e
+left-as h other u d e = as-same other h.phase e
 
 back-as : (h : HoldState) (phase : HoldPhase) (p u c : ℕ) (may : Bool) → h.phase ≡ phase → LeavesAs h phase (asked_back h phase p u c may)
-back-as h hold.Free p u c may e = as-same hold.Free h.phase e
-back-as h (hold.Offer t q) p u c may e = as-same (hold.Offer t q) h.phase e
 back-as h (hold.On t q d) p u c may e =
     if-as h (hold.On t q d) ((u == t) && nat_lt h.seen c) (Some (refusing h p t c)) None (as-same (hold.On t q d) h.phase e)
     (as-same (hold.On t q d) h.phase e)
@@ -73,28 +63,19 @@ back-as h (hold.Away t) p u c may e =
     (if-as h (hold.Away t) may (Some (granting h p t c)) (Some (refusing h p t c)) (record { still = λ n k. absurd (cc k); was = λ n k. absurd (cc k) })
     (as-same (hold.Away t) h.phase e))
     (as-same (hold.Away t) h.phase e)
-back-as h (hold.Letting t q) p u c may e = as-same (hold.Letting t q) h.phase e
-back-as h (hold.Reset r) p u c may e = as-same (hold.Reset r) h.phase e
+back-as h other p u c may e = as-same other h.phase e
 
 released-as : (h : HoldState) (phase : HoldPhase) (u : ℕ) → h.phase ≡ phase → LeavesAs h phase (released h phase u)
-released-as h hold.Free u e = as-same hold.Free h.phase e
-released-as h (hold.Offer t p) u e = as-same (hold.Offer t p) h.phase e
-released-as h (hold.On t p c) u e = as-same (hold.On t p c) h.phase e
-released-as h (hold.Away t) u e = as-same (hold.Away t) h.phase e
 released-as h (hold.Letting t p) u e =
     if-as h (hold.Letting t p) (u == t) (Some (hold_quietly (record h { phase = hold.Free }))) None
     (record { still = λ n k. absurd (cc k); was = λ n k. absurd (cc k) })
     (as-same (hold.Letting t p) h.phase e)
-released-as h (hold.Reset r) u e = as-same (hold.Reset r) h.phase e
+released-as h other u e = as-same other h.phase e
 
 attended-as : (h : HoldState) (phase : HoldPhase) (p a : ℕ) (may : Bool) → h.phase ≡ phase → LeavesAs h phase (attended h phase p a may)
 attended-as h hold.Free p a true e = as-same hold.Free h.phase e
 attended-as h hold.Free p a false e = as-same hold.Free h.phase e
-attended-as h (hold.Offer t q) p a may e = as-same (hold.Offer t q) h.phase e
-attended-as h (hold.On t q c) p a may e = as-same (hold.On t q c) h.phase e
-attended-as h (hold.Away t) p a may e = as-same (hold.Away t) h.phase e
-attended-as h (hold.Letting t q) p a may e = as-same (hold.Letting t q) h.phase e
-attended-as h (hold.Reset r) p a may e = as-same (hold.Reset r) h.phase e
+attended-as h other p a may e = as-same other h.phase e
 
 -- what a subchannel does with it
 abbrev Leaves : SubchannelState → UpStep → Type 0
@@ -144,12 +125,8 @@ begun-calm storage s t q false true e =
 
 accept-calm : (storage : Contents) (s : SubchannelState) (phase : HoldPhase) (u : ℕ) (may : Bool) → s.hold.phase ≡ phase →
     Leaves s (accept storage s (offer_accepted s.hold phase u may))
-accept-calm storage s hold.Free u may e = stays s
 accept-calm storage s (hold.Offer t q) u may e = begun-calm storage s t q may (u == t) e
-accept-calm storage s (hold.On t q d) u may e = stays s
-accept-calm storage s (hold.Away t) u may e = stays s
-accept-calm storage s (hold.Letting t q) u may e = stays s
-accept-calm storage s (hold.Reset r) u may e = stays s
+accept-calm storage s other u may e = stays s
 
 -- Data
 move-calm : (storage : Contents) (s : SubchannelState) (b : Option ActiveProgram) (signal : DataSignal) (load : Load) →

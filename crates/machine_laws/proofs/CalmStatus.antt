@@ -115,13 +115,8 @@ without_waiting-calm s (Some w) = calm-same s _ refl refl refl refl
 left-calm : (s : SubchannelState) (c : StatusCause) → IsCalm s (row_of s c).left
 left-calm s (cause.End b status more) = after_end-calm s b (is_last_end status)
 left-calm s (cause.FetchFault tried check count) = without_begun-calm s s.begun
-left-calm s cause.Attention = calm-same s _ refl refl refl refl
 left-calm s cause.NoPath = without_waiting-calm s s.waiting
-left-calm s cause.InterfaceControlCheck = calm-same s _ refl refl refl refl
-left-calm s (cause.Pci tried count) = calm-same s _ refl refl refl refl
-left-calm s (cause.Suspension tried count) = calm-same s _ refl refl refl refl
-left-calm s cause.ClearDone = calm-same s _ refl refl refl refl
-left-calm s cause.HaltDone = calm-same s _ refl refl refl refl
+left-calm s other = calm-same s _ refl refl refl refl
 
 -- no cause enables or disables a subchannel
 after_end-enabled : (s : SubchannelState) (b : ActiveProgram) (last : Bool) → (programs_after_end s b last).pmcw.enabled ≡ s.pmcw.enabled
@@ -139,13 +134,8 @@ without_waiting-enabled s (Some w) = refl
 left-enabled : (s : SubchannelState) (c : StatusCause) → (row_of s c).left.pmcw.enabled ≡ s.pmcw.enabled
 left-enabled s (cause.End b status more) = after_end-enabled s b (is_last_end status)
 left-enabled s (cause.FetchFault tried check count) = without_begun-enabled s s.begun
-left-enabled s cause.Attention = refl
 left-enabled s cause.NoPath = without_waiting-enabled s s.waiting
-left-enabled s cause.InterfaceControlCheck = refl
-left-enabled s (cause.Pci tried count) = refl
-left-enabled s (cause.Suspension tried count) = refl
-left-enabled s cause.ClearDone = refl
-left-enabled s cause.HaltDone = refl
+left-enabled s other = refl
 
 pub cause-calm : (s : SubchannelState) (c : StatusCause) → IsCalm s (with_cause s c)
 cause-calm s c = row-calm s (row_of s c) (scsw_before s.scsw c) (left-enabled s c) (left-calm s c)
@@ -185,12 +175,8 @@ attention-calm s shows = if-calm s shows (with_cause s cause.Attention) s (cause
 
 -- the device is let go
 letting-as : (h : HoldState) (phase : HoldPhase) → h.phase ≡ phase → IsAsReset phase (hold_after h (letting_go h phase)).phase
-letting-as h hold.Free e = as-same hold.Free h.phase e
-letting-as h (hold.Offer t p) e = as-same (hold.Offer t p) h.phase e
 letting-as h (hold.On t p c) e = record { still = λ n k. absurd (cc k); was = λ n k. absurd (cc k) }
-letting-as h (hold.Away t) e = as-same (hold.Away t) h.phase e
-letting-as h (hold.Letting t p) e = as-same (hold.Letting t p) h.phase e
-letting-as h (hold.Reset r) e = as-same (hold.Reset r) h.phase e
+letting-as h other e = as-same other h.phase e
 
 pub let_go-calm : (s x : SubchannelState) → IsCalm s x → IsCalm s (let_go x).state
 let_go-calm s x k = calm-then s x (let_go x).state k (record { cleared = refl; reset = letting-as x.hold x.hold.phase refl; counts = counts-same x (let_go x).state refl refl })

@@ -26,57 +26,17 @@ module _ (s : State) where
   accepted : (cpu word address : ℕ) (r : Reply) (place : ℕ) → IsStart s (event.Execute cpu (instruction.Ssch word address)) r place →
       (is_start r ≡ true) × (place_of s word ≡ Some place)
   accepted cpu word address (reply.Code (answer.Zero serials)) place k = (refl, k)
-  accepted cpu word address (reply.Code (answer.One serials)) place k = absurd k
-  accepted cpu word address (reply.Code answer.Two) place k = absurd k
-  accepted cpu word address (reply.Code answer.Three) place k = absurd k
-  accepted cpu word address reply.Done place k = absurd k
-  accepted cpu word address (reply.Shown bytes) place k = absurd k
-  accepted cpu word address (reply.Status a scsw) place k = absurd k
-  accepted cpu word address (reply.Interruption c) place k = absurd k
-  accepted cpu word address (reply.PathReset c) place k = absurd k
-  accepted cpu word address (reply.ChannelReport report) place k = absurd k
-  accepted cpu word address (reply.Paths engaged) place k = absurd k
-  accepted cpu word address (reply.Offered number path resumed) place k = absurd k
-  accepted cpu word address (reply.ResetSent number path) place k = absurd k
-  accepted cpu word address (reply.HaltSent number path) place k = absurd k
-  accepted cpu word address reply.Pending place k = absurd k
-  accepted cpu word address reply.Idle place k = absurd k
-  accepted cpu word address (reply.Up signal taken sent) place k = absurd k
-  accepted cpu word address (reply.Down signal taken sent) place k = absurd k
+  accepted cpu word address r place k = absurd k
 
   -- by no other kind of step is a start accepted
   not-start : (e : Event) (r : Reply) (place : ℕ) → IsQuiet e r → IsStart s e r place → ⊥
   not-start (event.Execute cpu (instruction.Ssch word address)) r place q k = cc (sym q ∙ (accepted cpu word address r place k).0)
-  not-start (event.Execute cpu (instruction.Tsch word address)) r place q k = k
-  not-start (event.Execute cpu (instruction.Stsch word address)) r place q k = k
-  not-start (event.Execute cpu (instruction.Msch word address)) r place q k = k
-  not-start (event.Execute cpu (instruction.Enable word subclass multipath)) r place q k = k
-  not-start (event.Execute cpu (instruction.Rsch word)) r place q k = k
-  not-start (event.Execute cpu (instruction.Hsch word)) r place q k = k
-  not-start (event.Execute cpu (instruction.Csch word)) r place q k = k
-  not-start (event.Execute cpu (instruction.Xsch word)) r place q k = k
-  not-start (event.Put address bytes) r place q k = k
-  not-start (event.SetKey address key) r place q k = k
-  not-start (event.SetPrefix cpu address) r place q k = k
-  not-start (event.Show address count) r place q k = k
-  not-start (event.ExecuteOther cpu i) r place q k = k
-  not-start (event.Choose word) r place q k = k
-  not-start (event.Up word path) r place q k = k
-  not-start (event.Down word path) r place q k = k
-  not-start (event.Report at report) r place q k = k
-  not-start (event.Act at what) r place q k = k
-  not-start (event.Restart at) r place q k = k
-  not-start (event.PathDown chpid) r place q k = k
-  not-start (event.PathUp chpid) r place q k = k
-  not-start (event.PathReset chpid) r place q k = k
-  not-start event.SystemReset r place q k = k
+  not-start e r place q k = k
 
   start-zero : (sub : Subchannel) (orb : Orb) (c : ConditionCode) → is_start (function_sub sub c (started sub.state orb)).reply ≡ true →
       (function_sub sub c (started sub.state orb)).sub.state.scsw.count ≡ 0
   start-zero sub orb code.Zero k = refl
-  start-zero sub orb code.One k = absurd (cc k)
-  start-zero sub orb code.Two k = absurd (cc k)
-  start-zero sub orb code.Three k = absurd (cc k)
+  start-zero sub orb c k = absurd (cc k)
 
   started-zero : (e : Event) (r : Reply) (new : State) → Walked s e r new → (place : ℕ) (after : Subchannel) → slice_get new.subs place ≡ Some after →
       IsStart s e r place → after.state.scsw.count ≡ 0
@@ -92,13 +52,8 @@ module _ (s : State) where
   started-zero _ _ _ (walked.Tested e r at sub c new q one address by answers) place after left k = absurd (not-start e r place q k)
   started-zero _ _ _ (walked.Modified e r at sub given c new q one) place after left k = absurd (not-start e r place q k)
   started-zero _ _ _ (walked.Performed e r at sub f c new q one by answers) place after left k = absurd (not-start e r place q k)
-  started-zero _ _ _ (walked.Chosen word at sub choice t new n x w h one) place after left k = absurd k
-  started-zero _ _ _ (walked.Met word path returns at sub t new n h one may) place after left k = absurd k
-  started-zero _ _ _ (walked.Sunk word path may owed at sub u t new n h one) place after left k = absurd k
-  started-zero _ _ _ (walked.Reported at place-of sub u report t new n reached h one) place after left k = absurd k
-  started-zero _ _ _ (walked.Acted at there sub u what t new side its h one) place after left k = absurd k
-  started-zero _ _ _ (walked.Restarted at owed u r new found sets subs units up) place after left k = absurd k
   started-zero _ _ _ (walked.Swept e r what new q sets subs units by) place after left k = absurd (not-start e r place q k)
+  started-zero _ _ _ w place after left k = absurd k
 
   pub counts-by-status : (e : Event) (r : Reply) (new : State) → Walked s e r new → CountsByStatus s e r new
   counts-by-status e r new w place sub after there left =

@@ -139,11 +139,7 @@ halted-clears s false e = inl refl
 -- the Reset is sent
 sending-as : (h : HoldState) (phase : HoldPhase) (p : ℕ) → h.phase ≡ phase → IsAsReset phase (hold_after h (sending_reset h phase p)).phase
 sending-as h hold.Free p e = as-same hold.Free h.phase e
-sending-as h (hold.Offer t q) p e = as-same (hold.Offer t q) h.phase e
-sending-as h (hold.On t q c) p e = as-same (hold.On t q c) h.phase e
-sending-as h (hold.Away t) p e = as-same (hold.Away t) h.phase e
-sending-as h (hold.Letting t q) p e = as-same (hold.Letting t q) h.phase e
-sending-as h (hold.Reset r) p e = as-same (hold.Reset r) h.phase e
+sending-as h other p e = as-same other h.phase e
 
 -- what the subsystem does of itself for a subchannel is calm
 abbrev OkCalm : Subchannel → Result SubTurn Fault → Type 0
@@ -214,9 +210,7 @@ module _ (s : State) where
       Follows s e r place sub (function_sub sub c (started sub.state orb)).sub.state
   start-follows e r place sub orb code.Zero =
       calm-follows e r place sub (started sub.state orb) (record { cleared = refl; reset = as-same sub.state.hold.phase _ refl; counts = counts-zero sub.state (started sub.state orb) refl refl })
-  start-follows e r place sub orb code.One = same-follows e r place sub sub.state refl
-  start-follows e r place sub orb code.Two = same-follows e r place sub sub.state refl
-  start-follows e r place sub orb code.Three = same-follows e r place sub sub.state refl
+  start-follows e r place sub orb c = same-follows e r place sub sub.state refl
 
   test-follows : (cpu word address place : ℕ) (sub : Subchannel) (c : ConditionCode) → place_of s word ≡ Some place →
       Follows s (event.Execute cpu (instruction.Tsch word address)) (test_with sub c).reply place sub (test_with sub c).sub.state
@@ -226,17 +220,13 @@ module _ (s : State) where
         change = Keeps (as-same sub.state.hold.phase _ (tested-phase sub.state (ends_suspended sub.state.scsw)));
         counts = counts-same sub.state (tested_wholly sub.state) (tested-made sub.state (ends_suspended sub.state.scsw)) (tested-count sub.state (ends_suspended sub.state.scsw));
       }
-  test-follows cpu word address place sub code.One at = same-follows (event.Execute cpu (instruction.Tsch word address)) _ place sub sub.state refl
-  test-follows cpu word address place sub code.Two at = same-follows (event.Execute cpu (instruction.Tsch word address)) _ place sub sub.state refl
-  test-follows cpu word address place sub code.Three at = same-follows (event.Execute cpu (instruction.Tsch word address)) _ place sub sub.state refl
+  test-follows cpu word address place sub c at = same-follows (event.Execute cpu (instruction.Tsch word address)) _ place sub sub.state refl
 
   modify-follows : (e : Event) (r : Reply) (place : ℕ) (sub : Subchannel) (given : block.Pmcw) (c : ConditionCode) →
       Follows s e r place sub (function_sub sub c (modified_state sub given)).sub.state
   modify-follows e r place sub given code.Zero =
       calm-follows e r place sub (modified_state sub given) (calm-same sub.state (modified_state sub given) refl refl refl refl)
-  modify-follows e r place sub given code.One = same-follows e r place sub sub.state refl
-  modify-follows e r place sub given code.Two = same-follows e r place sub sub.state refl
-  modify-follows e r place sub given code.Three = same-follows e r place sub sub.state refl
+  modify-follows e r place sub given c = same-follows e r place sub sub.state refl
 
   effect-follows : (cpu word place : ℕ) (sub : Subchannel) (f : Function) → place_of s word ≡ Some place →
       Follows s (event.Execute cpu (instruction_of f word)) (function_sub sub code.Zero (effect_of f sub.state)).reply place sub
@@ -263,9 +253,7 @@ module _ (s : State) where
       Follows s (event.Execute cpu (instruction_of f word)) (function_sub sub c (effect_of f sub.state)).reply place sub
       (function_sub sub c (effect_of f sub.state)).sub.state
   function-follows cpu word place sub f code.Zero at = effect-follows cpu word place sub f at
-  function-follows cpu word place sub f code.One at = same-follows (event.Execute cpu (instruction_of f word)) _ place sub sub.state refl
-  function-follows cpu word place sub f code.Two at = same-follows (event.Execute cpu (instruction_of f word)) _ place sub sub.state refl
-  function-follows cpu word place sub f code.Three at = same-follows (event.Execute cpu (instruction_of f word)) _ place sub sub.state refl
+  function-follows cpu word place sub f c at = same-follows (event.Execute cpu (instruction_of f word)) _ place sub sub.state refl
 
   -- a signal that came up
   abbrev FollowsUp : ℕ → ℕ → ℕ → Subchannel → Up → UpStep → Type 0
@@ -285,17 +273,9 @@ module _ (s : State) where
   cleared-follows : (word path place : ℕ) (sub : Subchannel) (phase : HoldPhase) (r : ℕ) → place_of s word ≡ Some place →
       sub.state.hold.phase ≡ phase →
       FollowsUp word path place sub (up.Cleared r) (reset_taken sub.state (reset_cleared sub.state.hold phase r))
-  cleared-follows word path place sub hold.Free r at h =
-      same-follows (event.Up word path) (reply.Up (up.Cleared r) false None) place sub sub.state refl
-  cleared-follows word path place sub (hold.Offer t p) r at h =
-      same-follows (event.Up word path) (reply.Up (up.Cleared r) false None) place sub sub.state refl
-  cleared-follows word path place sub (hold.On t p c) r at h =
-      same-follows (event.Up word path) (reply.Up (up.Cleared r) false None) place sub sub.state refl
-  cleared-follows word path place sub (hold.Away t) r at h =
-      same-follows (event.Up word path) (reply.Up (up.Cleared r) false None) place sub sub.state refl
-  cleared-follows word path place sub (hold.Letting t p) r at h =
-      same-follows (event.Up word path) (reply.Up (up.Cleared r) false None) place sub sub.state refl
   cleared-follows word path place sub (hold.Reset n) r at h = clearing-follows word path place sub r n (r == n) at h refl
+  cleared-follows word path place sub other r at h =
+      same-follows (event.Up word path) (reply.Up (up.Cleared r) false None) place sub sub.state refl
 
   notice-follows : (word path place : ℕ) (sub : Subchannel) (b : ℕ) (more : Bool) → place_of s word ≡ Some place →
       nat_lt sub.state.hold.known b ≡ more →

@@ -33,7 +33,7 @@ pub mod Moving
 pub mod Passing
 pub mod SweptPaths
 pub mod Turning
-mod OneEngine
+pub mod OneEngine
 mod Remembering
 mod Showing
 pub mod NamedAnswers

@@ -181,12 +181,8 @@ accept-ignored returns s p u = calm-met returns p (up.Accept u) s (ignoring s) (
 accept-met : (returns : Bool) (storage : Contents) (s : SubchannelState) (h : HoldState) (phase : HoldPhase) (p u : ℕ) (may : Bool) →
     IsMet returns p (up.Accept u) (record s { hold = with_phase h phase })
     (accept storage (record s { hold = with_phase h phase }) (hold_takes (with_phase h phase) p (up.Accept u) may))
-accept-met returns storage s h hold.Free p u may = accept-ignored returns (record s { hold = with_phase h hold.Free }) p u
 accept-met returns storage s h (hold.Offer t q) p u may = accept-begun returns storage s h p t q u may (u == t) refl
-accept-met returns storage s h (hold.On t q c) p u may = accept-ignored returns (record s { hold = with_phase h (hold.On t q c) }) p u
-accept-met returns storage s h (hold.Away t) p u may = accept-ignored returns (record s { hold = with_phase h (hold.Away t) }) p u
-accept-met returns storage s h (hold.Letting t q) p u may = accept-ignored returns (record s { hold = with_phase h (hold.Letting t q) }) p u
-accept-met returns storage s h (hold.Reset r) p u may = accept-ignored returns (record s { hold = with_phase h (hold.Reset r) }) p u
+accept-met returns storage s h other p u may = accept-ignored returns (record s { hold = with_phase h other }) p u
 
 -- Back
 record IsBack (returns : Bool) (p : ℕ) (h : HoldState) (step : Option HoldStep) : Type 0 where
@@ -213,15 +209,12 @@ away-back false p h t c = refused-back false p (with_phase h (hold.Away t)) t c
 
 back-step : (returns : Bool) (h : HoldState) (phase : HoldPhase) (p u c : ℕ) →
     IsBack returns p (with_phase h phase) (asked_back (with_phase h phase) phase p u c returns)
-back-step returns h hold.Free p u c = no-back returns p (with_phase h hold.Free)
-back-step returns h (hold.Offer t q) p u c = no-back returns p (with_phase h (hold.Offer t q))
 back-step returns h (hold.On t q d) p u c =
     if-back returns p (with_phase h (hold.On t q d)) ((u == t) && nat_lt h.seen c) (Some (refusing (with_phase h (hold.On t q d)) p t c))
     (refused-back returns p (with_phase h (hold.On t q d)) t c)
 back-step returns h (hold.Away t) p u c =
     if-back returns p (with_phase h (hold.Away t)) ((u == t) && nat_lt h.seen c) _ (away-back returns p h t c)
-back-step returns h (hold.Letting t q) p u c = no-back returns p (with_phase h (hold.Letting t q))
-back-step returns h (hold.Reset r) p u c = no-back returns p (with_phase h (hold.Reset r))
+back-step returns h other p u c = no-back returns p (with_phase h other)
 
 back-met : (returns : Bool) (s : SubchannelState) (p t c : ℕ) → IsMet returns p (up.Back t c) s (back s p (hold_takes s.hold p (up.Back t c) returns))
 back-met returns s p t c =

@@ -120,27 +120,19 @@ module _ (R : SubchannelState → SubchannelState → Type 0) (k : IsKept R) whe
   -- at one subchannel
   start-kept : (sub : Subchannel) (orb : Orb) (c : ConditionCode) → Changed R sub (function_sub sub c (started sub.state orb)).sub
   start-kept sub orb code.Zero = record { setup = refl; state = k.starts sub.state orb }
-  start-kept sub orb code.One = unchanged sub
-  start-kept sub orb code.Two = unchanged sub
-  start-kept sub orb code.Three = unchanged sub
+  start-kept sub orb c = unchanged sub
 
   test-kept : (sub : Subchannel) (c : ConditionCode) → Changed R sub (test_with sub c).sub
   test-kept sub code.Zero = record { setup = refl; state = k.tests sub.state }
-  test-kept sub code.One = unchanged sub
-  test-kept sub code.Two = unchanged sub
-  test-kept sub code.Three = unchanged sub
+  test-kept sub c = unchanged sub
 
   modify-kept : (sub : Subchannel) (given : block.Pmcw) (c : ConditionCode) → Changed R sub (function_sub sub c (modified_state sub given)).sub
   modify-kept sub given code.Zero = record { setup = refl; state = k.modifies sub.state _ }
-  modify-kept sub given code.One = unchanged sub
-  modify-kept sub given code.Two = unchanged sub
-  modify-kept sub given code.Three = unchanged sub
+  modify-kept sub given c = unchanged sub
 
   function-kept : (sub : Subchannel) (f : Function) (c : ConditionCode) → Changed R sub (function_sub sub c (effect_of f sub.state)).sub
   function-kept sub f code.Zero = record { setup = refl; state = k.functions sub.state f }
-  function-kept sub f code.One = unchanged sub
-  function-kept sub f code.Two = unchanged sub
-  function-kept sub f code.Three = unchanged sub
+  function-kept sub f c = unchanged sub
 
   choose-kept : (sub : Subchannel) (c : Chosen) → OkSub sub (choose_sub sub c)
   choose-kept sub chosen_is.Idle = unchanged sub

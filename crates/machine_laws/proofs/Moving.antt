@@ -149,12 +149,8 @@ abbrev IsChooseMoved : List Subchannel → Subchannel → SubTurn → Type 0
 IsChooseMoved subs sub t = IsMoved subs (λ accepted. accepted_by t.reply 0 accepted) sub t.sub
 
 reset-sent-hold : (h : HoldState) (phase : HoldPhase) (path : ℕ) → IsCalmHold (with_phase h phase) (hold_after (with_phase h phase) (sending_reset (with_phase h phase) phase path))
-reset-sent-hold h hold.Free path = still-hold (with_phase h hold.Free)
-reset-sent-hold h (hold.Offer t p) path = still-hold (with_phase h (hold.Offer t p))
-reset-sent-hold h (hold.On t p c) path = still-hold (with_phase h (hold.On t p c))
-reset-sent-hold h (hold.Away t) path = still-hold (with_phase h (hold.Away t))
-reset-sent-hold h (hold.Letting t p) path = still-hold (with_phase h (hold.Letting t p))
 reset-sent-hold h (hold.Reset r) path = record { engaged = λ q e. e; offered = λ t q e. e; remembers = λ accepted m. tt }
+reset-sent-hold h other path = still-hold (with_phase h other)
 
 cause-moved : (subs : List Subchannel) (sub : Subchannel) (c : StatusCause) → IsMoved subs Same sub (with_state sub (with_cause sub.state c))
 cause-moved subs sub c = same-moved subs sub (with_cause sub.state c) (cause-same sub.state c)
@@ -208,13 +204,8 @@ marked-moved subs f sub after choice m = record {
 }
 
 marked-free : (subs : List Subchannel) (sub : Subchannel) (choice : Option ℕ) (c : Chosen) → IsOpen subs sub c → IsOpen subs (marked_sub sub choice) c
-marked-free subs sub choice Idle free = tt
-marked-free subs sub choice (Resets r path) free = tt
-marked-free subs sub choice PerformsClear free = tt
-marked-free subs sub choice (Halts t path) free = tt
-marked-free subs sub choice PerformsHalt free = tt
-marked-free subs sub choice FindsNoPath free = tt
 marked-free subs sub choice (Offers c path) free = free
+marked-free subs sub choice other free = tt
 
 abbrev pub OkChoose : List Subchannel → Subchannel → Result SubTurn Fault → Type 0
 OkChoose subs sub r = IfOk r (IsChooseMoved subs sub)

@@ -13,7 +13,7 @@ use Rattle.chan_model.specs.declared.signal.Down.TheVariants as down
 use Rattle.path_select.specs.Choice.{IsChoice, IsUsable}
 use Rattle.subchannel_model.specs.declared.state.Candidate.{Candidate}
 use Rattle.subchannel_model.specs.declared.state.Chosen.{Chosen}
-use Rattle.subchannel_model.specs.declared.state.Chosen.TheVariants.{Idle, Resets, PerformsClear, Halts, PerformsHalt, FindsNoPath, Offers}
+use Rattle.subchannel_model.specs.declared.state.Chosen.TheVariants.{Idle, Resets, Halts, Offers}
 use Rattle.subchannel_model.specs.declared.state.Subchannel.{Subchannel}
 use Rattle.subchannel_model.proofs.Named.{paths_by, unsent_at}
 use Rattle.subchannel_model.specs.Choosing.{unsent_reset, is_away, first_some, candidate, path_use, engaged_paths, return_paths, paths_to_choose, reset_chosen, clear_chosen, halt_at, over_unless, offer_at, chosen, marked_sub}
@@ -58,13 +58,9 @@ clear-offers choice (Some r) false = tt
 clear-offers choice (Some r) true = tt
 
 halt-at-offers : (choice : Option ℕ) (phase : HoldPhase) → AreOffers choice (halt_at phase choice)
-halt-at-offers choice hold.Free = tt
-halt-at-offers choice (hold.Offer t p) = tt
-halt-at-offers choice (hold.On t p c) = tt
 halt-at-offers None (hold.Away t) = tt
 halt-at-offers (Some path) (hold.Away t) = tt
-halt-at-offers choice (hold.Letting t p) = tt
-halt-at-offers choice (hold.Reset r) = tt
+halt-at-offers choice other = tt
 
 halt-offers : (choice : Option ℕ) (pending : Bool) (phase : HoldPhase) → AreOffers choice (halt_chosen pending phase choice)
 halt-offers choice false phase = tt
@@ -77,11 +73,8 @@ over-offers choice false = tt
 offer-at-offers : (choice : Option ℕ) (phase : HoldPhase) (c : Candidate) (reachable : Bool) → AreOffers choice (offer_at phase c reachable choice)
 offer-at-offers None hold.Free c reachable = over-offers None reachable
 offer-at-offers (Some path) hold.Free c reachable = refl
-offer-at-offers choice (hold.Offer t p) c reachable = tt
-offer-at-offers choice (hold.On t p d) c reachable = tt
-offer-at-offers choice (hold.Away t) c reachable = tt
-offer-at-offers choice (hold.Letting t p) c reachable = tt
 offer-at-offers choice (hold.Reset r) c reachable = over-offers choice reachable
+offer-at-offers choice other c reachable = tt
 
 offer-offers : (choice : Option ℕ) (phase : HoldPhase) (found : Option Candidate) (reachable : Bool) → AreOffers choice (offer_chosen phase found reachable choice)
 offer-offers choice phase None reachable = tt
@@ -135,16 +128,12 @@ OkOffer s word r = IfOk r (λ t. OffersOnDedicated s (event.Choose word) t.reply
 
 choose-dedicated : (s : State) (word : ℕ) (sub : Subchannel) (choice : Option ℕ) (c : Chosen) → sub_of s word ≡ Some sub →
     IsChoice (paths_to_choose s.subs sub) choice → Suits c sub.state → IsOffer choice c → OkOffer s word (choose_sub (marked_sub sub choice) c)
-choose-dedicated s word sub choice Idle at x f o = tt
 choose-dedicated s word sub choice (Resets r path) at x f o =
     if-ok (λ (t : SubTurn). OffersOnDedicated s (event.Choose word) t.reply)
     (finds_full sub.wires.down (carried_by sub (Some (record { path = path; signal = down.Reset r sub.state.hold.known })))) _ _ tt tt
-choose-dedicated s word sub choice PerformsClear at x f o = tt
 choose-dedicated s word sub choice (Halts t path) at x f o =
     if-ok (λ (t : SubTurn). OffersOnDedicated s (event.Choose word) t.reply)
     (finds_full sub.wires.down (carried_by sub (Some (record { path = path; signal = down.Halt t })))) _ _ tt tt
-choose-dedicated s word sub choice PerformsHalt at x f o = tt
-choose-dedicated s word sub choice FindsNoPath at x f o = tt
 choose-dedicated s word sub choice (Offers c path) at x f o =
     if-ok (λ (t : SubTurn). OffersOnDedicated s (event.Choose word) t.reply)
     (finds_full sub.wires.down (carried_by sub (Some (record { path = path; signal = down.Select (sub.state.drawn + 1) })))) _ _ tt
@@ -153,40 +142,22 @@ choose-dedicated s word sub choice (Offers c path) at x f o =
     let usable = offer-usable s.subs sub choice path x f.fits o in
     let within = (without-parts (reachable_paths (path_use sub)) (engaged_paths s.subs sub) path usable).0 in
     reach-dedicated sub path d within (subst (λ (y : Subchannel). y.state.dedicated ≡ Some d) same h))
+choose-dedicated s word sub choice other at x f o = tt
 
 quiet-dedicated : (s : State) (e : Event) (r : Reply) → IsQuiet e r → OffersOnDedicated s e r
-quiet-dedicated s (event.Put address bytes) r q = tt
-quiet-dedicated s (event.SetKey address key) r q = tt
-quiet-dedicated s (event.SetPrefix cpu address) r q = tt
-quiet-dedicated s (event.Show address count) r q = tt
-quiet-dedicated s (event.Execute cpu i) r q = tt
-quiet-dedicated s (event.ExecuteOther cpu i) r q = tt
 quiet-dedicated s (event.Choose word) r q = absurd q
-quiet-dedicated s (event.Up word path) r q = tt
-quiet-dedicated s (event.Down word path) r q = tt
-quiet-dedicated s (event.Report at report) r q = tt
-quiet-dedicated s (event.Act at what) r q = tt
-quiet-dedicated s (event.Restart at) r q = tt
-quiet-dedicated s (event.PathDown chpid) r q = tt
-quiet-dedicated s (event.PathUp chpid) r q = tt
-quiet-dedicated s (event.PathReset chpid) r q = tt
-quiet-dedicated s event.SystemReset r q = tt
+quiet-dedicated s e r q = tt
 
 walked-dedicated : (s : State) (e : Event) (r : Reply) (new : State) → Walked s e r new → OffersOnDedicated s e r
 walked-dedicated s _ _ _ (walked.Stays e r new q sets subs units up) = quiet-dedicated s e r q
-walked-dedicated s _ _ _ (walked.Started cpu word address place sub orb c new n one) = tt
 walked-dedicated s _ _ _ (walked.Tested e r place sub c new q one address by answers) = quiet-dedicated s e r q
 walked-dedicated s _ _ _ (walked.Modified e r place sub given c new q one) = quiet-dedicated s e r q
 walked-dedicated s _ _ _ (walked.Performed e r place sub f c new q one by answers) = quiet-dedicated s e r q
 walked-dedicated s _ _ _ (walked.Chosen word place sub choice t new n x w h one) =
     subst (OkOffer s word) h
     (choose-dedicated s word sub choice (chosen sub choice) (ap (λ (o : Option ℕ). sub_at s.subs o) n ∙ one.there) x w (chosen-offer sub choice))
-walked-dedicated s _ _ _ (walked.Met word path returns place sub t new n h one may) = tt
-walked-dedicated s _ _ _ (walked.Sunk word path may owed place sub u t new n h one) = tt
-walked-dedicated s _ _ _ (walked.Reported at place sub u report t new n k h one) = tt
-walked-dedicated s _ _ _ (walked.Acted at place sub u what t new side its h one) = tt
-walked-dedicated s _ _ _ (walked.Restarted at owed u r new found sets subs units up) = tt
 walked-dedicated s _ _ _ (walked.Swept e r what new q sets subs units by) = quiet-dedicated s e r q
+walked-dedicated s _ _ _ w = tt
 
 pub step-dedicated : AreWalks → (s : State) (e : Event) (r : Reply) (new : State) → Step s e r new → OffersOnDedicated s e r
 step-dedicated walks s e r new step = walked-dedicated s e r new (walks s e r new step)

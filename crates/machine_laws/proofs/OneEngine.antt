@@ -25,11 +25,11 @@ use Rattle.subchannel_model.specs.Store.{installed_paths, available_paths}
 use Rattle.machine_model.specs.declared.state.Sweep.{Sweep}
 use Rattle.machine_model.specs.PathSteps.{swept}
 use Rattle.machine_model.specs.State.{State, opening_of}
-use Rattle.machine_model.specs.Steps.{Run, Opened, Stepped}
+use Rattle.machine_model.specs.Steps.{Run, Opened, Step, Stepped}
 use Rattle.step_laws.specs.Walks.{AreWalks}
 use Rattle.chan_model.proofs.OneSide.{one-side}
 use Rattle.step_laws.proofs.Places.{set-get, map-get}
-use Rattle.machine_laws.specs.Engines.{IsOnePath}
+use Rattle.machine_laws.specs.Engines.{IsAlone, IsOnePath}
 use Rattle.machine_laws.proofs.PathSets.{both-parts, both-from}
 use Rattle.machine_laws.proofs.Moving.{IsFree, IsMoved}
 use Rattle.machine_laws.proofs.SweptPaths.{IsSwept, is-swept}
@@ -57,7 +57,7 @@ serves chpid x k =
     ap (λ (o : Option ℕ). engages_at x o chpid) k.engaged ∙ ap (λ (o : Option ℕ). is_chpid o chpid) k.is ∙ eq-eqb chpid chpid refl
 
 pub record AreServed (subs : List Subchannel) : Type 0 where
-  pub alone : (chpid i j : ℕ) (x y : Subchannel) → slice_get subs i ≡ Some x → slice_get subs j ≡ Some y → engages chpid x ≡ true → engages chpid y ≡ true → i ≡ j
+  pub alone : (chpid : ℕ) → IsAlone chpid subs
   pub available : (place p : ℕ) (x : Subchannel) → slice_get subs place ≡ Some x → engaged_path x.state.hold.phase ≡ Some p → is_member (available_paths x) p ≡ true
 
 -- a step at one subchannel
@@ -75,28 +75,33 @@ engages-moved subs f sub after chpid m e =
     let k : IsServed chpid after = served chpid after e in
     engaged-free subs sub k.path chpid (sym (ap (λ (setup : SubchannelSetup). slice_get setup.paths k.path) m.setup) ∙ k.is) (m.engaged k.path k.engaged)
 
-other-alone : (subs : List Subchannel) (f : Option ℕ → Option ℕ) (place i chpid : ℕ) (sub after x : Subchannel) → AreServed subs → slice_get subs place ≡ Some sub →
+other-alone : (subs : List Subchannel) (f : Option ℕ → Option ℕ) (place i chpid : ℕ) (sub after x : Subchannel) → IsAlone chpid subs → slice_get subs place ≡ Some sub →
     IsMoved subs f sub after → slice_get subs i ≡ Some x → engages chpid after ≡ true → engages chpid x ≡ true → place ≡ i
-other-alone subs f place i chpid sub after x k there m at e g =
+other-alone subs f place i chpid sub after x alone there m at e g =
     elim (engages-moved subs f sub after chpid m e) [
-      | inl h ↦ k.alone chpid place i sub x there at h g
+      | inl h ↦ alone place i sub x there at h g
       | inr h ↦ absurd (cc (sym (any_passes_from_place (engages chpid) subs i x at g) ∙ h))
     ]
 
-one-alone : (subs : List Subchannel) (f : Option ℕ → Option ℕ) (place : ℕ) (sub after : Subchannel) → AreServed subs → slice_get subs place ≡ Some sub →
-    IsMoved subs f sub after → (chpid i j : ℕ) (x y : Subchannel) → slice_get (slice_set subs place after) i ≡ Some x → slice_get (slice_set subs place after) j ≡ Some y →
-    engages chpid x ≡ true → engages chpid y ≡ true → i ≡ j
-one-alone subs f place sub after k there m chpid i j x y a b e g =
+-- an engine serves one at most, as one subchannel changes, where it comes to serve that one only if it serves no other
+pub alone-set : (subs : List Subchannel) (place chpid : ℕ) (after : Subchannel) → IsAlone chpid subs →
+    ((i : ℕ) (x : Subchannel) → slice_get subs i ≡ Some x → engages chpid after ≡ true → engages chpid x ≡ true → place ≡ i) → IsAlone chpid (slice_set subs place after)
+alone-set subs place chpid after alone other i j x y a b e g =
     elim (set-get subs place after i x a) [
       | inl p ↦ elim (set-get subs place after j y b) [
         | inl q ↦ p.0 ∙ sym q.0
-        | inr q ↦ p.0 ∙ other-alone subs f place j chpid sub after y k there m q.1 (sym (ap (engages chpid) p.1) ∙ e) g
+        | inr q ↦ p.0 ∙ other j y q.1 (sym (ap (engages chpid) p.1) ∙ e) g
       ]
       | inr p ↦ elim (set-get subs place after j y b) [
-        | inl q ↦ sym (other-alone subs f place i chpid sub after x k there m p.1 (sym (ap (engages chpid) q.1) ∙ g) e) ∙ sym q.0
-        | inr q ↦ k.alone chpid i j x y p.1 q.1 e g
+        | inl q ↦ sym (other i x p.1 (sym (ap (engages chpid) q.1) ∙ g) e) ∙ sym q.0
+        | inr q ↦ alone i j x y p.1 q.1 e g
       ]
     ]
+
+one-alone : (subs : List Subchannel) (f : Option ℕ → Option ℕ) (place chpid : ℕ) (sub after : Subchannel) → IsAlone chpid subs → slice_get subs place ≡ Some sub →
+    IsMoved subs f sub after → IsAlone chpid (slice_set subs place after)
+one-alone subs f place chpid sub after alone there m =
+    alone-set subs place chpid after alone (λ i x. other-alone subs f place i chpid sub after x alone there m)
 
 same-paths : (sub after : Subchannel) → after.setup ≡ sub.setup → after.state.pmcw.available ≡ sub.state.pmcw.available → available_paths sub ≡ available_paths after
 same-paths sub after s a =
@@ -115,7 +120,7 @@ moved-available subs f place p sub after k there m e =
 one-served : (subs : List Subchannel) (f : Option ℕ → Option ℕ) (place : ℕ) (sub after : Subchannel) → AreServed subs → slice_get subs place ≡ Some sub →
     IsMoved subs f sub after → AreServed (slice_set subs place after)
 one-served subs f place sub after k there m = record {
-  alone = one-alone subs f place sub after k there m;
+  alone = λ chpid. one-alone subs f place chpid sub after (k.alone chpid) there m;
   available = λ at p x h e. elim (set-get subs place after at x h) [
     | inl q ↦ subst (λ (y : Subchannel). is_member (available_paths y) p ≡ true) (sym q.1)
         (moved-available subs f place p sub after k there m (subst (λ (y : Subchannel). engaged_path y.state.hold.phase ≡ Some p) q.1 e))
@@ -124,7 +129,7 @@ one-served subs f place sub after k there m = record {
 }
 
 -- a sweep
-swept-engages : (chpid : ℕ) (sub after : Subchannel) → IsSwept sub after → engages chpid after ≡ true → engages chpid sub ≡ true
+pub swept-engages : (chpid : ℕ) (sub after : Subchannel) → IsSwept sub after → engages chpid after ≡ true → engages chpid sub ≡ true
 swept-engages chpid sub after w e =
     let k : IsServed chpid after = served chpid after e in
     serves chpid sub (record {
@@ -143,18 +148,31 @@ swept-available sub after p w e h =
     both-from (λ path. nat_lt path (length after.setup.paths)) after.state.pmcw.available p
     (subst (λ (set : List Bool). is_member set p ≡ true) (same-installed sub after w.setup) parts.0) (w.available p e parts.1)
 
+all-alone : (what : Sweep) (subs : List Subchannel) (chpid : ℕ) → IsAlone chpid subs → IsAlone chpid (map (swept what) subs)
+all-alone what subs chpid alone i j x y a b e g =
+    let p = map-get (swept what) subs i x a in
+    let q = map-get (swept what) subs j y b in
+    alone i j p.0 q.0 p.1 q.1 (swept-engages chpid p.0 x (subst (λ (z : Subchannel). IsSwept p.0 z) p.2 (is-swept what p.0)) e)
+    (swept-engages chpid q.0 y (subst (λ (z : Subchannel). IsSwept q.0 z) q.2 (is-swept what q.0)) g)
+
 all-served : (what : Sweep) (subs : List Subchannel) → AreServed subs → AreServed (map (swept what) subs)
 all-served what subs k = record {
-  alone = λ chpid i j x y a b e g.
-      let p = map-get (swept what) subs i x a in
-      let q = map-get (swept what) subs j y b in
-      k.alone chpid i j p.0 q.0 p.1 q.1 (swept-engages chpid p.0 x (subst (λ (z : Subchannel). IsSwept p.0 z) p.2 (is-swept what p.0)) e)
-      (swept-engages chpid q.0 y (subst (λ (z : Subchannel). IsSwept q.0 z) q.2 (is-swept what q.0)) g);
+  alone = λ chpid. all-alone what subs chpid (k.alone chpid);
   available = λ place p x a e.
       let q = map-get (swept what) subs place x a in
       let w : IsSwept q.0 x = subst (λ (z : Subchannel). IsSwept q.0 z) q.2 (is-swept what q.0) in
       swept-available q.0 x p w e (k.available place p q.0 q.1 (w.engaged p e));
 }
+
+-- an engine that serves one subchannel at most does so after each step
+turned-alone : (s : State) (e : Event) (r : Reply) (new : State) (chpid : ℕ) → Turned s e r new → IsAlone chpid s.subs → IsAlone chpid new.subs
+turned-alone s _ _ _ chpid (OfNone e r new silent subs up) alone = subst (IsAlone chpid) (sym subs) alone
+turned-alone s _ _ _ chpid (OfOne e r new place sub after there subs up m silent) alone =
+    subst (IsAlone chpid) (sym subs) (one-alone s.subs _ place chpid sub after alone there m)
+turned-alone s _ _ _ chpid (OfAll e r new what silent subs up) alone = subst (IsAlone chpid) (sym subs) (all-alone what s.subs chpid alone)
+
+pub step-alone : AreWalks → (s : State) (e : Event) (r : Reply) (new : State) (chpid : ℕ) → Step s e r new → IsAlone chpid s.subs → IsAlone chpid new.subs
+step-alone walks s e r new chpid step = turned-alone s e r new chpid (step-turned s e r new (walks s e r new step))
 
 turned-served : (s : State) (e : Event) (r : Reply) (new : State) → Turned s e r new → AreServed s.subs → AreServed new.subs
 turned-served s _ _ _ (OfNone e r new silent subs up) k = subst (λ (xs : List Subchannel). AreServed xs) (sym subs) k
@@ -163,7 +181,7 @@ turned-served s _ _ _ (OfOne e r new place sub after there subs up m silent) k =
 turned-served s _ _ _ (OfAll e r new what silent subs up) k = subst (λ (xs : List Subchannel). AreServed xs) (sym subs) (all-served what s.subs k)
 
 -- at the opening no subchannel is served
-opened-idle : (setups : List SubchannelSetup) (place : ℕ) (x : Subchannel) → slice_get (map opened setups) place ≡ Some x → engaged_path x.state.hold.phase ≡ None
+pub opened-idle : (setups : List SubchannelSetup) (place : ℕ) (x : Subchannel) → slice_get (map opened setups) place ≡ Some x → engaged_path x.state.hold.phase ≡ None
 opened-idle setups place x e =
     let p = map-get opened setups place x e in sym (ap (λ (y : Subchannel). engaged_path y.state.hold.phase) p.2)
 

@@ -75,12 +75,9 @@ run-told walks setup _ _ (Stepped h old e r new run step) =
 
 -- a Grant
 held-remembers : (phase : HoldPhase) (first accepted : Option ℕ) → is_held phase ≡ true → Remembers phase first accepted → accepted ≡ first
-held-remembers hold.Free first accepted e m = absurd (cc e)
-held-remembers (hold.Offer t p) first accepted e m = absurd (cc e)
 held-remembers (hold.On t p c) first accepted e m = m
 held-remembers (hold.Away t) first accepted e m = m
-held-remembers (hold.Letting t p) first accepted e m = absurd (cc e)
-held-remembers (hold.Reset r) first accepted e m = absurd (cc e)
+held-remembers other first accepted e m = absurd (cc e)
 
 path-is : (o : Option ℕ) (p : ℕ) → is_path o p ≡ true → o ≡ Some p
 path-is None p e = absurd (cc e)
@@ -101,31 +98,15 @@ met-first s sub path p returns t accepted h may told single e =
     ∙ first-is sub path single right.1 ∙ ap Some (sym g.1)
 
 quiet-first : (opening : State) (h : List Entry) (s : State) (run : Run opening h s) (e : Event) (r : Reply) → IsQuiet e r → ReturnsByFirst opening h s run e r
-quiet-first opening h s run (event.Put address bytes) r q = tt
-quiet-first opening h s run (event.SetKey address key) r q = tt
-quiet-first opening h s run (event.SetPrefix cpu address) r q = tt
-quiet-first opening h s run (event.Show address count) r q = tt
-quiet-first opening h s run (event.Execute cpu i) r q = tt
-quiet-first opening h s run (event.ExecuteOther cpu i) r q = tt
-quiet-first opening h s run (event.Choose word) r q = tt
 quiet-first opening h s run (event.Up word path) r q = absurd q
-quiet-first opening h s run (event.Down word path) r q = tt
-quiet-first opening h s run (event.Report at report) r q = tt
-quiet-first opening h s run (event.Act at what) r q = tt
-quiet-first opening h s run (event.Restart at) r q = tt
-quiet-first opening h s run (event.PathDown chpid) r q = tt
-quiet-first opening h s run (event.PathUp chpid) r q = tt
-quiet-first opening h s run (event.PathReset chpid) r q = tt
-quiet-first opening h s run event.SystemReset r q = tt
+quiet-first opening h s run e r q = tt
 
 walked-first : (setup : Setup) (h : List Entry) (s : State) (run : Run (opening_of setup) h s) → AreTold (λ place. accepted_path place (opening_of setup) h s run) s.subs →
     (e : Event) (r : Reply) (new : State) → Walked s e r new → ReturnsByFirst (opening_of setup) h s run e r
 walked-first setup h s run told _ _ _ (walked.Stays e r new q sets subs units up) = quiet-first (opening_of setup) h s run e r q
-walked-first setup h s run told _ _ _ (walked.Started cpu word address place sub orb c new n one) = tt
 walked-first setup h s run told _ _ _ (walked.Tested e r place sub c new q one address by answers) = quiet-first (opening_of setup) h s run e r q
 walked-first setup h s run told _ _ _ (walked.Modified e r place sub given c new q one) = quiet-first (opening_of setup) h s run e r q
 walked-first setup h s run told _ _ _ (walked.Performed e r place sub f c new q one by answers) = quiet-first (opening_of setup) h s run e r q
-walked-first setup h s run told _ _ _ (walked.Chosen word place sub choice t new n x w ok one) = tt
 walked-first setup h s run told _ _ _ (walked.Met word path returns place sub t new n ok one may) =
     λ at p x named there single e.
     let same : place ≡ at = cc (sym n ∙ named) in
@@ -133,11 +114,8 @@ walked-first setup h s run told _ _ _ (walked.Met word path returns place sub t 
     met-first s sub path p returns t (accepted_path at (opening_of setup) h s run) ok may
     (subst (λ (y : Subchannel). IsTold (accepted_path at (opening_of setup) h s run) y) is (told at x there))
     (subst (λ (y : Subchannel). y.state.hold.single_path ≡ true) is single) e
-walked-first setup h s run told _ _ _ (walked.Sunk word path may owed place sub u t new n ok one) = tt
-walked-first setup h s run told _ _ _ (walked.Reported at place sub u report t new n k ok one) = tt
-walked-first setup h s run told _ _ _ (walked.Acted at place sub u what t new side its ok one) = tt
-walked-first setup h s run told _ _ _ (walked.Restarted at owed u r new found sets subs units up) = tt
 walked-first setup h s run told _ _ _ (walked.Swept e r what new q sets subs units by) = quiet-first (opening_of setup) h s run e r q
+walked-first setup h s run told _ _ _ w = tt
 
 pub step-first : AreWalks → (setup : Setup) (h : List Entry) (s : State) (run : Run (opening_of setup) h s) (e : Event) (r : Reply) (new : State) → Step s e r new →
     ReturnsByFirst (opening_of setup) h s run e r

@@ -30,23 +30,18 @@ waits-reset : (A : Type 0) (B : ℕ → Type 0) (s x : SubchannelState) (phase :
     (is_offered_or_held phase && has_any w b d) ≡ false → x.starts ≡ s.starts → WaitsAs A B s w → WaitsAs A B x w
 waits-reset A B s x phase None b d e f a k = tt
 waits-reset A B s x hold.Free (Some program) b d e f a k = still-spent A B s x hold.Free program e (λ t p g. absurd (cc g)) a k
-waits-reset A B s x (hold.Offer t p) (Some program) b d e f a k = absurd (cc f)
-waits-reset A B s x (hold.On t p c) (Some program) b d e f a k = absurd (cc f)
-waits-reset A B s x (hold.Away t) (Some program) b d e f a k = absurd (cc f)
 waits-reset A B s x (hold.Letting t p) (Some program) b d e f a k = still-spent A B s x (hold.Letting t p) program e (λ t p g. absurd (cc g)) a k
 waits-reset A B s x (hold.Reset r) (Some program) b d e f a k = still-spent A B s x (hold.Reset r) program e (λ t p g. absurd (cc g)) a k
+waits-reset A B s x phase (Some program) b d e f a k = absurd (cc f)
 
 begun-reset : (phase next : HoldPhase) (w : Option Program) (b : Option ActiveProgram) (d : Option ProgramPosition) → (is_offered_or_held phase && has_any w b d) ≡ false → IsBegunHeld b phase →
     IsBegunHeld b next
 begun-reset phase next w None d f h = tt
-begun-reset hold.Free next w (Some b) d f h = absurd (cc h)
-begun-reset (hold.Offer t p) next w (Some b) d f h = absurd (cc h)
 begun-reset (hold.On t p c) next None (Some b) d f h = absurd (cc f)
 begun-reset (hold.On t p c) next (Some w) (Some b) d f h = absurd (cc f)
 begun-reset (hold.Away t) next None (Some b) d f h = absurd (cc f)
 begun-reset (hold.Away t) next (Some w) (Some b) d f h = absurd (cc f)
-begun-reset (hold.Letting t p) next w (Some b) d f h = absurd (cc h)
-begun-reset (hold.Reset r) next w (Some b) d f h = absurd (cc h)
+begun-reset phase next w (Some b) d f h = absurd (cc h)
 
 pub reset-waits : (A : Type 0) (B : ℕ → Type 0) (s : SubchannelState) (shows : Bool) → (is_offered_or_held s.hold.phase && has_any s.waiting s.begun s.suspended) ≡ shows → Waits A B s →
     Waits A B (reset_with s shows)

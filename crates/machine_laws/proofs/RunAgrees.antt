@@ -70,21 +70,15 @@ same-hold sub = kept-turns sub sub.state refl refl
 
 pub start-hold : (sub : Subchannel) (orb : Orb) (c : ConditionCode) → IsOfHold sub (function_sub sub c (started sub.state orb)).sub
 start-hold sub orb code.Zero = kept-turns sub (started sub.state orb) refl refl
-start-hold sub orb code.One = same-hold sub
-start-hold sub orb code.Two = same-hold sub
-start-hold sub orb code.Three = same-hold sub
+start-hold sub orb c = same-hold sub
 
 pub test-hold : (sub : Subchannel) (c : ConditionCode) → IsOfHold sub (test_with sub c).sub
 test-hold sub code.Zero = same-turns sub (tested_wholly sub.state) (tested-same sub.state)
-test-hold sub code.One = same-hold sub
-test-hold sub code.Two = same-hold sub
-test-hold sub code.Three = same-hold sub
+test-hold sub c = same-hold sub
 
 pub modify-hold : (sub : Subchannel) (given : block.Pmcw) (c : ConditionCode) → IsOfHold sub (function_sub sub c (modified_state sub given)).sub
 modify-hold sub given code.Zero = kept-turns sub (modified_state sub given) refl refl
-modify-hold sub given code.One = same-hold sub
-modify-hold sub given code.Two = same-hold sub
-modify-hold sub given code.Three = same-hold sub
+modify-hold sub given c = same-hold sub
 
 -- an event that tells nothing, and one of the subchannel that a word names
 silent-about : (which : Option ℕ) (place : ℕ) (k next : StartCounts) → next ≡ k → IsAbout which place k k next
@@ -124,27 +118,11 @@ rises-same k next e r = subst (λ (xs : List ℕ). AllPairs (λ x y. x < y) xs) 
 
 start-begun : (sub : Subchannel) (orb : Orb) (c : ConditionCode) (k : StartCounts) → (with_start (function_sub sub c (started sub.state orb)).reply k).begun ≡ k.begun
 start-begun sub orb code.Zero k = refl
-start-begun sub orb code.One k = refl
-start-begun sub orb code.Two k = refl
-start-begun sub orb code.Three k = refl
+start-begun sub orb c k = refl
 
 offer-begun : (r : Reply) (k : StartCounts) → (with_offer r k).begun ≡ k.begun
-offer-begun reply.Done k = refl
-offer-begun (reply.Shown bytes) k = refl
-offer-begun (reply.Code a) k = refl
-offer-begun (reply.Status a scsw) k = refl
-offer-begun (reply.Interruption found) k = refl
-offer-begun (reply.PathReset code) k = refl
-offer-begun (reply.ChannelReport report) k = refl
-offer-begun (reply.Paths engaged) k = refl
 offer-begun (reply.Offered t p true) k = refl
-offer-begun (reply.Offered t p false) k = refl
-offer-begun (reply.ResetSent r p) k = refl
-offer-begun (reply.HaltSent t p) k = refl
-offer-begun reply.Pending k = refl
-offer-begun reply.Idle k = refl
-offer-begun (reply.Up x taken one) k = refl
-offer-begun (reply.Down x taken one) k = refl
+offer-begun r k = refl
 
 -- an event that begins a program is one of that subchannel
 down-rises : (b : Bool) (k mine : StartCounts) → (b ≡ true → AllPairs (λ x y. x < y) mine.begun) → AllPairs (λ x y. x < y) k.begun → AllPairs (λ x y. x < y) (if b then mine else k).begun
@@ -170,9 +148,7 @@ module _ (laws : AreLaws) where
 
   pub function-hold : (sub : Subchannel) (f : Function) (c : ConditionCode) → IsOfHold sub (function_sub sub c (effect_of f sub.state)).sub
   function-hold sub f code.Zero = effect-hold sub f
-  function-hold sub f code.One = same-hold sub
-  function-hold sub f code.Two = same-hold sub
-  function-hold sub f code.Three = same-hold sub
+  function-hold sub f c = same-hold sub
 
   -- an event at the subchannel of a place
   told-at : (id : SubchannelId) (s new : State) (place : ℕ) (sub after : Subchannel) (k mine next : StartCounts) → OneSub s new place sub after → IsOfHold sub after →
@@ -209,54 +185,20 @@ module _ (laws : AreLaws) where
 
   -- a quiet event tells nothing of the starts of any subchannel
   start-quiet : (r : Reply) (k : StartCounts) → is_start r ≡ false → with_start r k ≡ k
-  start-quiet reply.Done k q = refl
-  start-quiet (reply.Shown bytes) k q = refl
   start-quiet (reply.Code (answer.Zero serials)) k q = absurd (cc q)
-  start-quiet (reply.Code (answer.One serials)) k q = refl
-  start-quiet (reply.Code answer.Two) k q = refl
-  start-quiet (reply.Code answer.Three) k q = refl
-  start-quiet (reply.Status a scsw) k q = refl
-  start-quiet (reply.Interruption found) k q = refl
-  start-quiet (reply.PathReset code) k q = refl
-  start-quiet (reply.ChannelReport report) k q = refl
-  start-quiet (reply.Paths engaged) k q = refl
-  start-quiet (reply.Offered t p z) k q = refl
-  start-quiet (reply.ResetSent n p) k q = refl
-  start-quiet (reply.HaltSent t p) k q = refl
-  start-quiet reply.Pending k q = refl
-  start-quiet reply.Idle k q = refl
-  start-quiet (reply.Up x taken one) k q = refl
-  start-quiet (reply.Down x taken one) k q = refl
+  start-quiet r k q = refl
 
   if-quiet : (b : Bool) (k next : StartCounts) → next ≡ k → (if b then next else k) ≡ k
   if-quiet true k next e = e
   if-quiet false k next e = refl
 
   quiet-tells : (sets : ℕ) (id : SubchannelId) (e : Event) (r : Reply) (k : StartCounts) → IsQuiet e r → starts_after sets id e r k ≡ k
-  quiet-tells sets id (event.Put address bytes) r k q = refl
-  quiet-tells sets id (event.SetKey address key) r k q = refl
-  quiet-tells sets id (event.SetPrefix cpu address) r k q = refl
-  quiet-tells sets id (event.Show address count) r k q = refl
   quiet-tells sets id (event.Execute cpu (instruction.Ssch word address)) r k q = if-quiet (is_id (subchannel_named sets word) id) k (with_start r k) (start-quiet r k q)
-  quiet-tells sets id (event.Execute cpu (instruction.Tsch word address)) r k q = refl
-  quiet-tells sets id (event.Execute cpu (instruction.Stsch word address)) r k q = refl
-  quiet-tells sets id (event.Execute cpu (instruction.Msch word address)) r k q = refl
-  quiet-tells sets id (event.Execute cpu (instruction.Enable word subclass multipath)) r k q = refl
-  quiet-tells sets id (event.Execute cpu (instruction.Rsch word)) r k q = refl
-  quiet-tells sets id (event.Execute cpu (instruction.Hsch word)) r k q = refl
-  quiet-tells sets id (event.Execute cpu (instruction.Csch word)) r k q = refl
-  quiet-tells sets id (event.Execute cpu (instruction.Xsch word)) r k q = refl
   quiet-tells sets id (event.Choose word) r k q = absurd q
   quiet-tells sets id (event.Up word path) r k q = absurd q
   quiet-tells sets id (event.Down word path) r k q = absurd q
   quiet-tells sets id (event.Report at report) r k q = absurd q
-  quiet-tells sets id (event.ExecuteOther cpu i) r k q = refl
-  quiet-tells sets id (event.Act at what) r k q = refl
-  quiet-tells sets id (event.Restart at) r k q = refl
-  quiet-tells sets id (event.PathDown chpid) r k q = refl
-  quiet-tells sets id (event.PathUp chpid) r k q = refl
-  quiet-tells sets id (event.PathReset chpid) r k q = refl
-  quiet-tells sets id event.SystemReset r k q = refl
+  quiet-tells sets id e r k q = refl
 
   -- an event that tells nothing, at one subchannel
   quiet-at : (id : SubchannelId) (s new : State) (e : Event) (r : Reply) (place : ℕ) (sub after : Subchannel) (k : StartCounts) → IsQuiet e r → OneSub s new place sub after → IsOfHold sub after →

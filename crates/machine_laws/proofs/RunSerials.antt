@@ -1,18 +1,15 @@
 -- Of two TEST SUBCHANNEL of a subchannel that answered 0, the later cleared a greater serial.
-use Rattle.std.proofs.Common.{◌≡◌, refl, sym, ◌∙◌, ap, subst, ℕ, zero, suc, ◌<◌, ◌≤◌, ◌==◌, Bool, true, false, not, Option, None, Some, Result, Ok, Err, List, [], ◌∷◌, ◌++◌, length, arith, inl, inr}
+use Rattle.std.proofs.Common.{◌≡◌, refl, sym, ◌∙◌, ap, subst, ℕ, zero, suc, ◌<◌, ◌≤◌, ◌==◌, Bool, true, false, not, Option, None, Some, List, [], ◌∷◌, ◌++◌, length, arith, inl, inr}
 use Rattle.std.specs.Prelude.{slice_get, slice_set, if◌then◌else◌, ◌&&◌, All, AllPairs, ◌⊎◌}
 use Rattle.std.specs.List.{AllZip}
 use Rattle.std.proofs.lemmas.Bool.{eqb-true, ltb-true, and_parts}
 use Rattle.std.proofs.lemmas.List.Elements.{All-weaker, All-push}
 use Rattle.std.proofs.lemmas.List.Quantifiers.{all_pairs_push}
 use Rattle.std.proofs.lemmas.Grind.{flat_map-append}
-use Rattle.storage_keys.specs.declared.StorageFault.{StorageFault}
-use Rattle.storage_keys.specs.Storage.{operand_check}
 use Rattle.channel_config.specs.declared.names.SubchannelId.{SubchannelId}
 use Rattle.channel_config.specs.Setup.{Setup, set_count}
 use Rattle.channel_config.specs.SubchannelWords.{subchannel_named}
 use Rattle.chan_events.specs.Events.{Event}
-use Rattle.chan_events.specs.declared.event.Event.TheVariants as event
 use Rattle.chan_events.specs.declared.event.Instruction.{Instruction}
 use Rattle.chan_events.specs.declared.event.Instruction.TheVariants as instruction
 use Rattle.chan_model.specs.declared.answer.ConditionCode.{ConditionCode}
@@ -24,24 +21,26 @@ use Rattle.subchannel_model.specs.Conditions.{is_operational, condition_of}
 use Rattle.subchannel_model.specs.declared.state.Subchannel.{Subchannel}
 use Rattle.interruptions.specs.Requests.{WaitingRequests}
 use Rattle.machine_model.specs.State.{State, opening_of}
-use Rattle.subchannel_model.proofs.Named.{found_with, one_later}
+use Rattle.subchannel_model.proofs.Named.{one_later}
 use Rattle.subchannel_model.specs.Places.{found_at, is_named, place_in, sub_at}
 use Rattle.subchannel_model.specs.declared.state.SubchannelState.{SubchannelState}
-use Rattle.subchannel_model.specs.Test.{tsch_code, ends_suspended, tested_wholly, tested}
+use Rattle.subchannel_model.specs.Test.{ends_suspended, tested_wholly, tested}
 use Rattle.subchannel_model.specs.Programs.{without_programs}
-use Rattle.machine_model.specs.Turns.{Turn, Outcome, does, with_state}
-use Rattle.machine_model.proofs.Named.{requests_settled}
-use Rattle.machine_model.specs.InstructionSteps.{test_at}
-use Rattle.machine_model.specs.InstructionSteps.{code_at, test_sub, Executes}
-use Rattle.machine_model.proofs.Named.{tests, Executes_on}
-use Rattle.machine_model.specs.Steps.{Does, Step, Run, Opened, Stepped}
-use Rattle.machine_model.specs.Requests.{settled}
+use Rattle.machine_model.specs.Turns.{with_state}
+use Rattle.machine_model.specs.Steps.{Step, Run, Opened, Stepped}
 use Rattle.step_laws.specs.Walks.{AreWalks}
 use Rattle.machine_laws.proofs.Named.{is_same_id, serial_by, serial_at}
 use Rattle.machine_laws.specs.Claims.{IsLaterSubchannel, is_id, serial_of, serials}
 use Rattle.machine_laws.proofs.Named.{serial_shown}
 use Rattle.machine_laws.proofs.Sound.{AreNumbered}
 use Rattle.machine_laws.proofs.RunSound.{SoundSub, one-of, run-sound, step-sets, step-later}
+use Rattle.subchannel_model.specs.Conditions.{left_by}
+use Rattle.subchannel_model.specs.Places.{Found}
+use Rattle.machine_model.specs.InstructionSteps.{subchannel_word}
+use Rattle.step_laws.proofs.Places.{get-set, found-there}
+use Rattle.step_laws.proofs.Executed.{IsDone, IsLeft, code_for, reply_of, state_left, done-settled}
+use Rattle.step_laws.proofs.Turns as turn
+use Rattle.step_laws.proofs.Turns.{TurnOf, HasTurn, step-turn}
 
 -- the places of subchannels stay
 place-stays : (id : SubchannelId) (xs ys : List Subchannel) → AllZip IsLaterSubchannel xs ys → place_in id ys ≡ place_in id xs
@@ -160,20 +159,6 @@ pending-from true true e = refl
 pending-from true false e = absurd (cc e)
 pending-from false pending e = absurd (cc e)
 
-get-set : (xs : List Subchannel) (place : ℕ) (x y : Subchannel) → slice_get xs place ≡ Some x → slice_get (slice_set xs place y) place ≡ Some y
-get-set [] place x y e = absurd (cc e)
-get-set (z ∷ xs) zero x y e = refl
-get-set (z ∷ xs) (suc place) x y e = get-set xs place x y e
-
-same-turn : (a b : Turn) → does a.reply a.state ≡ does b.reply b.state → a ≡ b
-same-turn a b e = cc e
-
-same-reply : (r q : Reply) (s t : State) → does r s ≡ does q t → r ≡ q
-same-reply r q s t e = ap (λ (u : Turn). u.reply) (same-turn (record { reply = r; state = s }) (record { reply = q; state = t }) e)
-
-same-state : (r q : Reply) (s t : State) → does r s ≡ does q t → s ≡ t
-same-state r q s t e = ap (λ (u : Turn). u.state) (same-turn (record { reply = r; state = s }) (record { reply = q; state = t }) e)
-
 -- all status that was made is cleared
 abbrev IsAllCleared : SubchannelState → SubchannelState → Type 0
 IsAllCleared s new = (new.serials.made ≡ s.serials.made) × (new.serials.cleared ≡ s.serials.made)
@@ -185,43 +170,39 @@ if-cleared s false x y e f = f
 wholly-cleared : (s : SubchannelState) → IsAllCleared s (tested_wholly s)
 wholly-cleared s = if-cleared s (ends_suspended s.scsw) (without_programs (tested s)) (tested s) (refl, refl) (refl, refl)
 
-test-shows : (n : ℕ) (id : SubchannelId) (s : State) (cpu address place : ℕ) (sub : Subchannel) (c : ConditionCode) (r : Reply) (new : State) →
-    SoundSub n sub → place_in id new.subs ≡ place_in id s.subs → place_in id s.subs ≡ Some place → slice_get s.subs place ≡ Some sub →
-    code_at tsch_code sub ≡ c → does r new ≡ test_sub s cpu address (record { place = place; sub = sub }) c → Shows id s new (serial_shown r)
-test-shows n id s cpu address place sub code.Zero r new k stays at there is w =
-    let pending : sub.state.scsw.status.pending ≡ true =
-    pending-from (is_operational (condition_of (Some sub.state))) sub.state.scsw.status.pending is in
-    let all : IsAllCleared sub.state (tested_wholly sub.state) = wholly-cleared sub.state in
-    inr (
-      sub.state.serials.made,
-      ap serial_shown (same-reply r _ new _ w) ∙ ap (λ (made : ℕ). made ∷ []) all.0,
-      record {
-        before = sub;
-        after = with_state sub (tested_wholly sub.state);
-        found = ap (sub_at s.subs) at ∙ there;
-        left = ap (sub_at new.subs) (stays ∙ at)
-            ∙ (ap (λ (t : State). slice_get t.subs place) (same-state r _ new _ w) ∙ get-set s.subs place sub (with_state sub (tested_wholly sub.state)) there);
-        above = ltb-true sub.state.serials.cleared sub.state.serials.made (sym k.4 ∙ pending);
-        reached = omega (arith, all.1);
-      },
-    )
-test-shows n id s cpu address place sub code.One r new k stays at there is w = inl (ap serial_shown (same-reply r _ new _ w))
-test-shows n id s cpu address place sub code.Two r new k stays at there is w = inl (ap serial_shown (same-reply r _ new _ w))
-test-shows n id s cpu address place sub code.Three r new k stays at there is w = inl (ap serial_shown (same-reply r _ new _ w))
+test-shows : (n : ℕ) (id : SubchannelId) (s : State) (word address : ℕ) (f : Found) (r : Reply) (new : State) →
+    SoundSub n f.sub → place_in id new.subs ≡ place_in id s.subs → place_in id s.subs ≡ Some f.place → slice_get s.subs f.place ≡ Some f.sub →
+    IsLeft s (instruction.Tsch word address) r new f → Shows id s new (serial_shown r)
+test-shows n id s word address f r new sound stays at there k = by (code_for i f.sub) refl
+  where
+    i : Instruction
+    i = instruction.Tsch word address
 
-found-shows : (n : ℕ) (id : SubchannelId) (s : State) (cpu address place : ℕ) (q : Option Subchannel) (r : Reply) (new : State) →
-    All (SoundSub n) s.subs → place_in id new.subs ≡ place_in id s.subs → place_in id s.subs ≡ Some place → slice_get s.subs place ≡ q →
-    does r new ≡ test_at s cpu address (found_with place q) → Shows id s new (serial_shown r)
-found-shows n id s cpu address place None r new a stays at there w = inl (ap serial_shown (same-reply r _ new _ w))
-found-shows n id s cpu address place (Some sub) r new a stays at there w =
-    test-shows n id s cpu address place sub (code_at tsch_code sub) r new (one-of n s.subs place sub a there) stays at there refl w
+    replies : (c : ConditionCode) → code_for i f.sub ≡ c → r ≡ reply_of i c f.sub.state (left_by c f.sub.state k.effect)
+    replies c is = k.replies ∙ ap (λ (x : ConditionCode). reply_of i x f.sub.state (left_by x f.sub.state k.effect)) is
 
-tests-show : (n : ℕ) (id : SubchannelId) (s : State) (cpu address : ℕ) (p : Option ℕ) (checked : Result (Unit {0}) StorageFault) (r : Reply) (new : State) →
-    All (SoundSub n) s.subs → place_in id new.subs ≡ place_in id s.subs → place_in id s.subs ≡ p →
-    does r new ≡ tests s cpu address (found_at s.subs p) checked → Shows id s new (serial_shown r)
-tests-show n id s cpu address p (Err f) r new a stays at w = absurd (cc w)
-tests-show n id s cpu address None (Ok u) r new a stays at w = inl (ap serial_shown (same-reply r _ new _ w))
-tests-show n id s cpu address (Some place) (Ok u) r new a stays at w = found-shows n id s cpu address place (slice_get s.subs place) r new a stays at refl w
+    by : (c : ConditionCode) → code_for i f.sub ≡ c → Shows id s new (serial_shown r)
+    by code.Zero is =
+        let pending : f.sub.state.scsw.status.pending ≡ true =
+        pending-from (is_operational (condition_of (Some f.sub.state))) f.sub.state.scsw.status.pending is in
+        let whole : SubchannelState = tested_wholly f.sub.state in
+        let all : IsAllCleared f.sub.state whole = wholly-cleared f.sub.state in
+        let left : state_left i f.sub k.effect ≡ whole = ap (λ (x : ConditionCode). left_by x f.sub.state k.effect) is ∙ k.is in
+        inr (
+          f.sub.state.serials.made,
+          ap serial_shown (replies code.Zero is) ∙ ap (λ (x : SubchannelState). x.serials.made ∷ []) k.is ∙ ap (λ (made : ℕ). made ∷ []) all.0,
+          record {
+            before = f.sub;
+            after = with_state f.sub whole;
+            found = ap (sub_at s.subs) at ∙ there;
+            left = ap (sub_at new.subs) (stays ∙ at)
+                ∙ (ap (λ (xs : List Subchannel). slice_get xs f.place)
+                (k.subs ∙ ap (λ (x : SubchannelState). slice_set s.subs f.place (with_state f.sub x)) left) ∙ get-set s.subs f.place f.sub (with_state f.sub whole) there);
+            above = ltb-true f.sub.state.serials.cleared f.sub.state.serials.made (sym sound.4 ∙ pending);
+            reached = omega (arith, all.1);
+          },
+        )
+    by c is = inl (ap serial_shown (replies c is))
 
 pub same-id : (a b : SubchannelId) → is_same_id a b ≡ true → a ≡ b
 same-id a b e =
@@ -231,75 +212,40 @@ same-id a b e =
     ap (λ (set : ℕ). record a { set = set }) sets ∙ ap (λ (number : ℕ). record b { number = number }) numbers
 
 -- of the subchannel that the word names
-named-shows : (n : ℕ) (id named : SubchannelId) (s : State) (cpu word address : ℕ) (r : Reply) (new : State) (b : Bool) →
-    All (SoundSub n) s.subs → place_in id new.subs ≡ place_in id s.subs → is_same_id named id ≡ b →
-    Executes_on s cpu (instruction.Tsch word address) (Some named) (does r new) → Shows id s new (if b then serial_shown r else [])
-named-shows n id named s cpu word address r new false a stays e w = inl refl
-named-shows n id named s cpu word address r new true a stays e w =
-    tests-show n id s cpu address (place_in id s.subs) (operand_check s.storage cpu address 64 4) r new a stays refl
-    (subst (λ (x : SubchannelId). Executes_on s cpu (instruction.Tsch word address) (Some x) (does r new)) (same-id named id e) w)
+found-shows : (n : ℕ) (id : SubchannelId) (s : State) (word address : ℕ) (q : Option Found) (r : Reply) (new : State) → All (SoundSub n) s.subs →
+    place_in id new.subs ≡ place_in id s.subs → found_at s.subs (place_in id s.subs) ≡ q → IsDone s (instruction.Tsch word address) q r new → Shows id s new (serial_shown r)
+found-shows n id s word address None r new a stays e k = inl (ap serial_shown k.replies)
+found-shows n id s word address (Some f) r new a stays e k =
+    let there : (place_in id s.subs ≡ Some f.place) × (slice_get s.subs f.place ≡ Some f.sub) = found-there s.subs (place_in id s.subs) f e in
+    test-shows n id s word address f r new (one-of n s.subs f.place f.sub a there.1) stays there.0 there.1 k
 
-word-shows : (n : ℕ) (id : SubchannelId) (s : State) (cpu word address : ℕ) (x : Option SubchannelId) (r : Reply) (new : State) →
-    All (SoundSub n) s.subs → place_in id new.subs ≡ place_in id s.subs →
-    Executes_on s cpu (instruction.Tsch word address) x (does r new) → Shows id s new (if is_id x id then serial_shown r else [])
-word-shows n id s cpu word address None r new a stays w = inl refl
-word-shows n id s cpu word address (Some named) r new a stays w = named-shows n id named s cpu word address r new (is_same_id named id) a stays refl w
+named-shows : (n : ℕ) (id named : SubchannelId) (s : State) (word address : ℕ) (q : Option Found) (r : Reply) (new : State) (b : Bool) → All (SoundSub n) s.subs →
+    place_in id new.subs ≡ place_in id s.subs → found_at s.subs (place_in named s.subs) ≡ q → IsDone s (instruction.Tsch word address) q r new → is_same_id named id ≡ b →
+    Shows id s new (if b then serial_shown r else [])
+named-shows n id named s word address q r new false a stays e k same = inl refl
+named-shows n id named s word address q r new true a stays e k same =
+    found-shows n id s word address q r new a stays (subst (λ (x : SubchannelId). found_at s.subs (place_in x s.subs) ≡ q) (same-id named id same) e) k
 
-executes-shows : (n : ℕ) (id : SubchannelId) (s : State) (cpu : ℕ) (i : Instruction) (r : Reply) (new : State) →
-    All (SoundSub n) s.subs → place_in id new.subs ≡ place_in id s.subs → Executes s cpu i (does r new) → Shows id s new (serial_by s.sets id i r)
-executes-shows n id s cpu (instruction.Ssch word address) r new a stays w = inl refl
-executes-shows n id s cpu (instruction.Tsch word address) r new a stays w =
-    word-shows n id s cpu word address (subchannel_named s.sets word) r new a stays w
-executes-shows n id s cpu (instruction.Stsch word address) r new a stays w = inl refl
-executes-shows n id s cpu (instruction.Msch word address) r new a stays w = inl refl
-executes-shows n id s cpu (instruction.Enable word subclass multipath) r new a stays w = inl refl
-executes-shows n id s cpu (instruction.Rsch word) r new a stays w = inl refl
-executes-shows n id s cpu (instruction.Hsch word) r new a stays w = inl refl
-executes-shows n id s cpu (instruction.Csch word) r new a stays w = inl refl
-executes-shows n id s cpu (instruction.Xsch word) r new a stays w = inl refl
+executes-shows : (n : ℕ) (id named : SubchannelId) (s : State) (i : Instruction) (q : Option Found) (r : Reply) (new : State) → All (SoundSub n) s.subs →
+    place_in id new.subs ≡ place_in id s.subs → subchannel_named s.sets (subchannel_word i) ≡ Some named → found_at s.subs (place_in named s.subs) ≡ q → IsDone s i q r new →
+    Shows id s new (serial_by s.sets id i r)
+executes-shows n id named s (instruction.Tsch word address) q r new a stays at e k =
+    subst (λ (x : Option SubchannelId). Shows id s new (if is_id x id then serial_shown r else [])) (sym at)
+    (named-shows n id named s word address q r new (is_same_id named id) a stays e k refl)
+executes-shows n id named s i q r new a stays at e k = inl refl
 
-does-shows : (n : ℕ) (id : SubchannelId) (s : State) (e : Event) (r : Reply) (new : State) →
-    All (SoundSub n) s.subs → place_in id new.subs ≡ place_in id s.subs → Does s e (does r new) → Shows id s new (serial_of s.sets id e r)
-does-shows n id s (event.Put address bytes) r new a stays w = inl refl
-does-shows n id s (event.SetKey address key) r new a stays w = inl refl
-does-shows n id s (event.SetPrefix cpu address) r new a stays w = inl refl
-does-shows n id s (event.Show address count) r new a stays w = inl refl
-does-shows n id s (event.Execute cpu i) r new a stays w = executes-shows n id s cpu i r new a stays w
-does-shows n id s (event.ExecuteOther cpu i) r new a stays w = inl refl
-does-shows n id s (event.Choose word) r new a stays w = inl refl
-does-shows n id s (event.Up word path) r new a stays w = inl refl
-does-shows n id s (event.Down word path) r new a stays w = inl refl
-does-shows n id s (event.Report place report) r new a stays w = inl refl
-does-shows n id s (event.Act place what) r new a stays w = inl refl
-does-shows n id s (event.Restart place) r new a stays w = inl refl
-does-shows n id s (event.PathDown chpid) r new a stays w = inl refl
-does-shows n id s (event.PathUp chpid) r new a stays w = inl refl
-does-shows n id s (event.PathReset chpid) r new a stays w = inl refl
-does-shows n id s event.SystemReset r new a stays w = inl refl
-
--- the requests that are settled show nothing
-settled-shows : (id : SubchannelId) (s new : State) (waiting : WaitingRequests) (ns : List ℕ) → Shows id s new ns → Shows id s (record new { requests = waiting }) ns
-settled-shows id s new waiting ns k =
-    elim k [
-      | inl e ↦ inl e
-      | inr c ↦ inr (
-        c.0,
-        c.1,
-        record { before = c.2.before; after = c.2.after; found = c.2.found; left = c.2.left; above = c.2.above; reached = c.2.reached },
-      )
-    ]
-
-outcome-shows : (n : ℕ) (id : SubchannelId) (s : State) (e : Event) (r : Reply) (new : State) (o : Outcome) →
-    All (SoundSub n) s.subs → place_in id new.subs ≡ place_in id s.subs → Does s e o → does r new ≡ settled s e o → Shows id s new (serial_of s.sets id e r)
-outcome-shows n id s e r new (Ok t) a stays w m =
-    let same : record { reply = r; state = new } ≡ record t { state = record t.state { requests = requests_settled s e t } } = cc m in
-    subst (λ (x : Turn). place_in id x.state.subs ≡ place_in id s.subs → Shows id s x.state (serial_of s.sets id e x.reply)) (sym same)
-    (λ k. settled-shows id s t.state (requests_settled s e t) (serial_of s.sets id e t.reply) (does-shows n id s e t.reply t.state a k w)) stays
-outcome-shows n id s e r new (Err f) a stays w m = absurd (cc m)
+turn-shows : (n : ℕ) (id : SubchannelId) (s : State) (e : Event) (r : Reply) (new : State) (waiting : WaitingRequests) → All (SoundSub n) s.subs →
+    place_in id new.subs ≡ place_in id s.subs → TurnOf s e r new → Shows id s (record new { requests = waiting }) (serial_of s.sets id e r)
+turn-shows n id s _ _ _ waiting a stays (turn.Executes cpu i named q r storage subs at e blocks left done) =
+    executes-shows n id named s i q r (record s { storage = storage; subs = subs; requests = waiting }) a stays at e (done-settled s i q r _ waiting done)
+turn-shows n id s _ _ _ waiting a stays t = inl refl
 
 step-shows : (n : ℕ) (id : SubchannelId) (s : State) (e : Event) (r : Reply) (new : State) →
     All (SoundSub n) s.subs → place_in id new.subs ≡ place_in id s.subs → Step s e r new → Shows id s new (serial_of s.sets id e r)
-step-shows n id s e r new a stays (o, w, m) = outcome-shows n id s e r new o a stays w m
+step-shows n id s e r new a stays step =
+    let is : HasTurn s e r new = step-turn s e r new step in
+    subst (λ (x : State). Shows id s x (serial_of s.sets id e r)) (sym is.settles)
+    (turn-shows n id s e r is.left _ a (subst (λ (x : State). place_in id x.subs ≡ place_in id s.subs) is.settles stays) is.turn)
 
 run-told : AreWalks → AreNumbered → (setup : Setup) (id : SubchannelId) (h : List Entry) (s : State) → Run (opening_of setup) h s → Told (set_count setup) id h s
 run-told walks numbered setup id _ _ Opened =

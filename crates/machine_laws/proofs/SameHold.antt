@@ -47,13 +47,8 @@ without_waiting-same s (Some w) = same-hold s _ refl refl
 pub cause-same : (s : SubchannelState) (c : StatusCause) → IsSameHold s (with_cause s c)
 cause-same s (cause.End b status more) = let h : IsSameHold s (programs_after_end s b (is_last_end status)) = after_end-same s b (is_last_end status) in same-hold s _ h.drawn h.hold
 cause-same s (cause.FetchFault tried check count) = let h : IsSameHold s (without_begun s.begun s) = without_begun-same s s.begun in same-hold s _ h.drawn h.hold
-cause-same s cause.Attention = same-hold s _ refl refl
 cause-same s cause.NoPath = let h : IsSameHold s (without_waiting s.waiting s) = without_waiting-same s s.waiting in same-hold s _ h.drawn h.hold
-cause-same s cause.InterfaceControlCheck = same-hold s _ refl refl
-cause-same s (cause.Pci tried count) = same-hold s _ refl refl
-cause-same s (cause.Suspension tried count) = same-hold s _ refl refl
-cause-same s cause.ClearDone = same-hold s _ refl refl
-cause-same s cause.HaltDone = same-hold s _ refl refl
+cause-same s other = same-hold s _ refl refl
 
 interrupted_by-same : (s : SubchannelState) (b : ActiveProgram) → IsSameHold s (with_pci_of s b)
 interrupted_by-same s b =

@@ -48,13 +48,8 @@ without_waiting-same s (Some w) = is-same s _ refl refl refl
 pub cause-same : (s : SubchannelState) (c : StatusCause) → IsSame s (with_cause s c)
 cause-same s (cause.End b status more) = let h : IsSame s (programs_after_end s b (is_last_end status)) = after_end-same s b (is_last_end status) in is-same s _ h.drawn h.hold h.available
 cause-same s (cause.FetchFault tried check count) = let h : IsSame s (without_begun s.begun s) = without_begun-same s s.begun in is-same s _ h.drawn h.hold h.available
-cause-same s cause.Attention = is-same s _ refl refl refl
 cause-same s cause.NoPath = let h : IsSame s (without_waiting s.waiting s) = without_waiting-same s s.waiting in is-same s _ h.drawn h.hold h.available
-cause-same s cause.InterfaceControlCheck = is-same s _ refl refl refl
-cause-same s (cause.Pci tried count) = is-same s _ refl refl refl
-cause-same s (cause.Suspension tried count) = is-same s _ refl refl refl
-cause-same s cause.ClearDone = is-same s _ refl refl refl
-cause-same s cause.HaltDone = is-same s _ refl refl refl
+cause-same s other = is-same s _ refl refl refl
 
 interrupted_by-same : (s : SubchannelState) (b : ActiveProgram) → IsSame s (with_pci_of s b)
 interrupted_by-same s b =

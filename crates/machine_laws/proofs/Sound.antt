@@ -149,14 +149,12 @@ cause-sound floor n s cause.Attention m k = left-sound floor n s None s.begun s.
 cause-sound floor n s cause.NoPath m k = without_waiting-sound floor n s s.waiting s.scsw (row_of s cause.NoPath).shown k
 cause-sound floor n s cause.InterfaceControlCheck m k =
     left-sound floor n s None None None s.scsw (row_of s cause.InterfaceControlCheck).shown tt k
-cause-sound floor n s (cause.Pci tried count) m k =
-    left-sound floor n s s.waiting s.begun s.suspended s.scsw (row_of s (cause.Pci tried count)).shown k.3 k
-cause-sound floor n s (cause.Suspension tried count) m k =
-    left-sound floor n s s.waiting s.begun s.suspended s.scsw (row_of s (cause.Suspension tried count)).shown k.3 k
 cause-sound floor n s cause.ClearDone m k =
     left-sound floor n s s.waiting s.begun s.suspended clear_scsw (row_of s cause.ClearDone).shown k.3 k
 cause-sound floor n s cause.HaltDone m k =
     left-sound floor n s None None None (without_intermediate s.scsw) (row_of s cause.HaltDone).shown tt k
+cause-sound floor n s other m k =
+    left-sound floor n s s.waiting s.begun s.suspended s.scsw (row_of s other).shown k.3 k
 
 -- instructions and choosing
 pub started-sound : (floor : Serials) (n : ℕ) (s : SubchannelState) (orb : Orb) → Sound floor n s → Sound floor (n + 1) (started s orb)
@@ -297,13 +295,10 @@ module _ (numbered : AreNumbered) where
 
   accepted_by-sound : (floor : Serials) (n : ℕ) (storage : Contents) (s : SubchannelState) (phase : HoldPhase) (taken : Taken Down) → Sound floor n s →
       Sound floor (n + 1) (accepted_by storage s phase taken).state
-  accepted_by-sound floor n storage s hold.Free taken k = later floor n s k
-  accepted_by-sound floor n storage s (hold.Offer t p) taken k = later floor n s k
   accepted_by-sound floor n storage s (hold.On t p c) taken k =
       begin_standing-sound floor n storage (record s { pmcw = path_used s.pmcw p }) p t (standing s) (to-ready floor n s k)
-  accepted_by-sound floor n storage s (hold.Away t) taken k = later floor n s k
   accepted_by-sound floor n storage s (hold.Letting t p) taken k = halt_done-sound floor n (record s { pmcw = path_used s.pmcw p }) (to-ready floor n s k)
-  accepted_by-sound floor n storage s (hold.Reset r) taken k = later floor n s k
+  accepted_by-sound floor n storage s other taken k = later floor n s k
 
   accept-sound : (floor : Serials) (n : ℕ) (storage : Contents) (s : SubchannelState) (h : HoldState) (taken : Taken Down) → Sound floor n s →
       Sound floor (n + 1) (accept_by storage s h taken).state

@@ -176,9 +176,7 @@ tells-turned sub x k f w side b t = told-turned k sub.state x w side (f w side t
 -- instructions
 pub start-tells : (sub : Subchannel) (orb : Orb) (c : ConditionCode) (k : StartCounts) → Tells sub (function_sub sub c (started sub.state orb)).sub.state k (with_start (function_sub sub c (started sub.state orb)).reply k)
 start-tells sub orb code.Zero k w side b t = told-start k sub.state orb w side t
-start-tells sub orb code.One k w side b t = t
-start-tells sub orb code.Two k w side b t = t
-start-tells sub orb code.Three k w side b t = t
+start-tells sub orb c k w side b t = t
 
 calm-tells : (sub : Subchannel) (x : SubchannelState) (k : StartCounts) → IsCalm sub.state x → x.begun ≡ None ⊎ (x.begun ≡ sub.state.begun) → Tells sub x k k
 calm-tells sub x k c g =
@@ -199,16 +197,12 @@ test-tells sub code.Zero k =
     if-tells sub (ends_suspended sub.state.scsw) (without_programs (tested sub.state)) (tested sub.state) k
     (calm-tells sub (without_programs (tested sub.state)) k (none sub.state (without_programs (tested sub.state)) refl refl refl refl refl) (inl refl))
     (calm-tells sub (tested sub.state) k (kept sub.state (tested sub.state) refl refl refl refl refl) (inr refl))
-test-tells sub code.One k = tells-same sub k
-test-tells sub code.Two k = tells-same sub k
-test-tells sub code.Three k = tells-same sub k
+test-tells sub c k = tells-same sub k
 
 pub modify-tells : (sub : Subchannel) (given : block.Pmcw) (c : ConditionCode) (k : StartCounts) → Tells sub (function_sub sub c (modified_state sub given)).sub.state k k
 modify-tells sub given code.Zero k =
     calm-tells sub (modified_state sub given) k (kept sub.state (modified_state sub given) refl refl refl refl refl) (inr refl)
-modify-tells sub given code.One k = tells-same sub k
-modify-tells sub given code.Two k = tells-same sub k
-modify-tells sub given code.Three k = tells-same sub k
+modify-tells sub given c k = tells-same sub k
 
 effect-tells : (sub : Subchannel) (f : Function) (k : StartCounts) → Tells sub (effect_of f sub.state) k k
 effect-tells sub Resumes k = calm-tells sub (resumed sub.state) k (kept sub.state (resumed sub.state) refl refl refl refl refl) (inr refl)
@@ -221,18 +215,12 @@ effect-tells sub Cancels k = calm-tells sub (cancelled sub.state) k (none sub.st
 
 pub function-tells : (sub : Subchannel) (f : Function) (c : ConditionCode) (k : StartCounts) → Tells sub (function_sub sub c (effect_of f sub.state)).sub.state k k
 function-tells sub f code.Zero k = effect-tells sub f k
-function-tells sub f code.One k = tells-same sub k
-function-tells sub f code.Two k = tells-same sub k
-function-tells sub f code.Three k = tells-same sub k
+function-tells sub f c k = tells-same sub k
 
 -- Choose
 pub reset-phase : (h : HoldState) (phase : HoldPhase) (path : ℕ) → (hold_after h (sending_reset h phase path)).phase ≡ h.phase
 reset-phase h hold.Free path = refl
-reset-phase h (hold.Offer t p) path = refl
-reset-phase h (hold.On t p c) path = refl
-reset-phase h (hold.Away t) path = refl
-reset-phase h (hold.Letting t p) path = refl
-reset-phase h (hold.Reset r) path = refl
+reset-phase h other path = refl
 
 reset-tells : (sub : Subchannel) (path : ℕ) (k : StartCounts) → Tells sub (reset_sent sub.state path) k k
 reset-tells sub path k w side b t =

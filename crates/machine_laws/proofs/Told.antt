@@ -13,12 +13,10 @@ use Rattle.machine_laws.proofs.WaitingSignals.{EachSignal, signals-weaker}
 -- as long as a program is offered none was accepted since, and while one holds the device it was accepted by the path that the hold
 -- remembers
 abbrev pub Remembers : HoldPhase → Option ℕ → Option ℕ → Type 0
-Remembers hold.Free first accepted = Unit {0}
 Remembers (hold.Offer t p) first accepted = accepted ≡ None
 Remembers (hold.On t p c) first accepted = accepted ≡ first
 Remembers (hold.Away t) first accepted = accepted ≡ first
-Remembers (hold.Letting t p) first accepted = Unit {0}
-Remembers (hold.Reset r) first accepted = Unit {0}
+Remembers other first accepted = Unit {0}
 
 -- a program of this number was offered, and where it still is, on this path
 abbrev pub IsOffered : ℕ → HoldPhase → ℕ → ℕ → Type 0

@@ -16,7 +16,7 @@ use Rattle.schib_block.specs.declared.pmcw.Pmcw as block
 use Rattle.wires.specs.Queues.{queue}
 use Rattle.allegiance.specs.PathUse.{reachable_paths}
 use Rattle.subchannel_model.specs.declared.state.Chosen.{Chosen}
-use Rattle.subchannel_model.specs.declared.state.Chosen.TheVariants.{Idle, Resets, PerformsClear, Halts, PerformsHalt, FindsNoPath, Offers}
+use Rattle.subchannel_model.specs.declared.state.Chosen.TheVariants.{Halts, Offers}
 use Rattle.subchannel_model.specs.declared.state.PmcwState.{PmcwState}
 use Rattle.subchannel_model.specs.declared.state.Subchannel.{Subchannel}
 use Rattle.subchannel_model.specs.Cancel.{cancelled}
@@ -58,21 +58,15 @@ pub data Turned (s : State) : Event → Reply → State → Type 0 where
 -- the instructions
 start-moved : (subs : List Subchannel) (sub : Subchannel) (orb : Orb) (c : ConditionCode) → IsMoved subs Same sub (function_sub sub c (started sub.state orb)).sub
 start-moved subs sub orb code.Zero = same-moved subs sub (started sub.state orb) (is-same sub.state (started sub.state orb) refl refl refl)
-start-moved subs sub orb code.One = unmoved subs sub
-start-moved subs sub orb code.Two = unmoved subs sub
-start-moved subs sub orb code.Three = unmoved subs sub
+start-moved subs sub orb c = unmoved subs sub
 
 test-moved : (subs : List Subchannel) (sub : Subchannel) (c : ConditionCode) → IsMoved subs Same sub (test_with sub c).sub
 test-moved subs sub code.Zero = same-moved subs sub (tested_wholly sub.state) (tested-same sub.state)
-test-moved subs sub code.One = unmoved subs sub
-test-moved subs sub code.Two = unmoved subs sub
-test-moved subs sub code.Three = unmoved subs sub
+test-moved subs sub c = unmoved subs sub
 
 modify-moved : (subs : List Subchannel) (sub : Subchannel) (given : block.Pmcw) (c : ConditionCode) → IsMoved subs Same sub (function_sub sub c (modified_state sub given)).sub
 modify-moved subs sub given code.Zero = same-moved subs sub (modified_state sub given) (is-same sub.state (modified_state sub given) refl refl refl)
-modify-moved subs sub given code.One = unmoved subs sub
-modify-moved subs sub given code.Two = unmoved subs sub
-modify-moved subs sub given code.Three = unmoved subs sub
+modify-moved subs sub given c = unmoved subs sub
 
 resumed-available : (pmcw : PmcwState) (b : Bool) → (if b then found_operational pmcw else pmcw).available ≡ pmcw.available
 resumed-available pmcw true = refl
@@ -86,41 +80,21 @@ effect-moved subs sub Cancels = same-moved subs sub (cancelled sub.state) (is-sa
 
 function-moved : (subs : List Subchannel) (sub : Subchannel) (f : Function) (c : ConditionCode) → IsMoved subs Same sub (function_sub sub c (effect_of f sub.state)).sub
 function-moved subs sub f code.Zero = effect-moved subs sub f
-function-moved subs sub f code.One = unmoved subs sub
-function-moved subs sub f code.Two = unmoved subs sub
-function-moved subs sub f code.Three = unmoved subs sub
+function-moved subs sub f c = unmoved subs sub
 
 -- a quiet event tells nothing of what was accepted
 quiet-silent : (s : State) (e : Event) (r : Reply) → IsQuiet e r → (place : ℕ) (accepted : Option ℕ) → accepted_after place s e r accepted ≡ accepted
-quiet-silent s (event.Put address bytes) r q place accepted = refl
-quiet-silent s (event.SetKey address key) r q place accepted = refl
-quiet-silent s (event.SetPrefix cpu address) r q place accepted = refl
-quiet-silent s (event.Show address count) r q place accepted = refl
-quiet-silent s (event.Execute cpu i) r q place accepted = refl
-quiet-silent s (event.ExecuteOther cpu i) r q place accepted = refl
 quiet-silent s (event.Choose word) r q place accepted = absurd q
 quiet-silent s (event.Up word path) r q place accepted = absurd q
-quiet-silent s (event.Down word path) r q place accepted = refl
-quiet-silent s (event.Report at report) r q place accepted = refl
-quiet-silent s (event.Act at what) r q place accepted = refl
-quiet-silent s (event.Restart at) r q place accepted = refl
-quiet-silent s (event.PathDown chpid) r q place accepted = refl
-quiet-silent s (event.PathUp chpid) r q place accepted = refl
-quiet-silent s (event.PathReset chpid) r q place accepted = refl
-quiet-silent s event.SystemReset r q place accepted = refl
+quiet-silent s e r q place accepted = refl
 
 -- what is offered goes out on a free path
 offer-open : (subs : List Subchannel) (sub : Subchannel) (choice : Option ℕ) (c : Chosen) → IsChoice (paths_to_choose subs sub) choice → Suits c sub.state →
     IsOffer choice c → IsOpen subs sub c
-offer-open subs sub choice Idle x f o = tt
-offer-open subs sub choice (Resets r path) x f o = tt
-offer-open subs sub choice PerformsClear x f o = tt
-offer-open subs sub choice (Halts t path) x f o = tt
-offer-open subs sub choice PerformsHalt x f o = tt
-offer-open subs sub choice FindsNoPath x f o = tt
 offer-open subs sub choice (Offers c path) x f o =
     let parts = without-parts (reachable_paths (path_use sub)) (engaged_paths subs sub) path (offer-usable subs sub choice path x f.fits o) in
     usable-free subs sub path parts.0 parts.1
+offer-open subs sub choice other x f o = tt
 
 -- a program comes back only by a path that may be returned by
 right-by : (subs : List Subchannel) (sub : Subchannel) (path : ℕ) (front : Option Up) → returns_by subs sub path front ≡ true → may_return subs sub path ≡ true

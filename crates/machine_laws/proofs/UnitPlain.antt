@@ -175,10 +175,6 @@ ended-plain u p t x true status more h = hand-same u x _ h refl
 ended-plain u p t x false status more h = stays u
 
 answer-plain : (u : UnitState) (p t c : ℕ) (x : AtHand) (at : Progress) (a : DeviceAnswer) → u.at_hand ≡ Some x → IsPlainStep u (answer_taken u p t c x at a)
-answer-plain u p t c x progress.New (answer.Ended status more) h = ended-plain u p t x (may_end u.halted x progress.New status more) (shown_end progress.New status) more h
-answer-plain u p t c x progress.Working (answer.Ended status more) h = ended-plain u p t x (may_end u.halted x progress.Working status more) (shown_end progress.Working status) more h
-answer-plain u p t c x progress.ChannelEnded (answer.Ended status more) h = ended-plain u p t x (may_end u.halted x progress.ChannelEnded status more) (shown_end progress.ChannelEnded status) more h
-answer-plain u p t c x progress.Ended (answer.Ended status more) h = ended-plain u p t x (may_end u.halted x progress.Ended status more) (shown_end progress.Ended status) more h
 answer-plain u p t c x progress.New answer.Begins h = begun-plain u p t c x h
 answer-plain u p t c x progress.Working answer.Begins h = stays u
 answer-plain u p t c x progress.ChannelEnded answer.Begins h = stays u
@@ -195,6 +191,7 @@ answer-plain u p t c x progress.New answer.Again h = stays u
 answer-plain u p t c x progress.Working answer.Again h = again-plain u p t c x x.unanswered h
 answer-plain u p t c x progress.ChannelEnded answer.Again h = stays u
 answer-plain u p t c x progress.Ended answer.Again h = stays u
+answer-plain u p t c x other (answer.Ended status more) h = ended-plain u p t x (may_end u.halted x other status more) (shown_end other status) more h
 
 report_on-plain : (u : UnitState) (t : ℕ) (place : Place) (x : Option AtHand) (r : Report) → u.at_hand ≡ x → IsPlainStep u (report_on u t place x r)
 report_on-plain u t (On p c) (Some x) r h = if-plain u (r.sequence == x.sequence) _ None (answer-plain u p t c x x.progress r.answer h) (stays u)

@@ -110,14 +110,11 @@ answer-sends u p t c x progress.Working answer.Begins = tt
 answer-sends u p t c x progress.Working (answer.Absorbed count) = absorbed-sends u p t c x x.given count
 answer-sends u p t c x progress.Working (answer.Supplied bytes) = if-sends (is_to_supply x && nat_le (length bytes) (most_of x)) _ None tt tt
 answer-sends u p t c x progress.Working answer.Again = again-sends u p t c x x.unanswered
-answer-sends u p t c x progress.ChannelEnded answer.Begins = tt
-answer-sends u p t c x progress.ChannelEnded (answer.Absorbed count) = tt
-answer-sends u p t c x progress.ChannelEnded (answer.Supplied bytes) = tt
-answer-sends u p t c x progress.ChannelEnded answer.Again = tt
 answer-sends u p t c x progress.Ended answer.Begins = tt
 answer-sends u p t c x progress.Ended (answer.Absorbed count) = tt
 answer-sends u p t c x progress.Ended (answer.Supplied bytes) = tt
 answer-sends u p t c x progress.Ended answer.Again = tt
+answer-sends u p t c x progress.ChannelEnded other = tt
 
 report_on-sends : (u : UnitState) (t : ℕ) (at : Place) (x : Option AtHand) (r : Report) → Sends (report_on u t at x r)
 report_on-sends u t (place.On p c) None r = tt

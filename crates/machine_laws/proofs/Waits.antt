@@ -91,13 +91,11 @@ calm-like s x y c a n o w h =
 pub cause-calm : (s : SubchannelState) (c : StatusCause) → IsCalm s (with_cause s c)
 cause-calm s (cause.End b status more) = calm-like s (programs_after_end s b (is_last_end status)) _ (after_end-calm s b (is_last_end status)) refl refl refl refl refl
 cause-calm s (cause.FetchFault tried check count) = calm-like s (without_begun s.begun s) _ (without_begun-calm s s.begun) refl refl refl refl refl
-cause-calm s cause.Attention = none s _ refl refl refl refl refl
 cause-calm s cause.NoPath = calm-like s (without_waiting s.waiting s) _ (without_waiting-calm s s.waiting) refl refl refl refl refl
-cause-calm s cause.InterfaceControlCheck = none s _ refl refl refl refl refl
 cause-calm s (cause.Pci tried count) = kept s _ refl refl refl refl refl
 cause-calm s (cause.Suspension tried count) = kept s _ refl refl refl refl refl
 cause-calm s cause.ClearDone = kept s _ refl refl refl refl refl
-cause-calm s cause.HaltDone = none s _ refl refl refl refl refl
+cause-calm s other = none s _ refl refl refl refl refl
 
 -- which program it leaves begun
 pub without_waiting-begun : (s : SubchannelState) (w : Option Program) → (without_waiting w s).begun ≡ s.begun
@@ -137,12 +135,8 @@ held-on (Some b) phase next f h = f h
 
 -- the device is let go
 pub let-offer : (h : HoldState) (phase : HoldPhase) (t p : ℕ) → h.phase ≡ phase → phase ≡ hold.Offer t p → (hold_after h (letting_go h phase)).phase ≡ hold.Offer t p
-let-offer h hold.Free t p e f = absurd (cc f)
 let-offer h (hold.Offer u q) t p e f = e ∙ f
-let-offer h (hold.On u q c) t p e f = absurd (cc f)
-let-offer h (hold.Away u) t p e f = absurd (cc f)
-let-offer h (hold.Letting u q) t p e f = absurd (cc f)
-let-offer h (hold.Reset r) t p e f = absurd (cc f)
+let-offer h other t p e f = absurd (cc f)
 
 module _ (A : Type 0) (B : ℕ → Type 0) where
   -- an offer stays

@@ -59,46 +59,27 @@ if-still h true x y e f = e
 if-still h false x y e f = f
 
 left-still : (h : HoldState) (phase : HoldPhase) (u d : ℕ) → h.phase ≡ phase → IsStill h (left h phase u d)
-left-still h hold.Free u d e = no-step h
-left-still h (hold.Offer t p) u d e = no-step h
 left-still h (hold.On t p c) u d e = if-still h ((u == t) && (d == c)) _ None (other-phase h (hold.On t p c) _ e (λ v q g. absurd (cc g)) (λ g. refl)) (no-step h)
-left-still h (hold.Away t) u d e = no-step h
-left-still h (hold.Letting t p) u d e = no-step h
-left-still h (hold.Reset r) u d e = no-step h
+left-still h other u d e = no-step h
 
 back-still : (h : HoldState) (phase : HoldPhase) (p u c : ℕ) (may : Bool) → h.phase ≡ phase → IsStill h (asked_back h phase p u c may)
-back-still h hold.Free p u c may e = no-step h
-back-still h (hold.Offer t q) p u c may e = no-step h
 back-still h (hold.On t q d) p u c may e = if-still h ((u == t) && nat_lt h.seen c) _ None (same-phase h _ refl) (no-step h)
 back-still h (hold.Away t) p u c may e =
     if-still h ((u == t) && nat_lt h.seen c) (if may then Some _ else Some _) None
     (if-still h may (Some _) (Some _) (other-phase h (hold.Away t) _ e (λ v q g. absurd (cc g)) (λ g. refl)) (same-phase h _ refl)) (no-step h)
-back-still h (hold.Letting t q) p u c may e = no-step h
-back-still h (hold.Reset r) p u c may e = no-step h
+back-still h other p u c may e = no-step h
 
 released-still : (h : HoldState) (phase : HoldPhase) (u : ℕ) → h.phase ≡ phase → IsStill h (released h phase u)
-released-still h hold.Free u e = no-step h
-released-still h (hold.Offer t p) u e = no-step h
-released-still h (hold.On t p c) u e = no-step h
-released-still h (hold.Away t) u e = no-step h
 released-still h (hold.Letting t p) u e = if-still h (u == t) _ None (other-phase h (hold.Letting t p) _ e (λ v q g. absurd (cc g)) (λ g. absurd (cc g))) (no-step h)
-released-still h (hold.Reset r) u e = no-step h
+released-still h other u e = no-step h
 
 cleared-still : (h : HoldState) (phase : HoldPhase) (u : ℕ) → h.phase ≡ phase → IsStill h (reset_cleared h phase u)
-cleared-still h hold.Free u e = no-step h
-cleared-still h (hold.Offer t p) u e = no-step h
-cleared-still h (hold.On t p c) u e = no-step h
-cleared-still h (hold.Away t) u e = no-step h
-cleared-still h (hold.Letting t p) u e = no-step h
 cleared-still h (hold.Reset r) u e = if-still h (u == r) _ None (other-phase h (hold.Reset r) _ e (λ v q g. absurd (cc g)) (λ g. absurd (cc g))) (no-step h)
+cleared-still h other u e = no-step h
 
 attended-still : (h : HoldState) (phase : HoldPhase) (p a : ℕ) (may : Bool) → h.phase ≡ phase → IsStill h (attended h phase p a may)
 attended-still h hold.Free p a may e = if-still h may _ None (same-phase h _ refl) (no-step h)
-attended-still h (hold.Offer t q) p a may e = no-step h
-attended-still h (hold.On t q c) p a may e = no-step h
-attended-still h (hold.Away t) p a may e = no-step h
-attended-still h (hold.Letting t q) p a may e = no-step h
-attended-still h (hold.Reset r) p a may e = no-step h
+attended-still h other p a may e = no-step h
 
 -- a program that was suspended is neither begun nor waits
 abbrev IsBare : SubchannelState → Type 0
@@ -290,12 +271,8 @@ module _ (A : Type 0) (B : ℕ → Type 0) where
       Waits A B (record s { hold = record h { phase = phase } }) →
       Turned A B (record s { hold = record h { phase = phase } })
       (accept storage (record s { hold = record h { phase = phase } }) (hold_takes (record h { phase = phase }) p (up.Accept u) may)).state
-  accept-turned storage s h hold.Free p u may g k = same-turned A B _ k
   accept-turned storage s h (hold.Offer t q) p u may g k = offered-turned storage s h t q u may (u == t) g k
-  accept-turned storage s h (hold.On t q d) p u may g k = same-turned A B _ k
-  accept-turned storage s h (hold.Away t) p u may g k = same-turned A B _ k
-  accept-turned storage s h (hold.Letting t q) p u may g k = same-turned A B _ k
-  accept-turned storage s h (hold.Reset r) p u may g k = same-turned A B _ k
+  accept-turned storage s h other p u may g k = same-turned A B _ k
 
   -- Busy: the program waits again, and will not begin under that number
   freed-as : (s x : SubchannelState) (h : HoldState) (t q : ℕ) (w : Option Program) → x.starts ≡ s.starts → s.hold ≡ record h { phase = hold.Offer t q } → (B t → A) →
@@ -331,12 +308,8 @@ module _ (A : Type 0) (B : ℕ → Type 0) where
   busy-turned : (s : SubchannelState) (h : HoldState) (phase : HoldPhase) (u : ℕ) → (B u → A) → Waits A B (record s { hold = record h { phase = phase } }) →
       Turned A B (record s { hold = record h { phase = phase } })
       (by_hold (record s { hold = record h { phase = phase } }) (found_busy (record h { phase = phase }) phase u)).state
-  busy-turned s h hold.Free u f k = same-turned A B _ k
   busy-turned s h (hold.Offer t q) u f k = busy-if s h t q u (u == t) refl f k
-  busy-turned s h (hold.On t q d) u f k = same-turned A B _ k
-  busy-turned s h (hold.Away t) u f k = same-turned A B _ k
-  busy-turned s h (hold.Letting t q) u f k = same-turned A B _ k
-  busy-turned s h (hold.Reset r) u f k = same-turned A B _ k
+  busy-turned s h other u f k = same-turned A B _ k
 
   -- Data
   move-turned : (storage : Contents) (s : SubchannelState) (b : Option ActiveProgram) (signal : DataSignal) (load : Load) → s.begun ≡ b → Waits A B s →

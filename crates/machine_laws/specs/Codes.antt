@@ -5,41 +5,18 @@ use Rattle.channel_reports.specs.Queue as reports
 use Rattle.interruptions.specs.Requests as requests
 use Rattle.scsw_irb.specs.declared.serials.Serials.{Serials}
 use Rattle.chan_model.specs.declared.answer.Answer.{Answer}
-use Rattle.chan_model.specs.declared.answer.ConditionCode.{ConditionCode}
 use Rattle.chan_model.specs.ConditionCodes.{answer_of_code, rchp_code}
 use Rattle.chan_events.specs.Events.{Event}
 use Rattle.chan_events.specs.declared.event.Event.TheVariants as event
-use Rattle.chan_events.specs.declared.event.Instruction.{Instruction}
-use Rattle.chan_events.specs.declared.event.Instruction.TheVariants as instruction
 use Rattle.chan_events.specs.declared.event.OtherInstruction.TheVariants as other
 use Rattle.chan_events.specs.Replies.{Reply}
 use Rattle.chan_events.specs.declared.reply.Reply.TheVariants as reply
 use Rattle.subchannel_model.specs.declared.state.Subchannel.{Subchannel}
-use Rattle.subchannel_model.specs.declared.status.Condition.{Condition}
-use Rattle.subchannel_model.specs.Cancel.{xsch_code}
-use Rattle.subchannel_model.specs.Clear.{csch_code}
 use Rattle.subchannel_model.specs.Conditions.{condition_of}
-use Rattle.subchannel_model.specs.Halt.{hsch_code}
-use Rattle.subchannel_model.specs.Modify.{msch_code}
-use Rattle.subchannel_model.specs.Resume.{rsch_code}
-use Rattle.subchannel_model.specs.Start.{ssch_code}
-use Rattle.subchannel_model.specs.Store.{stsch_code}
-use Rattle.subchannel_model.specs.Test.{tsch_code}
 use Rattle.machine_model.specs.InstructionSteps.{subchannel_word}
 use Rattle.machine_model.specs.OtherSteps.{is_up}
 use Rattle.machine_model.specs.State.{State, sub_of}
-
--- the column of an instruction; enabling is a MODIFY
-abbrev pub code_by : Instruction → Condition → ConditionCode
-code_by (instruction.Ssch word address) c = ssch_code c
-code_by (instruction.Tsch word address) c = tsch_code c
-code_by (instruction.Stsch word address) c = stsch_code c
-code_by (instruction.Msch word address) c = msch_code c
-code_by (instruction.Enable word subclass multipath) c = msch_code c
-code_by (instruction.Rsch word) c = rsch_code c
-code_by (instruction.Hsch word) c = hsch_code c
-code_by (instruction.Csch word) c = csch_code c
-code_by (instruction.Xsch word) c = xsch_code c
+use Rattle.step_laws.specs.Codes.{code_by}
 
 abbrev pub serials_of : Option Subchannel → Serials
 serials_of None = record { made = 0; cleared = 0 }

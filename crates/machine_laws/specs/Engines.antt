@@ -1,6 +1,6 @@
 -- What holds of the engines of channel paths: one subchannel for an engine, and one engine for a subchannel (SA22-7832, chapter 15,
 -- the active allegiance).
-use Rattle.std.specs.Prelude.{◌≡◌, ℕ, true, Some, slice_get}
+use Rattle.std.specs.Prelude.{◌≡◌, ℕ, true, List, Some, slice_get}
 use Rattle.chan_model.specs.declared.names.Side.{Side}
 use Rattle.chan_model.specs.declared.unit_state.UnitState.{UnitState}
 use Rattle.chan_model.specs.Agreement.{device_path}
@@ -11,10 +11,13 @@ use Rattle.subchannel_model.specs.Choosing.{engages}
 use Rattle.subchannel_model.specs.Store.{available_paths}
 use Rattle.machine_model.specs.State.{State}
 
+-- the engine of a channel path serves one of the subchannels at most
+abbrev pub IsAlone : ℕ → List Subchannel → Type 0
+IsAlone chpid subs = (i j : ℕ) (x y : Subchannel) → slice_get subs i ≡ Some x → slice_get subs j ≡ Some y → engages chpid x ≡ true →
+    engages chpid y ≡ true → i ≡ j
+
 pub record IsOnePath (s : State) : Type 0 where
-  -- the engine of a channel path serves one subchannel at most
-  pub subchannel : (chpid i j : ℕ) (x y : Subchannel) → slice_get s.subs i ≡ Some x → slice_get s.subs j ≡ Some y → engages chpid x ≡ true →
-      engages chpid y ≡ true → i ≡ j
+  pub subchannel : (chpid : ℕ) → IsAlone chpid s.subs
   -- a subchannel has one engine at most that serves it
   pub engine : (place c d : ℕ) (x : Subchannel) → slice_get s.subs place ≡ Some x → engages c x ≡ true → engages d x ≡ true → c ≡ d
   -- that engine is of a path that is available

@@ -1,6 +1,6 @@
 //! What holds of the channel paths of every run: theorems over the definitions of the machine alone.
 
-ghost use Rattle.std.specs.Prelude.{List};
+ghost use Rattle.std.specs.Prelude.{ℕ, List};
 ghost use Rattle.chan_events.specs.Events.{Event};
 ghost use Rattle.chan_events.specs.declared.reply.Entry.{Entry};
 ghost use Rattle.chan_events.specs.Replies.{Reply};
@@ -8,16 +8,18 @@ ghost use Rattle.channel_config.specs.Lawful.{IsLawful};
 ghost use Rattle.channel_config.specs.Setup.{Setup};
 ghost use Rattle.machine_model.specs.State.{State, opening_of};
 ghost use Rattle.machine_model.specs.Steps.{Step, Run};
-ghost use Rattle.machine_laws.specs.Engines.{IsOnePath};
+ghost use Rattle.machine_laws.specs.Engines.{IsAlone, IsOnePath};
 ghost use Rattle.machine_laws.specs.Returns.{OffersOnDedicated, ReturnsByFirst};
 ghost use Rattle.machine_laws.specs.Shown.{AreShown};
 
 use step_laws::walks;
 
 /// After each run of a lawful set-up each engine serves one subchannel at most, each subchannel is served by one engine at
-/// most, that of a path that is available, and each device moves data by one path at most (SA22-7832, chapter 15).
+/// most, that of a path that is available, and each device moves data by one path at most (SA22-7832, chapter 15). An engine
+/// that serves one subchannel at most does so after each step, whatever led to the state.
 pub fn engines()
     ensures one { (setup : Setup) (h : List Entry) (s : State) → IsLawful setup → Run (opening_of setup) h s → IsOnePath s }
+    ensures alone { (s : State) (e : Event) (r : Reply) (new : State) (chpid : ℕ) → Step s e r new → IsAlone chpid s.subs → IsAlone chpid new.subs }
 {
     walks();
 }

@@ -1,5 +1,6 @@
 mod Posted
 mod Lifting
 pub mod Storing
+mod Serving
 mod Sweeping
 mod Choosable

@@ -1,9 +1,8 @@
 -- What an event does at one subchannel, as what it does to the whole.
-use Rattle.std.proofs.Common.{◌≡◌, refl, sym, ◌∙◌, ap, subst, ℕ, ◌+◌, ◌<◌, ◌≤◌, zero, suc, true, false, Option, None, Some, Result, Ok, Err, List, [], ◌∷◌, length, slice_index_or, Bool, nat_lt, if◌then◌else◌, arith}
-use Rattle.std.specs.Prelude.{◌^◌, slice_get, slice_set, slice_index, All, IfSome}
+use Rattle.std.proofs.Common.{◌≡◌, refl, sym, ◌∙◌, ap, subst, ℕ, ◌<◌, zero, suc, true, false, Option, None, Some, Result, Ok, Err, List, [], ◌∷◌, length, slice_index_or, Bool, nat_lt, if◌then◌else◌, arith}
+use Rattle.std.specs.Prelude.{slice_get, slice_set, All}
 use Rattle.std.proofs.lemmas.List.{set-get_or}
 use Rattle.std.proofs.lemmas.List.Elements.{All-get_or}
-use Rattle.std.proofs.lemmas.List.Sums.{count_by-le-length}
 use Rattle.std.proofs.lemmas.Option.{same_Some}
 use Rattle.storage_keys.specs.Storage.{Contents}
 use Rattle.control_units.specs.declared.Member.{Member}
@@ -33,7 +32,7 @@ use Rattle.wires.specs.Queues.{queue}
 use Rattle.machine_model.specs.State.{State, place_of, found_of, sub_of, with_sub, state_with_unit}
 use Rattle.subchannel_model.proofs.Named.{found_with}
 use Rattle.subchannel_model.specs.Places.{Found, found_at, place_in, reached_in, sub_at, place_of_id}
-use Rattle.subchannel_model.specs.Choosing.{chosen, engages, marked_sub, paths_to_choose}
+use Rattle.subchannel_model.specs.Choosing.{chosen, marked_sub, paths_to_choose}
 use Rattle.machine_model.specs.Ruled.{RulesAt, GoesByRule}
 use Rattle.machine_model.proofs.Named.{outcome_of}
 use Rattle.machine_model.specs.Turns.{Outcome, SubTurn, UpTurn, DownTurn, SharedTurn, does, at_sub, at_storage, at_unit}
@@ -59,8 +58,6 @@ use Rattle.machine_model.specs.InstructionSteps.{Executes_at, subchannel_word}
 use Rattle.machine_model.proofs.Named.{Executes_on}
 use Rattle.io_step.specs.Executing.{Executed_absent}
 use Rattle.io_step.specs.Performing.{Lent, Performed, Comes, lent}
-use Rattle.finding.specs.Tables.{Counts, one, engaged}
-use Rattle.finding.proofs.Changing.{counts-some, counts-changed, counts-kept}
 
 -- an element that stands at a place
 pub at_place : {A : Type 0} (xs : List A) (i : ℕ) (x d : A) → i < length xs → x ≡ slice_index_or xs i d → slice_get xs i ≡ Some x
@@ -81,7 +78,7 @@ pub record StandsAt (subs : List Subchannel) (place : ℕ) (sub : Subchannel) : 
 pub at_seen : (subs seen : List Subchannel) (place : ℕ) (sub : Subchannel) → subs ≡ seen → place < length seen → sub ≡ slice_index_or subs place sub → StandsAt subs place sub
 at_seen subs seen place sub same bound there = record { within = subst (λ (xs : List Subchannel). place < length xs) (sym same) bound; there = there }
 
-gets : (subs : List Subchannel) (place : ℕ) (sub : Subchannel) → StandsAt subs place sub → slice_get subs place ≡ Some sub
+pub gets : (subs : List Subchannel) (place : ℕ) (sub : Subchannel) → StandsAt subs place sub → slice_get subs place ≡ Some sub
 gets subs place sub at = at_place subs place sub sub at.within at.there
 
 -- a word names a place, where what is seen of the machine has it so
@@ -460,24 +457,3 @@ pub postable-at : (subs : List Subchannel) (place : ℕ) (sub new : Subchannel) 
 postable-at subs place sub new numbers stands all same is =
     let here : IsPostable sub = subst IsPostable (sym stands.there) (All-get_or IsPostable subs place sub stands.within all) in
     subst (λ (n : ℕ). new.setup.id.number < n) (sym is) (subst (λ (x : SubchannelSetup). x.id.number < 0x100) (sym same) here)
-
--- what the engines count is no more than there are subchannels
-pub counted-room : (engines : List ℕ) (subs : List Subchannel) → Counts engines subs → length subs < 2 ^ 63 → (chpid : ℕ) → chpid < 0x100 → slice_index engines chpid < 2 ^ 63
-counted-room engines subs counted short chpid small = omega (arith, counted chpid small, count_by-le-length (engages chpid) subs, short)
-
--- as a subchannel that stands at a place is counted out and in
-pub counted-out : (engines : List ℕ) (subs : List Subchannel) (place : ℕ) (sub : Subchannel) (before : Option ℕ) → StandsAt subs place sub → Counts engines subs →
-    before ≡ engaged sub → IfSome before (λ c. c < 0x100) → IfSome before (λ c. 1 ≤ slice_index engines c)
-counted-out engines subs place sub before stands counted was small =
-    counts-some engines subs place sub before stands.within counted (was ∙ ap engaged stands.there) small
-
-pub counted-in : (engines later : List ℕ) (subs : List Subchannel) (place : ℕ) (sub new : Subchannel) (before after : Option ℕ) → StandsAt subs place sub → Counts engines subs →
-    before ≡ engaged sub → after ≡ engaged new → ((c : ℕ) → c < 0x100 → slice_index later c + one before c ≡ slice_index engines c + one after c) →
-    Counts later (slice_set subs place new)
-counted-in engines later subs place sub new before after stands counted was is change =
-    counts-changed engines later subs place new sub before after stands.within counted (was ∙ ap engaged stands.there) is change
-
--- the same where it engages what it did
-pub counted-still : (engines : List ℕ) (subs : List Subchannel) (place : ℕ) (sub new : Subchannel) → StandsAt subs place sub → Counts engines subs →
-    engaged new ≡ engaged sub → Counts engines (slice_set subs place new)
-counted-still engines subs place sub new stands counted same = counts-kept engines subs place new sub stands.within counted (same ∙ ap engaged stands.there)

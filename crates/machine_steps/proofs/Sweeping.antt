@@ -1,6 +1,6 @@
 -- What an event does to every subchannel, one after the other.
 use Rattle.std.proofs.Common.{◌≡◌, refl, sym, ◌∙◌, ap, subst, ℕ, ◌+◌, ◌<◌, zero, suc, Bool, true, false, Option, None, Some, List, [], ◌∷◌, ◌++◌, length, map, take, drop, slice_index_or, if◌then◌else◌, arith}
-use Rattle.std.specs.Prelude.{All, IfSome}
+use Rattle.std.specs.Prelude.{All}
 use Rattle.std.proofs.lemmas.List.Elements.{All-get_or}
 use Rattle.control_units.proofs.MapInPlace.{not_yet}
 use Rattle.interruptions.specs.Requests.{WaitingRequests, posted, stands}
@@ -71,8 +71,3 @@ numbers-if false w request = refl
 
 pub numbers-stay : (old new : Subchannel) (w : WaitingRequests) → (posted_for old new w).numbers ≡ w.numbers
 numbers-stay old new w = numbers-if (makes_status old new) w (request_of new)
-
--- where one is counted, its engine's count is one at least
-pub some-counted : (P : ℕ → Type 0) (chpid : Option ℕ) → ((c : ℕ) → chpid ≡ Some c → c < 0x100 → P c) → IfSome chpid (λ c. c < 0x100) → IfSome chpid P
-some-counted P None f small = tt
-some-counted P (Some c) f small = f c refl small

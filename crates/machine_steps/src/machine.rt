@@ -23,10 +23,11 @@ use channel_config::names::subchannel_named;
 use channel_reports::Reports;
 use control_units::sharing::Sharing;
 use event_log::logs::Log;
-use finding::engines::{Counted, Engines, engaged};
+use finding::engines::{Engines, Served, engaged};
 use finding::tables::Places;
 use interruptions::Pending;
 use io_step::{ChannelPaths, PathTable, execute_absent, perform_other, perform_provided};
+use machine_laws::paths::engines;
 use path_select::PathChoice;
 use scsw_irb::serials::Serials;
 use std::marker::Model;
@@ -79,7 +80,7 @@ pub struct Machine {
 impl Model for Machine {
     ghost use Rattle.std.specs.Prelude.{◌≤◌, length};
     ghost use Rattle.machine_model.specs.State.{State};
-    ghost use Rattle.finding.specs.Tables.{Counts};
+    ghost use Rattle.finding.specs.Tables.{Serves};
 
     ghost Value = { State };
 
@@ -95,7 +96,7 @@ impl Model for Machine {
       reports = m.reports;
     } };
 
-    ghost invariant = { λ m. Counts m.engines m.subs.items × (length m.units.items ≤ 0x10000) };
+    ghost invariant = { λ m. Serves m.engines m.subs.items × (length m.units.items ≤ 0x10000) };
 }
 
 impl Machine {
@@ -149,6 +150,7 @@ impl Machine {
         requires requests { self.old.requests.numbers ≡ 0x100 }
         ensures { spec.Performs self.old (event_spec.Execute cpu instruction.now) (plain_outcome result) self.new }
     {
+        engines();
         let instruction = *instruction;
         let Some(id) = subchannel_named(self.sets, word_of(instruction)) else {
             return Err(Fault::Operand);
@@ -162,7 +164,7 @@ impl Machine {
         let answer = perform_provided(&mut self.storage, sub, &mut self.pending, cpu, instruction);
         post(&mut self.pending, sub, made);
         let after = engaged(sub);
-        self.engines.change(before, after);
+        self.engines.change(place, before, after);
         answer
     }
 
@@ -174,10 +176,10 @@ impl Machine {
     ) -> Result<PlainReply, Fault>
         ensures { spec.Performs self.old (event_spec.ExecuteOther cpu instruction) (plain_outcome result) self.new }
     {
-        let counted = Counted::of(self.subs.as_slice(), &self.engines);
+        let served = Served::of(self.subs.as_slice(), &self.engines);
         let paths = ChannelPaths {
             up: self.up,
-            engaged: engaged_for(&counted, instruction),
+            engaged: engaged_for(&served, instruction),
         };
         perform_other(
             &mut self.storage,
@@ -203,11 +205,12 @@ impl Machine {
         ensures performs { spec.Performs self.old (event_spec.Choose word) (plain_outcome result) self.new }
         ensures ruled { GoesByRule P.picks self.old (event_spec.Choose word) (plain_outcome result) self.new }
     {
+        engines();
         let Some(place) = self.place_of(places, word) else {
             return Err(Fault::NoSuchSubchannel);
         };
-        let counted = Counted::of(self.subs.as_slice(), &self.engines);
-        let paths = paths_to_choose(&counted, &self.subs[place]);
+        let served = Served::of(self.subs.as_slice(), &self.engines);
+        let paths = paths_to_choose(&served, &self.subs[place]);
         let sub = &mut self.subs[place];
         let path = choice.choose(&paths, sub.state.last_path);
         let what = chosen(sub, path);
@@ -215,7 +218,7 @@ impl Machine {
         let made = sub.state.serials.made;
         let answer = choose_sub(sub, &path, what);
         let after = engaged(sub);
-        self.engines.change(before, after);
+        self.engines.change(place, before, after);
         post(&mut self.pending, sub, made);
         answer
     }
@@ -232,21 +235,22 @@ impl Machine {
         ensures kept { IsKept log.old log.new }
         ensures refused { OnErr result (log.new ≡ log.old) }
     {
+        engines();
         let Some(place) = self.place_of(places, word) else {
             return Err(Fault::NoSuchSubchannel);
         };
         let Some(path) = path_of(&self.subs[place], path) else {
             return Err(Fault::NoSuchPath);
         };
-        let counted = Counted::of(self.subs.as_slice(), &self.engines);
-        let returns = returns_at(&counted, &self.subs[place], path);
+        let served = Served::of(self.subs.as_slice(), &self.engines);
+        let returns = returns_at(&served, &self.subs[place], path);
         let sub = &mut self.subs[place];
         let before = engaged(sub);
         let made = sub.state.serials.made;
         let answer = up_sub(&mut self.storage, sub, path, returns, &mut self.sent, log);
         post(&mut self.pending, sub, made);
         let after = engaged(sub);
-        self.engines.change(before, after);
+        self.engines.change(place, before, after);
         answer
     }
 

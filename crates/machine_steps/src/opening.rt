@@ -203,7 +203,7 @@ pub fn opened_machine<S: Supply>(
 {
     let (places, units, subs) = opened_sides(alloc, supply, config)?;
     let (storage, chpids, sharing, pending) = opened_rest(alloc, supply, config)?;
-    let engines = Engines::of(subs.as_slice());
+    let engines = Engines::new();
     let machine = Machine {
         storage,
         sets: config.set_count(),

@@ -1,8 +1,8 @@
 //! Channel paths that go down, come up and are reset, and the reset of the channel subsystem.
 
-ghost use Rattle.std.specs.Prelude.{◌≡◌, ◌+◌, ◌<◌, ◌≤◌, ◌^◌, ℕ, All, Some, map, slice_index};
+ghost use Rattle.std.specs.Prelude.{◌≡◌, ◌<◌, All, map};
 ghost use Rattle.chan_events.specs.declared.event.Event.TheVariants as event_spec;
-ghost use Rattle.finding.specs.Tables.{Counts, engaged as engaged_by, one};
+ghost use Rattle.finding.specs.Tables.{Serves, engaged as engaged_by, served_at};
 ghost use Rattle.machine_model.specs.Bounds.{IsRoomy};
 ghost use Rattle.machine_model.specs.PathSteps as path_spec;
 ghost use Rattle.machine_model.specs.Requests as requests_spec;
@@ -47,23 +47,26 @@ fn sweep(sub: &mut Subchannel, what: Sweep)
     }
 }
 
-/// What befalls all subchannels befalls one: its request is posted, and its engine is counted.
-fn sweep_one(sub: &mut Subchannel, pending: &mut Pending, engines: &mut Engines, what: Sweep)
+/// What befalls all subchannels befalls the one at this place: its request is posted, and its engine goes by it.
+fn sweep_one(
+    sub: &mut Subchannel,
+    place: usize,
+    pending: &mut Pending,
+    engines: &mut Engines,
+    what: Sweep,
+)
     requires roomy { IsRoomy sub.old }
     requires postable { sub.old.setup.id.number < pending.old.numbers }
-    requires some { (c : ℕ) → engaged_by sub.old ≡ Some c → c < 0x100 → 1 ≤ slice_index engines.old c }
-    requires room { (c : ℕ) → c < 0x100 → slice_index engines.old c < 2 ^ 63 }
     ensures swept { sub.new ≡ path_spec.swept what sub.old }
     ensures posted { pending.new ≡ requests_spec.posted_for sub.old sub.new pending.old }
-    ensures counted { (c : ℕ) → c < 0x100 →
-        slice_index engines.new c + one (engaged_by sub.old) c ≡ slice_index engines.old c + one (engaged_by sub.new) c }
+    ensures served { engines.new ≡ served_at place (engaged_by sub.old) (engaged_by sub.new) engines.old }
 {
     let before = engaged(sub);
     let made = sub.state.serials.made;
     sweep(sub, what);
     post(pending, sub, made);
     let after = engaged(sub);
-    engines.change(before, after);
+    engines.change(place, before, after);
 }
 
 /// What befalls all subchannels, in the order of their configuration.
@@ -71,14 +74,14 @@ fn sweep_all(subs: &mut Vec<Subchannel>, pending: &mut Pending, engines: &mut En
     requires roomy { All IsRoomy subs.old.items }
     requires postable { All IsPostable subs.old.items }
     requires numbers { pending.old.numbers ≡ 0x100 }
-    requires counted { Counts engines.old subs.old.items }
+    requires served { Serves engines.old subs.old.items }
     ensures swept { subs.new.items ≡ map (path_spec.swept what) subs.old.items }
     ensures posted { pending.new ≡
         requests_spec.posted_all subs.old.items (map (path_spec.swept what) subs.old.items) pending.old }
-    ensures counted { Counts engines.new subs.new.items }
+    ensures served { Serves engines.new subs.new.items }
 {
-    for sub in subs.iter_mut() {
-        sweep_one(sub, pending, engines, what);
+    for (place, sub) in subs.iter_mut().enumerate() {
+        sweep_one(sub, place, pending, engines, what);
     }
 }
 

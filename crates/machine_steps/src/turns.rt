@@ -9,7 +9,7 @@ ghost use Rattle.subchannel_steps.specs.PathTurns as turn_spec;
 use crate::machine::Machine;
 use chan_events::event::Event;
 use chan_model::report::LentWork;
-use finding::engines::Counted;
+use finding::engines::Served;
 use finding::tables::Places;
 use machine_model::state::UnitTurn;
 use subchannel_steps::path_turns::turn_at;
@@ -22,8 +22,8 @@ impl Machine {
         ensures { result ≡ turn_spec.path_turn_of self.now word chpid }
     {
         let place = self.place_of(places, word)?;
-        let counted = Counted::of(self.subs.as_slice(), &self.engines);
-        turn_at(&counted, &self.subs[place], word, chpid)
+        let served = Served::of(self.subs.as_slice(), &self.engines);
+        turn_at(&served, &self.subs[place], word, chpid)
     }
 
     /// What a unit is to do next.

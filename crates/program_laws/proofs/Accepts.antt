@@ -251,11 +251,7 @@ module _ (laws : AreLaws) where
 
   pub accept-meets : (storage : Contents) (s : SubchannelState) (k : ProgramTrace) (u : ℕ) (phase : HoldPhase) → s.hold.phase ≡ phase → IsHeld s k → IsOffered s k →
       AcceptsBy storage s u (hold_table.offer_accepted s.hold phase u (goes_ahead s)) k
-  accept-meets storage s k u hold.Free e h o g = (refl, refl, none-counted s s k refl)
   accept-meets storage s k u (hold.Offer t q) e h o g =
       let f : IsPhase (hold.Offer t q) k.number s.begun k.sent = subst (λ (x : HoldPhase). IsPhase x k.number s.begun k.sent) e h.phase in
       offer-meets storage s k u t q (u == t) refl h (subst (λ (x : HoldPhase). IsOfferedAt x s.waiting s.suspended s.offered k) e o) f.0 f.2 g
-  accept-meets storage s k u (hold.On t p c) e h o g = (refl, refl, none-counted s s k refl)
-  accept-meets storage s k u (hold.Away t) e h o g = (refl, refl, none-counted s s k refl)
-  accept-meets storage s k u (hold.Letting t p) e h o g = (refl, refl, none-counted s s k refl)
-  accept-meets storage s k u (hold.Reset r) e h o g = (refl, refl, none-counted s s k refl)
+  accept-meets storage s k u other e h o g = (refl, refl, none-counted s s k refl)

@@ -55,10 +55,8 @@ UnlessStops (Some (advance.Stops check)) b = b ≡ true
 UnlessStops a b = b ≡ false
 
 block-checks : (r : Reading) (b : Bool) → b ≡ false → UnlessStops (block_advance r) (shows_check r || b)
-block-checks (Transfers target) b e = e
-block-checks (Takes ccw) b e = e
-block-checks Suspends b e = e
 block-checks Shows b e = refl
+block-checks other b e = e
 
 -- from the acts before to those after
 abbrev pub WentTo : Orb → List Act → List Act → Type 0
@@ -86,9 +84,7 @@ target-went storage orb before address bytes (Transfers target) e =
     (λ more. went-from role.chained (role_of orb mid).chained cs (commands orb mid) _ rs (data_areas orb mid) _ _ (role_of orb (Block target more ∷ mid)) _ same commanded reached
     (block-went (commands orb mid) (data_areas orb mid) target (role_of orb mid) (reads orb (role_of orb mid) more)))
     (λ check. (commanded, reached))
-target-went storage orb before address bytes (Takes ccw) e = block-went (commands orb before) (data_areas orb before) address (role_of orb before) (reads orb (role_of orb before) bytes)
-target-went storage orb before address bytes Suspends e = block-went (commands orb before) (data_areas orb before) address (role_of orb before) (reads orb (role_of orb before) bytes)
-target-went storage orb before address bytes Shows e = block-went (commands orb before) (data_areas orb before) address (role_of orb before) (reads orb (role_of orb before) bytes)
+target-went storage orb before address bytes other e = block-went (commands orb before) (data_areas orb before) address (role_of orb before) (reads orb (role_of orb before) bytes)
 
 at-went : (storage : Contents) (orb : Orb) (before : List Act) (n : Option ℕ) → WentTo orb before (acts_at storage (walk_place orb before) n)
 at-went storage orb before None = (refl, refl)
@@ -113,9 +109,7 @@ target-ends storage orb before address bytes (Transfers target) e h k =
     fetch_cases (λ act. EndsTo orb before (act ∷ Block address bytes ∷ [])) storage orb (role_of orb mid) target
     (λ more. ((unchecked, (h, k)), block-checks (reads orb (role_of orb mid) more) (has_check orb mid) unchecked))
     (λ check. ((unchecked, (h, k)), refl))
-target-ends storage orb before address bytes (Takes ccw) e h k = ((h, k), block-checks (reads orb (role_of orb before) bytes) (has_check orb before) h)
-target-ends storage orb before address bytes Suspends e h k = ((h, k), block-checks (reads orb (role_of orb before) bytes) (has_check orb before) h)
-target-ends storage orb before address bytes Shows e h k = ((h, k), block-checks (reads orb (role_of orb before) bytes) (has_check orb before) h)
+target-ends storage orb before address bytes other e h k = ((h, k), block-checks (reads orb (role_of orb before) bytes) (has_check orb before) h)
 
 at-ends : (storage : Contents) (orb : Orb) (before : List Act) (n : Option ℕ) → has_check orb before ≡ false → EndsAtCheck orb before →
     EndsTo orb before (acts_at storage (walk_place orb before) n)

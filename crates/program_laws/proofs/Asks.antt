@@ -15,7 +15,7 @@ use Rattle.ccw_walk.specs.declared.check.Check.{Check}
 use Rattle.ccw_walk.specs.declared.program.Advance.{Advance}
 use Rattle.ccw_walk.specs.declared.program.Advance.TheVariants as advance
 use Rattle.ccw_walk.specs.declared.program.Reading.{Reading}
-use Rattle.ccw_walk.specs.declared.program.Reading.TheVariants.{Transfers, Takes, Suspends, Shows}
+use Rattle.ccw_walk.specs.declared.program.Reading.TheVariants.{Transfers}
 use Rattle.ccw_walk.specs.declared.program.Ended.{Ended}
 use Rattle.ccw_walk.specs.Acts.{Act, Block, End, Used_up}
 use Rattle.ccw_walk.specs.Blocks.{reads}
@@ -54,9 +54,7 @@ asks_of other = 0
 
 block-asks : (n : ℕ) (r : Reading) → n + asks_by r ≡ n + asks_of (block_advance r)
 block-asks n (Transfers target) = refl
-block-asks n (Takes ccw) = refl
-block-asks n Suspends = refl
-block-asks n Shows = refl
+block-asks n other = refl
 
 abbrev AsksTo : Orb → List Act → List Act → Type 0
 AsksTo orb before acts = asked orb (acts ++ before) ≡ asked orb before + asks_of (advance_of (walk_place orb before) acts)
@@ -70,9 +68,7 @@ target-asks storage orb before address bytes (Transfers target) e =
     (λ more. block-asks (asked orb mid) (reads orb (role_of orb mid) more)
     ∙ ap (λ (n : ℕ). n + asks_of (block_advance (reads orb (role_of orb mid) more))) none)
     (λ check. none ∙ omega arith)
-target-asks storage orb before address bytes (Takes ccw) e = block-asks (asked orb before) (reads orb (role_of orb before) bytes)
-target-asks storage orb before address bytes Suspends e = block-asks (asked orb before) (reads orb (role_of orb before) bytes)
-target-asks storage orb before address bytes Shows e = block-asks (asked orb before) (reads orb (role_of orb before) bytes)
+target-asks storage orb before address bytes other e = block-asks (asked orb before) (reads orb (role_of orb before) bytes)
 
 at-asks : (storage : Contents) (orb : Orb) (before : List Act) (n : Option ℕ) → AsksTo orb before (acts_at storage (walk_place orb before) n)
 at-asks storage orb before None = omega arith
@@ -156,9 +152,7 @@ begins-asking : (storage : Contents) (orb : Orb) (n : ℕ) (acts : List Act) (wa
 begins-asking storage orb n acts walk i (Some (advance.Takes ccw)) e =
     let t : Transfer = transfer_of walk i ccw in
     room-asking storage orb n acts t (brings (class_of t.code)) (taken-asking n (asked orb acts) ccw.program_controlled e)
-begins-asking storage orb n acts walk i (Some advance.Suspends) e = omega (arith, e)
-begins-asking storage orb n acts walk i (Some (advance.Stops check)) e = omega (arith, e)
-begins-asking storage orb n acts walk i None e = omega (arith, e)
+begins-asking storage orb n acts walk i other e = omega (arith, e)
 
 pub goes-asking : (storage : Contents) (orb : Orb) (before : List Act) (i : ℕ) →
     BeginsAsking storage (asked orb before) (asked orb (goes_acts storage i (walk_place orb before) ++ before)) (goes_to storage i (walk_place orb before)).came

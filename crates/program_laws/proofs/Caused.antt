@@ -40,13 +40,11 @@ waiting-kept s (Some p) = record { hold = refl; drawn = refl }
 programs-kept : (s : SubchannelState) (c : StatusCause) → IsHoldKept s (row_of s c).left
 programs-kept s (cause.End b status more) = end-kept s b (is_last_end status)
 programs-kept s (cause.FetchFault tried check count) = begun-kept s s.begun
-programs-kept s cause.Attention = record { hold = refl; drawn = refl }
 programs-kept s cause.NoPath = waiting-kept s s.waiting
-programs-kept s cause.InterfaceControlCheck = record { hold = refl; drawn = refl }
 programs-kept s (cause.Pci tried count) = same-kept s
 programs-kept s (cause.Suspension tried count) = same-kept s
 programs-kept s cause.ClearDone = same-kept s
-programs-kept s cause.HaltDone = record { hold = refl; drawn = refl }
+programs-kept s other = record { hold = refl; drawn = refl }
 
 pub cause-kept : (s : SubchannelState) (c : StatusCause) → IsHoldKept s (with_cause s c)
 cause-kept s c = let k : IsHoldKept s (row_of s c).left = programs-kept s c in record { hold = k.hold; drawn = k.drawn }

@@ -233,11 +233,7 @@ module _ (laws : AreLaws) (accesses : AreAccesses) where
   -- the program is connected under its number
   on-number : (phase : HoldPhase) (u n sent : ℕ) (b : Option ActiveProgram) → is_on phase u ≡ true → IsPhase phase n b sent → u ≡ n
   on-number (hold.On t p c) u n sent b e k = eqb-true u t e ∙ k
-  on-number hold.Free u n sent b e k = absurd (cc e)
-  on-number (hold.Offer t p) u n sent b e k = absurd (cc e)
-  on-number (hold.Away t) u n sent b e k = absurd (cc e)
-  on-number (hold.Letting t p) u n sent b e k = absurd (cc e)
-  on-number (hold.Reset r) u n sent b e k = absurd (cc e)
+  on-number other u n sent b e k = absurd (cc e)
 
   end-by : (storage : Contents) (s : SubchannelState) (k : ProgramTrace) (signal : EndSignal) (x : Bool) → is_on s.hold.phase signal.number ≡ x → IsHeld s k →
       EndBy storage s signal (if x then taking.end_of storage s s.begun signal else taking.ignoring s) k

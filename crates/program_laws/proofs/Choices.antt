@@ -234,16 +234,8 @@ takes-if s k code true h = untaken-held s k (code ∷ k.taken) [] h
 takes-if s k code false h = h
 
 takes-held : (s : SubchannelState) (d : Down) (k : ProgramTrace) → IsKept s k → IsKept s (takes d k)
-takes-held s (down.Select t) k h = h
 takes-held s (down.Command t n code room) k h = takes-if s k code (t == k.number) h
-takes-held s (down.Grant t c) k h = h
-takes-held s (down.Refuse t c) k h = h
-takes-held s (down.Took t n seq room) k h = h
-takes-held s (down.Give bytes t c n seq) k h = h
-takes-held s (down.Halt t) k h = h
-takes-held s (down.Release t) k h = h
-takes-held s (down.Reset r b) k h = h
-takes-held s (down.Got a) k h = h
+takes-held s d k h = h
 
 taken-held : (s : SubchannelState) (d : Down) (came : Bool) (sent : Option (OnPath Up)) (k : Option ProgramTrace) → KeptBy s k → KeptBy s (taken_at (reply.Down d came sent) k)
 taken-held s d false sent k h = h
@@ -278,11 +270,8 @@ report-if s count x k true h = absorbs-held s count x k h
 report-if s count x k false h = h
 
 reported-held : (s : SubchannelState) (u : UnitState) (report : Report) (a : DeviceAnswer) (k : ProgramTrace) → IsKept s k → IsKept s (reported u report a k)
-reported-held s u report answer.Begins k h = h
 reported-held s u report (answer.Absorbed count) k h = report-if s count u.at_hand k (report.number == k.number) h
-reported-held s u report (answer.Supplied bytes) k h = h
-reported-held s u report answer.Again k h = h
-reported-held s u report (answer.Ended status more) k h = h
+reported-held s u report other k h = h
 
 reported_at-held : (s : SubchannelState) (u : UnitState) (report : Report) (k : Option ProgramTrace) → KeptBy s k → KeptBy s (reported_at (Some u) report k)
 reported_at-held s u report None h = h
@@ -311,11 +300,8 @@ noticed-untold s c false u = u
 
 pub unheld-by : (P : HoldPhase → Type 0) (phase : HoldPhase) (drawn : ℕ) → IsUnheld phase drawn → P hold.Free → ((r : ℕ) → P (hold.Reset r)) → P phase
 unheld-by P hold.Free drawn u x y = x
-unheld-by P (hold.Offer t p) drawn u x y = absurd u
-unheld-by P (hold.On t p c) drawn u x y = absurd u
-unheld-by P (hold.Away t) drawn u x y = absurd u
-unheld-by P (hold.Letting t p) drawn u x y = absurd u
 unheld-by P (hold.Reset r) drawn u x y = y r
+unheld-by P other drawn u x y = absurd u
 
 freed-if : (s : SubchannelState) (b : Bool) → IsUntold s → IsUntold (if b then with_cause s cause.ClearDone else s)
 freed-if s true u = record { phase = u.phase; begun = u.begun; suspended = u.suspended }

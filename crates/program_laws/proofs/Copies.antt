@@ -134,11 +134,7 @@ module _ (accesses : AreAccesses) where
 
   accepted-copied : (storage : Contents) (phase : HoldPhase) (s : SubchannelState) (k : ProgramTrace) → AreCopied k → AreCopied (stories.accepted_at storage phase s k)
   accepted-copied storage (hold.On t p d) s k c = begins_as-copied storage s.waiting s.suspended s.offered k c
-  accepted-copied storage hold.Free s k c = c
-  accepted-copied storage (hold.Offer t p) s k c = c
-  accepted-copied storage (hold.Away t) s k c = c
-  accepted-copied storage (hold.Letting t p) s k c = c
-  accepted-copied storage (hold.Reset r) s k c = c
+  accepted-copied storage other s k c = c
 
   accept-if : (storage : Contents) (s : SubchannelState) (step : Option HoldStep) (k : ProgramTrace) (b : Bool) → AreCopied k →
       AreCopied (if b then stories.accepted_at storage (hold_after s.hold step).phase s k else k)
@@ -191,10 +187,4 @@ module _ (accesses : AreAccesses) where
       accept-if storage s step k (came_of step).taken c
   meets-copied storage s p (up.Data load t d n seq) k c = data-if storage s n seq load k (is_connected s.hold.phase p t d) c
   meets-copied storage s p (up.End t n status more) k c = on-if storage s n status more k (is_on s.hold.phase t) c
-  meets-copied storage s p (up.Busy t) k c = c
-  meets-copied storage s p (up.Leave t d) k c = c
-  meets-copied storage s p (up.Back t d) k c = c
-  meets-copied storage s p (up.Released t) k c = c
-  meets-copied storage s p (up.Cleared r) k c = c
-  meets-copied storage s p (up.Notice b) k c = c
-  meets-copied storage s p (up.Attn a status) k c = c
+  meets-copied storage s p x k c = c

@@ -144,12 +144,8 @@ module _ (laws : AreLaws) (accesses : AreAccesses) where
 
   connected-number : (phase : HoldPhase) (signal : DataSignal) (n : ℕ) (b : Option ActiveProgram) (sent : ℕ) → is_connected phase signal.path signal.number signal.connection ≡ true →
       IsPhase phase n b sent → signal.number ≡ n
-  connected-number hold.Free signal n b sent e k = absurd (cc e)
-  connected-number (hold.Offer t p) signal n b sent e k = absurd (cc e)
   connected-number (hold.On t p c) signal n b sent e k = eqb-true signal.number t (and-left _ _ e) ∙ k
-  connected-number (hold.Away t) signal n b sent e k = absurd (cc e)
-  connected-number (hold.Letting t p) signal n b sent e k = absurd (cc e)
-  connected-number (hold.Reset r) signal n b sent e k = absurd (cc e)
+  connected-number other signal n b sent e k = absurd (cc e)
 
   -- a Data
   abbrev DataBy : Contents → SubchannelState → DataSignal → Load → Met → ProgramTrace → ProgramTrace → Type 0

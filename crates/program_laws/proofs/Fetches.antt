@@ -11,7 +11,7 @@ use Rattle.ccw_walk.specs.declared.check.Check.{Check}
 use Rattle.ccw_walk.specs.declared.check.Check.TheVariants.{Program}
 use Rattle.ccw_walk.specs.declared.program.Ended.{Ended}
 use Rattle.ccw_walk.specs.declared.program.Reading.{Reading}
-use Rattle.ccw_walk.specs.declared.program.Reading.TheVariants.{Transfers, Takes, Suspends, Shows}
+use Rattle.ccw_walk.specs.declared.program.Reading.TheVariants.{Transfers}
 use Rattle.ccw_walk.specs.Acts.{Act, Block, Unfetched, Used_up, End}
 use Rattle.ccw_walk.specs.Blocks.{reads}
 use Rattle.ccw_walk.specs.Programs.{IsProgram, role_of, next, commands}
@@ -75,9 +75,7 @@ target-fetched : (storage : Contents) (orb : Orb) (before : List Act) (address :
     AreFetched storage orb before (with_target storage (after_block (walk_place orb before) address bytes) r (Block address bytes ∷ []))
 target-fetched storage orb before address bytes (Transfers target) e =
     (fetch-fetched storage orb (Block address bytes ∷ before) target, (e, tt))
-target-fetched storage orb before address bytes (Takes ccw) e = (e, tt)
-target-fetched storage orb before address bytes Suspends e = (e, tt)
-target-fetched storage orb before address bytes Shows e = (e, tt)
+target-fetched storage orb before address bytes other e = (e, tt)
 
 from-by : (storage : Contents) (orb : Orb) (before : List Act) (address : ℕ) (test : Bool) (answer : Result (List ℕ) StorageFault) →
     ((role_of orb before).first && is_program_misplaced orb address) ≡ test → fetched storage orb.key address 8 ≡ answer →

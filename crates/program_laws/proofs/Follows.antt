@@ -1,5 +1,5 @@
 -- What is told of the program of a place goes on in each step by what is seen.
-use Rattle.std.proofs.Common.{◌≡◌, refl, sym, ◌∙◌, ap, subst, ℕ, Bool, false, length, Option, Some, None, Result, Ok, Err}
+use Rattle.std.proofs.Common.{◌≡◌, refl, sym, ◌∙◌, ap, subst, ℕ, Bool, false, length, Option, Some, None, Result, Err}
 use Rattle.std.specs.Prelude.{if◌then◌else◌, nat_lt, slice_get, slice_set, IfOk}
 use Rattle.std.proofs.lemmas.Bool.{eqb-true, eqb-false}
 use Rattle.storage_keys.specs.Storage.{Contents}
@@ -17,16 +17,12 @@ use Rattle.chan_events.specs.declared.reply.Reply.TheVariants as reply
 use Rattle.wires.specs.Queues.{queue}
 use Rattle.subchannel_model.specs.declared.state.Subchannel.{Subchannel}
 use Rattle.subchannel_model.specs.declared.state.SubchannelState.{SubchannelState}
-use Rattle.subchannel_model.proofs.Named.{found_with}
-use Rattle.subchannel_model.specs.Places.{found_at}
 use Rattle.subchannel_model.specs.Sending.{carried_by, finds_full}
 use Rattle.subchannel_model.specs.Taking.{Met, meets, ignoring, goes_ahead, accept, move_data, end_of, takes_up}
-use Rattle.machine_model.proofs.Named.{requests_settled}
-use Rattle.machine_model.specs.Requests.{settled}
 use Rattle.machine_model.specs.State.{State, place_of, with_sub}
 use Rattle.machine_model.specs.Steps.{Step}
-use Rattle.machine_model.specs.Turns.{Turn, UpTurn, Outcome, at_storage, does}
-use Rattle.machine_model.specs.UpSteps.{returns_at, up_front, up_sub, up_at}
+use Rattle.machine_model.specs.Turns.{Turn, UpTurn}
+use Rattle.machine_model.specs.UpSteps.{returns_at, up_front, up_sub}
 use Rattle.step_laws.proofs.Places.{get-set, get-other}
 use Rattle.program_laws.specs.Traces.{ProgramTrace}
 use Rattle.chan_model.specs.ResetCauses.{is_path}
@@ -47,6 +43,9 @@ use Rattle.program_laws.proofs.OfferRuns.{OfferedBy}
 use Rattle.program_laws.proofs.StatusCounts.{none-counted, none-left, of-program, cleared-zero, noticed-shows, attended-left}
 use Rattle.program_laws.proofs.StepCounts.{walk-shows}
 use Rattle.program_laws.proofs.UnitActs.{if-ok}
+use Rattle.interruptions.specs.Requests.{WaitingRequests}
+use Rattle.step_laws.proofs.Turns as turn
+use Rattle.step_laws.proofs.Turns.{TurnOf, HasTurn, step-turn}
 
 module _ (laws : AreLaws) (accesses : AreAccesses) where
   -- a signal
@@ -63,14 +62,11 @@ module _ (laws : AreLaws) (accesses : AreAccesses) where
   signal-meets returns storage s p (up.End t n status more) k h o =
       end-meets laws accesses storage s k (record { path = p; number = t; command = n; status = status; more = more }) (is_on s.hold.phase t) refl h
       (signal-held laws accesses returns storage s p (up.End t n status more) k h)
-  signal-meets returns storage s p (up.Busy t) k h o = (refl, refl, none-counted s (takes_up returns storage s p (up.Busy t)).step.state k refl)
-  signal-meets returns storage s p (up.Leave t c) k h o = (refl, refl, none-counted s (takes_up returns storage s p (up.Leave t c)).step.state k refl)
-  signal-meets returns storage s p (up.Back t c) k h o = (refl, refl, none-counted s (takes_up returns storage s p (up.Back t c)).step.state k refl)
-  signal-meets returns storage s p (up.Released t) k h o = (refl, refl, none-counted s (takes_up returns storage s p (up.Released t)).step.state k refl)
   signal-meets returns storage s p (up.Cleared r) k h o = (refl, refl, cleared-zero s s.hold.phase r)
   signal-meets returns storage s p (up.Notice b) k h o =
       (refl, refl, of-program s (takes_up returns storage s p (up.Notice b)).step.state (Some k) h (noticed-shows s b (nat_lt s.hold.known b)))
   signal-meets returns storage s p (up.Attn a status) k h o = (refl, refl, attended-left s p a status)
+  signal-meets returns storage s p x k h o = (refl, refl, none-counted s (takes_up returns storage s p x).step.state k refl)
 
   -- where nothing was offered
   unoffered : (returns : Bool) (storage : Contents) (s : SubchannelState) (p : ℕ) (signal : Up) → IsUntold s → MeetsNone storage (takes_up returns storage s p signal).storage s (takes_up returns storage s p signal).step.state signal
@@ -92,22 +88,6 @@ module _ (laws : AreLaws) (accesses : AreAccesses) where
         (λ x. IsStandingShown s (if is_on x t then end_of storage s s.begun (record { path = p; number = t; command = n; status = status; more = more }) else ignoring s).state)
         s.hold.phase s.drawn u.phase (none-left s s refl) (λ r. none-left s s refl),
   )
-  unoffered returns storage s p (up.Busy t) u = (
-    refl,
-    none-left s (takes_up returns storage s p (up.Busy t)).step.state refl,
-  )
-  unoffered returns storage s p (up.Leave t c) u = (
-    refl,
-    none-left s (takes_up returns storage s p (up.Leave t c)).step.state refl,
-  )
-  unoffered returns storage s p (up.Back t c) u = (
-    refl,
-    none-left s (takes_up returns storage s p (up.Back t c)).step.state refl,
-  )
-  unoffered returns storage s p (up.Released t) u = (
-    refl,
-    none-left s (takes_up returns storage s p (up.Released t)).step.state refl,
-  )
   unoffered returns storage s p (up.Cleared r) u = (
     refl,
     cleared-zero s s.hold.phase r,
@@ -119,6 +99,10 @@ module _ (laws : AreLaws) (accesses : AreAccesses) where
   unoffered returns storage s p (up.Attn a status) u = (
     refl,
     attended-left s p a status,
+  )
+  unoffered returns storage s p x u = (
+    refl,
+    none-left s (takes_up returns storage s p x).step.state refl,
   )
 
   -- of a program that there is, where its subchannel agrees with it
@@ -195,48 +179,18 @@ module _ (laws : AreLaws) (accesses : AreAccesses) where
           ),
         )
 
-    at_storage-goes : (word path at : ℕ) (sub : Subchannel) (r : Result UpTurn Fault) → place_of s word ≡ Some at → slice_get s.subs at ≡ Some sub →
-        IfOk r (λ t. TurnMeets s.storage sub t k (met_at s.storage (Some sub) path k)) → IfOk (at_storage s at r) (UpGoes word path)
-    at_storage-goes word path at sub (Ok t) named there m = turn-goes word path at sub t named there m
-    at_storage-goes word path at sub (Err f) named there m = tt
-
-    found-goes : (word path at : ℕ) (o : Option Subchannel) → place_of s word ≡ Some at → slice_get s.subs at ≡ o → IfOk (up_at s (found_with at o) path) (UpGoes word path)
-    found-goes word path at None named there = tt
-    found-goes word path at (Some sub) named there =
-        at_storage-goes word path at sub (up_sub (returns_at s.subs sub path) s.storage sub path) named there (up-meets (returns_at s.subs sub path) s.storage sub path k)
-
-    named-goes : (word path : ℕ) (p : Option ℕ) → place_of s word ≡ p → IfOk (up_at s (found_at s.subs p) path) (UpGoes word path)
-    named-goes word path None named = tt
-    named-goes word path (Some at) named = found-goes word path at (slice_get s.subs at) named refl
-
-    -- requests for interruptions that are settled change nothing of it
-    settled-goes : (word path : ℕ) (r : Reply) (new : State) (o : Outcome) → IfOk o (UpGoes word path) → does r new ≡ settled s (event.Up word path) o → Goes (event.Up word path) r new
-    settled-goes word path r new (Ok t) g n =
-        let same : record { reply = r; state = new } ≡ record t { state = record t.state { requests = requests_settled s (event.Up word path) t } } = cc n in
-        let is : r ≡ reply.Up g.0 g.1 g.2 = ap (λ (x : Turn). x.reply) same ∙ g.3 in
-        subst (λ (x : Reply). Goes (event.Up word path) x new) (sym is)
-        (subst (λ (x : Turn). Goes (event.Up word path) (reply.Up g.0 g.1 g.2) x.state) (sym same) g.4)
-    settled-goes word path r new (Err f) g n = absurd (cc n)
+    up-goes : (word path : ℕ) (r : Reply) (new : State) (waiting : WaitingRequests) → TurnOf s (event.Up word path) r new → Goes (event.Up word path) r (record new { requests = waiting })
+    up-goes _ _ _ _ waiting (turn.Meets word path at sub t named there ok) =
+        let g : UpGoes word path (record { reply = t.reply; state = with_sub (record s { storage = t.storage }) at t.sub }) =
+        turn-goes word path at sub t named there
+        (subst (λ (x : Result UpTurn Fault). IfOk x (λ t. TurnMeets s.storage sub t k (met_at s.storage (Some sub) path k))) ok (up-meets (returns_at s.subs sub path) s.storage sub path k)) in
+        subst (λ (x : Reply). Goes (event.Up word path) x (record (with_sub (record s { storage = t.storage }) at t.sub) { requests = waiting })) (sym g.3) g.4
 
     other-goes : (e : Event) (r : Reply) (new : State) → Step s e r new → ((word path : ℕ) → e ≡ event.Up word path → ⊥) → AtPlace place s new (λ x y. ShowsBy e x y k)
     other-goes e r new step n = walk-shows s place k held e r new (laws.walks s e r new step) n
 
     pub step-goes : (e : Event) (r : Reply) (new : State) → Step s e r new → Goes e r new
-    step-goes (event.Up word path) r new (o, w, n) =
-        settled-goes word path r new o
-        (subst (λ (x : Outcome). IfOk x (UpGoes word path)) (sym w) (named-goes word path (place_of s word) refl)) n
-    step-goes (event.Put address bytes) r new step = (refl, other-goes (event.Put address bytes) r new step (λ w p e. cc e))
-    step-goes (event.SetKey address key) r new step = (refl, other-goes (event.SetKey address key) r new step (λ w p e. cc e))
-    step-goes (event.SetPrefix cpu address) r new step = (refl, other-goes (event.SetPrefix cpu address) r new step (λ w p e. cc e))
-    step-goes (event.Show address count) r new step = (refl, other-goes (event.Show address count) r new step (λ w p e. cc e))
-    step-goes (event.Execute cpu i) r new step = (refl, other-goes (event.Execute cpu i) r new step (λ w p e. cc e))
-    step-goes (event.ExecuteOther cpu i) r new step = (refl, other-goes (event.ExecuteOther cpu i) r new step (λ w p e. cc e))
-    step-goes (event.Choose word) r new step = (refl, other-goes (event.Choose word) r new step (λ w p e. cc e))
-    step-goes (event.Down word path) r new step = (refl, other-goes (event.Down word path) r new step (λ w p e. cc e))
-    step-goes (event.Report at report) r new step = (refl, other-goes (event.Report at report) r new step (λ w p e. cc e))
-    step-goes (event.Act at what) r new step = (refl, other-goes (event.Act at what) r new step (λ w p e. cc e))
-    step-goes (event.Restart at) r new step = (refl, other-goes (event.Restart at) r new step (λ w p e. cc e))
-    step-goes (event.PathDown chpid) r new step = (refl, other-goes (event.PathDown chpid) r new step (λ w p e. cc e))
-    step-goes (event.PathUp chpid) r new step = (refl, other-goes (event.PathUp chpid) r new step (λ w p e. cc e))
-    step-goes (event.PathReset chpid) r new step = (refl, other-goes (event.PathReset chpid) r new step (λ w p e. cc e))
-    step-goes event.SystemReset r new step = (refl, other-goes event.SystemReset r new step (λ w p e. cc e))
+    step-goes (event.Up word path) r new step =
+        let is : HasTurn s (event.Up word path) r new = step-turn s (event.Up word path) r new step in
+        subst (Goes (event.Up word path) r) (sym is.settles) (up-goes word path r is.left _ is.turn)
+    step-goes v r new step = (refl, other-goes v r new step (λ w p e. cc e))

@@ -37,11 +37,7 @@ use Rattle.program_laws.proofs.UnitGrowth.{Adds, acts-add}
 -- a device that is let go is sent no command
 phase-silent : (h : HoldState) (phase : HoldPhase) → command_sent (came_of (letting_go h phase)).sent ≡ None
 phase-silent h hold.Free = refl
-phase-silent h (hold.Offer t p) = refl
-phase-silent h (hold.On t p c) = refl
-phase-silent h (hold.Away t) = refl
-phase-silent h (hold.Letting t p) = refl
-phase-silent h (hold.Reset r) = refl
+phase-silent h other = refl
 
 pub let_go-silent : (s : SubchannelState) → command_sent (let_go s).came.sent ≡ None
 let_go-silent s = phase-silent s.hold s.hold.phase

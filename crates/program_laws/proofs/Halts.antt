@@ -24,11 +24,11 @@ use Rattle.subchannel_model.specs.Places.{place_in}
 use Rattle.shown_laws.specs.Functions.{keeps_functions, functions_by, functions_after}
 use Rattle.shown_laws.specs.Shown.{names, is_about, is_accepted}
 use Rattle.shown_laws.proofs.Effects.{seen}
-use Rattle.shown_laws.proofs.Executed.{reply_of, code_for, state_left}
+use Rattle.step_laws.proofs.Executed.{reply_of, code_for, state_left}
 use Rattle.shown_laws.proofs.Fitting.{Fits, fits-opens, turned-fits}
 use Rattle.shown_laws.proofs.Following.{turned-follows}
 use Rattle.shown_laws.proofs.Runs.{AreLaws, run-keeps}
-use Rattle.shown_laws.proofs.Turned.{Turned, Executes, Chooses, Meets, Sweeps, Rests}
+use Rattle.shown_laws.proofs.Turned.{Turned, Executes, Sweeps, Rests}
 use Rattle.program_laws.specs.ProgramTold.{halt_by, halted_after}
 
 -- what an event is about, by the name of the subchannel
@@ -68,11 +68,9 @@ kept-if false f = and-false f.halt
 coded-halt : (i : Instruction) (c : ConditionCode) (s left : SubchannelState) →
     (if is_accepted (reply_of i c s left) then functions_by i s.scsw else s.scsw.functions).halt ≡ halt_by i (reply_of i c s left) s.scsw.functions.halt
 coded-halt (instruction.Ssch word address) code.Zero s left = refl
-coded-halt (instruction.Ssch word address) code.One s left = refl
 coded-halt (instruction.Ssch word address) code.Two s left = refl
 coded-halt (instruction.Ssch word address) code.Three s left = refl
 coded-halt (instruction.Tsch word address) code.Zero s left = kept-if (keeps_functions s.scsw) s.scsw.functions
-coded-halt (instruction.Tsch word address) code.One s left = refl
 coded-halt (instruction.Tsch word address) code.Two s left = refl
 coded-halt (instruction.Tsch word address) code.Three s left = refl
 coded-halt (instruction.Stsch word address) c s left = same-if (is_accepted (reply_of (instruction.Stsch word address) c s left)) s.scsw.functions
@@ -80,17 +78,15 @@ coded-halt (instruction.Msch word address) c s left = same-if (is_accepted (repl
 coded-halt (instruction.Enable word subclass multipath) c s left = same-if (is_accepted (reply_of (instruction.Enable word subclass multipath) c s left)) s.scsw.functions
 coded-halt (instruction.Rsch word) c s left = same-if (is_accepted (reply_of (instruction.Rsch word) c s left)) s.scsw.functions
 coded-halt (instruction.Hsch word) code.Zero s left = refl
-coded-halt (instruction.Hsch word) code.One s left = refl
 coded-halt (instruction.Hsch word) code.Two s left = refl
 coded-halt (instruction.Hsch word) code.Three s left = refl
 coded-halt (instruction.Csch word) code.Zero s left = refl
-coded-halt (instruction.Csch word) code.One s left = refl
 coded-halt (instruction.Csch word) code.Two s left = refl
 coded-halt (instruction.Csch word) code.Three s left = refl
 coded-halt (instruction.Xsch word) code.Zero s left = refl
-coded-halt (instruction.Xsch word) code.One s left = refl
 coded-halt (instruction.Xsch word) code.Two s left = refl
 coded-halt (instruction.Xsch word) code.Three s left = refl
+coded-halt i code.One s left = refl
 
 -- whatever befalls the subchannel
 module _ (sets : ℕ) (id : SubchannelId) where
@@ -103,33 +99,15 @@ module _ (sets : ℕ) (id : SubchannelId) where
       (sym named) (coded-halt i c s left)
 
   rests-halt : (e : Event) (r : Reply) (scsw : Scsw) → is_about sets id e ≡ false → Leaves e r scsw
-  rests-halt (event.Put address bytes) r scsw about = refl
-  rests-halt (event.SetKey address key) r scsw about = refl
-  rests-halt (event.SetPrefix cpu address) r scsw about = refl
-  rests-halt (event.Show address count) r scsw about = refl
   rests-halt (event.Execute cpu i) r scsw about =
       subst (λ (b : Bool). (if b && is_accepted r then functions_by i scsw else scsw.functions).halt ≡ (if b then halt_by i r scsw.functions.halt else scsw.functions.halt)) (sym about) refl
-  rests-halt (event.ExecuteOther cpu i) r scsw about = refl
-  rests-halt (event.Choose word) r scsw about = refl
-  rests-halt (event.Up word path) r scsw about = refl
-  rests-halt (event.Down word path) r scsw about = refl
-  rests-halt (event.Report at report) r scsw about = refl
-  rests-halt (event.Act at what) r scsw about = refl
-  rests-halt (event.Restart at) r scsw about = refl
-  rests-halt (event.PathDown chpid) r scsw about = refl
-  rests-halt (event.PathUp chpid) r scsw about = refl
-  rests-halt (event.PathReset chpid) r scsw about = refl
-  rests-halt event.SystemReset r scsw about = refl
+  rests-halt e r scsw about = refl
 
   leaves : (e : Event) (r : Reply) (sub : Subchannel) (after : SubchannelState) → Turned sets id e r sub after → Leaves e r sub.state.scsw
   leaves _ _ _ _ (Executes cpu i sub effect named is) = executed-halt cpu i (code_for i sub) sub.state (state_left i sub effect) named
-  leaves _ _ _ _ (Chooses word sub choice named away) = refl
-  leaves _ _ _ _ (Meets word path returns storage sub x named) = refl
   leaves _ _ _ _ (Sweeps (sweep.GoesDown chpid) r sub) = refl
-  leaves _ _ _ _ (Sweeps (sweep.ComesUp chpid) r sub) = refl
-  leaves _ _ _ _ (Sweeps (sweep.PathReset chpid) r sub) = refl
-  leaves _ _ _ _ (Sweeps sweep.SystemReset r sub) = refl
   leaves _ _ _ _ (Rests e r sub about) = rests-halt e r sub.state.scsw about
+  leaves _ _ _ _ other = refl
 
 record IsHalted (sets : ℕ) (id : SubchannelId) (h : List Entry) (s : SubchannelState) : Type 0 where
   fits : Fits (seen s)

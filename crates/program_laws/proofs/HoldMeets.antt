@@ -219,14 +219,10 @@ module _ (laws : AreLaws) (accesses : AreAccesses) where
 
   accept-held : (storage : Contents) (s : SubchannelState) (k : ProgramTrace) (u : ℕ) (may : Bool) (phase : HoldPhase) → s.hold.phase ≡ phase → IsHeld s k →
       IsHeld (taking.accept storage s (hold_table.offer_accepted s.hold phase u may)).state (stories.trace_accepted storage s (hold_table.offer_accepted s.hold phase u may) k)
-  accept-held storage s k u may hold.Free e h = h
   accept-held storage s k u may (hold.Offer t q) e h =
       let f : IsPhase (hold.Offer t q) k.number s.begun k.sent = subst (λ (x : HoldPhase). IsPhase x k.number s.begun k.sent) e h.phase in
       offer-held storage s k t q (u == t) may h f.0 f.1 f.2
-  accept-held storage s k u may (hold.On t p c) e h = h
-  accept-held storage s k u may (hold.Away t) e h = h
-  accept-held storage s k u may (hold.Letting t p) e h = h
-  accept-held storage s k u may (hold.Reset r) e h = h
+  accept-held storage s k u may other e h = h
 
   -- Data
   transfer-held : (s : SubchannelState) (b : ActiveProgram) (k : ProgramTrace) (t : Transfer) (now : CommandTrace) → s.begun ≡ Some b → IsHeld s k → IsSame b.transfer t →

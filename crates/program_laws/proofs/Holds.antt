@@ -43,12 +43,8 @@ IsPhase (hold.Reset r) n b sent = (b ≡ None) × (n < r)
 
 -- the number of a Reset was drawn
 abbrev pub IsDrawn : HoldPhase → ℕ → Type 0
-IsDrawn hold.Free drawn = Unit {0}
-IsDrawn (hold.Offer t p) drawn = Unit {0}
-IsDrawn (hold.On t p c) drawn = Unit {0}
-IsDrawn (hold.Away t) drawn = Unit {0}
-IsDrawn (hold.Letting t p) drawn = Unit {0}
 IsDrawn (hold.Reset r) drawn = r ≤ drawn
+IsDrawn other drawn = Unit {0}
 
 -- the program is at work, or over
 -- its marks are those of the transfer
@@ -86,11 +82,8 @@ pub record IsHeld (s : SubchannelState) (k : ProgramTrace) : Type 0 where
 -- nothing was offered: the hold is free, or to be reset
 abbrev pub IsUnheld : HoldPhase → ℕ → Type 0
 IsUnheld hold.Free drawn = Unit {0}
-IsUnheld (hold.Offer t p) drawn = ⊥
-IsUnheld (hold.On t p c) drawn = ⊥
-IsUnheld (hold.Away t) drawn = ⊥
-IsUnheld (hold.Letting t p) drawn = ⊥
 IsUnheld (hold.Reset r) drawn = r ≤ drawn
+IsUnheld other drawn = ⊥
 
 pub record IsUntold (s : SubchannelState) : Type 0 where
   pub phase : IsUnheld s.hold.phase s.drawn
@@ -150,20 +143,12 @@ module _ (drawn n : ℕ) (b : Option ActiveProgram) (sent : ℕ) where
   step-phase h phase false step f e k = same-phase h phase e k
 
   pub busy-phase : (h : HoldState) (phase : HoldPhase) (u : ℕ) → Keeps h phase (hold_table.found_busy h phase u)
-  busy-phase h hold.Free u = same-phase h hold.Free
   busy-phase h (hold.Offer t p) u = step-phase h (hold.Offer t p) (u == t) (hold_table.hold_quietly (record h { phase = hold.Free })) (λ k. (k.0.1, tt))
-  busy-phase h (hold.On t p c) u = same-phase h (hold.On t p c)
-  busy-phase h (hold.Away t) u = same-phase h (hold.Away t)
-  busy-phase h (hold.Letting t p) u = same-phase h (hold.Letting t p)
-  busy-phase h (hold.Reset r) u = same-phase h (hold.Reset r)
+  busy-phase h other u = same-phase h other
 
   pub left-phase : (h : HoldState) (phase : HoldPhase) (u d : ℕ) → Keeps h phase (hold_table.left h phase u d)
-  left-phase h hold.Free u d = same-phase h hold.Free
-  left-phase h (hold.Offer t p) u d = same-phase h (hold.Offer t p)
   left-phase h (hold.On t p c) u d = step-phase h (hold.On t p c) ((u == t) && (d == c)) (hold_table.hold_quietly (record h { phase = hold.Away t })) (λ k. k)
-  left-phase h (hold.Away t) u d = same-phase h (hold.Away t)
-  left-phase h (hold.Letting t p) u d = same-phase h (hold.Letting t p)
-  left-phase h (hold.Reset r) u d = same-phase h (hold.Reset r)
+  left-phase h other u d = same-phase h other
 
   refused-phase : (h : HoldState) (phase : HoldPhase) (x : Bool) (p t c : ℕ) → Keeps h phase (if x then Some (hold_table.refusing h p t c) else None)
   refused-phase h phase true p t c e k = subst (λ (x : HoldPhase). IsHold x) (sym e) k
@@ -176,38 +161,23 @@ module _ (drawn n : ℕ) (b : Option ActiveProgram) (sent : ℕ) where
   asked-phase h t false may p c e k = same-phase h (hold.Away t) e k
 
   pub back-phase : (h : HoldState) (phase : HoldPhase) (p u c : ℕ) (may : Bool) → Keeps h phase (hold_table.asked_back h phase p u c may)
-  back-phase h hold.Free p u c may = same-phase h hold.Free
-  back-phase h (hold.Offer t q) p u c may = same-phase h (hold.Offer t q)
   back-phase h (hold.On t q d) p u c may = refused-phase h (hold.On t q d) ((u == t) && nat_lt h.seen c) p t c
   back-phase h (hold.Away t) p u c may = asked-phase h t ((u == t) && nat_lt h.seen c) may p c
-  back-phase h (hold.Letting t q) p u c may = same-phase h (hold.Letting t q)
-  back-phase h (hold.Reset r) p u c may = same-phase h (hold.Reset r)
+  back-phase h other p u c may = same-phase h other
 
   pub released-phase : (h : HoldState) (phase : HoldPhase) (u : ℕ) → Keeps h phase (hold_table.released h phase u)
-  released-phase h hold.Free u = same-phase h hold.Free
-  released-phase h (hold.Offer t p) u = same-phase h (hold.Offer t p)
-  released-phase h (hold.On t p c) u = same-phase h (hold.On t p c)
-  released-phase h (hold.Away t) u = same-phase h (hold.Away t)
   released-phase h (hold.Letting t p) u = step-phase h (hold.Letting t p) (u == t) (hold_table.hold_quietly (record h { phase = hold.Free })) (λ k. (k.0.1, tt))
-  released-phase h (hold.Reset r) u = same-phase h (hold.Reset r)
+  released-phase h other u = same-phase h other
 
   pub attended-phase : (h : HoldState) (phase : HoldPhase) (p a : ℕ) (may : Bool) → Keeps h phase (hold_table.attended h phase p a may)
   attended-phase h hold.Free p a true = λ e k. subst (λ (x : HoldPhase). IsHold x) (sym e) k
   attended-phase h hold.Free p a false = same-phase h hold.Free
-  attended-phase h (hold.Offer t q) p a may = same-phase h (hold.Offer t q)
-  attended-phase h (hold.On t q c) p a may = same-phase h (hold.On t q c)
-  attended-phase h (hold.Away t) p a may = same-phase h (hold.Away t)
-  attended-phase h (hold.Letting t q) p a may = same-phase h (hold.Letting t q)
-  attended-phase h (hold.Reset r) p a may = same-phase h (hold.Reset r)
+  attended-phase h other p a may = same-phase h other
 
   -- the device is let go
   let_go-phase : (h : HoldState) (phase : HoldPhase) → b ≡ None → Keeps h phase (letting_go h phase)
-  let_go-phase h hold.Free z = same-phase h hold.Free
-  let_go-phase h (hold.Offer t p) z = same-phase h (hold.Offer t p)
   let_go-phase h (hold.On t p c) z = λ e k. ((k.0, z), tt)
-  let_go-phase h (hold.Away t) z = same-phase h (hold.Away t)
-  let_go-phase h (hold.Letting t p) z = same-phase h (hold.Letting t p)
-  let_go-phase h (hold.Reset r) z = same-phase h (hold.Reset r)
+  let_go-phase h other z = same-phase h other
 
 pub by_hold-held : (s : SubchannelState) (k : ProgramTrace) (step : Option HoldStep) → IsHeld s k → IsHold s.drawn k.number s.begun k.sent (hold_after s.hold step).phase →
     IsHeld (by_hold s step).state k

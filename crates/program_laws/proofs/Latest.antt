@@ -5,7 +5,7 @@ use Rattle.orb_block.specs.declared.Orb.{Orb}
 use Rattle.ccw_codec.specs.declared.Ccw.{Ccw}
 use Rattle.ccw_walk.specs.declared.program.Latest.{Latest}
 use Rattle.ccw_walk.specs.declared.program.Reading.{Reading}
-use Rattle.ccw_walk.specs.declared.program.Reading.TheVariants.{Transfers, Takes, Suspends, Shows}
+use Rattle.ccw_walk.specs.declared.program.Reading.TheVariants.{Takes}
 use Rattle.ccw_walk.specs.Acts.{Act, Block, Unfetched, Used_up, End, Word}
 use Rattle.ccw_walk.specs.Blocks.{reads}
 use Rattle.ccw_walk.specs.Programs.{Command, code, role_of, latest, latest_after, next_ended, commands, commands_after}
@@ -34,12 +34,10 @@ HasLatest cs ds last = (r : Reach) (rs : List Reach) → ds ≡ r ∷ rs → Has
 
 block-latest : (address : ℕ) (chained : Bool) (cs : List Command) (ds : List Reach) (last : Option Latest) (x : Reading) → HasLatest cs ds last →
     HasLatest (commands_after chained cs x) (reaches_after chained cs ds x) (latest_after last address x)
-block-latest address chained cs ds last (Transfers target) f = f
-block-latest address chained cs ds last Suspends f = f
-block-latest address chained cs ds last Shows f = f
 block-latest address false cs ds last (Takes ccw) f = λ r rs e h. let same : reach ccw.command ccw ≡ r = cc e in ap (λ (x : Reach). x.ccw) same
 block-latest address true [] ds last (Takes ccw) f = λ r rs e h. absurd h
 block-latest address true (c ∷ cs) ds last (Takes ccw) f = λ r rs e h. let same : reach (code c) ccw ≡ r = cc e in ap (λ (x : Reach). x.ccw) same
+block-latest address chained cs ds last other f = f
 
 word-latest : (cs : List Command) (ds : List Reach) (word : ℕ) (last : Option Latest) → HasLatest cs ds last → HasLatest cs (word_after ds word) last
 word-latest cs [] word last f r rs e h = absurd (cc e)

@@ -114,16 +114,8 @@ takes-if b k code true w = w
 takes-if b k code false w = w
 
 takes-work : (b : ActiveProgram) (k : ProgramTrace) (d : Down) → HasWork (Some b) k → HasWork (Some b) (takes d k)
-takes-work b k (down.Select t) w = w
 takes-work b k (down.Command t n code room) w = takes-if b k code (t == k.number) w
-takes-work b k (down.Grant t c) w = w
-takes-work b k (down.Refuse t c) w = w
-takes-work b k (down.Took t n s room) w = w
-takes-work b k (down.Give bytes t c n s) w = w
-takes-work b k (down.Halt t) w = w
-takes-work b k (down.Release t) w = w
-takes-work b k (down.Reset r c) w = w
-takes-work b k (down.Got a) w = w
+takes-work b k d w = w
 
 taken-work : (b : ActiveProgram) (k : ProgramTrace) (d : Down) (came : Bool) (sent : Option (OnPath Up)) → HasWork (Some b) k → WorkOf b (taken_at (reply.Down d came sent) (Some k))
 taken-work b k d true None w = takes-work b k d w
@@ -167,11 +159,8 @@ report-if b k count x true w = absorbs-work b k count x w
 report-if b k count x false w = w
 
 reported-work : (b : ActiveProgram) (k : ProgramTrace) (u : UnitState) (report : Report) (a : DeviceAnswer) → HasWork (Some b) k → HasWork (Some b) (reported u report a k)
-reported-work b k u report answer.Begins w = w
 reported-work b k u report (answer.Absorbed count) w = report-if b k count u.at_hand (report.number == k.number) w
-reported-work b k u report (answer.Supplied bytes) w = w
-reported-work b k u report answer.Again w = w
-reported-work b k u report (answer.Ended status more) w = w
+reported-work b k u report other w = w
 
 pub course-reports : (side : Side) (drawn : ℕ) (begun : Option ActiveProgram) (k : ProgramTrace) (downs : List (List Down)) (ups : List (List Up)) (u : UnitState) (report : Report) (y : UnitStep) →
     same_side side report.side ≡ true → IsNumbered side drawn k.number k.taken u → IsReportTaken u report y → Course side begun k downs ups u →

@@ -58,10 +58,7 @@ module _ (storage : Contents) where
   accepted_by-same : (s : SubchannelState) (phase : HoldPhase) (taken : Taken Down) → IsSame s (accepted_by storage s phase taken)
   accepted_by-same s (hold.On t p c) taken = standing-same (record s { pmcw = path_used s.pmcw p }) p t (standing s)
   accepted_by-same s (hold.Letting t p) taken = (halt-kept (record s { pmcw = path_used s.pmcw p })).drawn
-  accepted_by-same s hold.Free taken = refl
-  accepted_by-same s (hold.Offer t p) taken = refl
-  accepted_by-same s (hold.Away t) taken = refl
-  accepted_by-same s (hold.Reset r) taken = refl
+  accepted_by-same s other taken = refl
 
   accept-same : (s : SubchannelState) (step : Option HoldStep) → IsSame s (accept storage s step)
   accept-same s step =
@@ -122,12 +119,9 @@ module _ (storage : Contents) where
   up-drawn returns s p (up.Accept t) = no-less s.drawn _ (accept-same s (hold_takes s.hold p (up.Accept t) (goes_ahead s)))
   up-drawn returns s p (up.Data load t c n q) = no-less s.drawn _ (if-met s (is_connected s.hold.phase p t c) _ _ (move_data-same s s.begun (record { path = p; number = t; connection = c; command = n; sequence = q }) load) refl)
   up-drawn returns s p (up.End t n status more) = no-less s.drawn _ (if-same s (is_on s.hold.phase t) _ _ (end_of-same s s.begun (record { path = p; number = t; command = n; status = status; more = more })) refl)
-  up-drawn returns s p (up.Busy t) = omega arith
-  up-drawn returns s p (up.Leave t c) = omega arith
-  up-drawn returns s p (up.Back t c) = omega arith
-  up-drawn returns s p (up.Released t) = omega arith
   up-drawn returns s p (up.Cleared r) = no-less s.drawn _ (reset-same s (hold_takes s.hold p (up.Cleared r) false))
   up-drawn returns s p (up.Notice b) = notice-less s b (nat_lt s.hold.known b)
   up-drawn returns s p (up.Attn a status) =
       let step : Option HoldStep = hold_takes s.hold p (up.Attn a status) (taking.may_attend s) in
       no-less s.drawn _ (attention-drawn (record s { hold = hold_after s.hold step }) ((came_of step).taken && not (status.0 == 0x20)))
+  up-drawn returns s p x = omega arith

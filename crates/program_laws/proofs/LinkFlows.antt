@@ -51,7 +51,7 @@ use Rattle.program_laws.proofs.Holds.{IsPhase, IsHeld, IsUnheld, HasWork, HeldBy
 use Rattle.program_laws.proofs.UnitSides.{other-owner}
 use Rattle.program_laws.proofs.UnitOrders.{IsDown, IsNumbered, on-first}
 use Rattle.program_laws.proofs.UnitHands.{IsCalm, IsQuiet, other-calm}
-use Rattle.program_laws.proofs.UnitTold.{IsTold, Begins_out, Begins_in, Absorbs, Supplies, Tells_again, Ends, IsReportTaken, report-taken}
+use Rattle.program_laws.proofs.UnitTold.{IsTold, Begins_in, Tells_again, Ends, IsReportTaken, report-taken}
 use Rattle.program_laws.proofs.LinkNeeds.{held-needs}
 use Rattle.program_laws.proofs.LinkOrders.{IsLinked, number_of, took_of, number-drawn}
 use Rattle.program_laws.proofs.LinkIdle.{IsIdle, IsNoOffer, idle-meets}
@@ -197,27 +197,11 @@ module _ (laws : AreLaws) (accesses : AreAccesses) where
   course-meets : (returns : Bool) → (storage : Contents) (side : Side) (s : SubchannelState) (k : ProgramTrace) (downs : List (List Down)) (ups : List (List Up)) (u : UnitState) (path : ℕ) (x : Up) →
       slice_get (queue ups path) 0 ≡ Some x → IsHeld s k → Course side s.begun k downs ups u →
       Course side (takes_up returns storage s path x).step.state.begun (trace_meets storage s path x k) (with_any_sent downs (takes_up returns storage s path x).step.came.sent) (taken ups path) u
-  course-meets returns storage side s k downs ups u path (up.Accept t) e h (Follows m) =
-      Follows (mode-meets laws accesses storage side s k downs ups u path h m returns (up.Accept t) (λ P Q R w. first-tells side k.number (length k.taken) P Q R downs ups u path (up.Accept t) e w) tt)
-  course-meets returns storage side s k downs ups u path (up.Busy t) e h (Follows m) =
-      Follows (mode-meets laws accesses storage side s k downs ups u path h m returns (up.Busy t) (λ P Q R w. first-tells side k.number (length k.taken) P Q R downs ups u path (up.Busy t) e w) tt)
-  course-meets returns storage side s k downs ups u path (up.Leave t c) e h (Follows m) =
-      Follows (mode-meets laws accesses storage side s k downs ups u path h m returns (up.Leave t c) (λ P Q R w. first-tells side k.number (length k.taken) P Q R downs ups u path (up.Leave t c) e w) tt)
-  course-meets returns storage side s k downs ups u path (up.Back t c) e h (Follows m) =
-      Follows (mode-meets laws accesses storage side s k downs ups u path h m returns (up.Back t c) (λ P Q R w. first-tells side k.number (length k.taken) P Q R downs ups u path (up.Back t c) e w) tt)
-  course-meets returns storage side s k downs ups u path (up.Data load t c n seq) e h (Follows m) =
-      Follows (mode-meets laws accesses storage side s k downs ups u path h m returns (up.Data load t c n seq) (λ P Q R w. first-tells side k.number (length k.taken) P Q R downs ups u path (up.Data load t c n seq) e w) tt)
-  course-meets returns storage side s k downs ups u path (up.End t n status more) e h (Follows m) =
-      Follows (mode-meets laws accesses storage side s k downs ups u path h m returns (up.End t n status more) (λ P Q R w. first-tells side k.number (length k.taken) P Q R downs ups u path (up.End t n status more) e w) tt)
-  course-meets returns storage side s k downs ups u path (up.Released t) e h (Follows m) =
-      Follows (mode-meets laws accesses storage side s k downs ups u path h m returns (up.Released t) (λ P Q R w. first-tells side k.number (length k.taken) P Q R downs ups u path (up.Released t) e w) tt)
-  course-meets returns storage side s k downs ups u path (up.Cleared r) e h (Follows m) =
-      Follows (mode-meets laws accesses storage side s k downs ups u path h m returns (up.Cleared r) (λ P Q R w. first-tells side k.number (length k.taken) P Q R downs ups u path (up.Cleared r) e w) tt)
-  course-meets returns storage side s k downs ups u path (up.Attn a status) e h (Follows m) =
-      Follows (mode-meets laws accesses storage side s k downs ups u path h m returns (up.Attn a status) (λ P Q R w. first-tells side k.number (length k.taken) P Q R downs ups u path (up.Attn a status) e w) tt)
   course-meets returns storage side s k downs ups u path (up.Notice b) e h (Follows m) =
       notice-course s b (nat_lt s.hold.known b) side k downs (taken ups path) u h (Follows (quiet laws accesses storage side s k downs ups u path h m s.begun None refl tt))
   course-meets returns storage side s k downs ups u path x e h (Cut z b w m) = cut-meets returns storage side s k downs ups u path x b h z w m
+  course-meets returns storage side s k downs ups u path x e h (Follows m) =
+      Follows (mode-meets laws accesses storage side s k downs ups u path h m returns x (λ P Q R w. first-tells side k.number (length k.taken) P Q R downs ups u path x e w) tt)
 
   met-flows : (returns : Bool) → (storage : Contents) (sub : Subchannel) (path : ℕ) (x : Up) (k : Option ProgramTrace) (u : UnitState) → slice_get (queue sub.wires.up path) 0 ≡ Some x → HeldBy sub.state k →
       AtSub sub.setup.side sub k u →
@@ -248,16 +232,8 @@ module _ (laws : AreLaws) (accesses : AreAccesses) where
 
 -- Down
 none-answered : (may : Bool) → (side : Side) (drawn : ℕ) (u : UnitState) (path : ℕ) (d : Down) → IsDown drawn 0 0 [] d → IsAnswered may side 0 u path d
-none-answered may side drawn u path (down.Select t) i = tt
 none-answered may side drawn u path (down.Command t n code room) i = λ e. absurd (let k = i.1 e in omega (arith, k.0, k.1.count))
-none-answered may side drawn u path (down.Grant t c) i = tt
-none-answered may side drawn u path (down.Refuse t c) i = tt
-none-answered may side drawn u path (down.Took t n s room) i = tt
-none-answered may side drawn u path (down.Give bytes t c n s) i = tt
-none-answered may side drawn u path (down.Halt t) i = tt
-none-answered may side drawn u path (down.Release t) i = tt
-none-answered may side drawn u path (down.Reset r b) i = tt
-none-answered may side drawn u path (down.Got a) i = tt
+none-answered may side drawn u path d i = tt
 
 none-taken : (d : Down) (came : Bool) (sent : Option (OnPath Up)) → taken_at (reply.Down d came sent) None ≡ None
 none-taken d true None = refl
@@ -299,12 +275,10 @@ down-flows may sub path u k h l a =
 -- Report
 none-told : (u : UnitState) (p t c : ℕ) (x : AtHand) (a : DeviceAnswer) (y : UnitStep) (number m : ℕ) (E : Type 0) → IsTold u p t c x a y → IsOfCommand number m t u.last_command E →
     IfSome y.sent (λ z. IsTelling number m AnyData E z.signal)
-none-told u p t c x _ _ number m E (Begins_out n) f = (f.0, λ e. ((f.1 e).0, λ i. tt))
 none-told u p t c x _ _ number m E (Begins_in o n) f = tt
-none-told u p t c x _ _ number m E (Absorbs bytes count w g l) f = (f.0, λ e. ((f.1 e).0, λ i. tt))
-none-told u p t c x _ _ number m E (Supplies bytes o w) f = (f.0, λ e. ((f.1 e).0, λ i. tt))
 none-told u p t c x _ _ number m E (Tells_again l e w) f = (f.0, λ e. ((f.1 e).0, λ i. tt))
 none-told u p t c x _ _ number m E (Ends given shown more) f = f
+none-told u p t c x _ _ number m E other f = (f.0, λ e. ((f.1 e).0, λ i. tt))
 
 reported-none : (side : Side) (drawn : ℕ) (downs : List (List Down)) (ups : List (List Up)) (u : UnitState) (report : Report) (y : UnitStep) → same_side side report.side ≡ true → IsNumbered side drawn 0 [] u →
     IsReportTaken u report y → IsWired side 0 0 HandClosed AnyGive AnyData downs ups u → IsWired side 0 0 HandClosed AnyGive AnyData downs (with_any_sent ups y.sent) y.state

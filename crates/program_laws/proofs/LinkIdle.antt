@@ -41,12 +41,8 @@ module _ (storage : Contents) (s : SubchannelState) (none : s.begun ≡ None) wh
 
   accept-idle : (phase : HoldPhase) (t : ℕ) (may : Bool) → IsNoOffer phase →
       IsIdle s (taking.accept storage s (hold_table.offer_accepted s.hold phase t may)) (stories.trace_accepted storage s (hold_table.offer_accepted s.hold phase t may))
-  accept-idle hold.Free t may n = record { begun = refl; sends = tt; same = λ k. refl }
   accept-idle (hold.Offer v p) t may n = absurd (n v p refl)
-  accept-idle (hold.On v p c) t may n = record { begun = refl; sends = tt; same = λ k. refl }
-  accept-idle (hold.Away v) t may n = record { begun = refl; sends = tt; same = λ k. refl }
-  accept-idle (hold.Letting v p) t may n = record { begun = refl; sends = tt; same = λ k. refl }
-  accept-idle (hold.Reset r) t may n = record { begun = refl; sends = tt; same = λ k. refl }
+  accept-idle other t may n = record { begun = refl; sends = tt; same = λ k. refl }
 
   data-idle : (signal : DataSignal) (l : Load) (x : Bool) (b : Option ActiveProgram) → b ≡ None →
       IsIdle s (if x then taking.move_data storage s b signal l else taking.meets storage (taking.ignoring s)).step (λ k. if x then stories.answers storage b signal.command signal.sequence l k else k)

@@ -171,16 +171,8 @@ module _ (side : Side) (drawn : ℕ) (k : ProgramTrace) (downs : List (List Down
   full-answered t n code room i f false false next a b e = refl
 
   all-answered : (may : Bool) → (d : Down) → IsDown drawn k.number k.sent (codes_of k) d → length k.taken ≡ k.sent → IsAnswered may side k.number u path d
-  all-answered may (down.Select t) i f = tt
   all-answered may (down.Command t n code room) i f = full-answered t n code room i f (side_of u side).fresh (is_owner u.own side t) (n == u.last_command + 1) refl refl
-  all-answered may (down.Grant t c) i f = tt
-  all-answered may (down.Refuse t c) i f = tt
-  all-answered may (down.Took t c s room) i f = tt
-  all-answered may (down.Give bytes t c n s) i f = tt
-  all-answered may (down.Halt t) i f = tt
-  all-answered may (down.Release t) i f = tt
-  all-answered may (down.Reset r b) i f = tt
-  all-answered may (down.Got a) i f = tt
+  all-answered may d i f = tt
 
   -- the Command that it waits for
   abbrev next_story : ℕ → ProgramTrace
@@ -262,16 +254,8 @@ module _ (side : Side) (drawn : ℕ) (k : ProgramTrace) (downs : List (List Down
   mode-next : (may : Bool) → (begun : Option ActiveProgram) (d : Down) → ((b : ActiveProgram) → begun ≡ Some b → IsLast (codes_of k) k.sent b.transfer) → slice_get (queue downs path) 0 ≡ Some d →
       IsDown drawn k.number k.sent (codes_of k) d → Mode side begun k downs ups u → (b : ActiveProgram) → begun ≡ Some b → length k.taken + 1 ≡ k.sent → b.transfer.sequence ≡ 0 → k.now.moved ≡ [] →
       IsWired side k.number (length k.taken) HandClosed AnyGive AnyData downs ups u → After may begun d
-  mode-next may begun (down.Select t) last q i m b e l s z w = carried-down may begun (down.Select t) q i tt m
   mode-next may begun (down.Command t n code room) last q i m b e l s z w = waits-by begun t n code room may b e (last b e) l s z q i w m
-  mode-next may begun (down.Grant t c) last q i m b e l s z w = carried-down may begun (down.Grant t c) q i tt m
-  mode-next may begun (down.Refuse t c) last q i m b e l s z w = carried-down may begun (down.Refuse t c) q i tt m
-  mode-next may begun (down.Took t c y room) last q i m b e l s z w = carried-down may begun (down.Took t c y room) q i tt m
-  mode-next may begun (down.Give bytes t c n y) last q i m b e l s z w = carried-down may begun (down.Give bytes t c n y) q i tt m
-  mode-next may begun (down.Halt t) last q i m b e l s z w = carried-down may begun (down.Halt t) q i tt m
-  mode-next may begun (down.Release t) last q i m b e l s z w = carried-down may begun (down.Release t) q i tt m
-  mode-next may begun (down.Reset r y) last q i m b e l s z w = carried-down may begun (down.Reset r y) q i tt m
-  mode-next may begun (down.Got a) last q i m b e l s z w = carried-down may begun (down.Got a) q i tt m
+  mode-next may begun d last q i m b e l s z w = carried-down may begun d q i tt m
 
   pub mode-down : (may : Bool) → (begun : Option ActiveProgram) (d : Down) → ((b : ActiveProgram) → begun ≡ Some b → IsLast (codes_of k) k.sent b.transfer) → slice_get (queue downs path) 0 ≡ Some d →
       IsDown drawn k.number k.sent (codes_of k) d → Mode side begun k downs ups u → After may begun d

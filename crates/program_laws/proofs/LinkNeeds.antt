@@ -37,21 +37,13 @@ Needs (Some k) s = IsNeeded k s
 
 -- what a subchannel keeps of its program tells this
 pub on-number : (phase : HoldPhase) (n : ℕ) (b : Option ActiveProgram) (sent : ℕ) (t : ℕ) → IsPhase phase n b sent → is_on phase t ≡ true → t ≡ n
-on-number hold.Free n b sent t k e = absurd (cc e)
-on-number (hold.Offer u p) n b sent t k e = absurd (cc e)
 on-number (hold.On u p c) n b sent t k e = eqb-true t u e ∙ k
-on-number (hold.Away u) n b sent t k e = absurd (cc e)
-on-number (hold.Letting u p) n b sent t k e = absurd (cc e)
-on-number (hold.Reset r) n b sent t k e = absurd (cc e)
+on-number other n b sent t k e = absurd (cc e)
 
 -- the program that is connected
 pub connected-number : (phase : HoldPhase) (n : ℕ) (b : Option ActiveProgram) (sent p t c : ℕ) → IsPhase phase n b sent → is_connected phase p t c ≡ true → t ≡ n
-connected-number hold.Free n b sent p t c k e = absurd (cc e)
-connected-number (hold.Offer u q) n b sent p t c k e = absurd (cc e)
 connected-number (hold.On u q d) n b sent p t c k e = eqb-true t u (and_parts (t == u) ((p == q) && (c == d)) e).0 ∙ k
-connected-number (hold.Away u) n b sent p t c k e = absurd (cc e)
-connected-number (hold.Letting u q) n b sent p t c k e = absurd (cc e)
-connected-number (hold.Reset r) n b sent p t c k e = absurd (cc e)
+connected-number other n b sent p t c k e = absurd (cc e)
 
 last-coded : (cs : List Command) (earlier sent : ℕ) (t : Transfer) → HasCode cs t.code → length cs ≡ earlier + t.command → t.command ≡ sent → 1 ≤ sent →
     IsLast (later_codes earlier (map code cs)) sent t

@@ -23,7 +23,7 @@ use Rattle.chan_model.specs.UnitTable.{UnitStep, side_of, resets, unit_takes, un
 use Rattle.chan_model.specs.UnitReports.{unit_reports}
 use Rattle.wires.specs.Queues.{queue, first_of, taken}
 use Rattle.subchannel_model.specs.declared.state.Chosen.{Chosen}
-use Rattle.subchannel_model.specs.declared.state.Chosen.TheVariants.{Idle, Resets, PerformsClear, Halts, PerformsHalt, FindsNoPath, Offers}
+use Rattle.subchannel_model.specs.declared.state.Chosen.TheVariants.{Resets, Halts, FindsNoPath, Offers}
 use Rattle.subchannel_model.specs.declared.cause.StatusCause.TheVariants as cause
 use Rattle.subchannel_model.specs.declared.state.Program.{Program}
 use Rattle.subchannel_model.specs.declared.state.Subchannel.{Subchannel}
@@ -108,36 +108,21 @@ down-of k s (down.Command t m code room) n h =
         record { later = []; mid = last.before; list = last.list ∙ ap (λ (c : ℕ). c ∷ last.before) (sym w.same_code); count = last.count ∙ sym w.command },
       ),
     )
-down-of k s (down.Grant t c) n h = tt
-down-of k s (down.Refuse t c) n h = tt
-down-of k s (down.Took t m q room) n h = tt
-down-of k s (down.Give bytes t c m q) n h = tt
-down-of k s (down.Halt t) n h = tt
-down-of k s (down.Release t) n h = tt
 down-of k s (down.Reset r b) n h = absurd h
-down-of k s (down.Got a) n h = tt
+down-of k s d n h = tt
 
 -- where nothing was offered no program is connected, and no Command is sent
 unheld-on : (phase : HoldPhase) (drawn t : ℕ) → IsUnheld phase drawn → is_on phase t ≡ true → ⊥
 unheld-on hold.Free drawn t u e = absurd (cc e)
-unheld-on (hold.Offer v p) drawn t u e = absurd u
-unheld-on (hold.On v p c) drawn t u e = absurd u
-unheld-on (hold.Away v) drawn t u e = absurd u
-unheld-on (hold.Letting v p) drawn t u e = absurd u
 unheld-on (hold.Reset r) drawn t u e = absurd (cc e)
+unheld-on other drawn t u e = absurd u
 
 down-untold : (s : SubchannelState) (d : Down) → IsUntold s → IsOf s d → IsDown s.drawn 0 0 [] d
 down-untold s (down.Select t) f h = absurd h
 down-untold s (down.Command t m code room) f h =
     let w : IsAtWork s t m code = h in absurd (unheld-on s.hold.phase s.drawn t f.phase w.on)
-down-untold s (down.Grant t c) f h = tt
-down-untold s (down.Refuse t c) f h = tt
-down-untold s (down.Took t m q room) f h = tt
-down-untold s (down.Give bytes t c m q) f h = tt
-down-untold s (down.Halt t) f h = tt
-down-untold s (down.Release t) f h = tt
 down-untold s (down.Reset r b) f h = absurd h
-down-untold s (down.Got a) f h = tt
+down-untold s d f h = tt
 
 if-some : (P Q : OnPath Down → Type 0) (one : Option (OnPath Down)) → ((x : OnPath Down) → P x → Q x) → IfSome one P → IfSome one Q
 if-some P Q None f h = tt
@@ -181,21 +166,18 @@ offered-linked sub path program true (Some k) u w n l =
 pub choose-linked : (sub : Subchannel) (c : Chosen) (k : Option ProgramTrace) (u : UnitState) → Suits c sub.state → Needs k sub.state →
     IsLinked sub.setup.side sub.state.drawn sub.wires.down k u →
     IfOk (choose_sub sub c) (λ t. IsLinked sub.setup.side t.sub.state.drawn t.sub.wires.down (chosen_at (Some sub) t.reply k) u)
-choose-linked sub Idle k u w n l = l
 choose-linked sub (Resets r path) k u w n l =
     send-ok (λ t. IsLinked sub.setup.side t.sub.state.drawn t.sub.wires.down (chosen_at (Some sub) t.reply k) u) sub (reset_sent sub.state path) path
     (down.Reset r sub.state.hold.known) (reply.ResetSent r path)
     (carried-linked sub.setup.side sub.state.drawn sub.wires.down sub.state.pmcw.available
     (Some (record { path = path; signal = down.Reset r sub.state.hold.known })) k u
     (same-linked sub.setup.side sub.state.drawn path (down.Reset r sub.state.hold.known) sub.wires.down k u (reset-needs k sub.state r w.fits n) l))
-choose-linked sub PerformsClear k u w n l = l
 choose-linked sub (Halts t path) k u w n l =
     send-ok (λ t. IsLinked sub.setup.side t.sub.state.drawn t.sub.wires.down (chosen_at (Some sub) t.reply k) u) sub (halt_sent sub.state) path
     (down.Halt t) (reply.HaltSent t path)
     (carried-linked sub.setup.side sub.state.drawn sub.wires.down sub.state.pmcw.available (Some (record { path = path; signal = down.Halt t }))
     k u
     (same-linked sub.setup.side sub.state.drawn path (down.Halt t) sub.wires.down k u tt l))
-choose-linked sub PerformsHalt k u w n l = l
 choose-linked sub FindsNoPath k u w n l =
     subst (λ (i : ℕ). IsLinked sub.setup.side i sub.wires.down k u) (sym (cause-kept sub.state cause.NoPath).drawn) l
 choose-linked sub (Offers c path) k u w n l =
@@ -205,6 +187,7 @@ choose-linked sub (Offers c path) k u w n l =
     (carried-linked sub.setup.side t sub.wires.down sub.state.pmcw.available (Some (record { path = path; signal = down.Select t }))
     (chosen_at (Some sub) (reply.Offered t path c.resumes) k) u
     (offered-linked sub path c.program c.resumes k u w.found n l))
+choose-linked sub other k u w n l = l
 
 -- Up
 met-linked : (returns : Bool) → (storage : Contents) (sub : Subchannel) (path : ℕ) (x : Up) (k : Option ProgramTrace) (u : UnitState) (drawn : ℕ) →
@@ -304,15 +287,7 @@ AreAbove sub u = (p r b : ℕ) → first_of sub.wires.down p ≡ Some (down.Rese
 
 above-of : (u : UnitState) (side : Side) (d : Down) → ((r b : ℕ) → d ≡ down.Reset r b → resets u side r b ≡ true → (side_of u side).floor < r) → IsAbove u side d
 above-of u side (down.Reset r b) f = f r b refl
-above-of u side (down.Select t) f = tt
-above-of u side (down.Command t n code room) f = tt
-above-of u side (down.Grant t c) f = tt
-above-of u side (down.Refuse t c) f = tt
-above-of u side (down.Took t n s room) f = tt
-above-of u side (down.Give bytes t c n s) f = tt
-above-of u side (down.Halt t) f = tt
-above-of u side (down.Release t) f = tt
-above-of u side (down.Got a) f = tt
+above-of u side d f = tt
 
 down_front-linked : (may : Bool) → (sub : Subchannel) (path : ℕ) (u : UnitState) (front : Option Down) (k : Option ProgramTrace) → slice_get (queue sub.wires.down path) 0 ≡ front → AreAbove sub u → Needs k sub.state →
     IsLinked sub.setup.side sub.state.drawn sub.wires.down k u → IfOk (down_front may sub path u front) (λ t. IsLinked sub.setup.side t.sub.state.drawn t.sub.wires.down (taken_at t.reply k) t.«unit»)
@@ -359,12 +334,9 @@ reported-if side drawn wires v k new false l m = l
 
 reported-same : (side : Side) (drawn : ℕ) (wires : List (List Down)) (v u : UnitState) (report : Report) (a : DeviceAnswer) (k : ProgramTrace) → IsLinked side drawn wires (Some k) v →
     IsLinked side drawn wires (Some (reported u report a k)) v
-reported-same side drawn wires v u report answer.Begins k l = l
 reported-same side drawn wires v u report (answer.Absorbed count) k l =
     reported-if side drawn wires v k (absorbs count u.at_hand k) (report.number == k.number) l (absorbs-same side drawn wires v k count u.at_hand l)
-reported-same side drawn wires v u report (answer.Supplied bytes) k l = l
-reported-same side drawn wires v u report answer.Again k l = l
-reported-same side drawn wires v u report (answer.Ended status more) k l = l
+reported-same side drawn wires v u report other k l = l
 
 reported-linked : (side : Side) (drawn : ℕ) (wires : List (List Down)) (v u : UnitState) (report : Report) (k : Option ProgramTrace) → IsLinked side drawn wires k v →
     IsLinked side drawn wires (reported_at (Some u) report k) v

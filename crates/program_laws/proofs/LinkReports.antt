@@ -69,28 +69,18 @@ told-closed u p t c x _ _ (Ends given shown more) h = ended-after shown
 -- the report is of another number
 module _ (u : UnitState) (p t c : ℕ) (x : AtHand) (number m : ℕ) (R : ℕ → Load → Type 0) (E : Type 0) (le : t ≤ number) (other : t ≡ number → ⊥) where
   told-other : (a : DeviceAnswer) (y : UnitStep) → IsTold u p t c x a y → IfSome y.sent (λ z. IsTelling number m R E z.signal)
-  told-other _ _ (Begins_out n) = (le, λ e. absurd (other e))
   told-other _ _ (Begins_in o n) = tt
-  told-other _ _ (Absorbs bytes count w g l) = (le, λ e. absurd (other e))
-  told-other _ _ (Supplies bytes o w) = (le, λ e. absurd (other e))
   told-other _ _ (Tells_again l e w) = (le, λ e. absurd (other e))
-  told-other _ _ (Ends given shown more) = (le, λ e. absurd (other e))
+  told-other _ _ x = (le, λ e. absurd (other e))
 
 pub told-own : (u : UnitState) (p t c : ℕ) (x : AtHand) (a : DeviceAnswer) (y : UnitStep) → IsTold u p t c x a y → y.state.own ≡ u.own
 told-own u p t c x _ _ (Begins_out n) = refl
-told-own u p t c x _ _ (Begins_in o n) = refl
-told-own u p t c x _ _ (Absorbs bytes count w g l) = refl
-told-own u p t c x _ _ (Supplies bytes o w) = refl
-told-own u p t c x _ _ (Tells_again l e w) = refl
-told-own u p t c x _ _ (Ends given shown more) = refl
+told-own u p t c x _ _ other = refl
 
 -- the story, at a report of its number and of another
 reported-other : (u : UnitState) (report : Report) (a : DeviceAnswer) (k : ProgramTrace) → (report.number == k.number) ≡ false → reported u report a k ≡ k
-reported-other u report answer.Begins k e = refl
 reported-other u report (answer.Absorbed count) k e = ap (λ (b : Bool). if b then absorbs count u.at_hand k else k) e
-reported-other u report (answer.Supplied bytes) k e = refl
-reported-other u report answer.Again k e = refl
-reported-other u report (answer.Ended status more) k e = refl
+reported-other u report other k e = refl
 
 absorbed-here : (u : UnitState) (report : Report) (count : ℕ) (k : ProgramTrace) (x : AtHand) (bytes : List ℕ) → (report.number == k.number) ≡ true → u.at_hand ≡ Some x → x.given ≡ Some bytes →
     reported u report (answer.Absorbed count) k ≡ record k { absorbed = k.absorbed ++ take count bytes }

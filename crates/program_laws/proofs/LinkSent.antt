@@ -45,14 +45,8 @@ pub record IsAtWork (s : SubchannelState) (t n code : ℕ) : Type 0 where
 abbrev pub IsOf : SubchannelState → Down → Type 0
 IsOf s (down.Select t) = ⊥
 IsOf s (down.Command t n code room) = IsAtWork s t n code
-IsOf s (down.Grant t c) = Unit {0}
-IsOf s (down.Refuse t c) = Unit {0}
-IsOf s (down.Took t n q room) = Unit {0}
-IsOf s (down.Give bytes t c n q) = Unit {0}
-IsOf s (down.Halt t) = Unit {0}
-IsOf s (down.Release t) = Unit {0}
 IsOf s (down.Reset r b) = ⊥
-IsOf s (down.Got a) = Unit {0}
+IsOf s d = Unit {0}
 
 -- and it is sent nothing else that raises a number
 abbrev pub IsSent : SubchannelState → Option (OnPath Down) → Type 0
@@ -71,31 +65,23 @@ if-met false x y e f = f
 
 -- the hold alone
 abbrev pub IsOfHold : Down → Type 0
-IsOfHold (down.Select t) = ⊥
-IsOfHold (down.Command t n code room) = ⊥
 IsOfHold (down.Grant t c) = Unit {0}
 IsOfHold (down.Refuse t c) = Unit {0}
-IsOfHold (down.Took t n q room) = ⊥
-IsOfHold (down.Give bytes t c n q) = ⊥
 IsOfHold (down.Halt t) = Unit {0}
 IsOfHold (down.Release t) = Unit {0}
-IsOfHold (down.Reset r b) = ⊥
 IsOfHold (down.Got a) = Unit {0}
+IsOfHold d = ⊥
 
 abbrev pub SendsHoldSignal : Option HoldStep → Type 0
 SendsHoldSignal step = IfSome (came_of step).sent (λ x. IsOfHold x.signal)
 
 of-hold : (s : SubchannelState) (d : Down) → IsOfHold d → IsOf s d
-of-hold s (down.Select t) h = absurd h
-of-hold s (down.Command t n code room) h = absurd h
 of-hold s (down.Grant t c) h = tt
 of-hold s (down.Refuse t c) h = tt
-of-hold s (down.Took t n q room) h = absurd h
-of-hold s (down.Give bytes t c n q) h = absurd h
 of-hold s (down.Halt t) h = tt
 of-hold s (down.Release t) h = tt
-of-hold s (down.Reset r b) h = absurd h
 of-hold s (down.Got a) h = tt
+of-hold s d h = absurd h
 
 muttered : (s : SubchannelState) (one : Option (OnPath Down)) → IfSome one (λ x. IsOfHold x.signal) → IsSent s one
 muttered s None h = tt
@@ -113,74 +99,43 @@ begun-mutters h t p true = tt
 begun-mutters h t p false = tt
 
 pub accepted-mutters : (h : HoldState) (phase : HoldPhase) (u : ℕ) (may : Bool) → SendsHoldSignal (offer_accepted h phase u may)
-accepted-mutters h hold.Free u may = nothing
 accepted-mutters h (hold.Offer t p) u may = if-mutters (u == t) _ None (begun-mutters h t p may) nothing
-accepted-mutters h (hold.On t p c) u may = nothing
-accepted-mutters h (hold.Away t) u may = nothing
-accepted-mutters h (hold.Letting t p) u may = nothing
-accepted-mutters h (hold.Reset r) u may = nothing
+accepted-mutters h other u may = nothing
 
 pub busy-mutters : (h : HoldState) (phase : HoldPhase) (u : ℕ) → SendsHoldSignal (found_busy h phase u)
-busy-mutters h hold.Free u = nothing
 busy-mutters h (hold.Offer t p) u = if-mutters (u == t) _ None tt nothing
-busy-mutters h (hold.On t p c) u = nothing
-busy-mutters h (hold.Away t) u = nothing
-busy-mutters h (hold.Letting t p) u = nothing
-busy-mutters h (hold.Reset r) u = nothing
+busy-mutters h other u = nothing
 
 pub left-mutters : (h : HoldState) (phase : HoldPhase) (u d : ℕ) → SendsHoldSignal (left h phase u d)
-left-mutters h hold.Free u d = nothing
-left-mutters h (hold.Offer t p) u d = nothing
 left-mutters h (hold.On t p c) u d = if-mutters ((u == t) && (d == c)) _ None tt nothing
-left-mutters h (hold.Away t) u d = nothing
-left-mutters h (hold.Letting t p) u d = nothing
-left-mutters h (hold.Reset r) u d = nothing
+left-mutters h other u d = nothing
 
 pub back-mutters : (h : HoldState) (phase : HoldPhase) (p u c : ℕ) (may : Bool) → SendsHoldSignal (asked_back h phase p u c may)
-back-mutters h hold.Free p u c may = nothing
-back-mutters h (hold.Offer t q) p u c may = nothing
 back-mutters h (hold.On t q d) p u c may = if-mutters ((u == t) && nat_lt h.seen c) (Some (refusing h p t c)) None tt nothing
 back-mutters h (hold.Away t) p u c may =
     if-mutters ((u == t) && nat_lt h.seen c) (if may then Some (granting h p t c) else Some (refusing h p t c)) None
     (if-mutters may (Some (granting h p t c)) (Some (refusing h p t c)) tt tt) nothing
-back-mutters h (hold.Letting t q) p u c may = nothing
-back-mutters h (hold.Reset r) p u c may = nothing
+back-mutters h other p u c may = nothing
 
 pub released-mutters : (h : HoldState) (phase : HoldPhase) (u : ℕ) → SendsHoldSignal (released h phase u)
-released-mutters h hold.Free u = nothing
-released-mutters h (hold.Offer t p) u = nothing
-released-mutters h (hold.On t p c) u = nothing
-released-mutters h (hold.Away t) u = nothing
 released-mutters h (hold.Letting t p) u = if-mutters (u == t) _ None tt nothing
-released-mutters h (hold.Reset r) u = nothing
+released-mutters h other u = nothing
 
 pub cleared-mutters : (h : HoldState) (phase : HoldPhase) (u : ℕ) → SendsHoldSignal (reset_cleared h phase u)
-cleared-mutters h hold.Free u = nothing
-cleared-mutters h (hold.Offer t p) u = nothing
-cleared-mutters h (hold.On t p c) u = nothing
-cleared-mutters h (hold.Away t) u = nothing
-cleared-mutters h (hold.Letting t p) u = nothing
 cleared-mutters h (hold.Reset r) u = if-mutters (u == r) _ None tt nothing
+cleared-mutters h other u = nothing
 
 pub attended-mutters : (h : HoldState) (phase : HoldPhase) (p a : ℕ) (may : Bool) → SendsHoldSignal (attended h phase p a may)
 attended-mutters h hold.Free p a may = if-mutters may _ None tt nothing
-attended-mutters h (hold.Offer t q) p a may = nothing
-attended-mutters h (hold.On t q c) p a may = nothing
-attended-mutters h (hold.Away t) p a may = nothing
-attended-mutters h (hold.Letting t q) p a may = nothing
-attended-mutters h (hold.Reset r) p a may = nothing
+attended-mutters h other p a may = nothing
 
 by_hold-sends : (s : SubchannelState) (step : Option HoldStep) → SendsHoldSignal step → Sends (by_hold s step)
 by_hold-sends s step m = muttered (by_hold s step).state (came_of step).sent m
 
 -- the device is let go
 pub letting-mutters : (h : HoldState) (phase : HoldPhase) → SendsHoldSignal (letting_go h phase)
-letting-mutters h hold.Free = nothing
-letting-mutters h (hold.Offer t p) = nothing
 letting-mutters h (hold.On t p c) = tt
-letting-mutters h (hold.Away t) = nothing
-letting-mutters h (hold.Letting t p) = nothing
-letting-mutters h (hold.Reset r) = nothing
+letting-mutters h other = nothing
 
 let_go-sends : (s : SubchannelState) → Sends (let_go s)
 let_go-sends s = muttered (let_go s).state (came_of (letting_go s.hold s.hold.phase)).sent (letting-mutters s.hold s.hold.phase)
@@ -218,10 +173,7 @@ accepted_by-sends : (storage : Contents) (s : SubchannelState) (phase : HoldPhas
 accepted_by-sends storage s (hold.On t p c) came e m =
     standing-sends storage (record s { pmcw = path_used s.pmcw p }) p t (standing s) (ap (λ (x : HoldPhase). is_on x t) e ∙ is-self t p c)
 accepted_by-sends storage s (hold.Letting t p) came e m = muttered (halt_done (record s { pmcw = path_used s.pmcw p })) came.sent m
-accepted_by-sends storage s hold.Free came e m = muttered s came.sent m
-accepted_by-sends storage s (hold.Offer t p) came e m = muttered s came.sent m
-accepted_by-sends storage s (hold.Away t) came e m = muttered s came.sent m
-accepted_by-sends storage s (hold.Reset r) came e m = muttered s came.sent m
+accepted_by-sends storage s other came e m = muttered s came.sent m
 
 accept-sends : (storage : Contents) (s : SubchannelState) (step : Option HoldStep) → SendsHoldSignal step → Sends (accept storage s step)
 accept-sends storage s step m =

@@ -1,5 +1,5 @@
 -- How a subchannel's doings change what is to be known of the bytes of a write.
-use Rattle.std.proofs.Common.{◌≡◌, refl, sym, ◌∙◌, ap, subst, ℕ, zero, suc, ◌+◌, ◌≤◌, Bool, true, false, ◌==◌, ◌&&◌, ◌||◌, length, Option, None, Some, Result, Ok, Err, List, [], ◌∷◌, ◌++◌, inl, inr, arith}
+use Rattle.std.proofs.Common.{◌≡◌, refl, sym, ◌∙◌, ap, subst, ℕ, zero, suc, ◌+◌, ◌≤◌, Bool, true, false, ◌==◌, ◌&&◌, ◌||◌, length, Option, Some, Result, Ok, Err, List, [], ◌∷◌, ◌++◌, inl, inr, arith}
 use Rattle.std.specs.Prelude.{◌⊎◌, min, nat_lt, is_some, if◌then◌else◌, Contains}
 use Rattle.std.proofs.lemmas.Bool.{eqb-true, and_parts}
 use Rattle.std.proofs.Math.Nat.{min-le_left}
@@ -31,9 +31,7 @@ view_of t p = record { seq = t.sequence; next = next_place t.moving; room = room
 -- the number of the last chunk stays
 chained_to-seq : (t : Transfer) (walk : WalkPlace) (a : Option Advance) → (chained_to t walk a).sequence ≡ t.sequence
 chained_to-seq t walk (Some (advance.Takes ccw)) = refl
-chained_to-seq t walk (Some advance.Suspends) = refl
-chained_to-seq t walk (Some (advance.Stops check)) = refl
-chained_to-seq t walk None = refl
+chained_to-seq t walk other = refl
 
 moved_on-if : (storage : Contents) (t : Transfer) (n : ℕ) (b : Bool) → (if b then chained storage (with_moved t n) else with_moved t n).sequence ≡ t.sequence
 moved_on-if storage t n true =
@@ -191,9 +189,7 @@ module _ (accesses : AreAccesses) where
 -- a command that begins has moved nothing
 begins-new : (walk : WalkPlace) (n : ℕ) (a : Option Advance) (t : Transfer) → command_begins walk n a ≡ came.Begins t → t.sequence ≡ 0
 begins-new walk n (Some (advance.Takes ccw)) t e = let same : transfer_of walk n ccw ≡ t = cc e in ap (λ (x : Transfer). x.sequence) (sym same)
-begins-new walk n (Some advance.Suspends) t e = absurd (cc e)
-begins-new walk n (Some (advance.Stops check)) t e = absurd (cc e)
-begins-new walk n None t e = absurd (cc e)
+begins-new walk n other t e = absurd (cc e)
 
 pub goes-new : (storage : Contents) (n : ℕ) (old : WalkPlace) (t : Transfer) → (goes_to storage n old).came ≡ came.Begins t → t.sequence ≡ 0
 goes-new storage n old t e = begins-new (after_acts old (advance_acts storage old)) n (advance_of old (advance_acts storage old)) t e

@@ -40,28 +40,13 @@ abbrev pub IsOfCommand : ℕ → ℕ → ℕ → ℕ → Type 0 → Type 0
 IsOfCommand number m t n Q = (t ≤ number) × (t ≡ number → (n ≤ m) × (n ≡ m → Q))
 
 abbrev pub IsGiving : ℕ → ℕ → (ℕ → List ℕ → Type 0) → Down → Type 0
-IsGiving number m Q (down.Select t) = Unit {0}
-IsGiving number m Q (down.Command t n code room) = Unit {0}
-IsGiving number m Q (down.Grant t c) = Unit {0}
-IsGiving number m Q (down.Refuse t c) = Unit {0}
-IsGiving number m Q (down.Took t n s room) = Unit {0}
 IsGiving number m Q (down.Give bytes t c n s) = IsOfCommand number m t n (Q s bytes)
-IsGiving number m Q (down.Halt t) = Unit {0}
-IsGiving number m Q (down.Release t) = Unit {0}
-IsGiving number m Q (down.Reset r b) = Unit {0}
-IsGiving number m Q (down.Got a) = Unit {0}
+IsGiving number m Q d = Unit {0}
 
 abbrev pub IsTelling : ℕ → ℕ → (ℕ → Load → Type 0) → Type 0 → Up → Type 0
-IsTelling number m R E (up.Accept t) = Unit {0}
-IsTelling number m R E (up.Busy t) = Unit {0}
-IsTelling number m R E (up.Leave t c) = Unit {0}
-IsTelling number m R E (up.Back t c) = Unit {0}
 IsTelling number m R E (up.Data l t c n s) = IsOfCommand number m t n (R s l)
 IsTelling number m R E (up.End t n status more) = IsOfCommand number m t n E
-IsTelling number m R E (up.Released t) = Unit {0}
-IsTelling number m R E (up.Cleared r) = Unit {0}
-IsTelling number m R E (up.Notice b) = Unit {0}
-IsTelling number m R E (up.Attn a status) = Unit {0}
+IsTelling number m R E x = Unit {0}
 
 pub record IsWired (side : Side) (number m : ℕ) (P : Option AtHand → Type 0) (Q : ℕ → List ℕ → Type 0) (R : ℕ → Load → Type 0) (down_wires : List (List Down)) (up_wires : List (List Up)) (u : UnitState) : Type 0 where
   pub hand : IsHeld side number P u
@@ -71,30 +56,15 @@ pub record IsWired (side : Side) (number m : ℕ) (P : Option AtHand → Type 0)
 -- another claim of each
 giving-other : (number m after i : ℕ) (Q W : ℕ → List ℕ → Type 0) → ((t n s : ℕ) (bytes : List ℕ) → IsOfCommand number m t n (Q s bytes) → IsOfCommand after i t n (W s bytes)) →
     (d : Down) → IsGiving number m Q d → IsGiving after i W d
-giving-other number m after i Q W f (down.Select t) h = tt
-giving-other number m after i Q W f (down.Command t n code room) h = tt
-giving-other number m after i Q W f (down.Grant t c) h = tt
-giving-other number m after i Q W f (down.Refuse t c) h = tt
-giving-other number m after i Q W f (down.Took t n s room) h = tt
 giving-other number m after i Q W f (down.Give bytes t c n s) h = f t n s bytes h
-giving-other number m after i Q W f (down.Halt t) h = tt
-giving-other number m after i Q W f (down.Release t) h = tt
-giving-other number m after i Q W f (down.Reset r b) h = tt
-giving-other number m after i Q W f (down.Got a) h = tt
+giving-other number m after i Q W f d h = tt
 
 telling-other : (number m after i : ℕ) (R W : ℕ → Load → Type 0) (E F : Type 0) →
     ((t n s : ℕ) (l : Load) → IsOfCommand number m t n (R s l) → IsOfCommand after i t n (W s l)) → ((t n : ℕ) → IsOfCommand number m t n E → IsOfCommand after i t n F) →
     (x : Up) → IsTelling number m R E x → IsTelling after i W F x
-telling-other number m after i R W E F f g (up.Accept t) h = tt
-telling-other number m after i R W E F f g (up.Busy t) h = tt
-telling-other number m after i R W E F f g (up.Leave t c) h = tt
-telling-other number m after i R W E F f g (up.Back t c) h = tt
 telling-other number m after i R W E F f g (up.Data l t c n s) h = f t n s l h
 telling-other number m after i R W E F f g (up.End t n status more) h = g t n h
-telling-other number m after i R W E F f g (up.Released t) h = tt
-telling-other number m after i R W E F f g (up.Cleared r) h = tt
-telling-other number m after i R W E F f g (up.Notice b) h = tt
-telling-other number m after i R W E F f g (up.Attn a status) h = tt
+telling-other number m after i R W E F f g x h = tt
 
 same-command : (number m t n : ℕ) (A B : Type 0) → (A → B) → IsOfCommand number m t n A → IsOfCommand number m t n B
 same-command number m t n A B f h = (h.0, λ e. let k = h.1 e in (k.0, λ i. f (k.1 i)))
@@ -152,16 +122,9 @@ wired-calm side number m P Q R downs ups u v c k = record {
 
 -- a signal to the unit, of its own side
 quiet-telling : (number m : ℕ) (R : ℕ → Load → Type 0) (E : Type 0) (x : Up) → IsQuiet x → IsTelling number m R E x
-quiet-telling number m R E (up.Accept t) h = tt
-quiet-telling number m R E (up.Busy t) h = tt
-quiet-telling number m R E (up.Leave t c) h = tt
-quiet-telling number m R E (up.Back t c) h = tt
 quiet-telling number m R E (up.Data l t c n s) h = absurd h
 quiet-telling number m R E (up.End t n status more) h = absurd h
-quiet-telling number m R E (up.Released t) h = tt
-quiet-telling number m R E (up.Cleared r) h = tt
-quiet-telling number m R E (up.Notice b) h = tt
-quiet-telling number m R E (up.Attn a status) h = tt
+quiet-telling number m R E x h = tt
 
 quiet-sent : (number m : ℕ) (R : ℕ → Load → Type 0) (E : Type 0) (one : Option (OnPath Up)) → IfSome one (λ x. IsQuiet x.signal) → IfSome one (λ x. IsTelling number m R E x.signal)
 quiet-sent number m R E None h = tt
@@ -209,14 +172,9 @@ module _ (side : Side) (drawn number m sent : ℕ) (codes : List ℕ) (P : Optio
       IsHeld side number P (unit_after u (unit_takes u side p d may))
   down-held may u p (down.Select t) z a g l q i n h = select-held may side number P u p t z h
   down-held may u p (down.Command t c code room) z a g l q i n h = command-held may side number P u p t c code room h n
-  down-held may u p (down.Grant t c) z a g l q i n h = easy-held may side number P u p (down.Grant t c) tt h
-  down-held may u p (down.Refuse t c) z a g l q i n h = easy-held may side number P u p (down.Refuse t c) tt h
   down-held may u p (down.Took t c s room) z a g l q i n h = took-held may side number P u p t c s room a h
   down-held may u p (down.Give bytes t c e s) z a g l q i n h = give-held may side number P u p t c e s bytes (λ j w o. g s bytes ((q.1 j).1 (w ∙ l o))) h
-  down-held may u p (down.Halt t) z a g l q i n h = easy-held may side number P u p (down.Halt t) tt h
-  down-held may u p (down.Release t) z a g l q i n h = easy-held may side number P u p (down.Release t) tt h
-  down-held may u p (down.Reset v w) z a g l q i n h = easy-held may side number P u p (down.Reset v w) tt h
-  down-held may u p (down.Got t) z a g l q i n h = easy-held may side number P u p (down.Got t) tt h
+  down-held may u p d z a g l q i n h = easy-held may side number P u p d tt h
 
 pub wired-takes : (may : Bool) → (side : Side) (drawn number m sent : ℕ) (codes : List ℕ) (P : Option AtHand → Type 0) (Q : ℕ → List ℕ → Type 0) (R : ℕ → Load → Type 0) (downs : List (List Down)) (ups : List (List Up))
     (u : UnitState) (path : ℕ) (d : Down) → slice_get (queue downs path) 0 ≡ Some d → IsDown drawn number sent codes d → P None → StaysAnswered P →
@@ -270,16 +228,12 @@ first-tells side number m P Q R downs ups u path x e k = on-first (IsTelling num
 
 -- the signals of the hold alone give nothing
 giving-hold : (number m : ℕ) (Q : ℕ → List ℕ → Type 0) (d : Down) → IsOfHold d → IsGiving number m Q d
-giving-hold number m Q (down.Select t) h = absurd h
-giving-hold number m Q (down.Command t n code room) h = absurd h
 giving-hold number m Q (down.Grant t c) h = tt
 giving-hold number m Q (down.Refuse t c) h = tt
-giving-hold number m Q (down.Took t n s room) h = absurd h
-giving-hold number m Q (down.Give bytes t c n s) h = absurd h
 giving-hold number m Q (down.Halt t) h = tt
 giving-hold number m Q (down.Release t) h = tt
-giving-hold number m Q (down.Reset r b) h = absurd h
 giving-hold number m Q (down.Got a) h = tt
+giving-hold number m Q d h = absurd h
 
 pub sent-hold : (number m : ℕ) (Q : ℕ → List ℕ → Type 0) (one : Option (OnPath Down)) → IfSome one (λ d. IsOfHold d.signal) → IfSome one (λ d. IsGiving number m Q d.signal)
 sent-hold number m Q None h = tt

@@ -1,5 +1,5 @@
 -- The paths that choosing marks: what is chosen tells the same.
-use Rattle.std.proofs.Common.{◌≡◌, refl, true, false, Option, Some}
+use Rattle.std.proofs.Common.{◌≡◌, refl, true, Option, Some}
 use Rattle.chan_events.specs.Replies.{Reply}
 use Rattle.chan_events.specs.declared.reply.Reply.TheVariants as reply
 use Rattle.scsw_irb.specs.declared.scsw.Scsw.{Scsw}
@@ -10,19 +10,5 @@ use Rattle.program_laws.specs.Traces.{ProgramTrace, chosen_at}
 -- it is told of by the reply, and by the program that waits
 pub marked-told : (x : Subchannel) (pmcw : PmcwState) (scsw : Scsw) (r : Reply) (k : Option ProgramTrace) →
     chosen_at (Some x) r k ≡ chosen_at (Some (record x { state = record x.state { pmcw = pmcw; scsw = scsw } })) r k
-marked-told x pmcw scsw reply.Done k = refl
-marked-told x pmcw scsw (reply.Shown bytes) k = refl
-marked-told x pmcw scsw (reply.Code answer) k = refl
-marked-told x pmcw scsw (reply.Status answer shown) k = refl
-marked-told x pmcw scsw (reply.Interruption code) k = refl
-marked-told x pmcw scsw (reply.PathReset code) k = refl
-marked-told x pmcw scsw (reply.ChannelReport report) k = refl
-marked-told x pmcw scsw (reply.Paths engaged) k = refl
 marked-told x pmcw scsw (reply.Offered t p true) k = refl
-marked-told x pmcw scsw (reply.Offered t p false) k = refl
-marked-told x pmcw scsw (reply.ResetSent r path) k = refl
-marked-told x pmcw scsw (reply.HaltSent t path) k = refl
-marked-told x pmcw scsw reply.Pending k = refl
-marked-told x pmcw scsw reply.Idle k = refl
-marked-told x pmcw scsw (reply.Up signal taken sent) k = refl
-marked-told x pmcw scsw (reply.Down signal taken sent) k = refl
+marked-told x pmcw scsw r k = refl

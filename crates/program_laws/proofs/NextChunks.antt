@@ -41,9 +41,7 @@ then-flags t u v a b = (b.0 ∙ a.0, b.1 ∙ a.1, b.2 ∙ a.2, b.3 ∙ a.3, b.4 
 
 chained_to-flags : (t : Transfer) (walk : WalkPlace) (a : Option Advance) → SameFlags t (chained_to t walk a)
 chained_to-flags t walk (Some (advance.Takes ccw)) = (refl, refl, refl, refl, refl)
-chained_to-flags t walk (Some advance.Suspends) = (refl, refl, refl, refl, refl)
-chained_to-flags t walk (Some (advance.Stops check)) = (refl, refl, refl, refl, refl)
-chained_to-flags t walk None = (refl, refl, refl, refl, refl)
+chained_to-flags t walk other = (refl, refl, refl, refl, refl)
 
 moved_on-flags : (storage : Contents) (t : Transfer) (n : ℕ) (b : Bool) → SameFlags t (if b then chained storage (with_moved t n) else with_moved t n)
 moved_on-flags storage t n true =

@@ -102,12 +102,8 @@ position-less st qs start k (inr e) o = subst (λ (x : Option ProgramPosition). 
 
 at-less : (phase : HoldPhase) (w v : Option Program) (st qs : Option ProgramPosition) (start : ℕ) (k : ProgramTrace) → IsLess w v → IsLess st qs → IsOfferedAt phase w st start k →
     IsOfferedAt phase v qs start k
-at-less hold.Free w v st qs start k e f o = tt
 at-less (hold.Offer t p) w v st qs start k e f o = (start-less w v start k e o.0, position-less st qs start k f o.1)
-at-less (hold.On t p c) w v st qs start k e f o = tt
-at-less (hold.Away t) w v st qs start k e f o = tt
-at-less (hold.Letting t p) w v st qs start k e f o = tt
-at-less (hold.Reset r) w v st qs start k e f o = tt
+at-less other w v st qs start k e f o = tt
 
 less-offered : (s x : SubchannelState) (k : Option ProgramTrace) → x.hold.phase ≡ s.hold.phase → x.offered ≡ s.offered → IsLess s.waiting x.waiting → IsLess s.suspended x.suspended →
     OfferedBy s k → OfferedBy x k
@@ -124,12 +120,8 @@ if-offer x k f = by x.hold.phase refl
     none phase e o = subst (λ (y : HoldPhase). IsOfferedAt y x.waiting x.suspended x.offered k) (sym e) o
 
     by : (phase : HoldPhase) → x.hold.phase ≡ phase → IsOffered x k
-    by hold.Free e = none hold.Free e tt
     by (hold.Offer t p) e = f t p e
-    by (hold.On t p c) e = none (hold.On t p c) e tt
-    by (hold.Away t) e = none (hold.Away t) e tt
-    by (hold.Letting t p) e = none (hold.Letting t p) e tt
-    by (hold.Reset r) e = none (hold.Reset r) e tt
+    by other e = none other e tt
 
 -- the hold is to be reset
 reset-offers : (s : SubchannelState) (k : Option ProgramTrace) (shows : Bool) → OffersBy s k → OffersBy (reset_with s shows) k
@@ -156,15 +148,7 @@ offer-traced : (returns : Bool) (storage : Contents) (s : SubchannelState) (h : 
     (takes_up returns storage (with_hold s h (hold.Offer t q)) p x).step.state.hold.phase ≡ hold.Offer v w → trace_meets storage (with_hold s h (hold.Offer t q)) p x k ≡ k
 offer-traced returns storage s h t q p (up.Accept u) k v w e =
     accept-traced storage s h p t q u v w k (goes_ahead s) (u == t) (takes-meets returns storage (with_hold s h (hold.Offer t q)) p (up.Accept u)) e
-offer-traced returns storage s h t q p (up.Busy u) k v w e = refl
-offer-traced returns storage s h t q p (up.Leave u c) k v w e = refl
-offer-traced returns storage s h t q p (up.Back u c) k v w e = refl
-offer-traced returns storage s h t q p (up.Data load u c n seq) k v w e = refl
-offer-traced returns storage s h t q p (up.End u n status more) k v w e = refl
-offer-traced returns storage s h t q p (up.Released u) k v w e = refl
-offer-traced returns storage s h t q p (up.Cleared r) k v w e = refl
-offer-traced returns storage s h t q p (up.Notice b) k v w e = refl
-offer-traced returns storage s h t q p (up.Attn a status) k v w e = refl
+offer-traced returns storage s h t q p x k v w e = refl
 
 traced-same : (returns : Bool) (storage : Contents) (s : SubchannelState) (t q p : ℕ) (x : Up) (k : ProgramTrace) (v w : ℕ) → s.hold.phase ≡ hold.Offer t q →
     (takes_up returns storage s p x).step.state.hold.phase ≡ hold.Offer v w → trace_meets storage s p x k ≡ k
@@ -283,28 +267,16 @@ untaken-offers s k taken absorbed o = (o.0, at s.hold.phase s.waiting s.suspende
     stands (Some st) x = x
 
     at : (phase : HoldPhase) (w : Option Program) (st : Option ProgramPosition) → IsOfferedAt phase w st s.offered k → IsOfferedAt phase w st s.offered next
-    at hold.Free w st x = tt
     at (hold.Offer t p) w st x = (waits w x.0, stands st x.1)
-    at (hold.On t p c) w st x = tt
-    at (hold.Away t) w st x = tt
-    at (hold.Letting t p) w st x = tt
-    at (hold.Reset r) w st x = tt
+    at other w st x = tt
 
 takes-if : (s : SubchannelState) (k : ProgramTrace) (code : ℕ) (b : Bool) → OffersBy s (Some k) → OffersBy s (Some (if b then record k { taken = code ∷ k.taken; absorbed = [] } else k))
 takes-if s k code true o = untaken-offers s k (code ∷ k.taken) [] o
 takes-if s k code false o = o
 
 takes-offers : (s : SubchannelState) (d : Down) (k : ProgramTrace) → OffersBy s (Some k) → OffersBy s (Some (takes d k))
-takes-offers s (down.Select t) k o = o
 takes-offers s (down.Command t n code room) k o = takes-if s k code (t == k.number) o
-takes-offers s (down.Grant t c) k o = o
-takes-offers s (down.Refuse t c) k o = o
-takes-offers s (down.Took t n seq room) k o = o
-takes-offers s (down.Give bytes t c n seq) k o = o
-takes-offers s (down.Halt t) k o = o
-takes-offers s (down.Release t) k o = o
-takes-offers s (down.Reset r b) k o = o
-takes-offers s (down.Got a) k o = o
+takes-offers s d k o = o
 
 taken-offers : (s : SubchannelState) (d : Down) (came : Bool) (sent : Option (OnPath Up)) (k : Option ProgramTrace) → OffersBy s k → OffersBy s (taken_at (reply.Down d came sent) k)
 taken-offers s d false sent k o = o
@@ -340,11 +312,8 @@ report-if s count x k true o = absorbs-offers s count x k o
 report-if s count x k false o = o
 
 reported-offers : (s : SubchannelState) (u : UnitState) (report : Report) (a : DeviceAnswer) (k : ProgramTrace) → OffersBy s (Some k) → OffersBy s (Some (reported u report a k))
-reported-offers s u report answer.Begins k o = o
 reported-offers s u report (answer.Absorbed count) k o = report-if s count u.at_hand k (report.number == k.number) o
-reported-offers s u report (answer.Supplied bytes) k o = o
-reported-offers s u report answer.Again k o = o
-reported-offers s u report (answer.Ended status more) k o = o
+reported-offers s u report other k o = o
 
 reported_at-offers : (s : SubchannelState) (u : UnitState) (report : Report) (k : Option ProgramTrace) → OffersBy s k → OffersBy s (reported_at (Some u) report k)
 reported_at-offers s u report None o = o
@@ -366,12 +335,8 @@ started-waits : (s : SubchannelState) (orb : Orb) (k : ProgramTrace) → Within 
 started-waits s orb k w = λ e. absurd (omega (arith, e, w.0))
 
 started-at : (phase : HoldPhase) (s : SubchannelState) (orb : Orb) (k : ProgramTrace) → Within s → IsOfferedAt phase (started s orb).waiting (started s orb).suspended (started s orb).offered k
-started-at hold.Free s orb k w = tt
 started-at (hold.Offer t p) s orb k w = (started-waits s orb k w, tt)
-started-at (hold.On t p c) s orb k w = tt
-started-at (hold.Away t) s orb k w = tt
-started-at (hold.Letting t p) s orb k w = tt
-started-at (hold.Reset r) s orb k w = tt
+started-at other s orb k w = tt
 
 started-offers : (s : SubchannelState) (orb : Orb) (k : Option ProgramTrace) → OffersBy s k → OffersBy (started s orb) k
 started-offers s orb None o = (start-within s orb o.0, tt)

@@ -20,7 +20,7 @@ use Rattle.machine_laws.proofs.PathSets.{without-parts, each-true}
 use Rattle.subchannel_model.specs.declared.cause.StatusCause.TheVariants as cause
 use Rattle.subchannel_model.specs.declared.state.Candidate.{Candidate}
 use Rattle.subchannel_model.specs.declared.state.Chosen.{Chosen}
-use Rattle.subchannel_model.specs.declared.state.Chosen.TheVariants.{Idle, Resets, PerformsClear, Halts, PerformsHalt, FindsNoPath, Offers}
+use Rattle.subchannel_model.specs.declared.state.Chosen.TheVariants.{Resets, PerformsClear, Halts, PerformsHalt, FindsNoPath, Offers}
 use Rattle.subchannel_model.specs.declared.state.Program.{Program}
 use Rattle.subchannel_model.specs.declared.state.ProgramPosition.{ProgramPosition}
 use Rattle.subchannel_model.specs.declared.state.Subchannel.{Subchannel}
@@ -62,13 +62,11 @@ IsNoStart e = (cpu word address : ℕ) → e ≡ event.Execute cpu (instruction.
 
 module _ (a : Option Orb) where
   chosen-masked : (s : SubchannelState) (c : Chosen) → Masked a s → Masked a (state_chosen s c)
-  chosen-masked s Idle k = k
-  chosen-masked s (Resets r path) k = k
   chosen-masked s PerformsClear k = cause-masked a s cause.ClearDone k
   chosen-masked s (Halts t path) k = record { mask = k.mask; pending = k.pending }
   chosen-masked s PerformsHalt k = cause-masked a s cause.HaltDone k
   chosen-masked s FindsNoPath k = cause-masked a s cause.NoPath k
-  chosen-masked s (Offers c path) k = k
+  chosen-masked s other k = k
 
   swept-masked : (what : Sweep) (x : Subchannel) → Masked a x.state → Masked a (swept what x).state
   swept-masked what x k =
@@ -110,7 +108,7 @@ pub stays-masked : (a : Option Orb) (s : State) (e : Event) (r : Reply) (new : S
 stays-masked a s e r new place step walk same not masked = λ id sub named here.
     let mine : place_in id s.subs ≡ Some place = sym (place-stays id s.subs new.subs same) ∙ named in
     let old : (x : Subchannel) × (slice_get s.subs place ≡ Some x) = placed (is_named id) s.subs place mine in
-    turned-masked a s.sets id e r old.0 sub.state not (masked id old.0 mine old.1) (step-turns s id place old.0 mine old.1 e r new walk step sub here)
+    turned-masked a s.sets id e r old.0 sub.state not (masked id old.0 mine old.1) (step-turns s id place old.0 mine old.1 e r new step sub here)
 
 -- START SUBCHANNEL: one subchannel is set
 pub set-masked : (a b : Option Orb) (subs news : List Subchannel) (at place : ℕ) (x after : Subchannel) → SameSetups subs news → slice_get subs at ≡ Some x → news ≡ slice_set subs at after →
@@ -138,14 +136,10 @@ OffersPath sub r = (t path : ℕ) (resumes : Bool) → r ≡ reply.Offered t pat
 
 choose-path : (subs : List Subchannel) (sub marked : Subchannel) (choice : Option ℕ) (c : Chosen) → IsChoice (paths_to_choose subs sub) choice → Suits c sub.state → IsOffer choice c → IsAhead sub.state c →
     IfOk (choose_sub marked c) (λ t. OffersPath sub t.reply)
-choose-path subs sub marked choice Idle i f o h = λ t p z e. absurd (cc e)
 choose-path subs sub marked choice (Resets r path) i f o h =
     send-ok (λ t. OffersPath sub t.reply) marked _ path (down.Reset r marked.state.hold.known) (reply.ResetSent r path) (λ t p z e. absurd (cc e))
-choose-path subs sub marked choice PerformsClear i f o h = λ t p z e. absurd (cc e)
 choose-path subs sub marked choice (Halts u path) i f o h =
     send-ok (λ t. OffersPath sub t.reply) marked _ path (down.Halt u) (reply.HaltSent u path) (λ t p z e. absurd (cc e))
-choose-path subs sub marked choice PerformsHalt i f o h = λ t p z e. absurd (cc e)
-choose-path subs sub marked choice FindsNoPath i f o h = λ t p z e. absurd (cc e)
 choose-path subs sub marked choice (Offers c path) i f o h =
     send-ok (λ t. OffersPath sub t.reply) marked _ path (down.Select (marked.state.drawn + 1)) (reply.Offered (marked.state.drawn + 1) path c.resumes)
     (λ t p z e.
@@ -155,6 +149,7 @@ choose-path subs sub marked choice (Offers c path) i f o h =
       subst (λ (q : ℕ). is_member sub.state.pmcw.logical q ≡ true) same (reach-logical sub path within).0,
       found-pending sub.state.waiting sub.state.suspended sub.state.scsw.activity.start_pending sub.state.scsw.activity.resume_pending c h.1,
     ))
+choose-path subs sub marked choice other i f o h = λ t p z e. absurd (cc e)
 
 named-in : (subs : List Subchannel) (x : Option SubchannelId) (place : ℕ) → place_of_id subs x ≡ Some place → (id : SubchannelId) × (place_in id subs ≡ Some place)
 named-in subs None place e = absurd (cc e)

@@ -1,10 +1,8 @@
 -- After each step an offer that is over by what was seen is over, and each other goes ahead.
-use Rattle.std.proofs.Common.{◌≡◌, refl, sym, ◌∙◌, ap, subst, ℕ, ◌||◌, Bool, true, false, Option, None, Some, Result, Ok, Err, List, inl, inr}
+use Rattle.std.proofs.Common.{◌≡◌, refl, sym, ◌∙◌, ap, subst, ℕ, ◌||◌, Bool, true, false, Option, None, Some, Result, List, inl, inr}
 use Rattle.std.specs.Prelude.{if◌then◌else◌, slice_get, slice_set, IfOk}
 use Rattle.std.proofs.lemmas.Bool.{eq-eqb}
 use Rattle.schib_block.specs.declared.pmcw.Pmcw as block
-use Rattle.storage_keys.specs.declared.StorageFault.{StorageFault}
-use Rattle.storage_keys.specs.Storage.{operand_check}
 use Rattle.chan_model.specs.declared.answer.Answer.TheVariants as answer
 use Rattle.chan_model.specs.declared.answer.ConditionCode.{ConditionCode}
 use Rattle.chan_model.specs.declared.answer.ConditionCode.TheVariants as code
@@ -17,8 +15,6 @@ use Rattle.chan_events.specs.declared.event.Event.TheVariants as event
 use Rattle.chan_events.specs.declared.event.Instruction.TheVariants as instruction
 use Rattle.chan_events.specs.Replies.{Reply}
 use Rattle.chan_events.specs.declared.reply.Reply.TheVariants as reply
-use Rattle.channel_config.specs.declared.names.SubchannelId.{SubchannelId}
-use Rattle.channel_config.specs.SubchannelWords.{subchannel_named}
 use Rattle.subchannel_model.specs.declared.state.Subchannel.{Subchannel}
 use Rattle.subchannel_model.specs.declared.state.SubchannelState.{SubchannelState}
 use Rattle.subchannel_model.specs.declared.status.Condition.{Condition}
@@ -31,21 +27,24 @@ use Rattle.subchannel_model.specs.Places.{Found, place_in, place_of_id, found_at
 use Rattle.subchannel_model.specs.Resume.{resumed}
 use Rattle.subchannel_model.specs.Start.{started}
 use Rattle.subchannel_model.specs.Test.{ends_suspended, tested_wholly, tsch_code}
-use Rattle.machine_model.specs.InstructionSteps.{subchannel_word, function_sub, test_with, test_at, test_sub, code_at}
+use Rattle.machine_model.specs.InstructionSteps.{subchannel_word, function_sub, test_with, code_at}
 use Rattle.machine_model.specs.PathSteps.{swept}
 use Rattle.machine_model.specs.State.{State, place_of}
 use Rattle.machine_model.specs.Steps.{Step}
-use Rattle.machine_model.specs.Turns.{SubTurn, UpTurn, DownTurn, Outcome, with_state, where_tested}
-use Rattle.machine_model.proofs.Named.{Executes_on}
+use Rattle.machine_model.specs.Turns.{SubTurn, UpTurn, DownTurn, with_state}
 use Rattle.step_laws.specs.Walks as walked
 use Rattle.step_laws.specs.Walks.{Walked, Function, Resumes, Clears, Cancels, effect_of, instruction_of, OneSub, OneUnit}
-use Rattle.step_laws.proofs.Places.{set-get, map-get}
+use Rattle.step_laws.proofs.Places.{set-get, map-get, found-there}
 use Rattle.seen_laws.specs.BeginsItsOwn.{is_code_zero, over_by, over_chosen}
 use Rattle.seen_laws.proofs.OwnSteps.{IsApart, down-apart, step-apart, act-apart}
-use Rattle.seen_laws.proofs.OwnRuns.{found-there, settled-answered, Answered, Unfound, There, halt-answered, cancel-answered}
+use Rattle.seen_laws.proofs.OwnRuns.{Answered, Unfound, There, halt-answered, cancel-answered}
 use Rattle.program_laws.specs.ProgramTold.{over_tested, over_after}
 use Rattle.program_laws.proofs.Starting as starting_step
 use Rattle.program_laws.proofs.Overs.{Owned, same-tied, reset-tied, halt-owned, cancel-owned, start-owned, test-owned, resume-just, IsTurn, chosen-owned, up-owned, same-just, swept-owned, not-eqb}
+use Rattle.subchannel_model.specs.Conditions.{left_by}
+use Rattle.step_laws.proofs.Executed.{IsDone, reply_of}
+use Rattle.step_laws.proofs.Turns as turn
+use Rattle.step_laws.proofs.Turns.{TurnOf, HasTurn, step-turn}
 
 -- at a place
 abbrev pub OwnedAt : Bool → List Subchannel → ℕ → Type 0
@@ -81,15 +80,11 @@ IsOther e = Unit {0}
 
 modify-owned : (over : Bool) (sub : Subchannel) (given : block.Pmcw) (c : ConditionCode) → Owned over sub.state → Owned over (function_sub sub c (modified_state sub given)).sub.state
 modify-owned over sub given code.Zero k = (k.0, same-tied over over sub.state (modified_state sub given) refl (same-just over sub.state (modified_state sub given) refl refl refl refl) k.1)
-modify-owned over sub given code.One k = k
-modify-owned over sub given code.Two k = k
-modify-owned over sub given code.Three k = k
+modify-owned over sub given c k = k
 
 function-owned : (over : Bool) (sub : Subchannel) (effect : SubchannelState) (c : ConditionCode) → (Owned over sub.state → Owned over effect) → Owned over sub.state → Owned over (function_sub sub c effect).sub.state
 function-owned over sub effect code.Zero f k = f k
-function-owned over sub effect code.One f k = k
-function-owned over sub effect code.Two f k = k
-function-owned over sub effect code.Three f k = k
+function-owned over sub effect c f k = k
 
 performed-owned : (over : Bool) (sub : Subchannel) (f : Function) (c : ConditionCode) (s : State) (e : Event) (place : ℕ) → IsOther e → walked.IsExecuted s e place (instruction_of f) → Owned over sub.state →
     Owned over (function_sub sub c (effect_of f sub.state)).sub.state
@@ -127,7 +122,6 @@ quiet-choose e r word q h = subst (λ (x : Event). walked.IsQuiet x r) h q
 choose-at : (over : Bool) (s : State) (e : Event) (r : Reply) (new : State) (word place : ℕ) → e ≡ event.Choose word → Walked s e r new → OwnedAt over s.subs place →
     OwnedAt (if is_path (place_of s word) place then over_chosen r over else over) new.subs place
 choose-at over s _ _ _ word place h (walked.Stays e r new q sets subs units up) owned = absurd (quiet-choose e r word q h)
-choose-at over s _ _ _ word place h (walked.Started cpu w address at x orb c new m one) owned = absurd (cc h)
 choose-at over s _ _ _ word place h (walked.Tested e r at x c new q one address by answers) owned = absurd (quiet-choose e r word q h)
 choose-at over s _ _ _ word place h (walked.Modified e r at x given c new q one) owned = absurd (quiet-choose e r word q h)
 choose-at over s _ _ _ word place h (walked.Performed e r at x f c new q one by answers) owned = absurd (quiet-choose e r word q h)
@@ -139,12 +133,8 @@ choose-at over s _ _ _ word place h (walked.Chosen w at x choice t new m y suits
     (λ e k. subst (λ (b : Bool). Owned (if b then over_chosen t.reply over else over) t.sub.state) (sym (ap (λ (o : Option ℕ). is_path o place) named ∙ eq-eqb at place e))
     (subst (λ (r : Result SubTurn Fault). IfOk r (IsTurn over)) ok (chosen-owned over x choice k)))
     (λ n. ap (λ (b : Bool). if b then over_chosen t.reply over else over) (ap (λ (o : Option ℕ). is_path o place) named ∙ not-eqb at place n)) owned)
-choose-at over s _ _ _ word place h (walked.Met w p returns at x t new m ok one may) owned = absurd (cc h)
-choose-at over s _ _ _ word place h (walked.Sunk w p may owed at x u t new m ok one) owned = absurd (cc h)
-choose-at over s _ _ _ word place h (walked.Reported i at x u report t new m reached ok one) owned = absurd (cc h)
-choose-at over s _ _ _ word place h (walked.Acted i at x u what t new side its ok one) owned = absurd (cc h)
-choose-at over s _ _ _ word place h (walked.Restarted at owed u r new found sets subs units up) owned = absurd (cc h)
 choose-at over s _ _ _ word place h (walked.Swept e r what new q sets subs units by) owned = absurd (quiet-choose e r word q h)
+choose-at over s _ _ _ word place h w owned = absurd (cc h)
 
 -- an instruction that ends an offer with code 0
 by-zero : (b z over : Bool) → z ≡ false → (if b then (if z then true else over) else over) ≡ over
@@ -173,9 +163,7 @@ coded-owned : (over : Bool) (s : State) (word at place : ℕ) (x : Subchannel) (
     (c ≡ code.Zero → Owned over x.state → Owned true effect) → OwnedAt over s.subs place →
     OwnedAt (if is_path (place_of s word) place then over_by (function_sub x c effect).reply over else over) (slice_set s.subs at (function_sub x c effect).sub) place
 coded-owned over s word at place x effect code.Zero n there f owned = zero-owned over s word at place x (with_state x effect) (function_sub x code.Zero effect).reply n there refl (f refl) owned
-coded-owned over s word at place x effect code.One n there f owned = kept-owned over s word at place x (with_state x x.state) (function_sub x code.One effect).reply there refl refl owned
-coded-owned over s word at place x effect code.Two n there f owned = kept-owned over s word at place x (with_state x x.state) (function_sub x code.Two effect).reply there refl refl owned
-coded-owned over s word at place x effect code.Three n there f owned = kept-owned over s word at place x (with_state x x.state) (function_sub x code.Three effect).reply there refl refl owned
+coded-owned over s word at place x effect c n there f owned = kept-owned over s word at place x (with_state x x.state) (function_sub x c effect).reply there refl refl owned
 
 answered-owned : (over : Bool) (s : State) (word place : ℕ) (table : Condition → ConditionCode) (effect : SubchannelState → SubchannelState) (r : Reply) (subs : List Subchannel) →
     ((x : SubchannelState) → table (condition_of (Some x)) ≡ code.Zero → Owned over x → Owned true (effect x)) → Answered s word table effect r subs → OwnedAt over s.subs place →
@@ -204,30 +192,29 @@ data Tested (s : State) (word : ℕ) : Reply → List Subchannel → Type 0 wher
 tested-by : (s : State) (word at : ℕ) (x : Subchannel) (c : ConditionCode) → place_of s word ≡ Some at → slice_get s.subs at ≡ Some x →
     Tested s word (test_with x c).reply (slice_set s.subs at (test_with x c).sub)
 tested-by s word at x code.Zero n there = Tests at x (with_state x (tested_wholly x.state)) _ n there refl (λ over. refl)
-tested-by s word at x code.One n there = Untouched at x (with_state x x.state) _ there refl (λ over. refl)
-tested-by s word at x code.Two n there = Untouched at x (with_state x x.state) _ there refl (λ over. refl)
-tested-by s word at x code.Three n there = Untouched at x (with_state x x.state) _ there refl (λ over. refl)
+tested-by s word at x c n there = Untouched at x (with_state x x.state) _ there refl (λ over. refl)
 
-test-turned : (s : State) (cpu word address at : ℕ) (x : Subchannel) (c : ConditionCode) → place_of s word ≡ Some at → slice_get s.subs at ≡ Some x →
-    IfOk (test_sub s cpu address (record { place = at; sub = x }) c) (λ t. Tested s word t.reply t.state.subs)
-test-turned s cpu word address at x code.Zero n there = tested-by s word at x code.Zero n there
-test-turned s cpu word address at x code.One n there = tested-by s word at x code.One n there
-test-turned s cpu word address at x code.Two n there = tested-by s word at x code.Two n there
-test-turned s cpu word address at x code.Three n there = tested-by s word at x code.Three n there
+done-tested : (s : State) (word address : ℕ) (p : Option ℕ) (q : Option Found) (r : Reply) (new : State) → place_of s word ≡ p → found_at s.subs p ≡ q →
+    IsDone s (instruction.Tsch word address) q r new → Tested s word r new.subs
+done-tested s word address p None r new n e k =
+    subst (λ (xs : List Subchannel). Tested s word r xs) (sym k.subs) (subst (λ (x : Reply). Tested s word x s.subs) (sym k.replies) (Untested _ (λ over. refl)))
+done-tested s word address p (Some f) r new n e k =
+    let there : (p ≡ Some f.place) × (slice_get s.subs f.place ≡ Some f.sub) = found-there s.subs p f e in
+    let c : ConditionCode = code_at tsch_code f.sub in
+    subst (λ (xs : List Subchannel). Tested s word r xs)
+    (sym (k.subs ∙ ap (λ (x : SubchannelState). slice_set s.subs f.place (with_state f.sub (left_by c f.sub.state x))) k.is))
+    (subst (λ (x : Reply). Tested s word x (slice_set s.subs f.place (test_with f.sub c).sub))
+    (sym (k.replies ∙ ap (λ (x : SubchannelState). reply_of (instruction.Tsch word address) c f.sub.state (left_by c f.sub.state x)) k.is))
+    (tested-by s word f.place f.sub c (n ∙ there.0) there.1))
 
-found-tested : (s : State) (cpu word address : ℕ) (p : Option ℕ) (q : Option Found) (r : Result (Unit {0}) StorageFault) → place_of s word ≡ p → found_at s.subs p ≡ q →
-    IfOk (where_tested r (test_at s cpu address q)) (λ t. Tested s word t.reply t.state.subs)
-found-tested s cpu word address p q (Err f) n e = tt
-found-tested s cpu word address p None (Ok u) n e = Untested _ (λ over. refl)
-found-tested s cpu word address p (Some f) (Ok u) n e =
-    let there = found-there s.subs p f e in test-turned s cpu word address f.place f.sub (code_at tsch_code f.sub) (n ∙ there.0) there.1
+turn-tested : (s : State) (cpu word address : ℕ) (r : Reply) (new : State) → TurnOf s (event.Execute cpu (instruction.Tsch word address)) r new → Tested s word r new.subs
+turn-tested s cpu word address _ _ (turn.Executes _ _ id q r storage subs n e blocks left done) =
+    done-tested s word address (place_in id s.subs) q r (record s { storage = storage; subs = subs }) (ap (place_of_id s.subs) n) e done
 
-on-tested : (s : State) (cpu word address : ℕ) (x : Option SubchannelId) (o : Outcome) → subchannel_named s.sets word ≡ x → Executes_on s cpu (instruction.Tsch word address) x o →
-    IfOk o (λ t. Tested s word t.reply t.state.subs)
-on-tested s cpu word address None o n w = subst (λ (y : Outcome). IfOk y (λ t. Tested s word t.reply t.state.subs)) (sym w) tt
-on-tested s cpu word address (Some id) o n w =
-    subst (λ (y : Outcome). IfOk y (λ t. Tested s word t.reply t.state.subs)) (sym w)
-    (found-tested s cpu word address (place_in id s.subs) (found_at s.subs (place_in id s.subs)) (operand_check s.storage cpu address 64 4) (ap (place_of_id s.subs) n) refl)
+step-tested : (s : State) (cpu word address : ℕ) (r : Reply) (new : State) → Step s (event.Execute cpu (instruction.Tsch word address)) r new → Tested s word r new.subs
+step-tested s cpu word address r new step =
+    let is : HasTurn s (event.Execute cpu (instruction.Tsch word address)) r new = step-turn s (event.Execute cpu (instruction.Tsch word address)) r new step in
+    subst (λ (x : State). Tested s word r x.subs) (sym is.settles) (turn-tested s cpu word address r is.left is.turn)
 
 if-same : (b x y : Bool) → y ≡ x → (if b then y else x) ≡ x
 if-same true x y e = e
@@ -256,30 +243,12 @@ about s place e = false
 
 same-over : (b : Bool) (e : Event) (r : Reply) (over : Bool) → IsOther e → over_after b e r over ≡ over
 same-over false e r over o = refl
-same-over true (event.Put address bytes) r over o = refl
-same-over true (event.SetKey address key) r over o = refl
-same-over true (event.SetPrefix cpu address) r over o = refl
-same-over true (event.Show address count) r over o = refl
 same-over true (event.Execute cpu (instruction.Ssch word address)) r over o = absurd o
 same-over true (event.Execute cpu (instruction.Tsch word address)) r over o = absurd o
-same-over true (event.Execute cpu (instruction.Stsch word address)) r over o = refl
-same-over true (event.Execute cpu (instruction.Msch word address)) r over o = refl
-same-over true (event.Execute cpu (instruction.Enable word subclass multipath)) r over o = refl
-same-over true (event.Execute cpu (instruction.Rsch word)) r over o = refl
 same-over true (event.Execute cpu (instruction.Hsch word)) r over o = absurd o
-same-over true (event.Execute cpu (instruction.Csch word)) r over o = refl
 same-over true (event.Execute cpu (instruction.Xsch word)) r over o = absurd o
-same-over true (event.ExecuteOther cpu i) r over o = refl
 same-over true (event.Choose word) r over o = absurd o
-same-over true (event.Up word path) r over o = refl
-same-over true (event.Down word path) r over o = refl
-same-over true (event.Report at report) r over o = refl
-same-over true (event.Act at what) r over o = refl
-same-over true (event.Restart at) r over o = refl
-same-over true (event.PathDown chpid) r over o = refl
-same-over true (event.PathUp chpid) r over o = refl
-same-over true (event.PathReset chpid) r over o = refl
-same-over true event.SystemReset r over o = refl
+same-over true e r over o = refl
 
 others : (over : Bool) (s : State) (e : Event) (r : Reply) (new : State) (place : ℕ) → Walked s e r new → IsOther e → OwnedAt over s.subs place →
     OwnedAt (over_after (about s place e) e r over) new.subs place
@@ -297,36 +266,16 @@ step-owned over s (event.Execute cpu (instruction.Ssch word address)) r new plac
     (started-owned over s cpu word address place r new.subs (starting_step.step-started s cpu word address r new step) owned)
 step-owned over s (event.Execute cpu (instruction.Tsch word address)) r new place step walk owned =
     as-if (is_path (place_of s word) place) new.subs place (over_tested r over) over (λ b. over_after b (event.Execute cpu (instruction.Tsch word address)) r over) refl refl
-    (tested-owned over s word place r new.subs
-    (settled-answered s (event.Execute cpu (instruction.Tsch word address)) step.0 r new (Tested s word) step.2 (on-tested s cpu word address (subchannel_named s.sets word) step.0 refl step.1)) owned)
+    (tested-owned over s word place r new.subs (step-tested s cpu word address r new step) owned)
 step-owned over s (event.Execute cpu (instruction.Hsch word)) r new place step walk owned =
     as-if (is_path (place_of s word) place) new.subs place (over_by r over) over (λ b. over_after b (event.Execute cpu (instruction.Hsch word)) r over) refl refl
-    (answered-owned over s word place hsch_code halted r new.subs (halt-owned over)
-    (settled-answered s (event.Execute cpu (instruction.Hsch word)) step.0 r new (Answered s word hsch_code halted) step.2 (halt-answered s cpu word (subchannel_named s.sets word) step.0 refl step.1)) owned)
+    (answered-owned over s word place hsch_code halted r new.subs (halt-owned over) (halt-answered s cpu word r new step) owned)
 step-owned over s (event.Execute cpu (instruction.Xsch word)) r new place step walk owned =
     as-if (is_path (place_of s word) place) new.subs place (over_by r over) over (λ b. over_after b (event.Execute cpu (instruction.Xsch word)) r over) refl refl
-    (answered-owned over s word place xsch_code cancelled r new.subs (cancel-owned over)
-    (settled-answered s (event.Execute cpu (instruction.Xsch word)) step.0 r new (Answered s word xsch_code cancelled) step.2 (cancel-answered s cpu word (subchannel_named s.sets word) step.0 refl step.1)) owned)
-step-owned over s (event.Execute cpu (instruction.Stsch word address)) r new place step walk owned = others over s (event.Execute cpu (instruction.Stsch word address)) r new place walk tt owned
-step-owned over s (event.Execute cpu (instruction.Msch word address)) r new place step walk owned = others over s (event.Execute cpu (instruction.Msch word address)) r new place walk tt owned
+    (answered-owned over s word place xsch_code cancelled r new.subs (cancel-owned over) (cancel-answered s cpu word r new step) owned)
 step-owned over s (event.Execute cpu (instruction.Enable word subclass multipath)) r new place step walk owned =
     others over s (event.Execute cpu (instruction.Enable word subclass multipath)) r new place walk tt owned
-step-owned over s (event.Execute cpu (instruction.Rsch word)) r new place step walk owned = others over s (event.Execute cpu (instruction.Rsch word)) r new place walk tt owned
-step-owned over s (event.Execute cpu (instruction.Csch word)) r new place step walk owned = others over s (event.Execute cpu (instruction.Csch word)) r new place walk tt owned
 step-owned over s (event.Choose word) r new place step walk owned =
     as-if (is_path (place_of s word) place) new.subs place (over_chosen r over) over (λ b. over_after b (event.Choose word) r over) refl refl
     (choose-at over s (event.Choose word) r new word place refl walk owned)
-step-owned over s (event.Put address bytes) r new place step walk owned = others over s (event.Put address bytes) r new place walk tt owned
-step-owned over s (event.SetKey address key) r new place step walk owned = others over s (event.SetKey address key) r new place walk tt owned
-step-owned over s (event.SetPrefix cpu address) r new place step walk owned = others over s (event.SetPrefix cpu address) r new place walk tt owned
-step-owned over s (event.Show address count) r new place step walk owned = others over s (event.Show address count) r new place walk tt owned
-step-owned over s (event.ExecuteOther cpu i) r new place step walk owned = others over s (event.ExecuteOther cpu i) r new place walk tt owned
-step-owned over s (event.Up word path) r new place step walk owned = others over s (event.Up word path) r new place walk tt owned
-step-owned over s (event.Down word path) r new place step walk owned = others over s (event.Down word path) r new place walk tt owned
-step-owned over s (event.Report at report) r new place step walk owned = others over s (event.Report at report) r new place walk tt owned
-step-owned over s (event.Act at what) r new place step walk owned = others over s (event.Act at what) r new place walk tt owned
-step-owned over s (event.Restart at) r new place step walk owned = others over s (event.Restart at) r new place walk tt owned
-step-owned over s (event.PathDown chpid) r new place step walk owned = others over s (event.PathDown chpid) r new place walk tt owned
-step-owned over s (event.PathUp chpid) r new place step walk owned = others over s (event.PathUp chpid) r new place walk tt owned
-step-owned over s (event.PathReset chpid) r new place step walk owned = others over s (event.PathReset chpid) r new place walk tt owned
-step-owned over s event.SystemReset r new place step walk owned = others over s event.SystemReset r new place walk tt owned
+step-owned over s e r new place step walk owned = others over s e r new place walk tt owned

@@ -152,23 +152,17 @@ unless-ahead s false = tt
 -- where a halt is pending none is offered
 halting-ahead : (s : SubchannelState) (found : Option Candidate) (reachable : Bool) (choice : Option ℕ) (phase : HoldPhase) →
     AreAhead s (first_some (halt_at phase choice ∷ offer_chosen phase found reachable choice ∷ []))
-halting-ahead s found reachable choice hold.Free = tt
 halting-ahead s found reachable choice (hold.Offer t p) = no-offer s found reachable choice (hold.Offer t p) (λ c. tt)
-halting-ahead s found reachable choice (hold.On t p d) = tt
 halting-ahead s found reachable None (hold.Away t) = no-offer s found reachable None (hold.Away t) (λ c. tt)
 halting-ahead s found reachable (Some path) (hold.Away t) = tt
-halting-ahead s found reachable choice (hold.Letting t p) = tt
-halting-ahead s found reachable choice (hold.Reset r) = tt
+halting-ahead s found reachable choice other = tt
 
 offer_at-ahead : (s : SubchannelState) (c : Candidate) (reachable : Bool) (choice : Option ℕ) (phase : HoldPhase) → s.scsw.activity.halt_pending ≡ false → candidate s ≡ Some c →
     AreAhead s (first_some (offer_at phase c reachable choice ∷ []))
 offer_at-ahead s c reachable None hold.Free h e = unless-ahead s reachable
 offer_at-ahead s c reachable (Some path) hold.Free h e = (h, e)
-offer_at-ahead s c reachable choice (hold.Offer t p) h e = tt
-offer_at-ahead s c reachable choice (hold.On t p d) h e = tt
-offer_at-ahead s c reachable choice (hold.Away t) h e = tt
-offer_at-ahead s c reachable choice (hold.Letting t p) h e = tt
 offer_at-ahead s c reachable choice (hold.Reset r) h e = unless-ahead s reachable
+offer_at-ahead s c reachable choice other h e = tt
 
 offer-ahead : (s : SubchannelState) (found : Option Candidate) (reachable : Bool) (choice : Option ℕ) (phase : HoldPhase) → s.scsw.activity.halt_pending ≡ false → candidate s ≡ found →
     AreAhead s (first_some (offer_chosen phase found reachable choice ∷ []))
@@ -254,13 +248,8 @@ marked-just true sub choice k = k
 marked-just false sub choice k = k
 
 marked-ahead : (sub : Subchannel) (choice : Option ℕ) (c : Chosen) → IsAhead sub.state c → IsAhead (marked_sub sub choice).state c
-marked-ahead sub choice Idle k = tt
-marked-ahead sub choice (Resets r path) k = tt
-marked-ahead sub choice PerformsClear k = tt
-marked-ahead sub choice (Halts t path) k = tt
-marked-ahead sub choice PerformsHalt k = tt
-marked-ahead sub choice FindsNoPath k = tt
 marked-ahead sub choice (Offers c path) k = k
+marked-ahead sub choice other k = tt
 
 pub chosen-owned : (over : Bool) (sub : Subchannel) (choice : Option ℕ) → Owned over sub.state → IfOk (choose_sub (marked_sub sub choice) (chosen sub choice)) (IsTurn over)
 chosen-owned over sub choice k =

@@ -49,9 +49,7 @@ same-trans t u v a b = (b.0 ∙ a.0, b.1 ∙ a.1)
 
 chained_to-same : (t : Transfer) (walk : WalkPlace) (a : Option Advance) → IsSame t (chained_to t walk a)
 chained_to-same t walk (Some (advance.Takes ccw)) = (refl, refl)
-chained_to-same t walk (Some advance.Suspends) = (refl, refl)
-chained_to-same t walk (Some (advance.Stops check)) = (refl, refl)
-chained_to-same t walk None = (refl, refl)
+chained_to-same t walk other = (refl, refl)
 
 chained-same : (storage : Contents) (t : Transfer) → IsSame t (chained storage t)
 chained-same storage t =

@@ -123,22 +123,11 @@ word-same setup s set_up place word =
     ∙ ap (λ (n : ℕ). is_path (place_named setup.subchannels (subchannel_named n word)) place) set_up.sets
 
 about-same : (setup : Setup) (s : State) → IsSetUp setup s → (place : ℕ) (e : Event) → about s place e ≡ is_about (set_count setup) setup.subchannels place e
-about-same setup s u place (event.Put address bytes) = refl
-about-same setup s u place (event.SetKey address key) = refl
-about-same setup s u place (event.SetPrefix cpu address) = refl
-about-same setup s u place (event.Show address count) = refl
 about-same setup s u place (event.Execute cpu i) = word-same setup s u place (subchannel_word i)
-about-same setup s u place (event.ExecuteOther cpu i) = refl
 about-same setup s u place (event.Choose word) = word-same setup s u place word
 about-same setup s u place (event.Up word path) = word-same setup s u place word
 about-same setup s u place (event.Down word path) = word-same setup s u place word
-about-same setup s u place (event.Report at report) = refl
-about-same setup s u place (event.Act at what) = refl
-about-same setup s u place (event.Restart at) = refl
-about-same setup s u place (event.PathDown chpid) = refl
-about-same setup s u place (event.PathUp chpid) = refl
-about-same setup s u place (event.PathReset chpid) = refl
-about-same setup s u place event.SystemReset = refl
+about-same setup s u place e = refl
 
 -- a step
 abbrev WaitsAt : Option Orb → List Subchannel → ℕ → Type 0
@@ -160,23 +149,7 @@ stays-started s e r new place a step walk same not i = (
 
 not-zero : (storage : Contents) (cpu word address : ℕ) (r : Reply) (k after : Told) → is_code_zero r ≡ false → after ≡ k → StartsBy storage cpu (instruction.Ssch word address) r k after
 not-zero storage cpu word address (reply.Code (answer.Zero serials)) k after z e = absurd (cc z)
-not-zero storage cpu word address (reply.Code (answer.One serials)) k after z e = e
-not-zero storage cpu word address (reply.Code answer.Two) k after z e = e
-not-zero storage cpu word address (reply.Code answer.Three) k after z e = e
-not-zero storage cpu word address reply.Done k after z e = e
-not-zero storage cpu word address (reply.Shown bytes) k after z e = e
-not-zero storage cpu word address (reply.Status c scsw) k after z e = e
-not-zero storage cpu word address (reply.Interruption found) k after z e = e
-not-zero storage cpu word address (reply.PathReset c) k after z e = e
-not-zero storage cpu word address (reply.ChannelReport report) k after z e = e
-not-zero storage cpu word address (reply.Paths engaged) k after z e = e
-not-zero storage cpu word address (reply.Offered t p resumes) k after z e = e
-not-zero storage cpu word address (reply.ResetSent n p) k after z e = e
-not-zero storage cpu word address (reply.HaltSent t p) k after z e = e
-not-zero storage cpu word address reply.Pending k after z e = e
-not-zero storage cpu word address reply.Idle k after z e = e
-not-zero storage cpu word address (reply.Up x taken one) k after z e = e
-not-zero storage cpu word address (reply.Down x taken one) k after z e = e
+not-zero storage cpu word address r k after z e = e
 
 ssch-by : (st : Standing) (former storage : Contents) (cpu word address : ℕ) (r : Reply) (b : Bool) (k after : Told) → is_code_zero r ≡ false → after ≡ k →
     TellsBy b st former storage (event.Execute cpu (instruction.Ssch word address)) r k after
@@ -249,14 +222,7 @@ instruction-by : (st : Standing) (former storage : Contents) (cpu : ℕ) (i : In
     TellsBy b st former storage (event.Execute cpu i) r k after
 instruction-by st former storage cpu i r false k after n e = e
 instruction-by st former storage cpu (instruction.Ssch word address) r true k after n e = absurd (n word address refl)
-instruction-by st former storage cpu (instruction.Tsch word address) r true k after n e = e
-instruction-by st former storage cpu (instruction.Stsch word address) r true k after n e = e
-instruction-by st former storage cpu (instruction.Msch word address) r true k after n e = e
-instruction-by st former storage cpu (instruction.Enable word subclass multipath) r true k after n e = e
-instruction-by st former storage cpu (instruction.Rsch word) r true k after n e = e
-instruction-by st former storage cpu (instruction.Hsch word) r true k after n e = e
-instruction-by st former storage cpu (instruction.Csch word) r true k after n e = e
-instruction-by st former storage cpu (instruction.Xsch word) r true k after n e = e
+instruction-by st former storage cpu i r true k after n e = e
 
 -- Choose, and the signals
 
@@ -316,15 +282,9 @@ module _ (st : Standing) (s : State) (place : ℕ) (old sub : Subchannel) (new :
       StartedAt a s place → Tells st s (event.Execute cpu i) r new place a k after
   execute-tells cpu (instruction.Ssch word address) r a k after step walk same started =
       started-tells st s new cpu word address place r new.subs a k after refl setups same started (step-started s cpu word address r new step)
-  execute-tells cpu (instruction.Tsch word address) r a k after step walk same started = executed cpu (instruction.Tsch word address) r a k after (λ w x e. cc e) step walk same started
-  execute-tells cpu (instruction.Stsch word address) r a k after step walk same started = executed cpu (instruction.Stsch word address) r a k after (λ w x e. cc e) step walk same started
-  execute-tells cpu (instruction.Msch word address) r a k after step walk same started = executed cpu (instruction.Msch word address) r a k after (λ w x e. cc e) step walk same started
   execute-tells cpu (instruction.Enable word subclass multipath) r a k after step walk same started =
       executed cpu (instruction.Enable word subclass multipath) r a k after (λ w x e. cc e) step walk same started
-  execute-tells cpu (instruction.Rsch word) r a k after step walk same started = executed cpu (instruction.Rsch word) r a k after (λ w x e. cc e) step walk same started
-  execute-tells cpu (instruction.Hsch word) r a k after step walk same started = executed cpu (instruction.Hsch word) r a k after (λ w x e. cc e) step walk same started
-  execute-tells cpu (instruction.Csch word) r a k after step walk same started = executed cpu (instruction.Csch word) r a k after (λ w x e. cc e) step walk same started
-  execute-tells cpu (instruction.Xsch word) r a k after step walk same started = executed cpu (instruction.Xsch word) r a k after (λ w x e. cc e) step walk same started
+  execute-tells cpu i r a k after step walk same started = executed cpu i r a k after (λ w x e. cc e) step walk same started
 
   stays : (e : Event) (r : Reply) (a : Option Orb) (k after : Option ProgramTrace) → Step s e r new → Walked s e r new → IsNoStart e →
       StartedAt a s place → TellsBy (about s place e) st s.storage new.storage e r (told a k) (told a after) → Tells st s e r new place a k after
@@ -347,17 +307,7 @@ module _ (st : Standing) (s : State) (place : ℕ) (old sub : Subchannel) (new :
         subst (λ (x : Option ProgramTrace). HasAbsorbed k x) (sym goes.0)
             (report-absorbed (is_path (reached_in at report.side s.subs) place) (slice_get s.units at) report k),
       )
-  step-tells (event.Put address bytes) r a k after step walk goes started = stays (event.Put address bytes) r a k after step walk (λ c w x e. cc e) started (ap (told a) goes.0)
-  step-tells (event.SetKey address key) r a k after step walk goes started = stays (event.SetKey address key) r a k after step walk (λ c w x e. cc e) started (ap (told a) goes.0)
-  step-tells (event.SetPrefix cpu address) r a k after step walk goes started = stays (event.SetPrefix cpu address) r a k after step walk (λ c w x e. cc e) started (ap (told a) goes.0)
-  step-tells (event.Show address count) r a k after step walk goes started = stays (event.Show address count) r a k after step walk (λ c w x e. cc e) started (ap (told a) goes.0)
-  step-tells (event.ExecuteOther cpu i) r a k after step walk goes started = stays (event.ExecuteOther cpu i) r a k after step walk (λ c w x e. cc e) started (ap (told a) goes.0)
-  step-tells (event.Act at what) r a k after step walk goes started = stays (event.Act at what) r a k after step walk (λ c w x e. cc e) started (ap (told a) goes.0)
-  step-tells (event.Restart at) r a k after step walk goes started = stays (event.Restart at) r a k after step walk (λ c w x e. cc e) started (ap (told a) goes.0)
-  step-tells (event.PathDown chpid) r a k after step walk goes started = stays (event.PathDown chpid) r a k after step walk (λ c w x e. cc e) started (ap (told a) goes.0)
-  step-tells (event.PathUp chpid) r a k after step walk goes started = stays (event.PathUp chpid) r a k after step walk (λ c w x e. cc e) started (ap (told a) goes.0)
-  step-tells (event.PathReset chpid) r a k after step walk goes started = stays (event.PathReset chpid) r a k after step walk (λ c w x e. cc e) started (ap (told a) goes.0)
-  step-tells event.SystemReset r a k after step walk goes started = stays event.SystemReset r a k after step walk (λ c w x e. cc e) started (ap (told a) goes.0)
+  step-tells v r a k after step walk goes started = stays v r a k after step walk (λ c w x e. cc e) started (ap (told a) goes.0)
 
 -- an Accept that is taken answers an offer
 accept-offer : (s : State) (place : ℕ) (old : Subchannel) (new : State) → slice_get s.subs place ≡ Some old → (e : Event) (r : Reply) → Walked s e r new →
@@ -390,22 +340,11 @@ module _ (setup : Setup) (s : State) (u : IsSetUp setup s) (id : SubchannelId) (
       sym (word-same setup s u place word) ∙ sym (named-same s place id sub named there word) ∙ ap (λ (n : ℕ). names n id word) u.sets
 
   about-mine : (e : Event) → is_about (set_count setup) setup.subchannels place e ≡ mine (set_count setup) id e
-  about-mine (event.Put address bytes) = refl
-  about-mine (event.SetKey address key) = refl
-  about-mine (event.SetPrefix cpu address) = refl
-  about-mine (event.Show address count) = refl
   about-mine (event.Execute cpu i) = word-mine (subchannel_word i)
-  about-mine (event.ExecuteOther cpu i) = refl
   about-mine (event.Choose word) = word-mine word
   about-mine (event.Up word path) = word-mine word
   about-mine (event.Down word path) = word-mine word
-  about-mine (event.Report at report) = refl
-  about-mine (event.Act at what) = refl
-  about-mine (event.Restart at) = refl
-  about-mine (event.PathDown chpid) = refl
-  about-mine (event.PathUp chpid) = refl
-  about-mine (event.PathReset chpid) = refl
-  about-mine event.SystemReset = refl
+  about-mine e = refl
 
   through-halted : (st : Standing) (h : List Entry) → (standing_through (set_count setup) setup.subchannels place st h).halted ≡ halted_by (set_count setup) id st.halted h
   through-halted st [] = refl

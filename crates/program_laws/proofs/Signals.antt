@@ -98,12 +98,9 @@ module _ (Q : SubchannelState → Type 0) (same : (s x : SubchannelState) → x.
   with_hold-kept s h k = same s (record s { hold = h }) refl refl refl k
 
   accepted-kept : (storage : Contents) (s : SubchannelState) (phase : HoldPhase) (taken : Taken Down) → Q s → Q (accepted_by storage s phase taken).state
-  accepted-kept storage s hold.Free taken k = k
-  accepted-kept storage s (hold.Offer t p) taken k = k
   accepted-kept storage s (hold.On t p c) taken k = begin-kept storage (record s { pmcw = path_used s.pmcw p }) p t (standing s) (with_path-kept s p k)
-  accepted-kept storage s (hold.Away t) taken k = k
   accepted-kept storage s (hold.Letting t p) taken k = halt_done-kept (record s { pmcw = path_used s.pmcw p }) (with_path-kept s p k)
-  accepted-kept storage s (hold.Reset r) taken k = k
+  accepted-kept storage s other taken k = k
 
   accept-kept : (storage : Contents) (s : SubchannelState) (step : Option HoldStep) → Q s → Q (accept storage s step).state
   accept-kept storage s step k =
@@ -176,16 +173,12 @@ module _ (Q : SubchannelState → Type 0) (same : (s x : SubchannelState) → x.
   -- a signal
   pub signal-kept : (returns : Bool) (storage : Contents) (s : SubchannelState) (p : ℕ) (x : Up) → Q s → Q (takes_up returns storage s p x).step.state
   signal-kept returns storage s p (up.Accept t) k = accept-kept storage s (hold_takes s.hold p (up.Accept t) (goes_ahead s)) k
-  signal-kept returns storage s p (up.Busy t) k = same s (takes_up returns storage s p (up.Busy t)).step.state refl refl refl k
-  signal-kept returns storage s p (up.Leave t c) k = same s (takes_up returns storage s p (up.Leave t c)).step.state refl refl refl k
-  signal-kept returns storage s p (up.Back t c) k = same s (takes_up returns storage s p (up.Back t c)).step.state refl refl refl k
   signal-kept returns storage s p (up.Data load t c n seq) k =
       let signal : DataSignal = record { path = p; number = t; connection = c; command = n; sequence = seq } in
       if-met (is_connected s.hold.phase p t c) (move_data storage s s.begun signal load) (meets storage (ignoring s)) (move-kept storage s s.begun signal load k) k
   signal-kept returns storage s p (up.End t n status more) k =
       let signal : EndSignal = record { path = p; number = t; command = n; status = status; more = more } in
       if-step (is_on s.hold.phase t) (end_of storage s s.begun signal) (ignoring s) (end_of-kept storage s s.begun signal k) k
-  signal-kept returns storage s p (up.Released t) k = same s (takes_up returns storage s p (up.Released t)).step.state refl refl refl k
   signal-kept returns storage s p (up.Cleared r) k = reset_taken-kept s (hold_takes s.hold p (up.Cleared r) false) k
   signal-kept returns storage s p (up.Notice b) k =
       let x : SubchannelState = record s { hold = record s.hold { known = b } } in
@@ -196,3 +189,4 @@ module _ (Q : SubchannelState → Type 0) (same : (s x : SubchannelState) → x.
       let next : SubchannelState = record s { hold = hold_after s.hold step } in
       let held : Q next = with_hold-kept s next.hold k in
       if-kept ((came_of step).taken && not (status.0 == 0x20)) (with_cause next cause.Attention) next (cause-kept next cause.Attention held) held
+  signal-kept returns storage s p x k = same s (takes_up returns storage s p x).step.state refl refl refl k

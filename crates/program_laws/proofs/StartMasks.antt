@@ -71,25 +71,13 @@ waiting-logical s (Some w) = refl
 left-logical : (s : SubchannelState) (c : StatusCause) → (row_of s c).left.pmcw.logical ≡ s.pmcw.logical
 left-logical s (cause.End b status more) = after_end-logical s b (is_last_end status)
 left-logical s (cause.FetchFault tried check count) = begun-logical s s.begun
-left-logical s cause.Attention = refl
 left-logical s cause.NoPath = waiting-logical s s.waiting
-left-logical s cause.InterfaceControlCheck = refl
-left-logical s (cause.Pci tried count) = refl
-left-logical s (cause.Suspension tried count) = refl
-left-logical s cause.ClearDone = refl
-left-logical s cause.HaltDone = refl
+left-logical s other = refl
 
 before-start : (enabled : Bool) (scsw : Scsw) (c : StatusCause) → (if enabled then scsw_before scsw c else scsw).functions.start ≡ true → scsw.functions.start ≡ true
 before-start false scsw c e = e
-before-start true scsw (cause.End b status more) e = e
-before-start true scsw (cause.FetchFault tried check count) e = e
-before-start true scsw cause.Attention e = e
-before-start true scsw cause.NoPath e = e
-before-start true scsw cause.InterfaceControlCheck e = e
-before-start true scsw (cause.Pci tried count) e = e
-before-start true scsw (cause.Suspension tried count) e = e
 before-start true scsw cause.ClearDone e = absurd (cc e)
-before-start true scsw cause.HaltDone e = e
+before-start true scsw c e = e
 
 end-idle : (scsw : Scsw) (b : ActiveProgram) (w : Option Program) (status : DeviceStatus) (more last : Bool) →
     is_pending (if last then last_shown scsw b w status more else work_shown scsw b status more false).activity ≡ false
@@ -153,14 +141,8 @@ module _ (started : Option Orb) where
 
   joins : (s : SubchannelState) (c : StatusCause) → Masked started s → Joins s c
   joins s (cause.End b status more) k = shows-idle s (cause.End b status more) (end-idle s.scsw b s.waiting status more (is_last_end status)) k
-  joins s (cause.FetchFault tried check count) k = shows-idle s (cause.FetchFault tried check count) refl k
-  joins s cause.Attention k = shows-idle s cause.Attention refl k
-  joins s cause.NoPath k = shows-idle s cause.NoPath refl k
-  joins s cause.InterfaceControlCheck k = shows-idle s cause.InterfaceControlCheck refl k
   joins s (cause.Pci tried count) k = shows-asked s.pmcw.enabled s.pmcw.logical s.scsw k
-  joins s (cause.Suspension tried count) k = shows-idle s (cause.Suspension tried count) refl k
-  joins s cause.ClearDone k = shows-idle s cause.ClearDone refl k
-  joins s cause.HaltDone k = shows-idle s cause.HaltDone refl k
+  joins s other k = shows-idle s other refl k
 
   pub cause-masked : (s : SubchannelState) (c : StatusCause) → Masked started s → Masked started (with_cause s c)
   cause-masked s c k =
@@ -223,6 +205,4 @@ module _ (started : Option Orb) where
   -- what an instruction leaves
   pub left-masked : (c : ConditionCode) (s effect : SubchannelState) → Masked started s → (c ≡ code.Zero → Masked started effect) → Masked started (left_by c s effect)
   left-masked code.Zero s effect k f = f refl
-  left-masked code.One s effect k f = k
-  left-masked code.Two s effect k f = k
-  left-masked code.Three s effect k f = k
+  left-masked c s effect k f = k

@@ -8,6 +8,7 @@ use Rattle.chan_model.specs.declared.answer.Answer.TheVariants as answer
 use Rattle.chan_model.specs.declared.answer.ConditionCode.{ConditionCode}
 use Rattle.chan_model.specs.declared.answer.ConditionCode.TheVariants as code
 use Rattle.scsw_irb.specs.declared.serials.Serials.{Serials}
+use Rattle.chan_events.specs.Events.{Event}
 use Rattle.chan_events.specs.declared.event.Event.TheVariants as event
 use Rattle.chan_events.specs.declared.event.Instruction.TheVariants as instruction
 use Rattle.chan_events.specs.Replies.{Reply}
@@ -19,11 +20,12 @@ use Rattle.subchannel_model.specs.Places.{Found, place_in, place_of_id, found_at
 use Rattle.subchannel_model.specs.Start.{started, ssch_code}
 use Rattle.machine_model.specs.InstructionSteps.{WhereFetched, Starts_with, function_at, function_sub, code_at}
 use Rattle.machine_model.specs.State.{State, place_of}
+use Rattle.machine_model.specs.Requests.{settled, posted_all, requests_dropped}
 use Rattle.machine_model.specs.Steps.{Step}
-use Rattle.machine_model.specs.Turns.{Outcome, with_state}
+use Rattle.machine_model.specs.Turns.{Turn, Outcome, does, with_state}
 use Rattle.machine_model.proofs.Named.{Executes_on}
 use Rattle.seen_laws.specs.BeginsItsOwn.{is_code_zero}
-use Rattle.seen_laws.proofs.OwnRuns.{found-there, settled-answered}
+use Rattle.step_laws.proofs.Places.{found-there}
 use Rattle.program_laws.specs.ProgramTold.{IsOrbAt}
 
 pub data Started (s : State) (cpu word address : ℕ) : Reply → List Subchannel → Type 0 where
@@ -37,9 +39,7 @@ started-by : (s : State) (cpu word address place : ℕ) (sub : Subchannel) (orb 
     IsOrbAt s.storage cpu address orb →
     Started s cpu word address (function_sub sub c (started sub.state orb)).reply (slice_set s.subs place (function_sub sub c (started sub.state orb)).sub)
 started-by s cpu word address place sub orb code.Zero n there at = Starts place sub orb (started sub.state orb).serials n there at
-started-by s cpu word address place sub orb code.One n there at = Refused place sub (with_state sub sub.state) _ there refl refl
-started-by s cpu word address place sub orb code.Two n there at = Refused place sub (with_state sub sub.state) _ there refl refl
-started-by s cpu word address place sub orb code.Three n there at = Refused place sub (with_state sub sub.state) _ there refl refl
+started-by s cpu word address place sub orb c n there at = Refused place sub (with_state sub sub.state) _ there refl refl
 
 abbrev IsTurn : State → ℕ → ℕ → ℕ → Outcome → Type 0
 IsTurn s cpu word address o = IfOk o (λ t. Started s cpu word address t.reply t.state.subs)
@@ -63,6 +63,18 @@ on-started : (s : State) (cpu word address : ℕ) (x : Option SubchannelId) (o :
 on-started s cpu word address None o n w = subst (IsTurn s cpu word address) (sym w) tt
 on-started s cpu word address (Some id) o n w =
     fetched-started s cpu word address (place_in id s.subs) (operand_at s.storage cpu address 12 4) o (ap (place_of_id s.subs) n) refl w
+
+-- requests for interruptions that are settled change nothing of it
+settled-answered : (s : State) (e : Event) (o : Outcome) (r : Reply) (new : State) (P : Reply → List Subchannel → Type 0) → does r new ≡ settled s e o →
+    IfOk o (λ t. P t.reply t.state.subs) → P r new.subs
+settled-answered s e (Err f) r new P h k = absurd (cc h)
+settled-answered s e (Ok t) r new P h k =
+    let left : State = record t.state { requests = posted_all s.subs t.state.subs (requests_dropped s e t.reply t.state.requests) } in
+    let turn : Turn = record { reply = r; state = new } in
+    let same : turn ≡ record { reply = t.reply; state = left } = cc h in
+    let a : r ≡ t.reply = ap (λ (x : Turn). x.reply) same in
+    let b : new.subs ≡ t.state.subs = ap (λ (x : Turn). x.state.subs) same in
+    subst (λ (y : Reply). P y new.subs) (sym a) (subst (λ (ys : List Subchannel). P t.reply ys) (sym b) k)
 
 pub step-started : (s : State) (cpu word address : ℕ) (r : Reply) (new : State) → Step s (event.Execute cpu (instruction.Ssch word address)) r new → Started s cpu word address r new.subs
 step-started s cpu word address r new step =

@@ -176,13 +176,11 @@ clear-clear (Some r) false later h = h
 
 halt-clear : (pending : Bool) (phase : HoldPhase) (choice : Option ℕ) → IfSome (halt_chosen pending phase choice) (IfClear None)
 halt-clear false phase choice = tt
-halt-clear true hold.Free choice = refl
 halt-clear true (hold.Offer t p) choice = tt
 halt-clear true (hold.On t p c) choice = tt
 halt-clear true (hold.Away t) None = tt
 halt-clear true (hold.Away t) (Some path) = tt
-halt-clear true (hold.Letting t p) choice = refl
-halt-clear true (hold.Reset r) choice = refl
+halt-clear true phase choice = refl
 
 over-clear : (reachable : Bool) → IfSome (over_unless reachable) (IfClear None)
 over-clear true = tt
@@ -192,11 +190,8 @@ offer-clear : (phase : HoldPhase) (c : Option Candidate) (reachable : Bool) (cho
 offer-clear phase None reachable choice = tt
 offer-clear hold.Free (Some c) reachable None = over-clear reachable
 offer-clear hold.Free (Some c) reachable (Some path) = tt
-offer-clear (hold.Offer t p) (Some c) reachable choice = tt
-offer-clear (hold.On t p d) (Some c) reachable choice = tt
-offer-clear (hold.Away t) (Some c) reachable choice = tt
-offer-clear (hold.Letting t p) (Some c) reachable choice = tt
 offer-clear (hold.Reset r) (Some c) reachable choice = over-clear reachable
+offer-clear phase (Some c) reachable choice = tt
 
 abbrev pub clear_of : SubchannelState → Option Chosen
 clear_of s = clear_chosen (unsent_reset s.hold) s.scsw.activity.clear_pending

@@ -90,15 +90,8 @@ module _ (s new : State) (place : ℕ) (shown : StoredStatus) where
   instruction-so : (cpu : ℕ) (i : Instruction) (r : Reply) (b : Bool) → is_path (place_of s (subchannel_word i)) place ≡ b → Step s (event.Execute cpu i) r new →
       shown_by b (event.Execute cpu i) r ≡ Some shown → IsLeft place s new shown
   instruction-so cpu i r false mine step e = absurd (cc e)
-  instruction-so cpu (instruction.Ssch word address) r true mine step e = absurd (cc e)
-  instruction-so cpu (instruction.Tsch word address) r true mine step e = absurd (cc e)
   instruction-so cpu (instruction.Stsch word address) r true mine step e = store-so cpu word address r true mine step e
-  instruction-so cpu (instruction.Msch word address) r true mine step e = absurd (cc e)
-  instruction-so cpu (instruction.Enable word subclass multipath) r true mine step e = absurd (cc e)
-  instruction-so cpu (instruction.Rsch word) r true mine step e = absurd (cc e)
-  instruction-so cpu (instruction.Hsch word) r true mine step e = absurd (cc e)
-  instruction-so cpu (instruction.Csch word) r true mine step e = absurd (cc e)
-  instruction-so cpu (instruction.Xsch word) r true mine step e = absurd (cc e)
+  instruction-so cpu i r true mine step e = absurd (cc e)
 
   event-so : (e : Event) (r : Reply) → Step s e r new → shown_by (about s place e) e r ≡ Some shown → IsLeft place s new shown
   event-so (event.Put address bytes) r step e = absurd (cc e)
@@ -169,30 +162,7 @@ module _ (s : State) (place : ℕ) (id : SubchannelId) (sub : Subchannel) (named
 met-behind : (behind : Bool) (s : SubchannelState) (r : Reply) → ((t : ℕ) (sent : Option (OnPath Down)) → r ≡ reply.Up (up.Accept t) true sent → is_some s.begun ≡ true → ⊥) → IsBehind behind s →
     IsBehind (behind_met r behind) s
 met-behind behind s (reply.Up (up.Accept t) true sent) f j = λ e. absurd (f t sent refl e)
-met-behind behind s (reply.Up (up.Accept t) false sent) f j = j
-met-behind behind s (reply.Up (up.Busy t) taken sent) f j = j
-met-behind behind s (reply.Up (up.Leave t c) taken sent) f j = j
-met-behind behind s (reply.Up (up.Back t c) taken sent) f j = j
-met-behind behind s (reply.Up (up.Data load t c n q) taken sent) f j = j
-met-behind behind s (reply.Up (up.End t n status more) taken sent) f j = j
-met-behind behind s (reply.Up (up.Released t) taken sent) f j = j
-met-behind behind s (reply.Up (up.Cleared b) taken sent) f j = j
-met-behind behind s (reply.Up (up.Notice b) taken sent) f j = j
-met-behind behind s (reply.Up (up.Attn a status) taken sent) f j = j
-met-behind behind s reply.Done f j = j
-met-behind behind s (reply.Shown bytes) f j = j
-met-behind behind s (reply.Code c) f j = j
-met-behind behind s (reply.Status c scsw) f j = j
-met-behind behind s (reply.Interruption found) f j = j
-met-behind behind s (reply.PathReset c) f j = j
-met-behind behind s (reply.ChannelReport report) f j = j
-met-behind behind s (reply.Paths engaged) f j = j
-met-behind behind s (reply.Offered t q resumes) f j = j
-met-behind behind s (reply.ResetSent n q) f j = j
-met-behind behind s (reply.HaltSent t q) f j = j
-met-behind behind s reply.Pending f j = j
-met-behind behind s reply.Idle f j = j
-met-behind behind s (reply.Down x taken one) f j = j
+met-behind behind s r f j = j
 
 -- after a run
 abbrev IsSoAfter : ℕ → Bool → Bool → State → Option ProgramTrace → AfterStore → Type 0
@@ -253,7 +223,7 @@ module _ (laws : AreLaws) (setup : Setup) (h : List Entry) (old : State) (run : 
   -- what is so of the subchannel by its name
   module _ (id : SubchannelId) (named : place_in id old.subs ≡ Some place) (sub : Subchannel) (here : slice_get new.subs place ≡ Some sub) where
     turns : Turned old.sets id e r was sub.state
-    turns = step-turns old id place was named there e r new (laws.walks old e r new step) step sub here
+    turns = step-turns old id place was named there e r new step sub here
 
     wholly : IsWhole was.state
     wholly = whole laws setup id h old run place was named there
@@ -288,18 +258,7 @@ module _ (laws : AreLaws) (setup : Setup) (h : List Entry) (old : State) (run : 
     now-behind (event.Choose word) same offer no-one = either-behind (event.Choose word) (is_path (place_of old word) place) (λ q b. refl)
     now-behind (event.Up word path) same offer no-one = up-behind (is_path (place_of old word) place) word path refl same offer
     now-behind (event.Down word path) same offer no-one = either-behind (event.Down word path) (is_path (place_of old word) place) (λ q b. refl)
-    now-behind (event.Put address bytes) same offer no-one = before.behind id named was there
-    now-behind (event.SetKey address key) same offer no-one = before.behind id named was there
-    now-behind (event.SetPrefix cpu address) same offer no-one = before.behind id named was there
-    now-behind (event.Show address count) same offer no-one = before.behind id named was there
-    now-behind (event.ExecuteOther cpu i) same offer no-one = before.behind id named was there
-    now-behind (event.Report at report) same offer no-one = before.behind id named was there
-    now-behind (event.Act at what) same offer no-one = before.behind id named was there
-    now-behind (event.Restart at) same offer no-one = before.behind id named was there
-    now-behind (event.PathDown chpid) same offer no-one = before.behind id named was there
-    now-behind (event.PathUp chpid) same offer no-one = before.behind id named was there
-    now-behind (event.PathReset chpid) same offer no-one = before.behind id named was there
-    now-behind event.SystemReset same offer no-one = before.behind id named was there
+    now-behind e same offer no-one = before.behind id named was there
 
     status-told : Owned st.over was.state → IsOffered → GoesBy place old e r new k after → was.state.serials.made < sub.state.serials.made →
         ShowsAfter (over_after (about old place e) e r st.over) (behind_after (about old place e) e r st.behind) e r was.state.scsw sub.state.scsw after

@@ -137,25 +137,13 @@ module _ (s next : SubchannelState) (p : TellsPrograms s) (behind : Bool) (b : I
   meets-shown over former storage (up.Accept t) sent k after just m = accept-shown s next p behind b made over storage sent k after (just.0 t refl) m.2
   meets-shown over former storage (up.Data load t c n q) sent k after just m = m.4 made
   meets-shown over former storage (up.End t n status more) sent k after just m = end-shown storage status more sent k after (just.1 t n status more refl) m.3
-  meets-shown over former storage (up.Busy t) sent k after just m = same-of k after m.0 m.2
-  meets-shown over former storage (up.Leave t c) sent k after just m = same-of k after m.0 m.2
-  meets-shown over former storage (up.Back t c) sent k after just m = same-of k after m.0 m.2
-  meets-shown over former storage (up.Released t) sent k after just m = same-of k after m.0 m.2
   meets-shown over former storage (up.Cleared r) sent k after just m = m.2 made
-  meets-shown over former storage (up.Notice b) sent k after just m = same-of k after m.0 m.2
   meets-shown over former storage (up.Attn x status) sent k after just m = m.2 made
+  meets-shown over former storage x sent k after just m = same-of k after m.0 m.2
 
   none-shown : (over : Bool) (former storage : Contents) (signal : Up) → MeetsNone former storage s next signal → ShowsSignal over behind signal s.scsw next.scsw None
   none-shown over former storage (up.Accept t) m = m.1 made
-  none-shown over former storage (up.Data load t c n q) m = m.1 made
-  none-shown over former storage (up.End t n status more) m = m.1 made
-  none-shown over former storage (up.Busy t) m = m.1 made
-  none-shown over former storage (up.Leave t c) m = m.1 made
-  none-shown over former storage (up.Back t c) m = m.1 made
-  none-shown over former storage (up.Released t) m = m.1 made
-  none-shown over former storage (up.Cleared r) m = m.1 made
-  none-shown over former storage (up.Notice b) m = m.1 made
-  none-shown over former storage (up.Attn x status) m = m.1 made
+  none-shown over former storage x m = m.1 made
 
   both-shown : (over : Bool) (former storage : Contents) (signal : Up) (sent : Option (OnPath Down)) (k after : Option ProgramTrace) → IsSuited over signal →
       OfBoth (MeetsNone former storage s next signal) (Meets former storage s next signal true sent) k after → ShowsSignal over behind signal s.scsw next.scsw after
@@ -204,41 +192,14 @@ module _ (over behind : Bool) (s new : State) (place : ℕ) (old sub : Subchanne
       GoesBy place s (event.Up word path) r new k after → Shown (event.Up word path) r after
   up-shown b word path (reply.Up signal true sent) k after suited goes =
       signal-shown b (is_path (place_of s word) place) word path signal sent k after refl suited goes
-  up-shown b word path (reply.Up signal false sent) k after suited goes = tt
-  up-shown b word path reply.Done k after suited goes = tt
-  up-shown b word path (reply.Shown bytes) k after suited goes = tt
-  up-shown b word path (reply.Code c) k after suited goes = tt
-  up-shown b word path (reply.Status c scsw) k after suited goes = tt
-  up-shown b word path (reply.Interruption found) k after suited goes = tt
-  up-shown b word path (reply.PathReset c) k after suited goes = tt
-  up-shown b word path (reply.ChannelReport report) k after suited goes = tt
-  up-shown b word path (reply.Paths engaged) k after suited goes = tt
-  up-shown b word path (reply.Offered t q resumes) k after suited goes = tt
-  up-shown b word path (reply.ResetSent n q) k after suited goes = tt
-  up-shown b word path (reply.HaltSent t q) k after suited goes = tt
-  up-shown b word path reply.Pending k after suited goes = tt
-  up-shown b word path reply.Idle k after suited goes = tt
-  up-shown b word path (reply.Down x taken one) k after suited goes = tt
+  up-shown b word path r k after suited goes = tt
 
   choose-shown : (b : IsBehind behind old.state) (word : ℕ) (r : Reply) (k after : Option ProgramTrace) → GoesBy place s (event.Choose word) r new k after → Shown (event.Choose word) r after
   choose-shown b word reply.Pending k after goes =
       subst (λ (x : Option ProgramTrace). ShowsChosen old.state.scsw.activity.clear_pending behind old.state.scsw sub.state.scsw x)
       (sym (goes.0 ∙ pending-same (is_path (place_of s word) place) (slice_get s.subs place) k))
       (chosen-shown old.state sub.state p behind b made (unsent_reset old.state.hold) old.state.scsw.activity.clear_pending k refl (goes.1 old sub there here))
-  choose-shown b word reply.Done k after goes = tt
-  choose-shown b word (reply.Shown bytes) k after goes = tt
-  choose-shown b word (reply.Code c) k after goes = tt
-  choose-shown b word (reply.Status c scsw) k after goes = tt
-  choose-shown b word (reply.Interruption found) k after goes = tt
-  choose-shown b word (reply.PathReset c) k after goes = tt
-  choose-shown b word (reply.ChannelReport report) k after goes = tt
-  choose-shown b word (reply.Paths engaged) k after goes = tt
-  choose-shown b word (reply.Offered t q resumes) k after goes = tt
-  choose-shown b word (reply.ResetSent n q) k after goes = tt
-  choose-shown b word (reply.HaltSent t q) k after goes = tt
-  choose-shown b word reply.Idle k after goes = tt
-  choose-shown b word (reply.Up x taken one) k after goes = tt
-  choose-shown b word (reply.Down x taken one) k after goes = tt
+  choose-shown b word r k after goes = tt
 
   lost-shown : (b : IsBehind behind old.state) (k after : Option ProgramTrace) → after ≡ k → IsShownOf old.state sub.state k → ShowsOf behind old.state.scsw sub.state.scsw after
   lost-shown b k after e f = subst (λ (x : Option ProgramTrace). ShowsOf behind old.state.scsw sub.state.scsw x) (sym e) (of-shown old.state sub.state p behind b made k f)
@@ -246,19 +207,8 @@ module _ (over behind : Bool) (s new : State) (place : ℕ) (old sub : Subchanne
   pub step-shown : (e : Event) (r : Reply) (k after : Option ProgramTrace) →
       (IsNoInstruction e → IsBehind behind old.state) → ((word path : ℕ) → e ≡ event.Up word path → is_path (place_of s word) place ≡ true → IsSuitedTo r) →
       GoesBy place s e r new k after → Shown e r after
-  step-shown (event.Put address bytes) r k after b suited goes = tt
-  step-shown (event.SetKey address key) r k after b suited goes = tt
-  step-shown (event.SetPrefix cpu address) r k after b suited goes = tt
-  step-shown (event.Show address count) r k after b suited goes = tt
-  step-shown (event.Execute cpu i) r k after b suited goes = tt
-  step-shown (event.ExecuteOther cpu i) r k after b suited goes = tt
   step-shown (event.Choose word) r k after b suited goes = choose-shown (b tt) word r k after goes
   step-shown (event.Up word path) r k after b suited goes = up-shown (b tt) word path r k after (λ mine. suited word path refl mine) goes
-  step-shown (event.Down word path) r k after b suited goes = tt
-  step-shown (event.Report at report) r k after b suited goes = tt
-  step-shown (event.Act at what) r k after b suited goes = tt
-  step-shown (event.Restart at) r k after b suited goes = tt
   step-shown (event.PathDown chpid) r k after b suited goes = lost-shown (b tt) k after goes.0 (goes.1 old sub there here)
-  step-shown (event.PathUp chpid) r k after b suited goes = tt
   step-shown (event.PathReset chpid) r k after b suited goes = lost-shown (b tt) k after goes.0 (goes.1 old sub there here)
-  step-shown event.SystemReset r k after b suited goes = tt
+  step-shown e r k after b suited goes = tt

@@ -38,22 +38,8 @@ by-choice None s next k i z = i
 by-choice (Some c) s next k i z = z
 
 by-event : (e : Event) (s next : SubchannelState) (k : Option ProgramTrace) → IsShownOf s next k → ((word : ℕ) → e ≡ event.Choose word → IsZeroShown s next) → ShowsBy e s next k
-by-event (event.Put address bytes) s next k i z = i
-by-event (event.SetKey address key) s next k i z = i
-by-event (event.SetPrefix cpu address) s next k i z = i
-by-event (event.Show address count) s next k i z = i
-by-event (event.Execute cpu j) s next k i z = i
-by-event (event.ExecuteOther cpu j) s next k i z = i
 by-event (event.Choose word) s next k i z = by-choice (clear_of s) s next k i (z word refl)
-by-event (event.Up word path) s next k i z = i
-by-event (event.Down word path) s next k i z = i
-by-event (event.Report at report) s next k i z = i
-by-event (event.Act at what) s next k i z = i
-by-event (event.Restart at) s next k i z = i
-by-event (event.PathDown chpid) s next k i z = i
-by-event (event.PathUp chpid) s next k i z = i
-by-event (event.PathReset chpid) s next k i z = i
-by-event event.SystemReset s next k i z = i
+by-event e s next k i z = i
 
 -- no status is made
 none-zero : (s next : SubchannelState) → next.serials.made ≡ s.serials.made → IsZeroShown s next
@@ -73,9 +59,7 @@ tested-made s = by (ends_suspended s.scsw)
 
 test-made : (sub : Subchannel) (c : ConditionCode) → (test_with sub c).sub.state.serials.made ≡ sub.state.serials.made
 test-made sub code.Zero = tested-made sub.state
-test-made sub code.One = refl
-test-made sub code.Two = refl
-test-made sub code.Three = refl
+test-made sub c = refl
 
 effect-made : (f : Function) (s : SubchannelState) → (effect_of f s).serials.made ≡ s.serials.made
 effect-made walked.Resumes s = refl
@@ -90,9 +74,7 @@ effect-made walked.Cancels s = refl
 function-made : (sub : Subchannel) (c : ConditionCode) (effect : SubchannelState) → effect.serials.made ≡ sub.state.serials.made →
     (function_sub sub c effect).sub.state.serials.made ≡ sub.state.serials.made
 function-made sub code.Zero effect e = e
-function-made sub code.One effect e = refl
-function-made sub code.Two effect e = refl
-function-made sub code.Three effect e = refl
+function-made sub c effect e = refl
 
 module _ (s : State) (place : ℕ) where
   -- where the subchannels stay, and where one was changed

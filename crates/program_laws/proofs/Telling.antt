@@ -25,7 +25,7 @@ use Rattle.data_move.specs.Moving.{room}
 use Rattle.path_select.specs.Choice.{IsChoice}
 use Rattle.wires.specs.Queues.{queue}
 use Rattle.subchannel_model.specs.declared.state.Chosen.{Chosen}
-use Rattle.subchannel_model.specs.declared.state.Chosen.TheVariants.{Idle, Resets, PerformsClear, Halts, PerformsHalt, FindsNoPath, Offers}
+use Rattle.subchannel_model.specs.declared.state.Chosen.TheVariants.{Resets, Halts, Offers}
 use Rattle.subchannel_model.specs.declared.state.Program.{Program}
 use Rattle.subchannel_model.specs.declared.state.Subchannel.{Subchannel}
 use Rattle.subchannel_model.specs.declared.state.SubchannelState.{SubchannelState}
@@ -96,38 +96,16 @@ meets-by st former storage s next (up.Data load t c n q) sent k after a j h m =
     (m.0, m.1, m.2, m.3)
 meets-by st former storage s next (up.End t n status more) sent k after a j h m =
     (m.0, m.1, m.2, subst (λ (b : Bool). Ends b storage status more sent k after) h (ends storage s next status more sent k after m.3))
-meets-by st former storage s next (up.Busy t) sent k after a j h m = (m.0, m.1)
-meets-by st former storage s next (up.Leave t c) sent k after a j h m = (m.0, m.1)
-meets-by st former storage s next (up.Back t c) sent k after a j h m = (m.0, m.1)
-meets-by st former storage s next (up.Released t) sent k after a j h m = (m.0, m.1)
-meets-by st former storage s next (up.Cleared r) sent k after a j h m = (m.0, m.1)
-meets-by st former storage s next (up.Notice b) sent k after a j h m = (m.0, m.1)
-meets-by st former storage s next (up.Attn x status) sent k after a j h m = (m.0, m.1)
+meets-by st former storage s next x sent k after a j h m = (m.0, m.1)
 
 untaken : (former storage : Contents) (s next : SubchannelState) (signal : Up) (sent : Option (OnPath Down)) (k after : ProgramTrace) →
     Meets former storage s next signal false sent k after → (_ : after ≡ k) × (storage ≡ former)
 untaken former storage s next (up.Accept t) sent k after m = (m.0, m.1)
-untaken former storage s next (up.Data load t c n q) sent k after m = (m.0, m.1)
-untaken former storage s next (up.End t n status more) sent k after m = (m.0, m.1)
-untaken former storage s next (up.Busy t) sent k after m = (m.0, m.1)
-untaken former storage s next (up.Leave t c) sent k after m = (m.0, m.1)
-untaken former storage s next (up.Back t c) sent k after m = (m.0, m.1)
-untaken former storage s next (up.Released t) sent k after m = (m.0, m.1)
-untaken former storage s next (up.Cleared r) sent k after m = (m.0, m.1)
-untaken former storage s next (up.Notice b) sent k after m = (m.0, m.1)
-untaken former storage s next (up.Attn x status) sent k after m = (m.0, m.1)
+untaken former storage s next x sent k after m = (m.0, m.1)
 
 none-stores : (former storage : Contents) (s next : SubchannelState) (signal : Up) → MeetsNone former storage s next signal → storage ≡ former
 none-stores former storage s next (up.Accept t) m = m.0
-none-stores former storage s next (up.Data load t c n q) m = m.0
-none-stores former storage s next (up.End t n status more) m = m.0
-none-stores former storage s next (up.Busy t) m = m.0
-none-stores former storage s next (up.Leave t c) m = m.0
-none-stores former storage s next (up.Back t c) m = m.0
-none-stores former storage s next (up.Released t) m = m.0
-none-stores former storage s next (up.Cleared r) m = m.0
-none-stores former storage s next (up.Notice b) m = m.0
-none-stores former storage s next (up.Attn x status) m = m.0
+none-stores former storage s next x m = m.0
 
 abbrev Both : Contents → Contents → SubchannelState → SubchannelState → Up → Bool → Option (OnPath Down) → Option ProgramTrace → Option ProgramTrace → Type 0
 Both former storage s next signal taken sent k after = OfBoth (MeetsNone former storage s next signal) (Meets former storage s next signal taken sent) k after
@@ -155,11 +133,7 @@ meets-phase p t _ _ _ _ _ e f (phases.Ignored x phase) = absurd (cc f)
 meets-phase p t _ _ _ _ _ e f (phases.Turns x phase next sent plain stays quiet) = absurd (subst (λ (y : Up). phases.IsPlainUp y) e plain)
 meets-phase p t _ _ _ _ _ e f (phases.Begins u q sent commands) = (u, q, refl)
 meets-phase p t _ _ _ _ _ e f (phases.Declines u q) = (u, q, refl)
-meets-phase p t _ _ _ _ _ e f (phases.Moves u c n s load sent answers) = absurd (cc e)
-meets-phase p t _ _ _ _ _ e f (phases.Ends x u q c sent commands) = absurd (cc e)
-meets-phase p t _ _ _ _ _ e f (phases.Ends_last x u q c) = absurd (cc e)
-meets-phase p t _ _ _ _ _ e f (phases.Leaves u q c) = absurd (cc e)
-meets-phase p t _ _ _ _ _ e f (phases.Grants u c) = absurd (cc e)
+meets-phase p t _ _ _ _ _ e f other = absurd (cc e)
 
 front-offers : (returns : Bool) (storage : Contents) (sub : Subchannel) (path : ℕ) (front : Option Up) → IfOk (up_front returns storage sub path front) (λ t. AnswersOffer sub.state t.reply)
 front-offers returns storage sub path None = tt
@@ -198,54 +172,41 @@ quiet-not e r word path q h = subst (λ (x : Event). walked.IsQuiet x r) h q
 pub walk-answers : (s : State) (e : Event) (r : Reply) (new : State) → Walked s e r new → (word path place : ℕ) (sub : Subchannel) → e ≡ event.Up word path → place_of s word ≡ Some place →
     slice_get s.subs place ≡ Some sub → AnswersOffer sub.state r
 walk-answers s _ _ _ (walked.Stays e r new q sets subs units up) word path place sub h n there = absurd (quiet-not e r word path q h)
-walk-answers s _ _ _ (walked.Started cpu w address at x orb c new m one) word path place sub h n there = absurd (cc h)
 walk-answers s _ _ _ (walked.Tested e r at x c new q one address by answers) word path place sub h n there = absurd (quiet-not e r word path q h)
 walk-answers s _ _ _ (walked.Modified e r at x given c new q one) word path place sub h n there = absurd (quiet-not e r word path q h)
 walk-answers s _ _ _ (walked.Performed e r at x f c new q one by answers) word path place sub h n there = absurd (quiet-not e r word path q h)
-walk-answers s _ _ _ (walked.Chosen w at x choice t new m y suits ok one) word path place sub h n there = absurd (cc h)
 walk-answers s _ _ _ (walked.Met w p returns at x t new m ok one may) word path place sub h n there =
     let same : w ≡ word = cc h in
     let here : at ≡ place = cc (sym m ∙ ap (place_of s) same ∙ n) in
     let mine : x ≡ sub = cc (sym one.there ∙ ap (slice_get s.subs) here ∙ there) in
     subst (λ (z : Subchannel). AnswersOffer z.state t.reply) mine
     (subst (λ (o : Result UpTurn Fault). IfOk o (λ t. AnswersOffer x.state t.reply)) ok (up-offers returns s.storage x p))
-walk-answers s _ _ _ (walked.Sunk w p may owed at x u t new m ok one) word path place sub h n there = absurd (cc h)
-walk-answers s _ _ _ (walked.Reported i at x u report t new m reached ok one) word path place sub h n there = absurd (cc h)
-walk-answers s _ _ _ (walked.Acted i at x u what t new side its ok one) word path place sub h n there = absurd (cc h)
-walk-answers s _ _ _ (walked.Restarted at owed u r new found sets subs units up) word path place sub h n there = absurd (cc h)
 walk-answers s _ _ _ (walked.Swept e r what new q sets subs units by) word path place sub h n there = absurd (quiet-not e r word path q h)
+walk-answers s _ _ _ w word path place sub h n there = absurd (cc h)
 
 pub walk-replies : (s : State) (e : Event) (r : Reply) (new : State) → Walked s e r new → (word path : ℕ) → e ≡ event.Up word path → IsMetReply r
 walk-replies s _ _ _ (walked.Stays e r new q sets subs units up) word path h = absurd (quiet-not e r word path q h)
-walk-replies s _ _ _ (walked.Started cpu w address at x orb c new n one) word path h = absurd (cc h)
 walk-replies s _ _ _ (walked.Tested e r at x c new q one address by answers) word path h = absurd (quiet-not e r word path q h)
 walk-replies s _ _ _ (walked.Modified e r at x given c new q one) word path h = absurd (quiet-not e r word path q h)
 walk-replies s _ _ _ (walked.Performed e r at x f c new q one by answers) word path h = absurd (quiet-not e r word path q h)
-walk-replies s _ _ _ (walked.Chosen w at x choice t new n y suits ok one) word path h = absurd (cc h)
 walk-replies s _ _ _ (walked.Met w p returns at x t new n ok one may) word path h =
     subst (λ (o : Result UpTurn Fault). IfOk o (λ t. IsMetReply t.reply)) ok (up-replies returns s.storage x p)
-walk-replies s _ _ _ (walked.Sunk w p may owed at x u t new n ok one) word path h = absurd (cc h)
-walk-replies s _ _ _ (walked.Reported i at x u report t new n reached ok one) word path h = absurd (cc h)
-walk-replies s _ _ _ (walked.Acted i at x u what t new side its ok one) word path h = absurd (cc h)
-walk-replies s _ _ _ (walked.Restarted at owed u r new found sets subs units up) word path h = absurd (cc h)
 walk-replies s _ _ _ (walked.Swept e r what new q sets subs units by) word path h = absurd (quiet-not e r word path q h)
+walk-replies s _ _ _ w word path h = absurd (cc h)
 
 -- a start that is offered waits
 abbrev OffersWaiting : Subchannel → Reply → Type 0
 OffersWaiting sub r = (t p : ℕ) → r ≡ reply.Offered t p false → (program : Program) × (sub.state.waiting ≡ Some program)
 
 choose-offers : (sub : Subchannel) (c : Chosen) → Suits c sub.state → IfOk (choose_sub sub c) (λ t. OffersWaiting sub t.reply)
-choose-offers sub Idle f = λ t p e. absurd (cc e)
 choose-offers sub (Resets r path) f = send-ok (λ t. OffersWaiting sub t.reply) sub _ path (down.Reset r sub.state.hold.known) (reply.ResetSent r path) (λ t p e. absurd (cc e))
-choose-offers sub PerformsClear f = λ t p e. absurd (cc e)
 choose-offers sub (Halts u path) f = send-ok (λ t. OffersWaiting sub t.reply) sub _ path (down.Halt u) (reply.HaltSent u path) (λ t p e. absurd (cc e))
-choose-offers sub PerformsHalt f = λ t p e. absurd (cc e)
-choose-offers sub FindsNoPath f = λ t p e. absurd (cc e)
 choose-offers sub (Offers c path) f =
     send-ok (λ t. OffersWaiting sub t.reply) sub _ path (down.Select (sub.state.drawn + 1)) (reply.Offered (sub.state.drawn + 1) path c.resumes)
     (λ t p e.
     let fresh : c.resumes ≡ false = cc e in
     (c.program, subst (λ (b : Bool). IsFound sub.state.waiting sub.state.suspended b c.program) fresh f.found))
+choose-offers sub other f = λ t p e. absurd (cc e)
 
 quiet-choose : (e : Event) (r : Reply) (word : ℕ) → walked.IsQuiet e r → e ≡ event.Choose word → ⊥
 quiet-choose e r word q h = subst (λ (x : Event). walked.IsQuiet x r) h q
@@ -262,7 +223,6 @@ pub record IsChosen (s : State) (sub : Subchannel) (r : Reply) : Type 0 where
 pub walk-chosen : (s : State) (e : Event) (r : Reply) (new : State) → Walked s e r new → (word place : ℕ) (sub : Subchannel) → e ≡ event.Choose word → place_of s word ≡ Some place →
     slice_get s.subs place ≡ Some sub → IsChosen s sub r
 walk-chosen s _ _ _ (walked.Stays e r new q sets subs units up) word place sub h n there = absurd (quiet-choose e r word q h)
-walk-chosen s _ _ _ (walked.Started cpu w address at x orb c new m one) word place sub h n there = absurd (cc h)
 walk-chosen s _ _ _ (walked.Tested e r at x c new q one address by answers) word place sub h n there = absurd (quiet-choose e r word q h)
 walk-chosen s _ _ _ (walked.Modified e r at x given c new q one) word place sub h n there = absurd (quiet-choose e r word q h)
 walk-chosen s _ _ _ (walked.Performed e r at x f c new q one by answers) word place sub h n there = absurd (quiet-choose e r word q h)
@@ -271,21 +231,12 @@ walk-chosen s _ _ _ (walked.Chosen w at x choice t new m y suits ok one) word pl
     let here : at ≡ place = cc (sym m ∙ ap (place_of s) same ∙ n) in
     let mine : x ≡ sub = cc (sym one.there ∙ ap (slice_get s.subs) here ∙ there) in
     subst (λ (z : Subchannel). IsChosen s z t.reply) mine (record { choice = choice; turn = t; right = y; suits = suits; ok = ok; replies = refl })
-walk-chosen s _ _ _ (walked.Met w p returns at x t new m ok one may) word place sub h n there = absurd (cc h)
-walk-chosen s _ _ _ (walked.Sunk w p may owed at x u t new m ok one) word place sub h n there = absurd (cc h)
-walk-chosen s _ _ _ (walked.Reported i at x u report t new m reached ok one) word place sub h n there = absurd (cc h)
-walk-chosen s _ _ _ (walked.Acted i at x u what t new side its ok one) word place sub h n there = absurd (cc h)
-walk-chosen s _ _ _ (walked.Restarted at owed u r new found sets subs units up) word place sub h n there = absurd (cc h)
 walk-chosen s _ _ _ (walked.Swept e r what new q sets subs units by) word place sub h n there = absurd (quiet-choose e r word q h)
+walk-chosen s _ _ _ w word place sub h n there = absurd (cc h)
 
 marked-found : (sub : Subchannel) (choice : Option ℕ) (c : Chosen) → IsForProgram c sub.state → IsForProgram c (marked_sub sub choice).state
-marked-found sub choice Idle f = tt
-marked-found sub choice (Resets r path) f = tt
-marked-found sub choice PerformsClear f = tt
-marked-found sub choice (Halts u path) f = tt
-marked-found sub choice PerformsHalt f = tt
-marked-found sub choice FindsNoPath f = tt
 marked-found sub choice (Offers c path) f = f
+marked-found sub choice other f = tt
 
 pub offers-waiting : (s : State) (sub : Subchannel) (r : Reply) → IsChosen s sub r → OffersWaiting sub r
 offers-waiting s sub r k =
@@ -308,20 +259,7 @@ offers-by old (reply.Offered t p false) a k after e i o by =
     let same : on.0 ≡ w.0.orb = same_Some on.0 w.0.orb (sym on.1 ∙ started) in
     (w.0.orb, started, subst (λ (x : Orb). has_path x.paths p ≡ true) same on.2, ap (told a) (e ∙ ap (λ (x : Option Program). offered_for x t k) w.1))
 offers-by old (reply.Offered t p true) a k after e i o by = let on = by t p true refl in (on.0, on.1, on.2, ap (told a) e)
-offers-by old reply.Done a k after e i o by = ap (told a) e
-offers-by old (reply.Shown bytes) a k after e i o by = ap (told a) e
-offers-by old (reply.Code c) a k after e i o by = ap (told a) e
-offers-by old (reply.Status c scsw) a k after e i o by = ap (told a) e
-offers-by old (reply.Interruption found) a k after e i o by = ap (told a) e
-offers-by old (reply.PathReset c) a k after e i o by = ap (told a) e
-offers-by old (reply.ChannelReport report) a k after e i o by = ap (told a) e
-offers-by old (reply.Paths engaged) a k after e i o by = ap (told a) e
-offers-by old (reply.ResetSent n p) a k after e i o by = ap (told a) e
-offers-by old (reply.HaltSent t p) a k after e i o by = ap (told a) e
-offers-by old reply.Pending a k after e i o by = ap (told a) e
-offers-by old reply.Idle a k after e i o by = ap (told a) e
-offers-by old (reply.Up x taken one) a k after e i o by = ap (told a) e
-offers-by old (reply.Down x taken one) a k after e i o by = ap (told a) e
+offers-by old r a k after e i o by = ap (told a) e
 
 -- a report
 absorbed-by : (count : ℕ) (x : Option AtHand) (k : ProgramTrace) → (absorbed : List ℕ) × (absorbs count x k ≡ record k { absorbed = absorbed })
@@ -337,11 +275,8 @@ absorbed-if true count x k = absorbed-by count x k
 absorbed-if false count x k = (k.absorbed, refl)
 
 reported-absorbed : (u : UnitState) (report : Report) (a : DeviceAnswer) (k : ProgramTrace) → (absorbed : List ℕ) × (reported u report a k ≡ record k { absorbed = absorbed })
-reported-absorbed u report device.Begins k = (k.absorbed, refl)
 reported-absorbed u report (device.Absorbed count) k = absorbed-if (report.number == k.number) count u.at_hand k
-reported-absorbed u report (device.Supplied bytes) k = (k.absorbed, refl)
-reported-absorbed u report device.Again k = (k.absorbed, refl)
-reported-absorbed u report (device.Ended status more) k = (k.absorbed, refl)
+reported-absorbed u report other k = (k.absorbed, refl)
 
 pub report-absorbed : (b : Bool) (u : Option UnitState) (report : Report) (k : Option ProgramTrace) → HasAbsorbed k (if b then reported_at u report k else k)
 report-absorbed true None report None = tt

@@ -27,7 +27,7 @@ use Rattle.chan_model.specs.UnitTable.{UnitStep, unit_takes, restarted}
 use Rattle.chan_model.specs.UnitReports.{unit_reports}
 use Rattle.wires.specs.Queues.{queue}
 use Rattle.subchannel_model.specs.declared.state.Chosen.{Chosen}
-use Rattle.subchannel_model.specs.declared.state.Chosen.TheVariants.{Idle, Resets, PerformsClear, Halts, PerformsHalt, FindsNoPath, Offers}
+use Rattle.subchannel_model.specs.declared.state.Chosen.TheVariants.{Resets, Halts, Offers}
 use Rattle.subchannel_model.specs.declared.state.PmcwState.{PmcwState}
 use Rattle.subchannel_model.specs.declared.state.Subchannel.{Subchannel}
 use Rattle.subchannel_model.specs.declared.state.SubchannelState.{SubchannelState}
@@ -110,13 +110,10 @@ send-setup : (sub : Subchannel) (state : SubchannelState) (path : ℕ) (signal :
 send-setup sub state path signal r = send-ok (λ t. t.sub.setup ≡ sub.setup) sub state path signal r refl
 
 choose-setup : (sub : Subchannel) (c : Chosen) → IfOk (choose_sub sub c) (λ t. t.sub.setup ≡ sub.setup)
-choose-setup sub Idle = refl
 choose-setup sub (Resets r path) = send-setup sub _ path (down.Reset r sub.state.hold.known) (reply.ResetSent r path)
-choose-setup sub PerformsClear = refl
 choose-setup sub (Halts t path) = send-setup sub _ path (down.Halt t) (reply.HaltSent t path)
-choose-setup sub PerformsHalt = refl
-choose-setup sub FindsNoPath = refl
 choose-setup sub (Offers c path) = send-setup sub _ path (down.Select (sub.state.drawn + 1)) (reply.Offered (sub.state.drawn + 1) path c.resumes)
+choose-setup sub other = refl
 
 up_front-setup : (returns : Bool) → (storage : Contents) (sub : Subchannel) (path : ℕ) (front : Option Up) → IfOk (up_front returns storage sub path front) (λ t. t.sub.setup ≡ sub.setup)
 up_front-setup returns storage sub path None = tt
@@ -147,22 +144,11 @@ report-same sub u report = report_taken-same sub (unit_reports u report)
 
 -- an event that tells nothing
 quiet-story : (place : ℕ) (s : State) (e : Event) (r : Reply) → IsQuiet e r → (k : Option ProgramTrace) → trace_after place s e r k ≡ k
-quiet-story place s (event.Put address bytes) r q k = refl
-quiet-story place s (event.SetKey address key) r q k = refl
-quiet-story place s (event.SetPrefix cpu address) r q k = refl
-quiet-story place s (event.Show address count) r q k = refl
-quiet-story place s (event.Execute cpu i) r q k = refl
 quiet-story place s (event.Choose word) r q k = absurd q
 quiet-story place s (event.Up word path) r q k = absurd q
 quiet-story place s (event.Down word path) r q k = absurd q
 quiet-story place s (event.Report at report) r q k = absurd q
-quiet-story place s (event.ExecuteOther cpu i) r q k = refl
-quiet-story place s (event.Act at what) r q k = refl
-quiet-story place s (event.Restart at) r q k = refl
-quiet-story place s (event.PathDown chpid) r q k = refl
-quiet-story place s (event.PathUp chpid) r q k = refl
-quiet-story place s (event.PathReset chpid) r q k = refl
-quiet-story place s event.SystemReset r q k = refl
+quiet-story place s e r q k = refl
 
 module _ (s : State) (one : IsOneSided s) (place : ℕ) where
   -- what there is at the place after a step, and what was before
@@ -289,22 +275,16 @@ module _ (s : State) (one : IsOneSided s) (place : ℕ) where
   start-turns : (e : Event) (r : Reply) (new : State) (at : ℕ) (sub : Subchannel) (orb : Orb) (c : ConditionCode) → ((k : Option ProgramTrace) → trace_after place s e r k ≡ k) →
       OneSub s new at sub (function_sub sub c (started sub.state orb)).sub → At new (trace_after place s e r)
   start-turns e r new at sub orb code.Zero q o = sub-turns new at sub _ _ o refl (λ there w. Starts_with_orb orb refl refl q) (λ w. q)
-  start-turns e r new at sub orb code.One q o = sub-turns new at sub _ _ o refl (λ there w. Stays refl refl q) (λ w. q)
-  start-turns e r new at sub orb code.Two q o = sub-turns new at sub _ _ o refl (λ there w. Stays refl refl q) (λ w. q)
-  start-turns e r new at sub orb code.Three q o = sub-turns new at sub _ _ o refl (λ there w. Stays refl refl q) (λ w. q)
+  start-turns e r new at sub orb c q o = sub-turns new at sub _ _ o refl (λ there w. Stays refl refl q) (λ w. q)
 
   test-turns : (e : Event) (r : Reply) (new : State) (at : ℕ) (sub : Subchannel) (c : ConditionCode) → IsQuiet e r → OneSub s new at sub (test_with sub c).sub → At new (trace_after place s e r)
   test-turns e r new at sub code.Zero q o = quiet-turns new e r at sub _ o refl q (Is_tested refl refl (quiet-story place s e r q))
-  test-turns e r new at sub code.One q o = quiet-turns new e r at sub _ o refl q (Stays refl refl (quiet-story place s e r q))
-  test-turns e r new at sub code.Two q o = quiet-turns new e r at sub _ o refl q (Stays refl refl (quiet-story place s e r q))
-  test-turns e r new at sub code.Three q o = quiet-turns new e r at sub _ o refl q (Stays refl refl (quiet-story place s e r q))
+  test-turns e r new at sub c q o = quiet-turns new e r at sub _ o refl q (Stays refl refl (quiet-story place s e r q))
 
   modify-turns : (e : Event) (r : Reply) (new : State) (at : ℕ) (sub : Subchannel) (given : block.Pmcw) (c : ConditionCode) → IsQuiet e r → OneSub s new at sub (function_sub sub c (modified_state sub given)).sub →
       At new (trace_after place s e r)
   modify-turns e r new at sub given code.Zero q o = quiet-turns new e r at sub _ o refl q (Is_modified _ refl refl (quiet-story place s e r q))
-  modify-turns e r new at sub given code.One q o = quiet-turns new e r at sub _ o refl q (Stays refl refl (quiet-story place s e r q))
-  modify-turns e r new at sub given code.Two q o = quiet-turns new e r at sub _ o refl q (Stays refl refl (quiet-story place s e r q))
-  modify-turns e r new at sub given code.Three q o = quiet-turns new e r at sub _ o refl q (Stays refl refl (quiet-story place s e r q))
+  modify-turns e r new at sub given c q o = quiet-turns new e r at sub _ o refl q (Stays refl refl (quiet-story place s e r q))
 
   effect : (f : Function) (sub : Subchannel) (g : Option ProgramTrace → Option ProgramTrace) → ((k : Option ProgramTrace) → g k ≡ k) →
       PlaceStep s.storage sub (with_state sub (effect_of f sub.state)) (slice_get s.units sub.setup.«unit») (slice_get s.units sub.setup.«unit») g
@@ -316,9 +296,7 @@ module _ (s : State) (one : IsOneSided s) (place : ℕ) where
   perform-turns : (e : Event) (r : Reply) (new : State) (at : ℕ) (sub : Subchannel) (f : Function) (c : ConditionCode) → IsQuiet e r →
       OneSub s new at sub (function_sub sub c (effect_of f sub.state)).sub → At new (trace_after place s e r)
   perform-turns e r new at sub f code.Zero q o = quiet-turns new e r at sub _ o refl q (effect f sub (trace_after place s e r) (quiet-story place s e r q))
-  perform-turns e r new at sub f code.One q o = quiet-turns new e r at sub _ o refl q (Stays refl refl (quiet-story place s e r q))
-  perform-turns e r new at sub f code.Two q o = quiet-turns new e r at sub _ o refl q (Stays refl refl (quiet-story place s e r q))
-  perform-turns e r new at sub f code.Three q o = quiet-turns new e r at sub _ o refl q (Stays refl refl (quiet-story place s e r q))
+  perform-turns e r new at sub f c q o = quiet-turns new e r at sub _ o refl q (Stays refl refl (quiet-story place s e r q))
 
   step-turns : (e : Event) (r : Reply) (new : State) → Walked s e r new → At new (trace_after place s e r)
   step-turns _ _ _ (walked.Stays e r new q sets subs units up) = stays new (trace_after place s e r) subs units (quiet-story place s e r q)

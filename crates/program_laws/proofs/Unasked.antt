@@ -111,10 +111,7 @@ phase-unasked : (storage : Contents) (s : SubchannelState) (phase : HoldPhase) (
     IsUnasked (taking.accepted_by storage s phase taken).state.begun
 phase-unasked storage s (hold.On t p c) taken u = standing-unasked storage (record s { pmcw = taking.path_used s.pmcw p }) p t (taking.standing s) u
 phase-unasked storage s (hold.Letting t p) taken u = halt-unasked (record s { pmcw = taking.path_used s.pmcw p }) u
-phase-unasked storage s hold.Free taken u = u
-phase-unasked storage s (hold.Offer t p) taken u = u
-phase-unasked storage s (hold.Away t) taken u = u
-phase-unasked storage s (hold.Reset r) taken u = u
+phase-unasked storage s other taken u = u
 
 accept-unasked : (storage : Contents) (s : SubchannelState) (step : Option HoldStep) → IsUnasked s.begun → IsUnasked (taking.accept storage s step).state.begun
 accept-unasked storage s step u = by (came_of step).taken
@@ -225,15 +222,12 @@ takes-unasked returns storage s p (up.Data load t c n q) u =
     data-unasked storage s (record { path = p; number = t; connection = c; command = n; sequence = q }) load (is_connected s.hold.phase p t c) u
 takes-unasked returns storage s p (up.End t n status more) u =
     end-unasked storage s (record { path = p; number = t; command = n; status = status; more = more }) (is_on s.hold.phase t) u
-takes-unasked returns storage s p (up.Busy t) u = u
-takes-unasked returns storage s p (up.Leave t c) u = u
-takes-unasked returns storage s p (up.Back t c) u = u
-takes-unasked returns storage s p (up.Released t) u = u
 takes-unasked returns storage s p (up.Cleared r) u = cleared-unasked s (hold_takes s.hold p (up.Cleared r) false) u
 takes-unasked returns storage s p (up.Notice b) u = noticed-unasked s b (nat_lt s.hold.known b) u
 takes-unasked returns storage s p (up.Attn a status) u =
     let step : Option HoldStep = hold_takes s.hold p (up.Attn a status) (taking.may_attend s) in
     unasked-as s.begun _ (attention-begun (record s { hold = hold_after s.hold step }) ((came_of step).taken && not (status.0 == 0x20))) u
+takes-unasked returns storage s p x u = u
 
 front-unasked : (returns : Bool) (storage : Contents) (sub : Subchannel) (path : ℕ) (front : Option Up) → IsUnasked sub.state.begun →
     IfOk (up_front returns storage sub path front) (λ t. IsUnasked t.sub.state.begun)

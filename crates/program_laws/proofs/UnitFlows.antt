@@ -55,9 +55,7 @@ IsData v lead s x = (s ≤ v.seq + 1) × (s ≡ v.seq + 1 → lead ≡ Some (loa
 
 abbrev pub IsStarted : Progress → Type 0
 IsStarted progress.New = ⊥
-IsStarted progress.Working = Unit {0}
-IsStarted progress.ChannelEnded = Unit {0}
-IsStarted progress.Ended = Unit {0}
+IsStarted other = Unit {0}
 
 -- the command at hand
 pub data Hand (v : View) (lead : Option ℕ) (x : AtHand) : Type 0 where

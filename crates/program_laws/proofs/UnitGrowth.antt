@@ -19,7 +19,7 @@ use Rattle.chan_model.specs.Loads.{load_length}
 use Rattle.chan_model.specs.UnitReports.{is_outward, has_device_end}
 use Rattle.ccw_walk.specs.declared.check.Check.{Check}
 use Rattle.ccw_walk.specs.declared.program.Reading.{Reading}
-use Rattle.ccw_walk.specs.declared.program.Reading.TheVariants.{Transfers, Takes, Suspends, Shows}
+use Rattle.ccw_walk.specs.declared.program.Reading.TheVariants.{Takes}
 use Rattle.ccw_walk.specs.Acts.{Act, Block, Unfetched, Used_up, End, Word}
 use Rattle.ccw_walk.specs.Blocks.{reads}
 use Rattle.ccw_walk.specs.Programs.{Command, join_last, commands_after, commands, code, role_of}
@@ -81,11 +81,9 @@ pub adds-then : (xs ys zs : List ℕ) → Adds xs ys → Adds ys zs → Adds xs 
 adds-then xs ys zs a b = (b.0 ++ a.0, b.1 ∙ ap (λ (l : List ℕ). b.0 ++ l) a.1 ∙ sym (append_assoc b.0 a.0 xs))
 
 after-adds : (chained : Bool) (cs : List Command) (r : Reading) → Adds (map code cs) (map code (commands_after chained cs r))
-after-adds chained cs (Transfers target) = adds-none _ _ refl
 after-adds true cs (Takes ccw) = adds-none (map code cs) (map code (join_last cs ccw)) (joined-codes cs ccw)
 after-adds false cs (Takes ccw) = (ccw.command ∷ [], refl)
-after-adds chained cs Suspends = adds-none _ _ refl
-after-adds chained cs Shows = adds-none _ _ refl
+after-adds chained cs other = adds-none _ _ refl
 
 pub acts-add : (orb : Orb) (acts before : List Act) → Adds (map code (commands orb before)) (map code (commands orb (acts ++ before)))
 acts-add orb [] before = adds-none _ _ refl
@@ -221,11 +219,7 @@ begins_as-grown storage (Some program) suspended start k e =
 
 accepted_at-grown : (storage : Contents) (phase : HoldPhase) (s : SubchannelState) (k : ProgramTrace) → k.sent ≡ 0 → IsGrown k (accepted_at storage phase s k)
 accepted_at-grown storage (hold.On t p c) s k e = begins_as-grown storage s.waiting s.suspended s.offered k e
-accepted_at-grown storage hold.Free s k e = same-grown k
-accepted_at-grown storage (hold.Offer t p) s k e = same-grown k
-accepted_at-grown storage (hold.Away t) s k e = same-grown k
-accepted_at-grown storage (hold.Letting t p) s k e = same-grown k
-accepted_at-grown storage (hold.Reset r) s k e = same-grown k
+accepted_at-grown storage other s k e = same-grown k
 
 accepted-grown : (storage : Contents) (s : SubchannelState) (step : Option HoldStep) (k : ProgramTrace) → k.sent ≡ 0 → IsGrown k (trace_accepted storage s step k)
 accepted-grown storage s step k e = if-grown k (came_of step).taken _ k (accepted_at-grown storage (hold_after s.hold step).phase s k e) (same-grown k)
@@ -236,12 +230,8 @@ IsUnbegun phase k = (t p : ℕ) → phase ≡ hold.Offer t p → k.sent ≡ 0
 
 accept-grown : (storage : Contents) (s : SubchannelState) (h : HoldState) (phase : HoldPhase) (t : ℕ) (may : Bool) (k : ProgramTrace) → IsUnbegun phase k →
     IsGrown k (trace_accepted storage s (hold_table.offer_accepted h phase t may) k)
-accept-grown storage s h hold.Free t may k e = same-grown k
 accept-grown storage s h (hold.Offer u p) t may k e = accepted-grown storage s (hold_table.offer_accepted h (hold.Offer u p) t may) k (e u p refl)
-accept-grown storage s h (hold.On u p c) t may k e = same-grown k
-accept-grown storage s h (hold.Away u) t may k e = same-grown k
-accept-grown storage s h (hold.Letting u p) t may k e = same-grown k
-accept-grown storage s h (hold.Reset r) t may k e = same-grown k
+accept-grown storage s h other t may k e = same-grown k
 
 moves-grown : (storage : Contents) (t : Transfer) (s : ℕ) (load : Load) (k : ProgramTrace) → IsGrown k (moves storage t s load k)
 moves-grown storage t s load k =
@@ -269,10 +259,4 @@ pub meets-grown : (storage : Contents) (s : SubchannelState) (p : ℕ) (x : Up) 
 meets-grown storage s p (up.Accept t) k e = accept-grown storage s s.hold s.hold.phase t (goes_ahead s) k e
 meets-grown storage s p (up.Data load t c n seq) k e = if-grown k (is_connected s.hold.phase p t c) _ k (answers-grown storage s.begun n seq load k) (same-grown k)
 meets-grown storage s p (up.End t n status more) k e = if-grown k (is_on s.hold.phase t) _ k (ends-grown storage s s.begun n status more k) (same-grown k)
-meets-grown storage s p (up.Busy t) k e = same-grown k
-meets-grown storage s p (up.Leave t c) k e = same-grown k
-meets-grown storage s p (up.Back t c) k e = same-grown k
-meets-grown storage s p (up.Released t) k e = same-grown k
-meets-grown storage s p (up.Cleared r) k e = same-grown k
-meets-grown storage s p (up.Notice b) k e = same-grown k
-meets-grown storage s p (up.Attn a status) k e = same-grown k
+meets-grown storage s p x k e = same-grown k

@@ -197,16 +197,9 @@ command-held may side number P u p t n code room h f =
 
 -- it tells nothing of the command
 abbrev pub IsQuiet : Up → Type 0
-IsQuiet (up.Accept t) = Unit {0}
-IsQuiet (up.Busy t) = Unit {0}
-IsQuiet (up.Leave t c) = Unit {0}
-IsQuiet (up.Back t c) = Unit {0}
 IsQuiet (up.Data l t c n s) = ⊥
 IsQuiet (up.End t n status more) = ⊥
-IsQuiet (up.Released t) = Unit {0}
-IsQuiet (up.Cleared r) = Unit {0}
-IsQuiet (up.Notice b) = Unit {0}
-IsQuiet (up.Attn a status) = Unit {0}
+IsQuiet x = Unit {0}
 
 abbrev pub IsQuietStep : Option UnitStep → Type 0
 IsQuietStep step = IfSome (came_of step).sent (λ x. IsQuiet x.signal)

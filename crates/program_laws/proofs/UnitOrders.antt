@@ -358,15 +358,9 @@ old-side side drawn number sent codes took wires u p d step false f k = f refl
 mild-took : (number : ℕ) (b : Bool) (d : Down) (took : List ℕ) → IsMild d → took_after number b d took ≡ took
 mild-took number true (down.Select t) took m = absurd m
 mild-took number true (down.Command t n code room) took m = absurd m
-mild-took number true (down.Grant t c) took m = refl
-mild-took number true (down.Refuse t c) took m = refl
-mild-took number true (down.Took t n s room) took m = refl
-mild-took number true (down.Give bytes t c n s) took m = refl
-mild-took number true (down.Halt t) took m = refl
-mild-took number true (down.Release t) took m = refl
 mild-took number true (down.Reset r b) took m = absurd m
-mild-took number true (down.Got a) took m = refl
 mild-took number false d took m = refl
+mild-took number true d took m = refl
 
 select-took : (number : ℕ) (b : Bool) (t : ℕ) (took : List ℕ) → took_after number b (down.Select t) took ≡ took
 select-took number true t took = refl
@@ -441,12 +435,6 @@ unit-takes may side drawn number sent codes took wires u p (down.Select t) most 
 unit-takes may side drawn number sent codes took wires u p (down.Command t n code room) most h rises k =
     old-side side drawn number sent codes took wires u p (down.Command t n code room) (unit_works u side p (down.Command t n code room) may) (side_of u side).fresh
     (λ old. commanded-if side drawn number sent codes took wires u t n code room (Some (new_command code room)) (is_owner u.own side t) (n == u.last_command + 1) refl refl h k) k
-unit-takes may side drawn number sent codes took wires u p (down.Grant t c) most h rises k = mild-taken may side drawn number sent codes took wires u p (down.Grant t c) tt k
-unit-takes may side drawn number sent codes took wires u p (down.Refuse t c) most h rises k = mild-taken may side drawn number sent codes took wires u p (down.Refuse t c) tt k
-unit-takes may side drawn number sent codes took wires u p (down.Took t n s room) most h rises k = mild-taken may side drawn number sent codes took wires u p (down.Took t n s room) tt k
-unit-takes may side drawn number sent codes took wires u p (down.Give bytes t c n s) most h rises k = mild-taken may side drawn number sent codes took wires u p (down.Give bytes t c n s) tt k
-unit-takes may side drawn number sent codes took wires u p (down.Halt t) most h rises k = mild-taken may side drawn number sent codes took wires u p (down.Halt t) tt k
-unit-takes may side drawn number sent codes took wires u p (down.Release t) most h rises k = mild-taken may side drawn number sent codes took wires u p (down.Release t) tt k
 unit-takes may side drawn number sent codes took wires u p (down.Reset r b) most h rises k =
     reset-by side drawn number sent codes took wires u p r b (b == u.restarts) (side_of u side).fresh (nat_lt (side_of u side).floor r) rises h k
-unit-takes may side drawn number sent codes took wires u p (down.Got a) most h rises k = mild-taken may side drawn number sent codes took wires u p (down.Got a) tt k
+unit-takes may side drawn number sent codes took wires u p d most h rises k = mild-taken may side drawn number sent codes took wires u p d tt k

@@ -178,10 +178,6 @@ ended-still : (side : Side) (u : UnitState) (p t : ℕ) (x : AtHand) (may : Bool
 ended-still side u p t x may status more = if-still side u may (end_sent u p t x status more) None (with-hand side u _) (still side u)
 
 answer-still : (side : Side) (u : UnitState) (p t c : ℕ) (x : AtHand) (at : Progress) (a : DeviceAnswer) → IsStillStep side u (answer_taken u p t c x at a)
-answer-still side u p t c x progress.New (answer.Ended status more) = ended-still side u p t x (may_end u.halted x progress.New status more) (shown_end progress.New status) more
-answer-still side u p t c x progress.Working (answer.Ended status more) = ended-still side u p t x (may_end u.halted x progress.Working status more) (shown_end progress.Working status) more
-answer-still side u p t c x progress.ChannelEnded (answer.Ended status more) = ended-still side u p t x (may_end u.halted x progress.ChannelEnded status more) (shown_end progress.ChannelEnded status) more
-answer-still side u p t c x progress.Ended (answer.Ended status more) = ended-still side u p t x (may_end u.halted x progress.Ended status more) (shown_end progress.Ended status) more
 answer-still side u p t c x progress.New answer.Begins = begun-still side u p t c x
 answer-still side u p t c x progress.Working answer.Begins = still side u
 answer-still side u p t c x progress.ChannelEnded answer.Begins = still side u
@@ -198,6 +194,7 @@ answer-still side u p t c x progress.New answer.Again = still side u
 answer-still side u p t c x progress.Working answer.Again = again-still side u p t c x x.unanswered
 answer-still side u p t c x progress.ChannelEnded answer.Again = still side u
 answer-still side u p t c x progress.Ended answer.Again = still side u
+answer-still side u p t c x other (answer.Ended status more) = ended-still side u p t x (may_end u.halted x other status more) (shown_end other status) more
 
 report_on-still : (side : Side) (u : UnitState) (t : ℕ) (place : Place) (x : Option AtHand) (r : Report) → IsStillStep side u (report_on u t place x r)
 report_on-still side u t (On p c) (Some x) r = if-still side u (r.sequence == x.sequence) _ None (answer-still side u p t c x x.progress r.answer) (still side u)

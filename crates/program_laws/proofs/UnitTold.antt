@@ -92,10 +92,6 @@ again-told u p t c x (Some l) h e = by x.again
     by false = none-told u p t c x answer.Again
 
 answer-told : (u : UnitState) (p t c : ℕ) (x : AtHand) (at : Progress) (a : DeviceAnswer) → x.progress ≡ at → AreTold u p t c x a (answer_taken u p t c x at a)
-answer-told u p t c x progress.New (answer.Ended status more) e = ended-told u p t c x status (shown_end progress.New status) more (may_end u.halted x progress.New status more)
-answer-told u p t c x progress.Working (answer.Ended status more) e = ended-told u p t c x status (shown_end progress.Working status) more (may_end u.halted x progress.Working status more)
-answer-told u p t c x progress.ChannelEnded (answer.Ended status more) e = ended-told u p t c x status (shown_end progress.ChannelEnded status) more (may_end u.halted x progress.ChannelEnded status more)
-answer-told u p t c x progress.Ended (answer.Ended status more) e = ended-told u p t c x status (shown_end progress.Ended status) more (may_end u.halted x progress.Ended status more)
 answer-told u p t c x progress.New answer.Begins e = begun-told u p t c x (is_outward x.code) refl e
 answer-told u p t c x progress.Working answer.Begins e = none-told u p t c x answer.Begins
 answer-told u p t c x progress.ChannelEnded answer.Begins e = none-told u p t c x answer.Begins
@@ -112,6 +108,7 @@ answer-told u p t c x progress.New answer.Again e = none-told u p t c x answer.A
 answer-told u p t c x progress.Working answer.Again e = again-told u p t c x x.unanswered refl e
 answer-told u p t c x progress.ChannelEnded answer.Again e = none-told u p t c x answer.Again
 answer-told u p t c x progress.Ended answer.Again e = none-told u p t c x answer.Again
+answer-told u p t c x other (answer.Ended status more) e = ended-told u p t c x status (shown_end other status) more (may_end u.halted x other status more)
 
 -- a report that is taken is of the program that holds the device, of its command at hand
 pub record IsReportTaken (u : UnitState) (r : Report) (y : UnitStep) : Type 0 where

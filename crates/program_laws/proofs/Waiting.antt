@@ -50,15 +50,11 @@ module _ (P : Option Program → Type 0) (none : P None) where
   -- instructions
   test-stays : (sub : Subchannel) (c : ConditionCode) → Stays sub (test_with sub c).sub
   test-stays sub code.Zero k = test-waits P none sub.state k
-  test-stays sub code.One k = k
-  test-stays sub code.Two k = k
-  test-stays sub code.Three k = k
+  test-stays sub c k = k
 
   modify-stays : (sub : Subchannel) (given : block.Pmcw) (c : ConditionCode) → Stays sub (function_sub sub c (modified_state sub given)).sub
   modify-stays sub given code.Zero k = k
-  modify-stays sub given code.One k = k
-  modify-stays sub given code.Two k = k
-  modify-stays sub given code.Three k = k
+  modify-stays sub given c k = k
 
   effect-waits : (s : SubchannelState) (f : Function) → P s.waiting → P (effect_of f s).waiting
   effect-waits s Resumes k = k
@@ -68,9 +64,7 @@ module _ (P : Option Program → Type 0) (none : P None) where
 
   function-stays : (sub : Subchannel) (f : Function) (c : ConditionCode) → Stays sub (function_sub sub c (effect_of f sub.state)).sub
   function-stays sub f code.Zero k = effect-waits sub.state f k
-  function-stays sub f code.One k = k
-  function-stays sub f code.Two k = k
-  function-stays sub f code.Three k = k
+  function-stays sub f c k = k
 
   -- Choose
   choose-stays : (sub : Subchannel) (c : Chosen) → IfOk (choose_sub sub c) (λ t. Stays sub t.sub)

@@ -41,13 +41,11 @@ module _ (P : Option Program → Type 0) (none : P None) where
   pub cause-waits : (s : SubchannelState) (c : StatusCause) → Waits s → Waits (with_cause s c)
   cause-waits s (cause.End b status more) k = after_end-waits s b (is_last_end status) k
   cause-waits s (cause.FetchFault tried check count) k = without_begun-waits s s.begun k
-  cause-waits s cause.Attention k = none
   cause-waits s cause.NoPath k = without_waiting-waits s s.waiting k
-  cause-waits s cause.InterfaceControlCheck k = none
   cause-waits s (cause.Pci tried count) k = k
   cause-waits s (cause.Suspension tried count) k = k
   cause-waits s cause.ClearDone k = k
-  cause-waits s cause.HaltDone k = none
+  cause-waits s other k = none
 
   -- a signal that comes up, and a hold that is to be reset
   same-waits : (s x : SubchannelState) → x.waiting ≡ s.waiting → x.scsw ≡ s.scsw → x.pmcw.logical ≡ s.pmcw.logical → Waits s → Waits x

@@ -31,7 +31,7 @@ use Rattle.channel_config.specs.SubchannelWords.{subchannel_named}
 use Rattle.storage_keys.specs.Storage.{Contents}
 use Rattle.wires.specs.Queues.{queue}
 use Rattle.subchannel_model.specs.declared.state.Chosen.{Chosen}
-use Rattle.subchannel_model.specs.declared.state.Chosen.TheVariants.{Idle, Resets, PerformsClear, Halts, PerformsHalt, FindsNoPath, Offers}
+use Rattle.subchannel_model.specs.declared.state.Chosen.TheVariants.{Resets, Halts, Offers}
 use Rattle.subchannel_model.specs.declared.state.Subchannel.{Subchannel}
 use Rattle.subchannel_model.specs.declared.state.UpStep.{UpStep}
 use Rattle.subchannel_model.specs.Choosing.{IsFitFor, chosen, marked_sub}
@@ -175,29 +175,23 @@ up-agrees u returns storage sub path =
 -- what is chosen
 held-agrees : (phase : HoldPhase) (t : ℕ) (u : UnitState) (side : Side) → IsFitFor (Halts t 0) (record { phase = phase; seen = 0; known = 0; reset_path = None; first_path = None; single_path = false }) →
     AgreeAt phase u side → IsHolderOr (holding_of u) side t
-held-agrees hold.Free t u side fit a = absurd fit
-held-agrees (hold.Offer v q) t u side fit a = absurd fit
 held-agrees (hold.On v q c) t u side fit a = subst (λ (n : ℕ). IsHolderOr (holding_of u) side n) (sym fit) (on-holder v q c u side a)
 held-agrees (hold.Away v) t u side fit a = subst (λ (n : ℕ). IsHolderOr (holding_of u) side n) (sym fit) (away-holder v u side a)
-held-agrees (hold.Letting v q) t u side fit a = absurd fit
-held-agrees (hold.Reset r) t u side fit a = absurd fit
+held-agrees other t u side fit a = absurd fit
 
 abbrev IsChosenAgreed : UnitState → Side → SubTurn → Type 0
 IsChosenAgreed u side t = AgreesIn side t.reply (holding_of u)
 
 choose-agrees : (u : UnitState) (sub : Subchannel) (c : Chosen) → IsFitFor c sub.state.hold → AgreeAt sub.state.hold.phase u sub.setup.side → IfOk (choose_sub sub c) (IsChosenAgreed u sub.setup.side)
-choose-agrees u sub Idle fit a = tt
 choose-agrees u sub (Resets r path) fit a =
     if-ok (IsChosenAgreed u sub.setup.side) (finds_full sub.wires.down (carried_by sub (Some (record { path = path; signal = down.Reset r sub.state.hold.known })))) _ _ tt tt
-choose-agrees u sub PerformsClear fit a = tt
 choose-agrees u sub (Halts t path) fit a =
     if-ok (IsChosenAgreed u sub.setup.side) (finds_full sub.wires.down (carried_by sub (Some (record { path = path; signal = down.Halt t })))) _ _ tt
     (held-agrees sub.state.hold.phase t u sub.setup.side fit a)
-choose-agrees u sub PerformsHalt fit a = tt
-choose-agrees u sub FindsNoPath fit a = tt
 choose-agrees u sub (Offers c path) fit a =
     if-ok (IsChosenAgreed u sub.setup.side) (finds_full sub.wires.down (carried_by sub (Some (record { path = path; signal = down.Select (sub.state.drawn + 1) })))) _ _ tt
     (free-unheld u sub.setup.side (subst (λ (y : HoldPhase). AgreeAt y u sub.setup.side) fit a))
+choose-agrees u sub other fit a = tt
 
 -- each subchannel has its unit
 get-map : {A B : Type 0} (f : A → B) (xs : List A) (n : ℕ) (x : A) → slice_get xs n ≡ Some x → slice_get (map f xs) n ≡ Some (f x)
@@ -216,22 +210,9 @@ has-unit setup s place sub k there =
 
 -- quiet events
 quiet-agreed : (sets : ℕ) (subs : List SubchannelSetup) (at : ℕ) (e : Event) (r : Reply) (k : Holding) → IsQuiet e r → IsEntryAgreed sets subs at e r k
-quiet-agreed sets subs at (event.Put address bytes) r k q = tt
-quiet-agreed sets subs at (event.SetKey address key) r k q = tt
-quiet-agreed sets subs at (event.SetPrefix cpu address) r k q = tt
-quiet-agreed sets subs at (event.Show address count) r k q = tt
-quiet-agreed sets subs at (event.Execute cpu i) r k q = tt
-quiet-agreed sets subs at (event.ExecuteOther cpu i) r k q = tt
 quiet-agreed sets subs at (event.Choose word) r k q = absurd q
 quiet-agreed sets subs at (event.Up word path) r k q = absurd q
-quiet-agreed sets subs at (event.Down word path) r k q = tt
-quiet-agreed sets subs at (event.Report place report) r k q = tt
-quiet-agreed sets subs at (event.Act place what) r k q = tt
-quiet-agreed sets subs at (event.Restart place) r k q = tt
-quiet-agreed sets subs at (event.PathDown chpid) r k q = tt
-quiet-agreed sets subs at (event.PathUp chpid) r k q = tt
-quiet-agreed sets subs at (event.PathReset chpid) r k q = tt
-quiet-agreed sets subs at event.SystemReset r k q = tt
+quiet-agreed sets subs at e r k q = tt
 
 -- an entry of a subchannel, where what it and its unit agree on makes it right
 set-agreed : (setup : Setup) (at : ℕ) (s : State) (word place : ℕ) (sub : Subchannel) (r : Reply) (k : Holding) → IsSetUp setup s → IsSeen at s.units k →
@@ -248,7 +229,6 @@ set-agreed setup at s word place sub r k set seen is there f =
 walked-agreed : (setup : Setup) (at : ℕ) (s : State) (e : Event) (r : Reply) (new : State) (k : Holding) → Walked s e r new → IsSetUp setup s → AllAgree s → AllAgree new → IsSeen at s.units k →
     IsEntryAgreed s.sets (setups s.subs) at e r k
 walked-agreed setup at s _ _ _ k (walked.Stays e r new q sets subs units up) set old now seen = quiet-agreed s.sets (setups s.subs) at e r k q
-walked-agreed setup at s _ _ _ k (walked.Started cpu word address place sub orb c new n one) set old now seen = tt
 walked-agreed setup at s _ _ _ k (walked.Tested e r place sub c new q one address by answers) set old now seen = quiet-agreed s.sets (setups s.subs) at e r k q
 walked-agreed setup at s _ _ _ k (walked.Modified e r place sub given c new q one) set old now seen = quiet-agreed s.sets (setups s.subs) at e r k q
 walked-agreed setup at s _ _ _ k (walked.Performed e r place sub f c new q one by answers) set old now seen = quiet-agreed s.sets (setups s.subs) at e r k q
@@ -266,11 +246,8 @@ walked-agreed setup at s _ _ _ k (walked.Met word path returns place sub t new n
     let b : IsAgreed t.sub.state.hold.phase u t.sub.setup.side =
     now place t.sub u there (ap (λ (y : SubchannelSetup). slice_get new.units y.«unit») got.0 ∙ (ap (λ (us : List UnitState). slice_get us sub.setup.«unit») one.units ∙ found)) in
     got.1 a.agree (subst (λ (y : SubchannelSetup). AgreeAt t.sub.state.hold.phase u y.side) got.0 b.agree))
-walked-agreed setup at s _ _ _ k (walked.Sunk word path may owed place sub u t new n ok one) set old now seen = tt
-walked-agreed setup at s _ _ _ k (walked.Reported place i sub u report t new n reached ok one) set old now seen = tt
-walked-agreed setup at s _ _ _ k (walked.Acted place i sub u what t new side its ok one) set old now seen = tt
-walked-agreed setup at s _ _ _ k (walked.Restarted place owed u r new found sets subs units up) set old now seen = tt
 walked-agreed setup at s _ _ _ k (walked.Swept e r what new q sets subs units by) set old now seen = quiet-agreed s.sets (setups s.subs) at e r k q
+walked-agreed setup at s _ _ _ k w set old now seen = tt
 
 agreed-more : (sets : ℕ) (subs : List SubchannelSetup) (at : ℕ) (k : Holding) (h : List Entry) (x : Entry) → AreAgreed sets subs at k h →
     IsEntryAgreed sets subs at x.event x.reply (holding_through sets subs at k h) → AreAgreed sets subs at k (h ++ x ∷ [])

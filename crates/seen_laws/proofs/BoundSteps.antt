@@ -133,32 +133,25 @@ parted-sent-up t us ds o available one a x = record { ups = each-sent (λ p. IsN
 
 -- by the phase of the hold
 pub joint-taken-up : (phase : HoldPhase) (k : ℕ) (us : List (List Up)) (ds : List (List Down)) (o : Option Connected) → Joint phase us ds o → Joint phase (taken us k) ds o
-joint-taken-up hold.Free k us ds o x = tt
 joint-taken-up (hold.Offer t q) k us ds o x = tied-taken-up t q 0 k us ds o x
 joint-taken-up (hold.On t q c) k us ds o x = tied-taken-up t q c k us ds o x
 joint-taken-up (hold.Away t) k us ds o x = parted-taken-up t k us ds o x
-joint-taken-up (hold.Letting t q) k us ds o x = tt
-joint-taken-up (hold.Reset r) k us ds o x = tt
+joint-taken-up other k us ds o x = tt
 
 pub joint-taken-down : (phase : HoldPhase) (k : ℕ) (us : List (List Up)) (ds : List (List Down)) (o : Option Connected) → Joint phase us ds o → Joint phase us (taken ds k) o
-joint-taken-down hold.Free k us ds o x = tt
 joint-taken-down (hold.Offer t q) k us ds o x = tied-taken-down t q 0 k us ds o x
 joint-taken-down (hold.On t q c) k us ds o x = tied-taken-down t q c k us ds o x
 joint-taken-down (hold.Away t) k us ds o x = record { ups = x.ups; downs = each-taken (λ p. IsNoGrant t) ds k x.downs; off = x.off }
-joint-taken-down (hold.Letting t q) k us ds o x = tt
-joint-taken-down (hold.Reset r) k us ds o x = tt
+joint-taken-down other k us ds o x = tt
 
 joint-lost : (phase : HoldPhase) (k : ℕ) (us : List (List Up)) (ds : List (List Down)) (o : Option Connected) → Joint phase us ds o → Joint phase (lost us k) (lost ds k) o
-joint-lost hold.Free k us ds o x = tt
 joint-lost (hold.Offer t q) k us ds o x = tied-lost t q 0 k us ds o x
 joint-lost (hold.On t q c) k us ds o x = tied-lost t q c k us ds o x
 joint-lost (hold.Away t) k us ds o x = record { ups = each-lost (λ p. IsNot t) us k x.ups; downs = each-lost (λ p. IsNoGrant t) ds k x.downs; off = x.off }
-joint-lost (hold.Letting t q) k us ds o x = tt
-joint-lost (hold.Reset r) k us ds o x = tt
+joint-lost other k us ds o x = tt
 
 joint-sent-down : (phase : HoldPhase) (us : List (List Up)) (ds : List (List Down)) (o : Option Connected) (available : List Bool) (one : Option (OnPath Down)) → AreOtherDowns one →
     Joint phase us ds o → Joint phase us (with_any_sent ds (carried available one)) o
-joint-sent-down hold.Free us ds o available one a x = tt
 joint-sent-down (hold.Offer t q) us ds o available one a x = tied-sent-down t q 0 us ds o available one a x
 joint-sent-down (hold.On t q c) us ds o available one a x = tied-sent-down t q c us ds o available one a x
 joint-sent-down (hold.Away t) us ds o available one a x = record {
@@ -166,33 +159,26 @@ joint-sent-down (hold.Away t) us ds o available one a x = record {
   downs = each-sent (λ p. IsNoGrant t) ds available one (on-sent (λ p. IsOtherDown) (λ p. IsNoGrant t) one (λ p d k. other-no-grant t d k) a) x.downs;
   off = x.off;
 }
-joint-sent-down (hold.Letting t q) us ds o available one a x = tt
-joint-sent-down (hold.Reset r) us ds o available one a x = tt
+joint-sent-down other us ds o available one a x = tt
 
 pub joint-sent-plain : (phase : HoldPhase) (us : List (List Up)) (ds : List (List Down)) (o : Option Connected) (available : List Bool) (one : Option (OnPath Up)) →
     ((t : ℕ) → AreNot t one) → Joint phase us ds o → Joint phase (with_any_sent us (carried available one)) ds o
-joint-sent-plain hold.Free us ds o available one a x = tt
 joint-sent-plain (hold.Offer t q) us ds o available one a x = tied-sent-up t q 0 us ds o available one (a t) x
 joint-sent-plain (hold.On t q c) us ds o available one a x = tied-sent-up t q c us ds o available one (a t) x
 joint-sent-plain (hold.Away t) us ds o available one a x = parted-sent-up t us ds o available one (a t) x
-joint-sent-plain (hold.Letting t q) us ds o available one a x = tt
-joint-sent-plain (hold.Reset r) us ds o available one a x = tt
+joint-sent-plain other us ds o available one a x = tt
 
 pub joint-off : (phase : HoldPhase) (us : List (List Up)) (ds : List (List Down)) (o p : Option Connected) → IsOff o p → Joint phase us ds o → Joint phase us ds p
-joint-off hold.Free us ds o p f x = tt
 joint-off (hold.Offer t q) us ds o p f x = tied-off t q 0 us ds o p (off-less t o p f) x
 joint-off (hold.On t q c) us ds o p f x = tied-off t q c us ds o p (off-less t o p f) x
 joint-off (hold.Away t) us ds o p f x = record { ups = x.ups; downs = x.downs; off = off-less t o p f x.off }
-joint-off (hold.Letting t q) us ds o p f x = tt
-joint-off (hold.Reset r) us ds o p f x = tt
+joint-off other us ds o p f x = tt
 
 joint-gone : (phase : HoldPhase) (us : List (List Up)) (ds : List (List Down)) (o : Option Connected) → IsGone phase → Joint phase us ds o
-joint-gone hold.Free us ds o g = tt
 joint-gone (hold.Offer t q) us ds o g = absurd g
 joint-gone (hold.On t q c) us ds o g = absurd g
 joint-gone (hold.Away t) us ds o g = absurd g
-joint-gone (hold.Letting t q) us ds o g = tt
-joint-gone (hold.Reset r) us ds o g = tt
+joint-gone other us ds o g = tt
 
 joint-stays : (phase next : HoldPhase) (us : List (List Up)) (ds : List (List Down)) (o : Option Connected) → Stays phase next → Joint phase us ds o → Joint next us ds o
 joint-stays phase next us ds o (inl e) x = subst (λ (y : HoldPhase). Joint y us ds o) (sym e) x
@@ -243,15 +229,12 @@ below-others f one a = on-sent (λ p. IsOtherDown) (λ p. IsDownBelow f) one (λ
 
 met-below : (p f : ℕ) (x : Up) (phase : HoldPhase) (taken : Bool) (sent : Option (OnPath Down)) (next : HoldPhase) → Meets p x phase taken sent next → IsBackBelow f x →
     OnSent (λ p. IsDownBelow f) sent
-met-below p f _ _ _ _ _ (Ignored x phase) b = tt
 met-below p f _ _ _ _ _ (Turns x phase next sent plain stays quiet) b = below-others f sent (plain-others sent quiet)
 met-below p f _ _ _ _ _ (Begins t q sent commands) b = below-others f sent (commands-other t q sent commands)
-met-below p f _ _ _ _ _ (Declines t q) b = tt
 met-below p f _ _ _ _ _ (Moves t c n s load sent answers) b = below-others f sent (data-others t p c sent answers)
 met-below p f _ _ _ _ _ (Ends x t q c sent commands) b = below-others f sent (commands-other t p sent commands)
-met-below p f _ _ _ _ _ (Ends_last x t q c) b = tt
-met-below p f _ _ _ _ _ (meet.Leaves t q c) b = tt
 met-below p f _ _ _ _ _ (Grants t c) b = b
+met-below p f _ _ _ _ _ other b = tt
 
 met-joint : (p : ℕ) (x : Up) (phase : HoldPhase) (came : Bool) (sent : Option (OnPath Down)) (next : HoldPhase) (us : List (List Up)) (ds : List (List Down)) (o : Option Connected)
     (available : List Bool) → Meets p x phase came sent next → slice_get (queue us p) 0 ≡ Some x → Joint phase us ds o → Joint next (taken us p) (with_any_sent ds (carried available sent)) o
@@ -282,12 +265,9 @@ bound-met p x phase came sent next us ds f o available m front back b = record {
 
 -- the front of a wire up suits the hold
 pub suits-phase : (phase : HoldPhase) (us : List (List Up)) (ds : List (List Down)) (o : Option Connected) (p : ℕ) (x : Up) → slice_get (queue us p) 0 ≡ Some x → Joint phase us ds o → SuitsPhase phase p x
-suits-phase hold.Free us ds o p x front j = tt
 suits-phase (hold.Offer t q) us ds o p x front j = each-front (IsAt t q 0 p) (queue us p) x (j.ups p) front
 suits-phase (hold.On t q c) us ds o p x front j = each-front (IsAt t q c p) (queue us p) x (j.ups p) front
-suits-phase (hold.Away t) us ds o p x front j = tt
-suits-phase (hold.Letting t q) us ds o p x front j = tt
-suits-phase (hold.Reset r) us ds o p x front j = tt
+suits-phase other us ds o p x front j = tt
 
 -- the hold alone changes, and perhaps a signal is sent
 pub bound-quiet : (phase next : HoldPhase) (us : List (List Up)) (ds : List (List Down)) (f : ℕ) (o : Option Connected) (available : List Bool) (one : Option (OnPath Down)) → AreOtherDowns one →

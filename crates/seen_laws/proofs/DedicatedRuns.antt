@@ -96,27 +96,19 @@ one-still id s new place sub after k one same still ties = subst (λ (xs : List 
 -- the instructions
 start-still : (sub : Subchannel) (orb : Orb) (c : ConditionCode) → IsStill sub.state (function_sub sub c (started sub.state orb)).sub.state
 start-still sub orb code.Zero = refl
-start-still sub orb code.One = refl
-start-still sub orb code.Two = refl
-start-still sub orb code.Three = refl
+start-still sub orb c = refl
 
 test-still : (sub : Subchannel) (c : ConditionCode) → IsStill sub.state (test_with sub c).sub.state
 test-still sub code.Zero = tested-still sub.state
-test-still sub code.One = refl
-test-still sub code.Two = refl
-test-still sub code.Three = refl
+test-still sub c = refl
 
 modify-still : (sub : Subchannel) (given : block.Pmcw) (c : ConditionCode) → IsStill sub.state (function_sub sub c (modified_state sub given)).sub.state
 modify-still sub given code.Zero = refl
-modify-still sub given code.One = refl
-modify-still sub given code.Two = refl
-modify-still sub given code.Three = refl
+modify-still sub given c = refl
 
 test-setup : (sub : Subchannel) (c : ConditionCode) → (test_with sub c).sub.setup ≡ sub.setup
 test-setup sub code.Zero = refl
-test-setup sub code.One = refl
-test-setup sub code.Two = refl
-test-setup sub code.Three = refl
+test-setup sub c = refl
 
 -- a quiet event
 if-less : (b c : Bool) (k : Option ℕ) → IsLess k (if b then (if c then None else k) else k)
@@ -125,30 +117,13 @@ if-less true false k = inl refl
 if-less false c k = inl refl
 
 quiet-less : (sets : ℕ) (id : SubchannelId) (e : Event) (r : Reply) (k : Option ℕ) → IsQuiet e r → IsEntryRight sets id e r k × IsLess k (dedicated_after sets id e r k)
-quiet-less sets id (event.Put address bytes) r k q = (tt, inl refl)
-quiet-less sets id (event.SetKey address key) r k q = (tt, inl refl)
-quiet-less sets id (event.SetPrefix cpu address) r k q = (tt, inl refl)
-quiet-less sets id (event.Show address count) r k q = (tt, inl refl)
-quiet-less sets id (event.Execute cpu (instruction.Ssch word address)) r k q = (tt, inl refl)
-quiet-less sets id (event.Execute cpu (instruction.Tsch word address)) r k q = (tt, inl refl)
-quiet-less sets id (event.Execute cpu (instruction.Stsch word address)) r k q = (tt, inl refl)
-quiet-less sets id (event.Execute cpu (instruction.Msch word address)) r k q = (tt, inl refl)
-quiet-less sets id (event.Execute cpu (instruction.Enable word subclass multipath)) r k q = (tt, inl refl)
-quiet-less sets id (event.Execute cpu (instruction.Rsch word)) r k q = (tt, inl refl)
-quiet-less sets id (event.Execute cpu (instruction.Hsch word)) r k q = (tt, inl refl)
 quiet-less sets id (event.Execute cpu (instruction.Csch word)) r k q = (tt, if-less (is_id (subchannel_named sets word) id) (is_code_zero r) k)
-quiet-less sets id (event.Execute cpu (instruction.Xsch word)) r k q = (tt, inl refl)
-quiet-less sets id (event.ExecuteOther cpu i) r k q = (tt, inl refl)
 quiet-less sets id (event.Choose word) r k q = absurd q
 quiet-less sets id (event.Up word path) r k q = absurd q
 quiet-less sets id (event.Down word path) r k q = absurd q
 quiet-less sets id (event.Report at report) r k q = absurd q
-quiet-less sets id (event.Act at what) r k q = (tt, inl refl)
-quiet-less sets id (event.Restart at) r k q = (tt, inl refl)
-quiet-less sets id (event.PathDown chpid) r k q = (tt, inl refl)
-quiet-less sets id (event.PathUp chpid) r k q = (tt, inl refl)
-quiet-less sets id (event.PathReset chpid) r k q = (tt, inl refl)
 quiet-less sets id event.SystemReset r k q = (tt, inr refl)
+quiet-less sets id e r k q = (tt, inl refl)
 
 abbrev IsSeen : SubchannelId → State → Event → Reply → State → Option ℕ → Type 0
 IsSeen id s e r new k = IsEntryRight s.sets id e r k × DedicatedAt id new.subs (dedicated_after s.sets id e r k)
@@ -185,9 +160,7 @@ effect-still sub Cancels n = refl
 
 function-still : (sub : Subchannel) (f : Function) (c : ConditionCode) → (c ≡ code.Zero → f ≡ Clears → ⊥) → IsStill sub.state (function_sub sub c (effect_of f sub.state)).sub.state
 function-still sub f code.Zero n = effect-still sub f (n refl)
-function-still sub f code.One n = refl
-function-still sub f code.Two n = refl
-function-still sub f code.Three n = refl
+function-still sub f c n = refl
 
 performs-still : (id : SubchannelId) (s : State) (e : Event) (r : Reply) (place : ℕ) (sub : Subchannel) (f : Function) (c : ConditionCode) (k : Option ℕ) → (c ≡ code.Zero → f ≡ Clears → ⊥) → IsQuiet e r →
     slice_get s.subs place ≡ Some sub → DedicatedAt id s.subs k → Performs id s e r place sub f c k
@@ -205,28 +178,13 @@ performs id s e r place cpu word sub Clears code.Zero k q is n answers there tie
 performs id s e r place cpu word sub Clears code.One k q is n answers there ties = performs-still id s e r place sub Clears code.One k (λ z. absurd (cc z)) q there ties
 performs id s e r place cpu word sub Clears code.Two k q is n answers there ties = performs-still id s e r place sub Clears code.Two k (λ z. absurd (cc z)) q there ties
 performs id s e r place cpu word sub Clears code.Three k q is n answers there ties = performs-still id s e r place sub Clears code.Three k (λ z. absurd (cc z)) q there ties
-performs id s e r place cpu word sub Resumes c k q is n answers there ties = performs-still id s e r place sub Resumes c k (λ z f. absurd (cc f)) q there ties
-performs id s e r place cpu word sub walked.Halts c k q is n answers there ties = performs-still id s e r place sub walked.Halts c k (λ z f. absurd (cc f)) q there ties
-performs id s e r place cpu word sub Cancels c k q is n answers there ties = performs-still id s e r place sub Cancels c k (λ z f. absurd (cc f)) q there ties
+performs id s e r place cpu word sub other c k q is n answers there ties = performs-still id s e r place sub other c k (λ z f. absurd (cc f)) q there ties
 
 -- an offer
 offer-on : (s : State) (word : ℕ) (sub : Subchannel) (r : Reply) (k : Option ℕ) → returns.OffersOnDedicated s (event.Choose word) r → sub_of s word ≡ Some sub → Dedicates k sub.state.dedicated → IsOfferOn k r
 offer-on s word sub r None o at ties = tt
-offer-on s word sub reply.Done (Some d) o at ties = tt
-offer-on s word sub (reply.Shown bytes) (Some d) o at ties = tt
-offer-on s word sub (reply.Code a) (Some d) o at ties = tt
-offer-on s word sub (reply.Status a scsw) (Some d) o at ties = tt
-offer-on s word sub (reply.Interruption found) (Some d) o at ties = tt
-offer-on s word sub (reply.PathReset c) (Some d) o at ties = tt
-offer-on s word sub (reply.ChannelReport report) (Some d) o at ties = tt
-offer-on s word sub (reply.Paths engaged) (Some d) o at ties = tt
 offer-on s word sub (reply.Offered t p z) (Some d) o at ties = o sub d at (ties d refl)
-offer-on s word sub (reply.ResetSent n p) (Some d) o at ties = tt
-offer-on s word sub (reply.HaltSent t p) (Some d) o at ties = tt
-offer-on s word sub reply.Pending (Some d) o at ties = tt
-offer-on s word sub reply.Idle (Some d) o at ties = tt
-offer-on s word sub (reply.Up x taken one) (Some d) o at ties = tt
-offer-on s word sub (reply.Down x taken one) (Some d) o at ties = tt
+offer-on s word sub r (Some d) o at ties = tt
 
 -- a signal that came up
 same-left : (k old new : Option ℕ) → new ≡ old → Dedicates k old → Dedicates k new
@@ -298,10 +256,8 @@ swept-still id subs f k h ties = λ i x named at.
     (same-left k p.0.state.dedicated (f p.0).state.dedicated (h p.0).still (ties i p.0 (sym (place-map f (λ sub. (h sub).setup) id subs) ∙ named) p.1))
 
 swept-seen : (id : SubchannelId) (s : State) (what : Sweep) (k : Option ℕ) → DedicatedAt id s.subs k → (r : Reply) → DedicatedAt id (map (swept what) s.subs) (dedicated_after s.sets id (sweep_event what) r k)
-swept-seen id s (sweep.GoesDown chpid) k ties r = swept-still id s.subs (swept (sweep.GoesDown chpid)) k (λ sub. sweeps (sweep.GoesDown chpid) sub (λ e. absurd (cc e))) ties
-swept-seen id s (sweep.ComesUp chpid) k ties r = swept-still id s.subs (swept (sweep.ComesUp chpid)) k (λ sub. sweeps (sweep.ComesUp chpid) sub (λ e. absurd (cc e))) ties
-swept-seen id s (sweep.PathReset chpid) k ties r = swept-still id s.subs (swept (sweep.PathReset chpid)) k (λ sub. sweeps (sweep.PathReset chpid) sub (λ e. absurd (cc e))) ties
 swept-seen id s sweep.SystemReset k ties r = λ i x named at. none-dedicates x.state.dedicated
+swept-seen id s other k ties r = swept-still id s.subs (swept other) k (λ sub. sweeps other sub (λ e. absurd (cc e))) ties
 
 -- each step
 abbrev pub AreOnDedicated : Type 0

@@ -71,13 +71,8 @@ without_waiting-still s (Some w) = refl
 pub cause-still : (s : SubchannelState) (c : StatusCause) → IsStill s (with_cause s c)
 cause-still s (cause.End b status more) = after_end-still s b (is_last_end status)
 cause-still s (cause.FetchFault tried check count) = without_begun-still s s.begun
-cause-still s cause.Attention = refl
 cause-still s cause.NoPath = without_waiting-still s s.waiting
-cause-still s cause.InterfaceControlCheck = refl
-cause-still s (cause.Pci tried count) = refl
-cause-still s (cause.Suspension tried count) = refl
-cause-still s cause.ClearDone = refl
-cause-still s cause.HaltDone = refl
+cause-still s other = refl
 
 interrupted-still : (s : SubchannelState) (b : Option ActiveProgram) → IsStill s (interrupted s b)
 interrupted-still s None = refl
@@ -182,12 +177,8 @@ begun-left storage s h t q may false = refl
 
 accept-left : (storage : Contents) (s : SubchannelState) (h : HoldState) (phase : HoldPhase) (u : ℕ) (may : Bool) →
     IsStill s (accept storage (phased s h phase) (offer_accepted (record h { phase = phase }) phase u may)).state
-accept-left storage s h hold.Free u may = refl
 accept-left storage s h (hold.Offer t q) u may = begun-left storage s h t q may (u == t)
-accept-left storage s h (hold.On t q c) u may = refl
-accept-left storage s h (hold.Away t) u may = refl
-accept-left storage s h (hold.Letting t q) u may = refl
-accept-left storage s h (hold.Reset r) u may = refl
+accept-left storage s h other u may = refl
 
 -- Data
 data-left : (storage : Contents) (s : SubchannelState) (b : Option ActiveProgram) (p t c n q : ℕ) (load : Load) →

@@ -1,5 +1,5 @@
 -- After each run the engines that are seen to serve a subchannel are those that do: each entry is right.
-use Rattle.std.proofs.Common.{◌≡◌, refl, sym, ◌∙◌, ap, subst, ℕ, zero, suc, ◌+◌, ◌*◌, ◌<◌, ◌==◌, ◌&&◌, ◌||◌, nat_lt, Bool, true, false, not, Option, None, Some, Result, Ok, Err, List, [], ◌∷◌, ◌++◌, length, map, slice_get, slice_index_or, IfOk, if◌then◌else◌, inl, inr, arith}
+use Rattle.std.proofs.Common.{◌≡◌, refl, sym, ◌∙◌, ap, subst, ℕ, zero, suc, ◌+◌, ◌*◌, ◌<◌, ◌==◌, ◌&&◌, ◌||◌, nat_lt, Bool, true, false, not, Option, None, Some, Result, List, [], ◌∷◌, ◌++◌, length, map, slice_get, slice_index_or, IfOk, if◌then◌else◌, inl, inr, arith}
 use Rattle.std.specs.List.{list_any, range_with_len}
 use Rattle.std.proofs.lemmas.Bool.{eqb-true, and_from}
 use Rattle.std.proofs.lemmas.Option.{slice_get_within, get_or_from_slice_get}
@@ -7,8 +7,6 @@ use Rattle.std.proofs.lemmas.List.FromFn.{get_or-range_with_len, length-range_wi
 use Rattle.allegiance.specs.PathUse.{is_member, each_path, reachable_paths}
 use Rattle.chan_events.specs.Events.{Event}
 use Rattle.chan_events.specs.declared.event.Event.TheVariants as event
-use Rattle.chan_events.specs.declared.event.OtherInstruction.{OtherInstruction}
-use Rattle.chan_events.specs.declared.event.OtherInstruction.TheVariants as other
 use Rattle.chan_events.specs.declared.reply.Entry.{Entry}
 use Rattle.chan_events.specs.Replies.{Reply}
 use Rattle.chan_events.specs.declared.reply.Reply.TheVariants as reply
@@ -29,11 +27,10 @@ use Rattle.channel_config.specs.Lawful.{IsLawful}
 use Rattle.channel_config.specs.Setup.{Setup, set_count}
 use Rattle.channel_config.specs.SubchannelWords.{subchannel_named}
 use Rattle.path_select.specs.Choice.{IsChoice}
-use Rattle.storage_keys.specs.declared.StorageFault.{StorageFault}
-use Rattle.storage_keys.specs.Storage.{Contents, operand_check}
+use Rattle.storage_keys.specs.Storage.{Contents}
 use Rattle.wires.specs.Queues.{queue}
 use Rattle.subchannel_model.specs.declared.state.Chosen.{Chosen}
-use Rattle.subchannel_model.specs.declared.state.Chosen.TheVariants.{Idle, Resets, PerformsClear, Halts, PerformsHalt, FindsNoPath, Offers}
+use Rattle.subchannel_model.specs.declared.state.Chosen.TheVariants.{Resets, Halts, Offers}
 use Rattle.subchannel_model.specs.declared.state.Subchannel.{Subchannel}
 use Rattle.subchannel_model.specs.Choosing.{engages, any_engages, is_engaged, path_use, engaged_paths, return_paths, paths_to_choose, chosen, marked_sub, IsFitFor}
 use Rattle.subchannel_model.specs.Sending.{carried_by, finds_full}
@@ -42,7 +39,7 @@ use Rattle.machine_model.specs.ChooseSteps.{choose_sub}
 use Rattle.machine_model.specs.OtherSteps.{engaged_byte, engaged_bytes, engaged_chpids}
 use Rattle.machine_model.specs.State.{State, opening_of}
 use Rattle.machine_model.specs.Steps.{Run, Opened, Stepped, Step}
-use Rattle.machine_model.specs.Turns.{Outcome, does, where_tested, SubTurn, UpTurn}
+use Rattle.machine_model.specs.Turns.{SubTurn, UpTurn}
 use Rattle.machine_model.specs.UpSteps.{may_return, returns_at, up_front, up_sub}
 use Rattle.machine_model.proofs.Named.{returns_by}
 use Rattle.subchannel_model.specs.Taking.{takes_up}
@@ -62,17 +59,14 @@ use Rattle.seen_laws.proofs.LinkLists.{AreTied, of-named}
 use Rattle.seen_laws.proofs.LinkPaths.{member-up}
 use Rattle.seen_laws.proofs.LinkRuns.{AreSeen, AreOnePath, IsRunSeen, run-seen, through-more, right-more}
 use Rattle.seen_laws.proofs.LinkSubs.{IsTied}
-use Rattle.seen_laws.proofs.OwnRuns.{settled-answered}
+use Rattle.step_laws.proofs.Turns as turn
+use Rattle.step_laws.proofs.Turns.{TurnOf, HasTurn, step-turn}
 
 -- the path whose engine serves it
 engaged-at : (phase : HoldPhase) (sent : Option ℕ) → engaged_by (link_at phase sent) ≡ engaged_path phase
-engaged-at hold.Free sent = refl
-engaged-at (hold.Offer t p) sent = refl
-engaged-at (hold.On t p c) sent = refl
-engaged-at (hold.Away t) sent = refl
-engaged-at (hold.Letting t p) sent = refl
 engaged-at (hold.Reset r) None = refl
 engaged-at (hold.Reset r) (Some p) = refl
+engaged-at other sent = refl
 
 engaged-is : (k : SubSeen) (phase : HoldPhase) (sent : Option ℕ) → Stands k phase sent → engaged_by k.link ≡ engaged_path phase
 engaged-is k phase sent (inl e) = ap engaged_by e ∙ engaged-at phase sent
@@ -161,18 +155,15 @@ if-ok P false x y e f = f
 
 offer-idle : (k : Seen) (s : State) (j : SubSeen) (sub : Subchannel) (choice : Option ℕ) (c : Chosen) → IsChoice (paths_to_choose s.subs sub) choice → IsFitFor c sub.state.hold → IsOffer choice c →
     AreSeen k s → IsTied k.up j sub → IfOk (choose_sub (marked_sub sub choice) c) (λ t. IsOfferRight k t.reply j)
-offer-idle k s j sub choice Idle x fits o tied tie = tt
 offer-idle k s j sub choice (Resets r path) x fits o tied tie =
     if-ok (λ (t : SubTurn). IsOfferRight k t.reply j) (finds_full sub.wires.down (carried_by sub (Some (record { path = path; signal = down.Reset r sub.state.hold.known })))) _ _ tt tt
-offer-idle k s j sub choice PerformsClear x fits o tied tie = tt
 offer-idle k s j sub choice (Halts t path) x fits o tied tie =
     if-ok (λ (t : SubTurn). IsOfferRight k t.reply j) (finds_full sub.wires.down (carried_by sub (Some (record { path = path; signal = down.Halt t })))) _ _ tt tt
-offer-idle k s j sub choice PerformsHalt x fits o tied tie = tt
-offer-idle k s j sub choice FindsNoPath x fits o tied tie = tt
 offer-idle k s j sub choice (Offers c path) x fits o tied tie =
     let parts = without-parts (reachable_paths (path_use sub)) (engaged_paths s.subs sub) path (offer-usable s.subs sub choice path x fits o) in
     if-ok (λ (t : SubTurn). IsOfferRight k t.reply j) (finds_full sub.wires.down (carried_by sub (Some (record { path = path; signal = down.Select (sub.state.drawn + 1) })))) _ _ tt
     (idle-is k s j sub path tied tie (usable-free s.subs sub path parts.0 parts.1))
+offer-idle k s j sub choice other x fits o tied tie = tt
 
 -- a Back is granted by the path of its Accept
 not-member : (f : ℕ → Bool) (p : ℕ) → f p ≡ false → not (is_member (each_path f) p) ≡ true
@@ -207,18 +198,15 @@ not-granted p t c taken = absurd (cc taken)
 
 back-granted : (h : HoldState) (phase : HoldPhase) (reset : Option ℕ) (j : SubSeen) (p u c : ℕ) (may : Bool) → Stands j phase reset → j.link ≡ Apart u → may ≡ true →
     IsGrant p u c (came_of (asked_back (record h { phase = phase }) phase p u c may)).taken (came_of (asked_back (record h { phase = phase }) phase p u c may)).sent
-back-granted h hold.Free reset j p u c may (inl e) apart m = absurd (cc (sym e ∙ apart))
-back-granted h (hold.Offer t q) reset j p u c may (inl e) apart m = absurd (cc (sym e ∙ apart))
-back-granted h (hold.On t q d) reset j p u c may (inl e) apart m = absurd (cc (sym e ∙ apart))
 back-granted h (hold.Away t) reset j p u c may (inl e) apart m =
     let same : u ≡ t = cc (sym apart ∙ e) in grant-if (record h { phase = hold.Away t }) p u t c may ((u == t) && nat_lt h.seen c) refl same m
-back-granted h (hold.Letting t q) reset j p u c may (inl e) apart m = absurd (cc (sym e ∙ apart))
 back-granted h (hold.Reset r) reset j p u c may s apart m = not-granted p u c
 back-granted h hold.Free reset j p u c may (inr d) apart m = not-granted p u c
 back-granted h (hold.Offer t q) reset j p u c may (inr d) apart m = not-granted p u c
 back-granted h (hold.On t q e) reset j p u c may (inr d) apart m = absurd (cc d.is_reset)
 back-granted h (hold.Away t) reset j p u c may (inr d) apart m = absurd (cc d.is_reset)
 back-granted h (hold.Letting t q) reset j p u c may (inr d) apart m = not-granted p u c
+back-granted h other reset j p u c may (inl e) apart m = absurd (cc (sym e ∙ apart))
 
 grant-due : (k : Seen) (j : SubSeen) (p u c : ℕ) (taken : Bool) (sent : Option (OnPath Down)) → (j.link ≡ Apart u → j.first ≡ Some p → IsUp k.up j p → IsIdle k j p → IsGrant p u c taken sent) →
     IsGrantDue k p (reply.Up (up.Back u c) taken sent) j
@@ -256,26 +244,12 @@ up-due k s returns storage j sub p may tied tie =
     (front-due k s returns storage j sub p (slice_get (queue sub.wires.up p) 0) refl may tied tie) tt
 
 quiet-idle : (sets : ℕ) (k : Seen) (e : Event) (r : Reply) → IsQuiet e r → GoesByIdle sets k e r
-quiet-idle sets k (event.Put address bytes) r q = tt
-quiet-idle sets k (event.SetKey address key) r q = tt
-quiet-idle sets k (event.SetPrefix cpu address) r q = tt
-quiet-idle sets k (event.Show address count) r q = tt
-quiet-idle sets k (event.Execute cpu i) r q = tt
-quiet-idle sets k (event.ExecuteOther cpu i) r q = tt
 quiet-idle sets k (event.Choose word) r q = absurd q
 quiet-idle sets k (event.Up word path) r q = absurd q
-quiet-idle sets k (event.Down word path) r q = tt
-quiet-idle sets k (event.Report at report) r q = tt
-quiet-idle sets k (event.Act at what) r q = tt
-quiet-idle sets k (event.Restart at) r q = tt
-quiet-idle sets k (event.PathDown chpid) r q = tt
-quiet-idle sets k (event.PathUp chpid) r q = tt
-quiet-idle sets k (event.PathReset chpid) r q = tt
-quiet-idle sets k event.SystemReset r q = tt
+quiet-idle sets k e r q = tt
 
 walked-idle : (s : State) (e : Event) (r : Reply) (new : State) (k : Seen) → Walked s e r new → AreSeen k s → GoesByIdle s.sets k e r
 walked-idle s _ _ _ k (walked.Stays e r new q sets subs units up) tied = quiet-idle s.sets k e r q
-walked-idle s _ _ _ k (walked.Started cpu word address place sub orb c new n one) tied = tt
 walked-idle s _ _ _ k (walked.Tested e r place sub c new q one address by answers) tied = quiet-idle s.sets k e r q
 walked-idle s _ _ _ k (walked.Modified e r place sub given c new q one) tied = quiet-idle s.sets k e r q
 walked-idle s _ _ _ k (walked.Performed e r place sub f c new q one by answers) tied = quiet-idle s.sets k e r q
@@ -292,11 +266,8 @@ walked-idle s _ _ _ k (walked.Met word path returns place sub t new n ok one may
           subst (λ (p : ℕ). IsIdle k j p) (sym g.1) (idle-is k s j sub path tied tie (return-parts s.subs sub path (returns-right s.subs sub path returns may g.0)).0),
       subst (λ (r : Result UpTurn Fault). IfOk r (λ t. IsGrantDue k path t.reply j)) ok (up-due k s returns s.storage j sub path may tied tie),
     )) tied
-walked-idle s _ _ _ k (walked.Sunk word path may owed place sub u t new n ok one) tied = tt
-walked-idle s _ _ _ k (walked.Reported at place sub u report t new n reached ok one) tied = tt
-walked-idle s _ _ _ k (walked.Acted at place sub u what t new side its ok one) tied = tt
-walked-idle s _ _ _ k (walked.Restarted at owed u r new found sets subs units up) tied = tt
 walked-idle s _ _ _ k (walked.Swept e r what new q sets subs units by) tied = quiet-idle s.sets k e r q
+walked-idle s _ _ _ k w tied = tt
 
 -- STORE CHANNEL PATH STATUS
 map-same : (f g : ℕ → ℕ) (xs : List ℕ) → ((i x : ℕ) → slice_get xs i ≡ Some x → f x ≡ g x) → map f xs ≡ map g xs
@@ -335,40 +306,12 @@ status-is : (k : Seen) (s : State) → AreSeen k s → engaged_bytes (engaged_ch
 unfolding engaged_bytes engaged_chpids status_bytes
 status-is k s tied = map-same (engaged_byte (mapped_chpids s.subs)) (status_byte (serves k)) (range_with_len 0 32) (λ i x e. byte-same k s x (range-at 32 i x e) tied)
 
-stored-ok : (engaged : List ℕ) (check : Result (Unit {0}) StorageFault) (left : State) → IfOk (where_tested check (does (reply.Paths engaged) left)) (λ t. t.reply ≡ reply.Paths engaged)
-stored-ok engaged (Ok u) left = refl
-stored-ok engaged (Err f) left = tt
-
-status-shown : (s : State) (cpu address : ℕ) (r : Reply) (new : State) (k : Seen) → Step s (event.ExecuteOther cpu (other.Stcps address)) r new → AreSeen k s → r ≡ reply.Paths (status_bytes (serves k))
-status-shown s cpu address r new k step tied =
-    let engaged : List ℕ = engaged_bytes (engaged_chpids s.subs 0x100) 32 in
-    settled-answered s (event.ExecuteOther cpu (other.Stcps address)) step.0 r new (λ y xs. y ≡ reply.Paths engaged) step.2
-    (subst (λ (o : Outcome). IfOk o (λ t. t.reply ≡ reply.Paths engaged)) (sym step.1) (stored-ok engaged (operand_check s.storage cpu address 32 32) _))
-    ∙ ap (λ (bytes : List ℕ). reply.Paths bytes) (status-is k s tied)
-
-other-shown : (s : State) (cpu : ℕ) (i : OtherInstruction) (r : Reply) (new : State) (k : Seen) → Step s (event.ExecuteOther cpu i) r new → AreSeen k s → ShowsServed k (event.ExecuteOther cpu i) r
-other-shown s cpu (other.Tpi mask address) r new k step tied = tt
-other-shown s cpu (other.Rchp path) r new k step tied = tt
-other-shown s cpu (other.Stcrw address) r new k step tied = tt
-other-shown s cpu (other.Stcps address) r new k step tied = status-shown s cpu address r new k step tied
+turn-shown : (s : State) (e : Event) (r : Reply) (new : State) (k : Seen) → TurnOf s e r new → AreSeen k s → ShowsServed k e r
+turn-shown s _ _ _ k (turn.StoresPaths cpu address) tied = ap (λ (bytes : List ℕ). reply.Paths bytes) (status-is k s tied)
+turn-shown s _ _ _ k t tied = tt
 
 shown : (s : State) (e : Event) (r : Reply) (new : State) (k : Seen) → Step s e r new → AreSeen k s → ShowsServed k e r
-shown s (event.Put address bytes) r new k step tied = tt
-shown s (event.SetKey address key) r new k step tied = tt
-shown s (event.SetPrefix cpu address) r new k step tied = tt
-shown s (event.Show address count) r new k step tied = tt
-shown s (event.Execute cpu i) r new k step tied = tt
-shown s (event.ExecuteOther cpu i) r new k step tied = other-shown s cpu i r new k step tied
-shown s (event.Choose word) r new k step tied = tt
-shown s (event.Up word path) r new k step tied = tt
-shown s (event.Down word path) r new k step tied = tt
-shown s (event.Report at report) r new k step tied = tt
-shown s (event.Act at what) r new k step tied = tt
-shown s (event.Restart at) r new k step tied = tt
-shown s (event.PathDown chpid) r new k step tied = tt
-shown s (event.PathUp chpid) r new k step tied = tt
-shown s (event.PathReset chpid) r new k step tied = tt
-shown s event.SystemReset r new k step tied = tt
+shown s e r new k step tied = let is : HasTurn s e r new = step-turn s e r new step in turn-shown s e r is.left k is.turn tied
 
 -- along a run
 pub run-one-engine : AreWalks → AreOnePath → (setup : Setup) (h : List Entry) (s : State) → IsLawful setup → Run (opening_of setup) h s → HasOneEngine setup h

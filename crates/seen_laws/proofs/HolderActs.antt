@@ -86,14 +86,11 @@ answer-hands u p t c x progress.Working (answer.Absorbed count) e = absorbed-han
 answer-hands u p t c x progress.Working (answer.Supplied bytes) e =
     if-hands u (answer.Supplied bytes) (is_to_supply x && nat_le (length bytes) (most_of x)) _ None (hand-next u x (with_supplied x bytes) (reported (answer.Supplied bytes)) e refl) tt
 answer-hands u p t c x progress.Working answer.Again e = again-hands u p t c x x.unanswered e
-answer-hands u p t c x progress.ChannelEnded answer.Begins e = tt
-answer-hands u p t c x progress.ChannelEnded (answer.Absorbed count) e = tt
-answer-hands u p t c x progress.ChannelEnded (answer.Supplied bytes) e = tt
-answer-hands u p t c x progress.ChannelEnded answer.Again e = tt
 answer-hands u p t c x progress.Ended answer.Begins e = tt
 answer-hands u p t c x progress.Ended (answer.Absorbed count) e = tt
 answer-hands u p t c x progress.Ended (answer.Supplied bytes) e = tt
 answer-hands u p t c x progress.Ended answer.Again e = tt
+answer-hands u p t c x progress.ChannelEnded other e = tt
 
 report_on-hands : (u : UnitState) (t : ℕ) (at : Place) (x : Option AtHand) (r : Report) → u.at_hand ≡ x → Hands u r.answer (report_on u t at x r)
 report_on-hands u t (place.On p c) None r e = tt
@@ -161,10 +158,8 @@ leaving-acted u (own.Owned k t at) e = leaving_from-acted u k t at e
 
 asking_from-acted : (u : UnitState) (side : Side) (t : ℕ) (at : Place) (p : ℕ) → u.own ≡ own.Owned side t at → IfStep (asking_from u side t at p) (IsActed u (act.Ask p))
 asking_from-acted u side t (place.On q c) p e = tt
-asking_from-acted u side t (place.Ask q c) p e =
-    (held-is u (own.Owned side t (place.Ask q c)) (λ h. not (is_connected h.place)) true e refl, changed-next u (own.Owned side t (place.Ask q c)) (moved (seen.asking p)) _ e refl)
-asking_from-acted u side t (place.Away c) p e =
-    (held-is u (own.Owned side t (place.Away c)) (λ h. not (is_connected h.place)) true e refl, changed-next u (own.Owned side t (place.Away c)) (moved (seen.asking p)) _ e refl)
+asking_from-acted u side t other p e =
+    (held-is u (own.Owned side t other) (λ h. not (is_connected h.place)) true e refl, changed-next u (own.Owned side t other) (moved (seen.asking p)) _ e refl)
 
 asking-acted : (u : UnitState) (o : Own) (p : ℕ) → u.own ≡ o → IfStep (asking u o p) (IsActed u (act.Ask p))
 asking-acted u own.Idle p e = tt

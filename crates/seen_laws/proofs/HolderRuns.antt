@@ -42,9 +42,12 @@ use Rattle.machine_laws.specs.Agreeing.{AreAbove}
 use Rattle.seen_laws.proofs.Holdings.{holder_in, holding_of}
 use Rattle.seen_laws.proofs.HolderActs.{IfStep, reports-hand, reports-right, IsActed, acts-acted}
 use Rattle.seen_laws.proofs.UnitTurns.{setups, setup-is, opened-setups, IsTurned, sunk-turned}
-use Rattle.seen_laws.proofs.MemberSteps.{IsOther, IsLeft, step-left, IsSunk, step-sunk, IsStepped, step-reported, IsActing, step-acting, step-restarted}
+use Rattle.seen_laws.proofs.MemberSteps.{IsSunk, turn-sunk, IsStepped, turn-reported, IsActing, turn-acting, turn-restarted}
 use Rattle.seen_laws.proofs.MemberSteps as reading
 use Rattle.seen_laws.proofs.Sharers.{AreBegun, free-of, AfterIs, kept-after, members-after, begun-after, restarted-after}
+use Rattle.interruptions.specs.Requests.{WaitingRequests}
+use Rattle.step_laws.proofs.Turns as turn
+use Rattle.step_laws.proofs.Turns.{TurnOf, HasTurn, step-turn}
 
 -- what was seen of a unit is what it keeps
 abbrev pub IsSeen : ℕ → List UnitState → Holding → Type 0
@@ -209,52 +212,23 @@ act-right s at what r new seen acting units begun =
           (ap (λ (x : Holding). is_some x.holder) (here-is at change seen) ∙ acted-some what (seen at)) (others-are at change seen));
     }
 
--- other events
-other-entry : (groups : List ℕ) (sets : ℕ) (subs : List SubchannelSetup) (seen : Seen) (e : Event) (r : Reply) → IsOther e → ((at : ℕ) → seen at ≡ seen_after sets subs e r seen at) × IsEntryRight groups sets subs seen e r
-other-entry groups sets subs seen (event.Put address bytes) r k = ((λ at. refl), tt)
-other-entry groups sets subs seen (event.SetKey address key) r k = ((λ at. refl), tt)
-other-entry groups sets subs seen (event.SetPrefix cpu address) r k = ((λ at. refl), tt)
-other-entry groups sets subs seen (event.Show address count) r k = ((λ at. refl), tt)
-other-entry groups sets subs seen (event.Execute cpu i) r k = ((λ at. refl), tt)
-other-entry groups sets subs seen (event.ExecuteOther cpu i) r k = ((λ at. refl), tt)
-other-entry groups sets subs seen (event.Choose word) r k = ((λ at. refl), tt)
-other-entry groups sets subs seen (event.Up word path) r k = ((λ at. refl), tt)
-other-entry groups sets subs seen (event.Down word path) r k = absurd k
-other-entry groups sets subs seen (event.Report place report) r k = absurd k
-other-entry groups sets subs seen (event.Act place what) r k = absurd k
-other-entry groups sets subs seen (event.Restart place) r k = absurd k
-other-entry groups sets subs seen (event.PathDown chpid) r k = ((λ at. refl), tt)
-other-entry groups sets subs seen (event.PathUp chpid) r k = ((λ at. refl), tt)
-other-entry groups sets subs seen (event.PathReset chpid) r k = ((λ at. refl), tt)
-other-entry groups sets subs seen event.SystemReset r k = ((λ at. refl), tt)
-
-other-right : (s : State) (e : Event) (r : Reply) (new : State) (seen : Seen) → IsOther e → IsLeft s new → AreSeen s.units seen → AreBegun s.members seen → IsRight s e r new seen
-other-right s e r new seen other k units begun =
-    let entry = other-entry (map group_of s.members) s.sets (setups s.subs) seen e r other in
-    record {
-      right = entry.1;
-      units = λ at. subst (λ (x : Holding). IsSeen at new.units x) (entry.0 at) (subst (λ (us : List UnitState). IsSeen at us (seen at)) (sym k.units) (units at));
-      begun = λ i m f. begun i m (subst (λ (ms : List Member). slice_get ms i ≡ Some m) k.members f) ∙ ap (λ (x : Holding). is_some x.holder) (entry.0 i);
-    }
+turn-right : (s : State) (e : Event) (r : Reply) (new : State) (waiting : WaitingRequests) (seen : Seen) → TurnOf s e r new → AreAbove s → AreMembers s → AreSeen s.units seen → AreBegun s.members seen →
+    IsRight s e r (record new { requests = waiting }) seen
+turn-right s _ _ _ waiting seen (turn.Takes word path place sub u t named there found ok) above members units begun =
+    let k : IsSunk s word path t.reply _ = turn-sunk s word path t.reply _ waiting (turn.Takes word path place sub u t named there found ok) in
+    sunk-right s word path t.reply _ seen k (sunk-turned s word path t.reply _ k above) members units begun
+turn-right s _ _ _ waiting seen (turn.Reports at place sub u report t found first there ok) above members units begun =
+    report-right s at report t.reply _ seen (turn-reported s at report t.reply _ waiting (turn.Reports at place sub u report t found first there ok)) units begun
+turn-right s _ _ _ waiting seen (turn.Acts at place sub u what side t found is first there ok) above members units begun =
+    act-right s at what t.reply _ seen (turn-acting s at what t.reply _ waiting (turn.Acts at place sub u what side t found is first there ok)) units begun
+turn-right s _ _ _ waiting seen (turn.Restarts at u found) above members units begun =
+    restart-right s at reply.Done _ seen (turn-restarted s at reply.Done _ waiting (turn.Restarts at u found)) units begun
+turn-right s _ _ _ waiting seen t above members units begun = record { right = tt; units = units; begun = begun }
 
 step-right : (s : State) (e : Event) (r : Reply) (new : State) (seen : Seen) → Step s e r new → AreAbove s → AreMembers s → AreSeen s.units seen → AreBegun s.members seen → IsRight s e r new seen
-step-right s (event.Put address bytes) r new seen step above members units begun = other-right s (event.Put address bytes) r new seen tt (step-left s (event.Put address bytes) r new tt step) units begun
-step-right s (event.SetKey address key) r new seen step above members units begun = other-right s (event.SetKey address key) r new seen tt (step-left s (event.SetKey address key) r new tt step) units begun
-step-right s (event.SetPrefix cpu address) r new seen step above members units begun = other-right s (event.SetPrefix cpu address) r new seen tt (step-left s (event.SetPrefix cpu address) r new tt step) units begun
-step-right s (event.Show address count) r new seen step above members units begun = other-right s (event.Show address count) r new seen tt (step-left s (event.Show address count) r new tt step) units begun
-step-right s (event.Execute cpu i) r new seen step above members units begun = other-right s (event.Execute cpu i) r new seen tt (step-left s (event.Execute cpu i) r new tt step) units begun
-step-right s (event.ExecuteOther cpu i) r new seen step above members units begun = other-right s (event.ExecuteOther cpu i) r new seen tt (step-left s (event.ExecuteOther cpu i) r new tt step) units begun
-step-right s (event.Choose word) r new seen step above members units begun = other-right s (event.Choose word) r new seen tt (step-left s (event.Choose word) r new tt step) units begun
-step-right s (event.Up word path) r new seen step above members units begun = other-right s (event.Up word path) r new seen tt (step-left s (event.Up word path) r new tt step) units begun
-step-right s (event.Down word path) r new seen step above members units begun =
-    let k : IsSunk s word path r new = step-sunk s word path r new step in sunk-right s word path r new seen k (sunk-turned s word path r new k above) members units begun
-step-right s (event.Report place report) r new seen step above members units begun = report-right s place report r new seen (step-reported s place report r new step) units begun
-step-right s (event.Act place what) r new seen step above members units begun = act-right s place what r new seen (step-acting s place what r new step) units begun
-step-right s (event.Restart place) r new seen step above members units begun = restart-right s place r new seen (step-restarted s place r new step) units begun
-step-right s (event.PathDown chpid) r new seen step above members units begun = other-right s (event.PathDown chpid) r new seen tt (step-left s (event.PathDown chpid) r new tt step) units begun
-step-right s (event.PathUp chpid) r new seen step above members units begun = other-right s (event.PathUp chpid) r new seen tt (step-left s (event.PathUp chpid) r new tt step) units begun
-step-right s (event.PathReset chpid) r new seen step above members units begun = other-right s (event.PathReset chpid) r new seen tt (step-left s (event.PathReset chpid) r new tt step) units begun
-step-right s event.SystemReset r new seen step above members units begun = other-right s event.SystemReset r new seen tt (step-left s event.SystemReset r new tt step) units begun
+step-right s e r new seen step above members units begun =
+    let is : HasTurn s e r new = step-turn s e r new step in
+    subst (λ (x : State). IsRight s e r x seen) (sym is.settles) (turn-right s e r is.left _ seen is.turn above members units begun)
 
 -- along a run, before which nothing was seen
 abbrev pub holding_through : ℕ → List SubchannelSetup → ℕ → Holding → List Entry → Holding

@@ -37,7 +37,6 @@ mod LinkChoices
 pub mod LinkLists
 pub mod LinkRuns
 mod EngineRuns
-mod PathSteps
 mod PathReportRuns
 mod Dedicating
 mod DedicatedRuns

@@ -76,13 +76,10 @@ clear-for phase (Some r) choice false = tt
 clear-for phase (Some r) choice true = tt
 
 halt-at-for : (phase : HoldPhase) (unsent choice : Option ℕ) → AreFor phase unsent choice (halt_at phase choice)
-halt-at-for hold.Free unsent choice = tt
-halt-at-for (hold.Offer t p) unsent choice = tt
 halt-at-for (hold.On t p c) unsent choice = (refl, refl)
 halt-at-for (hold.Away t) unsent None = tt
 halt-at-for (hold.Away t) unsent (Some path) = (refl, refl)
-halt-at-for (hold.Letting t p) unsent choice = tt
-halt-at-for (hold.Reset r) unsent choice = tt
+halt-at-for other unsent choice = tt
 
 halt-for : (phase : HoldPhase) (unsent choice : Option ℕ) (pending : Bool) → AreFor phase unsent choice (halt_chosen pending phase choice)
 halt-for phase unsent choice false = tt
@@ -95,11 +92,8 @@ over-for phase unsent choice false = tt
 offer-at-for : (phase : HoldPhase) (unsent choice : Option ℕ) (c : Candidate) (reachable : Bool) → AreFor phase unsent choice (offer_at phase c reachable choice)
 offer-at-for hold.Free unsent None c reachable = over-for hold.Free unsent None reachable
 offer-at-for hold.Free unsent (Some path) c reachable = refl
-offer-at-for (hold.Offer t p) unsent choice c reachable = tt
-offer-at-for (hold.On t p d) unsent choice c reachable = tt
-offer-at-for (hold.Away t) unsent choice c reachable = tt
-offer-at-for (hold.Letting t p) unsent choice c reachable = tt
 offer-at-for (hold.Reset r) unsent choice c reachable = over-for (hold.Reset r) unsent choice reachable
+offer-at-for other unsent choice c reachable = tt
 
 offer-for : (phase : HoldPhase) (unsent choice : Option ℕ) (found : Option Candidate) (reachable : Bool) → AreFor phase unsent choice (offer_chosen phase found reachable choice)
 offer-for phase unsent choice None reachable = tt
@@ -170,22 +164,14 @@ unsent-is : (h : HoldState) (r : ℕ) → h.phase ≡ hold.Reset r → h.reset_p
 unsent-is h r e f = ap (λ (phase : HoldPhase). unsent_at phase h.reset_path) e ∙ ap (λ (o : Option ℕ). unsent_at (hold.Reset r) o) f
 
 unsent-parts : (phase : HoldPhase) (path : Option ℕ) (r : ℕ) → unsent_at phase path ≡ Some r → (phase ≡ hold.Reset r) × (path ≡ None)
-unsent-parts hold.Free path r e = absurd (cc e)
-unsent-parts (hold.Offer t p) path r e = absurd (cc e)
-unsent-parts (hold.On t p c) path r e = absurd (cc e)
-unsent-parts (hold.Away t) path r e = absurd (cc e)
-unsent-parts (hold.Letting t p) path r e = absurd (cc e)
 unsent-parts (hold.Reset n) None r e = let same : n ≡ r = cc e in (ap (λ (m : ℕ). hold.Reset m) same, refl)
 unsent-parts (hold.Reset n) (Some p) r e = absurd (cc e)
+unsent-parts other path r e = absurd (cc e)
 
 resetting-unsent : (phase : HoldPhase) (path : Option ℕ) → link_at phase path ≡ Resetting → (r : ℕ) × (unsent_at phase path ≡ Some r)
-resetting-unsent hold.Free path e = absurd (cc e)
-resetting-unsent (hold.Offer t p) path e = absurd (cc e)
-resetting-unsent (hold.On t p c) path e = absurd (cc e)
-resetting-unsent (hold.Away t) path e = absurd (cc e)
-resetting-unsent (hold.Letting t p) path e = absurd (cc e)
 resetting-unsent (hold.Reset r) None e = (r, refl)
 resetting-unsent (hold.Reset r) (Some p) e = absurd (cc e)
+resetting-unsent other path e = absurd (cc e)
 
 link-unsent : (k : SubSeen) (h : HoldState) → Stands k h.phase h.reset_path → k.link ≡ Resetting → (r : ℕ) × (unsent_reset h ≡ Some r)
 link-unsent k h (inl e) f = resetting-unsent h.phase h.reset_path (sym e ∙ f)
@@ -287,20 +273,14 @@ sent-tied is_up k next sub x path signal e l a held seen tie = record {
 
 -- Halt
 halt-link : (k : SubSeen) (phase : HoldPhase) (path choice : Option ℕ) (t p : ℕ) → IsHaltFor phase choice t p → Stands k phase path → IsHaltDue k.link t p
-halt-link k hold.Free path choice t p h s = absurd h
-halt-link k (hold.Offer u q) path choice t p h s = absurd h
 halt-link k (hold.On u q c) path choice t p h s = subst (λ (l : Link). IsHaltDue l t p) (sym (certain k (hold.On u q c) path (λ r e. absurd (cc e)) s)) h
 halt-link k (hold.Away u) path choice t p h s = subst (λ (l : Link). IsHaltDue l t p) (sym (certain k (hold.Away u) path (λ r e. absurd (cc e)) s)) h.0
-halt-link k (hold.Letting u q) path choice t p h s = absurd h
-halt-link k (hold.Reset r) path choice t p h s = absurd h
+halt-link k other path choice t p h s = absurd h
 
 halt-path : (phase : HoldPhase) (choice : Option ℕ) (t p : ℕ) → IsHaltFor phase choice t p → (engaged_path phase ≡ Some p) ⊎ (choice ≡ Some p)
-halt-path hold.Free choice t p h = absurd h
-halt-path (hold.Offer u q) choice t p h = absurd h
 halt-path (hold.On u q c) choice t p h = inl (ap Some (sym h.1))
 halt-path (hold.Away u) choice t p h = inr h.1
-halt-path (hold.Letting u q) choice t p h = absurd h
-halt-path (hold.Reset r) choice t p h = absurd h
+halt-path other choice t p h = absurd h
 
 -- Reset
 due-reset : (k : SubSeen) (r : ℕ) (phase : HoldPhase) (path : Option ℕ) → phase ≡ hold.Reset r → path ≡ None → Stands k phase path → IsResetDue k

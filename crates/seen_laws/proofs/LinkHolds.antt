@@ -42,13 +42,9 @@ Stands k phase sent = (k.link ≡ link_at phase sent) ⊎ IsDoubtful k phase sen
 
 -- a Reset that was not sent has a number above all that were seen
 abbrev pub IsDue : ℕ → ℕ → HoldPhase → Option ℕ → Type 0
-IsDue seen n hold.Free sent = Unit {0}
-IsDue seen n (hold.Offer t path) sent = Unit {0}
-IsDue seen n (hold.On t path c) sent = Unit {0}
-IsDue seen n (hold.Away t) sent = Unit {0}
-IsDue seen n (hold.Letting t path) sent = Unit {0}
 IsDue seen n (hold.Reset r) None = (seen < r) × (r ≤ n)
 IsDue seen n (hold.Reset r) (Some path) = Unit {0}
+IsDue seen n other sent = Unit {0}
 
 -- in single-path mode a program is connected by the path of its Accept
 abbrev pub IsByFirst : HoldPhase → Bool → Option ℕ → Type 0
@@ -80,26 +76,18 @@ pub same-offered : (k : SubSeen) (phase : HoldPhase) (sent : Option ℕ) (t : �
 same-offered k phase sent t (inl e) = ap (λ (l : Link). is_offered l t) e ∙ by phase sent
   where
     by : (phase : HoldPhase) (sent : Option ℕ) → is_offered (link_at phase sent) t ≡ is_offer_of phase t
-    by hold.Free sent = refl
-    by (hold.Offer u path) sent = refl
-    by (hold.On u path c) sent = refl
-    by (hold.Away u) sent = refl
-    by (hold.Letting u path) sent = refl
     by (hold.Reset r) None = refl
     by (hold.Reset r) (Some path) = refl
+    by other sent = refl
 same-offered k phase sent t (inr d) = ap (λ (l : Link). is_offered l t) d.apart ∙ sym (ap (λ (y : HoldPhase). is_offer_of y t) d.is_reset)
 
 same-leaving : (k : SubSeen) (phase : HoldPhase) (sent : Option ℕ) (t : ℕ) → Stands k phase sent → is_leaving k.link t ≡ is_letting_of phase t
 same-leaving k phase sent t (inl e) = ap (λ (l : Link). is_leaving l t) e ∙ by phase sent
   where
     by : (phase : HoldPhase) (sent : Option ℕ) → is_leaving (link_at phase sent) t ≡ is_letting_of phase t
-    by hold.Free sent = refl
-    by (hold.Offer u path) sent = refl
-    by (hold.On u path c) sent = refl
-    by (hold.Away u) sent = refl
-    by (hold.Letting u path) sent = refl
     by (hold.Reset r) None = refl
     by (hold.Reset r) (Some path) = refl
+    by other sent = refl
 same-leaving k phase sent t (inr d) = ap (λ (l : Link). is_leaving l t) d.apart ∙ sym (ap (λ (y : HoldPhase). is_letting_of y t) d.is_reset)
 
 -- the link, where the phase is one under which no reset is due unseen
@@ -157,7 +145,6 @@ not-offered k h n u phase e tie = sym (same-offered k phase h.reset_path u tie.s
 
 pub busy-turned : (p : ℕ) (k : SubSeen) (h : HoldState) (n : ℕ) (phase : HoldPhase) (u : ℕ) → IsHeldAs k (phased h phase) n →
     TurnedBy p (up.Busy u) k (phased h phase) n (found_busy (phased h phase) phase u)
-busy-turned p k h n hold.Free u tie = ignored p (up.Busy u) k _ n (not-offered k h n u hold.Free refl tie) tie
 busy-turned p k h n (hold.Offer t q) u tie =
     if-turned p (up.Busy u) k (phased h (hold.Offer t q)) n (u == t) _
     (λ e. record {
@@ -166,10 +153,7 @@ busy-turned p k h n (hold.Offer t q) u tie =
       after = freed p (up.Busy u) k (phased h (hold.Offer t q)) n Nowhere hold.Free tie refl tt tt;
     })
     (λ e. not-offered k h n u (hold.Offer t q) e tie) tie
-busy-turned p k h n (hold.On t q c) u tie = ignored p (up.Busy u) k _ n (not-offered k h n u (hold.On t q c) refl tie) tie
-busy-turned p k h n (hold.Away t) u tie = ignored p (up.Busy u) k _ n (not-offered k h n u (hold.Away t) refl tie) tie
-busy-turned p k h n (hold.Letting t q) u tie = ignored p (up.Busy u) k _ n (not-offered k h n u (hold.Letting t q) refl tie) tie
-busy-turned p k h n (hold.Reset r) u tie = ignored p (up.Busy u) k _ n (not-offered k h n u (hold.Reset r) refl tie) tie
+busy-turned p k h n other u tie = ignored p (up.Busy u) k _ n (not-offered k h n u other refl tie) tie
 
 -- Leave
 abbrev is_on_by : HoldPhase → ℕ → ℕ → Bool
@@ -180,13 +164,9 @@ same-connected : (k : SubSeen) (phase : HoldPhase) (sent : Option ℕ) (t c : �
 same-connected k phase sent t c (inl e) = ap (λ (l : Link). is_connected_by l t c) e ∙ by phase sent
   where
     by : (phase : HoldPhase) (sent : Option ℕ) → is_connected_by (link_at phase sent) t c ≡ is_on_by phase t c
-    by hold.Free sent = refl
-    by (hold.Offer u path) sent = refl
-    by (hold.On u path d) sent = refl
-    by (hold.Away u) sent = refl
-    by (hold.Letting u path) sent = refl
     by (hold.Reset r) None = refl
     by (hold.Reset r) (Some path) = refl
+    by other sent = refl
 same-connected k phase sent t c (inr d) = ap (λ (l : Link). is_connected_by l t c) d.apart ∙ sym (ap (λ (y : HoldPhase). is_on_by y t c) d.is_reset)
 
 not-left : (p : ℕ) (k : SubSeen) (h : HoldState) (n : ℕ) (phase : HoldPhase) (u d : ℕ) → is_on_by phase u d ≡ false → IsHeldAs k (phased h phase) n →
@@ -195,8 +175,6 @@ not-left p k h n phase u d e tie = ignored p (up.Leave u d) k _ n (sym (same-con
 
 pub left-turned : (p : ℕ) (k : SubSeen) (h : HoldState) (n : ℕ) (phase : HoldPhase) (u d : ℕ) → IsHeldAs k (phased h phase) n →
     TurnedBy p (up.Leave u d) k (phased h phase) n (left (phased h phase) phase u d)
-left-turned p k h n hold.Free u d tie = not-left p k h n hold.Free u d refl tie
-left-turned p k h n (hold.Offer t q) u d tie = not-left p k h n (hold.Offer t q) u d refl tie
 left-turned p k h n (hold.On t q c) u d tie =
     if-turned p (up.Leave u d) k (phased h (hold.On t q c)) n ((u == t) && (d == c)) _
     (λ e. record {
@@ -205,9 +183,7 @@ left-turned p k h n (hold.On t q c) u d tie =
       after = freed p (up.Leave u d) k (phased h (hold.On t q c)) n (Apart u) (hold.Away t) tie (ap (λ (m : ℕ). Apart m) (eqb-true u t (and_parts (u == t) (d == c) e).0)) tt tt;
     })
     (λ e. sym (same-connected k (hold.On t q c) h.reset_path u d tie.stands ∙ e)) tie
-left-turned p k h n (hold.Away t) u d tie = not-left p k h n (hold.Away t) u d refl tie
-left-turned p k h n (hold.Letting t q) u d tie = not-left p k h n (hold.Letting t q) u d refl tie
-left-turned p k h n (hold.Reset r) u d tie = not-left p k h n (hold.Reset r) u d refl tie
+left-turned p k h n other u d tie = not-left p k h n other u d refl tie
 
 -- Released
 not-leaving : (k : SubSeen) (h : HoldState) (n u : ℕ) (phase : HoldPhase) → is_letting_of phase u ≡ false → IsHeldAs k (phased h phase) n → false ≡ is_leaving k.link u
@@ -215,10 +191,6 @@ not-leaving k h n u phase e tie = sym (same-leaving k phase h.reset_path u tie.s
 
 pub released-turned : (p : ℕ) (k : SubSeen) (h : HoldState) (n : ℕ) (phase : HoldPhase) (u : ℕ) → IsHeldAs k (phased h phase) n →
     TurnedBy p (up.Released u) k (phased h phase) n (released (phased h phase) phase u)
-released-turned p k h n hold.Free u tie = ignored p (up.Released u) k _ n (not-leaving k h n u hold.Free refl tie) tie
-released-turned p k h n (hold.Offer t q) u tie = ignored p (up.Released u) k _ n (not-leaving k h n u (hold.Offer t q) refl tie) tie
-released-turned p k h n (hold.On t q c) u tie = ignored p (up.Released u) k _ n (not-leaving k h n u (hold.On t q c) refl tie) tie
-released-turned p k h n (hold.Away t) u tie = ignored p (up.Released u) k _ n (not-leaving k h n u (hold.Away t) refl tie) tie
 released-turned p k h n (hold.Letting t q) u tie =
     if-turned p (up.Released u) k (phased h (hold.Letting t q)) n (u == t) _
     (λ e. record {
@@ -227,19 +199,15 @@ released-turned p k h n (hold.Letting t q) u tie =
       after = freed p (up.Released u) k (phased h (hold.Letting t q)) n Nowhere hold.Free tie refl tt tt;
     })
     (λ e. not-leaving k h n u (hold.Letting t q) e tie) tie
-released-turned p k h n (hold.Reset r) u tie = ignored p (up.Released u) k _ n (not-leaving k h n u (hold.Reset r) refl tie) tie
+released-turned p k h n other u tie = ignored p (up.Released u) k _ n (not-leaving k h n u other refl tie) tie
 
 -- Cleared, which is of a Reset that was sent
 not-sent-link : (k : SubSeen) (phase : HoldPhase) (sent : Option ℕ) (u : ℕ) → ((r : ℕ) → phase ≡ hold.Reset r → ⊥) → Stands k phase sent → false ≡ is_reset_sent k.link u
 not-sent-link k phase sent u n s = sym (ap (λ (l : Link). is_reset_sent l u) (certain k phase sent n s) ∙ by phase n)
   where
     by : (phase : HoldPhase) → ((r : ℕ) → phase ≡ hold.Reset r → ⊥) → is_reset_sent (link_at phase sent) u ≡ false
-    by hold.Free m = refl
-    by (hold.Offer t path) m = refl
-    by (hold.On t path c) m = refl
-    by (hold.Away t) m = refl
-    by (hold.Letting t path) m = refl
     by (hold.Reset r) m = absurd (m r refl)
+    by other m = refl
 
 unsent-link : (k : SubSeen) (r u : ℕ) → Stands k (hold.Reset r) None → false ≡ is_reset_sent k.link u
 unsent-link k r u (inl e) = sym (ap (λ (l : Link). is_reset_sent l u) e)
@@ -269,12 +237,8 @@ reset-turned p k h n r u (Some path) below tie =
 
 pub cleared-turned : (p : ℕ) (k : SubSeen) (h : HoldState) (n : ℕ) (phase : HoldPhase) (u : ℕ) → u ≤ k.drawn → IsHeldAs k (phased h phase) n →
     TurnedBy p (up.Cleared u) k (phased h phase) n (reset_cleared (phased h phase) phase u)
-cleared-turned p k h n hold.Free u below tie = ignored p (up.Cleared u) k _ n (not-sent-link k hold.Free h.reset_path u (λ r e. absurd (cc e)) tie.stands) tie
-cleared-turned p k h n (hold.Offer t q) u below tie = ignored p (up.Cleared u) k _ n (not-sent-link k (hold.Offer t q) h.reset_path u (λ r e. absurd (cc e)) tie.stands) tie
-cleared-turned p k h n (hold.On t q c) u below tie = ignored p (up.Cleared u) k _ n (not-sent-link k (hold.On t q c) h.reset_path u (λ r e. absurd (cc e)) tie.stands) tie
-cleared-turned p k h n (hold.Away t) u below tie = ignored p (up.Cleared u) k _ n (not-sent-link k (hold.Away t) h.reset_path u (λ r e. absurd (cc e)) tie.stands) tie
-cleared-turned p k h n (hold.Letting t q) u below tie = ignored p (up.Cleared u) k _ n (not-sent-link k (hold.Letting t q) h.reset_path u (λ r e. absurd (cc e)) tie.stands) tie
 cleared-turned p k h n (hold.Reset r) u below tie = reset-turned p k h n r u h.reset_path below tie
+cleared-turned p k h n other u below tie = ignored p (up.Cleared u) k _ n (not-sent-link k other h.reset_path u (λ r e. absurd (cc e)) tie.stands) tie
 
 -- Back
 abbrev is_held_of : HoldPhase → ℕ → Bool
@@ -283,13 +247,9 @@ is_held_of (hold.Away u) t = t == u
 is_held_of phase t = false
 
 same-held : (phase : HoldPhase) (sent : Option ℕ) (t : ℕ) → is_held_for (link_at phase sent) t ≡ is_held_of phase t
-same-held hold.Free sent t = refl
-same-held (hold.Offer u path) sent t = refl
-same-held (hold.On u path c) sent t = refl
-same-held (hold.Away u) sent t = refl
-same-held (hold.Letting u path) sent t = refl
 same-held (hold.Reset r) None t = refl
 same-held (hold.Reset r) (Some path) t = refl
+same-held other sent t = refl
 
 back-taken : (k : SubSeen) (p : ℕ) (phase : HoldPhase) (sent : Option ℕ) (seen t c : ℕ) (taken : Bool) → Stands k phase sent → k.asked ≡ seen → taken ≡ (is_held_of phase t && nat_lt seen c) →
     IsTaken k p (up.Back t c) taken
@@ -342,8 +302,6 @@ away-turned p k h n t u c may false e single tie = ignored p (up.Back u c) k _ n
 
 pub back-turned : (p : ℕ) (k : SubSeen) (h : HoldState) (n : ℕ) (phase : HoldPhase) (u c : ℕ) (may : Bool) → (may ≡ true → h.single_path ≡ true → h.first_path ≡ Some p) →
     IsHeldAs k (phased h phase) n → TurnedBy p (up.Back u c) k (phased h phase) n (asked_back (phased h phase) phase p u c may)
-back-turned p k h n hold.Free u c may single tie = no-back p k h n hold.Free u c refl tie
-back-turned p k h n (hold.Offer t q) u c may single tie = no-back p k h n (hold.Offer t q) u c refl tie
 back-turned p k h n (hold.On t q d) u c may single tie =
     if-turned p (up.Back u c) k (phased h (hold.On t q d)) n ((u == t) && nat_lt h.seen c) _
     (λ e. record {
@@ -361,8 +319,7 @@ back-turned p k h n (hold.On t q d) u c may single tie =
     })
     (λ e. back-taken k p (hold.On t q d) h.reset_path h.seen u c false tie.stands tie.asked (sym e)) tie
 back-turned p k h n (hold.Away t) u c may single tie = away-turned p k h n t u c may ((u == t) && nat_lt h.seen c) refl single tie
-back-turned p k h n (hold.Letting t q) u c may single tie = no-back p k h n (hold.Letting t q) u c refl tie
-back-turned p k h n (hold.Reset r) u c may single tie = no-back p k h n (hold.Reset r) u c refl tie
+back-turned p k h n other u c may single tie = no-back p k h n other u c refl tie
 
 -- Attn
 pub attended-turned : (p : ℕ) (k : SubSeen) (h : HoldState) (n : ℕ) (phase : HoldPhase) (a : ℕ) (status : DeviceStatus) (may : Bool) → IsHeldAs k (phased h phase) n →
@@ -373,8 +330,4 @@ attended-turned p k h n hold.Free a status true tie = record {
   after = freed p (up.Attn a status) k (phased h hold.Free) n k.link hold.Free tie (certain k hold.Free h.reset_path (λ r e. absurd (cc e)) tie.stands) tt tt;
 }
 attended-turned p k h n hold.Free a status false tie = ignored p (up.Attn a status) k _ n (λ e. absurd (cc e)) tie
-attended-turned p k h n (hold.Offer t q) a status may tie = ignored p (up.Attn a status) k _ n (λ e. absurd (cc e)) tie
-attended-turned p k h n (hold.On t q c) a status may tie = ignored p (up.Attn a status) k _ n (λ e. absurd (cc e)) tie
-attended-turned p k h n (hold.Away t) a status may tie = ignored p (up.Attn a status) k _ n (λ e. absurd (cc e)) tie
-attended-turned p k h n (hold.Letting t q) a status may tie = ignored p (up.Attn a status) k _ n (λ e. absurd (cc e)) tie
-attended-turned p k h n (hold.Reset r) a status may tie = ignored p (up.Attn a status) k _ n (λ e. absurd (cc e)) tie
+attended-turned p k h n other a status may tie = ignored p (up.Attn a status) k _ n (λ e. absurd (cc e)) tie

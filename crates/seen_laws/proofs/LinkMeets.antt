@@ -54,11 +54,7 @@ same-left s x came same = record { hold = subst (λ (h : HoldState). Rephased s.
 
 lets : (h : HoldState) (phase : HoldPhase) → Rephased (phased h phase) (hold_after (phased h phase) (letting_go (phased h phase) phase))
 lets h hold.Free = refl
-lets h (hold.Offer t p) = refl
-lets h (hold.On t p c) = refl
-lets h (hold.Away t) = refl
-lets h (hold.Letting t p) = refl
-lets h (hold.Reset r) = refl
+lets h other = refl
 
 let-left : (s x : SubchannelState) → IsSame s x → IsLeft s (let_go x)
 let-left s x same = record {
@@ -137,12 +133,8 @@ accept-begun storage s h t q u may false e = not-accepted u s h (hold.Offer t q)
 
 accept-noted : (storage : Contents) (s : SubchannelState) (h : HoldState) (phase : HoldPhase) (u : ℕ) (may : Bool) →
     IsAccepted u (record s { hold = phased h phase }) (accept storage (record s { hold = phased h phase }) (offer_accepted (phased h phase) phase u may))
-accept-noted storage s h hold.Free u may = not-accepted u s h hold.Free refl
 accept-noted storage s h (hold.Offer t q) u may = accept-begun storage s h t q u may (u == t) refl
-accept-noted storage s h (hold.On t q c) u may = not-accepted u s h (hold.On t q c) refl
-accept-noted storage s h (hold.Away t) u may = not-accepted u s h (hold.Away t) refl
-accept-noted storage s h (hold.Letting t q) u may = not-accepted u s h (hold.Letting t q) refl
-accept-noted storage s h (hold.Reset r) u may = not-accepted u s h (hold.Reset r) refl
+accept-noted storage s h other u may = not-accepted u s h other refl
 
 -- Data
 data-left : (storage : Contents) (s : SubchannelState) (b : Option ActiveProgram) (signal : DataSignal) (load : Load) → IsLeft s (move_data storage s b signal load).step
@@ -298,13 +290,10 @@ work-taken : (p : ℕ) (x : Up) (phase : HoldPhase) (taken : Bool) (sent : Optio
     Stands k phase reset → IsTaken k p x taken
 work-taken p _ _ _ _ _ k reset (Ignored x phase) work stands = ignored-work k p x work
 work-taken p _ _ _ _ _ k reset (Turns x phase next sent plain stays quiet) work stands = absurd (work-not-plain x work plain)
-work-taken p _ _ _ _ _ k reset (Begins t q sent commands) work stands = absurd work
-work-taken p _ _ _ _ _ k reset (Declines t q) work stands = absurd work
 work-taken p _ _ _ _ _ k reset (Moves t c n s load sent answers) work stands = λ e. certain k (hold.On t p c) reset (λ r f. absurd (cc f)) stands
 work-taken p _ _ _ _ _ k reset (Ends x t q c sent commands) work stands = λ e. (q, c, certain k (hold.On t q c) reset (λ r f. absurd (cc f)) stands)
 work-taken p _ _ _ _ _ k reset (Ends_last x t q c) work stands = λ e. (q, c, certain k (hold.On t q c) reset (λ r f. absurd (cc f)) stands)
-work-taken p _ _ _ _ _ k reset (Leaves t q c) work stands = absurd work
-work-taken p _ _ _ _ _ k reset (Grants t c) work stands = absurd work
+work-taken p _ _ _ _ _ k reset other work stands = absurd work
 
 -- a program that goes on by its connection
 goes-on-after : (k : SubSeen) (h : HoldState) (n t q c : ℕ) (link : Link) → IsHeldAs k (phased h (hold.On t q c)) n → link ≡ k.link →

@@ -1,5 +1,5 @@
 -- After each run what is seen of each subchannel is what it keeps: each entry is right.
-use Rattle.std.proofs.Common.{◌≡◌, refl, sym, ◌∙◌, ap, subst, ℕ, Bool, true, false, not, Option, None, Some, Result, Ok, Err, List, [], ◌∷◌, ◌++◌, length, map, slice_get, slice_set, IfOk, if◌then◌else◌}
+use Rattle.std.proofs.Common.{◌≡◌, refl, sym, ◌∙◌, ap, subst, ℕ, Bool, true, false, Option, Some, Result, Ok, List, [], ◌∷◌, ◌++◌, length, map, slice_get, slice_set, IfOk, if◌then◌else◌}
 use Rattle.std.proofs.lemmas.Option.{slice_get_within, get_or_from_slice_get}
 use Rattle.allegiance.specs.PathUse.{is_member}
 use Rattle.chan_events.specs.Events.{Event}
@@ -7,47 +7,43 @@ use Rattle.chan_events.specs.declared.event.Event.TheVariants as event
 use Rattle.chan_events.specs.declared.event.Instruction.TheVariants as instruction
 use Rattle.chan_events.specs.declared.reply.Entry.{Entry}
 use Rattle.chan_events.specs.Replies.{Reply}
-use Rattle.chan_events.specs.declared.reply.Reply.TheVariants as reply
 use Rattle.chan_model.specs.ResetCauses.{engaged_path}
 use Rattle.chan_model.specs.declared.answer.ConditionCode.{ConditionCode}
 use Rattle.chan_model.specs.declared.answer.ConditionCode.TheVariants as code
 use Rattle.chan_model.specs.declared.fault.Fault.{Fault}
-use Rattle.chan_model.specs.declared.fault.Fault.TheVariants as fault
-use Rattle.channel_config.specs.declared.names.SubchannelId.{SubchannelId}
 use Rattle.channel_config.specs.declared.parts.SubchannelSetup.{SubchannelSetup}
 use Rattle.channel_config.specs.Lawful.{IsLawful, IsPlaced}
-use Rattle.channel_config.specs.Setup.{Setup, set_count, has_number}
+use Rattle.channel_config.specs.Setup.{Setup, set_count}
 use Rattle.channel_config.specs.SubchannelWords.{subchannel_named}
-use Rattle.channel_reports.specs.Queue as reports
 use Rattle.path_select.specs.Choice.{IsChoice}
 use Rattle.subchannel_model.specs.declared.state.Subchannel.{Subchannel}
 use Rattle.subchannel_model.specs.Choosing.{chosen, marked_sub, paths_to_choose, IsFitFor}
 use Rattle.subchannel_model.specs.Clear.{csch_code, cleared}
-use Rattle.subchannel_model.specs.Places.{place_in, place_of_id, found_at}
 use Rattle.subchannel_model.specs.Store.{available_paths}
-use Rattle.machine_model.proofs.Named.{Executes_on}
 use Rattle.machine_model.specs.ChooseSteps.{choose_sub}
 use Rattle.machine_model.specs.declared.state.Sweep.{Sweep}
 use Rattle.machine_model.specs.declared.state.Sweep.TheVariants as sweep
 use Rattle.machine_model.specs.InstructionSteps.{code_at, function_sub}
 use Rattle.machine_model.specs.OtherSteps.{is_up}
-use Rattle.machine_model.specs.PathSteps.{swept, where_path, down_path, up_path, reset_path}
+use Rattle.machine_model.specs.PathSteps.{swept}
 use Rattle.machine_model.specs.State.{State, opening_of, place_of}
 use Rattle.machine_model.specs.Steps.{Run, Opened, Stepped, Step}
-use Rattle.machine_model.specs.Turns.{Outcome, does, SubTurn, UpTurn, DownTurn, with_state}
+use Rattle.machine_model.specs.Turns.{SubTurn, UpTurn, DownTurn, with_state}
 use Rattle.machine_laws.proofs.Moving.{return-parts}
 use Rattle.machine_laws.proofs.Turning.{returns-right}
 use Rattle.machine_laws.specs.Engines.{IsOnePath}
 use Rattle.step_laws.specs.Walks as walked
-use Rattle.step_laws.specs.Walks.{AreWalks, Walked, IsQuiet, OneSub, OneUnit, Function, Resumes, Clears, Cancels, instruction_of, sweep_event}
+use Rattle.step_laws.specs.Walks.{AreWalks, Walked, IsQuiet, OneSub, Function, Resumes, Clears, Cancels, instruction_of, sweep_event}
 use Rattle.seen_laws.specs.BeginsItsOwn.{is_code_zero}
 use Rattle.seen_laws.specs.Links.{SubSeen, Seen, with_up, sub_met, sub_chosen, sub_reset, sub_cleared, sub_lost, change_named, seen_after, seen_through, nothing_seen, Throughout, IsMetRight, IsChosenRight, IsEntryRight, KeepsLinks}
 use Rattle.seen_laws.proofs.LinkChoices.{IsChoiceTied, chosen-for, choice-available, due-choice, choose-tied}
 use Rattle.seen_laws.proofs.LinkLists.{AreTied, tied-set, tied-map, tied-subs, of-named, named-tied, named-none, opening-tied}
 use Rattle.seen_laws.proofs.LinkPassing.{MayReturn, IsUpTied, IsDownTied, met-tied, sunk-tied, report-tied, act-tied}
 use Rattle.seen_laws.proofs.LinkSubs.{IsTied, same-tied, start-tied, test-tied, modify-tied, IsNotClear, function-tied, clear-tied, system-tied, down-tied, up-tied, reset-tied}
-use Rattle.seen_laws.proofs.OwnRuns.{Answered, Unfound, There, found-answered, settled-answered, sets-stay}
+use Rattle.seen_laws.proofs.OwnRuns.{Answered, Unfound, There, step-answered, sets-stay}
 use Rattle.machine_laws.proofs.SameState.{is-same}
+use Rattle.step_laws.proofs.Turns as turn
+use Rattle.step_laws.proofs.Turns.{TurnOf, HasTurn, step-turn}
 
 -- each engine that serves a subchannel is of a path that is available
 abbrev pub AreEngaged : State → Type 0
@@ -74,30 +70,16 @@ record IsPlain (sets : ℕ) (e : Event) (r : Reply) (k : Seen) : Type 0 where
   right : IsEntryRight sets k e r
 
 plain : (sets : ℕ) (e : Event) (r : Reply) (k : Seen) → IsQuiet e r → IsCalm e → IsPlain sets e r k
-plain sets (event.Put address bytes) r k q c = record { same = refl; right = tt }
-plain sets (event.SetKey address key) r k q c = record { same = refl; right = tt }
-plain sets (event.SetPrefix cpu address) r k q c = record { same = refl; right = tt }
-plain sets (event.Show address count) r k q c = record { same = refl; right = tt }
-plain sets (event.Execute cpu (instruction.Ssch word address)) r k q c = record { same = refl; right = tt }
-plain sets (event.Execute cpu (instruction.Tsch word address)) r k q c = record { same = refl; right = tt }
-plain sets (event.Execute cpu (instruction.Stsch word address)) r k q c = record { same = refl; right = tt }
-plain sets (event.Execute cpu (instruction.Msch word address)) r k q c = record { same = refl; right = tt }
-plain sets (event.Execute cpu (instruction.Enable word subclass multipath)) r k q c = record { same = refl; right = tt }
-plain sets (event.Execute cpu (instruction.Rsch word)) r k q c = record { same = refl; right = tt }
-plain sets (event.Execute cpu (instruction.Hsch word)) r k q c = record { same = refl; right = tt }
 plain sets (event.Execute cpu (instruction.Csch word)) r k q c = absurd c
-plain sets (event.Execute cpu (instruction.Xsch word)) r k q c = record { same = refl; right = tt }
-plain sets (event.ExecuteOther cpu i) r k q c = record { same = refl; right = tt }
 plain sets (event.Choose word) r k q c = absurd q
 plain sets (event.Up word path) r k q c = absurd q
 plain sets (event.Down word path) r k q c = absurd q
 plain sets (event.Report at report) r k q c = absurd q
-plain sets (event.Act at what) r k q c = record { same = refl; right = tt }
-plain sets (event.Restart at) r k q c = record { same = refl; right = tt }
 plain sets (event.PathDown chpid) r k q c = absurd c
 plain sets (event.PathUp chpid) r k q c = absurd c
 plain sets (event.PathReset chpid) r k q c = absurd c
 plain sets event.SystemReset r k q c = absurd c
+plain sets e r k q c = record { same = refl; right = tt }
 
 plain-step : (s : State) (e : Event) (r : Reply) (new : State) (k : Seen) → IsPlain s.sets e r k → AreSeen k new → IsSeenStep s e r new k
 plain-step s e r new k p tied = record { right = p.right; tied = subst (λ (y : Seen). AreSeen y new) (sym p.same) tied }
@@ -109,16 +91,12 @@ same-seen : (s new : State) (k : Seen) → new.subs ≡ s.subs → AreSeen k s �
 same-seen s new k subs tied = subst (λ (xs : List Subchannel). AreTied k.up k.subs xs) (sym subs) tied
 
 not-clear : (f : Function) (cpu word : ℕ) → IsCalm (event.Execute cpu (instruction_of f word)) → IsNotClear f
-not-clear Resumes cpu word c = tt
-not-clear walked.Halts cpu word c = tt
 not-clear Clears cpu word c = c
-not-clear Cancels cpu word c = tt
+not-clear other cpu word c = tt
 
 no-sweep : (what : Sweep) → IsCalm (sweep_event what) → ⊥
 no-sweep (sweep.GoesDown chpid) c = c
-no-sweep (sweep.ComesUp chpid) c = c
-no-sweep (sweep.PathReset chpid) c = c
-no-sweep sweep.SystemReset c = c
+no-sweep other c = c
 
 marked-tied : (is_up : ℕ → Bool) (k : SubSeen) (sub : Subchannel) (choice : Option ℕ) → IsTied is_up k sub → IsTied is_up k (marked_sub sub choice)
 marked-tied is_up k sub choice tie = same-tied is_up k sub (marked_sub sub choice).state (is-same sub.state (marked_sub sub choice).state refl refl refl) tie
@@ -188,13 +166,6 @@ walked-seen s _ _ _ k (walked.Restarted at owed u r new found sets subs units up
 walked-seen s _ _ _ k (walked.Swept e r what new q sets subs units by) calm engaged tied = absurd (no-sweep what (subst (λ (y : Event). IsCalm y) by.event calm))
 
 -- CLEAR, by what it answers
-clear-answered : (s : State) (cpu word : ℕ) (x : Option SubchannelId) (o : Outcome) → subchannel_named s.sets word ≡ x → Executes_on s cpu (instruction.Csch word) x o →
-    IfOk o (λ t. Answered s word csch_code cleared t.reply t.state.subs)
-clear-answered s cpu word None o n w = subst (λ (y : Outcome). IfOk y (λ t. Answered s word csch_code cleared t.reply t.state.subs)) (sym w) tt
-clear-answered s cpu word (Some id) o n w =
-    subst (λ (y : Outcome). IfOk y (λ t. Answered s word csch_code cleared t.reply t.state.subs)) (sym w)
-    (found-answered s word csch_code cleared (place_in id s.subs) (found_at s.subs (place_in id s.subs)) (ap (place_of_id s.subs) n) refl refl)
-
 not-cleared : (r : Reply) (k : SubSeen) → is_code_zero r ≡ false → sub_cleared r k ≡ k
 not-cleared r k e = ap (λ (b : Bool). if b then sub_reset k else k) e
 
@@ -202,9 +173,7 @@ code-tied : (s : State) (word place : ℕ) (sub : Subchannel) (c : ConditionCode
     AreTied is_up (change_named (subchannel_named s.sets word) (sub_cleared (function_sub sub c (cleared sub.state)).reply) ks) (slice_set s.subs place (function_sub sub c (cleared sub.state)).sub)
 code-tied s word place sub code.Zero is_up ks n there tied =
     named-tied is_up (subchannel_named s.sets word) sub_reset ks s.subs place sub (with_state sub (cleared sub.state)) n there (λ j tie. clear-tied is_up j sub tie) tied
-code-tied s word place sub code.One is_up ks n there tied = named-tied is_up (subchannel_named s.sets word) (λ j. j) ks s.subs place sub sub n there (λ j tie. tie) tied
-code-tied s word place sub code.Two is_up ks n there tied = named-tied is_up (subchannel_named s.sets word) (λ j. j) ks s.subs place sub sub n there (λ j tie. tie) tied
-code-tied s word place sub code.Three is_up ks n there tied = named-tied is_up (subchannel_named s.sets word) (λ j. j) ks s.subs place sub sub n there (λ j tie. tie) tied
+code-tied s word place sub c is_up ks n there tied = named-tied is_up (subchannel_named s.sets word) (λ j. j) ks s.subs place sub sub n there (λ j tie. tie) tied
 
 cleared-seen : (s : State) (word : ℕ) (r : Reply) (subs : List Subchannel) (is_up : ℕ → Bool) (ks : List SubSeen) → Answered s word csch_code cleared r subs → AreTied is_up ks s.subs →
     AreTied is_up (change_named (subchannel_named s.sets word) (sub_cleared r) ks) subs
@@ -213,37 +182,21 @@ cleared-seen s word _ _ is_up ks (Unfound r z) tied =
 cleared-seen s word _ _ is_up ks (There place sub n there) tied = code-tied s word place sub (code_at csch_code sub) is_up ks n there tied
 
 -- the events of channel paths
-where-ok : (s : State) (chpid : ℕ) (right : Bool) (P : Reply → List Subchannel → Type 0) (turn : Outcome) → IfOk turn (λ t. P t.reply t.state.subs) → IfOk (where_path s chpid right turn) (λ t. P t.reply t.state.subs)
-where-ok s chpid right P turn k = by (has_number s.chpids chpid) right
-  where
-    by : (b c : Bool) → IfOk (if b then (if c then turn else Err fault.NotNow) else Err fault.NoSuchPath) (λ t. P t.reply t.state.subs)
-    by true true = k
-    by true false = tt
-    by false c = tt
+turn-swept : (s : State) (what : Sweep) (r : Reply) (new : State) → TurnOf s (sweep_event what) r new → new.subs ≡ map (swept what) s.subs
+turn-swept s (sweep.GoesDown _) _ _ (turn.GoesDown chpid) = refl
+turn-swept s (sweep.ComesUp _) _ _ (turn.ComesUp chpid) = refl
+turn-swept s (sweep.PathReset _) _ _ (turn.IsReset chpid asked) = refl
+turn-swept s sweep.SystemReset _ _ turn.ResetsAll = refl
 
 pub swept-subs : (s : State) (what : Sweep) (r : Reply) (new : State) → Step s (sweep_event what) r new → new.subs ≡ map (swept what) s.subs
-swept-subs s (sweep.GoesDown chpid) r new step =
-    let P : Reply → List Subchannel → Type 0 = λ y xs. xs ≡ map (swept (sweep.GoesDown chpid)) s.subs in
-    settled-answered s (event.PathDown chpid) step.0 r new P step.2
-    (subst (λ (o : Outcome). IfOk o (λ t. P t.reply t.state.subs)) (sym step.1) (where-ok s chpid (is_up s.up chpid) P (does reply.Done (down_path s chpid)) refl))
-swept-subs s (sweep.ComesUp chpid) r new step =
-    let P : Reply → List Subchannel → Type 0 = λ y xs. xs ≡ map (swept (sweep.ComesUp chpid)) s.subs in
-    settled-answered s (event.PathUp chpid) step.0 r new P step.2
-    (subst (λ (o : Outcome). IfOk o (λ t. P t.reply t.state.subs)) (sym step.1) (where-ok s chpid (not (is_up s.up chpid)) P (does reply.Done (up_path s chpid)) refl))
-swept-subs s (sweep.PathReset chpid) r new step =
-    let P : Reply → List Subchannel → Type 0 = λ y xs. xs ≡ map (swept (sweep.PathReset chpid)) s.subs in
-    settled-answered s (event.PathReset chpid) step.0 r new P step.2
-    (subst (λ (o : Outcome). IfOk o (λ t. P t.reply t.state.subs)) (sym step.1) (where-ok s chpid (reports.is_asked s.reports chpid) P (does reply.Done (reset_path s chpid)) refl))
-swept-subs s sweep.SystemReset r new step =
-    let P : Reply → List Subchannel → Type 0 = λ y xs. xs ≡ map (swept sweep.SystemReset) s.subs in
-    settled-answered s event.SystemReset step.0 r new P step.2 (subst (λ (o : Outcome). IfOk o (λ t. P t.reply t.state.subs)) (sym step.1) refl)
+swept-subs s what r new step =
+    let is : HasTurn s (sweep_event what) r new = step-turn s (sweep_event what) r new step in
+    subst (λ (x : State). x.subs ≡ map (swept what) s.subs) (sym is.settles) (turn-swept s what r is.left is.turn)
 
 -- each step
 step-seen : (walks : AreWalks) (s : State) (e : Event) (r : Reply) (new : State) (k : Seen) → Step s e r new → AreEngaged s → AreSeen k s → IsSeenStep s e r new k
 step-seen walks s (event.Execute cpu (instruction.Csch word)) r new k step engaged tied =
-    let answer : Answered s word csch_code cleared r new.subs =
-    settled-answered s (event.Execute cpu (instruction.Csch word)) step.0 r new (Answered s word csch_code cleared) step.2
-    (clear-answered s cpu word (subchannel_named s.sets word) step.0 refl step.1) in
+    let answer : Answered s word csch_code cleared r new.subs = step-answered s cpu (instruction.Csch word) cleared r new (λ sub x is. (is, refl)) refl step in
     record { right = tt; tied = cleared-seen s word r new.subs k.up k.subs answer tied }
 step-seen walks s (event.PathDown chpid) r new k step engaged tied =
     let next : ℕ → Bool = with_up chpid false k.up in
@@ -271,25 +224,7 @@ step-seen walks s event.SystemReset r new k step engaged tied =
       tied = subst (λ (xs : List Subchannel). AreTied k.up (map sub_reset k.subs) xs) (sym (swept-subs s sweep.SystemReset r new step))
           (tied-map k.up k.up sub_reset (swept sweep.SystemReset) k.subs s.subs (λ j sub tie. system-tied k.up j sub tie) tied);
     }
-step-seen walks s (event.Execute cpu (instruction.Ssch word address)) r new k step engaged tied = walked-seen s _ r new k (walks s _ r new step) tt engaged tied
-step-seen walks s (event.Execute cpu (instruction.Tsch word address)) r new k step engaged tied = walked-seen s _ r new k (walks s _ r new step) tt engaged tied
-step-seen walks s (event.Execute cpu (instruction.Stsch word address)) r new k step engaged tied = walked-seen s _ r new k (walks s _ r new step) tt engaged tied
-step-seen walks s (event.Execute cpu (instruction.Msch word address)) r new k step engaged tied = walked-seen s _ r new k (walks s _ r new step) tt engaged tied
-step-seen walks s (event.Execute cpu (instruction.Enable word subclass multipath)) r new k step engaged tied = walked-seen s _ r new k (walks s _ r new step) tt engaged tied
-step-seen walks s (event.Execute cpu (instruction.Rsch word)) r new k step engaged tied = walked-seen s _ r new k (walks s _ r new step) tt engaged tied
-step-seen walks s (event.Execute cpu (instruction.Hsch word)) r new k step engaged tied = walked-seen s _ r new k (walks s _ r new step) tt engaged tied
-step-seen walks s (event.Execute cpu (instruction.Xsch word)) r new k step engaged tied = walked-seen s _ r new k (walks s _ r new step) tt engaged tied
-step-seen walks s (event.Put address bytes) r new k step engaged tied = walked-seen s _ r new k (walks s _ r new step) tt engaged tied
-step-seen walks s (event.SetKey address key) r new k step engaged tied = walked-seen s _ r new k (walks s _ r new step) tt engaged tied
-step-seen walks s (event.SetPrefix cpu address) r new k step engaged tied = walked-seen s _ r new k (walks s _ r new step) tt engaged tied
-step-seen walks s (event.Show address count) r new k step engaged tied = walked-seen s _ r new k (walks s _ r new step) tt engaged tied
-step-seen walks s (event.ExecuteOther cpu i) r new k step engaged tied = walked-seen s _ r new k (walks s _ r new step) tt engaged tied
-step-seen walks s (event.Choose word) r new k step engaged tied = walked-seen s _ r new k (walks s _ r new step) tt engaged tied
-step-seen walks s (event.Up word path) r new k step engaged tied = walked-seen s _ r new k (walks s _ r new step) tt engaged tied
-step-seen walks s (event.Down word path) r new k step engaged tied = walked-seen s _ r new k (walks s _ r new step) tt engaged tied
-step-seen walks s (event.Report at report) r new k step engaged tied = walked-seen s _ r new k (walks s _ r new step) tt engaged tied
-step-seen walks s (event.Act at what) r new k step engaged tied = walked-seen s _ r new k (walks s _ r new step) tt engaged tied
-step-seen walks s (event.Restart at) r new k step engaged tied = walked-seen s _ r new k (walks s _ r new step) tt engaged tied
+step-seen walks s e r new k step engaged tied = walked-seen s _ r new k (walks s _ r new step) tt engaged tied
 
 -- along a run
 pub through-more : (sets : ℕ) (k : Seen) (h : List Entry) (x : Entry) → seen_through sets k (h ++ x ∷ []) ≡ seen_after sets x.event x.reply (seen_through sets k h)

@@ -78,22 +78,16 @@ held-tied is_up k next sub x e n a held tie = record {
 -- the instructions
 pub start-tied : (is_up : ℕ → Bool) (k : SubSeen) (sub : Subchannel) (orb : Orb) (c : ConditionCode) → IsTied is_up k sub → IsTied is_up k (function_sub sub c (started sub.state orb)).sub
 start-tied is_up k sub orb code.Zero tie = same-tied is_up k sub (started sub.state orb) (is-same sub.state (started sub.state orb) refl refl refl) tie
-start-tied is_up k sub orb code.One tie = tie
-start-tied is_up k sub orb code.Two tie = tie
-start-tied is_up k sub orb code.Three tie = tie
+start-tied is_up k sub orb c tie = tie
 
 pub test-tied : (is_up : ℕ → Bool) (k : SubSeen) (sub : Subchannel) (c : ConditionCode) → IsTied is_up k sub → IsTied is_up k (test_with sub c).sub
 test-tied is_up k sub code.Zero tie = same-tied is_up k sub (tested_wholly sub.state) (tested-same sub.state) tie
-test-tied is_up k sub code.One tie = tie
-test-tied is_up k sub code.Two tie = tie
-test-tied is_up k sub code.Three tie = tie
+test-tied is_up k sub c tie = tie
 
 pub modify-tied : (is_up : ℕ → Bool) (k : SubSeen) (sub : Subchannel) (given : block.Pmcw) (c : ConditionCode) → IsTied is_up k sub →
     IsTied is_up k (function_sub sub c (modified_state sub given)).sub
 modify-tied is_up k sub given code.Zero tie = same-tied is_up k sub (modified_state sub given) (is-same sub.state (modified_state sub given) refl refl refl) tie
-modify-tied is_up k sub given code.One tie = tie
-modify-tied is_up k sub given code.Two tie = tie
-modify-tied is_up k sub given code.Three tie = tie
+modify-tied is_up k sub given c tie = tie
 
 -- the function is not that of CLEAR
 abbrev pub IsNotClear : Function → Type 0
@@ -114,9 +108,7 @@ effect-tied is_up k sub Cancels n tie = same-tied is_up k sub (cancelled sub.sta
 pub function-tied : (is_up : ℕ → Bool) (k : SubSeen) (sub : Subchannel) (f : Function) (c : ConditionCode) → IsNotClear f → IsTied is_up k sub →
     IsTied is_up k (function_sub sub c (effect_of f sub.state)).sub
 function-tied is_up k sub f code.Zero n tie = effect-tied is_up k sub f n tie
-function-tied is_up k sub f code.One n tie = tie
-function-tied is_up k sub f code.Two n tie = tie
-function-tied is_up k sub f code.Three n tie = tie
+function-tied is_up k sub f c n tie = tie
 
 pub clear-tied : (is_up : ℕ → Bool) (k : SubSeen) (sub : Subchannel) → IsTied is_up k sub → IsTied is_up (sub_reset k) (with_state sub (cleared sub.state))
 clear-tied is_up k sub tie = held-tied is_up k (sub_reset k) sub (cleared sub.state) refl refl refl (reset-held k sub.state.hold sub.state.drawn tie.held) tie

@@ -84,14 +84,11 @@ answer-sends n u p t c x progress.Working answer.Begins = tt
 answer-sends n u p t c x progress.Working (answer.Absorbed count) = absorbed-sends n u p t c x x.given count
 answer-sends n u p t c x progress.Working (answer.Supplied bytes) = if-sends n (is_to_supply x && nat_le (length bytes) (most_of x)) _ None tt tt
 answer-sends n u p t c x progress.Working answer.Again = again-sends n u p t c x x.unanswered
-answer-sends n u p t c x progress.ChannelEnded answer.Begins = tt
-answer-sends n u p t c x progress.ChannelEnded (answer.Absorbed count) = tt
-answer-sends n u p t c x progress.ChannelEnded (answer.Supplied bytes) = tt
-answer-sends n u p t c x progress.ChannelEnded answer.Again = tt
 answer-sends n u p t c x progress.Ended answer.Begins = tt
 answer-sends n u p t c x progress.Ended (answer.Absorbed count) = tt
 answer-sends n u p t c x progress.Ended (answer.Supplied bytes) = tt
 answer-sends n u p t c x progress.Ended answer.Again = tt
+answer-sends n u p t c x progress.ChannelEnded other = tt
 
 report_on-sends : (n : ℕ) (u : UnitState) (t : ℕ) (at : Place) (x : Option AtHand) (r : Report) → Sends n (report_on u t at x r)
 report_on-sends n u t (place.On p c) None r = tt

@@ -46,7 +46,7 @@ use Rattle.subchannel_model.specs.Taking.{quietly, ignoring, let_go, standing, g
 use Rattle.subchannel_model.proofs.Named.{with_known}
 use Rattle.machine_laws.proofs.SameHold.{suspending-same, cause-same}
 use Rattle.seen_laws.specs.BeginsItsOwn.{IsAnswered, IsAcceptRight}
-use Rattle.seen_laws.proofs.Meets.{Meets, Ignored, Turns, Begins, Declines, Moves, Ends, Ends_last, Leaves, Grants, IsGone, IsPlainUp, releases, phase-of, reset-gone, takes-meets}
+use Rattle.seen_laws.proofs.Meets.{Meets, Ignored, Turns, IsGone, IsPlainUp, releases, phase-of, reset-gone, takes-meets}
 use Rattle.seen_laws.proofs.Starts.{Within}
 
 abbrev pub IsHalting : SubchannelState → Type 0
@@ -146,9 +146,7 @@ IsFirst c = Unit {0}
 
 begins-first : (walk : WalkPlace) (o : Option Advance) → IsFirst (command_begins walk 1 o)
 begins-first walk (Some (advance.Takes ccw)) = refl
-begins-first walk (Some advance.Suspends) = tt
-begins-first walk (Some (advance.Stops check)) = tt
-begins-first walk None = tt
+begins-first walk other = tt
 
 first-first : (storage : Contents) (walk : WalkPlace) → IsFirst (first_command storage walk).came
 first-first storage walk = begins-first (after_acts walk (advance_acts storage walk)) (advance_of walk (advance_acts storage walk))
@@ -223,15 +221,11 @@ begun-answered storage s h t q u over may false e f g i = absurd (cc i)
 accept-answered : (returns : Bool) (storage : Contents) (s : SubchannelState) (h : HoldState) (phase : HoldPhase) (p u : ℕ) (over : Bool) → Tied over (with_hold s h phase) →
     (takes_up returns storage (with_hold s h phase) p (up.Accept u)).step.came.taken ≡ true →
     IsAnswered over u (takes_up returns storage (with_hold s h phase) p (up.Accept u)).step.came.sent
-accept-answered returns storage s h hold.Free p u over k i = absurd (cc i)
 accept-answered returns storage s h (hold.Offer t q) p u over k i =
     begun-answered storage s h t q u over (goes_ahead s) (u == t) (λ e. eqb-true u t e)
     (λ e. (and_parts (is_some (standing s)) (not s.scsw.activity.halt_pending) e).0)
     (λ e. over-stops (with_hold s h (hold.Offer t q)) (k t q refl e)) i
-accept-answered returns storage s h (hold.On t q c) p u over k i = absurd (cc i)
-accept-answered returns storage s h (hold.Away t) p u over k i = absurd (cc i)
-accept-answered returns storage s h (hold.Letting t q) p u over k i = absurd (cc i)
-accept-answered returns storage s h (hold.Reset r) p u over k i = absurd (cc i)
+accept-answered returns storage s h other p u over k i = absurd (cc i)
 
 taken-right : (over taken : Bool) (u : ℕ) (sent : Option (OnPath Down)) → (taken ≡ true → IsAnswered over u sent) → IsAcceptRight (reply.Up (up.Accept u) taken sent) over
 taken-right over true u sent f = f refl
@@ -261,13 +255,7 @@ pub meets-offer : (p : ℕ) (x : Up) (phase : HoldPhase) (taken : Bool) (sent : 
 meets-offer p _ _ _ _ _ t q (Ignored x phase) e = e
 meets-offer p _ _ _ _ _ t q (Turns x phase next sent plain (inl same) quiet) e = sym same ∙ e
 meets-offer p _ _ _ _ _ t q (Turns x phase next sent plain (inr gone) quiet) e = absurd (gone-offer next t q gone e)
-meets-offer p _ _ _ _ _ t q (Begins u v sent commands) e = absurd (cc e)
-meets-offer p _ _ _ _ _ t q (Declines u v) e = absurd (cc e)
-meets-offer p _ _ _ _ _ t q (Moves u c n s load sent answers) e = absurd (cc e)
-meets-offer p _ _ _ _ _ t q (Ends x u v c sent commands) e = absurd (cc e)
-meets-offer p _ _ _ _ _ t q (Ends_last x u v c) e = absurd (cc e)
-meets-offer p _ _ _ _ _ t q (Leaves u v c) e = absurd (cc e)
-meets-offer p _ _ _ _ _ t q (Grants u c) e = absurd (cc e)
+meets-offer p _ _ _ _ _ t q other e = absurd (cc e)
 
 -- nothing changed, or no program is offered any more
 abbrev pub IsSameOr : SubchannelState → SubchannelState → Type 0
@@ -290,13 +278,7 @@ pub meets-accept : (p u : ℕ) (x : Up) (phase : HoldPhase) (taken : Bool) (sent
     next ≡ hold.Offer t q → ⊥
 meets-accept p u _ _ _ _ _ t q h i (Ignored x phase) e = absurd (cc i)
 meets-accept p u _ _ _ _ _ t q h i (Turns x phase next sent plain stays quiet) e = subst (λ (y : Up). IsPlainUp y) h plain
-meets-accept p u _ _ _ _ _ t q h i (Begins v w sent commands) e = absurd (cc e)
-meets-accept p u _ _ _ _ _ t q h i (Declines v w) e = absurd (cc e)
-meets-accept p u _ _ _ _ _ t q h i (Moves v c n s load sent answers) e = absurd (cc e)
-meets-accept p u _ _ _ _ _ t q h i (Ends x v w c sent commands) e = absurd (cc e)
-meets-accept p u _ _ _ _ _ t q h i (Ends_last x v w c) e = absurd (cc e)
-meets-accept p u _ _ _ _ _ t q h i (Leaves v w c) e = absurd (cc e)
-meets-accept p u _ _ _ _ _ t q h i (Grants v c) e = absurd (cc e)
+meets-accept p u _ _ _ _ _ t q h i other e = absurd (cc e)
 
 begun-same : (storage : Contents) (s : SubchannelState) (h : HoldState) (p t q u : ℕ) (may same : Bool) →
     Meets p (up.Accept u) (hold.Offer t q) (accept storage (with_hold s h (hold.Offer t q)) (offer_begun h t q may same)).came.taken

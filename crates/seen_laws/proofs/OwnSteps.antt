@@ -84,15 +84,11 @@ test-goes over sub code.Zero = record {
     tied = same-tied over sub.state (tested_wholly sub.state) (tested-phase sub.state) (test-over sub.state) k.tied;
   };
 }
-test-goes over sub code.One = still over sub
-test-goes over sub code.Two = still over sub
-test-goes over sub code.Three = still over sub
+test-goes over sub c = still over sub
 
 pub modify-goes : (over : Bool) (sub : Subchannel) (given : block.Pmcw) (c : ConditionCode) → Goes over over sub (function_sub sub c (modified_state sub given)).sub
 modify-goes over sub given code.Zero = record { setup = refl; owned = λ k. record { within = k.within; tied = k.tied } }
-modify-goes over sub given code.One = still over sub
-modify-goes over sub given code.Two = still over sub
-modify-goes over sub given code.Three = still over sub
+modify-goes over sub given c = still over sub
 
 effect-goes : (over : Bool) (sub : Subchannel) (f : Function) → Goes over over sub (with_state sub (effect_of f sub.state))
 effect-goes over sub Resumes = record { setup = refl; owned = λ k. record { within = k.within; tied = k.tied } }
@@ -108,9 +104,7 @@ effect-goes over sub Cancels = record { setup = refl; owned = λ k. record { wit
 
 pub function-goes : (over : Bool) (sub : Subchannel) (f : Function) (c : ConditionCode) → Goes over over sub (function_sub sub c (effect_of f sub.state)).sub
 function-goes over sub f code.Zero = effect-goes over sub f
-function-goes over sub f code.One = still over sub
-function-goes over sub f code.Two = still over sub
-function-goes over sub f code.Three = still over sub
+function-goes over sub f c = still over sub
 
 -- choosing: nothing is chosen while an offer waits for its answer
 if-ok : {A : Type 0} (P : A → Type 0) (b : Bool) (x y : Result A Fault) → IfOk x P → IfOk y P → IfOk (if b then x else y) P
@@ -145,11 +139,7 @@ pub record IsTurn (over : Bool) (sub : Subchannel) (t : SubTurn) : Type 0 where
 
 reset-stays : (h : HoldState) (phase : HoldPhase) (path : ℕ) → (hold_after (record h { phase = phase }) (sending_reset (record h { phase = phase }) phase path)).phase ≡ phase
 reset-stays h hold.Free path = refl
-reset-stays h (hold.Offer t p) path = refl
-reset-stays h (hold.On t p c) path = refl
-reset-stays h (hold.Away t) path = refl
-reset-stays h (hold.Letting t p) path = refl
-reset-stays h (hold.Reset r) path = refl
+reset-stays h other path = refl
 
 not-offered : (over : Bool) (s x : SubchannelState) → ((t p : ℕ) → s.hold.phase ≡ hold.Offer t p → ⊥) → x.hold.phase ≡ s.hold.phase → Tied over x
 not-offered over s x n e = λ t p h o. absurd (n t p (sym e ∙ h))
@@ -192,23 +182,17 @@ choose-owned over sub (Offers c path) m n k =
     (record { setup = refl; owned = record { within = (m, k.within.1, k.within.2, k.within.3); tied = λ t q h o. absurd (cc o) } })
 
 pub choose-setup : (sub : Subchannel) (c : Chosen) → IfOk (choose_sub sub c) (λ t. t.sub.setup ≡ sub.setup)
-choose-setup sub Idle = refl
 choose-setup sub (Resets r path) =
     if-ok (λ (t : SubTurn). t.sub.setup ≡ sub.setup) (finds_full sub.wires.down (carried_by sub (Some (record { path = path; signal = down.Reset r sub.state.hold.known })))) _ _ tt refl
-choose-setup sub PerformsClear = refl
 choose-setup sub (Halts t path) = if-ok (λ (t : SubTurn). t.sub.setup ≡ sub.setup) (finds_full sub.wires.down (carried_by sub (Some (record { path = path; signal = down.Halt t })))) _ _ tt refl
-choose-setup sub PerformsHalt = refl
-choose-setup sub FindsNoPath = refl
 choose-setup sub (Offers c path) =
     if-ok (λ (t : SubTurn). t.sub.setup ≡ sub.setup) (finds_full sub.wires.down (carried_by sub (Some (record { path = path; signal = down.Select (sub.state.drawn + 1) })))) _ _ tt refl
+choose-setup sub other = refl
 
 pub offered-or : (phase : HoldPhase) → ((t : ℕ) × (p : ℕ) × (phase ≡ hold.Offer t p)) ⊎ ((t p : ℕ) → phase ≡ hold.Offer t p → ⊥)
 offered-or hold.Free = inr (λ t p e. absurd (cc e))
 offered-or (hold.Offer t p) = inl (t, p, refl)
-offered-or (hold.On t p c) = inr (λ u q e. absurd (cc e))
-offered-or (hold.Away t) = inr (λ u q e. absurd (cc e))
-offered-or (hold.Letting t p) = inr (λ u q e. absurd (cc e))
-offered-or (hold.Reset r) = inr (λ u q e. absurd (cc e))
+offered-or other = inr (λ u q e. absurd (cc e))
 
 pub chosen-owned : (over : Bool) (sub : Subchannel) (choice : Option ℕ) → Owned over sub.state → IfOk (choose_sub (marked_sub sub choice) (chosen sub choice)) (IsTurn over (marked_sub sub choice))
 chosen-owned over sub choice k =

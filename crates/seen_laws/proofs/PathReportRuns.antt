@@ -7,8 +7,6 @@ use Rattle.std.proofs.lemmas.List.FromFn.{get_or-map-range_with_len, length-map-
 use Rattle.std.proofs.lemmas.Nat.{mod_below}
 use Rattle.zbits.specs.Bits.{weight, field_of}
 use Rattle.chan_events.specs.Events.{Event}
-use Rattle.chan_events.specs.declared.event.Event.TheVariants as event
-use Rattle.chan_events.specs.declared.event.OtherInstruction.TheVariants as other
 use Rattle.chan_events.specs.declared.reply.Entry.{Entry}
 use Rattle.chan_events.specs.Replies.{Reply}
 use Rattle.chan_events.specs.declared.reply.Reply.TheVariants as reply
@@ -27,7 +25,9 @@ use Rattle.step_laws.proofs.Places.{same-or-not}
 use Rattle.seen_laws.specs.Links.{with_up}
 use Rattle.seen_laws.specs.PathReports.{PathsSeen, marked, queued, reported, asked_by, paths_after, reset_code, IsEntryRight, AreRight, AnswersByPaths}
 use Rattle.seen_laws.proofs.LinkPaths.{up-here, up-other, there-is}
-use Rattle.seen_laws.proofs.PathSteps.{IsStill, IsKept, step-kept, IsAsked, asked-step, IsStored, stored-step, IsDown, down-step, IsBack, up-step, IsDone, done-step, IsWiped, system-step}
+use Rattle.chan_model.specs.declared.answer.ConditionCode.{ConditionCode}
+use Rattle.step_laws.proofs.Turns as turn
+use Rattle.step_laws.proofs.Turns.{TurnOf, HasTurn, step-turn}
 
 record IsSeen (k : PathsSeen) (up : List Bool) (w : WaitingReports) : Type 0 where
   up_seen : (c : ℕ) → c < 0x100 → k.up c ≡ is_up up c
@@ -78,9 +78,6 @@ report-is : (xs ys : List Crw) (what : PathReport) (chpid : ℕ) → xs ≡ ys �
 report-is xs ys what chpid e = ap (λ (zs : List Crw). reported what chpid zs) e ∙ queued-is ys _
 
 -- the steps
-as-seen : (k : PathsSeen) (up newer : List Bool) (w new : WaitingReports) → newer ≡ up → new ≡ w → IsSeen k up w → IsSeen k newer new
-as-seen k up newer w new e f seen = subst (λ (xs : List Bool). IsSeen k xs new) (sym e) (subst (λ (v : WaitingReports). IsSeen k up v) (sym f) seen)
-
 down-seen : (k : PathsSeen) (s : State) (chpid : ℕ) → IsSeen k s.up s.reports →
     IsSeen (record { up = with_up chpid false k.up; asked = with_up chpid false k.asked; reports = reported report.Lost chpid k.reports }) (slice_set s.up chpid false)
     (reports.with_report (reports.with_asked s.reports chpid false) report.Lost chpid)
@@ -155,69 +152,39 @@ record IsStepSeen (k : PathsSeen) (e : Event) (r : Reply) (new : State) : Type 0
   right : IsEntryRight k e r
   seen : IsSeen (paths_after e r k) new.up new.reports
 
-still-step : (k : PathsSeen) (s : State) (e : Event) (r : Reply) (new : State) → IsStill e → IsEntryRight k e r → paths_after e r k ≡ k → Step s e r new → IsSeen k s.up s.reports → IsStepSeen k e r new
-still-step k s e r new still right same step seen =
-    let kept : IsKept s r new.up new.reports = step-kept s e r new still step in
-    record { right = right; seen = subst (λ (y : PathsSeen). IsSeen y new.up new.reports) (sym same) (as-seen k s.up new.up s.reports new.reports kept.0 kept.1 seen) }
+asked-right : (k : PathsSeen) (s : State) (chpid : ℕ) → chpid < 0x100 → IsSeen k s.up s.reports →
+    rchp_code (is_up s.up chpid) (reports.is_asked s.reports chpid) ≡ reset_code k chpid
+asked-right k s chpid low seen =
+    code-is (is_up s.up chpid) (reports.is_asked s.reports chpid)
+    ∙ ap (λ (b : Bool). reset_code (record { up = λ c. b; asked = λ c. reports.is_asked s.reports chpid; reports = [] }) 0) (sym (seen.up_seen chpid low))
+    ∙ ap (λ (b : Bool). reset_code (record { up = λ c. k.up chpid; asked = λ c. b; reports = [] }) 0) (sym (seen.asked_seen chpid))
 
-asked-right : (k : PathsSeen) (s : State) (cpu path : ℕ) (r : Reply) (new : State) → Step s (event.ExecuteOther cpu (other.Rchp path)) r new → IsSeen k s.up s.reports →
-    IsStepSeen k (event.ExecuteOther cpu (other.Rchp path)) r new
-asked-right k s cpu path r new step seen =
+turn-seen : (k : PathsSeen) (s : State) (e : Event) (r : Reply) (new : State) → TurnOf s e r new → IsSeen k s.up s.reports → IsStepSeen k e r new
+turn-seen k s _ _ _ (turn.AsksReset cpu path) seen =
     let chpid : ℕ = field_of path 24 31 in
     let low : chpid < 0x100 = byte-low path in
-    let left : IsAsked s chpid r new.up new.reports = asked-step s cpu path r new step in
-    record {
-      right = left.0 ∙ ap (λ c. reply.PathReset c) (code-is (is_up s.up chpid) (reports.is_asked s.reports chpid))
-          ∙ ap (λ (b : Bool). reply.PathReset (reset_code (record { up = λ c. b; asked = λ c. reports.is_asked s.reports chpid; reports = [] }) 0)) (sym (seen.up_seen chpid low))
-          ∙ ap (λ (b : Bool). reply.PathReset (reset_code (record { up = λ c. k.up chpid; asked = λ c. b; reports = [] }) 0)) (sym (seen.asked_seen chpid));
-      seen = subst (λ (y : Reply). IsSeen (record k { asked = asked_by y chpid k.asked }) new.up new.reports) (sym left.0)
-          (as-seen _ s.up new.up (reports.with_rchp s.reports chpid (is_up s.up chpid)) new.reports left.1 left.2
-          (asked-seen k s chpid (is_up s.up chpid) (reports.is_asked s.reports chpid) low refl seen));
-    }
-
-stored-right : (k : PathsSeen) (s : State) (cpu address : ℕ) (r : Reply) (new : State) → Step s (event.ExecuteOther cpu (other.Stcrw address)) r new → IsSeen k s.up s.reports →
-    IsStepSeen k (event.ExecuteOther cpu (other.Stcrw address)) r new
-stored-right k s cpu address r new step seen =
-    let left : IsStored s r new.up new.reports = stored-step s cpu address r new step in
-    record {
-      right = left.0 ∙ ap (λ (xs : List Crw). reply.ChannelReport (slice_get xs 0)) (sym seen.reports_seen);
-      seen = as-seen _ s.up new.up (reports.without_oldest s.reports) new.reports left.1 left.2 (record {
-        up_seen = seen.up_seen;
-        asked_seen = seen.asked_seen;
-        reports_seen = ap (λ (xs : List Crw). drop 1 xs) seen.reports_seen;
-        all_up = seen.all_up;
-        all_asked = seen.all_asked;
-      });
-    }
+    record { right = ap (λ (c : ConditionCode). reply.PathReset c) (asked-right k s chpid low seen); seen = asked-seen k s chpid (is_up s.up chpid) (reports.is_asked s.reports chpid) low refl seen }
+turn-seen k s _ _ _ (turn.StoresReport cpu address) seen = record {
+  right = ap (λ (xs : List Crw). reply.ChannelReport (slice_get xs 0)) (sym seen.reports_seen);
+  seen = record {
+    up_seen = seen.up_seen;
+    asked_seen = seen.asked_seen;
+    reports_seen = ap (λ (xs : List Crw). drop 1 xs) seen.reports_seen;
+    all_up = seen.all_up;
+    all_asked = seen.all_asked;
+  };
+}
+turn-seen k s _ _ _ (turn.GoesDown chpid) seen = record { right = tt; seen = down-seen k s chpid seen }
+turn-seen k s _ _ _ (turn.ComesUp chpid) seen = record { right = tt; seen = back-seen k s chpid seen }
+turn-seen k s _ _ _ (turn.IsReset chpid asked) seen = record { right = seen.asked_seen chpid ∙ asked; seen = done-seen k s chpid seen }
+turn-seen k s _ _ _ turn.ResetsAll seen = record { right = tt; seen = wiped-seen k s seen }
+turn-seen k s _ _ _ t seen = record { right = tt; seen = seen }
 
 step-seen : (k : PathsSeen) (s : State) (e : Event) (r : Reply) (new : State) → Step s e r new → IsSeen k s.up s.reports → IsStepSeen k e r new
-step-seen k s (event.PathDown chpid) r new step seen =
-    let left : IsDown s chpid r new.up new.reports = down-step s chpid r new step in
-    record { right = tt; seen = as-seen _ (slice_set s.up chpid false) new.up _ new.reports left.0 left.1 (down-seen k s chpid seen) }
-step-seen k s (event.PathUp chpid) r new step seen =
-    let left : IsBack s chpid r new.up new.reports = up-step s chpid r new step in
-    record { right = tt; seen = as-seen _ (slice_set s.up chpid true) new.up _ new.reports left.0 left.1 (back-seen k s chpid seen) }
-step-seen k s (event.PathReset chpid) r new step seen =
-    let left : IsDone s chpid r new.up new.reports = done-step s chpid r new step in
-    record { right = seen.asked_seen chpid ∙ left.0; seen = as-seen _ s.up new.up _ new.reports left.1 left.2 (done-seen k s chpid seen) }
-step-seen k s event.SystemReset r new step seen =
-    let left : IsWiped s r new.up new.reports = system-step s r new step in
-    record { right = tt; seen = as-seen _ s.up new.up _ new.reports left.0 left.1 (wiped-seen k s seen) }
-step-seen k s (event.ExecuteOther cpu (other.Rchp path)) r new step seen = asked-right k s cpu path r new step seen
-step-seen k s (event.ExecuteOther cpu (other.Stcrw address)) r new step seen = stored-right k s cpu address r new step seen
-step-seen k s (event.ExecuteOther cpu (other.Tpi mask address)) r new step seen = still-step k s _ r new tt tt refl step seen
-step-seen k s (event.ExecuteOther cpu (other.Stcps address)) r new step seen = still-step k s _ r new tt tt refl step seen
-step-seen k s (event.Put address bytes) r new step seen = still-step k s _ r new tt tt refl step seen
-step-seen k s (event.SetKey address key) r new step seen = still-step k s _ r new tt tt refl step seen
-step-seen k s (event.SetPrefix cpu address) r new step seen = still-step k s _ r new tt tt refl step seen
-step-seen k s (event.Show address count) r new step seen = still-step k s _ r new tt tt refl step seen
-step-seen k s (event.Execute cpu i) r new step seen = still-step k s _ r new tt tt refl step seen
-step-seen k s (event.Choose word) r new step seen = still-step k s _ r new tt tt refl step seen
-step-seen k s (event.Up word path) r new step seen = still-step k s _ r new tt tt refl step seen
-step-seen k s (event.Down word path) r new step seen = still-step k s _ r new tt tt refl step seen
-step-seen k s (event.Report at report) r new step seen = still-step k s _ r new tt tt refl step seen
-step-seen k s (event.Act at what) r new step seen = still-step k s _ r new tt tt refl step seen
-step-seen k s (event.Restart at) r new step seen = still-step k s _ r new tt tt refl step seen
+step-seen k s e r new step seen =
+    let is : HasTurn s e r new = step-turn s e r new step in
+    let now : IsStepSeen k e r is.left = turn-seen k s e r is.left is.turn seen in
+    subst (IsStepSeen k e r) (sym is.settles) (record { right = now.right; seen = now.seen })
 
 -- along a run
 abbrev paths_through : PathsSeen → List Entry → PathsSeen

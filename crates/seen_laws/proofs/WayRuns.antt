@@ -36,8 +36,7 @@ use Rattle.machine_model.specs.Steps.{Run, Opened, Stepped, Step}
 use Rattle.machine_model.specs.Turns.{SubTurn, UpTurn}
 use Rattle.chan_model.proofs.OneSide.{same-side, one-side}
 use Rattle.step_laws.proofs.Places.{set-get, map-get, both-true}
-use Rattle.step_laws.specs.Walks as walked
-use Rattle.step_laws.specs.Walks.{AreWalks, Walked, IsQuiet, OneSub}
+use Rattle.step_laws.specs.Walks.{OneSub}
 use Rattle.machine_laws.specs.Agreeing.{AreAbove}
 use Rattle.seen_laws.specs.Devices.{Transfer, Holding, with_holder, with_transfer, reported, side_seen, with_restart, setup_named, acted_after, held_met, holding_met, holding_after, nothing_held}
 use Rattle.seen_laws.specs.OneHolder.{Seen, reply_due, IsAnswerNumbered}
@@ -47,12 +46,22 @@ use Rattle.seen_laws.proofs.Holdings.{holding_of}
 use Rattle.seen_laws.proofs.HolderRuns.{AreSeen, AreKnown, IsRunRight, run-right, run_seen, holding_through, through-more}
 use Rattle.seen_laws.proofs.UnitTurns.{setups, setup-is, IsTurned, sunk-turned}
 use Rattle.seen_laws.proofs.Lists.{Each, each-front, none-wait}
-use Rattle.seen_laws.proofs.MemberSteps.{IsOther, IsSunk, step-sunk, IsStepped, step-reported, IsActing, step-acting, step-restarted}
+use Rattle.seen_laws.proofs.MemberSteps.{IsSunk, turn-sunk, IsStepped, turn-reported, IsActing, turn-acting, turn-restarted}
 use Rattle.seen_laws.proofs.MemberSteps as reading
 use Rattle.seen_laws.proofs.Ways.{OwnWay, Follows, transfer-follows, follows-same, met-follows, met-other, restart-follows, way_acted, act-follows}
 use Rattle.seen_laws.proofs.WaySignals.{UpWay, DownWay, up-follows, up-by, down-by, SentWay, due-way, taken-to, Sends, reports-send, acts-send}
 use Rattle.seen_laws.proofs.WayWires as wires
-use Rattle.seen_laws.proofs.WayWires.{WayWires, WaySub, wires-follow, Carries, as-set_up, carries-setup, carries-way, choose-carries, swept-carries, IsUpMet, ups-met}
+use Rattle.seen_laws.proofs.WayWires.{WaySub, wires-follow, Carries, as-set_up, carries-setup, carries-way, choose-carries, swept-carries, IsUpMet, ups-met}
+use Rattle.interruptions.specs.Requests.{WaitingRequests}
+use Rattle.machine_model.specs.declared.state.Sweep.TheVariants as sweep
+use Rattle.machine_model.specs.UpSteps.{returns_at}
+use Rattle.chan_events.specs.declared.event.Instruction.{Instruction}
+use Rattle.subchannel_model.specs.Places.{Found, found_at, place_in}
+use Rattle.machine_model.specs.Turns.{with_state}
+use Rattle.step_laws.proofs.Places.{found-there}
+use Rattle.step_laws.proofs.Executed.{IsDone, state_left}
+use Rattle.step_laws.proofs.Turns as turn
+use Rattle.step_laws.proofs.Turns.{TurnOf, HasTurn, step-turn}
 
 -- of each subchannel
 abbrev AllWays : Type 0
@@ -101,44 +110,6 @@ record IsStepBy (s : State) (e : Event) (r : Reply) (new : State) (seen : Seen) 
   entry : (at : ℕ) (side : Side) → IsEntryBy s.sets (setups s.subs) at side e r (seen at) (ways at side)
   wayed : AreWayed new.subs (next_seen s e r seen) (next_ways s e r seen ways)
 
--- events that are nothing to a unit
-other-same : (sets : ℕ) (subs : List SubchannelSetup) (at : ℕ) (side : Side) (e : Event) (r : Reply) (k : Holding) (w : Ways) → IsOther e →
-    (k ≡ holding_after sets subs at e r k) × (w ≡ ways_after sets subs at side e r k w)
-other-same sets subs at side (event.Put address bytes) r k w o = (refl, refl)
-other-same sets subs at side (event.SetKey address key) r k w o = (refl, refl)
-other-same sets subs at side (event.SetPrefix cpu address) r k w o = (refl, refl)
-other-same sets subs at side (event.Show address count) r k w o = (refl, refl)
-other-same sets subs at side (event.Execute cpu i) r k w o = (refl, refl)
-other-same sets subs at side (event.ExecuteOther cpu i) r k w o = (refl, refl)
-other-same sets subs at side (event.Choose word) r k w o = (refl, refl)
-other-same sets subs at side (event.Up word path) r k w o = (refl, refl)
-other-same sets subs at side (event.Down word path) r k w o = absurd o
-other-same sets subs at side (event.Report place report) r k w o = absurd o
-other-same sets subs at side (event.Act place what) r k w o = absurd o
-other-same sets subs at side (event.Restart place) r k w o = absurd o
-other-same sets subs at side (event.PathDown chpid) r k w o = (refl, refl)
-other-same sets subs at side (event.PathUp chpid) r k w o = (refl, refl)
-other-same sets subs at side (event.PathReset chpid) r k w o = (refl, refl)
-other-same sets subs at side event.SystemReset r k w o = (refl, refl)
-
-quiet-entry : (sets : ℕ) (subs : List SubchannelSetup) (at : ℕ) (side : Side) (e : Event) (r : Reply) (k : Holding) (w : Ways) → IsQuiet e r → IsEntryBy sets subs at side e r k w
-quiet-entry sets subs at side (event.Put address bytes) r k w q = tt
-quiet-entry sets subs at side (event.SetKey address key) r k w q = tt
-quiet-entry sets subs at side (event.SetPrefix cpu address) r k w q = tt
-quiet-entry sets subs at side (event.Show address count) r k w q = tt
-quiet-entry sets subs at side (event.Execute cpu i) r k w q = tt
-quiet-entry sets subs at side (event.ExecuteOther cpu i) r k w q = tt
-quiet-entry sets subs at side (event.Choose word) r k w q = tt
-quiet-entry sets subs at side (event.Up word path) r k w q = absurd q
-quiet-entry sets subs at side (event.Down word path) r k w q = absurd q
-quiet-entry sets subs at side (event.Report place report) r k w q = tt
-quiet-entry sets subs at side (event.Act place what) r k w q = tt
-quiet-entry sets subs at side (event.Restart place) r k w q = tt
-quiet-entry sets subs at side (event.PathDown chpid) r k w q = tt
-quiet-entry sets subs at side (event.PathUp chpid) r k w q = tt
-quiet-entry sets subs at side (event.PathReset chpid) r k w q = tt
-quiet-entry sets subs at side event.SystemReset r k w q = tt
-
 -- the subchannel of an entry is at a side of a unit
 at-parts : (x : SubchannelSetup) (at : ℕ) (side : Side) → is_at at side (Some x) ≡ true → (x.«unit» ≡ at) × (x.side ≡ side)
 at-parts x at side e =
@@ -151,19 +122,8 @@ reply-at s word path place sub r seen ways named w at side e =
     let its = at-parts sub.setup at side (ap (λ (o : Option SubchannelSetup). is_at at side o) (sym named) ∙ e) in
     subst (λ (j : Side). IsReplyBy (seen at) (ways at j) path r) its.1 (subst (λ (n : ℕ). IsReplyBy (seen n) (ways n sub.setup.side) path r) its.0 w)
 
-record IsOtherBy (s : State) (e : Event) (r : Reply) (new : State) (seen : Seen) (ways : AllWays) : Type 0 where
-  entry : (at : ℕ) (side : Side) → IsEntryBy s.sets (setups s.subs) at side e r (seen at) (ways at side)
-  wayed : AreWayed new.subs seen ways
-
-one-by : (s : State) (e : Event) (r : Reply) (new : State) (seen : Seen) (ways : AllWays) (place : ℕ) (sub after : Subchannel) → OneSub s new place sub after → Carries sub after → AreWayed s.subs seen ways →
-    ((at : ℕ) (side : Side) → IsEntryBy s.sets (setups s.subs) at side e r (seen at) (ways at side)) → IsOtherBy s e r new seen ways
-one-by s e r new seen ways place sub after one c all entry = record {
-  entry = entry;
-  wayed = subst (λ (xs : List Subchannel). AreWayed xs seen ways) (sym one.subs) (carries-wayed s.subs place sub after seen ways one.there c all);
-}
-
 met-by : (s : State) (word path place : ℕ) (sub : Subchannel) (t : UpTurn) (new : State) (seen : Seen) (ways : AllWays) → setup_named (setups s.subs) (subchannel_named s.sets word) ≡ Some sub.setup →
-    OneSub s new place sub t.sub → IsUpMet sub path t → AreWayed s.subs seen ways → IsOtherBy s (event.Up word path) t.reply new seen ways
+    OneSub s new place sub t.sub → IsUpMet sub path t → AreWayed s.subs seen ways → IsStepBy s (event.Up word path) t.reply new seen ways
 met-by s word path place sub t new seen ways named one k all =
     let side : Side = sub.setup.side in
     let mine : Ways = ways sub.setup.«unit» side in
@@ -183,41 +143,13 @@ met-by s word path place sub t new seen ways named one k all =
           })) all);
     }
 
-walked-by : (s : State) (e : Event) (r : Reply) (new : State) (seen : Seen) (ways : AllWays) → Walked s e r new → IsOther e → AreWayed s.subs seen ways → IsOtherBy s e r new seen ways
-walked-by s _ _ _ seen ways (walked.Stays e r new q sets subs units up) o all =
-    record { entry = λ at side. quiet-entry s.sets (setups s.subs) at side e r (seen at) (ways at side) q; wayed = subst (λ (xs : List Subchannel). AreWayed xs seen ways) (sym subs) all }
-walked-by s _ _ _ seen ways (walked.Started cpu word address place sub orb c new n one) o all =
-    one-by s _ _ new seen ways place sub _ one (wires.Keeps _ refl refl) all (λ at side. tt)
-walked-by s _ _ _ seen ways (walked.Tested e r place sub c new q one address by answers) o all =
-    one-by s e r new seen ways place sub _ one (wires.Keeps _ refl refl) all (λ at side. quiet-entry s.sets (setups s.subs) at side e r (seen at) (ways at side) q)
-walked-by s _ _ _ seen ways (walked.Modified e r place sub given c new q one) o all =
-    one-by s e r new seen ways place sub _ one (wires.Keeps _ refl refl) all (λ at side. quiet-entry s.sets (setups s.subs) at side e r (seen at) (ways at side) q)
-walked-by s _ _ _ seen ways (walked.Performed e r place sub f c new q one by answers) o all =
-    one-by s e r new seen ways place sub _ one (wires.Keeps _ refl refl) all (λ at side. quiet-entry s.sets (setups s.subs) at side e r (seen at) (ways at side) q)
-walked-by s _ _ _ seen ways (walked.Chosen word place sub choice t new n x w ok one) o all =
-    one-by s _ _ new seen ways place sub t.sub one (subst (λ (y : Result SubTurn Fault). IfOk y (λ t. Carries sub t.sub)) ok (choose-carries sub choice (chosen sub choice))) all (λ at side. tt)
-walked-by s _ _ _ seen ways (walked.Met word path returns place sub t new n ok one may) o all =
-    met-by s word path place sub t new seen ways (setup-is s.subs (subchannel_named s.sets word) place sub n one.there) one
-    (subst (λ (y : Result UpTurn Fault). IfOk y (IsUpMet sub path)) ok (ups-met returns s.storage sub path)) all
-walked-by s _ _ _ seen ways (walked.Sunk word path may owed place sub u t new n ok one) o all = absurd o
-walked-by s _ _ _ seen ways (walked.Reported place i sub u report t new n reached ok one) o all = absurd o
-walked-by s _ _ _ seen ways (walked.Acted place i sub u what t new side its ok one) o all = absurd o
-walked-by s _ _ _ seen ways (walked.Restarted place owed u r new found sets subs units up) o all = absurd o
-walked-by s _ _ _ seen ways (walked.Swept e r what new q sets subs units by) o all =
-    record {
-      entry = λ at side. quiet-entry s.sets (setups s.subs) at side e r (seen at) (ways at side) q;
-      wayed = subst (λ (xs : List Subchannel). AreWayed xs seen ways) (sym subs) (swept-wayed (swept what) (swept-carries what) s.subs seen ways all);
-    }
-
-other-by : (s : State) (e : Event) (r : Reply) (new : State) (seen : Seen) (ways : AllWays) → IsOther e → IsOtherBy s e r new seen ways → IsStepBy s e r new seen ways
-other-by s e r new seen ways o k = record {
-  entry = k.entry;
-  wayed = λ place sub f.
-      let at : ℕ = sub.setup.«unit» in
-      let side : Side = sub.setup.side in
-      let same = other-same s.sets (setups s.subs) at side e r (seen at) (ways at side) o in
-      subst (λ (x : Holding). WaySub sub x (next_ways s e r seen ways at side)) same.0 (subst (λ (y : Ways). WaySub sub (seen at) y) same.1 (k.wayed place sub f));
-}
+-- an instruction leaves what waits on wires
+executed-wayed : (s : State) (i : Instruction) (p : Option ℕ) (q : Option Found) (r : Reply) (new : State) (seen : Seen) (ways : AllWays) → found_at s.subs p ≡ q → IsDone s i q r new →
+    AreWayed s.subs seen ways → AreWayed new.subs seen ways
+executed-wayed s i p None r new seen ways e k all = subst (λ (xs : List Subchannel). AreWayed xs seen ways) (sym k.subs) all
+executed-wayed s i p (Some f) r new seen ways e k all =
+    subst (λ (xs : List Subchannel). AreWayed xs seen ways) (sym k.subs)
+    (carries-wayed s.subs f.place f.sub (with_state f.sub (state_left i f.sub k.effect)) seen ways (found-there s.subs p f e).1 (wires.Keeps _ refl refl) all)
 
 -- a unit takes a signal
 one-follows : (k : Holding) (side j : Side) (path : ℕ) (d : Down) (taken : Bool) (sent : Option (OnPath Up)) (w : Ways) (here mine : Bool) → (here ≡ true → IsAnswerNumbered k side sent) →
@@ -355,10 +287,8 @@ if-same false x = refl
 
 way-act : (sets : ℕ) (subs : List SubchannelSetup) (i : ℕ) (j : Side) (at : ℕ) (what : UnitAct) (r : Reply) (k : Holding) (w : Ways) →
     (if at == i then way_acted j what k.holder w else w) ≡ ways_after sets subs i j (event.Act at what) r k w
-way-act sets subs i j at act.Leave r k w = if-same (at == i) w
 way-act sets subs i j at (act.Ask path) r k w = refl
-way-act sets subs i j at (act.Attention path side) r k w = if-same (at == i) w
-way-act sets subs i j at (act.Notice path side) r k w = if-same (at == i) w
+way-act sets subs i j at other r k w = if-same (at == i) w
 
 act-if : (b : Bool) (k : Holding) (side : Side) (what : UnitAct) (w : Ways) → Follows k (if b then acted_after what k else k) side w (if b then way_acted side what k.holder w else w)
 act-if true k side what w = act-follows k side what w
@@ -393,40 +323,43 @@ act-by s at what r new seen ways acting units all =
           (way-act s.sets (setups s.subs) sub.setup.«unit» sub.setup.side at what r (seen sub.setup.«unit») (ways sub.setup.«unit» sub.setup.side)) (wayed place sub f);
     }
 
-step-by : (s : State) (e : Event) (r : Reply) (new : State) (seen : Seen) (ways : AllWays) → Walked s e r new → Step s e r new → AreAbove s → AreSeen s.units seen → AreWayed s.subs seen ways →
+turn-by : (s : State) (e : Event) (r : Reply) (new : State) (waiting : WaitingRequests) (seen : Seen) (ways : AllWays) → TurnOf s e r new → AreAbove s → AreSeen s.units seen → AreWayed s.subs seen ways →
+    IsStepBy s e r (record new { requests = waiting }) seen ways
+turn-by s _ _ _ waiting seen ways (turn.Executes cpu i id q r storage subs n e blocks left done) above units all =
+    record { entry = λ at side. tt; wayed = executed-wayed s i (place_in id s.subs) q r (record s { storage = storage; subs = subs }) seen ways e done all }
+turn-by s _ _ _ waiting seen ways (turn.Chosen word place sub choice t named there is ok) above units all =
+    record {
+      entry = λ at side. tt;
+      wayed = carries-wayed s.subs place sub t.sub seen ways there
+          (subst (λ (y : Result SubTurn Fault). IfOk y (λ t. Carries sub t.sub)) ok (choose-carries sub choice (chosen sub choice))) all;
+    }
+turn-by s _ _ _ waiting seen ways (turn.Meets word path place sub t named there ok) above units all =
+    met-by s word path place sub t _ seen ways (setup-is s.subs (subchannel_named s.sets word) place sub named there) (record { there = there; sets = refl; up = refl; subs = refl; units = refl })
+    (subst (λ (y : Result UpTurn Fault). IfOk y (IsUpMet sub path)) ok (ups-met (returns_at s.subs sub path) s.storage sub path)) all
+turn-by s _ _ _ waiting seen ways (turn.Takes word path place sub u t named there found ok) above units all =
+    let k : IsSunk s word path t.reply _ = turn-sunk s word path t.reply _ waiting (turn.Takes word path place sub u t named there found ok) in
+    sunk-by s word path t.reply _ seen ways k (sunk-turned s word path t.reply _ k above) units all
+turn-by s _ _ _ waiting seen ways (turn.Reports at place sub u report t found first there ok) above units all =
+    report-by s at report t.reply _ seen ways (turn-reported s at report t.reply _ waiting (turn.Reports at place sub u report t found first there ok)) units all
+turn-by s _ _ _ waiting seen ways (turn.Acts at place sub u what side t found is first there ok) above units all =
+    act-by s at what t.reply _ seen ways (turn-acting s at what t.reply _ waiting (turn.Acts at place sub u what side t found is first there ok)) units all
+turn-by s _ _ _ waiting seen ways (turn.Restarts at u found) above units all =
+    restart-by s at reply.Done _ seen ways (turn-restarted s at reply.Done _ waiting (turn.Restarts at u found)) all
+turn-by s _ _ _ waiting seen ways (turn.GoesDown chpid) above units all =
+    record { entry = λ at side. tt; wayed = swept-wayed (swept (sweep.GoesDown chpid)) (swept-carries (sweep.GoesDown chpid)) s.subs seen ways all }
+turn-by s _ _ _ waiting seen ways (turn.ComesUp chpid) above units all =
+    record { entry = λ at side. tt; wayed = swept-wayed (swept (sweep.ComesUp chpid)) (swept-carries (sweep.ComesUp chpid)) s.subs seen ways all }
+turn-by s _ _ _ waiting seen ways (turn.IsReset chpid asked) above units all =
+    record { entry = λ at side. tt; wayed = swept-wayed (swept (sweep.PathReset chpid)) (swept-carries (sweep.PathReset chpid)) s.subs seen ways all }
+turn-by s _ _ _ waiting seen ways turn.ResetsAll above units all =
+    record { entry = λ at side. tt; wayed = swept-wayed (swept sweep.SystemReset) (swept-carries sweep.SystemReset) s.subs seen ways all }
+turn-by s _ _ _ waiting seen ways t above units all = record { entry = λ at side. tt; wayed = all }
+
+step-by : (s : State) (e : Event) (r : Reply) (new : State) (seen : Seen) (ways : AllWays) → Step s e r new → AreAbove s → AreSeen s.units seen → AreWayed s.subs seen ways →
     IsStepBy s e r new seen ways
-step-by s (event.Put address bytes) r new seen ways walk step above units all =
-    other-by s (event.Put address bytes) r new seen ways tt (walked-by s (event.Put address bytes) r new seen ways walk tt all)
-step-by s (event.SetKey address key) r new seen ways walk step above units all =
-    other-by s (event.SetKey address key) r new seen ways tt (walked-by s (event.SetKey address key) r new seen ways walk tt all)
-step-by s (event.SetPrefix cpu address) r new seen ways walk step above units all =
-    other-by s (event.SetPrefix cpu address) r new seen ways tt (walked-by s (event.SetPrefix cpu address) r new seen ways walk tt all)
-step-by s (event.Show address count) r new seen ways walk step above units all =
-    other-by s (event.Show address count) r new seen ways tt (walked-by s (event.Show address count) r new seen ways walk tt all)
-step-by s (event.Execute cpu i) r new seen ways walk step above units all =
-    other-by s (event.Execute cpu i) r new seen ways tt (walked-by s (event.Execute cpu i) r new seen ways walk tt all)
-step-by s (event.ExecuteOther cpu i) r new seen ways walk step above units all =
-    other-by s (event.ExecuteOther cpu i) r new seen ways tt (walked-by s (event.ExecuteOther cpu i) r new seen ways walk tt all)
-step-by s (event.Choose word) r new seen ways walk step above units all =
-    other-by s (event.Choose word) r new seen ways tt (walked-by s (event.Choose word) r new seen ways walk tt all)
-step-by s (event.Up word path) r new seen ways walk step above units all =
-    other-by s (event.Up word path) r new seen ways tt (walked-by s (event.Up word path) r new seen ways walk tt all)
-step-by s (event.Down word path) r new seen ways walk step above units all =
-    let k : IsSunk s word path r new = step-sunk s word path r new step in sunk-by s word path r new seen ways k (sunk-turned s word path r new k above) units all
-step-by s (event.Report place report) r new seen ways walk step above units all =
-    report-by s place report r new seen ways (step-reported s place report r new step) units all
-step-by s (event.Act place what) r new seen ways walk step above units all =
-    act-by s place what r new seen ways (step-acting s place what r new step) units all
-step-by s (event.Restart place) r new seen ways walk step above units all =
-    restart-by s place r new seen ways (step-restarted s place r new step) all
-step-by s (event.PathDown chpid) r new seen ways walk step above units all =
-    other-by s (event.PathDown chpid) r new seen ways tt (walked-by s (event.PathDown chpid) r new seen ways walk tt all)
-step-by s (event.PathUp chpid) r new seen ways walk step above units all =
-    other-by s (event.PathUp chpid) r new seen ways tt (walked-by s (event.PathUp chpid) r new seen ways walk tt all)
-step-by s (event.PathReset chpid) r new seen ways walk step above units all =
-    other-by s (event.PathReset chpid) r new seen ways tt (walked-by s (event.PathReset chpid) r new seen ways walk tt all)
-step-by s event.SystemReset r new seen ways walk step above units all =
-    other-by s event.SystemReset r new seen ways tt (walked-by s event.SystemReset r new seen ways walk tt all)
+step-by s e r new seen ways step above units all =
+    let is : HasTurn s e r new = step-turn s e r new step in
+    subst (λ (x : State). IsStepBy s e r x seen ways) (sym is.settles) (turn-by s e r is.left _ seen ways is.turn above units all)
 
 -- along a run
 abbrev ways_through : ℕ → List SubchannelSetup → ℕ → Side → Holding → Ways → List Entry → Ways
@@ -464,15 +397,15 @@ opened-wayed setup place sub e =
       own = tt;
     })
 
-run-by : AreWalks → AreKnown → (setup : Setup) (h : List Entry) (s : State) → IsLawful setup → Run (opening_of setup) h s → IsRunBy setup h s
-run-by walks known setup _ _ lawful Opened = record { wayed = opened-wayed setup; by = λ at side. tt }
-run-by walks known setup _ _ lawful (Stepped h old e r new run step) =
-    let before : IsRunBy setup h old = run-by walks known setup h old lawful run in
+run-by : AreKnown → (setup : Setup) (h : List Entry) (s : State) → IsLawful setup → Run (opening_of setup) h s → IsRunBy setup h s
+run-by known setup _ _ lawful Opened = record { wayed = opened-wayed setup; by = λ at side. tt }
+run-by known setup _ _ lawful (Stepped h old e r new run step) =
+    let before : IsRunBy setup h old = run-by known setup h old lawful run in
     let right : IsRunRight setup h old = run-right known setup h old lawful run in
     let seen : Seen = run_seen setup h in
     let ways : AllWays = run_ways setup h in
     let x : Entry = record { event = e; reply = r } in
-    let now : IsStepBy old e r new seen ways = step-by old e r new seen ways (walks old e r new step) step (known.above setup h old lawful run) right.seen before.wayed in
+    let now : IsStepBy old e r new seen ways = step-by old e r new seen ways step (known.above setup h old lawful run) right.seen before.wayed in
     let sets : old.sets ≡ set_count setup = right.set_up.sets in
     let subs : setups old.subs ≡ setup.subchannels = right.set_up.subs in
     let held : (at : ℕ) → holding_after old.sets (setups old.subs) at e r (seen at) ≡ run_seen setup (h ++ x ∷ []) at =
@@ -496,5 +429,5 @@ run-by walks known setup _ _ lawful (Stepped h old e r new run step) =
           (subst (λ (xs : List SubchannelSetup). IsEntryBy old.sets xs at side e r (seen at) (ways at side)) subs (now.entry at side)));
     }
 
-pub run-one-way : AreWalks → AreKnown → (setup : Setup) (h : List Entry) (s : State) → IsLawful setup → Run (opening_of setup) h s → HasOneWayEach setup h
-run-one-way walks known setup h s lawful run = (run-by walks known setup h s lawful run).by
+pub run-one-way : AreKnown → (setup : Setup) (h : List Entry) (s : State) → IsLawful setup → Run (opening_of setup) h s → HasOneWayEach setup h
+run-one-way known setup h s lawful run = (run-by known setup h s lawful run).by

@@ -38,7 +38,7 @@ use Rattle.seen_laws.specs.OneHolder.{is_next, answers, takes_if, holds_and, is_
 use Rattle.seen_laws.specs.DevicePaths.{Ways, way_met, IsUpBy, IsDownBy, IsGivenTo, IsTakenBy}
 use Rattle.seen_laws.proofs.Holdings.{transfer_in, holder_in, holding_of}
 use Rattle.seen_laws.proofs.Lists.{OnSent}
-use Rattle.seen_laws.proofs.Meets.{Meets, Ignored, Turns, Begins, Declines, Moves, Ends, Ends_last, Leaves, Grants, IsPlainDown, ArePlainDown, IsCommandOn, AreCommandsOn, IsDataAnswer, Offers, Refuses, Halts, Resets, Answers, Sends_command, Sends_room, Sends_bytes}
+use Rattle.seen_laws.proofs.Meets.{Meets, Turns, Begins, Moves, Ends, Grants, IsPlainDown, ArePlainDown, IsCommandOn, AreCommandsOn, IsDataAnswer, Offers, Refuses, Halts, Resets, Answers, Sends_command, Sends_room, Sends_bytes}
 use Rattle.seen_laws.proofs.UnitMoves.{owner-of-act}
 use Rattle.seen_laws.proofs.Ways.{OnWay, IsPast, IsPlaced, OwnWay, Follows, accept-way, way_acted, act-follows}
 
@@ -260,16 +260,12 @@ data-way ways k side t p c q _ (Sends_bytes bytes u e m s number path connection
 
 pub met-way : (ways : Ways) (k : Holding) (side : Side) (p : ℕ) (x : Up) (phase : HoldPhase) (came : Bool) (sent : Option (OnPath Down)) (next : HoldPhase) → Meets p x phase came sent next →
     UpWay ways k side p x → OnSent (λ q d. DownWay ways k side q d) sent
-met-way ways k side p _ _ _ _ _ (Ignored x phase) w = tt
 met-way ways k side p _ _ _ _ _ (Turns x phase next sent plain stays quiet) w = plain-way ways k side sent quiet
 met-way ways k side p _ _ _ _ _ (Begins t q sent commands) w = commands-way ways k side t q sent commands
-met-way ways k side p _ _ _ _ _ (Declines t q) w = tt
-met-way ways k side p _ _ _ _ _ (Moves t c n s load None answers) w = tt
 met-way ways k side p _ _ _ _ _ (Moves t c n s load (Some one) answers) w = data-way ways k side t p c one.path one.signal answers w
 met-way ways k side p _ _ _ _ _ (Ends x t q c sent commands) w = commands-way ways k side t p sent commands
-met-way ways k side p _ _ _ _ _ (Ends_last x t q c) w = tt
-met-way ways k side p _ _ _ _ _ (Leaves t q c) w = tt
 met-way ways k side p _ _ _ _ _ (Grants t c) w = w
+met-way ways k side p _ _ _ _ _ other w = tt
 
 -- what a unit sends of itself or for its device
 own-on : (ways : Ways) (k : Holding) (side : Side) (h : Held) (p c : ℕ) → k.holder ≡ Some h → same_side h.side side ≡ true → connection_of h.place ≡ c → (IsPlaced ways h.number h.place → ways h.number c ≡ Some p) →
@@ -307,14 +303,11 @@ answer-sends ways k side u p t c x progress.Working answer.Begins w = tt
 answer-sends ways k side u p t c x progress.Working (answer.Absorbed count) w = absorbed-sends ways k side u p t c x x.given count w
 answer-sends ways k side u p t c x progress.Working (answer.Supplied bytes) w = if-sends ways k side (is_to_supply x && nat_le (length bytes) (most_of x)) _ None w tt
 answer-sends ways k side u p t c x progress.Working answer.Again w = again-sends ways k side u p t c x x.unanswered w
-answer-sends ways k side u p t c x progress.ChannelEnded answer.Begins w = tt
-answer-sends ways k side u p t c x progress.ChannelEnded (answer.Absorbed count) w = tt
-answer-sends ways k side u p t c x progress.ChannelEnded (answer.Supplied bytes) w = tt
-answer-sends ways k side u p t c x progress.ChannelEnded answer.Again w = tt
 answer-sends ways k side u p t c x progress.Ended answer.Begins w = tt
 answer-sends ways k side u p t c x progress.Ended (answer.Absorbed count) w = tt
 answer-sends ways k side u p t c x progress.Ended (answer.Supplied bytes) w = tt
 answer-sends ways k side u p t c x progress.Ended answer.Again w = tt
+answer-sends ways k side u p t c x progress.ChannelEnded other w = tt
 
 report_on-sends : (ways : Ways) (side j : Side) (u : UnitState) (t : ℕ) (at : Place) (x : Option AtHand) (r : Report) → u.own ≡ own.Owned j t at → same_side j side ≡ true →
     OwnWay ways (side_seen (holding_of u) side).number (holding_of u).holder side → Sends ways (holding_of u) side (report_on u t at x r)

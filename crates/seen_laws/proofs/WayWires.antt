@@ -10,7 +10,7 @@ use Rattle.chan_model.specs.Signals.{Up}
 use Rattle.storage_keys.specs.Storage.{Contents}
 use Rattle.wires.specs.Queues.{queue, taken, lost}
 use Rattle.subchannel_model.specs.declared.state.Chosen.{Chosen}
-use Rattle.subchannel_model.specs.declared.state.Chosen.TheVariants.{Idle, Resets, PerformsClear, Halts, PerformsHalt, FindsNoPath, Offers}
+use Rattle.subchannel_model.specs.declared.state.Chosen.TheVariants.{Idle, Resets, Halts, Offers}
 use Rattle.subchannel_model.specs.declared.state.Subchannel.{Subchannel}
 use Rattle.subchannel_model.specs.declared.state.UpStep.{UpStep}
 use Rattle.subchannel_model.specs.Choosing.{marked_sub}
@@ -89,15 +89,13 @@ choose-plain sub Idle = Keeps sub refl refl
 choose-plain sub (Resets r path) =
     if-ok (IsCarried sub) (finds_full sub.wires.down (carried_by sub (Some (record { path = path; signal = down.Reset r sub.state.hold.known })))) _ _ tt
     (Sends _ sub.state.pmcw.available (Some (record { path = path; signal = down.Reset r sub.state.hold.known })) refl (meets.Resets r sub.state.hold.known) refl refl)
-choose-plain sub PerformsClear = Keeps _ refl refl
 choose-plain sub (Halts t path) =
     if-ok (IsCarried sub) (finds_full sub.wires.down (carried_by sub (Some (record { path = path; signal = down.Halt t })))) _ _ tt
     (Sends _ sub.state.pmcw.available (Some (record { path = path; signal = down.Halt t })) refl (meets.Halts t) refl refl)
-choose-plain sub PerformsHalt = Keeps _ refl refl
-choose-plain sub FindsNoPath = Keeps _ refl refl
 choose-plain sub (Offers c path) =
     if-ok (IsCarried sub) (finds_full sub.wires.down (carried_by sub (Some (record { path = path; signal = down.Select (sub.state.drawn + 1) })))) _ _ tt
     (Sends _ sub.state.pmcw.available (Some (record { path = path; signal = down.Select (sub.state.drawn + 1) })) refl (meets.Offers (sub.state.drawn + 1)) refl refl)
+choose-plain sub other = Keeps _ refl refl
 
 marked-carries : (sub after : Subchannel) (choice : Option ℕ) → Carries (marked_sub sub choice) after → Carries sub after
 marked-carries sub _ choice (Keeps after e f) = Keeps after e f

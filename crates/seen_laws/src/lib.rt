@@ -84,7 +84,6 @@ pub fn links()
 pub fn device_paths()
     ensures ways { (setup : Setup) (h : List Entry) (s : State) → IsLawful setup → Run (opening_of setup) h s → HasOneWayEach setup h }
 {
-    walks();
     setups();
     reset_numbers();
 }

@@ -14,7 +14,7 @@ use Rattle.chan_model.specs.ConditionCodes.{answer_of_code}
 use Rattle.channel_config.specs.declared.names.SubchannelId.{SubchannelId}
 use Rattle.channel_config.specs.declared.parts.SubchannelSetup.{SubchannelSetup}
 use Rattle.channel_config.specs.Setup.{Setup}
-use Rattle.machine_laws.specs.Codes.{code_by}
+use Rattle.step_laws.specs.Codes.{code_by}
 use Rattle.machine_laws.specs.Claims.{is_id}
 use Rattle.machine_model.specs.InstructionSteps.{subchannel_word}
 use Rattle.machine_model.specs.State.{State, opening_of}
@@ -25,7 +25,8 @@ use Rattle.subchannel_model.specs.Opening.{opened}
 use Rattle.subchannel_model.specs.Places.{Found, found_at, first_place, place_in}
 use Rattle.shown_laws.specs.Codes.{code_in, IsThree, AreThree}
 use Rattle.shown_laws.specs.Shown.{names}
-use Rattle.shown_laws.proofs.Executed.{IsDone, IsExecuted, executed}
+use Rattle.step_laws.proofs.Executed.{IsDone}
+use Rattle.shown_laws.proofs.Executed.{IsExecuted, executed}
 use Rattle.shown_laws.proofs.Named.{same-id}
 use Rattle.shown_laws.proofs.Runs.{AreLaws, IsPassed, passed, place-by, sets-stay}
 
@@ -47,24 +48,13 @@ setups-stay laws setup _ _ (Stepped h old e r new run step) = laws.setups old e 
 
 absent-code : (i : Instruction) → code_in (reply.Code (answer_of_code (code_by i (condition_of None)) (record { made = 0; cleared = 0 }))) ≡ Some Three
 absent-code (instruction.Ssch word address) = refl
-absent-code (instruction.Tsch word address) = refl
-absent-code (instruction.Stsch word address) = refl
-absent-code (instruction.Msch word address) = refl
-absent-code (instruction.Enable word subclass multipath) = refl
-absent-code (instruction.Rsch word) = refl
-absent-code (instruction.Hsch word) = refl
-absent-code (instruction.Csch word) = refl
-absent-code (instruction.Xsch word) = refl
+absent-code i = refl
 
 done-three : (s : State) (i : Instruction) (r : Reply) (new : State) (q : Option Found) → q ≡ None → IsDone s i q r new → code_in r ≡ Some Three
 done-three s i r new None e done = ap code_in done.replies ∙ absent-code i
 done-three s i r new (Some f) e done = absurd (cc e)
 
 step-three : AreLaws → (setup : Setup) (h : List Entry) (s : State) (e : Event) (r : Reply) (new : State) → Run (opening_of setup) h s → Step s e r new → IsThree setup e r
-step-three laws setup h s (event.Put address bytes) r new run step = tt
-step-three laws setup h s (event.SetKey address key) r new run step = tt
-step-three laws setup h s (event.SetPrefix cpu address) r new run step = tt
-step-three laws setup h s (event.Show address count) r new run step = tt
 step-three laws setup h s (event.Execute cpu i) r new run step = λ id named not.
     let k : IsExecuted s i r new = executed s cpu i r new step in
     let mine : names s.sets id (subchannel_word i) ≡ true = ap (λ (n : ℕ). names n id (subchannel_word i)) (sets-stay laws setup h s run) ∙ named in
@@ -75,17 +65,7 @@ step-three laws setup h s (event.Execute cpu i) r new run step = λ id named not
     ∙ none-first (λ (x : SubchannelSetup). (x.id.set == id.set) && (x.id.number == id.number)) setup.subchannels not in
     done-three s i r new (found_at s.subs (place_in k.id s.subs))
     (ap (λ (x : SubchannelId). found_at s.subs (place_in x s.subs)) same ∙ ap (found_at s.subs) none) k.done
-step-three laws setup h s (event.ExecuteOther cpu i) r new run step = tt
-step-three laws setup h s (event.Choose word) r new run step = tt
-step-three laws setup h s (event.Up word path) r new run step = tt
-step-three laws setup h s (event.Down word path) r new run step = tt
-step-three laws setup h s (event.Report at report) r new run step = tt
-step-three laws setup h s (event.Act at what) r new run step = tt
-step-three laws setup h s (event.Restart at) r new run step = tt
-step-three laws setup h s (event.PathDown chpid) r new run step = tt
-step-three laws setup h s (event.PathUp chpid) r new run step = tt
-step-three laws setup h s (event.PathReset chpid) r new run step = tt
-step-three laws setup h s event.SystemReset r new run step = tt
+step-three laws setup h s e r new run step = tt
 
 pub run-three : AreLaws → (setup : Setup) (h : List Entry) (s : State) → Run (opening_of setup) h s → AreThree setup h
 run-three laws setup h s run before after e eq =

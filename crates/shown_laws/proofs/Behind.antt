@@ -38,7 +38,7 @@ use Rattle.subchannel_model.specs.declared.signals.DataSignal.{DataSignal}
 use Rattle.subchannel_model.specs.declared.signals.EndSignal.{EndSignal}
 use Rattle.subchannel_model.specs.declared.state.ActiveProgram.{ActiveProgram}
 use Rattle.subchannel_model.specs.declared.state.Chosen.{Chosen}
-use Rattle.subchannel_model.specs.declared.state.Chosen.TheVariants.{Idle, Resets, PerformsClear, Halts, PerformsHalt, FindsNoPath, Offers}
+use Rattle.subchannel_model.specs.declared.state.Chosen.TheVariants.{PerformsHalt, FindsNoPath}
 use Rattle.subchannel_model.specs.declared.state.Program.{Program}
 use Rattle.subchannel_model.specs.declared.state.ProgramPosition.{ProgramPosition}
 use Rattle.subchannel_model.specs.declared.state.Subchannel.{Subchannel}
@@ -59,7 +59,7 @@ use Rattle.shown_laws.specs.Behind.{behind_met, behind_after}
 use Rattle.shown_laws.specs.Shown.{is_about}
 use Rattle.shown_laws.proofs.Chosen.{nopath-chosen}
 use Rattle.shown_laws.proofs.Effects.{Seen, seen}
-use Rattle.shown_laws.proofs.Executed.{IsEffect, reply_of, code_for, state_left}
+use Rattle.step_laws.proofs.Executed.{IsEffect, reply_of, code_for, state_left}
 use Rattle.shown_laws.proofs.Holding.{Held, none-some, not-held}
 use Rattle.shown_laws.proofs.Showing.{IsWhole}
 use Rattle.shown_laws.proofs.Signals.{Comes, Ignored, Taken, takes-comes}
@@ -240,12 +240,8 @@ module _ (storage : Contents) (behind : Bool) where
 
   accept-behind : (returns : Bool) (s : SubchannelState) (h : HoldState) (phase : HoldPhase) (p u : ℕ) → Held (with_hold s h phase) → IsBehind behind s →
       AcceptBehind behind u (takes_up returns storage (with_hold s h phase) p (up.Accept u)).step
-  accept-behind returns s h hold.Free p u k j = j
   accept-behind returns s h (hold.Offer t q) p u k j = begun-behind s h t q u (goes_ahead s) (u == t) (not-held (with_hold s h (hold.Offer t q)) k refl) j
-  accept-behind returns s h (hold.On t q c) p u k j = j
-  accept-behind returns s h (hold.Away t) p u k j = j
-  accept-behind returns s h (hold.Letting t q) p u k j = j
-  accept-behind returns s h (hold.Reset r) p u k j = j
+  accept-behind returns s h other p u k j = j
 
 -- a signal that came up
 met-behind : (returns : Bool) (storage : Contents) (s : SubchannelState) (p : ℕ) (x : Up) (behind : Bool) → IsWhole s → IsBehind behind s →
@@ -272,14 +268,10 @@ met-behind returns storage s p (up.Attn a status) behind k j = kept behind s (ta
 
 -- choices
 chosen-keeps : (sub : Subchannel) (choice : Option ℕ) (c : Chosen) → c ≡ chosen sub choice → Held sub.state → Keeps sub.state (state_chosen (marked_sub sub choice).state c)
-chosen-keeps sub choice Idle i h = λ e. (e, refl)
-chosen-keeps sub choice (Resets r path) i h = λ e. (e, refl)
-chosen-keeps sub choice PerformsClear i h = λ e. (e, refl)
-chosen-keeps sub choice (Halts t path) i h = λ e. (e, refl)
 chosen-keeps sub choice PerformsHalt i h = λ e. absurd (cc e)
 chosen-keeps sub choice FindsNoPath i h = λ e.
     absurd (path-none (marked_sub sub choice).state sub.state.waiting (not-held sub.state h (nopath-chosen sub choice (sym i))) e)
-chosen-keeps sub choice (Offers c path) i h = λ e. (e, refl)
+chosen-keeps sub choice other i h = λ e. (e, refl)
 
 -- lost paths
 loses-keeps : (o : Option ℕ) (sub : Subchannel) → Keeps sub.state (loses_at o sub).state
@@ -303,10 +295,8 @@ swept-keeps sweep.SystemReset sub = λ e. absurd (cc e)
 
 swept-same : (mine : Bool) (what : Sweep) (r : Reply) (behind : Bool) → behind_after mine (sweep_event what) r behind ≡ behind
 swept-same true (sweep.GoesDown chpid) r behind = refl
-swept-same true (sweep.ComesUp chpid) r behind = refl
-swept-same true (sweep.PathReset chpid) r behind = refl
-swept-same true sweep.SystemReset r behind = refl
 swept-same false what r behind = refl
+swept-same true what r behind = refl
 
 -- instructions
 abbrev LeftBehind : Bool → Instruction → ConditionCode → SubchannelState → SubchannelState → Type 0
@@ -315,22 +305,16 @@ LeftBehind behind i c s effect = (cpu : ℕ) → IsBehind (behind_after true (ev
 ssch-left : (behind : Bool) (word address : ℕ) (c : ConditionCode) (s effect : SubchannelState) → is_none effect.waiting ≡ false → IsBehind behind s →
     LeftBehind behind (instruction.Ssch word address) c s effect
 ssch-left behind word address code.Zero s effect w j = λ cpu e. w
-ssch-left behind word address code.One s effect w j = λ cpu. j
-ssch-left behind word address code.Two s effect w j = λ cpu. j
-ssch-left behind word address code.Three s effect w j = λ cpu. j
+ssch-left behind word address c s effect w j = λ cpu. j
 
 xsch-left : (behind : Bool) (word : ℕ) (c : ConditionCode) (s effect : SubchannelState) → is_none effect.waiting ≡ true → IsBehind behind s →
     LeftBehind behind (instruction.Xsch word) c s effect
 xsch-left behind word code.Zero s effect w j = λ cpu e. w
-xsch-left behind word code.One s effect w j = λ cpu. j
-xsch-left behind word code.Two s effect w j = λ cpu. j
-xsch-left behind word code.Three s effect w j = λ cpu. j
+xsch-left behind word c s effect w j = λ cpu. j
 
 left-behind : (behind : Bool) (c : ConditionCode) (s effect : SubchannelState) → Keeps s effect → IsBehind behind s → IsBehind behind (left_by c s effect)
 left-behind behind code.Zero s effect k j = kept behind s effect k j
-left-behind behind code.One s effect k j = j
-left-behind behind code.Two s effect k j = j
-left-behind behind code.Three s effect k j = j
+left-behind behind c s effect k j = j
 
 test-keeps : (s : SubchannelState) → Keeps s (tested_wholly s)
 test-keeps s = if-keeps s (ends_suspended s.scsw) (without_programs (tested s)) (tested s) (λ e. absurd (cc e)) (λ e. (e, refl))
@@ -345,14 +329,8 @@ instruction-behind behind (instruction.Ssch word address) sub effect is j =
     ssch-left behind word address (code_for (instruction.Ssch word address) sub) sub.state effect (ap (λ (x : SubchannelState). is_none x.waiting) is.1) j
 instruction-behind behind (instruction.Tsch word address) sub effect is j = λ cpu.
     left-behind behind (code_for (instruction.Tsch word address) sub) sub.state effect (subst (λ (x : SubchannelState). Keeps sub.state x) (sym is) (test-keeps sub.state)) j
-instruction-behind behind (instruction.Stsch word address) sub effect is j = λ cpu.
-    left-behind behind (code_for (instruction.Stsch word address) sub) sub.state effect (subst (λ (x : SubchannelState). Keeps sub.state x) (sym is) (λ e. (e, refl))) j
 instruction-behind behind (instruction.Msch word address) sub effect is j = λ cpu.
     left-behind behind (code_for (instruction.Msch word address) sub) sub.state effect (subst (λ (x : SubchannelState). Keeps sub.state x) (sym is.1) (λ e. (e, refl))) j
-instruction-behind behind (instruction.Enable word subclass multipath) sub effect is j = λ cpu.
-    left-behind behind (code_for (instruction.Enable word subclass multipath) sub) sub.state effect (subst (λ (x : SubchannelState). Keeps sub.state x) (sym is) (λ e. (e, refl))) j
-instruction-behind behind (instruction.Rsch word) sub effect is j = λ cpu.
-    left-behind behind (code_for (instruction.Rsch word) sub) sub.state effect (subst (λ (x : SubchannelState). Keeps sub.state x) (sym is) (λ e. (e, refl))) j
 instruction-behind behind (instruction.Hsch word) sub effect is j = λ cpu.
     left-behind behind (code_for (instruction.Hsch word) sub) sub.state effect
     (subst (λ (x : SubchannelState). Keeps sub.state x) (sym is) (halt-keeps sub.state (drops_status sub.state.scsw))) j
@@ -360,6 +338,8 @@ instruction-behind behind (instruction.Csch word) sub effect is j = λ cpu.
     left-behind behind (code_for (instruction.Csch word) sub) sub.state effect (subst (λ (x : SubchannelState). Keeps sub.state x) (sym is) (λ e. absurd (cc e))) j
 instruction-behind behind (instruction.Xsch word) sub effect is j =
     xsch-left behind word (code_for (instruction.Xsch word) sub) sub.state effect (ap (λ (x : SubchannelState). is_none x.waiting) is) j
+instruction-behind behind i sub effect is j = λ cpu.
+    left-behind behind (code_for i sub) sub.state effect (subst (λ (x : SubchannelState). Keeps sub.state x) (sym is) (λ e. (e, refl))) j
 
 rests-same : (mine : Bool) (e : Event) (r : Reply) (behind : Bool) → mine ≡ false → behind_after mine e r behind ≡ behind
 rests-same true e r behind i = absurd (cc i)
@@ -414,11 +394,7 @@ met-begun returns storage sub path word (up.Attn a status) i = absurd i
 
 pub turned-begun : (sets : ℕ) (id : SubchannelId) (e : Event) (r : Reply) (sub : Subchannel) (after : SubchannelState) → Turned sets id e r sub after → is_about sets id e ≡ true → IsEnd e r →
     is_some sub.state.begun ≡ true
-turned-begun sets id _ _ _ _ (Executes cpu i sub effect named is) mine end = absurd end
-turned-begun sets id _ _ _ _ (Chooses word sub choice named away) mine end = absurd end
 turned-begun sets id _ _ _ _ (Meets word path returns storage sub x named) mine end = met-begun returns storage sub path word x end
 turned-begun sets id _ _ _ _ (Sweeps (sweep.GoesDown chpid) r sub) mine end = absurd end
-turned-begun sets id _ _ _ _ (Sweeps (sweep.ComesUp chpid) r sub) mine end = absurd end
-turned-begun sets id _ _ _ _ (Sweeps (sweep.PathReset chpid) r sub) mine end = absurd end
-turned-begun sets id _ _ _ _ (Sweeps sweep.SystemReset r sub) mine end = absurd end
 turned-begun sets id _ _ _ _ (Rests e r sub about) mine end = absurd (cc (sym mine ∙ about))
+turned-begun sets id _ _ _ _ other mine end = absurd end

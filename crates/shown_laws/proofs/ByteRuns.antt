@@ -15,7 +15,7 @@ use Rattle.machine_model.specs.Steps.{Run}
 use Rattle.step_laws.specs.Walks.{sweep_event}
 use Rattle.subchannel_model.specs.declared.cause.StatusCause.TheVariants as cause
 use Rattle.subchannel_model.specs.declared.state.Chosen.{Chosen}
-use Rattle.subchannel_model.specs.declared.state.Chosen.TheVariants.{Idle, Resets, PerformsClear, Halts, PerformsHalt, FindsNoPath, Offers}
+use Rattle.subchannel_model.specs.declared.state.Chosen.TheVariants.{PerformsClear, PerformsHalt, FindsNoPath}
 use Rattle.subchannel_model.specs.declared.state.Subchannel.{Subchannel}
 use Rattle.subchannel_model.specs.declared.state.SubchannelState.{SubchannelState}
 use Rattle.subchannel_model.specs.Causes.{with_cause}
@@ -26,7 +26,7 @@ use Rattle.shown_laws.proofs.Bytes.{Brought, brought-if, cause-brought, IsZero, 
 use Rattle.shown_laws.proofs.Chosen.{IsWhy, why-chosen}
 use Rattle.shown_laws.proofs.Deferring.{pair-left, effect-made, no-clear}
 use Rattle.shown_laws.proofs.Effects.{seen}
-use Rattle.shown_laws.proofs.Executed.{reply_of, code_for, state_left}
+use Rattle.step_laws.proofs.Executed.{reply_of, code_for, state_left}
 use Rattle.shown_laws.proofs.Fitting.{Fits, run-fits}
 use Rattle.shown_laws.proofs.Runs.{AreLaws, run-between}
 use Rattle.shown_laws.proofs.Standing.{Stands}
@@ -36,13 +36,10 @@ use Rattle.shown_laws.proofs.Turned.{Turned, Executes, Chooses, Meets, Sweeps, R
 -- a choice
 choice-brought : (sub : Subchannel) (choice : Option ℕ) (c : Chosen) → IsWhy sub.state c → (c ≡ FindsNoPath → sub.state.scsw.activity.clear_pending ≡ false) →
     Brought (IsChoiceBrought sub.state.scsw.activity sub.state.scsw) sub.state (state_chosen (marked_sub sub choice).state c)
-choice-brought sub choice Idle why f = inl refl
-choice-brought sub choice (Resets r path) why f = inl refl
 choice-brought sub choice PerformsClear why f =
     let m : SubchannelState = (marked_sub sub choice).state in
     brought-if IsZero (IsChoiceBrought sub.state.scsw.activity sub.state.scsw) sub.state (with_cause m cause.ClearDone)
     (λ x k. record { clear = λ a b. k; other = λ a. absurd (cc (sym a ∙ why)) }) (clear-brought m)
-choice-brought sub choice (Halts t path) why f = inl refl
 choice-brought sub choice PerformsHalt why f =
     let m : SubchannelState = (marked_sub sub choice).state in
     brought-if (λ x. Brings sub.state.scsw x 0 0) (IsChoiceBrought sub.state.scsw.activity sub.state.scsw) sub.state (with_cause m cause.HaltDone)
@@ -51,7 +48,7 @@ choice-brought sub choice FindsNoPath why f =
     let m : SubchannelState = (marked_sub sub choice).state in
     brought-if (λ x. Brings sub.state.scsw x 0 0) (IsChoiceBrought sub.state.scsw.activity sub.state.scsw) sub.state (with_cause m cause.NoPath)
     (λ x k. record { clear = λ a b. absurd (cc (sym a ∙ f refl)); other = λ a. k }) (cause-brought m cause.NoPath)
-choice-brought sub choice (Offers c path) why f = inl refl
+choice-brought sub choice other why f = inl refl
 
 module _ (sets : ℕ) (id : SubchannelId) where
   abbrev IsRight : Event → Reply → SubchannelState → SubchannelState → Type 0

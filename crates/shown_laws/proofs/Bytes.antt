@@ -131,11 +131,7 @@ fault-brought s tried Protection count = elim (cause-brought s (cause.FetchFault
 -- what lets the device go sends no command
 not-command : (h : HoldState) (phase : HoldPhase) → is_command (came_of (letting_go h phase)).sent ≡ false
 not-command h hold.Free = refl
-not-command h (hold.Offer t p) = refl
-not-command h (hold.On t p c) = refl
-not-command h (hold.Away t) = refl
-not-command h (hold.Letting t p) = refl
-not-command h (hold.Reset r) = refl
+not-command h other = refl
 
 abbrev Answered : SubchannelState → (Scsw → Type 0) → Option (OnPath Down) → Scsw → Type 0
 Answered s P sent x = BringsAnswered (is_command sent) s.scsw x (P x)
@@ -185,12 +181,8 @@ begun-brought storage s h t q may false = inl refl
 
 accept-brought : (storage : Contents) (s : SubchannelState) (h : HoldState) (phase : HoldPhase) (u : ℕ) (may : Bool) →
     BroughtBy (Stopped s) s (accept storage (phased s h phase) (offer_accepted (record h { phase = phase }) phase u may))
-accept-brought storage s h hold.Free u may = inl refl
 accept-brought storage s h (hold.Offer t q) u may = begun-brought storage s h t q may (u == t)
-accept-brought storage s h (hold.On t q c) u may = inl refl
-accept-brought storage s h (hold.Away t) u may = inl refl
-accept-brought storage s h (hold.Letting t q) u may = inl refl
-accept-brought storage s h (hold.Reset r) u may = inl refl
+accept-brought storage s h other u may = inl refl
 
 -- Data
 data-brought : (storage : Contents) (s : SubchannelState) (b : Option ActiveProgram) (signal : DataSignal) (load : Load) →

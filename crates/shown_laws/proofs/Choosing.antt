@@ -28,7 +28,7 @@ use Rattle.shown_laws.proofs.Standing.{Stands}
 use Rattle.shown_laws.proofs.StandingRuns.{run-stands}
 use Rattle.step_laws.proofs.Places.{both-true}
 use Rattle.shown_laws.proofs.Runs.{AreLaws, status_of, run-between}
-use Rattle.shown_laws.proofs.Turned.{Turned, Executes, Chooses, Meets, Sweeps, Rests, reply_chosen, state_chosen}
+use Rattle.shown_laws.proofs.Turned.{Turned, Chooses, Sweeps, Rests, reply_chosen, state_chosen}
 
 start-candidate : (pending : Bool) (w : Option Program) (c : Candidate) → starting pending w ≡ Some c → (pending ≡ true) × (c.resumes ≡ false)
 start-candidate false w c e = absurd (cc e)
@@ -79,44 +79,23 @@ reason s m (Offers c path) fits stands why = let w = candidate-waits s c fits st
 
 leaves : (sub : Subchannel) (choice : Option ℕ) (c : Chosen) →
     LeavesChosen (status_of sub.state) (reply_chosen (marked_sub sub choice).state c) (status_of (state_chosen (marked_sub sub choice).state c))
-leaves sub choice Idle = (refl, refl)
-leaves sub choice (Resets r path) = (refl, refl)
 leaves sub choice PerformsClear = tt
-leaves sub choice (Halts t path) = (refl, refl)
 leaves sub choice PerformsHalt = tt
 leaves sub choice FindsNoPath = tt
-leaves sub choice (Offers c path) = (refl, refl)
+leaves sub choice other = (refl, refl)
 
 module _ (sets : ℕ) (id : SubchannelId) where
   rests-right : (e : Event) (r : Reply) (k : StoredStatus) → is_about sets id e ≡ false → IsChoiceRight sets id k e r k
-  rests-right (event.Put address bytes) r k about = tt
-  rests-right (event.SetKey address key) r k about = tt
-  rests-right (event.SetPrefix cpu address) r k about = tt
-  rests-right (event.Show address count) r k about = tt
-  rests-right (event.Execute cpu i) r k about = tt
-  rests-right (event.ExecuteOther cpu i) r k about = tt
   rests-right (event.Choose word) r k about = λ mine. absurd (cc (sym mine ∙ about))
-  rests-right (event.Up word path) r k about = tt
-  rests-right (event.Down word path) r k about = tt
-  rests-right (event.Report at report) r k about = tt
-  rests-right (event.Act at what) r k about = tt
-  rests-right (event.Restart at) r k about = tt
-  rests-right (event.PathDown chpid) r k about = tt
-  rests-right (event.PathUp chpid) r k about = tt
-  rests-right (event.PathReset chpid) r k about = tt
-  rests-right event.SystemReset r k about = tt
+  rests-right e r k about = tt
 
   turned-right : (e : Event) (r : Reply) (sub : Subchannel) (after : SubchannelState) → Fits (seen sub.state) → Stands (seen sub.state) → Turned sets id e r sub after →
       IsChoiceRight sets id (status_of sub.state) e r (status_of after)
-  turned-right _ _ _ _ fits stands (Executes cpu i sub effect named is) = tt
   turned-right _ _ _ _ fits stands (Chooses word sub choice named away) = λ mine.
       (reason sub.state (marked_sub sub choice).state (chosen sub choice) fits stands (why-chosen sub choice), leaves sub choice (chosen sub choice))
-  turned-right _ _ _ _ fits stands (Meets word path returns storage sub x named) = tt
   turned-right _ _ _ _ fits stands (Sweeps (sweep.GoesDown chpid) r sub) = tt
-  turned-right _ _ _ _ fits stands (Sweeps (sweep.ComesUp chpid) r sub) = tt
-  turned-right _ _ _ _ fits stands (Sweeps (sweep.PathReset chpid) r sub) = tt
-  turned-right _ _ _ _ fits stands (Sweeps sweep.SystemReset r sub) = tt
   turned-right _ _ _ _ fits stands (Rests e r sub about) = rests-right e r (status_of sub.state) about
+  turned-right _ _ _ _ fits stands other = tt
 
 pub run-choices : AreLaws → (setup : Setup) (h : List Entry) (s : State) → Run (opening_of setup) h s → AreChoicesRight (set_count setup) h
 run-choices laws setup h s run id =

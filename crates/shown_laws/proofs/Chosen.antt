@@ -51,13 +51,10 @@ clear-why s (Some r) false e = tt
 clear-why s (Some r) true e = e
 
 halt_at-why : (s : SubchannelState) (phase : HoldPhase) (choice : Option ℕ) → s.scsw.activity.halt_pending ≡ true → IfThere (IsWhy s) (halt_at phase choice)
-halt_at-why s hold.Free choice e = e
 halt_at-why s (hold.Offer t p) choice e = tt
-halt_at-why s (hold.On t p c) choice e = e
 halt_at-why s (hold.Away t) None e = tt
 halt_at-why s (hold.Away t) (Some path) e = e
-halt_at-why s (hold.Letting t p) choice e = e
-halt_at-why s (hold.Reset r) choice e = e
+halt_at-why s other choice e = e
 
 halt-why : (s : SubchannelState) (pending : Bool) (choice : Option ℕ) → s.scsw.activity.halt_pending ≡ pending → IfThere (IsWhy s) (halt_chosen pending s.hold.phase choice)
 halt-why s false choice e = tt
@@ -81,11 +78,8 @@ offer_at-why : (s : SubchannelState) (phase : HoldPhase) (c : Candidate) (reacha
     halt_chosen s.scsw.activity.halt_pending phase choice ≡ None → IsCandidate s c → IfThere (IsWhy s) (offer_at phase c reachable choice)
 offer_at-why s hold.Free c reachable None e none k = over-why s c reachable k (ap is_held e) (free-halt s.scsw.activity.halt_pending None none)
 offer_at-why s hold.Free c reachable (Some path) e none k = (k, free-halt s.scsw.activity.halt_pending (Some path) none, e)
-offer_at-why s (hold.Offer t p) c reachable choice e none k = tt
-offer_at-why s (hold.On t p d) c reachable choice e none k = tt
-offer_at-why s (hold.Away t) c reachable choice e none k = tt
-offer_at-why s (hold.Letting t p) c reachable choice e none k = tt
 offer_at-why s (hold.Reset r) c reachable choice e none k = over-why s c reachable k (ap is_held e) (reset-halt s.scsw.activity.halt_pending r choice none)
+offer_at-why s other c reachable choice e none k = tt
 
 two-candidates : (a b : Option Candidate) (c : Candidate) → first_some (a ∷ b ∷ []) ≡ Some c → (a ≡ Some c) ⊎ ((a ≡ None) × (b ≡ Some c))
 two-candidates None None c e = absurd (cc e)

@@ -163,12 +163,8 @@ begun-stays storage s h t q may false = inl (refl, refl)
 
 accept-stays : (storage : Contents) (s : SubchannelState) (h : HoldState) (phase : HoldPhase) (u : ℕ) (may : Bool) →
     Stays s (accept storage (phased s h phase) (offer_accepted (record h { phase = phase }) phase u may)).state
-accept-stays storage s h hold.Free u may = inl (refl, refl)
 accept-stays storage s h (hold.Offer t q) u may = begun-stays storage s h t q may (u == t)
-accept-stays storage s h (hold.On t q c) u may = inl (refl, refl)
-accept-stays storage s h (hold.Away t) u may = inl (refl, refl)
-accept-stays storage s h (hold.Letting t q) u may = inl (refl, refl)
-accept-stays storage s h (hold.Reset r) u may = inl (refl, refl)
+accept-stays storage s h other u may = inl (refl, refl)
 
 -- Data
 data-stays : (storage : Contents) (s : SubchannelState) (b : Option ActiveProgram) (signal : DataSignal) (load : Load) → Stays s (move_data storage s b signal load).step.state
@@ -261,11 +257,7 @@ notice-stays s b false = inl (refl, refl)
 attended-may : (h : HoldState) (phase : HoldPhase) (p a : ℕ) (may : Bool) → (came_of (attended h phase p a may)).taken ≡ true → may ≡ true
 attended-may h hold.Free p a true e = refl
 attended-may h hold.Free p a false e = absurd (cc e)
-attended-may h (hold.Offer t q) p a may e = absurd (cc e)
-attended-may h (hold.On t q c) p a may e = absurd (cc e)
-attended-may h (hold.Away t) p a may e = absurd (cc e)
-attended-may h (hold.Letting t q) p a may e = absurd (cc e)
-attended-may h (hold.Reset r) p a may e = absurd (cc e)
+attended-may h other p a may e = absurd (cc e)
 
 attention-code : (w : Option Program) (pending : Bool) (old : DeferredCode) → (pending ≡ true → is_some w ≡ true) → (is_some w ≡ true → pending ≡ true) →
     unwrap_or (option_map (λ program. deferred.One) w) old ≡ (if pending then deferred.One else old)

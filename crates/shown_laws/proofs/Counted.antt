@@ -14,7 +14,7 @@ use Rattle.subchannel_model.specs.Causes.{row_of, scsw_before, without_begun, wi
 use Rattle.subchannel_model.specs.Parts.{scsw_joined}
 use Rattle.subchannel_model.specs.Status.{scsw_made, serials_made}
 use Rattle.shown_laws.specs.Serials.{beside}
-use Rattle.shown_laws.proofs.Effects.{Seen, seen, of_seen, Effect, Nothing, Causes, Takes, TakesAsking, Moves, MovesAsking, Suspends, SuspendsShowing, SendsHalt, taken_over, moved, still}
+use Rattle.shown_laws.proofs.Effects.{Seen, seen, of_seen, Effect, Nothing, Causes, TakesAsking, MovesAsking, SuspendsShowing, taken_over, moved, still}
 
 abbrev pub made_by : Bool → ℕ → ℕ → ℕ
 made_by enabled n made = if enabled then made + n else made
@@ -54,13 +54,8 @@ waiting-kept s (Some w) = (refl, refl)
 pub cause-kept : (s : SubchannelState) (c : StatusCause) → IsKept s (row_of s c).left
 cause-kept s (cause.End b status more) = end-kept s b (is_last_end status)
 cause-kept s (cause.FetchFault tried check count) = begun-kept s s.begun
-cause-kept s cause.Attention = (refl, refl)
 cause-kept s cause.NoPath = waiting-kept s s.waiting
-cause-kept s cause.InterfaceControlCheck = (refl, refl)
-cause-kept s (cause.Pci tried count) = (refl, refl)
-cause-kept s (cause.Suspension tried count) = (refl, refl)
-cause-kept s cause.ClearDone = (refl, refl)
-cause-kept s cause.HaltDone = (refl, refl)
+cause-kept s other = (refl, refl)
 
 status-counted : (e f : Bool) (x : Serials) (scsw before : Scsw) (shown : Shown) → e ≡ f →
     ((serials_made e x).made ≡ made_by f 1 x.made)
@@ -85,13 +80,10 @@ cause-counted s c =
 pub effect-counted : (H : Type 0) (k : Seen) (n : ℕ) (y : Seen) → Effect H k n y → IsCounted k n y
 effect-counted H k _ _ Nothing = none-counted k k refl refl
 effect-counted H k _ _ (Causes c timely) = let g = cause-counted (of_seen k) c in record { made = g.made; cleared = g.cleared; stays = g.stays }
-effect-counted H k _ _ (Takes program transfer stands none) = none-counted k _ refl refl
 effect-counted H k _ _ (TakesAsking program transfer tried count stands none) =
     let g = cause-counted (taken_over k program transfer) (cause.Pci tried count) in record { made = g.made; cleared = g.cleared; stays = g.stays }
-effect-counted H k _ _ (Moves b transfer e chains) = none-counted k _ refl refl
 effect-counted H k _ _ (MovesAsking b transfer tried count e chains) =
     let g = cause-counted (moved k b transfer) (cause.Pci tried count) in record { made = g.made; cleared = g.cleared; stays = g.stays }
-effect-counted H k _ _ (Suspends program walk count runs) = none-counted k _ refl refl
 effect-counted H k _ _ (SuspendsShowing program walk count runs) =
     let g = cause-counted (still k program walk count) (cause.Suspension walk.tried count) in record { made = g.made; cleared = g.cleared; stays = g.stays }
-effect-counted H k _ _ SendsHalt = none-counted k _ refl refl
+effect-counted H k _ _ other = none-counted k _ refl refl

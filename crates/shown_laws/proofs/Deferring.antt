@@ -26,7 +26,7 @@ use Rattle.step_laws.specs.Walks.{sweep_event}
 use Rattle.subchannel_model.specs.declared.cause.StatusCause.TheVariants as cause
 use Rattle.subchannel_model.specs.declared.state.Candidate.{Candidate}
 use Rattle.subchannel_model.specs.declared.state.Chosen.{Chosen}
-use Rattle.subchannel_model.specs.declared.state.Chosen.TheVariants.{Idle, Resets, PerformsClear, Halts, PerformsHalt, FindsNoPath, Offers}
+use Rattle.subchannel_model.specs.declared.state.Chosen.TheVariants.{PerformsClear, PerformsHalt, FindsNoPath}
 use Rattle.subchannel_model.specs.declared.state.Program.{Program}
 use Rattle.subchannel_model.specs.declared.state.ProgramPosition.{ProgramPosition}
 use Rattle.subchannel_model.specs.declared.state.Subchannel.{Subchannel}
@@ -45,7 +45,7 @@ use Rattle.shown_laws.specs.Shown.{names, is_about, is_accepted}
 use Rattle.shown_laws.proofs.Chosen.{IsCandidate, IsWhy, why-chosen}
 use Rattle.shown_laws.proofs.Coding.{Coded, coded-if, cause-coded, loses-stays, takes-coded}
 use Rattle.shown_laws.proofs.Effects.{seen}
-use Rattle.shown_laws.proofs.Executed.{IsEffect, reply_of, code_for, state_left}
+use Rattle.step_laws.proofs.Executed.{IsEffect, reply_of, code_for, state_left}
 use Rattle.shown_laws.proofs.Fitting.{Fits, run-fits}
 use Rattle.shown_laws.proofs.Runs.{AreLaws, status_of, run-between}
 use Rattle.shown_laws.proofs.Standing.{Stands}
@@ -76,14 +76,11 @@ code_of s = s.scsw.deferred
 -- a choice
 choice-coded : (sub : Subchannel) (choice : Option ℕ) (c : Chosen) → IsWhy sub.state c → (c ≡ FindsNoPath → sub.state.scsw.activity.clear_pending ≡ false) →
     Coded (IsChoiceCode sub.state.scsw.activity sub.state.scsw.deferred) sub.state (state_chosen (marked_sub sub choice).state c)
-choice-coded sub choice Idle why f = inl (refl, refl)
-choice-coded sub choice (Resets r path) why f = inl (refl, refl)
 choice-coded sub choice PerformsClear why f =
     let m : SubchannelState = (marked_sub sub choice).state in
     coded-if (λ d. d ≡ deferred.Zero) (IsChoiceCode sub.state.scsw.activity sub.state.scsw.deferred) sub.state (with_cause m cause.ClearDone)
     (λ d e. record { clear = λ a b. e; halt = λ a b. absurd (cc (sym a ∙ why)); no_path = λ a b. absurd (cc (sym a ∙ why)) })
     (cause-coded m cause.ClearDone)
-choice-coded sub choice (Halts t path) why f = inl (refl, refl)
 choice-coded sub choice PerformsHalt why f =
     let m : SubchannelState = (marked_sub sub choice).state in
     coded-if (λ d. d ≡ sub.state.scsw.deferred) (IsChoiceCode sub.state.scsw.activity sub.state.scsw.deferred) sub.state (with_cause m cause.HaltDone)
@@ -94,14 +91,12 @@ choice-coded sub choice FindsNoPath why f =
     coded-if (λ d. d ≡ deferred.Three) (IsChoiceCode sub.state.scsw.activity sub.state.scsw.deferred) sub.state (with_cause m cause.NoPath)
     (λ d e. record { clear = λ a b. absurd (cc (sym a ∙ f refl)); halt = λ a b. absurd (cc (sym b ∙ why.3)); no_path = λ a b. e })
     (cause-coded m cause.NoPath)
-choice-coded sub choice (Offers c path) why f = inl (refl, refl)
+choice-coded sub choice other why f = inl (refl, refl)
 
 -- instructions
 pub pair-left : (c : ConditionCode) (s effect : SubchannelState) → effect.serials.made ≡ s.serials.made → (left_by c s effect).serials.made ≡ s.serials.made
 pair-left code.Zero s effect e = e
-pair-left code.One s effect e = refl
-pair-left code.Two s effect e = refl
-pair-left code.Three s effect e = refl
+pair-left c s effect e = refl
 
 either-made : (n : ℕ) (b : Bool) (x y : SubchannelState) → x.serials.made ≡ n → y.serials.made ≡ n → (if b then x else y).serials.made ≡ n
 either-made n true x y e f = e
@@ -118,23 +113,17 @@ pub effect-made : (i : Instruction) (sub : Subchannel) (effect : SubchannelState
 effect-made (instruction.Ssch word address) sub effect is = ap made_of is.1
 effect-made (instruction.Tsch word address) sub effect is =
     ap made_of is ∙ either-made sub.state.serials.made (ends_suspended sub.state.scsw) (without_programs (tested sub.state)) (tested sub.state) refl refl
-effect-made (instruction.Stsch word address) sub effect is = ap made_of is
 effect-made (instruction.Msch word address) sub effect is = ap made_of is.1
-effect-made (instruction.Enable word subclass multipath) sub effect is = ap made_of is
-effect-made (instruction.Rsch word) sub effect is = ap made_of is
 effect-made (instruction.Hsch word) sub effect is =
     ap made_of is ∙ either-made sub.state.serials.made (drops_status sub.state.scsw) (status_dropped (halt_begun sub.state)) (halt_begun sub.state) refl refl
-effect-made (instruction.Csch word) sub effect is = ap made_of is
-effect-made (instruction.Xsch word) sub effect is = ap made_of is
+effect-made i sub effect is = ap made_of is
 
 -- one that answers its code
 plain-left : (c : ConditionCode) (mine : Bool) (s effect : SubchannelState) (d : DeferredCode) → mine ≡ true → code_of effect ≡ d →
     code_of (left_by c s effect) ≡ (if mine && is_accepted (reply.Code (answer_of_code c (left_by c s effect).serials)) then d else code_of s)
 plain-left c false s effect d n e = absurd (cc n)
 plain-left code.Zero true s effect d n e = e
-plain-left code.One true s effect d n e = refl
-plain-left code.Two true s effect d n e = refl
-plain-left code.Three true s effect d n e = refl
+plain-left c true s effect d n e = refl
 
 same-both : (b : Bool) (d : DeferredCode) → d ≡ (if b then d else d)
 same-both true d = refl
@@ -159,9 +148,7 @@ test-left : (word address : ℕ) (c : ConditionCode) (mine : Bool) (s effect : S
     code_of (left_by c s effect) ≡ (if mine && is_accepted (reply_of (instruction.Tsch word address) c s (left_by c s effect)) then d else code_of s)
 test-left word address c false s effect d n e = absurd (cc n)
 test-left word address code.Zero true s effect d n e = e refl
-test-left word address code.One true s effect d n e = refl
-test-left word address code.Two true s effect d n e = refl
-test-left word address code.Three true s effect d n e = refl
+test-left word address c true s effect d n e = refl
 
 module _ (sets : ℕ) (id : SubchannelId) where
   executed-code : (cpu : ℕ) (i : Instruction) (sub : Subchannel) (effect : SubchannelState) → names sets id (subchannel_word i) ≡ true → IsEffect i sub effect →
@@ -210,22 +197,8 @@ module _ (sets : ℕ) (id : SubchannelId) where
   not-mine false c x d e = refl
 
   rests-code : (e : Event) (r : Reply) (s : SubchannelState) → is_about sets id e ≡ false → code_of s ≡ deferred_after sets id e r s.scsw
-  rests-code (event.Put address bytes) r s about = refl
-  rests-code (event.SetKey address key) r s about = refl
-  rests-code (event.SetPrefix cpu address) r s about = refl
-  rests-code (event.Show address count) r s about = refl
   rests-code (event.Execute cpu i) r s about = not-mine (names sets id (subchannel_word i)) (is_accepted r) (deferred_by i s.scsw) (code_of s) about
-  rests-code (event.ExecuteOther cpu i) r s about = refl
-  rests-code (event.Choose word) r s about = refl
-  rests-code (event.Up word path) r s about = refl
-  rests-code (event.Down word path) r s about = refl
-  rests-code (event.Report at report) r s about = refl
-  rests-code (event.Act at what) r s about = refl
-  rests-code (event.Restart at) r s about = refl
-  rests-code (event.PathDown chpid) r s about = refl
-  rests-code (event.PathUp chpid) r s about = refl
-  rests-code (event.PathReset chpid) r s about = refl
-  rests-code event.SystemReset r s about = refl
+  rests-code e r s about = refl
 
   shown-code : (o : Option ℕ) (up : Bool) (sub : Subchannel) (s : SubchannelState) (P : DeferredCode → Type 0) → Coded P s sub.state → Coded P s (shows_at o up sub).state
   shown-code None up sub s P c = c

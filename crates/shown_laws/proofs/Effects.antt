@@ -116,27 +116,15 @@ cause-seen : (s : SubchannelState) (c : StatusCause) → seen (with_cause s c) �
 cause-seen s (cause.End b status more) = end-seen s b (is_last_end status) (scsw_joined s.pmcw.enabled s.scsw s.scsw) (end_shown s b status more)
 cause-seen s (cause.FetchFault tried check count) =
     begun-seen s s.begun (scsw_joined s.pmcw.enabled s.scsw s.scsw) (row_of s (cause.FetchFault tried check count)).shown
-cause-seen s cause.Attention = refl
 cause-seen s cause.NoPath = waiting-seen s s.waiting (scsw_joined s.pmcw.enabled s.scsw s.scsw) (row_of s cause.NoPath).shown
-cause-seen s cause.InterfaceControlCheck = refl
-cause-seen s (cause.Pci tried count) = refl
-cause-seen s (cause.Suspension tried count) = refl
-cause-seen s cause.ClearDone = refl
-cause-seen s cause.HaltDone = refl
+cause-seen s other = refl
 
 pub causes : (H : Type 0) (s : SubchannelState) (c : StatusCause) → IsTimely H (seen s) c → Effect H (seen s) 1 (seen (with_cause s c))
 causes H s c timely = subst (λ (y : Seen). Effect H (seen s) 1 y) (sym (cause-seen s c)) (Causes c timely)
 
 pub effect-one : (H : Type 0) (k : Seen) (n : ℕ) (y : Seen) → Effect H k n y → n ≤ 1
 effect-one H k _ _ Nothing = omega arith
-effect-one H k _ _ (Causes c timely) = omega arith
-effect-one H k _ _ (Takes program transfer stands none) = omega arith
-effect-one H k _ _ (TakesAsking program transfer tried count stands none) = omega arith
-effect-one H k _ _ (Moves b transfer e chains) = omega arith
-effect-one H k _ _ (MovesAsking b transfer tried count e chains) = omega arith
-effect-one H k _ _ (Suspends program walk count stands) = omega arith
-effect-one H k _ _ (SuspendsShowing program walk count stands) = omega arith
-effect-one H k _ _ SendsHalt = omega arith
+effect-one H k _ _ other = omega arith
 
 -- a status that is made: the activity is what it shows, the functions are those of the word that it joins
 with_status-activity : (b : Bool) (x y : Scsw) (a : ActivityControl) → x.activity ≡ a → y.activity ≡ a → (if b then x else y).activity ≡ a

@@ -29,7 +29,7 @@ use Rattle.subchannel_model.specs.declared.cause.StatusCause.{StatusCause}
 use Rattle.subchannel_model.specs.declared.cause.StatusCause.TheVariants as cause
 use Rattle.subchannel_model.specs.declared.state.ActiveProgram.{ActiveProgram}
 use Rattle.subchannel_model.specs.declared.state.Chosen.{Chosen}
-use Rattle.subchannel_model.specs.declared.state.Chosen.TheVariants.{Idle, Resets, PerformsClear, Halts, PerformsHalt, FindsNoPath, Offers}
+use Rattle.subchannel_model.specs.declared.state.Chosen.TheVariants.{FindsNoPath}
 use Rattle.subchannel_model.specs.declared.state.Program.{Program}
 use Rattle.subchannel_model.specs.declared.state.Subchannel.{Subchannel}
 use Rattle.subchannel_model.specs.declared.state.SubchannelState.{SubchannelState}
@@ -43,8 +43,8 @@ use Rattle.subchannel_model.specs.Test.{tested, ends_suspended}
 use Rattle.shown_laws.proofs.CodeTable.{code-is}
 use Rattle.shown_laws.specs.Codes.{told_by, enabled_by, enabled_with, code_in, enabled_after, enabled_through, enabled_in, MayBe, IsCodeRight, AreCodesRight}
 use Rattle.shown_laws.specs.Shown.{names, is_about}
-use Rattle.shown_laws.proofs.Effects.{Seen, seen, of_seen, Effect, Nothing, Causes, Takes, TakesAsking, Moves, MovesAsking, Suspends, SuspendsShowing, SendsHalt}
-use Rattle.shown_laws.proofs.Executed.{IsEffect, reply_of, code_for, state_left}
+use Rattle.shown_laws.proofs.Effects.{Seen, seen, of_seen, Effect, Causes}
+use Rattle.step_laws.proofs.Executed.{IsEffect, reply_of, code_for, state_left}
 use Rattle.shown_laws.proofs.Holding.{Held}
 use Rattle.shown_laws.proofs.Runs.{AreLaws, status_of, run-between, run-keeps}
 use Rattle.shown_laws.proofs.Signals.{Comes, Ignored, Taken, lost-goes, takes-comes}
@@ -66,24 +66,12 @@ waiting-enabled s (Some w) = refl
 pub cause-enabled : (s : SubchannelState) (c : StatusCause) → (with_cause s c).pmcw.enabled ≡ s.pmcw.enabled
 cause-enabled s (cause.End b status more) = end-enabled s b (is_last_end status)
 cause-enabled s (cause.FetchFault tried check count) = begun-enabled s s.begun
-cause-enabled s cause.Attention = refl
 cause-enabled s cause.NoPath = waiting-enabled s s.waiting
-cause-enabled s cause.InterfaceControlCheck = refl
-cause-enabled s (cause.Pci tried count) = refl
-cause-enabled s (cause.Suspension tried count) = refl
-cause-enabled s cause.ClearDone = refl
-cause-enabled s cause.HaltDone = refl
+cause-enabled s other = refl
 
 pub effect-enabled : (H : Type 0) (k : Seen) (n : ℕ) (y : Seen) → Effect H k n y → y.enabled ≡ k.enabled
-effect-enabled H k _ _ Nothing = refl
 effect-enabled H k _ _ (Causes c timely) = cause-enabled (of_seen k) c
-effect-enabled H k _ _ (Takes program transfer stands none) = refl
-effect-enabled H k _ _ (TakesAsking program transfer tried count stands none) = refl
-effect-enabled H k _ _ (Moves b transfer e chains) = refl
-effect-enabled H k _ _ (MovesAsking b transfer tried count e chains) = refl
-effect-enabled H k _ _ (Suspends program walk count stands) = refl
-effect-enabled H k _ _ (SuspendsShowing program walk count stands) = refl
-effect-enabled H k _ _ SendsHalt = refl
+effect-enabled H k _ _ other = refl
 
 pub met-enabled : (returns : Bool) (storage : Contents) (sub : Subchannel) (path : ℕ) (x : Up) → (met returns storage sub path x).step.state.pmcw.enabled ≡ sub.state.pmcw.enabled
 met-enabled returns storage sub path x = by (takes-comes returns storage sub.state path x)
@@ -93,13 +81,8 @@ met-enabled returns storage sub path x = by (takes-comes returns storage sub.sta
     by (Taken n e effect due) = effect-enabled (Held sub.state) (seen sub.state) n (seen (met returns storage sub path x).step.state) effect
 
 chosen-enabled : (s : SubchannelState) (c : Chosen) → (state_chosen s c).pmcw.enabled ≡ s.pmcw.enabled
-chosen-enabled s Idle = refl
-chosen-enabled s (Resets r path) = refl
-chosen-enabled s PerformsClear = refl
-chosen-enabled s (Halts t path) = refl
-chosen-enabled s PerformsHalt = refl
 chosen-enabled s FindsNoPath = cause-enabled s cause.NoPath
-chosen-enabled s (Offers c path) = refl
+chosen-enabled s other = refl
 
 lost-enabled : (s : SubchannelState) (p : ℕ) → (path_lost s p).pmcw.enabled ≡ s.pmcw.enabled
 lost-enabled s p =
@@ -116,28 +99,18 @@ shows-enabled (Some p) up sub = refl
 -- the code in a reply
 code-told : (c : ConditionCode) (x : Serials) → code_of (answer_of_code c x) ≡ c
 code-told code.Zero x = refl
-code-told code.One x = refl
-code-told code.Two x = refl
-code-told code.Three x = refl
+code-told c x = refl
 
 test-answers : (word address : ℕ) (c : ConditionCode) (before after : SubchannelState) → answer_in (reply_of (instruction.Tsch word address) c before after) ≡ Some (answer_of_code c after.serials)
 test-answers word address code.Zero before after = refl
-test-answers word address code.One before after = refl
-test-answers word address code.Two before after = refl
-test-answers word address code.Three before after = refl
+test-answers word address c before after = refl
 
 pub left-answers : (i : Instruction) (sub : Subchannel) (effect : SubchannelState) → IsEffect i sub effect →
     answer_in (reply_of i (code_for i sub) sub.state (state_left i sub effect)) ≡ Some (answer_of_code (code_for i sub) (state_left i sub effect).serials)
-left-answers (instruction.Ssch word address) sub effect is = refl
 left-answers (instruction.Tsch word address) sub effect is =
     test-answers word address (code_for (instruction.Tsch word address) sub) sub.state (state_left (instruction.Tsch word address) sub effect)
 left-answers (instruction.Stsch word address) sub effect is = ap (λ (x : SubchannelState). Some (answer_of_code code.Zero x.serials)) (sym is)
-left-answers (instruction.Msch word address) sub effect is = refl
-left-answers (instruction.Enable word subclass multipath) sub effect is = refl
-left-answers (instruction.Rsch word) sub effect is = refl
-left-answers (instruction.Hsch word) sub effect is = refl
-left-answers (instruction.Csch word) sub effect is = refl
-left-answers (instruction.Xsch word) sub effect is = refl
+left-answers i sub effect is = refl
 
 pub reply-code : (i : Instruction) (sub : Subchannel) (effect : SubchannelState) → IsEffect i sub effect →
     code_in (reply_of i (code_for i sub) sub.state (state_left i sub effect)) ≡ Some (code_for i sub)
@@ -154,9 +127,7 @@ order-told true false false = refl
 
 left-enabled : (c : ConditionCode) (s effect : SubchannelState) → effect.pmcw.enabled ≡ s.pmcw.enabled → (left_by c s effect).pmcw.enabled ≡ s.pmcw.enabled
 left-enabled code.Zero s effect e = e
-left-enabled code.One s effect e = refl
-left-enabled code.Two s effect e = refl
-left-enabled code.Three s effect e = refl
+left-enabled c s effect e = refl
 
 if-enabled : (b : Bool) (x y : SubchannelState) (enabled : Bool) → x.pmcw.enabled ≡ enabled → y.pmcw.enabled ≡ enabled → (if b then x else y).pmcw.enabled ≡ enabled
 if-enabled true x y enabled e f = e
@@ -169,16 +140,12 @@ resumed-enabled s false = refl
 modify-enabled : (word address : ℕ) (c : ConditionCode) (s effect : SubchannelState) (known : Option Bool) → MayBe known s.pmcw.enabled →
     MayBe (enabled_by (instruction.Msch word address) c known) (left_by c s effect).pmcw.enabled
 modify-enabled word address code.Zero s effect known k = tt
-modify-enabled word address code.One s effect known k = k
-modify-enabled word address code.Two s effect known k = k
-modify-enabled word address code.Three s effect known k = k
+modify-enabled word address c s effect known k = k
 
 enable-enabled : (word subclass : ℕ) (multipath : Bool) (c : ConditionCode) (s effect : SubchannelState) (known : Option Bool) → effect.pmcw.enabled ≡ true → MayBe known s.pmcw.enabled →
     MayBe (enabled_by (instruction.Enable word subclass multipath) c known) (left_by c s effect).pmcw.enabled
 enable-enabled word subclass multipath code.Zero s effect known e k = e
-enable-enabled word subclass multipath code.One s effect known e k = k
-enable-enabled word subclass multipath code.Two s effect known e k = k
-enable-enabled word subclass multipath code.Three s effect known e k = k
+enable-enabled word subclass multipath c s effect known e k = k
 
 told-left : (c : ConditionCode) (s effect : SubchannelState) → effect.pmcw.enabled ≡ s.pmcw.enabled → MayBe (told_by c) s.pmcw.enabled → MayBe (told_by c) (left_by c s effect).pmcw.enabled
 told-left c s effect e k = subst (λ (b : Bool). MayBe (told_by c) b) (sym (left-enabled c s effect e)) k
@@ -218,22 +185,9 @@ else-known false x y enabled e k = k
 -- what an event that is not about it tells
 rests-enabled : (sets : ℕ) (id : SubchannelId) (e : Event) (r : Reply) (known : Option Bool) (enabled : Bool) → is_about sets id e ≡ false → MayBe known enabled →
     MayBe (enabled_after sets id e r known) enabled
-rests-enabled sets id (event.Put address bytes) r known enabled about k = k
-rests-enabled sets id (event.SetKey address key) r known enabled about k = k
-rests-enabled sets id (event.SetPrefix cpu address) r known enabled about k = k
-rests-enabled sets id (event.Show address count) r known enabled about k = k
 rests-enabled sets id (event.Execute cpu i) r known enabled about k = else-known (names sets id (subchannel_word i)) (enabled_with i (code_in r) known) known enabled about k
-rests-enabled sets id (event.ExecuteOther cpu i) r known enabled about k = k
-rests-enabled sets id (event.Choose word) r known enabled about k = k
-rests-enabled sets id (event.Up word path) r known enabled about k = k
-rests-enabled sets id (event.Down word path) r known enabled about k = k
-rests-enabled sets id (event.Report at report) r known enabled about k = k
-rests-enabled sets id (event.Act at what) r known enabled about k = k
-rests-enabled sets id (event.Restart at) r known enabled about k = k
-rests-enabled sets id (event.PathDown chpid) r known enabled about k = k
-rests-enabled sets id (event.PathUp chpid) r known enabled about k = k
-rests-enabled sets id (event.PathReset chpid) r known enabled about k = k
 rests-enabled sets id event.SystemReset r known enabled about k = absurd (cc about)
+rests-enabled sets id e r known enabled about k = k
 
 swept-enabled : (sets : ℕ) (id : SubchannelId) (what : Sweep) (r : Reply) (sub : Subchannel) (known : Option Bool) → MayBe known sub.state.pmcw.enabled →
     MayBe (enabled_after sets id (sweep_event what) r known) (swept what sub).state.pmcw.enabled

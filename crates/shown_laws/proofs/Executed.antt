@@ -1,222 +1,40 @@
 -- What a step in which a CPU executes an instruction answers, and leaves of the subchannel that it names.
-use Rattle.std.proofs.Common.{◌≡◌, refl, sym, ◌∙◌, ap, subst, ℕ, zero, suc, Bool, Option, None, Some, Result, Ok, Err, List, [], ◌∷◌, inl, inr}
-use Rattle.std.specs.Prelude.{slice_get, slice_set, if◌then◌else◌, IfOk}
-use Rattle.orb_block.specs.declared.Orb.{Orb}
-use Rattle.schib_block.specs.declared.pmcw.Pmcw as block
-use Rattle.storage_keys.specs.declared.StorageFault.{StorageFault}
-use Rattle.storage_keys.specs.Storage.{Contents, operand_at, operand_check}
+use Rattle.std.proofs.Common.{◌≡◌, sym, subst, ℕ, Option, Some, List}
 use Rattle.channel_config.specs.declared.names.SubchannelId.{SubchannelId}
 use Rattle.channel_config.specs.SubchannelWords.{subchannel_named}
-use Rattle.chan_model.specs.declared.answer.ConditionCode.{ConditionCode}
-use Rattle.chan_model.specs.declared.answer.ConditionCode.TheVariants as code
-use Rattle.chan_model.specs.ConditionCodes.{answer_of_code}
 use Rattle.chan_events.specs.declared.event.Event.TheVariants as event
 use Rattle.chan_events.specs.declared.event.Instruction.{Instruction}
-use Rattle.chan_events.specs.declared.event.Instruction.TheVariants as instruction
 use Rattle.chan_events.specs.Replies.{Reply}
-use Rattle.chan_events.specs.declared.reply.Reply.TheVariants as reply
-use Rattle.subchannel_model.specs.declared.state.Subchannel.{Subchannel}
-use Rattle.subchannel_model.specs.declared.state.SubchannelState.{SubchannelState}
-use Rattle.subchannel_model.specs.Cancel.{cancelled}
-use Rattle.subchannel_model.specs.Clear.{cleared}
-use Rattle.subchannel_model.specs.Conditions.{condition_of, left_by}
-use Rattle.subchannel_model.specs.Enable.{enabling, enabling_schib}
-use Rattle.subchannel_model.specs.Halt.{halted}
-use Rattle.subchannel_model.specs.Modify.{msch_code, modified_state}
 use Rattle.subchannel_model.specs.Places.{Found, found_at, place_in}
-use Rattle.subchannel_model.specs.Resume.{resumed}
-use Rattle.subchannel_model.specs.Start.{started}
-use Rattle.subchannel_model.specs.Store.{pmcw_of}
-use Rattle.subchannel_model.specs.Test.{tsch_code, tested_wholly}
 use Rattle.interruptions.specs.Requests.{WaitingRequests}
 use Rattle.machine_model.specs.State.{State}
-use Rattle.machine_model.specs.Turns.{Turn, Outcome, does, with_state}
-use Rattle.machine_model.proofs.Named.{requests_settled, PerformsStart, tests, stores, Modifies, Enables, Executes_on}
-use Rattle.machine_model.specs.InstructionSteps.{code_at, function_at, stores_irb, with_schib, with_enabling, test_sub, Modifies_by, Enables_with, Executes_at, subchannel_word}
-use Rattle.machine_model.specs.Requests.{settled}
+use Rattle.machine_model.specs.InstructionSteps.{subchannel_word}
 use Rattle.machine_model.specs.Steps.{Step}
-use Rattle.machine_laws.specs.Codes.{code_by}
-use Rattle.shown_laws.proofs.Named.{found-there}
-
--- the effect of an instruction with code 0
-abbrev pub IsEffect : Instruction → Subchannel → SubchannelState → Type 0
-IsEffect (instruction.Ssch word address) sub x = (orb : Orb) × (x ≡ started sub.state orb)
-IsEffect (instruction.Tsch word address) sub x = x ≡ tested_wholly sub.state
-IsEffect (instruction.Stsch word address) sub x = x ≡ sub.state
-IsEffect (instruction.Msch word address) sub x = (given : block.Pmcw) × (x ≡ modified_state sub given)
-IsEffect (instruction.Enable word subclass multipath) sub x = x ≡ modified_state sub (enabling (pmcw_of sub) subclass multipath)
-IsEffect (instruction.Rsch word) sub x = x ≡ resumed sub.state
-IsEffect (instruction.Hsch word) sub x = x ≡ halted sub.state
-IsEffect (instruction.Csch word) sub x = x ≡ cleared sub.state
-IsEffect (instruction.Xsch word) sub x = x ≡ cancelled sub.state
-
--- the reply: TEST with codes 0 and 1, and STORE, show the status word as it was
-abbrev pub reply_of : Instruction → ConditionCode → SubchannelState → SubchannelState → Reply
-reply_of (instruction.Tsch word address) c before after =
-    if stores_irb c then reply.Status (answer_of_code c after.serials) before.scsw else reply.Code (answer_of_code c after.serials)
-reply_of (instruction.Stsch word address) c before after = reply.Status (answer_of_code c before.serials) before.scsw
-reply_of i c before after = reply.Code (answer_of_code c after.serials)
-
-abbrev pub code_for : Instruction → Subchannel → ConditionCode
-code_for i sub = code_by i (condition_of (Some sub.state))
-
-abbrev pub state_left : Instruction → Subchannel → SubchannelState → SubchannelState
-state_left i sub effect = left_by (code_for i sub) sub.state effect
-
-pub record IsLeft (s : State) (i : Instruction) (r : Reply) (new : State) (f : Found) : Type 0 where
-  pub effect : SubchannelState
-  pub is : IsEffect i f.sub effect
-  pub replies : r ≡ reply_of i (code_for i f.sub) f.sub.state (state_left i f.sub effect)
-  pub subs : new.subs ≡ slice_set s.subs f.place (with_state f.sub (state_left i f.sub effect))
-
--- where no subchannel is found, nothing is left of any
-pub record IsAbsent (s : State) (i : Instruction) (r : Reply) (new : State) : Type 0 where
-  pub replies : r ≡ reply.Code (answer_of_code (code_by i (condition_of None)) (record { made = 0; cleared = 0 }))
-  pub subs : new.subs ≡ s.subs
-
-abbrev pub IsDone : State → Instruction → Option Found → Reply → State → Type 0
-IsDone s i None r new = IsAbsent s i r new
-IsDone s i (Some f) r new = IsLeft s i r new f
-
--- setting an element to what it is changes nothing
-pub set-same : {A : Type 0} (xs : List A) (k : ℕ) (x : A) → slice_get xs k ≡ Some x → slice_set xs k x ≡ xs
-set-same [] k x e = absurd (cc e)
-set-same (y ∷ ys) zero x e = let same : y ≡ x = cc e in ap (λ (z : _). z ∷ ys) (sym same)
-set-same (y ∷ ys) (suc k) x e = ap (λ (zs : List _). y ∷ zs) (set-same ys k x e)
+use Rattle.storage_keys.specs.Storage.{Contents}
+use Rattle.subchannel_model.specs.declared.state.Subchannel.{Subchannel}
+use Rattle.step_laws.proofs.Executed.{IsDone, done-settled}
+use Rattle.step_laws.proofs.Turns as turn
+use Rattle.step_laws.proofs.Turns.{TurnOf, HasTurn, step-turn}
 
 pub record IsExecuted (s : State) (i : Instruction) (r : Reply) (new : State) : Type 0 where
   pub id : SubchannelId
   pub named : subchannel_named s.sets (subchannel_word i) ≡ Some id
   pub done : IsDone s i (found_at s.subs (place_in id s.subs)) r new
 
-module _ (s : State) where
-  abbrev OkDone : Instruction → Option Found → Outcome → Type 0
-  OkDone i q o = IfOk o (λ t. IsDone s i q t.reply t.state)
+pub as-executed : (s : State) (i : Instruction) (id : SubchannelId) (q : Option Found) (r : Reply) (storage : Contents) (subs : List Subchannel) (waiting : WaitingRequests) →
+    subchannel_named s.sets (subchannel_word i) ≡ Some id → found_at s.subs (place_in id s.subs) ≡ q → IsDone s i q r (record s { storage = storage; subs = subs }) →
+    IsExecuted s i r (record s { storage = storage; subs = subs; requests = waiting })
+as-executed s i id q r storage subs waiting n e done = record {
+  id = id;
+  named = n;
+  done = subst (λ (x : Option Found). IsDone s i x r (record s { storage = storage; subs = subs; requests = waiting })) (sym e) (done-settled s i q r _ waiting done);
+}
 
-  -- it answers its code, with the serials that it leaves
-  abbrev IsPlain : Instruction → Type 0
-  IsPlain i = (c : ConditionCode) (before after : SubchannelState) → reply_of i c before after ≡ reply.Code (answer_of_code c after.serials)
+turn-executed : (s : State) (cpu : ℕ) (i : Instruction) (r : Reply) (new : State) (waiting : WaitingRequests) → TurnOf s (event.Execute cpu i) r new →
+    IsExecuted s i r (record new { requests = waiting })
+turn-executed s _ _ _ _ waiting (turn.Executes cpu i id q r storage subs n e blocks left done) = as-executed s i id q r storage subs waiting n e done
 
-  function-done : (i : Instruction) (q : Option Found) (storage : Contents) (effect : Subchannel → SubchannelState) → IsPlain i →
-      ((f : Found) → IsEffect i f.sub (effect f.sub)) → OkDone i q (function_at (record s { storage = storage }) q (code_by i) effect)
-  function-done i None storage effect plain is = record { replies = refl; subs = refl }
-  function-done i (Some f) storage effect plain is = record {
-    effect = effect f.sub;
-    is = is f;
-    replies = sym (plain (code_for i f.sub) f.sub.state (state_left i f.sub (effect f.sub)));
-    subs = refl;
-  }
-
-  starts-done : (word address : ℕ) (q : Option Found) (r : Result (List ℕ) StorageFault) (o : Outcome) → PerformsStart s q r o →
-      OkDone (instruction.Ssch word address) q o
-  starts-done word address q (Err x) o w = subst (OkDone (instruction.Ssch word address) q) (sym w) tt
-  starts-done word address q (Ok image) o w =
-      elim w [
-        | inl x ↦ subst (OkDone (instruction.Ssch word address) q) (sym x.1) tt
-        | inr x ↦ subst (OkDone (instruction.Ssch word address) q) (sym x.2)
-            (function-done (instruction.Ssch word address) q s.storage (λ sub. started sub.state x.0) (λ c b a. refl) (λ f. (x.0, refl)))
-      ]
-
-  test-left : (word address : ℕ) (f : Found) (c : ConditionCode) (new : State) → code_for (instruction.Tsch word address) f.sub ≡ c →
-      new.subs ≡ slice_set s.subs f.place (with_state f.sub (left_by c f.sub.state (tested_wholly f.sub.state))) →
-      IsLeft s (instruction.Tsch word address) (reply_of (instruction.Tsch word address) c f.sub.state (left_by c f.sub.state (tested_wholly f.sub.state))) new f
-  test-left word address f c new e same = record {
-    effect = tested_wholly f.sub.state;
-    is = refl;
-    replies =
-        ap (λ (x : ConditionCode). reply_of (instruction.Tsch word address) x f.sub.state (left_by x f.sub.state (tested_wholly f.sub.state))) (sym e);
-    subs = same ∙ ap (λ (x : ConditionCode). slice_set s.subs f.place (with_state f.sub (left_by x f.sub.state (tested_wholly f.sub.state)))) (sym e);
-  }
-
-  test-done : (word address cpu : ℕ) (f : Found) (c : ConditionCode) → code_for (instruction.Tsch word address) f.sub ≡ c →
-      OkDone (instruction.Tsch word address) (Some f) (test_sub s cpu address f c)
-  test-done word address cpu f code.Zero e = test-left word address f code.Zero _ e refl
-  test-done word address cpu f code.One e = test-left word address f code.One _ e refl
-  test-done word address cpu f code.Two e = test-left word address f code.Two _ e refl
-  test-done word address cpu f code.Three e = test-left word address f code.Three _ e refl
-
-  tests-done : (cpu word address : ℕ) (q : Option Found) (r : Result (Unit {0}) StorageFault) → OkDone (instruction.Tsch word address) q (tests s cpu address q r)
-  tests-done cpu word address q (Err x) = tt
-  tests-done cpu word address None (Ok u) = record { replies = refl; subs = refl }
-  tests-done cpu word address (Some f) (Ok u) = test-done word address cpu f (code_at tsch_code f.sub) refl
-
-  stores-done : (cpu word address : ℕ) (p : Option ℕ) (q : Option Found) (r : Result (Unit {0}) StorageFault) → found_at s.subs p ≡ q →
-      OkDone (instruction.Stsch word address) q (stores s cpu address q r)
-  stores-done cpu word address p q (Err x) e = tt
-  stores-done cpu word address p None (Ok u) e = record { replies = refl; subs = refl }
-  stores-done cpu word address p (Some f) (Ok u) e = record {
-    effect = f.sub.state;
-    is = refl;
-    replies = refl;
-    subs = sym (set-same s.subs f.place f.sub (found-there s.subs p f e).1);
-  }
-
-  modified-done : (i : Instruction) (q : Option Found) (storage : Contents) (image : List ℕ) (o : Outcome) →
-      ((given : block.Pmcw) → OkDone i q (function_at (record s { storage = storage }) q msch_code (λ sub. modified_state sub given))) →
-      Modifies_by (record s { storage = storage }) q image o → OkDone i q o
-  modified-done i q storage image o k w =
-      elim w.2 [
-        | inl x ↦ subst (OkDone i q) (sym x.1) tt
-        | inr x ↦ subst (OkDone i q) (sym x.1) (k w.0)
-      ]
-
-  modifies-done : (word address : ℕ) (q : Option Found) (r : Result (List ℕ) StorageFault) (o : Outcome) → Modifies s q r o →
-      OkDone (instruction.Msch word address) q o
-  modifies-done word address q (Err x) o w = subst (OkDone (instruction.Msch word address) q) (sym w) tt
-  modifies-done word address q (Ok image) o w =
-      modified-done (instruction.Msch word address) q s.storage image o
-      (λ given. function-done (instruction.Msch word address) q s.storage (λ sub. modified_state sub given) (λ c b a. refl) (λ f. (given, refl))) w
-
-  enabled-done : (word subclass cpu : ℕ) (multipath : Bool) (q : Option Found) (image : List ℕ) (o : Outcome) →
-      Enables_with s cpu q subclass multipath image o → OkDone (instruction.Enable word subclass multipath) q o
-  enabled-done word subclass cpu multipath None image o w =
-      modified-done (instruction.Enable word subclass multipath) None (with_enabling s cpu image subclass multipath).storage image o
-      (λ given. record { replies = refl; subs = refl }) w
-  enabled-done word subclass cpu multipath (Some f) image o w =
-      subst (OkDone (instruction.Enable word subclass multipath) (Some f)) (sym w)
-      (function-done (instruction.Enable word subclass multipath) (Some f) (with_schib s cpu 0xF00 (enabling_schib f.sub subclass multipath)).storage
-      (λ sub. modified_state sub (enabling (pmcw_of sub) subclass multipath)) (λ c b a. refl) (λ f. refl))
-
-  enables-done : (word subclass cpu : ℕ) (multipath : Bool) (q : Option Found) (r : Result (List ℕ) StorageFault) (o : Outcome) →
-      Enables s cpu q subclass multipath r o → OkDone (instruction.Enable word subclass multipath) q o
-  enables-done word subclass cpu multipath q (Err x) o w = subst (OkDone (instruction.Enable word subclass multipath) q) (sym w) tt
-  enables-done word subclass cpu multipath q (Ok image) o w = enabled-done word subclass cpu multipath q image o w
-
-  at-done : (cpu : ℕ) (i : Instruction) (p : Option ℕ) (q : Option Found) (o : Outcome) → found_at s.subs p ≡ q → Executes_at s cpu i q o → OkDone i q o
-  at-done cpu (instruction.Ssch word address) p q o e w = starts-done word address q (operand_at s.storage cpu address 12 4) o w
-  at-done cpu (instruction.Tsch word address) p q o e w =
-      subst (OkDone (instruction.Tsch word address) q) (sym w) (tests-done cpu word address q (operand_check s.storage cpu address 64 4))
-  at-done cpu (instruction.Stsch word address) p q o e w =
-      subst (OkDone (instruction.Stsch word address) q) (sym w) (stores-done cpu word address p q (operand_check s.storage cpu address 52 4) e)
-  at-done cpu (instruction.Msch word address) p q o e w = modifies-done word address q (operand_at s.storage cpu address 52 4) o w
-  at-done cpu (instruction.Enable word subclass multipath) p q o e w =
-      enables-done word subclass cpu multipath q (operand_at s.storage cpu 0xF00 52 4) o w
-  at-done cpu (instruction.Rsch word) p q o e w =
-      subst (OkDone (instruction.Rsch word) q) (sym w) (function-done (instruction.Rsch word) q s.storage (λ sub. resumed sub.state) (λ c b a. refl) (λ f. refl))
-  at-done cpu (instruction.Hsch word) p q o e w =
-      subst (OkDone (instruction.Hsch word) q) (sym w) (function-done (instruction.Hsch word) q s.storage (λ sub. halted sub.state) (λ c b a. refl) (λ f. refl))
-  at-done cpu (instruction.Csch word) p q o e w =
-      subst (OkDone (instruction.Csch word) q) (sym w) (function-done (instruction.Csch word) q s.storage (λ sub. cleared sub.state) (λ c b a. refl) (λ f. refl))
-  at-done cpu (instruction.Xsch word) p q o e w =
-      subst (OkDone (instruction.Xsch word) q) (sym w) (function-done (instruction.Xsch word) q s.storage (λ sub. cancelled sub.state) (λ c b a. refl) (λ f. refl))
-
-  done-settled : (i : Instruction) (q : Option Found) (r : Reply) (new : State) (waiting : WaitingRequests) → IsDone s i q r new →
-      IsDone s i q r (record new { requests = waiting })
-  done-settled i None r new waiting k = record { replies = k.replies; subs = k.subs }
-  done-settled i (Some f) r new waiting k = record { effect = k.effect; is = k.is; replies = k.replies; subs = k.subs }
-
-  on-done : (cpu : ℕ) (i : Instruction) (x : Option SubchannelId) (o : Outcome) (r : Reply) (new : State) → subchannel_named s.sets (subchannel_word i) ≡ x →
-      Executes_on s cpu i x o → does r new ≡ settled s (event.Execute cpu i) o → IsExecuted s i r new
-  on-done cpu i None o r new n w m = absurd (cc (m ∙ ap (settled s (event.Execute cpu i)) w))
-  on-done cpu i (Some id) (Err f) r new n w m = absurd (cc m)
-  on-done cpu i (Some id) (Ok t) r new n w m =
-      let same : record { reply = r; state = new } ≡ record t { state = record t.state { requests = requests_settled s (event.Execute cpu i) t } } = cc m in
-      let q : Option Found = found_at s.subs (place_in id s.subs) in
-      subst (λ (x : Turn). IsExecuted s i x.reply x.state) (sym same) (record {
-        id = id;
-        named = n;
-        done = done-settled i q t.reply t.state (requests_settled s (event.Execute cpu i) t) (at-done cpu i (place_in id s.subs) q (Ok t) refl w);
-      })
-
-  pub executed : (cpu : ℕ) (i : Instruction) (r : Reply) (new : State) → Step s (event.Execute cpu i) r new → IsExecuted s i r new
-  executed cpu i r new (o, w, m) = on-done cpu i (subchannel_named s.sets (subchannel_word i)) o r new refl w m
+pub executed : (s : State) (cpu : ℕ) (i : Instruction) (r : Reply) (new : State) → Step s (event.Execute cpu i) r new → IsExecuted s i r new
+executed s cpu i r new step =
+    let is : HasTurn s (event.Execute cpu i) r new = step-turn s (event.Execute cpu i) r new step in
+    subst (IsExecuted s i r) (sym is.settles) (turn-executed s cpu i r is.left _ is.turn)

@@ -29,7 +29,7 @@ use Rattle.subchannel_model.specs.declared.cause.StatusCause.{StatusCause}
 use Rattle.subchannel_model.specs.declared.cause.StatusCause.TheVariants as cause
 use Rattle.subchannel_model.specs.declared.state.ActiveProgram.{ActiveProgram}
 use Rattle.subchannel_model.specs.declared.state.Chosen.{Chosen}
-use Rattle.subchannel_model.specs.declared.state.Chosen.TheVariants.{Idle, Resets, PerformsClear, Halts, PerformsHalt, FindsNoPath, Offers}
+use Rattle.subchannel_model.specs.declared.state.Chosen.TheVariants.{PerformsClear, Halts, PerformsHalt, FindsNoPath}
 use Rattle.subchannel_model.specs.declared.state.Program.{Program}
 use Rattle.subchannel_model.specs.declared.state.Subchannel.{Subchannel}
 use Rattle.subchannel_model.specs.declared.state.SubchannelState.{SubchannelState}
@@ -47,7 +47,7 @@ use Rattle.subchannel_model.specs.Test.{tested, ended_scsw, suspended_scsw, test
 use Rattle.subchannel_model.specs.Parts.{scsw_joined}
 use Rattle.shown_laws.proofs.Chosen.{clear-chosen, nopath-chosen}
 use Rattle.shown_laws.proofs.Effects.{Seen, seen, of_seen, caused, IsTimely, Effect, Nothing, Causes, Takes, TakesAsking, Moves, MovesAsking, Suspends, SuspendsShowing, SendsHalt, causes, made-activity, made-functions, joined-functions}
-use Rattle.shown_laws.proofs.Executed.{IsEffect, code_for}
+use Rattle.step_laws.proofs.Executed.{IsEffect, code_for}
 use Rattle.shown_laws.proofs.Holding.{Held, not-held}
 use Rattle.shown_laws.proofs.Runs.{AreLaws, run-keeps}
 use Rattle.shown_laws.proofs.Signals.{Comes, Ignored, Taken, lost-goes, takes-comes}
@@ -88,14 +88,8 @@ IsAsked c = Unit {0}
 
 cause-idle : (s : SubchannelState) (c : StatusCause) → IsAsked c → IsIdle (row_of s c).shown.activity
 cause-idle s (cause.End b status more) a = end-idle s.scsw b s.waiting status more (is_last_end status)
-cause-idle s (cause.FetchFault tried check count) a = (refl, refl)
-cause-idle s cause.Attention a = (refl, refl)
-cause-idle s cause.NoPath a = (refl, refl)
-cause-idle s cause.InterfaceControlCheck a = (refl, refl)
 cause-idle s (cause.Pci tried count) a = absurd a
-cause-idle s (cause.Suspension tried count) a = (refl, refl)
-cause-idle s cause.ClearDone a = (refl, refl)
-cause-idle s cause.HaltDone a = (refl, refl)
+cause-idle s other a = (refl, refl)
 
 pub cause-activity : (s : SubchannelState) (c : StatusCause) → (with_cause s c).scsw.activity ≡ (row_of s c).shown.activity
 cause-activity s c =
@@ -113,15 +107,8 @@ caused-fits s c a =
     (ap (λ (x : ActivityControl). x.start_pending) (cause-activity s c) ∙ (cause-idle s c a).1)
 
 timely-asked : (H : Type 0) (k : Seen) (c : StatusCause) → IsTimely H k c → IsAsked c
-timely-asked H k (cause.End b status more) t = tt
-timely-asked H k (cause.FetchFault tried check count) t = tt
-timely-asked H k cause.Attention t = tt
-timely-asked H k cause.NoPath t = tt
-timely-asked H k cause.InterfaceControlCheck t = tt
 timely-asked H k (cause.Pci tried count) t = t
-timely-asked H k (cause.Suspension tried count) t = tt
-timely-asked H k cause.ClearDone t = tt
-timely-asked H k cause.HaltDone t = tt
+timely-asked H k other t = tt
 
 pub effect-fits : (H : Type 0) (k : Seen) (n : ℕ) (y : Seen) → Effect H k n y → Fits k → Fits y
 effect-fits H k _ _ Nothing fits = fits
@@ -157,13 +144,11 @@ met-fits returns storage sub path x fits = by (takes-comes returns storage sub.s
 -- choices
 pub chosen-effect : (sub : Subchannel) (choice : Option ℕ) (c : Chosen) → c ≡ chosen sub choice →
     (n : ℕ) × Effect (Held sub.state) (seen (marked_sub sub choice).state) n (seen (state_chosen (marked_sub sub choice).state c))
-chosen-effect sub choice Idle e = (0, Nothing)
-chosen-effect sub choice (Resets r path) e = (0, Nothing)
 chosen-effect sub choice PerformsClear e = (1, causes (Held sub.state) (marked_sub sub choice).state cause.ClearDone (clear-chosen sub choice (sym e)))
 chosen-effect sub choice (Halts t path) e = (0, SendsHalt)
 chosen-effect sub choice PerformsHalt e = (1, causes (Held sub.state) (marked_sub sub choice).state cause.HaltDone tt)
 chosen-effect sub choice FindsNoPath e = (1, causes (Held sub.state) (marked_sub sub choice).state cause.NoPath (λ h. not-held sub.state h (nopath-chosen sub choice (sym e))))
-chosen-effect sub choice (Offers c path) e = (0, Nothing)
+chosen-effect sub choice other e = (0, Nothing)
 
 pub marked-fits : (sub : Subchannel) (choice : Option ℕ) → Fits (seen sub.state) → Fits (seen (marked_sub sub choice).state)
 marked-fits sub choice fits = record { clears = fits.clears; starts = fits.starts }
@@ -178,9 +163,7 @@ alone-clear f e = ap start_alone e
 -- an instruction leaves its effect where its code is 0
 left-fits : (c : ConditionCode) (s effect : SubchannelState) → Fits (seen s) → (c ≡ code.Zero → Fits (seen effect)) → Fits (seen (left_by c s effect))
 left-fits code.Zero s effect fits f = f refl
-left-fits code.One s effect fits f = fits
-left-fits code.Two s effect fits f = fits
-left-fits code.Three s effect fits f = fits
+left-fits c s effect fits f = fits
 
 pub zero-two : (operational one two : Bool) → in_order operational one two ≡ code.Zero → two ≡ false
 zero-two true false false e = refl

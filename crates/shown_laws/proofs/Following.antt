@@ -31,7 +31,7 @@ use Rattle.step_laws.specs.Walks.{sweep_event}
 use Rattle.subchannel_model.specs.declared.cause.StatusCause.{StatusCause}
 use Rattle.subchannel_model.specs.declared.cause.StatusCause.TheVariants as cause
 use Rattle.subchannel_model.specs.declared.state.Chosen.{Chosen}
-use Rattle.subchannel_model.specs.declared.state.Chosen.TheVariants.{Idle, Resets, PerformsClear, Halts, PerformsHalt, FindsNoPath, Offers}
+use Rattle.subchannel_model.specs.declared.state.Chosen.TheVariants.{PerformsClear, PerformsHalt, FindsNoPath}
 use Rattle.subchannel_model.specs.declared.state.Subchannel.{Subchannel}
 use Rattle.subchannel_model.specs.declared.state.SubchannelState.{SubchannelState}
 use Rattle.subchannel_model.specs.Causes.{row_of, scsw_before, with_cause}
@@ -52,7 +52,7 @@ use Rattle.subchannel_model.specs.Ends.{last_shown, work_shown}
 use Rattle.shown_laws.specs.Functions.{IsNoNew, functions_by, active_alone, activity_by, activity_chosen, changes_status, Follows, DoFunctionsFollow}
 use Rattle.shown_laws.specs.Shown.{StoredStatus, names, is_about, is_accepted}
 use Rattle.shown_laws.proofs.Effects.{Seen, seen, of_seen, IsTimely, Effect, Nothing, Causes, Takes, TakesAsking, Moves, MovesAsking, Suspends, SuspendsShowing, SendsHalt, taken_over, moved, still, made-functions, joined-functions}
-use Rattle.shown_laws.proofs.Executed.{IsEffect, reply_of, code_for, state_left}
+use Rattle.step_laws.proofs.Executed.{IsEffect, reply_of, code_for, state_left}
 use Rattle.shown_laws.proofs.Fitting.{Fits, cause-activity, asked-functions, chosen-effect, marked-fits, run-fits}
 use Rattle.shown_laws.proofs.Holding.{Held}
 use Rattle.shown_laws.proofs.Runs.{AreLaws, status_of, run-between}
@@ -61,15 +61,8 @@ use Rattle.shown_laws.proofs.Turned.{Turned, Executes, Chooses, Meets, Sweeps, R
 
 -- functions stay, whatever status is made
 before-functions : (H : Type 0) (k : Seen) (c : StatusCause) → IsTimely H k c → Fits k → (scsw_before k.scsw c).functions ≡ k.scsw.functions
-before-functions H k (cause.End b status more) t fits = refl
-before-functions H k (cause.FetchFault tried check count) t fits = refl
-before-functions H k cause.Attention t fits = refl
-before-functions H k cause.NoPath t fits = refl
-before-functions H k cause.InterfaceControlCheck t fits = refl
-before-functions H k (cause.Pci tried count) t fits = refl
-before-functions H k (cause.Suspension tried count) t fits = refl
 before-functions H k cause.ClearDone t fits = sym (fits.clears t)
-before-functions H k cause.HaltDone t fits = refl
+before-functions H k other t fits = refl
 
 cause-functions : (s : SubchannelState) (c : StatusCause) → (scsw_before s.scsw c).functions ≡ s.scsw.functions → (with_cause s c).scsw.functions ≡ s.scsw.functions
 cause-functions s c e =
@@ -77,16 +70,12 @@ cause-functions s c e =
     ∙ joined-functions s.pmcw.enabled s.scsw (scsw_before s.scsw c) e
 
 effect-functions : (H : Type 0) (k : Seen) (n : ℕ) (y : Seen) → Effect H k n y → Fits k → y.scsw.functions ≡ k.scsw.functions
-effect-functions H k _ _ Nothing fits = refl
 effect-functions H k _ _ (Causes c timely) fits = cause-functions (of_seen k) c (before-functions H k c timely fits)
-effect-functions H k _ _ (Takes program transfer stands none) fits = refl
 effect-functions H k _ _ (TakesAsking program transfer tried count stands none) fits = asked-functions (taken_over k program transfer) tried count
-effect-functions H k _ _ (Moves b transfer e chains) fits = refl
 effect-functions H k _ _ (MovesAsking b transfer tried count e chains) fits = asked-functions (moved k b transfer) tried count
-effect-functions H k _ _ (Suspends program walk count runs) fits = refl
 effect-functions H k _ _ (SuspendsShowing program walk count runs) fits =
     cause-functions (still k program walk count) (cause.Suspension walk.tried count) refl
-effect-functions H k _ _ SendsHalt fits = refl
+effect-functions H k _ _ other fits = refl
 
 -- nothing becomes pending, whatever status is made
 same-new : (a b : ActivityControl) → a ≡ b → IsNoNew b a
@@ -116,14 +105,9 @@ end-new a scsw b w status more false = idle-new a (work_shown scsw b status more
 
 shown-new : (s : SubchannelState) (c : StatusCause) → IsNoNew s.scsw.activity (row_of s c).shown.activity
 shown-new s (cause.End b status more) = end-new s.scsw.activity s.scsw b s.waiting status more (is_last_end status)
-shown-new s (cause.FetchFault tried check count) = idle-new s.scsw.activity no_activity refl refl refl refl
-shown-new s cause.Attention = idle-new s.scsw.activity no_activity refl refl refl refl
-shown-new s cause.NoPath = idle-new s.scsw.activity no_activity refl refl refl refl
-shown-new s cause.InterfaceControlCheck = idle-new s.scsw.activity no_activity refl refl refl refl
 shown-new s (cause.Pci tried count) = same-new s.scsw.activity s.scsw.activity refl
 shown-new s (cause.Suspension tried count) = idle-new s.scsw.activity (record no_activity { suspended = true }) refl refl refl refl
-shown-new s cause.ClearDone = idle-new s.scsw.activity no_activity refl refl refl refl
-shown-new s cause.HaltDone = idle-new s.scsw.activity no_activity refl refl refl refl
+shown-new s other = idle-new s.scsw.activity no_activity refl refl refl refl
 
 cause-new : (s : SubchannelState) (c : StatusCause) → IsNoNew s.scsw.activity (with_cause s c).scsw.activity
 cause-new s c =
@@ -153,12 +137,9 @@ is_zero c = false
 
 plain-accepted : (c : ConditionCode) (x : Serials) → is_accepted (reply.Code (answer_of_code c x)) ≡ is_zero c
 plain-accepted code.Zero x = refl
-plain-accepted code.One x = refl
-plain-accepted code.Two x = refl
-plain-accepted code.Three x = refl
+plain-accepted c x = refl
 
 pub reply-accepted : (i : Instruction) (c : ConditionCode) (before after : SubchannelState) → is_accepted (reply_of i c before after) ≡ is_zero c
-reply-accepted (instruction.Ssch word address) c before after = plain-accepted c after.serials
 reply-accepted (instruction.Tsch word address) code.Zero before after = refl
 reply-accepted (instruction.Tsch word address) code.One before after = refl
 reply-accepted (instruction.Tsch word address) code.Two before after = refl
@@ -167,20 +148,13 @@ reply-accepted (instruction.Stsch word address) code.Zero before after = refl
 reply-accepted (instruction.Stsch word address) code.One before after = refl
 reply-accepted (instruction.Stsch word address) code.Two before after = refl
 reply-accepted (instruction.Stsch word address) code.Three before after = refl
-reply-accepted (instruction.Msch word address) c before after = plain-accepted c after.serials
-reply-accepted (instruction.Enable word subclass multipath) c before after = plain-accepted c after.serials
-reply-accepted (instruction.Rsch word) c before after = plain-accepted c after.serials
-reply-accepted (instruction.Hsch word) c before after = plain-accepted c after.serials
-reply-accepted (instruction.Csch word) c before after = plain-accepted c after.serials
-reply-accepted (instruction.Xsch word) c before after = plain-accepted c after.serials
+reply-accepted i c before after = plain-accepted c after.serials
 
 -- what is so of the effect with code 0 is so of what is left, and nothing changes with another
 pub left-is : {A : Type 0} (f : SubchannelState → A) (c : ConditionCode) (s effect : SubchannelState) (x : A) → (c ≡ code.Zero → f effect ≡ x) →
     f (left_by c s effect) ≡ (if is_zero c then x else f s)
 left-is f code.Zero s effect x e = e refl
-left-is f code.One s effect x e = refl
-left-is f code.Two s effect x e = refl
-left-is f code.Three s effect x e = refl
+left-is f c s effect x e = refl
 
 pub both-is : (a b c : Bool) → a ≡ true → b ≡ c → (a && b) ≡ c
 both-is true b c e f = f
@@ -241,32 +215,21 @@ effect-left (instruction.Tsch word address) sub effect is e =
           ∙ ap (λ (x : Scsw). x.activity) (wholly-scsw s (ends_suspended s.scsw))
           ∙ test-activity s.scsw s.scsw.status.pending (intermediate_alone s.scsw.status) s.scsw.activity.suspended s.scsw.functions.halt pending,
     )
-effect-left (instruction.Stsch word address) sub effect is e = (ap functions is, ap activity is)
 effect-left (instruction.Msch word address) sub effect is e = (ap functions is.1, ap activity is.1)
-effect-left (instruction.Enable word subclass multipath) sub effect is e = (ap functions is, ap activity is)
-effect-left (instruction.Rsch word) sub effect is e = (ap functions is, ap activity is)
 effect-left (instruction.Hsch word) sub effect is e =
     (ap functions is ∙ halted-functions sub.state (drops_status sub.state.scsw), ap activity is ∙ halted-activity sub.state (drops_status sub.state.scsw))
-effect-left (instruction.Csch word) sub effect is e = (ap functions is, ap activity is)
-effect-left (instruction.Xsch word) sub effect is e = (ap functions is, ap activity is)
+effect-left i sub effect is e = (ap functions is, ap activity is)
 
 effect-same : (i : Instruction) (sub : Subchannel) (effect : SubchannelState) → IsEffect i sub effect → changes_status i ≡ false → status_of effect ≡ status_of sub.state
-effect-same (instruction.Ssch word address) sub effect is e = absurd (cc e)
-effect-same (instruction.Tsch word address) sub effect is e = absurd (cc e)
 effect-same (instruction.Stsch word address) sub effect is e = ap status_of is
 effect-same (instruction.Msch word address) sub effect is e = ap status_of is.1
 effect-same (instruction.Enable word subclass multipath) sub effect is e = ap status_of is
-effect-same (instruction.Rsch word) sub effect is e = absurd (cc e)
-effect-same (instruction.Hsch word) sub effect is e = absurd (cc e)
-effect-same (instruction.Csch word) sub effect is e = absurd (cc e)
-effect-same (instruction.Xsch word) sub effect is e = absurd (cc e)
+effect-same i sub effect is e = absurd (cc e)
 
 left-same : (c : ConditionCode) (s effect : SubchannelState) (changes : Bool) → (changes ≡ false → status_of effect ≡ status_of s) → (is_zero c && changes) ≡ false →
     status_of (left_by c s effect) ≡ status_of s
 left-same code.Zero s effect changes f e = f e
-left-same code.One s effect changes f e = refl
-left-same code.Two s effect changes f e = refl
-left-same code.Three s effect changes f e = refl
+left-same c s effect changes f e = refl
 
 if-same : {A : Type 0} (a b : Bool) (x y : A) → a ≡ b → (if a then x else y) ≡ (if b then x else y)
 if-same a b x y e = ap (λ (c : Bool). if c then x else y) e
@@ -301,13 +264,10 @@ module _ (sets : ℕ) (id : SubchannelId) where
       }
 
   chosen-activity : (m : SubchannelState) (c : Chosen) → (state_chosen m c).scsw.activity ≡ activity_chosen (reply_chosen m c) m.scsw.activity
-  chosen-activity m Idle = refl
-  chosen-activity m (Resets r path) = refl
   chosen-activity m PerformsClear = cause-activity m cause.ClearDone
-  chosen-activity m (Halts t path) = refl
   chosen-activity m PerformsHalt = cause-activity m cause.HaltDone
   chosen-activity m FindsNoPath = cause-activity m cause.NoPath
-  chosen-activity m (Offers c path) = refl
+  chosen-activity m other = refl
 
   chosen-follows : (word : ℕ) (sub : Subchannel) (choice : Option ℕ) → names sets id word ≡ true → Fits (seen sub.state) →
       Follows sets id (status_of sub.state) (event.Choose word) (reply_chosen (marked_sub sub choice).state (chosen sub choice))
@@ -375,10 +335,6 @@ module _ (sets : ℕ) (id : SubchannelId) where
   swept-follows sweep.SystemReset r sub fits = record { functions = refl; activity = refl; stays = λ e. absurd (cc e) }
 
   rests-follows : (e : Event) (r : Reply) (k : StoredStatus) → is_about sets id e ≡ false → Follows sets id k e r k
-  rests-follows (event.Put address bytes) r k about = record { functions = refl; activity = same-new k.scsw.activity k.scsw.activity refl; stays = λ e. refl }
-  rests-follows (event.SetKey address key) r k about = record { functions = refl; activity = same-new k.scsw.activity k.scsw.activity refl; stays = λ e. refl }
-  rests-follows (event.SetPrefix cpu address) r k about = record { functions = refl; activity = same-new k.scsw.activity k.scsw.activity refl; stays = λ e. refl }
-  rests-follows (event.Show address count) r k about = record { functions = refl; activity = same-new k.scsw.activity k.scsw.activity refl; stays = λ e. refl }
   rests-follows (event.Execute cpu i) r k about =
       let n : (names sets id (subchannel_word i) && is_accepted r) ≡ false = ap (λ (b : Bool). b && is_accepted r) about in
       record {
@@ -386,18 +342,12 @@ module _ (sets : ℕ) (id : SubchannelId) where
         activity = if-else (names sets id (subchannel_word i) && is_accepted r) (activity_by i k.scsw) k.scsw.activity n;
         stays = λ e. refl;
       }
-  rests-follows (event.ExecuteOther cpu i) r k about = record { functions = refl; activity = same-new k.scsw.activity k.scsw.activity refl; stays = λ e. refl }
   rests-follows (event.Choose word) r k about =
       record { functions = refl; activity = if-else (names sets id word) (activity_chosen r k.scsw.activity) k.scsw.activity about; stays = λ e. refl }
-  rests-follows (event.Up word path) r k about = record { functions = refl; activity = same-new k.scsw.activity k.scsw.activity refl; stays = λ e. refl }
-  rests-follows (event.Down word path) r k about = record { functions = refl; activity = same-new k.scsw.activity k.scsw.activity refl; stays = λ e. refl }
-  rests-follows (event.Report at report) r k about = record { functions = refl; activity = same-new k.scsw.activity k.scsw.activity refl; stays = λ e. refl }
-  rests-follows (event.Act at what) r k about = record { functions = refl; activity = same-new k.scsw.activity k.scsw.activity refl; stays = λ e. refl }
-  rests-follows (event.Restart at) r k about = record { functions = refl; activity = same-new k.scsw.activity k.scsw.activity refl; stays = λ e. refl }
   rests-follows (event.PathDown chpid) r k about = absurd (cc about)
-  rests-follows (event.PathUp chpid) r k about = record { functions = refl; activity = same-new k.scsw.activity k.scsw.activity refl; stays = λ e. refl }
   rests-follows (event.PathReset chpid) r k about = absurd (cc about)
   rests-follows event.SystemReset r k about = absurd (cc about)
+  rests-follows v r k about = record { functions = refl; activity = same-new k.scsw.activity k.scsw.activity refl; stays = λ e. refl }
 
   pub turned-follows : (e : Event) (r : Reply) (sub : Subchannel) (after : SubchannelState) → Fits (seen sub.state) → Turned sets id e r sub after →
       Follows sets id (status_of sub.state) e r (status_of after)

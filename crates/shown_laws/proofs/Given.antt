@@ -25,15 +25,16 @@ use Rattle.machine_model.specs.InstructionSteps.{subchannel_word}
 use Rattle.machine_model.specs.Requests.{reply_code, drops, requests_after, requests_dropped, request_of}
 use Rattle.machine_model.specs.State.{State, sub_of}
 use Rattle.machine_model.specs.Steps.{Step}
-use Rattle.step_laws.proofs.Places.{alone, both-true, first-passes}
+use Rattle.step_laws.proofs.Places.{alone, both-true, first-passes, found-there}
 use Rattle.subchannel_model.specs.declared.state.Subchannel.{Subchannel}
 use Rattle.subchannel_model.specs.declared.state.SubchannelState.{SubchannelState}
 use Rattle.subchannel_model.specs.Places.{Found, found_at, is_named, place_in, place_of_id, sub_at}
 use Rattle.shown_laws.specs.Interruptions.{is_given, shows_status, takes_away, IsAlone}
 use Rattle.shown_laws.specs.Shown.{names, is_accepted}
 use Rattle.shown_laws.proofs.Asking.{asked_by, step-asked}
-use Rattle.shown_laws.proofs.Executed.{IsDone, IsLeft, IsExecuted, reply_of, code_for, state_left, executed}
-use Rattle.shown_laws.proofs.Named.{found-there, same-id}
+use Rattle.step_laws.proofs.Executed.{IsDone, IsLeft, reply_of, code_for, state_left}
+use Rattle.shown_laws.proofs.Executed.{IsExecuted, executed}
+use Rattle.shown_laws.proofs.Named.{same-id}
 use Rattle.shown_laws.proofs.Waiting.{is_for, asks, all-keep, all-own, all-why, dropped-own, dropped-other, dropped-was}
 
 -- what an instruction takes away
@@ -43,21 +44,15 @@ away (instruction.Csch word) r = is_accepted r
 away i r = false
 
 drops-away : (i : Instruction) (c : ConditionCode) (before after : SubchannelState) → drops i (reply_code (reply_of i c before after)) ≡ away i (reply_of i c before after)
-drops-away (instruction.Ssch word address) c before after = refl
 drops-away (instruction.Tsch word address) code.Zero before after = refl
 drops-away (instruction.Tsch word address) code.One before after = refl
 drops-away (instruction.Tsch word address) code.Two before after = refl
 drops-away (instruction.Tsch word address) code.Three before after = refl
-drops-away (instruction.Stsch word address) c before after = refl
-drops-away (instruction.Msch word address) c before after = refl
-drops-away (instruction.Enable word subclass multipath) c before after = refl
-drops-away (instruction.Rsch word) c before after = refl
-drops-away (instruction.Hsch word) c before after = refl
 drops-away (instruction.Csch word) code.Zero before after = refl
 drops-away (instruction.Csch word) code.One before after = refl
 drops-away (instruction.Csch word) code.Two before after = refl
 drops-away (instruction.Csch word) code.Three before after = refl
-drops-away (instruction.Xsch word) c before after = refl
+drops-away i c before after = refl
 
 and-false : (b : Bool) → false ≡ (b && false)
 and-false true = refl
@@ -192,44 +187,26 @@ module _ (s : State) (id : SubchannelId) where
   other-kept Q drop cpu (other.Tpi mask address) r new table not e =
       subst (λ (x : Reply). Q (left (event.ExecuteOther cpu (other.Tpi mask address)) x)) (sym table)
       (given-kept Q drop (requests.answer s.requests mask) (ap (is_given id) (sym table) ∙ not) e)
-  other-kept Q drop cpu (other.Rchp path) r new table not e = e
-  other-kept Q drop cpu (other.Stcrw address) r new table not e = e
-  other-kept Q drop cpu (other.Stcps address) r new table not e = e
+  other-kept Q drop cpu i r new table not e = e
 
   other-taken : (cpu : ℕ) (i : OtherInstruction) (r : Reply) (new : State) → IsByTable s (event.ExecuteOther cpu i) r new → takes_away s.sets id (event.ExecuteOther cpu i) r ≡ true →
       asks id (left (event.ExecuteOther cpu i) r) ≡ false
   other-taken cpu (other.Tpi mask address) r new table takes =
       subst (λ (x : Reply). asks id (left (event.ExecuteOther cpu (other.Tpi mask address)) x) ≡ false) (sym table)
       (given-taken (requests.answer s.requests mask) (ap (is_given id) (sym table) ∙ takes))
-  other-taken cpu (other.Rchp path) r new table takes = absurd (cc takes)
-  other-taken cpu (other.Stcrw address) r new table takes = absurd (cc takes)
-  other-taken cpu (other.Stcps address) r new table takes = absurd (cc takes)
+  other-taken cpu i r new table takes = absurd (cc takes)
 
   other-was : (cpu : ℕ) (i : OtherInstruction) (r : Reply) (new : State) → IsByTable s (event.ExecuteOther cpu i) r new → asks id (left (event.ExecuteOther cpu i) r) ≡ true →
       asks id s.requests ≡ true
   other-was cpu (other.Tpi mask address) r new table e =
       given-was (requests.answer s.requests mask) (subst (λ (x : Reply). asks id (left (event.ExecuteOther cpu (other.Tpi mask address)) x) ≡ true) table e)
-  other-was cpu (other.Rchp path) r new table e = e
-  other-was cpu (other.Stcrw address) r new table e = e
-  other-was cpu (other.Stcps address) r new table e = e
+  other-was cpu i r new table e = e
 
   pub left-kept : (Q : WaitingRequests → Type 0) → IsOtherDropped Q → (e : Event) (r : Reply) (new : State) → Step s e r new → IsByTable s e r new → takes_away s.sets id e r ≡ false → Q s.requests → Q (left e r)
-  left-kept Q drop (event.Put address bytes) r new step table not k = k
-  left-kept Q drop (event.SetKey address key) r new step table not k = k
-  left-kept Q drop (event.SetPrefix cpu address) r new step table not k = k
-  left-kept Q drop (event.Show address count) r new step table not k = k
   left-kept Q drop (event.Execute cpu i) r new step table not k = executed-kept Q drop i r new s.requests (executed s cpu i r new step) (sym (away-names s.sets id cpu i r) ∙ not) k
   left-kept Q drop (event.ExecuteOther cpu i) r new step table not k = other-kept Q drop cpu i r new table not k
-  left-kept Q drop (event.Choose word) r new step table not k = k
-  left-kept Q drop (event.Up word path) r new step table not k = k
-  left-kept Q drop (event.Down word path) r new step table not k = k
-  left-kept Q drop (event.Report at report) r new step table not k = k
-  left-kept Q drop (event.Act at what) r new step table not k = k
-  left-kept Q drop (event.Restart at) r new step table not k = k
-  left-kept Q drop (event.PathDown chpid) r new step table not k = k
-  left-kept Q drop (event.PathUp chpid) r new step table not k = k
-  left-kept Q drop (event.PathReset chpid) r new step table not k = k
   left-kept Q drop event.SystemReset r new step table not k = absurd (cc not)
+  left-kept Q drop e r new step table not k = k
 
   -- what stays where any are dropped
   abbrev pub IsAnyDropped : (WaitingRequests → Type 0) → Type 0
@@ -251,66 +228,28 @@ module _ (s : State) (id : SubchannelId) where
       Q (left (event.ExecuteOther cpu i) r)
   other-any Q drop cpu (other.Tpi mask address) r new table e =
       subst (λ (x : Reply). Q (left (event.ExecuteOther cpu (other.Tpi mask address)) x)) (sym table) (given-any Q drop (requests.answer s.requests mask) e)
-  other-any Q drop cpu (other.Rchp path) r new table e = e
-  other-any Q drop cpu (other.Stcrw address) r new table e = e
-  other-any Q drop cpu (other.Stcps address) r new table e = e
+  other-any Q drop cpu i r new table e = e
 
   pub left-any : (Q : WaitingRequests → Type 0) → IsAnyDropped Q → Q (requests.no_requests_wait s.requests.numbers) → (e : Event) (r : Reply) (new : State) → IsByTable s e r new → Q s.requests →
       Q (left e r)
-  left-any Q drop none (event.Put address bytes) r new table k = k
-  left-any Q drop none (event.SetKey address key) r new table k = k
-  left-any Q drop none (event.SetPrefix cpu address) r new table k = k
-  left-any Q drop none (event.Show address count) r new table k = k
   left-any Q drop none (event.Execute cpu i) r new table k = after-any Q drop s.requests i r (sub_of s (subchannel_word i)) k
   left-any Q drop none (event.ExecuteOther cpu i) r new table k = other-any Q drop cpu i r new table k
-  left-any Q drop none (event.Choose word) r new table k = k
-  left-any Q drop none (event.Up word path) r new table k = k
-  left-any Q drop none (event.Down word path) r new table k = k
-  left-any Q drop none (event.Report at report) r new table k = k
-  left-any Q drop none (event.Act at what) r new table k = k
-  left-any Q drop none (event.Restart at) r new table k = k
-  left-any Q drop none (event.PathDown chpid) r new table k = k
-  left-any Q drop none (event.PathUp chpid) r new table k = k
-  left-any Q drop none (event.PathReset chpid) r new table k = k
   left-any Q drop none event.SystemReset r new table k = none
+  left-any Q drop none e r new table k = k
 
   left-was : (e : Event) (r : Reply) (new : State) → IsByTable s e r new → asks id (left e r) ≡ true → asks id s.requests ≡ true
-  left-was (event.Put address bytes) r new table k = k
-  left-was (event.SetKey address key) r new table k = k
-  left-was (event.SetPrefix cpu address) r new table k = k
-  left-was (event.Show address count) r new table k = k
   left-was (event.Execute cpu i) r new table k = after-was s.requests i r (sub_of s (subchannel_word i)) k
   left-was (event.ExecuteOther cpu i) r new table k = other-was cpu i r new table k
-  left-was (event.Choose word) r new table k = k
-  left-was (event.Up word path) r new table k = k
-  left-was (event.Down word path) r new table k = k
-  left-was (event.Report at report) r new table k = k
-  left-was (event.Act at what) r new table k = k
-  left-was (event.Restart at) r new table k = k
-  left-was (event.PathDown chpid) r new table k = k
-  left-was (event.PathUp chpid) r new table k = k
-  left-was (event.PathReset chpid) r new table k = k
   left-was event.SystemReset r new table k = absurd (cc k)
+  left-was e r new table k = k
 
   left-taken : (e : Event) (r : Reply) (new : State) (place : ℕ) (sub : Subchannel) → place_in id s.subs ≡ Some place → slice_get s.subs place ≡ Some sub → Step s e r new → IsByTable s e r new →
       takes_away s.sets id e r ≡ true → asks id (left e r) ≡ false
-  left-taken (event.Put address bytes) r new place sub mine there step table takes = absurd (cc takes)
-  left-taken (event.SetKey address key) r new place sub mine there step table takes = absurd (cc takes)
-  left-taken (event.SetPrefix cpu address) r new place sub mine there step table takes = absurd (cc takes)
-  left-taken (event.Show address count) r new place sub mine there step table takes = absurd (cc takes)
   left-taken (event.Execute cpu i) r new place sub mine there step table takes =
       executed-taken i r new s.requests place sub mine there (executed s cpu i r new step) (sym (away-names s.sets id cpu i r) ∙ takes)
   left-taken (event.ExecuteOther cpu i) r new place sub mine there step table takes = other-taken cpu i r new table takes
-  left-taken (event.Choose word) r new place sub mine there step table takes = absurd (cc takes)
-  left-taken (event.Up word path) r new place sub mine there step table takes = absurd (cc takes)
-  left-taken (event.Down word path) r new place sub mine there step table takes = absurd (cc takes)
-  left-taken (event.Report at report) r new place sub mine there step table takes = absurd (cc takes)
-  left-taken (event.Act at what) r new place sub mine there step table takes = absurd (cc takes)
-  left-taken (event.Restart at) r new place sub mine there step table takes = absurd (cc takes)
-  left-taken (event.PathDown chpid) r new place sub mine there step table takes = absurd (cc takes)
-  left-taken (event.PathUp chpid) r new place sub mine there step table takes = absurd (cc takes)
-  left-taken (event.PathReset chpid) r new place sub mine there step table takes = absurd (cc takes)
   left-taken event.SystemReset r new place sub mine there step table takes = refl
+  left-taken e r new place sub mine there step table takes = absurd (cc takes)
 
   -- a step that takes nothing away leaves a request where one stood, or where a status was made
   pub step-keeps : (e : Event) (r : Reply) (new : State) (place : ℕ) (sub after : Subchannel) → Step s e r new → IsByTable s e r new →

@@ -32,7 +32,7 @@ use Rattle.seen_laws.proofs.Returning.{IsAvailable, up-available, first-returns}
 use Rattle.shown_laws.specs.Halts.{IsFirstDown, IsHaltDone, IsHaltDoneFor, IsHaltRight, AreHaltsDone}
 use Rattle.shown_laws.specs.Shown.{StoredStatus, is_about}
 use Rattle.shown_laws.proofs.Runs.{AreLaws, status_of, run-between}
-use Rattle.shown_laws.proofs.Turned.{Turned, IsAwayChoice, Executes, Chooses, Meets, Sweeps, Rests, reply_chosen}
+use Rattle.shown_laws.proofs.Turned.{Turned, IsAwayChoice, Chooses, Sweeps, Rests, reply_chosen}
 
 -- the number of a Reset that is due, by the phase
 abbrev unsent_at : HoldPhase → Option ℕ → Option ℕ
@@ -82,13 +82,11 @@ module _ (is_up : ℕ → Bool) (k : SubSeen) (m : SubchannelState) (clear : Boo
       by None false = inr refl
 
   done-at : (phase : HoldPhase) (sent : Option ℕ) → IsDown phase → Done (link_at phase sent) phase sent
-  done-at hold.Free sent down = refl
   done-at (hold.Offer t p) sent down = offer-done t p sent
-  done-at (hold.On t p c) sent down = refl
   done-at (hold.Away t) sent down = away-done t sent down
-  done-at (hold.Letting t p) sent down = refl
   done-at (hold.Reset r) None down = reset-done r
   done-at (hold.Reset r) (Some path) down = refl
+  done-at other sent down = refl
 
   done-for : (phase : HoldPhase) (sent : Option ℕ) → Stands k phase sent → IsDown phase →
       IsHaltDoneFor is_up (reply_chosen m (chosen_at phase (unsent_at phase sent) clear found reachable choice)) k
@@ -102,13 +100,9 @@ module _ (is_up : ℕ → Bool) (k : SubSeen) (m : SubchannelState) (clear : Boo
       )
 
 same-unsent : (phase : HoldPhase) (sent : Option ℕ) → (elim phase [ hold.Reset r ↦ elim sent [ None ↦ Some r | Some path ↦ None ] | other ↦ None ]) ≡ unsent_at phase sent
-same-unsent hold.Free sent = refl
-same-unsent (hold.Offer t p) sent = refl
-same-unsent (hold.On t p c) sent = refl
-same-unsent (hold.Away t) sent = refl
-same-unsent (hold.Letting t p) sent = refl
 same-unsent (hold.Reset r) None = refl
 same-unsent (hold.Reset r) (Some path) = refl
+same-unsent other sent = refl
 
 first-down : (is_up : ℕ → Bool) (k : SubSeen) (sub : Subchannel) (choice : Option ℕ) → IsTied is_up k sub → IsChoice (return_paths sub) choice → choice ≡ None → IsFirstDown is_up k
 first-down is_up k sub choice tie is none path first up =
@@ -139,35 +133,17 @@ module _ (setup : Setup) (id : SubchannelId) (before : List Entry) where
   was = seen_through (set_count setup) (nothing_seen setup) before
 
   rests-right : (e : Event) (r : Reply) (old : StoredStatus) → is_about (set_count setup) id e ≡ false → IsHaltRight setup id before old e r
-  rests-right (event.Put address bytes) r old about = tt
-  rests-right (event.SetKey address key) r old about = tt
-  rests-right (event.SetPrefix cpu address) r old about = tt
-  rests-right (event.Show address count) r old about = tt
-  rests-right (event.Execute cpu i) r old about = tt
-  rests-right (event.ExecuteOther cpu i) r old about = tt
   rests-right (event.Choose word) r old about = λ mine. absurd (cc (sym mine ∙ about))
-  rests-right (event.Up word path) r old about = tt
-  rests-right (event.Down word path) r old about = tt
-  rests-right (event.Report at report) r old about = tt
-  rests-right (event.Act at what) r old about = tt
-  rests-right (event.Restart at) r old about = tt
-  rests-right (event.PathDown chpid) r old about = tt
-  rests-right (event.PathUp chpid) r old about = tt
-  rests-right (event.PathReset chpid) r old about = tt
-  rests-right event.SystemReset r old about = tt
+  rests-right e r old about = tt
 
   turned-right : (e : Event) (r : Reply) (sub : Subchannel) (after : SubchannelState) →
       ((P : SubSeen → Type 0) → ((k : SubSeen) → IsTied was.up k sub → P k) → OfSub P (first_seen id was.subs)) →
       Turned (set_count setup) id e r sub after → IsHaltRight setup id before (status_of sub.state) e r
-  turned-right _ _ _ _ seen (Executes cpu i sub effect named is) = tt
   turned-right _ _ _ _ seen (Chooses word sub choice named away) = λ mine pending.
       seen (λ k. IsHaltDoneFor was.up (reply_chosen (marked_sub sub choice).state (chosen sub choice)) k) (λ k tie. halt-done was.up k sub choice tie away pending)
-  turned-right _ _ _ _ seen (Meets word path returns storage sub x named) = tt
   turned-right _ _ _ _ seen (Sweeps (sweep.GoesDown chpid) r sub) = tt
-  turned-right _ _ _ _ seen (Sweeps (sweep.ComesUp chpid) r sub) = tt
-  turned-right _ _ _ _ seen (Sweeps (sweep.PathReset chpid) r sub) = tt
-  turned-right _ _ _ _ seen (Sweeps sweep.SystemReset r sub) = tt
   turned-right _ _ _ _ seen (Rests e r sub about) = rests-right e r (status_of sub.state) about
+  turned-right _ _ _ _ seen other = tt
 
 pub run-halts : AreLaws → AreOnePath → (setup : Setup) (h : List Entry) (s : State) → IsLawful setup → Run (opening_of setup) h s → AreHaltsDone setup h
 run-halts laws paths setup h s lawful run id =

@@ -53,7 +53,7 @@ use Rattle.subchannel_model.specs.Taking.{Met, meets, ignoring, quietly, let_go,
 use Rattle.chan_model.specs.Signals.{load_bytes}
 use Rattle.subchannel_model.specs.Test.{tested, ends_suspended}
 use Rattle.shown_laws.proofs.Chosen.{why-chosen, IsWhy}
-use Rattle.shown_laws.proofs.Executed.{IsEffect, code_for}
+use Rattle.step_laws.proofs.Executed.{IsEffect, code_for}
 use Rattle.shown_laws.proofs.Turned.{Turned, Executes, Chooses, Meets, Sweeps, Rests, state_chosen}
 
 abbrev pub Held : SubchannelState → Type 0
@@ -108,13 +108,10 @@ begun-held s b h e = h (ap (λ (o : Option ActiveProgram). is_some o) e)
 cause-held : (s : SubchannelState) (c : StatusCause) → IsEndOf s c → Held s → Held (with_cause s c)
 cause-held s (cause.End b status more) m h = after_end-held s b (is_last_end status) (begun-held s b h m)
 cause-held s (cause.FetchFault tried check count) m h = without_begun-held s s.begun h
-cause-held s cause.Attention m h = h
 cause-held s cause.NoPath m h = without_waiting-held s s.waiting h
 cause-held s cause.InterfaceControlCheck m h = λ e. absurd (cc e)
-cause-held s (cause.Pci tried count) m h = h
-cause-held s (cause.Suspension tried count) m h = h
-cause-held s cause.ClearDone m h = h
 cause-held s cause.HaltDone m h = λ e. absurd (cc e)
+cause-held s other m h = h
 
 interrupted-held : (s : SubchannelState) (b : Option ActiveProgram) → is_held s.hold.phase ≡ true → Held (interrupted s b)
 interrupted-held s None h = λ e. h
@@ -168,12 +165,8 @@ accepted-held storage s h t q u may false none = none-held (with_hold s h (hold.
 
 accept-held : (returns : Bool) (storage : Contents) (s : SubchannelState) (h : HoldState) (phase : HoldPhase) (p u : ℕ) → Held (with_hold s h phase) →
     Held (takes_up returns storage (with_hold s h phase) p (up.Accept u)).step.state
-accept-held returns storage s h hold.Free p u k = k
 accept-held returns storage s h (hold.Offer t q) p u k = accepted-held storage s h t q u (goes_ahead s) (u == t) (not-held (with_hold s h (hold.Offer t q)) k refl)
-accept-held returns storage s h (hold.On t q c) p u k = k
-accept-held returns storage s h (hold.Away t) p u k = k
-accept-held returns storage s h (hold.Letting t q) p u k = k
-accept-held returns storage s h (hold.Reset r) p u k = k
+accept-held returns storage s h other p u k = k
 
 -- Data
 moving-held : (s : SubchannelState) (b : ActiveProgram) (t : Transfer) → is_held s.hold.phase ≡ true → Held (moving_on s b t)
@@ -254,21 +247,13 @@ lost-held s p h = if-held (rests_on s.hold p) (reset_for s) s (reset_for-held s 
 -- signals that the hold alone takes
 busy-held : (s : SubchannelState) (h : HoldState) (phase : HoldPhase) (p u : ℕ) → Held (with_hold s h phase) →
     Held (record s { hold = hold_after (record h { phase = phase }) (hold_takes (record h { phase = phase }) p (up.Busy u) false) })
-busy-held s h hold.Free p u k = k
 busy-held s h (hold.Offer t q) p u k = λ e. absurd (none-some s.begun (not-held (with_hold s h (hold.Offer t q)) k refl) e)
-busy-held s h (hold.On t q c) p u k = k
-busy-held s h (hold.Away t) p u k = k
-busy-held s h (hold.Letting t q) p u k = k
-busy-held s h (hold.Reset r) p u k = k
+busy-held s h other p u k = k
 
 released-held : (s : SubchannelState) (h : HoldState) (phase : HoldPhase) (p u : ℕ) → Held (with_hold s h phase) →
     Held (record s { hold = hold_after (record h { phase = phase }) (hold_takes (record h { phase = phase }) p (up.Released u) false) })
-released-held s h hold.Free p u k = k
-released-held s h (hold.Offer t q) p u k = k
-released-held s h (hold.On t q c) p u k = k
-released-held s h (hold.Away t) p u k = k
 released-held s h (hold.Letting t q) p u k = λ e. absurd (none-some s.begun (not-held (with_hold s h (hold.Letting t q)) k refl) e)
-released-held s h (hold.Reset r) p u k = k
+released-held s h other p u k = k
 
 leave-held : (s : SubchannelState) (h : HoldState) (phase : HoldPhase) (p u d : ℕ) → Held (with_hold s h phase) →
     Held (record s { hold = hold_after (record h { phase = phase }) (hold_takes (record h { phase = phase }) p (up.Leave u d) false) })
@@ -329,11 +314,7 @@ attend-held : (s : SubchannelState) (h : HoldState) (phase : HoldPhase) (p a : �
     Held (with_hold s h phase) → Held (attend (with_hold s h phase) status (hold_takes (record h { phase = phase }) p (up.Attn a status) may)).state
 attend-held s h hold.Free p a status true k = if-held (true && not (status.0 == 0x20)) (with_cause (with_hold s h hold.Free) cause.Attention) (with_hold s h hold.Free) k k
 attend-held s h hold.Free p a status false k = k
-attend-held s h (hold.Offer t q) p a status may k = k
-attend-held s h (hold.On t q c) p a status may k = k
-attend-held s h (hold.Away t) p a status may k = k
-attend-held s h (hold.Letting t q) p a status may k = k
-attend-held s h (hold.Reset r) p a status may k = k
+attend-held s h other p a status may k = k
 
 takes-held : (returns : Bool) (storage : Contents) (s : SubchannelState) (p : ℕ) (x : Up) → Held s → Held (takes_up returns storage s p x).step.state
 takes-held returns storage s p (up.Accept t) h = accept-held returns storage s s.hold s.hold.phase p t h
@@ -358,30 +339,21 @@ effect-held : (i : Instruction) (sub : Subchannel) (effect : SubchannelState) �
 effect-held (instruction.Ssch word address) sub effect is h = subst Held (sym is.1) h
 effect-held (instruction.Tsch word address) sub effect is h =
     subst Held (sym is) (if-held (ends_suspended sub.state.scsw) (without_programs (tested sub.state)) (tested sub.state) (λ e. absurd (cc e)) h)
-effect-held (instruction.Stsch word address) sub effect is h = subst Held (sym is) h
 effect-held (instruction.Msch word address) sub effect is h = subst Held (sym is.1) h
-effect-held (instruction.Enable word subclass multipath) sub effect is h = subst Held (sym is) h
-effect-held (instruction.Rsch word) sub effect is h = subst Held (sym is) h
 effect-held (instruction.Hsch word) sub effect is h =
     subst Held (sym is) (if-held (drops_status sub.state.scsw) (status_dropped (halt_begun sub.state)) (halt_begun sub.state) h h)
 effect-held (instruction.Csch word) sub effect is h = subst Held (sym is) (λ e. absurd (cc e))
-effect-held (instruction.Xsch word) sub effect is h = subst Held (sym is) h
+effect-held i sub effect is h = subst Held (sym is) h
 
 left-held : (c : ConditionCode) (s effect : SubchannelState) → Held s → Held effect → Held (left_by c s effect)
 left-held code.Zero s effect h k = k
-left-held code.One s effect h k = h
-left-held code.Two s effect h k = h
-left-held code.Three s effect h k = h
+left-held c s effect h k = h
 
 -- choices
 reset-sent-held : (s : SubchannelState) (h : HoldState) (phase : HoldPhase) (path : ℕ) → Held (with_hold s h phase) →
     Held (record s { hold = hold_after (record h { phase = phase }) (sending_reset (record h { phase = phase }) phase path); last_path = Some path })
 reset-sent-held s h hold.Free path k = k
-reset-sent-held s h (hold.Offer t q) path k = k
-reset-sent-held s h (hold.On t q c) path k = k
-reset-sent-held s h (hold.Away t) path k = k
-reset-sent-held s h (hold.Letting t q) path k = k
-reset-sent-held s h (hold.Reset r) path k = k
+reset-sent-held s h other path k = k
 
 chosen-held : (sub : Subchannel) (choice : Option ℕ) (c : Chosen) → IsWhy sub.state c → Held sub.state → Held (state_chosen (marked_sub sub choice).state c)
 chosen-held sub choice Idle why h = h

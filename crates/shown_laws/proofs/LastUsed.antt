@@ -32,7 +32,7 @@ use Rattle.subchannel_model.specs.Programs.{without_programs}
 use Rattle.subchannel_model.specs.Test.{ends_suspended, tested}
 use Rattle.shown_laws.specs.Paths.{used_met, used_after, used_through, used_in, ShowsLastUsed}
 use Rattle.shown_laws.specs.Shown.{names, is_about, is_accepted}
-use Rattle.shown_laws.proofs.Executed.{IsEffect, reply_of, code_for, state_left}
+use Rattle.step_laws.proofs.Executed.{IsEffect, reply_of, code_for, state_left}
 use Rattle.shown_laws.proofs.Runs.{AreLaws, IsPassed, passed, passed-next, sets-stay, run-keeps}
 use Rattle.shown_laws.proofs.Turned.{Turned, Executes, Chooses, Meets, Sweeps, Rests}
 use Rattle.shown_laws.proofs.Using.{IsSame, if-same, loses-same, shows-same, chosen-same, takes-uses}
@@ -41,9 +41,7 @@ use Rattle.shown_laws.proofs.WordRuns.{HasMasks, steps-shown}
 -- instructions
 left-same : (c : ConditionCode) (s effect : SubchannelState) → IsSame s effect → IsSame s (left_by c s effect)
 left-same code.Zero s effect e = e
-left-same code.One s effect e = refl
-left-same code.Two s effect e = refl
-left-same code.Three s effect e = refl
+left-same c s effect e = refl
 
 resumed-same : (s : SubchannelState) (b : Bool) → (if b then found_operational s.pmcw else s.pmcw).last_used ≡ s.pmcw.last_used
 resumed-same s true = refl
@@ -60,9 +58,7 @@ module _ (sets : ℕ) (id : SubchannelId) where
       used (left_by c s effect) ≡ (if mine && is_accepted (reply.Code (answer_of_code c (left_by c s effect).serials)) then None else used s)
   cleared-uses cpu word false c s effect n e = absurd (cc n)
   cleared-uses cpu word true code.Zero s effect n e = e
-  cleared-uses cpu word true code.One s effect n e = refl
-  cleared-uses cpu word true code.Two s effect n e = refl
-  cleared-uses cpu word true code.Three s effect n e = refl
+  cleared-uses cpu word true c s effect n e = refl
 
   executed-uses : (cpu : ℕ) (i : Instruction) (sub : Subchannel) (effect : SubchannelState) → names sets id (subchannel_word i) ≡ true → IsEffect i sub effect →
       Uses (event.Execute cpu i) (reply_of i (code_for i sub) sub.state (state_left i sub effect)) sub.state (state_left i sub effect)
@@ -93,30 +89,10 @@ module _ (sets : ℕ) (id : SubchannelId) where
   not-both false c k e = refl
 
   rests-uses : (e : Event) (r : Reply) (s : SubchannelState) → is_about sets id e ≡ false → Uses e r s s
-  rests-uses (event.Put address bytes) r s about = refl
-  rests-uses (event.SetKey address key) r s about = refl
-  rests-uses (event.SetPrefix cpu address) r s about = refl
-  rests-uses (event.Show address count) r s about = refl
-  rests-uses (event.Execute cpu (instruction.Ssch word address)) r s about = refl
-  rests-uses (event.Execute cpu (instruction.Tsch word address)) r s about = refl
-  rests-uses (event.Execute cpu (instruction.Stsch word address)) r s about = refl
-  rests-uses (event.Execute cpu (instruction.Msch word address)) r s about = refl
-  rests-uses (event.Execute cpu (instruction.Enable word subclass multipath)) r s about = refl
-  rests-uses (event.Execute cpu (instruction.Rsch word)) r s about = refl
-  rests-uses (event.Execute cpu (instruction.Hsch word)) r s about = refl
   rests-uses (event.Execute cpu (instruction.Csch word)) r s about = not-both (names sets id word) (is_accepted r) (used s) about
-  rests-uses (event.Execute cpu (instruction.Xsch word)) r s about = refl
-  rests-uses (event.ExecuteOther cpu i) r s about = refl
-  rests-uses (event.Choose word) r s about = refl
   rests-uses (event.Up word path) r s about = not-mine (names sets id word) (used_met r (used s)) (used s) about
-  rests-uses (event.Down word path) r s about = refl
-  rests-uses (event.Report at report) r s about = refl
-  rests-uses (event.Act at what) r s about = refl
-  rests-uses (event.Restart at) r s about = refl
-  rests-uses (event.PathDown chpid) r s about = refl
-  rests-uses (event.PathUp chpid) r s about = refl
-  rests-uses (event.PathReset chpid) r s about = refl
   rests-uses event.SystemReset r s about = absurd (cc about)
+  rests-uses e r s about = refl
 
   swept-uses : (what : Sweep) (r : Reply) (sub : Subchannel) → Uses (sweep_event what) r sub.state (swept what sub).state
   swept-uses (sweep.GoesDown chpid) r sub =

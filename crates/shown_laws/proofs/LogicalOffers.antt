@@ -20,7 +20,7 @@ use Rattle.path_select.specs.Choice.{IsChoice}
 use Rattle.machine_laws.proofs.Offering.{IsOffer, chosen-offer, offer-usable}
 use Rattle.machine_laws.proofs.PathSets.{both-parts, without-parts, each-true, each-within}
 use Rattle.subchannel_model.specs.declared.state.Chosen.{Chosen}
-use Rattle.subchannel_model.specs.declared.state.Chosen.TheVariants.{Idle, Resets, PerformsClear, Halts, PerformsHalt, FindsNoPath, Offers}
+use Rattle.subchannel_model.specs.declared.state.Chosen.TheVariants.{Resets, Halts, Offers}
 use Rattle.subchannel_model.specs.declared.state.Subchannel.{Subchannel}
 use Rattle.subchannel_model.specs.Choosing.{chosen, engaged_paths, marked_sub, path_use, paths_to_choose}
 use Rattle.subchannel_model.specs.Places.{place_in, place_of_id, sub_at}
@@ -64,16 +64,12 @@ OkLogical s word r = IfOk r (λ t. IsLogical s (event.Choose word) t.reply)
 
 choose-logical : (s : State) (word : ℕ) (sub : Subchannel) (choice : Option ℕ) (c : Chosen) → sub_of s word ≡ Some sub →
     IsChoice (paths_to_choose s.subs sub) choice → Suits c sub.state → IsOffer choice c → OkLogical s word (choose_sub (marked_sub sub choice) c)
-choose-logical s word sub choice Idle at x f o = tt
 choose-logical s word sub choice (Resets r path) at x f o =
     if-ok (λ (t : SubTurn). IsLogical s (event.Choose word) t.reply)
     (finds_full sub.wires.down (carried_by sub (Some (record { path = path; signal = down.Reset r sub.state.hold.known })))) _ _ tt tt
-choose-logical s word sub choice PerformsClear at x f o = tt
 choose-logical s word sub choice (Halts t path) at x f o =
     if-ok (λ (t : SubTurn). IsLogical s (event.Choose word) t.reply)
     (finds_full sub.wires.down (carried_by sub (Some (record { path = path; signal = down.Halt t })))) _ _ tt tt
-choose-logical s word sub choice PerformsHalt at x f o = tt
-choose-logical s word sub choice FindsNoPath at x f o = tt
 choose-logical s word sub choice (Offers c path) at x f o =
     if-ok (λ (t : SubTurn). IsLogical s (event.Choose word) t.reply)
     (finds_full sub.wires.down (carried_by sub (Some (record { path = path; signal = down.Select (sub.state.drawn + 1) })))) _ _ tt
@@ -82,40 +78,22 @@ choose-logical s word sub choice (Offers c path) at x f o =
     let usable = offer-usable s.subs sub choice path x f.fits o in
     subst (λ (y : Subchannel). (is_member y.state.pmcw.logical path ≡ true) × (path < 8)) same
     (reach-logical sub path (without-parts (reachable_paths (path_use sub)) (engaged_paths s.subs sub) path usable).0))
+choose-logical s word sub choice other at x f o = tt
 
 quiet-logical : (s : State) (e : Event) (r : Reply) → IsQuiet e r → IsLogical s e r
-quiet-logical s (event.Put address bytes) r q = tt
-quiet-logical s (event.SetKey address key) r q = tt
-quiet-logical s (event.SetPrefix cpu address) r q = tt
-quiet-logical s (event.Show address count) r q = tt
-quiet-logical s (event.Execute cpu i) r q = tt
-quiet-logical s (event.ExecuteOther cpu i) r q = tt
 quiet-logical s (event.Choose word) r q = absurd q
-quiet-logical s (event.Up word path) r q = tt
-quiet-logical s (event.Down word path) r q = tt
-quiet-logical s (event.Report at report) r q = tt
-quiet-logical s (event.Act at what) r q = tt
-quiet-logical s (event.Restart at) r q = tt
-quiet-logical s (event.PathDown chpid) r q = tt
-quiet-logical s (event.PathUp chpid) r q = tt
-quiet-logical s (event.PathReset chpid) r q = tt
-quiet-logical s event.SystemReset r q = tt
+quiet-logical s e r q = tt
 
 walked-logical : (s : State) (e : Event) (r : Reply) (new : State) → Walked s e r new → IsLogical s e r
 walked-logical s _ _ _ (walked.Stays e r new q sets subs units up) = quiet-logical s e r q
-walked-logical s _ _ _ (walked.Started cpu word address place sub orb c new n one) = tt
 walked-logical s _ _ _ (walked.Tested e r place sub c new q one address by answers) = quiet-logical s e r q
 walked-logical s _ _ _ (walked.Modified e r place sub given c new q one) = quiet-logical s e r q
 walked-logical s _ _ _ (walked.Performed e r place sub f c new q one by answers) = quiet-logical s e r q
 walked-logical s _ _ _ (walked.Chosen word place sub choice t new n x w h one) =
     subst (OkLogical s word) h
     (choose-logical s word sub choice (chosen sub choice) (ap (λ (o : Option ℕ). sub_at s.subs o) n ∙ one.there) x w (chosen-offer sub choice))
-walked-logical s _ _ _ (walked.Met word path returns place sub t new n h one may) = tt
-walked-logical s _ _ _ (walked.Sunk word path may owed place sub u t new n h one) = tt
-walked-logical s _ _ _ (walked.Reported at place sub u report t new n k h one) = tt
-walked-logical s _ _ _ (walked.Acted at place sub u what t new side its h one) = tt
-walked-logical s _ _ _ (walked.Restarted at owed u r new found sets subs units up) = tt
 walked-logical s _ _ _ (walked.Swept e r what new q sets subs units by) = quiet-logical s e r q
+walked-logical s _ _ _ w = tt
 
 -- by the mask that is shown
 named-found : (subs : List Subchannel) (x : Option SubchannelId) (id : SubchannelId) → is_id x id ≡ true → place_of_id subs x ≡ place_in id subs
@@ -124,45 +102,18 @@ named-found subs (Some named) id e = ap (λ (y : SubchannelId). place_in y subs)
 
 module _ (sets : ℕ) (id : SubchannelId) (word : ℕ) (sub : Subchannel) (masks : field_of word 0 7 ≡ mask_of_paths sub.state.pmcw.logical) where
   offer-shown : (s : State) (named : ℕ) (r : Reply) → sub_of s named ≡ Some sub → IsLogical s (event.Choose named) r → IsOfferLogical word r
-  offer-shown s named reply.Done at k = tt
-  offer-shown s named (reply.Shown bytes) at k = tt
-  offer-shown s named (reply.Code a) at k = tt
-  offer-shown s named (reply.Status a scsw) at k = tt
-  offer-shown s named (reply.Interruption found) at k = tt
-  offer-shown s named (reply.PathReset c) at k = tt
-  offer-shown s named (reply.ChannelReport report) at k = tt
-  offer-shown s named (reply.Paths engaged) at k = tt
   offer-shown s named (reply.Offered t path z) at k =
       let in_set = k sub at in
       subst (λ (mask : ℕ). has_path mask path ≡ true) (sym masks) (member-masked sub.state.pmcw.logical path in_set.1 in_set.0)
-  offer-shown s named (reply.ResetSent n p) at k = tt
-  offer-shown s named (reply.HaltSent t p) at k = tt
-  offer-shown s named reply.Pending at k = tt
-  offer-shown s named reply.Idle at k = tt
-  offer-shown s named (reply.Up x taken one) at k = tt
-  offer-shown s named (reply.Down x taken one) at k = tt
+  offer-shown s named r at k = tt
 
   entry-shown : (s : State) (place : ℕ) (e : Event) (r : Reply) → s.sets ≡ sets → place_in id s.subs ≡ Some place → slice_get s.subs place ≡ Some sub → IsLogical s e r →
       IsEntryLogical sets id word e r
-  entry-shown s place (event.Put address bytes) r n mine there k = tt
-  entry-shown s place (event.SetKey address key) r n mine there k = tt
-  entry-shown s place (event.SetPrefix cpu address) r n mine there k = tt
-  entry-shown s place (event.Show address count) r n mine there k = tt
-  entry-shown s place (event.Execute cpu i) r n mine there k = tt
-  entry-shown s place (event.ExecuteOther cpu i) r n mine there k = tt
   entry-shown s place (event.Choose named) r n mine there k = λ is.
       let at : place_of s named ≡ Some place =
       named-found s.subs (subchannel_named s.sets named) id (subst (λ (m : ℕ). names m id named ≡ true) (sym n) is) ∙ mine in
       offer-shown s named r (ap (λ (o : Option ℕ). sub_at s.subs o) at ∙ there) k
-  entry-shown s place (event.Up word path) r n mine there k = tt
-  entry-shown s place (event.Down word path) r n mine there k = tt
-  entry-shown s place (event.Report at report) r n mine there k = tt
-  entry-shown s place (event.Act at what) r n mine there k = tt
-  entry-shown s place (event.Restart at) r n mine there k = tt
-  entry-shown s place (event.PathDown chpid) r n mine there k = tt
-  entry-shown s place (event.PathUp chpid) r n mine there k = tt
-  entry-shown s place (event.PathReset chpid) r n mine there k = tt
-  entry-shown s place event.SystemReset r n mine there k = tt
+  entry-shown s place e r n mine there k = tt
 
 pub run-logical : AreLaws → (setup : Setup) (h : List Entry) (s : State) → Run (opening_of setup) h s → AreOffersLogical (set_count setup) h
 run-logical laws setup h s run id before after a b c d word eq shown =

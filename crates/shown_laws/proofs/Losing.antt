@@ -57,13 +57,9 @@ there-where-shown s fits tells e = by s.scsw.activity.start_pending refl e
 
 -- where the hold has the program, and where it is seen
 program-at : (phase : HoldPhase) (sent : Option ℕ) → is_program (link_at phase sent) ≡ is_offered_or_held phase
-program-at hold.Free sent = refl
-program-at (hold.Offer t p) sent = refl
-program-at (hold.On t p c) sent = refl
-program-at (hold.Away t) sent = refl
-program-at (hold.Letting t p) sent = refl
 program-at (hold.Reset r) None = refl
 program-at (hold.Reset r) (Some path) = refl
+program-at other sent = refl
 
 seen-there : (k : SubSeen) (phase : HoldPhase) (sent : Option ℕ) → Stands k phase sent → is_offered_or_held phase ≡ true → is_program k.link ≡ true
 seen-there k phase sent (inl e) h = ap is_program e ∙ program-at phase sent ∙ h

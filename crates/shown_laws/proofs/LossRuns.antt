@@ -118,22 +118,10 @@ up-rests (reply.Up (up.Attn a status) taken sent) word path k known = tt
 up-rests (reply.Down x taken sent) word path k known = tt
 
 rests-shown : (e : Event) (r : Reply) (k : StoredStatus) (known : Option Bool) → IsLossShown known k e r k
-rests-shown (event.Put address bytes) r k known = tt
-rests-shown (event.SetKey address key) r k known = tt
-rests-shown (event.SetPrefix cpu address) r k known = tt
-rests-shown (event.Show address count) r k known = tt
-rests-shown (event.Execute cpu i) r k known = tt
-rests-shown (event.ExecuteOther cpu i) r k known = tt
-rests-shown (event.Choose word) r k known = tt
 rests-shown (event.Up word path) r k known = up-rests r word path k known
-rests-shown (event.Down word path) r k known = tt
-rests-shown (event.Report at report) r k known = tt
-rests-shown (event.Act at what) r k known = tt
-rests-shown (event.Restart at) r k known = tt
 rests-shown (event.PathDown chpid) r k known = λ e same. refl
-rests-shown (event.PathUp chpid) r k known = tt
 rests-shown (event.PathReset chpid) r k known = λ e same. refl
-rests-shown event.SystemReset r k known = tt
+rests-shown e r k known = tt
 
 turned-shown : (sets : ℕ) (id : SubchannelId) (e : Event) (r : Reply) (sub : Subchannel) (after : SubchannelState) (known : Option Bool) → MayBe known sub.state.pmcw.enabled → Turned sets id e r sub after →
     IsLossShown known (status_of sub.state) e r (status_of after)

@@ -1,9 +1,8 @@
 -- TEST PENDING INTERRUPTION gives a request of the lowest subclass that is enabled.
-use Rattle.std.proofs.Common.{◌≡◌, refl, sym, ◌∙◌, ap, subst, ℕ, ◌≤◌, ◌==◌, ◌&&◌, ◌||◌, not, nat_lt, Bool, true, false, Some, Result, Ok, Err, List, [], ◌∷◌, ◌++◌, inl, inr, arith}
-use Rattle.std.specs.Prelude.{slice_get, cond, if◌then◌else◌, IfOk}
+use Rattle.std.proofs.Common.{◌≡◌, refl, sym, ◌∙◌, ap, subst, ℕ, ◌≤◌, ◌==◌, ◌&&◌, ◌||◌, not, nat_lt, Bool, true, false, Some, List, [], ◌∷◌, ◌++◌, inl, inr, arith}
+use Rattle.std.specs.Prelude.{slice_get, cond, if◌then◌else◌}
 use Rattle.std.specs.List.{filter, list_any}
 use Rattle.std.proofs.lemmas.Bool.{eqb-true, eq-eqb, and_parts, le-ltb}
-use Rattle.storage_keys.specs.declared.StorageFault.{StorageFault}
 use Rattle.scsw_irb.specs.declared.code.IntCode.{IntCode}
 use Rattle.chan_events.specs.Events.{Event}
 use Rattle.chan_events.specs.declared.event.Event.TheVariants as event
@@ -13,12 +12,9 @@ use Rattle.chan_events.specs.Replies.{Reply}
 use Rattle.chan_events.specs.declared.reply.Reply.TheVariants as reply
 use Rattle.channel_config.specs.Setup.{Setup}
 use Rattle.interruptions.specs.Requests.{WaitingRequests, is_of, is_enabled, lowest, answer, posted, request_dropped}
-use Rattle.machine_model.proofs.Named.{requests_settled}
-use Rattle.machine_model.specs.OtherSteps.{code_check}
-use Rattle.machine_model.specs.Requests.{request_of, posted_all, settled}
+use Rattle.machine_model.specs.Requests.{request_of, posted_all}
 use Rattle.machine_model.specs.State.{State, opening_of}
 use Rattle.machine_model.specs.Steps.{Run, Step}
-use Rattle.machine_model.specs.Turns.{Turn, Outcome, does, where_tested}
 use Rattle.step_laws.proofs.Places.{both-true}
 use Rattle.subchannel_model.specs.declared.state.Subchannel.{Subchannel}
 use Rattle.shown_laws.specs.Interruptions.{IsTested, IsLowestFirst}
@@ -26,6 +22,8 @@ use Rattle.shown_laws.proofs.Asking.{step-asked}
 use Rattle.shown_laws.proofs.RequestRuns.{AreTables, tested-answer}
 use Rattle.shown_laws.proofs.Runs.{IsPassed, passed, passed-next}
 use Rattle.shown_laws.proofs.Waiting.{or-left, or-right, or-parts, given-asked, filter-less}
+use Rattle.step_laws.proofs.Turns as turn
+use Rattle.step_laws.proofs.Turns.{TurnOf, HasTurn, step-turn}
 
 pub head-passes : (test : IntCode → Bool) (xs : List IntCode) (code : IntCode) → slice_get (filter test xs) 0 ≡ Some code → test code ≡ true
 head-passes test [] code e = absurd (cc e)
@@ -97,20 +95,13 @@ posted-still (x ∷ xs) w =
     ap (posted_all xs xs) (ap (λ (b : Bool). if b then posted w (request_of x) else w) (not-below x.state.serials.made)) ∙ posted-still xs w
 
 module _ (s : State) where
-  tested-subs : (q : Result (Unit {0}) StorageFault) (r : Reply) (x : State) → x.subs ≡ s.subs → IfOk (where_tested q (does r x)) (λ t. t.state.subs ≡ s.subs)
-  tested-subs (Ok u) r x e = e
-  tested-subs (Err f) r x e = tt
-
-  outcome-subs : (e : Event) (r : Reply) (new : State) (o : Outcome) → IfOk o (λ t. t.state.subs ≡ s.subs) → does r new ≡ settled s e o → new.subs ≡ s.subs
-  outcome-subs e r new (Ok t) k m =
-      let same : record { reply = r; state = new } ≡ record t { state = record t.state { requests = requests_settled s e t } } = cc m in
-      ap (λ (x : Turn). x.state.subs) same ∙ k
-  outcome-subs e r new (Err f) k m = absurd (cc m)
+  turn-subs : (cpu mask address : ℕ) (r : Reply) (new : State) → TurnOf s (event.ExecuteOther cpu (other.Tpi mask address)) r new → new.subs ≡ s.subs
+  turn-subs _ _ _ _ _ (turn.Interrupts cpu mask address) = refl
 
   tpi-subs : (cpu mask address : ℕ) (r : Reply) (new : State) → Step s (event.ExecuteOther cpu (other.Tpi mask address)) r new → new.subs ≡ s.subs
-  tpi-subs cpu mask address r new (o, w, m) =
-      outcome-subs (event.ExecuteOther cpu (other.Tpi mask address)) r new o
-      (subst (λ (x : Outcome). IfOk x (λ t. t.state.subs ≡ s.subs)) (sym w) (tested-subs (code_check s.storage cpu address) _ _ refl)) m
+  tpi-subs cpu mask address r new step =
+      let is : HasTurn s (event.ExecuteOther cpu (other.Tpi mask address)) r new = step-turn s (event.ExecuteOther cpu (other.Tpi mask address)) r new step in
+      ap (λ (x : State). x.subs) is.settles ∙ turn-subs cpu mask address r is.left is.turn
 
   tpi-left : (cpu mask address : ℕ) (code : IntCode) (new : State) → Step s (event.ExecuteOther cpu (other.Tpi mask address)) (reply.Interruption (Some code)) new →
       new.requests ≡ request_dropped s.requests code.set code.subchannel

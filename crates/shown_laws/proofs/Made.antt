@@ -50,7 +50,7 @@ use Rattle.shown_laws.specs.Shown.{StoredStatus, names, is_about, is_accepted}
 use Rattle.shown_laws.proofs.Counted.{IsCounted, none-made, none-counted, cause-counted, effect-counted}
 use Rattle.shown_laws.proofs.Effects.{Seen, seen, effect-one}
 use Rattle.shown_laws.proofs.Enabling.{run-enabled}
-use Rattle.shown_laws.proofs.Executed.{IsEffect, reply_of, code_for, state_left}
+use Rattle.step_laws.proofs.Executed.{IsEffect, reply_of, code_for, state_left}
 use Rattle.shown_laws.proofs.Following.{is_zero, reply-accepted, left-is, both-is}
 use Rattle.shown_laws.proofs.Holding.{Held}
 use Rattle.shown_laws.proofs.Runs.{AreLaws, status_of, run-between}
@@ -83,13 +83,9 @@ halted-is f s false x e g = g
 effect-made : (i : Instruction) (sub : Subchannel) (effect : SubchannelState) → IsEffect i sub effect → made effect ≡ made sub.state
 effect-made (instruction.Ssch word address) sub effect is = ap made is.1
 effect-made (instruction.Tsch word address) sub effect is = ap made is ∙ wholly-is made sub.state (ends_suspended sub.state.scsw) (made sub.state) refl refl
-effect-made (instruction.Stsch word address) sub effect is = ap made is
 effect-made (instruction.Msch word address) sub effect is = ap made is.1
-effect-made (instruction.Enable word subclass multipath) sub effect is = ap made is
-effect-made (instruction.Rsch word) sub effect is = ap made is
 effect-made (instruction.Hsch word) sub effect is = ap made is ∙ halted-is made sub.state (drops_status sub.state.scsw) (made sub.state) refl refl
-effect-made (instruction.Csch word) sub effect is = ap made is
-effect-made (instruction.Xsch word) sub effect is = ap made is
+effect-made i sub effect is = ap made is
 
 -- HALT with code 0 finds no status or intermediate status alone
 zero-not : (operational one two : Bool) → in_order operational one two ≡ code.Zero → one ≡ false
@@ -114,18 +110,14 @@ effect-cleared : (i : Instruction) (sub : Subchannel) (effect : SubchannelState)
     cleared effect ≡ (if clears_by i sub.state.scsw then made sub.state else cleared sub.state)
 effect-cleared (instruction.Ssch word address) sub effect is e = ap cleared is.1
 effect-cleared (instruction.Tsch word address) sub effect is e = ap cleared is ∙ wholly-is cleared sub.state (ends_suspended sub.state.scsw) (made sub.state) refl refl
-effect-cleared (instruction.Stsch word address) sub effect is e = ap cleared is
 effect-cleared (instruction.Msch word address) sub effect is e = ap cleared is.1
-effect-cleared (instruction.Enable word subclass multipath) sub effect is e = ap cleared is
-effect-cleared (instruction.Rsch word) sub effect is e = ap cleared is
 effect-cleared (instruction.Hsch word) sub effect is e =
     let s : SubchannelState = sub.state in
     let st : StatusControl = s.scsw.status in
     ap cleared is ∙ halted-cleared s (drops_status s.scsw)
     ∙ ap (λ (b : Bool). if b then made s else cleared s)
     (drops-active st.pending st.intermediate st.alert st.primary st.secondary s.scsw.activity.subchannel_active (zero-not _ (shows_end st) _ e))
-effect-cleared (instruction.Csch word) sub effect is e = ap cleared is
-effect-cleared (instruction.Xsch word) sub effect is e = ap cleared is
+effect-cleared i sub effect is e = ap cleared is
 
 test-beside : (scsw : Scsw) (pending alone suspended halt : Bool) →
     beside (if not pending then scsw else (if alone then (if not suspended then without_status scsw else (if halt then ended_scsw scsw else suspended_scsw scsw)) else ended_scsw scsw))
@@ -143,26 +135,19 @@ effect-beside (instruction.Tsch word address) sub effect is e =
     let t : beside (tested_scsw s.scsw) ≡ beside s.scsw =
     test-beside s.scsw s.scsw.status.pending (intermediate_alone s.scsw.status) s.scsw.activity.suspended s.scsw.functions.halt in
     ap shown_beside is ∙ wholly-is shown_beside s (ends_suspended s.scsw) (shown_beside s) t t
-effect-beside (instruction.Stsch word address) sub effect is e = ap shown_beside is
 effect-beside (instruction.Msch word address) sub effect is e = ap shown_beside is.1
-effect-beside (instruction.Enable word subclass multipath) sub effect is e = ap shown_beside is
-effect-beside (instruction.Rsch word) sub effect is e = ap shown_beside is
 effect-beside (instruction.Hsch word) sub effect is e = ap shown_beside is ∙ halted-is shown_beside sub.state (drops_status sub.state.scsw) (shown_beside sub.state) refl refl
 effect-beside (instruction.Csch word) sub effect is e = absurd (cc e)
-effect-beside (instruction.Xsch word) sub effect is e = ap shown_beside is
+effect-beside i sub effect is e = ap shown_beside is
 
 left-keeps : {A : Type 0} (f : SubchannelState → A) (c : ConditionCode) (s effect : SubchannelState) → f effect ≡ f s → f (left_by c s effect) ≡ f s
 left-keeps f code.Zero s effect e = e
-left-keeps f code.One s effect e = refl
-left-keeps f code.Two s effect e = refl
-left-keeps f code.Three s effect e = refl
+left-keeps f c s effect e = refl
 
 left-stays : {A : Type 0} (f : SubchannelState → A) (c : ConditionCode) (s effect : SubchannelState) (changes : Bool) → (changes ≡ false → f effect ≡ f s) →
     (is_zero c && changes) ≡ false → f (left_by c s effect) ≡ f s
 left-stays f code.Zero s effect changes g e = g e
-left-stays f code.One s effect changes g e = refl
-left-stays f code.Two s effect changes g e = refl
-left-stays f code.Three s effect changes g e = refl
+left-stays f c s effect changes g e = refl
 
 if-both : {A : Type 0} (a b : Bool) (x y : A) → (if a then (if b then x else y) else y) ≡ (if a && b then x else y)
 if-both true b x y = refl
@@ -390,22 +375,9 @@ module _ (sets : ℕ) (id : SubchannelId) (known : Option Bool) where
   }
     where
       not-clears : (e : Event) → is_about sets id e ≡ false → clears_all sets id sub.state.scsw e r ≡ false
-      not-clears (event.Put address bytes) a = refl
-      not-clears (event.SetKey address key) a = refl
-      not-clears (event.SetPrefix cpu address) a = refl
-      not-clears (event.Show address count) a = refl
       not-clears (event.Execute cpu i) a = ap (λ (b : Bool). b && (is_accepted r && clears_by i sub.state.scsw)) a
-      not-clears (event.ExecuteOther cpu i) a = refl
-      not-clears (event.Choose word) a = refl
-      not-clears (event.Up word path) a = refl
-      not-clears (event.Down word path) a = refl
-      not-clears (event.Report at report) a = refl
-      not-clears (event.Act at what) a = refl
-      not-clears (event.Restart at) a = refl
-      not-clears (event.PathDown chpid) a = refl
-      not-clears (event.PathUp chpid) a = refl
-      not-clears (event.PathReset chpid) a = refl
       not-clears event.SystemReset a = absurd (cc a)
+      not-clears e a = refl
 
   pub turned-made : (e : Event) (r : Reply) (sub : Subchannel) (after : SubchannelState) → MayBe known sub.state.pmcw.enabled → Stands (seen sub.state) → Turned sets id e r sub after → Makes sub e r after
   turned-made _ _ _ _ may works (Executes cpu i sub effect named is) = executed-made cpu i sub effect named is may

@@ -5,21 +5,8 @@ use Rattle.std.proofs.lemmas.Bool.{eqb-true, eq-eqb, and_parts}
 use Rattle.channel_config.specs.declared.names.SubchannelId.{SubchannelId}
 use Rattle.machine_laws.specs.Claims.{is_id}
 use Rattle.step_laws.proofs.Places.{both-true, first-passes}
-use Rattle.subchannel_model.proofs.Named.{found_with}
 use Rattle.subchannel_model.specs.declared.state.Subchannel.{Subchannel}
-use Rattle.subchannel_model.specs.Places.{Found, found_at, is_named, place_in, place_of_id}
-
--- the subchannel that was found stands at its place
-found_with-there : (place : ℕ) (o : Option Subchannel) (f : Found) → found_with place o ≡ Some f → (place ≡ f.place) × (o ≡ Some f.sub)
-found_with-there place None f e = absurd (cc e)
-found_with-there place (Some sub) f e =
-    let same : record { place = place; sub = sub } ≡ f = cc e in (ap (λ (x : Found). x.place) same, ap (λ (x : Found). Some x.sub) same)
-
-pub found-there : (subs : List Subchannel) (p : Option ℕ) (f : Found) → found_at subs p ≡ Some f → (p ≡ Some f.place) × (slice_get subs f.place ≡ Some f.sub)
-found-there subs None f e = absurd (cc e)
-found-there subs (Some place) f e =
-    let there : (place ≡ f.place) × (slice_get subs place ≡ Some f.sub) = found_with-there place (slice_get subs place) f e in
-    (ap (λ (k : ℕ). Some k) there.0, subst (λ (k : ℕ). slice_get subs k ≡ Some f.sub) there.0 there.1)
+use Rattle.subchannel_model.specs.Places.{is_named, place_in, place_of_id}
 
 -- the subchannel that a word names
 abbrev is_same : SubchannelId → SubchannelId → Bool

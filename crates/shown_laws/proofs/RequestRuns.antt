@@ -92,22 +92,11 @@ made-rises sets id old e r new k = by k.enabled k.made
     by false h = omega (arith, h)
 
 none-due : (sets : ℕ) (id : SubchannelId) (old : StoredStatus) (e : Event) (r : Reply) (new : StoredStatus) (n : ℕ) → takes_away sets id e r ≡ true → IsDue old e r new n → n ≡ 0
-none-due sets id old (event.Put address bytes) r new n t d = d
-none-due sets id old (event.SetKey address key) r new n t d = d
-none-due sets id old (event.SetPrefix cpu address) r new n t d = d
-none-due sets id old (event.Show address count) r new n t d = d
-none-due sets id old (event.Execute cpu i) r new n t d = d
-none-due sets id old (event.ExecuteOther cpu i) r new n t d = d
 none-due sets id old (event.Choose word) r new n t d = absurd (cc t)
 none-due sets id old (event.Up word path) r new n t d = absurd (cc t)
-none-due sets id old (event.Down word path) r new n t d = d
-none-due sets id old (event.Report at report) r new n t d = d
-none-due sets id old (event.Act at what) r new n t d = d
-none-due sets id old (event.Restart at) r new n t d = d
 none-due sets id old (event.PathDown chpid) r new n t d = absurd (cc t)
-none-due sets id old (event.PathUp chpid) r new n t d = d
 none-due sets id old (event.PathReset chpid) r new n t d = absurd (cc t)
-none-due sets id old event.SystemReset r new n t d = d
+none-due sets id old e r new n t d = d
 
 made-same : (sets : ℕ) (id : SubchannelId) (old : StoredStatus) (e : Event) (r : Reply) (new : StoredStatus) → takes_away sets id e r ≡ true → IsMade sets id None old e r new →
     new.serials.made ≤ old.serials.made
@@ -133,7 +122,7 @@ module _ (laws : AreLaws) (tables : AreTables) (setup : Setup) (id : SubchannelI
       place_in id s.subs ≡ Some place → slice_get new.subs place ≡ Some after → Move place s e r new after
   moves h s e r new place after run step mine is =
       let was : (x : Subchannel) × (slice_get s.subs place ≡ Some x) = placed (is_named id) s.subs place mine in
-      let turned : Turned s.sets id e r was.0 after.state = step-turns s id place was.0 mine was.1 e r new (laws.walks s e r new step) step after is in
+      let turned : Turned s.sets id e r was.0 after.state = step-turns s id place was.0 mine was.1 e r new step after is in
       record {
         sub = was.0;
         there = was.1;

@@ -19,12 +19,13 @@ use Rattle.subchannel_model.proofs.Named.{one_later}
 use Rattle.subchannel_model.specs.declared.state.Subchannel.{Subchannel}
 use Rattle.subchannel_model.specs.declared.state.SubchannelState.{SubchannelState}
 use Rattle.subchannel_model.specs.Places.{Found, found_at, first_place, is_named, place_in}
-use Rattle.step_laws.proofs.Places.{map-get}
+use Rattle.step_laws.proofs.Places.{map-get, found-there}
 use Rattle.step_laws.specs.Walks.{AreWalks}
 use Rattle.subchannel_model.specs.Opening.{opening_subchannel, opened}
 use Rattle.shown_laws.specs.Shown.{StoredStatus, names, stored_in, stored_by, Between}
-use Rattle.shown_laws.proofs.Executed.{IsDone, IsExecuted, executed, set-same}
-use Rattle.shown_laws.proofs.Named.{found-there, same-id}
+use Rattle.step_laws.proofs.Executed.{IsDone, set-same}
+use Rattle.shown_laws.proofs.Executed.{IsExecuted, executed}
+use Rattle.shown_laws.proofs.Named.{same-id}
 use Rattle.shown_laws.proofs.Turned.{Turned, step-turns}
 
 -- what is shown of a subchannel
@@ -126,7 +127,7 @@ run-keeps laws setup id P opens keeps _ _ (Stepped h old e r new run step) place
     let at : place_in id old.subs ≡ Some place = sym (place-stays id old.subs new.subs (laws.setups old e r new step)) ∙ named in
     let was : (x : Subchannel) × (slice_get old.subs place ≡ Some x) = placed (is_named id) old.subs place at in
     let turned : Turned old.sets id e r was.0 sub.state =
-    step-turns old id place was.0 at was.1 e r new (laws.walks old e r new step) step sub there in
+    step-turns old id place was.0 at was.1 e r new step sub there in
     keeps h e r was.0 sub.state (run-keeps laws setup id P opens keeps h old run place was.0 at was.1)
     (subst (λ (n : ℕ). Turned n id e r was.0 sub.state) (sets-stay laws setup h old run) turned)
 
@@ -166,34 +167,13 @@ module _ (id : SubchannelId) (s new : State) (shown : StoredStatus) where
 
   instruction-stored : (cpu : ℕ) (i : Instruction) (r : Reply) → Step s (event.Execute cpu i) r new → stored_by s.sets id (event.Execute cpu i) r ≡ Some shown →
       IsStored id s new shown
-  instruction-stored cpu (instruction.Ssch word address) r step e = absurd (cc e)
-  instruction-stored cpu (instruction.Tsch word address) r step e = absurd (cc e)
   instruction-stored cpu (instruction.Stsch word address) r step e =
       if-stored cpu word address r (names s.sets id word) refl (executed s cpu (instruction.Stsch word address) r new step) e
-  instruction-stored cpu (instruction.Msch word address) r step e = absurd (cc e)
-  instruction-stored cpu (instruction.Enable word subclass multipath) r step e = absurd (cc e)
-  instruction-stored cpu (instruction.Rsch word) r step e = absurd (cc e)
-  instruction-stored cpu (instruction.Hsch word) r step e = absurd (cc e)
-  instruction-stored cpu (instruction.Csch word) r step e = absurd (cc e)
-  instruction-stored cpu (instruction.Xsch word) r step e = absurd (cc e)
+  instruction-stored cpu i r step e = absurd (cc e)
 
   pub step-stored : (e : Event) (r : Reply) → Step s e r new → stored_by s.sets id e r ≡ Some shown → IsStored id s new shown
-  step-stored (event.Put address bytes) r step e = absurd (cc e)
-  step-stored (event.SetKey address key) r step e = absurd (cc e)
-  step-stored (event.SetPrefix cpu address) r step e = absurd (cc e)
-  step-stored (event.Show address count) r step e = absurd (cc e)
   step-stored (event.Execute cpu i) r step e = instruction-stored cpu i r step e
-  step-stored (event.ExecuteOther cpu i) r step e = absurd (cc e)
-  step-stored (event.Choose word) r step e = absurd (cc e)
-  step-stored (event.Up word path) r step e = absurd (cc e)
-  step-stored (event.Down word path) r step e = absurd (cc e)
-  step-stored (event.Report at report) r step e = absurd (cc e)
-  step-stored (event.Act at what) r step e = absurd (cc e)
-  step-stored (event.Restart at) r step e = absurd (cc e)
-  step-stored (event.PathDown chpid) r step e = absurd (cc e)
-  step-stored (event.PathUp chpid) r step e = absurd (cc e)
-  step-stored (event.PathReset chpid) r step e = absurd (cc e)
-  step-stored event.SystemReset r step e = absurd (cc e)
+  step-stored v r step e = absurd (cc e)
 
 -- what is so of each step of a run, of the subchannel of a name, is so between what is shown of it
 abbrev pub IsOfSteps : (setup : Setup) → SubchannelId → (List Entry → StoredStatus → Event → Reply → StoredStatus → Type 0) → Type 0
@@ -226,7 +206,7 @@ run-between laws setup id Claim is h s run before after a b c old new eq shows-a
     (sym left.named ∙ place-stays id second.was.subs second.is.subs (laws.setups second.was b.event b.reply second.is second.step) ∙ named) in
     let after-there : slice_get second.is.subs was.place ≡ Some left.sub = ap (λ (n : ℕ). slice_get second.is.subs n) (sym same) ∙ left.there in
     let turned : Turned second.was.sets id b.event b.reply was.sub left.sub.state =
-    step-turns second.was id was.place was.sub named there b.event b.reply second.is (laws.walks second.was b.event b.reply second.is second.step) second.step left.sub after-there in
+    step-turns second.was id was.place was.sub named there b.event b.reply second.is second.step left.sub after-there in
     shown-so Claim (before ++ a ∷ []) old (status_of was.sub.state) new (status_of left.sub.state) b.event b.reply was.shows left.shows
     (is (before ++ a ∷ []) second.was b.event b.reply was.place was.sub left.sub.state second.run named there
     (subst (λ (n : ℕ). Turned n id b.event b.reply was.sub left.sub.state) (sets-stay laws setup _ second.was second.run) turned))

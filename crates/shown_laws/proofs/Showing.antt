@@ -41,7 +41,7 @@ use Rattle.subchannel_model.specs.Programs.{without_programs}
 use Rattle.subchannel_model.specs.Status.{intermediate_alone, without_status}
 use Rattle.subchannel_model.specs.Test.{tested, ended_scsw, suspended_scsw, tested_wholly}
 use Rattle.shown_laws.proofs.Effects.{Seen, seen, of_seen, IsTimely, Effect, Nothing, Causes, Takes, TakesAsking, Moves, MovesAsking, Suspends, SuspendsShowing, SendsHalt, taken_over, moved, still}
-use Rattle.shown_laws.proofs.Executed.{IsEffect, code_for}
+use Rattle.step_laws.proofs.Executed.{IsEffect, code_for}
 use Rattle.shown_laws.proofs.Fitting.{cause-activity, chosen-effect}
 use Rattle.shown_laws.proofs.Holding.{Held, turned-held}
 use Rattle.shown_laws.proofs.Runs.{AreLaws, run-keeps}
@@ -108,14 +108,9 @@ caused-shows H s (cause.End b status more) timely =
       suspended = λ e. absurd (cc (sym e ∙ (ap (λ (x : ActivityControl). x.suspended) a ∙ q.0)));
       zero = λ e. absurd (cc (sym e ∙ (ap (λ (x : ActivityControl). x.clear_pending) a ∙ q.1)));
     }
-caused-shows H s (cause.FetchFault tried check count) timely = quiet-shows s (cause.FetchFault tried check count) refl (refl, refl)
-caused-shows H s cause.Attention timely = quiet-shows s cause.Attention refl (refl, refl)
-caused-shows H s cause.NoPath timely = quiet-shows s cause.NoPath refl (refl, refl)
-caused-shows H s cause.InterfaceControlCheck timely = quiet-shows s cause.InterfaceControlCheck refl (refl, refl)
 caused-shows H s (cause.Pci tried count) timely = absurd timely
 caused-shows H s (cause.Suspension tried count) timely = absurd timely
-caused-shows H s cause.ClearDone timely = quiet-shows s cause.ClearDone refl (refl, refl)
-caused-shows H s cause.HaltDone timely = quiet-shows s cause.HaltDone refl (refl, refl)
+caused-shows H s other timely = quiet-shows s other refl (refl, refl)
 
 -- an interruption by the program leaves the activity, and comes with no clear pending
 asked-shows : (x : SubchannelState) (tried count : ℕ) → (x.scsw.activity.clear_pending ≡ true → ⊥) → Shows (seen x) → Shows (seen (with_cause x (cause.Pci tried count)))
@@ -194,22 +189,18 @@ effect-left (instruction.Tsch word address) sub effect is t p = subst (λ (x : S
 effect-left (instruction.Stsch word address) sub effect is t p = subst (λ (x : SubchannelState). Shows (seen x)) (sym is) p
 effect-left (instruction.Msch word address) sub effect is t p =
     subst (λ (x : SubchannelState). Shows (seen x)) (sym is.1) (record { device = p.device; suspended = p.suspended; zero = p.zero })
-effect-left (instruction.Enable word subclass multipath) sub effect is t p =
-    subst (λ (x : SubchannelState). Shows (seen x)) (sym is) (record { device = p.device; suspended = p.suspended; zero = p.zero })
-effect-left (instruction.Rsch word) sub effect is t p =
-    subst (λ (x : SubchannelState). Shows (seen x)) (sym is) (record { device = p.device; suspended = p.suspended; zero = p.zero })
 effect-left (instruction.Hsch word) sub effect is t p = subst (λ (x : SubchannelState). Shows (seen x)) (sym is) (halt-shows sub.state t p (drops_status sub.state.scsw))
 effect-left (instruction.Csch word) sub effect is t p =
     subst (λ (x : SubchannelState). Shows (seen x)) (sym is)
     (record { device = λ e. absurd (cc e); suspended = λ e. absurd (cc e); zero = λ e. (refl, refl) })
 effect-left (instruction.Xsch word) sub effect is t p =
     subst (λ (x : SubchannelState). Shows (seen x)) (sym is) (record { device = p.device; suspended = λ e. absurd (cc e); zero = p.zero })
+effect-left i sub effect is t p =
+    subst (λ (x : SubchannelState). Shows (seen x)) (sym is) (record { device = p.device; suspended = p.suspended; zero = p.zero })
 
 left-shows : (c : ConditionCode) (s effect : SubchannelState) → Shows (seen s) → Shows (seen effect) → Shows (seen (left_by c s effect))
 left-shows code.Zero s effect p e = e
-left-shows code.One s effect p e = p
-left-shows code.Two s effect p e = p
-left-shows code.Three s effect p e = p
+left-shows c s effect p e = p
 
 -- signals, choices and lost paths
 met-shows : (returns : Bool) (storage : Contents) (sub : Subchannel) (path : ℕ) (x : Up) → Stands (seen sub.state) → Shows (seen sub.state) →

@@ -170,15 +170,11 @@ module _ (storage : Contents) where
 
   accept-comes : (H : Type 0) (returns : Bool) (s : SubchannelState) (h : HoldState) (phase : HoldPhase) (p u : ℕ) → (H → Held (with_hold s h phase)) →
       Comes H (seen s) (up.Accept u) (takes_up returns storage (with_hold s h phase) p (up.Accept u)).step
-  accept-comes H returns s h hold.Free p u k = Ignored refl refl
   accept-comes H returns s h (hold.Offer t q) p u k =
       begun-comes H s h t q u (goes_ahead s) (u == t)
       (λ e. let both = and_parts (is_some (standing s)) (not s.scsw.activity.halt_pending) e in (both.0, not-true s.scsw.activity.halt_pending both.1))
       (λ x. not-held (with_hold s h (hold.Offer t q)) (k x) refl)
-  accept-comes H returns s h (hold.On t q c) p u k = Ignored refl refl
-  accept-comes H returns s h (hold.Away t) p u k = Ignored refl refl
-  accept-comes H returns s h (hold.Letting t q) p u k = Ignored refl refl
-  accept-comes H returns s h (hold.Reset r) p u k = Ignored refl refl
+  accept-comes H returns s h other p u k = Ignored refl refl
 
   -- Data
   giving-comes : (H : Type 0) (s : SubchannelState) (x : Up) (b : ActiveProgram) (signal : DataSignal) (t : Transfer) (sent : Option (OnPath Down)) → s.begun ≡ Some b →
@@ -319,11 +315,7 @@ attend-comes : (H : Type 0) (s : SubchannelState) (h : HoldState) (phase : HoldP
 attend-comes H s h hold.Free p a status true e =
     attended-comes H s (record s { hold = record h { phase = hold.Free } }) a status _ (status.0 == 0x20) refl e refl
 attend-comes H s h hold.Free p a status false e = Ignored refl refl
-attend-comes H s h (hold.Offer t q) p a status may e = Ignored refl refl
-attend-comes H s h (hold.On t q c) p a status may e = Ignored refl refl
-attend-comes H s h (hold.Away t) p a status may e = Ignored refl refl
-attend-comes H s h (hold.Letting t q) p a status may e = Ignored refl refl
-attend-comes H s h (hold.Reset n) p a status may e = Ignored refl refl
+attend-comes H s h other p a status may e = Ignored refl refl
 
 -- a signal that came up
 pub takes-comes : (returns : Bool) (storage : Contents) (s : SubchannelState) (p : ℕ) (x : Up) → Comes (Held s) (seen s) x (takes_up returns storage s p x).step

@@ -44,7 +44,7 @@ use Rattle.subchannel_model.specs.Cancel.{cancelled, waits}
 use Rattle.subchannel_model.specs.Status.{intermediate_alone, without_status}
 use Rattle.subchannel_model.specs.Test.{tested, ended_scsw, suspended_scsw, tested_wholly}
 use Rattle.shown_laws.proofs.Effects.{Seen, seen}
-use Rattle.shown_laws.proofs.Executed.{IsEffect, code_for}
+use Rattle.step_laws.proofs.Executed.{IsEffect, code_for}
 use Rattle.shown_laws.proofs.Fitting.{chosen-effect, zero-two}
 use Rattle.shown_laws.proofs.Holding.{Held, turned-held}
 use Rattle.shown_laws.proofs.Runs.{AreLaws, run-keeps}
@@ -186,9 +186,7 @@ effect-left (instruction.Xsch word) sub effect is t e =
 
 left-stands : (c : ConditionCode) (s effect : SubchannelState) → Stands (seen s) → (c ≡ code.Zero → Stands (seen effect)) → Stands (seen (left_by c s effect))
 left-stands code.Zero s effect t f = f refl
-left-stands code.One s effect t f = t
-left-stands code.Two s effect t f = t
-left-stands code.Three s effect t f = t
+left-stands c s effect t f = t
 
 -- signals, choices and lost paths
 met-stands : (returns : Bool) (storage : Contents) (sub : Subchannel) (path : ℕ) (x : Up) → Held sub.state → Stands (seen sub.state) →

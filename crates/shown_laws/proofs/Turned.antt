@@ -1,58 +1,44 @@
 -- What one step does to one subchannel: an instruction, a choice, a signal that comes up, what befalls each subchannel, or nothing.
-use Rattle.std.proofs.Common.{◌≡◌, refl, sym, ◌∙◌, ap, subst, ℕ, ◌+◌, ◌&&◌, Bool, true, false, not, nat_lt, Option, None, Some, Result, Ok, Err, List, length, map, inl, inr}
+use Rattle.std.proofs.Common.{◌≡◌, refl, sym, ◌∙◌, ap, subst, ℕ, ◌+◌, ◌&&◌, Bool, true, false, nat_lt, Option, None, Some, Result, Ok, Err, List, length, map, inl, inr}
 use Rattle.std.specs.Prelude.{slice_get, slice_set, if◌then◌else◌, IfOk}
 use Rattle.std.proofs.lemmas.Option.{same_Some}
 use Rattle.allegiance.specs.PathUse.{usable_paths}
 use Rattle.path_select.specs.Choice.{IsChoice}
-use Rattle.storage_keys.specs.declared.StorageFault.{StorageFault}
-use Rattle.storage_keys.specs.Storage.{Contents, put, key_set, prefix_set, shown}
+use Rattle.storage_keys.specs.Storage.{Contents}
 use Rattle.channel_config.specs.declared.names.SubchannelId.{SubchannelId}
-use Rattle.channel_config.specs.Setup.{has_number}
 use Rattle.channel_config.specs.SubchannelWords.{subchannel_named}
-use Rattle.channel_reports.specs.Queue.{is_asked}
 use Rattle.chan_model.specs.declared.fault.Fault.{Fault}
 use Rattle.chan_model.specs.declared.fault.Fault.TheVariants as fault
 use Rattle.chan_model.specs.declared.hold_state.HoldPhase.{HoldPhase}
 use Rattle.chan_model.specs.declared.hold_state.HoldPhase.TheVariants as hold
 use Rattle.chan_model.specs.declared.hold_state.HoldState.{HoldState}
-use Rattle.chan_model.specs.declared.names.Side.{Side}
 use Rattle.chan_model.specs.Signals.{Down}
 use Rattle.chan_model.specs.Signals.{Up}
 use Rattle.chan_model.specs.declared.unit_state.UnitState.{UnitState}
 use Rattle.chan_model.specs.UnitReports.{unit_reports}
 use Rattle.chan_model.specs.UnitTable as unit_table
-use Rattle.chan_model.specs.UnitTable.{UnitStep, unit_takes, restarted}
+use Rattle.chan_model.specs.UnitTable.{UnitStep, unit_takes}
 use Rattle.chan_events.specs.Events.{Event}
 use Rattle.chan_events.specs.declared.event.Event.TheVariants as event
 use Rattle.chan_events.specs.declared.event.Instruction.{Instruction}
-use Rattle.chan_events.specs.declared.event.OtherInstruction.{OtherInstruction}
 use Rattle.chan_events.specs.declared.event.UnitAct.{UnitAct}
 use Rattle.chan_events.specs.Replies.{Reply}
 use Rattle.chan_events.specs.declared.reply.Reply.TheVariants as reply
 use Rattle.machine_laws.specs.Claims.{is_id}
-use Rattle.machine_model.proofs.Named.{requests_settled, show_turn_of, act_to}
-use Rattle.machine_model.proofs.Others.{other-turned}
 use Rattle.machine_model.specs.declared.state.Sweep.{Sweep}
 use Rattle.machine_model.specs.declared.state.Sweep.TheVariants as sweep
-use Rattle.machine_model.specs.ActSteps.{has_path_of_act, acts, act_sub, act_on, act_at, side_of_act}
+use Rattle.machine_model.specs.ActSteps.{has_path_of_act, acts, act_sub}
 use Rattle.machine_model.specs.ChooseSteps.{choose_sub}
 use Rattle.machine_model.specs.DownSteps.{down_front, down_sub}
 use Rattle.machine_model.specs.InstructionSteps.{subchannel_word}
-use Rattle.machine_model.specs.OtherSteps.{is_up}
-use Rattle.machine_model.specs.OtherTurns.{OtherTurn, with_lent, other_done}
-use Rattle.machine_model.specs.PathSteps.{swept, down_path, up_path, reset_path, reset_system}
+use Rattle.machine_model.specs.PathSteps.{swept, with_swept}
 use Rattle.machine_model.specs.ReportSteps.{report_taken}
-use Rattle.machine_model.specs.Requests.{settled}
-use Rattle.machine_model.specs.RestartSteps.{restart_at}
-use Rattle.machine_model.specs.Sharing.{members_over, is_let_go, owing_after}
-use Rattle.machine_model.specs.State.{State, place_of, with_sub, state_with_unit}
+use Rattle.machine_model.specs.State.{State, place_of, with_sub}
 use Rattle.machine_model.specs.Steps.{Step}
-use Rattle.machine_model.specs.StorageSteps.{storage_turn}
-use Rattle.machine_model.specs.Turns.{Turn, Outcome, does, SubTurn, UpTurn, DownTurn, with_state, at_unit}
+use Rattle.machine_model.specs.Turns.{Outcome, SubTurn, UpTurn, DownTurn, with_state}
 use Rattle.machine_model.specs.UpSteps.{up_front, up_sub}
-use Rattle.step_laws.proofs.Places.{set-get, map-get}
-use Rattle.step_laws.specs.Walks as walked
-use Rattle.step_laws.specs.Walks.{Walked, IsQuiet, Suits, OneSub, OneUnit, sweep_event}
+use Rattle.step_laws.proofs.Places.{set-get, map-get, found-there}
+use Rattle.step_laws.specs.Walks.{sweep_event}
 use Rattle.subchannel_model.proofs.Named.{found_with}
 use Rattle.subchannel_model.specs.declared.cause.StatusCause.TheVariants as cause
 use Rattle.subchannel_model.specs.declared.state.Chosen.{Chosen}
@@ -61,24 +47,28 @@ use Rattle.subchannel_model.specs.declared.state.Subchannel.{Subchannel}
 use Rattle.subchannel_model.specs.declared.state.SubchannelState.{SubchannelState}
 use Rattle.subchannel_model.specs.Causes.{with_cause}
 use Rattle.subchannel_model.specs.Choosing.{path_use, engaged_paths, return_paths, is_away, unsent_reset, paths_unreset, paths_to_choose, chosen, marked_sub, reset_sent, halt_sent, offered}
-use Rattle.subchannel_model.specs.Places.{Found, found_at, place_in, place_of_id, reached_in}
+use Rattle.subchannel_model.specs.Places.{Found, found_at, place_in, place_of_id}
 use Rattle.subchannel_model.specs.Sending.{carried_by, finds_full}
 use Rattle.subchannel_model.specs.Store.{available_paths}
 use Rattle.subchannel_model.specs.Taking.{Met, takes_up}
 use Rattle.wires.specs.Queues.{queue}
 use Rattle.shown_laws.specs.Shown.{names, is_about}
-use Rattle.shown_laws.proofs.Executed.{IsEffect, reply_of, code_for, state_left, IsDone, IsExecuted, executed}
-use Rattle.shown_laws.proofs.Named.{found-there, same-id, named-is, named-place}
+use Rattle.step_laws.proofs.Executed.{IsEffect, reply_of, code_for, state_left, IsDone}
+use Rattle.shown_laws.proofs.Executed.{IsExecuted, as-executed}
+use Rattle.shown_laws.proofs.Named.{same-id, named-is, named-place}
+use Rattle.machine_model.specs.DownSteps.{asks_at}
+use Rattle.machine_model.specs.Sharing.{may_take}
+use Rattle.machine_model.specs.UpSteps.{returns_at}
+use Rattle.step_laws.proofs.Turns as turn
+use Rattle.step_laws.proofs.Turns.{TurnOf, HasTurn, step-turn}
 
 -- what is answered as the subsystem does what is chosen, and what it leaves of the subchannel
 abbrev pub reply_chosen : SubchannelState → Chosen → Reply
 reply_chosen s Idle = reply.Idle
 reply_chosen s (Resets r path) = reply.ResetSent r path
-reply_chosen s PerformsClear = reply.Pending
 reply_chosen s (Halts t path) = reply.HaltSent t path
-reply_chosen s PerformsHalt = reply.Pending
-reply_chosen s FindsNoPath = reply.Pending
 reply_chosen s (Offers c path) = reply.Offered (s.drawn + 1) path c.resumes
+reply_chosen s other = reply.Pending
 
 abbrev pub state_chosen : SubchannelState → Chosen → SubchannelState
 state_chosen s Idle = s
@@ -135,12 +125,8 @@ choice-left sub (Offers c path) t ok =
     send-chosen sub (offered sub.state c.program path) _ (reply.Offered (sub.state.drawn + 1) path c.resumes) _ t refl ok
 
 unsent-away : (h : HoldState) (phase : HoldPhase) → is_away phase ≡ true → unsent_reset (record h { phase = phase }) ≡ None
-unsent-away h hold.Free e = refl
-unsent-away h (hold.Offer t p) e = refl
-unsent-away h (hold.On t p c) e = refl
-unsent-away h (hold.Away t) e = refl
-unsent-away h (hold.Letting t p) e = refl
 unsent-away h (hold.Reset r) e = absurd (cc e)
+unsent-away h other e = refl
 
 away-choice : (subs : List Subchannel) (sub : Subchannel) (choice : Option ℕ) → IsChoice (paths_to_choose subs sub) choice → IsAwayChoice sub choice
 away-choice subs sub choice is pending away =
@@ -274,135 +260,44 @@ module _ (s : State) (id : SubchannelId) (place : ℕ) (sub : Subchannel) (mine 
           (Executes cpu i f.sub done.effect (named-here (subchannel_word i) f.place f.sub (at ∙ was.0) was.1 here) done.is))
           (not-named (subchannel_word i) f.place (at ∙ was.0))
 
-  -- what a unit does of itself
-  unit-turns : (e : Event) (f : Found) (at : ℕ) (r : Result DownTurn Fault) → is_about s.sets id e ≡ false → slice_get s.subs f.place ≡ Some f.sub → IfOk r (IsApart f.sub) →
-      OkTurns e (at_unit s f.place at r)
-  unit-turns e f at (Err x) about found apart = tt
-  unit-turns e f at (Ok t) about found apart =
-      one-turns e t.reply (state_with_unit (with_sub s f.place t.sub) at t.«unit») f.place f.sub t.sub found refl
-      (λ here. subst (λ (x : SubchannelState). Turned s.sets id e t.reply f.sub x) (sym apart) (Rests e t.reply f.sub about)) (λ n. about)
+  -- what a unit does of itself leaves the state of its subchannel
+  apart-turns : (e : Event) (r : Reply) (new : State) (k : ℕ) (x y : Subchannel) → is_about s.sets id e ≡ false → slice_get s.subs k ≡ Some x → new.subs ≡ slice_set s.subs k y →
+      y.state ≡ x.state → Turns e r new
+  apart-turns e r new k x y about at same apart =
+      one-turns e r new k x y at same (λ here. subst (λ (z : SubchannelState). Turned s.sets id e r x z) (sym apart) (Rests e r x about)) (λ n. about)
 
-  act_to-turns : (at : ℕ) (u : UnitState) (what : UnitAct) (p : Option ℕ) (q : Option Found) → found_at s.subs p ≡ q → OkTurns (event.Act at what) (act_to s at u what q)
-  act_to-turns at u what p None e = tt
-  act_to-turns at u what p (Some f) e = unit-turns (event.Act at what) f at (act_sub f.sub u what) refl (found-there s.subs p f e).1 (act-apart f.sub u what)
-
-  act_on-turns : (at : ℕ) (u : UnitState) (what : UnitAct) (side : Option Side) → OkTurns (event.Act at what) (act_on s at u what side)
-  act_on-turns at u what None = tt
-  act_on-turns at u what (Some side) = act_to-turns at u what (reached_in at side s.subs) (found_at s.subs (reached_in at side s.subs)) refl
-
-  act-turns : (at : ℕ) (v : Option UnitState) (what : UnitAct) → OkTurns (event.Act at what) (act_at s at v what)
-  act-turns at None what = tt
-  act-turns at (Some u) what = act_on-turns at u what (side_of_act u what)
-
-  restart-turns : (at : ℕ) (v : Option UnitState) → OkTurns (event.Restart at) (restart_at s at v)
-  restart-turns at None = tt
-  restart-turns at (Some u) =
-      rests (event.Restart at) reply.Done
-      (state_with_unit (record s { members = members_over s.members at (is_let_go u (restarted u)) }) at (owing_after s.members at u (restarted u))) refl refl
-
-  -- an event of a path is refused, or befalls every subchannel
-  where-turns : (v : Event) (there right : Bool) (o : Outcome) → OkTurns v o → OkTurns v (if there then (if right then o else Err fault.NotNow) else Err fault.NoSuchPath)
-  where-turns v true true o k = k
-  where-turns v true false o k = tt
-  where-turns v false right o k = tt
-
-  storage-turns : (v : Event) (r : Result Contents StorageFault) → is_about s.sets id v ≡ false → OkTurns v (storage_turn s r)
-  storage-turns v (Ok storage) about = rests v reply.Done (record s { storage = storage }) about refl
-  storage-turns v (Err f) about = tt
-
-  show-turns : (address count : ℕ) (r : Result (List ℕ) StorageFault) → OkTurns (event.Show address count) (show_turn_of s r)
-  show-turns address count (Ok bytes) = rests (event.Show address count) (reply.Shown bytes) s refl refl
-  show-turns address count (Err f) = tt
-
-  others-turn : (cpu : ℕ) (i : OtherInstruction) (r : Result OtherTurn Fault) → OkTurns (event.ExecuteOther cpu i) (other_done s r)
-  others-turn cpu i (Ok t) = rests (event.ExecuteOther cpu i) t.answer (with_lent s t.left) refl refl
-  others-turn cpu i (Err f) = tt
-
-  -- the requests for interruptions that are left are nothing to it
-  settled-turns : (e : Event) (r : Reply) (new : State) (o : Outcome) → OkTurns e o → does r new ≡ settled s e o → Turns e r new
-  settled-turns e r new (Ok t) k m =
-      let same : record { reply = r; state = new } ≡ record t { state = record t.state { requests = requests_settled s e t } } = cc m in
-      subst (λ (x : Turn). Turns e x.reply x.state) (sym same) k
-  settled-turns e r new (Err f) k m = absurd (cc m)
-
-  quiet-turns : (e : Event) (r : Reply) (new : State) → IsQuiet e r → Step s e r new → Turns e r new
-  quiet-turns (event.Put address bytes) r new q (o, w, m) =
-      settled-turns (event.Put address bytes) r new o
-      (subst (OkTurns (event.Put address bytes)) (sym w) (storage-turns (event.Put address bytes) (put s.storage address bytes) refl)) m
-  quiet-turns (event.SetKey address key) r new q (o, w, m) =
-      settled-turns (event.SetKey address key) r new o
-      (subst (OkTurns (event.SetKey address key)) (sym w) (storage-turns (event.SetKey address key) (key_set s.storage address key) refl)) m
-  quiet-turns (event.SetPrefix cpu address) r new q (o, w, m) =
-      settled-turns (event.SetPrefix cpu address) r new o
-      (subst (OkTurns (event.SetPrefix cpu address)) (sym w) (storage-turns (event.SetPrefix cpu address) (prefix_set s.storage cpu address) refl)) m
-  quiet-turns (event.Show address count) r new q (o, w, m) =
-      settled-turns (event.Show address count) r new o
-      (subst (OkTurns (event.Show address count)) (sym w) (show-turns address count (shown s.storage address count))) m
-  quiet-turns (event.Execute cpu i) r new q step = executed-turns cpu i r new (executed s cpu i r new step)
-  quiet-turns (event.ExecuteOther cpu i) r new q (o, w, m) =
-      settled-turns (event.ExecuteOther cpu i) r new o
-      (subst (OkTurns (event.ExecuteOther cpu i)) (sym (w ∙ other-turned s cpu i)) (others-turn cpu i _)) m
-  quiet-turns (event.Choose word) r new q step = absurd q
-  quiet-turns (event.Up word path) r new q step = absurd q
-  quiet-turns (event.Down word path) r new q step = absurd q
-  quiet-turns (event.Report at report) r new q step = absurd q
-  quiet-turns (event.Act at what) r new q (o, w, m) =
-      settled-turns (event.Act at what) r new o (subst (OkTurns (event.Act at what)) (sym w) (act-turns at (slice_get s.units at) what)) m
-  quiet-turns (event.Restart at) r new q (o, w, m) =
-      settled-turns (event.Restart at) r new o (subst (OkTurns (event.Restart at)) (sym w) (restart-turns at (slice_get s.units at))) m
-  quiet-turns (event.PathDown chpid) r new q (o, w, m) =
-      settled-turns (event.PathDown chpid) r new o
-      (subst (OkTurns (event.PathDown chpid)) (sym w)
-      (where-turns (event.PathDown chpid) (has_number s.chpids chpid) (is_up s.up chpid) (does reply.Done (down_path s chpid))
-      (swept-turns (sweep.GoesDown chpid) reply.Done (down_path s chpid) refl))) m
-  quiet-turns (event.PathUp chpid) r new q (o, w, m) =
-      settled-turns (event.PathUp chpid) r new o
-      (subst (OkTurns (event.PathUp chpid)) (sym w)
-      (where-turns (event.PathUp chpid) (has_number s.chpids chpid) (not (is_up s.up chpid)) (does reply.Done (up_path s chpid))
-      (swept-turns (sweep.ComesUp chpid) reply.Done (up_path s chpid) refl))) m
-  quiet-turns (event.PathReset chpid) r new q (o, w, m) =
-      settled-turns (event.PathReset chpid) r new o
-      (subst (OkTurns (event.PathReset chpid)) (sym w)
-      (where-turns (event.PathReset chpid) (has_number s.chpids chpid) (is_asked s.reports chpid) (does reply.Done (reset_path s chpid))
-      (swept-turns (sweep.PathReset chpid) reply.Done (reset_path s chpid) refl))) m
-  quiet-turns event.SystemReset r new q (o, w, m) =
-      settled-turns event.SystemReset r new o
-      (subst (OkTurns event.SystemReset) (sym w) (swept-turns sweep.SystemReset reply.Done (reset_system s) refl)) m
-
-  -- each step
-  pub step-turns : (e : Event) (r : Reply) (new : State) → Walked s e r new → Step s e r new → Turns e r new
-  step-turns _ _ _ (walked.Stays e r new q sets subs units up) step = quiet-turns e r new q step
-  step-turns _ _ _ (walked.Started cpu word address k x orb c new n one) step =
-      executed-turns cpu _ _ new (executed s cpu _ _ new step)
-  step-turns _ _ _ (walked.Tested e r k x c new q one address by answers) step = quiet-turns e r new q step
-  step-turns _ _ _ (walked.Modified e r k x given c new q one) step = quiet-turns e r new q step
-  step-turns _ _ _ (walked.Performed e r k x f c new q one by answers) step = quiet-turns e r new q step
-  step-turns _ _ _ (walked.Chosen word k x choice t new n i fit ok one) step =
+  -- each turn of an event
+  turn-turns : (e : Event) (r : Reply) (new : State) → TurnOf s e r new → Turns e r new
+  turn-turns _ _ _ (turn.Executes cpu i named q r storage subs n e blocks left done) =
+      executed-turns cpu i r (record s { storage = storage; subs = subs }) (as-executed s i named q r storage subs s.requests n e done)
+  turn-turns _ _ _ (turn.Chosen word k x choice t n at is ok) =
       let was : (t.reply ≡ reply_chosen (marked_sub x choice).state (chosen x choice)) × (t.sub.state ≡ state_chosen (marked_sub x choice).state (chosen x choice)) =
       choice-left (marked_sub x choice) (chosen x choice) t ok in
-      one-turns (event.Choose word) t.reply new k x t.sub one.there one.subs
+      one-turns (event.Choose word) t.reply (with_sub s k t.sub) k x t.sub at refl
       (λ here. subst (λ (r : Reply). Turned s.sets id (event.Choose word) r x t.sub.state) (sym was.0)
       (subst (λ (y : SubchannelState). Turned s.sets id (event.Choose word) (reply_chosen (marked_sub x choice).state (chosen x choice)) x y) (sym was.1)
-      (Chooses word x choice (named-here word k x n one.there here) (away-choice s.subs x choice i))))
+      (Chooses word x choice (named-here word k x n at here) (away-choice s.subs x choice is))))
       (not-named word k n)
-  step-turns _ _ _ (walked.Met word path returns k x t new n ok one may) step =
+  turn-turns _ _ _ (turn.Meets word path k x t n at ok) =
+      let returns : Bool = returns_at s.subs x path in
       let was : IsMetBy returns s.storage x path t = up-met returns s.storage x path t ok in
-      one-turns (event.Up word path) t.reply new k x t.sub one.there one.subs
+      one-turns (event.Up word path) t.reply (with_sub s k t.sub) k x t.sub at refl
       (λ here. subst (λ (r : Reply). Turned s.sets id (event.Up word path) r x t.sub.state) (sym was.replies)
       (subst (λ (y : SubchannelState). Turned s.sets id (event.Up word path) (reply_met was.signal (met returns s.storage x path was.signal)) x y) (sym was.state)
-      (Meets word path returns s.storage x was.signal (named-here word k x n one.there here))))
+      (Meets word path returns s.storage x was.signal (named-here word k x n at here))))
       (not-named word k n)
-  step-turns _ _ _ (walked.Sunk word path may owed k x u t new n ok one) step =
-      one-turns (event.Down word path) t.reply new k x t.sub one.there one.subs
-      (λ here. subst (λ (y : SubchannelState). Turned s.sets id (event.Down word path) t.reply x y)
-      (sym (subst (λ (r : Result DownTurn Fault). IfOk r (IsApart x)) ok (down-apart may x path u))) (Rests _ t.reply x refl)) (λ n. refl)
-  step-turns _ _ _ (walked.Reported at k x u report t new n reached ok one) step =
-      one-turns (event.Report at report) t.reply new k x t.sub one.there one.subs
-      (λ here. subst (λ (y : SubchannelState). Turned s.sets id (event.Report at report) t.reply x y)
-      (sym (subst (λ (r : Result DownTurn Fault). IfOk r (IsApart x)) ok (step-apart x (unit_reports u report)))) (Rests _ t.reply x refl)) (λ n. refl)
-  step-turns _ _ _ (walked.Acted at k x u what t new side its ok one) step =
-      one-turns (event.Act at what) t.reply new k x t.sub one.there one.subs
-      (λ here. subst (λ (y : SubchannelState). Turned s.sets id (event.Act at what) t.reply x y)
-      (sym (subst (λ (r : Result DownTurn Fault). IfOk r (IsApart x)) ok (act-apart x u what))) (Rests _ t.reply x refl)) (λ n. refl)
-  step-turns _ _ _ (walked.Restarted at owed u r new found sets subs units up) step = rests (event.Restart at) r new refl subs
-  step-turns _ _ _ (walked.Swept e r what new q sets subs units by) step = quiet-turns e r new q step
+  turn-turns _ _ _ (turn.Takes word path k x u t n at found ok) =
+      apart-turns _ t.reply (with_sub s k t.sub) k x t.sub refl at refl (subst (λ (r : Result DownTurn Fault). IfOk r (IsApart x)) ok (down-apart (may_take s.members x.setup.«unit» (asks_at x path u)) x path u))
+  turn-turns _ _ _ (turn.Reports unit k x u report t found first at ok) =
+      apart-turns _ t.reply (with_sub s k t.sub) k x t.sub refl at refl (subst (λ (r : Result DownTurn Fault). IfOk r (IsApart x)) ok (step-apart x (unit_reports u report)))
+  turn-turns _ _ _ (turn.Acts unit k x u what side t found is first at ok) =
+      apart-turns _ t.reply (with_sub s k t.sub) k x t.sub refl at refl (subst (λ (r : Result DownTurn Fault). IfOk r (IsApart x)) ok (act-apart x u what))
+  turn-turns _ _ _ (turn.GoesDown chpid) = swept-turns (sweep.GoesDown chpid) reply.Done (with_swept s (sweep.GoesDown chpid)) refl
+  turn-turns _ _ _ (turn.ComesUp chpid) = swept-turns (sweep.ComesUp chpid) reply.Done (with_swept s (sweep.ComesUp chpid)) refl
+  turn-turns _ _ _ (turn.IsReset chpid asked) = swept-turns (sweep.PathReset chpid) reply.Done (with_swept s (sweep.PathReset chpid)) refl
+  turn-turns _ _ _ turn.ResetsAll = swept-turns sweep.SystemReset reply.Done (with_swept s sweep.SystemReset) refl
+  turn-turns _ _ _ t = rests _ _ s refl refl
+
+  -- each step
+  pub step-turns : (e : Event) (r : Reply) (new : State) → Step s e r new → Turns e r new
+  step-turns e r new step = let is : HasTurn s e r new = step-turn s e r new step in subst (Turns e r) (sym is.settles) (turn-turns e r is.left is.turn)

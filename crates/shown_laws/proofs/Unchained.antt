@@ -1,10 +1,10 @@
 -- Bytes that move, and rooms that are told, leave whether the next command is chained to.
-use Rattle.std.proofs.Common.{◌≡◌, refl, ◌∙◌, ℕ, ◌+◌, ◌==◌, Bool, true, false, Option, None, Some, Result, Ok, Err, List, [], length}
+use Rattle.std.proofs.Common.{◌≡◌, refl, ◌∙◌, ℕ, ◌+◌, ◌==◌, Bool, true, false, Option, Some, Result, Ok, Err, List, [], length}
 use Rattle.std.specs.Prelude.{if◌then◌else◌, is_some, min}
 use Rattle.storage_keys.specs.Storage.{Contents}
 use Rattle.ccw_walk.specs.declared.check.Check.{Check}
 use Rattle.ccw_walk.specs.declared.program.Advance.{Advance}
-use Rattle.ccw_walk.specs.declared.program.Advance.TheVariants.{Takes, Suspends, Stops}
+use Rattle.ccw_walk.specs.declared.program.Advance.TheVariants.{Takes}
 use Rattle.ccw_walk.specs.Walks.{WalkPlace, after_acts, advance_acts, advance_of}
 use Rattle.ccw_walk.proofs.Named.{after_used_up}
 use Rattle.data_move.specs.Moving as movement
@@ -44,10 +44,8 @@ given-same : (storage : Contents) (t : Transfer) → IsSame t (next_given storag
 given-same storage t = given_from-same storage (located_transfer storage t) ∙ located-same storage t
 
 chained_to-same : (t : Transfer) (walk : WalkPlace) (a : Option Advance) → IsSame t (chained_to t walk a)
-chained_to-same t walk None = refl
 chained_to-same t walk (Some (Takes ccw)) = refl
-chained_to-same t walk (Some Suspends) = refl
-chained_to-same t walk (Some (Stops check)) = refl
+chained_to-same t walk other = refl
 
 chained-same : (storage : Contents) (t : Transfer) → IsSame t (chained storage t)
 chained-same storage t =

@@ -27,7 +27,7 @@ use Rattle.subchannel_model.specs.declared.signals.DataSignal.{DataSignal}
 use Rattle.subchannel_model.specs.declared.signals.EndSignal.{EndSignal}
 use Rattle.subchannel_model.specs.declared.state.ActiveProgram.{ActiveProgram}
 use Rattle.subchannel_model.specs.declared.state.Chosen.{Chosen}
-use Rattle.subchannel_model.specs.declared.state.Chosen.TheVariants.{Idle, Resets, PerformsClear, Halts, PerformsHalt, FindsNoPath, Offers}
+use Rattle.subchannel_model.specs.declared.state.Chosen.TheVariants.{FindsNoPath}
 use Rattle.subchannel_model.specs.declared.state.Program.{Program}
 use Rattle.subchannel_model.specs.declared.state.ProgramPosition.{ProgramPosition}
 use Rattle.subchannel_model.specs.declared.state.Subchannel.{Subchannel}
@@ -66,13 +66,8 @@ without_waiting-same s (Some w) = refl
 pub cause-same : (s : SubchannelState) (c : StatusCause) → IsSame s (with_cause s c)
 cause-same s (cause.End b status more) = after_end-same s b (is_last_end status)
 cause-same s (cause.FetchFault tried check count) = without_begun-same s s.begun
-cause-same s cause.Attention = refl
 cause-same s cause.NoPath = without_waiting-same s s.waiting
-cause-same s cause.InterfaceControlCheck = refl
-cause-same s (cause.Pci tried count) = refl
-cause-same s (cause.Suspension tried count) = refl
-cause-same s cause.ClearDone = refl
-cause-same s cause.HaltDone = refl
+cause-same s other = refl
 
 interrupted-same : (s : SubchannelState) (b : Option ActiveProgram) → IsSame s (interrupted s b)
 interrupted-same s None = refl
@@ -108,13 +103,8 @@ shows-same (Some p) up sub = refl
 
 -- a choice
 pub chosen-same : (s : SubchannelState) (c : Chosen) → IsSame s (state_chosen s c)
-chosen-same s Idle = refl
-chosen-same s (Resets r path) = refl
-chosen-same s PerformsClear = refl
-chosen-same s (Halts t path) = refl
-chosen-same s PerformsHalt = refl
 chosen-same s FindsNoPath = cause-same s cause.NoPath
-chosen-same s (Offers c path) = refl
+chosen-same s other = refl
 
 -- a signal that comes up
 abbrev Uses : Up → SubchannelState → UpStep → Type 0
@@ -172,12 +162,8 @@ begun-uses storage s h t q u may false there = refl
 
 accept-uses : (storage : Contents) (s : SubchannelState) (h : HoldState) (phase : HoldPhase) (u : ℕ) (may : Bool) → (may ≡ true → is_some (standing s) ≡ true) →
     Uses (up.Accept u) s (accept storage (phased s h phase) (offer_accepted (record h { phase = phase }) phase u may))
-accept-uses storage s h hold.Free u may there = refl
 accept-uses storage s h (hold.Offer t q) u may there = begun-uses storage s h t q u may (u == t) there
-accept-uses storage s h (hold.On t q c) u may there = refl
-accept-uses storage s h (hold.Away t) u may there = refl
-accept-uses storage s h (hold.Letting t q) u may there = refl
-accept-uses storage s h (hold.Reset r) u may there = refl
+accept-uses storage s h other u may there = refl
 
 -- Back: the path of a Grant
 back-on-uses : (s : SubchannelState) (h : HoldState) (p t c : ℕ) (b may : Bool) →
@@ -191,12 +177,9 @@ refused-uses s h p t c true = refl
 refused-uses s h p t c false = refl
 
 back-uses : (s : SubchannelState) (h : HoldState) (phase : HoldPhase) (p t c : ℕ) (may : Bool) → Uses (up.Back t c) s (back s p (asked_back h phase p t c may))
-back-uses s h hold.Free p t c may = refl
-back-uses s h (hold.Offer u q) p t c may = refl
 back-uses s h (hold.On u q d) p t c may = refused-uses s h p u c ((t == u) && nat_lt h.seen c)
 back-uses s h (hold.Away u) p t c may = back-on-uses s h p u c ((t == u) && nat_lt h.seen c) may
-back-uses s h (hold.Letting u q) p t c may = refl
-back-uses s h (hold.Reset r) p t c may = refl
+back-uses s h other p t c may = refl
 
 -- Data
 data-uses : (storage : Contents) (s : SubchannelState) (b : Option ActiveProgram) (p t c n q : ℕ) (load : Load) →

@@ -1,12 +1,11 @@
 -- Where word 2 of the block of a subchannel is shown, it has the masks of that subchannel.
-use Rattle.std.proofs.Common.{◌≡◌, refl, sym, ◌∙◌, ap, subst, ℕ, zero, suc, ◌+◌, Bool, true, false, Option, None, Some, Result, Ok, Err, List, [], ◌∷◌}
+use Rattle.std.proofs.Common.{◌≡◌, refl, sym, ◌∙◌, ap, subst, ℕ, zero, suc, ◌+◌, Bool, true, false, Option, None, Some, Ok, Err, List, [], ◌∷◌}
 use Rattle.std.specs.Prelude.{slice_get, slice_set, slice_index, if◌then◌else◌}
 use Rattle.zbits.specs.Bits.{field_of}
 use Rattle.zbits.specs.Layout.{image_of}
 use Rattle.schib_block.specs.SchibTable.{schib_tables}
-use Rattle.storage_keys.specs.declared.StorageFault.{StorageFault}
 use Rattle.storage_keys.specs.declared.StorageFault.TheVariants.{Addressing}
-use Rattle.storage_keys.specs.Storage.{Contents, is_inside, operand_check, operand_stored, shown}
+use Rattle.storage_keys.specs.Storage.{Contents, is_inside, operand_stored, shown}
 use Rattle.chan_model.specs.PathSets.{mask_of_path, mask_of_paths}
 use Rattle.chan_events.specs.Events.{Event}
 use Rattle.chan_events.specs.declared.event.Event.TheVariants as event
@@ -15,33 +14,24 @@ use Rattle.chan_events.specs.declared.reply.Entry.{Entry}
 use Rattle.chan_events.specs.Replies.{Reply}
 use Rattle.chan_events.specs.declared.reply.Reply.TheVariants as reply
 use Rattle.channel_config.specs.declared.names.SubchannelId.{SubchannelId}
-use Rattle.channel_config.specs.SubchannelWords.{subchannel_named}
 use Rattle.subchannel_model.specs.declared.state.Subchannel.{Subchannel}
 use Rattle.subchannel_model.specs.Places.{Found, found_at, place_in}
 use Rattle.subchannel_model.specs.Store.{schib_of}
 use Rattle.machine_laws.specs.Claims.{is_id}
-use Rattle.machine_model.specs.InstructionSteps.{store_at}
-use Rattle.machine_model.specs.Requests.{settled}
 use Rattle.machine_model.specs.State.{State}
 use Rattle.machine_model.specs.Steps.{Step}
-use Rattle.machine_model.specs.StorageSteps.{storage_turn}
-use Rattle.machine_model.specs.Turns.{Turn, Outcome, does, where_tested}
-use Rattle.machine_model.proofs.Named.{Executes_on, requests_settled, show_turn_of}
 use Rattle.shown_laws.specs.Paths.{IsWordShown}
 use Rattle.shown_laws.specs.Shown.{names, is_accepted}
-use Rattle.shown_laws.proofs.Named.{found-there, same-id}
+use Rattle.step_laws.proofs.Places.{found-there}
+use Rattle.shown_laws.proofs.Named.{same-id}
 use Rattle.shown_laws.proofs.Words.{shows-masks}
-
--- what a turn left, but for the requests for interruptions
-settled-is : (s new : State) (e : Event) (r : Reply) (t : Turn) → does r new ≡ settled s e (Ok t) →
-    (r ≡ t.reply) × (new.subs ≡ t.state.subs) × (new.sets ≡ t.state.sets) × (new.storage ≡ t.state.storage)
-settled-is s new e r t m =
-    let same : record { reply = r; state = new } ≡ record t { state = record t.state { requests = requests_settled s e t } } = cc m in (
-      ap (λ (x : Turn). x.reply) same,
-      ap (λ (x : Turn). x.state.subs) same,
-      ap (λ (x : Turn). x.state.sets) same,
-      ap (λ (x : Turn). x.state.storage) same,
-    )
+use Rattle.chan_events.specs.declared.event.Instruction.{Instruction}
+use Rattle.interruptions.specs.Requests.{WaitingRequests}
+use Rattle.subchannel_model.specs.declared.state.SubchannelState.{SubchannelState}
+use Rattle.machine_model.specs.Turns.{with_state}
+use Rattle.step_laws.proofs.Executed.{IsDone, IsStorageLeft, state_left, set-same, done-settled}
+use Rattle.step_laws.proofs.Turns as turn
+use Rattle.step_laws.proofs.Turns.{TurnOf, HasTurn, step-turn}
 
 -- a prefix is set to zero
 zero-set : (xs : List ℕ) (k : ℕ) → slice_index (slice_set xs k 0) k ≡ 0
@@ -53,16 +43,20 @@ record IsPrefixed (cpu : ℕ) (s new : State) : Type 0 where
   subs : new.subs ≡ s.subs
   zeroed : slice_index new.storage.prefixes cpu ≡ 0
 
-step-prefixed : (s : State) (cpu : ℕ) (r : Reply) (new : State) → Step s (event.SetPrefix cpu 0) r new → IsPrefixed cpu s new
-step-prefixed s cpu r new (o, w, m) = by (is_inside s.storage 0 8192) (m ∙ ap (settled s (event.SetPrefix cpu 0)) w)
+turn-prefixed : (s : State) (cpu : ℕ) (r : Reply) (new : State) (waiting : WaitingRequests) → TurnOf s (event.SetPrefix cpu 0) r new → IsPrefixed cpu s (record new { requests = waiting })
+turn-prefixed s cpu _ _ waiting (turn.SetsPrefix _ _ storage e) = by (is_inside s.storage 0 8192) e
   where
-    by : (inside : Bool) → does r new
-        ≡ settled s (event.SetPrefix cpu 0) (storage_turn s (if inside then Ok (record s.storage { prefixes = slice_set s.storage.prefixes cpu 0 }) else Err Addressing)) →
-        IsPrefixed cpu s new
-    by true e =
-        let is = settled-is s new (event.SetPrefix cpu 0) r _ e in
-        record { subs = is.1; zeroed = ap (λ (x : Contents). slice_index x.prefixes cpu) is.3 ∙ zero-set s.storage.prefixes cpu }
-    by false e = absurd (cc e)
+    by : (inside : Bool) → (if inside then Ok (record s.storage { prefixes = slice_set s.storage.prefixes cpu 0 }) else Err Addressing) ≡ Ok storage →
+        IsPrefixed cpu s (record s { storage = storage; requests = waiting })
+    by true k =
+        let same : record s.storage { prefixes = slice_set s.storage.prefixes cpu 0 } ≡ storage = cc k in
+        record { subs = refl; zeroed = ap (λ (x : Contents). slice_index x.prefixes cpu) (sym same) ∙ zero-set s.storage.prefixes cpu }
+    by false k = absurd (cc k)
+
+step-prefixed : (s : State) (cpu : ℕ) (r : Reply) (new : State) → Step s (event.SetPrefix cpu 0) r new → IsPrefixed cpu s new
+step-prefixed s cpu r new step =
+    let is : HasTurn s (event.SetPrefix cpu 0) r new = step-turn s (event.SetPrefix cpu 0) r new step in
+    subst (IsPrefixed cpu s) (sym is.settles) (turn-prefixed s cpu r is.left _ is.turn)
 
 -- STORE SUBCHANNEL stores the block of its subchannel
 pub record IsBlockStored (id : SubchannelId) (cpu address : ℕ) (s new : State) : Type 0 where
@@ -73,42 +67,49 @@ pub record IsBlockStored (id : SubchannelId) (cpu address : ℕ) (s new : State)
   pub subs : new.subs ≡ s.subs
   pub stored : new.storage ≡ operand_stored s.storage cpu address (image_of (schib_tables (schib_of sub)))
 
-module _ (s : State) (cpu word address : ℕ) (r : Reply) (new : State) where
-  abbrev e : Event
-  e = event.Execute cpu (instruction.Stsch word address)
+module _ (s : State) (cpu word address : ℕ) where
+  abbrev i : Instruction
+  i = instruction.Stsch word address
 
-  tested-stored : (id : SubchannelId) (q : Option Found) (x : Result (Unit {0}) StorageFault) → found_at s.subs (place_in id s.subs) ≡ q →
-      does r new ≡ settled s e (where_tested x (store_at s cpu address q)) → is_accepted r ≡ true → IsBlockStored id cpu address s new
-  tested-stored id q (Err f) found m ok = absurd (cc m)
-  tested-stored id None (Ok u) found m ok = let is = settled-is s new e r _ m in absurd (cc (sym ok ∙ ap is_accepted is.0))
-  tested-stored id (Some f) (Ok u) found m ok =
-      let is = settled-is s new e r _ m in
+  done-stored : (id : SubchannelId) (q : Option Found) (r : Reply) (new : State) → found_at s.subs (place_in id s.subs) ≡ q → IsStorageLeft s cpu i q new.storage → IsDone s i q r new →
+      is_accepted r ≡ true → IsBlockStored id cpu address s new
+  done-stored id None r new found left k ok = absurd (cc (sym ok ∙ ap is_accepted k.replies))
+  done-stored id (Some f) r new found left k ok =
       let there = found-there s.subs (place_in id s.subs) f found in
-      record { place = f.place; sub = f.sub; named = there.0; there = there.1; subs = is.1; stored = is.3 }
+      record {
+        place = f.place;
+        sub = f.sub;
+        named = there.0;
+        there = there.1;
+        subs = k.subs ∙ ap (λ (x : SubchannelState). slice_set s.subs f.place (with_state f.sub (state_left i f.sub x))) k.is ∙ set-same s.subs f.place f.sub there.1;
+        stored = left;
+      }
 
-  named-stored : (id : SubchannelId) (x : Option SubchannelId) (o : Outcome) → is_id x id ≡ true → Executes_on s cpu (instruction.Stsch word address) x o →
-      does r new ≡ settled s e o → is_accepted r ≡ true → IsBlockStored id cpu address s new
-  named-stored id None o n w m ok = absurd (cc n)
-  named-stored id (Some named) o n w m ok =
-      subst (λ (y : SubchannelId). IsBlockStored y cpu address s new) (same-id named id n)
-      (tested-stored named (found_at s.subs (place_in named s.subs)) (operand_check s.storage cpu address 52 4) refl (m ∙ ap (settled s e) w) ok)
+  turn-stored : (r : Reply) (new : State) (waiting : WaitingRequests) (id : SubchannelId) → TurnOf s (event.Execute cpu i) r new → names s.sets id word ≡ true → is_accepted r ≡ true →
+      IsBlockStored id cpu address s (record new { requests = waiting })
+  turn-stored _ _ waiting id (turn.Executes _ _ named q r storage subs n e blocks left done) mine ok =
+      let same : named ≡ id = same-id named id (subst (λ (x : Option SubchannelId). is_id x id ≡ true) n mine) in
+      subst (λ (y : SubchannelId). IsBlockStored y cpu address s (record s { storage = storage; subs = subs; requests = waiting })) same
+      (done-stored named q r (record s { storage = storage; subs = subs; requests = waiting }) e left (done-settled s i q r (record s { storage = storage; subs = subs }) waiting done) ok)
 
-  step-stored : (id : SubchannelId) → Step s e r new → names s.sets id word ≡ true → is_accepted r ≡ true → IsBlockStored id cpu address s new
-  step-stored id (o, w, m) n ok = named-stored id (subchannel_named s.sets word) o n w m ok
+  step-stored : (r : Reply) (new : State) (id : SubchannelId) → Step s (event.Execute cpu i) r new → names s.sets id word ≡ true → is_accepted r ≡ true → IsBlockStored id cpu address s new
+  step-stored r new id step mine ok =
+      let is : HasTurn s (event.Execute cpu i) r new = step-turn s (event.Execute cpu i) r new step in
+      subst (IsBlockStored id cpu address s) (sym is.settles) (turn-stored r is.left _ id is.turn mine ok)
 
 -- bytes are shown
 record IsShowing (address : ℕ) (bytes : List ℕ) (s new : State) : Type 0 where
   subs : new.subs ≡ s.subs
   found : shown s.storage address 4 ≡ Ok bytes
 
+turn-showing : (s : State) (address : ℕ) (bytes : List ℕ) (r : Reply) (new : State) (waiting : WaitingRequests) → TurnOf s (event.Show address 4) r new → r ≡ reply.Shown bytes →
+    IsShowing address bytes s (record new { requests = waiting })
+turn-showing s address bytes _ _ waiting (turn.Shows _ _ found e) is = let same : found ≡ bytes = cc is in record { subs = refl; found = e ∙ ap (λ (xs : List ℕ). Ok xs) same }
+
 step-showing : (s : State) (address : ℕ) (bytes : List ℕ) (r : Reply) (new : State) → Step s (event.Show address 4) r new → r ≡ reply.Shown bytes → IsShowing address bytes s new
-step-showing s address bytes r new (o, w, m) is = by (shown s.storage address 4) refl (m ∙ ap (settled s (event.Show address 4)) w)
-  where
-    by : (x : Result (List ℕ) StorageFault) → shown s.storage address 4 ≡ x → does r new ≡ settled s (event.Show address 4) (show_turn_of s x) → IsShowing address bytes s new
-    by (Ok found) e k =
-        let left = settled-is s new (event.Show address 4) r _ k in
-        let same : found ≡ bytes = cc (sym left.0 ∙ is) in record { subs = left.1; found = e ∙ ap (λ (xs : List ℕ). Ok xs) same }
-    by (Err f) e k = absurd (cc k)
+step-showing s address bytes r new step shows =
+    let is : HasTurn s (event.Show address 4) r new = step-turn s (event.Show address 4) r new step in
+    subst (IsShowing address bytes s) (sym is.settles) (turn-showing s address bytes r is.left _ is.turn shows)
 
 -- the three entries
 pub record HasMasks (id : SubchannelId) (s new : State) (word : ℕ) : Type 0 where

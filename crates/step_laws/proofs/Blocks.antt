@@ -1,39 +1,26 @@
 -- No step changes how a machine is set up: how many keys storage has (a key is set in its place, and all else that is stored
 -- are bytes), which channel paths are configured, which units share a control unit, and for how many requests there is room.
-use Rattle.std.proofs.Common.{◌≡◌, refl, sym, ◌∙◌, ap, subst, ℕ, zero, suc, Bool, true, false, nat_lt, Option, None, Some, Result, Ok, Err, List, [], ◌∷◌, map, length, inl, inr}
+use Rattle.std.proofs.Common.{◌≡◌, refl, sym, ◌∙◌, ap, subst, ℕ, zero, suc, Bool, true, false, nat_lt, Option, None, Some, Result, Ok, Err, List, [], ◌∷◌, map, length}
 use Rattle.std.specs.Prelude.{◌==◌, ◌+◌, ◌%◌, slice_get, slice_set, if◌then◌else◌, not, is_some, IfOk}
 use Rattle.std.proofs.lemmas.List.{length-set}
 use Rattle.storage_keys.specs.declared.key.Key.{Key}
 use Rattle.storage_keys.specs.declared.StorageFault.{StorageFault}
 use Rattle.storage_keys.specs.declared.StorageFault.TheVariants.{Addressing, Specification}
 use Rattle.storage_keys.specs.Storage as keys
-use Rattle.storage_keys.specs.Storage.{Contents, put, put_at, key_set, prefix_set, is_inside, access_check, key_permits_store, where_permitted, operand_at, operand_check}
+use Rattle.storage_keys.specs.Storage.{Contents, put, put_at, key_set, prefix_set, is_inside, access_check, key_permits_store, where_permitted}
 use Rattle.chan_events.specs.Events.{Event}
 use Rattle.chan_events.specs.declared.event.Event.TheVariants as event
 use Rattle.chan_events.specs.declared.event.Instruction.{Instruction}
-use Rattle.chan_events.specs.declared.event.Instruction.TheVariants as instruction
-use Rattle.chan_events.specs.declared.event.OtherInstruction.{OtherInstruction}
-use Rattle.chan_events.specs.declared.event.OtherInstruction.TheVariants as other
-use Rattle.chan_events.specs.declared.event.UnitAct.{UnitAct}
 use Rattle.chan_events.specs.Replies.{Reply}
-use Rattle.chan_model.specs.declared.answer.ConditionCode.{ConditionCode}
-use Rattle.chan_model.specs.declared.answer.ConditionCode.TheVariants as code
 use Rattle.chan_model.specs.declared.fault.Fault.{Fault}
-use Rattle.chan_model.specs.declared.fault.Fault.TheVariants as fault
-use Rattle.chan_model.specs.Reports.{Report}
 use Rattle.chan_model.specs.Signals.{Load}
 use Rattle.chan_model.specs.Signals.{Up}
 use Rattle.chan_model.specs.declared.signal.Up.TheVariants as up
 use Rattle.chan_model.specs.declared.unit_state.UnitState.{UnitState}
-use Rattle.chan_model.specs.declared.names.Side.{Side}
 use Rattle.chan_model.specs.HoldTable.{is_connected}
 use Rattle.chan_model.specs.UnitReports.{is_outward}
 use Rattle.chan_model.specs.UnitTable.{restarted}
 use Rattle.ccw_walk.specs.declared.check.Check.{Check}
-use Rattle.channel_config.specs.declared.names.SubchannelId.{SubchannelId}
-use Rattle.channel_config.specs.Setup.{has_number}
-use Rattle.channel_config.specs.SubchannelWords.{subchannel_named}
-use Rattle.channel_reports.specs.Queue.{is_asked}
 use Rattle.data_move.specs.Accesses as access
 use Rattle.transfer.specs.declared.Transfer.{Transfer}
 use Rattle.transfer.specs.Chunks.{Brought, brought_by, brought_in, brought, fitting, is_answered}
@@ -42,18 +29,9 @@ use Rattle.subchannel_model.specs.declared.signals.DataSignal.{DataSignal}
 use Rattle.subchannel_model.specs.declared.state.ActiveProgram.{ActiveProgram}
 use Rattle.subchannel_model.specs.declared.state.Subchannel.{Subchannel}
 use Rattle.subchannel_model.specs.declared.state.SubchannelState.{SubchannelState}
-use Rattle.subchannel_model.specs.declared.status.Condition.{Condition}
-use Rattle.subchannel_model.specs.Places.{Found, found_at, place_in, reached_in}
 use Rattle.subchannel_model.specs.Sending.{carried_by, finds_full}
 use Rattle.subchannel_model.specs.Taking.{Met, meets, ignoring, move_data, takes_up}
 use Rattle.chan_model.specs.Signals.{load_bytes}
-use Rattle.subchannel_model.specs.Choosing.{chosen, marked_sub}
-use Rattle.subchannel_model.specs.Resume.{rsch_code, resumed}
-use Rattle.subchannel_model.specs.Halt.{hsch_code, halted}
-use Rattle.subchannel_model.specs.Clear.{csch_code, cleared}
-use Rattle.subchannel_model.specs.Cancel.{xsch_code, cancelled}
-use Rattle.subchannel_model.specs.Start.{ssch_code, started}
-use Rattle.subchannel_model.specs.Modify.{msch_code, modified_state}
 use Rattle.wires.specs.Queues.{queue}
 use Rattle.control_units.specs.declared.Member.{Member}
 use Rattle.control_units.proofs.Named.{refused_at}
@@ -62,28 +40,19 @@ use Rattle.control_units.specs.Parts.{begun_at, over_at}
 use Rattle.interruptions.specs.Requests as requests
 use Rattle.interruptions.specs.Requests.{WaitingRequests}
 use Rattle.scsw_irb.specs.declared.code.IntCode.{IntCode}
-use Rattle.machine_model.specs.State.{State, sub_of, found_of}
-use Rattle.machine_model.specs.Turns.{Outcome, Turn, SubTurn, UpTurn, DownTurn, at_sub, at_storage, at_unit, does}
-use Rattle.machine_model.specs.StorageSteps.{storage_turn}
-use Rattle.machine_model.specs.InstructionSteps.{function_at, test_sub, Modifies_by, Enables_with, with_enabling, Executes_at, subchannel_word}
-use Rattle.machine_model.proofs.Named.{PerformsStart, tests, stores, Modifies, Enables, Executes_on}
-use Rattle.machine_model.specs.ChooseSteps.{choose_sub, Chooses}
-use Rattle.machine_model.specs.UpSteps.{returns_at, up_front, up_sub, up_at}
-use Rattle.machine_model.specs.DownSteps.{asks_at, share_with, at_shared, down_sub, down_at}
-use Rattle.machine_model.proofs.Named.{down_unit}
-use Rattle.machine_model.specs.ReportSteps.{report_sub, report_to, report_at}
-use Rattle.machine_model.specs.RestartSteps.{restart_at}
-use Rattle.machine_model.proofs.Named.{makes_status, requests_settled, show_turn_of}
-use Rattle.machine_model.specs.Requests.{reply_code, drops, requests_after, requests_dropped, posted_all, posted_for, request_of, settled}
-use Rattle.machine_model.specs.Steps.{Does, Step}
-use Rattle.machine_model.specs.Sharing.{may_take, is_let_go, members_asked, members_over, members_after}
+use Rattle.machine_model.specs.State.{State, sub_of}
+use Rattle.machine_model.specs.Turns.{UpTurn}
+use Rattle.machine_model.specs.InstructionSteps.{subchannel_word}
+use Rattle.machine_model.specs.UpSteps.{returns_at, up_front, up_sub}
+use Rattle.machine_model.specs.DownSteps.{asks_at}
+use Rattle.machine_model.proofs.Named.{makes_status}
+use Rattle.machine_model.specs.Requests.{reply_code, drops, requests_after, requests_dropped, posted_all, posted_for, request_of}
+use Rattle.machine_model.specs.Steps.{Step}
+use Rattle.machine_model.specs.Sharing.{is_let_go, members_asked, members_over, members_after}
 use Rattle.machine_model.specs.Setups.{group_of}
-use Rattle.machine_model.proofs.Others.{other-turned}
-use Rattle.machine_model.specs.OtherTurns.{turned_at, tpi_done, stcrw_done, stcps_done, RchpTurn, rchp_turn, lent_whole, tpi_lent, stcrw_lent, rchp_lent, stcps_lent, other_done}
-use Rattle.machine_model.specs.OtherSteps.{code_check, other_at, is_up}
-use Rattle.machine_model.specs.OtherTurns.{where_stored}
-use Rattle.machine_model.specs.ActSteps.{side_of_act, act_sub, act_on, act_at}
-use Rattle.machine_model.proofs.Named.{act_to}
+use Rattle.machine_model.specs.OtherSteps.{code_stored}
+use Rattle.step_laws.proofs.Turns as turn
+use Rattle.step_laws.proofs.Turns.{TurnOf, HasTurn, step-turn}
 
 -- storage of so many blocks
 abbrev IsOf : ℕ → Contents → Type 0
@@ -216,211 +185,46 @@ after-groups : (members : List Member) (place : ℕ) (asks : Bool) (old new : Un
 after-groups members place true old new = asked-groups members place (may_serve members place)
 after-groups members place false old new = over-groups members place (is_let_go old new)
 
-module _ (s : State) where
-  abbrev Kept : Outcome → Type 0
-  Kept r = IfOk r (λ t. IsAs s t.state)
+-- an operator's acts
+made-of : (n : ℕ) (r : Result Contents StorageFault) (storage : Contents) → AreOf n r → r ≡ Ok storage → IsOf n storage
+made-of n r storage k e = subst (AreOf n) e k
 
-  at_sub-kept : (place : ℕ) (r : Result SubTurn Fault) → Kept (at_sub s place r)
-  at_sub-kept place (Ok t) = (refl, refl, refl, refl)
-  at_sub-kept place (Err f) = tt
+put-of : (storage after : Contents) (address : ℕ) (bytes : List ℕ) → put storage address bytes ≡ Ok after → IsOf (length storage.keys) after
+put-of storage after address bytes =
+    made-of (length storage.keys) (put storage address bytes) after (either (AreOf (length storage.keys)) (is_inside storage address (length bytes)) _ _ refl tt)
 
-  at_storage-kept : (place : ℕ) (r : Result UpTurn Fault) → UpOf (length s.storage.keys) r → Kept (at_storage s place r)
-  at_storage-kept place (Ok t) k = (k, refl, refl, refl)
-  at_storage-kept place (Err f) k = tt
+key-of : (storage after : Contents) (address : ℕ) (key : Key) → key_set storage address key ≡ Ok after → IsOf (length storage.keys) after
+key-of storage after address key =
+    made-of (length storage.keys) (key_set storage address key) after
+    (either (AreOf (length storage.keys)) (is_inside storage address 1) _ _ (length-set storage.keys _ key) tt)
 
-  at_unit-kept : (place at : ℕ) (r : Result DownTurn Fault) → Kept (at_unit s place at r)
-  at_unit-kept place at (Ok t) = (refl, refl, refl, refl)
-  at_unit-kept place at (Err f) = tt
+cpu_prefix-of : (storage after : Contents) (cpu address : ℕ) → prefix_set storage cpu address ≡ Ok after → IsOf (length storage.keys) after
+cpu_prefix-of storage after cpu address =
+    made-of (length storage.keys) (prefix_set storage cpu address) after
+    (prefix-of (length storage.keys) storage (address % 8192 == 0) (is_inside storage address 8192) _ refl)
 
-  -- an operator's acts
-  storage-kept : (r : Result Contents StorageFault) → AreOf (length s.storage.keys) r → Kept (storage_turn s r)
-  storage-kept (Ok storage) k = (k, refl, refl, refl)
-  storage-kept (Err f) k = tt
+code-of : (storage : Contents) (cpu address : ℕ) (found : Option IntCode) → IsOf (length storage.keys) (code_stored storage cpu address found)
+code-of storage cpu address None = refl
+code-of storage cpu address (Some code) = refl
 
-  put-kept : (address : ℕ) (bytes : List ℕ) → Kept (storage_turn s (put s.storage address bytes))
-  put-kept address bytes = storage-kept _ (either (AreOf (length s.storage.keys)) (is_inside s.storage address (length bytes)) _ _ refl tt)
+-- what an answer of TEST PENDING INTERRUPTION leaves of the room for requests
+answer-room : (waiting : WaitingRequests) (found : Option IntCode) → (requests.after_answer waiting found).numbers ≡ waiting.numbers
+answer-room waiting None = refl
+answer-room waiting (Some code) = refl
 
-  key-kept : (address : ℕ) (key : Key) → Kept (storage_turn s (key_set s.storage address key))
-  key-kept address key =
-      storage-kept _ (either (AreOf (length s.storage.keys)) (is_inside s.storage address 1) _ _ (length-set s.storage.keys _ key) tt)
-
-  prefix-kept : (cpu address : ℕ) → Kept (storage_turn s (prefix_set s.storage cpu address))
-  prefix-kept cpu address = storage-kept _ (prefix-of (length s.storage.keys) s.storage (address % 8192 == 0) (is_inside s.storage address 8192) _ refl)
-
-  show-kept : (r : Result (List ℕ) StorageFault) → Kept (show_turn_of s r)
-  show-kept (Ok bytes) = (refl, refl, refl, refl)
-  show-kept (Err f) = tt
-
-  -- instructions
-  function-kept : (q : Option Found) (code : Condition → ConditionCode) (effect : Subchannel → SubchannelState) → Kept (function_at s q code effect)
-  function-kept None code effect = (refl, refl, refl, refl)
-  function-kept (Some f) code effect = (refl, refl, refl, refl)
-
-  starts-kept : (q : Option Found) (image : Result (List ℕ) StorageFault) (o : Outcome) → PerformsStart s q image o → Kept o
-  starts-kept q (Err f) o w = subst Kept (sym w) tt
-  starts-kept q (Ok image) o w =
-      elim w [
-        | inl x ↦ subst Kept (sym x.1) tt
-        | inr x ↦ subst Kept (sym x.2) (function-kept q ssch_code (λ sub. started sub.state x.0))
-      ]
-
-  test-kept : (cpu address : ℕ) (f : Found) (c : ConditionCode) → Kept (test_sub s cpu address f c)
-  test-kept cpu address f code.Zero = (refl, refl, refl, refl)
-  test-kept cpu address f code.One = (refl, refl, refl, refl)
-  test-kept cpu address f code.Two = (refl, refl, refl, refl)
-  test-kept cpu address f code.Three = (refl, refl, refl, refl)
-
-  tests-kept : (cpu address : ℕ) (q : Option Found) (r : Result (Unit {0}) StorageFault) → Kept (tests s cpu address q r)
-  tests-kept cpu address q (Err f) = tt
-  tests-kept cpu address None (Ok u) = (refl, refl, refl, refl)
-  tests-kept cpu address (Some f) (Ok u) = test-kept cpu address f _
-
-  stores-kept : (cpu address : ℕ) (q : Option Found) (r : Result (Unit {0}) StorageFault) → Kept (stores s cpu address q r)
-  stores-kept cpu address q (Err f) = tt
-  stores-kept cpu address None (Ok u) = (refl, refl, refl, refl)
-  stores-kept cpu address (Some f) (Ok u) = (refl, refl, refl, refl)
-
--- of any state with as many keys, as the one is in which an enabling word was stored
-modified-kept : (s : State) (q : Option Found) (image : List ℕ) (o : Outcome) → Modifies_by s q image o → Kept s o
-modified-kept s q image o w =
-    elim w.2 [
-      | inl x ↦ subst (Kept s) (sym x.1) tt
-      | inr x ↦ subst (Kept s) (sym x.1) (function-kept s q msch_code (λ sub. modified_state sub w.0))
-    ]
-
-modifies-kept : (s : State) (q : Option Found) (image : Result (List ℕ) StorageFault) (o : Outcome) → Modifies s q image o → Kept s o
-modifies-kept s q (Err f) o w = subst (Kept s) (sym w) tt
-modifies-kept s q (Ok image) o w = modified-kept s q image o w
-
-enabled-kept : (s : State) (cpu : ℕ) (q : Option Found) (subclass : ℕ) (multipath : Bool) (image : List ℕ) (o : Outcome) →
-    Enables_with s cpu q subclass multipath image o → Kept s o
-enabled-kept s cpu None subclass multipath image o w = modified-kept (with_enabling s cpu image subclass multipath) None image o w
-enabled-kept s cpu (Some f) subclass multipath image o w = subst (Kept s) (sym w) (refl, refl, refl, refl)
-
-enables-kept : (s : State) (cpu : ℕ) (q : Option Found) (subclass : ℕ) (multipath : Bool) (image : Result (List ℕ) StorageFault) (o : Outcome) →
-    Enables s cpu q subclass multipath image o → Kept s o
-enables-kept s cpu q subclass multipath (Err f) o w = subst (Kept s) (sym w) tt
-enables-kept s cpu q subclass multipath (Ok image) o w = enabled-kept s cpu q subclass multipath image o w
-
-executes_at-kept : (s : State) (cpu : ℕ) (i : Instruction) (q : Option Found) (o : Outcome) → Executes_at s cpu i q o → Kept s o
-executes_at-kept s cpu (instruction.Ssch word address) q o w = starts-kept s q (operand_at s.storage cpu address 12 4) o w
-executes_at-kept s cpu (instruction.Tsch word address) q o w =
-    subst (Kept s) (sym w) (tests-kept s cpu address q (operand_check s.storage cpu address 64 4))
-executes_at-kept s cpu (instruction.Stsch word address) q o w =
-    subst (Kept s) (sym w) (stores-kept s cpu address q (operand_check s.storage cpu address 52 4))
-executes_at-kept s cpu (instruction.Msch word address) q o w = modifies-kept s q (operand_at s.storage cpu address 52 4) o w
-executes_at-kept s cpu (instruction.Enable word subclass multipath) q o w =
-    enables-kept s cpu q subclass multipath (operand_at s.storage cpu 0xF00 52 4) o w
-executes_at-kept s cpu (instruction.Rsch word) q o w = subst (Kept s) (sym w) (function-kept s q rsch_code (λ sub. resumed sub.state))
-executes_at-kept s cpu (instruction.Hsch word) q o w = subst (Kept s) (sym w) (function-kept s q hsch_code (λ sub. halted sub.state))
-executes_at-kept s cpu (instruction.Csch word) q o w = subst (Kept s) (sym w) (function-kept s q csch_code (λ sub. cleared sub.state))
-executes_at-kept s cpu (instruction.Xsch word) q o w = subst (Kept s) (sym w) (function-kept s q xsch_code (λ sub. cancelled sub.state))
-
-executes-kept : (s : State) (cpu : ℕ) (i : Instruction) (id : Option SubchannelId) (o : Outcome) → Executes_on s cpu i id o → Kept s o
-executes-kept s cpu i None o w = subst (Kept s) (sym w) tt
-executes-kept s cpu i (Some id) o w = executes_at-kept s cpu i (found_at s.subs (place_in id s.subs)) o w
-
--- what the subsystem does for a subchannel, and what a unit does
-chooses-kept : (s : State) (q : Option Found) (o : Outcome) → Chooses s q o → Kept s o
-chooses-kept s None o w = subst (Kept s) (sym w) tt
-chooses-kept s (Some f) o w = subst (Kept s) (sym w.2) (at_sub-kept s f.place (choose_sub (marked_sub f.sub w.0) (chosen f.sub w.0)))
-
-up-kept : (s : State) (q : Option Found) (path : ℕ) → Kept s (up_at s q path)
-up-kept s None path = tt
-up-kept s (Some f) path = at_storage-kept s f.place (up_sub (returns_at s.subs f.sub path) s.storage f.sub path) (up-of _ (returns_at s.subs f.sub path) s.storage f.sub path refl)
-
-shared-kept : (s : State) (place at : ℕ) (asks : Bool) (u : UnitState) (r : Result DownTurn Fault) → Kept s (at_shared s place at (share_with s.members at asks u r))
-shared-kept s place at asks u (Ok t) = (refl, refl, after-groups s.members at asks u t.«unit», refl)
-shared-kept s place at asks u (Err f) = tt
-
-down_unit-kept : (s : State) (f : Found) (path : ℕ) (u : Option UnitState) → Kept s (down_unit s f path u)
-down_unit-kept s f path None = tt
-down_unit-kept s f path (Some u) = shared-kept s f.place f.sub.setup.«unit» (asks_at f.sub path u) u (down_sub (may_take s.members f.sub.setup.«unit» (asks_at f.sub path u)) f.sub path u)
-
-down-kept : (s : State) (q : Option Found) (path : ℕ) → Kept s (down_at s q path)
-down-kept s None path = tt
-down-kept s (Some f) path = down_unit-kept s f path (slice_get s.units f.sub.setup.«unit»)
-
-report_to-kept : (s : State) (at : ℕ) (u : UnitState) (report : Report) (q : Option Found) → Kept s (report_to s at u report q)
-report_to-kept s at u report None = tt
-report_to-kept s at u report (Some f) = at_unit-kept s f.place at (report_sub f.sub u report)
-
-report-kept : (s : State) (at : ℕ) (u : Option UnitState) (report : Report) → Kept s (report_at s at u report)
-report-kept s at None report = tt
-report-kept s at (Some u) report = report_to-kept s at u report (found_at s.subs (reached_in at report.side s.subs))
-
-act_to-kept : (s : State) (at : ℕ) (u : UnitState) (what : UnitAct) (q : Option Found) → Kept s (act_to s at u what q)
-act_to-kept s at u what None = tt
-act_to-kept s at u what (Some f) = at_unit-kept s f.place at (act_sub f.sub u what)
-
-act_on-kept : (s : State) (at : ℕ) (u : UnitState) (what : UnitAct) (side : Option Side) → Kept s (act_on s at u what side)
-act_on-kept s at u what None = tt
-act_on-kept s at u what (Some side) = act_to-kept s at u what (found_at s.subs (reached_in at side s.subs))
-
-act-kept : (s : State) (at : ℕ) (u : Option UnitState) (what : UnitAct) → Kept s (act_at s at u what)
-act-kept s at None what = tt
-act-kept s at (Some u) what = act_on-kept s at u what (side_of_act u what)
-
-restart-kept : (s : State) (at : ℕ) (u : Option UnitState) → Kept s (restart_at s at u)
-restart-kept s at None = tt
-restart-kept s at (Some u) = (refl, refl, over-groups s.members at (is_let_go u (restarted u)), refl)
-
--- instructions that name no subchannel
-tpi-kept : (s : State) (cpu address : ℕ) (r : Result (Unit {0}) StorageFault) (found : Option IntCode) →
-    Kept s (other_done s (tpi_lent (lent_whole s.storage s.requests s.reports) (where_stored r (tpi_done s.storage s.requests cpu address found))))
-tpi-kept s cpu address (Ok u) None = (refl, refl, refl, refl)
-tpi-kept s cpu address (Ok u) (Some code) = (refl, refl, refl, refl)
-tpi-kept s cpu address (Err f) found = tt
-
-stcrw-kept : (s : State) (cpu address : ℕ) (r : Result (Unit {0}) StorageFault) →
-    Kept s (other_done s (stcrw_lent (lent_whole s.storage s.requests s.reports) (where_stored r (stcrw_done s.storage s.reports cpu address))))
-stcrw-kept s cpu address (Ok u) = (refl, refl, refl, refl)
-stcrw-kept s cpu address (Err f) = tt
-
-rchp-kept : (s : State) (r : Result RchpTurn Fault) → Kept s (other_done s (rchp_lent (lent_whole s.storage s.requests s.reports) r))
-rchp-kept s (Ok t) = (refl, refl, refl, refl)
-rchp-kept s (Err f) = tt
-
-stcps-kept : (s : State) (cpu address : ℕ) (engaged : List ℕ) (r : Result (Unit {0}) StorageFault) →
-    Kept s (other_done s (stcps_lent (lent_whole s.storage s.requests s.reports) (where_stored r (stcps_done s.storage cpu address engaged))))
-stcps-kept s cpu address engaged (Ok u) = (refl, refl, refl, refl)
-stcps-kept s cpu address engaged (Err f) = tt
-
-turned-kept : (s : State) (cpu : ℕ) (i : OtherInstruction) → Kept s (turned_at s cpu i)
-turned-kept s cpu (other.Tpi mask address) = tpi-kept s cpu address (code_check s.storage cpu address) (requests.answer s.requests mask)
-turned-kept s cpu (other.Rchp path) = rchp-kept s (rchp_turn s.reports s.up path)
-turned-kept s cpu (other.Stcrw address) = stcrw-kept s cpu address (operand_check s.storage cpu address 4 4)
-turned-kept s cpu (other.Stcps address) = stcps-kept s cpu address _ (operand_check s.storage cpu address 32 32)
-
-other-kept : (s : State) (cpu : ℕ) (i : OtherInstruction) → Kept s (other_at s cpu i)
-other-kept s cpu i = subst (Kept s) (sym (other-turned s cpu i)) (turned-kept s cpu i)
-
--- an event of a path is refused, or leaves all this
-where-kept : (s : State) (there right : Bool) (o : Outcome) → Kept s o → Kept s (if there then (if right then o else Err fault.NotNow) else Err fault.NoSuchPath)
-where-kept s true true o k = k
-where-kept s true false o k = tt
-where-kept s false right o k = tt
-
-steps-kept : (s : State) (e : Event) (o : Outcome) → Does s e o → Kept s o
-steps-kept s (event.Put address bytes) o w = subst (Kept s) (sym w) (put-kept s address bytes)
-steps-kept s (event.SetKey address key) o w = subst (Kept s) (sym w) (key-kept s address key)
-steps-kept s (event.SetPrefix cpu address) o w = subst (Kept s) (sym w) (prefix-kept s cpu address)
-steps-kept s (event.Show address count) o w = subst (Kept s) (sym w) (show-kept s (keys.shown s.storage address count))
-steps-kept s (event.Execute cpu i) o w = executes-kept s cpu i (subchannel_named s.sets (subchannel_word i)) o w
-steps-kept s (event.Choose word) o w = chooses-kept s (found_of s word) o w
-steps-kept s (event.Up word path) o w = subst (Kept s) (sym w) (up-kept s (found_of s word) path)
-steps-kept s (event.Down word path) o w = subst (Kept s) (sym w) (down-kept s (found_of s word) path)
-steps-kept s (event.Report at report) o w = subst (Kept s) (sym w) (report-kept s at (slice_get s.units at) report)
-steps-kept s (event.ExecuteOther cpu i) o w = subst (Kept s) (sym w) (other-kept s cpu i)
-steps-kept s (event.Act at what) o w = subst (Kept s) (sym w) (act-kept s at (slice_get s.units at) what)
-steps-kept s (event.Restart at) o w = subst (Kept s) (sym w) (restart-kept s at (slice_get s.units at))
-steps-kept s (event.PathDown chpid) o w =
-    subst (Kept s) (sym w) (where-kept s (has_number s.chpids chpid) (is_up s.up chpid) _ (refl, refl, refl, refl))
-steps-kept s (event.PathUp chpid) o w =
-    subst (Kept s) (sym w) (where-kept s (has_number s.chpids chpid) (not (is_up s.up chpid)) _ (refl, refl, refl, refl))
-steps-kept s (event.PathReset chpid) o w =
-    subst (Kept s) (sym w) (where-kept s (has_number s.chpids chpid) (is_asked s.reports chpid) _ (refl, refl, refl, refl))
-steps-kept s event.SystemReset o w = subst (Kept s) (sym w) (refl, refl, refl, refl)
+turn-as : (s : State) (e : Event) (r : Reply) (new : State) → TurnOf s e r new → IsAs s new
+turn-as s _ _ _ (turn.Puts address bytes storage e) = (put-of s.storage storage address bytes e, refl, refl, refl)
+turn-as s _ _ _ (turn.SetsKey address key storage e) = (key-of s.storage storage address key e, refl, refl, refl)
+turn-as s _ _ _ (turn.SetsPrefix cpu address storage e) = (cpu_prefix-of s.storage storage cpu address e, refl, refl, refl)
+turn-as s _ _ _ (turn.Executes cpu i id q r storage subs n e blocks left done) = (blocks, refl, refl, refl)
+turn-as s _ _ _ (turn.Interrupts cpu mask address) = (code-of s.storage cpu address _, refl, refl, answer-room s.requests (requests.answer s.requests mask))
+turn-as s _ _ _ (turn.Meets word path place sub t named there ok) =
+    let n : ℕ = length s.storage.keys in
+    (subst (UpOf n) ok (up-of n (returns_at s.subs sub path) s.storage sub path refl), refl, refl, refl)
+turn-as s _ _ _ (turn.Takes word path place sub u t named there found ok) =
+    (refl, refl, after-groups s.members sub.setup.«unit» (asks_at sub path u) u t.«unit», refl)
+turn-as s _ _ _ (turn.Restarts at u found) = (refl, refl, over-groups s.members at (is_let_go u (restarted u)), refl)
+turn-as s _ _ _ t = (refl, refl, refl, refl)
 
 -- requests that are posted or dropped leave room as it was
 posted-room : (old new : Subchannel) (waiting : WaitingRequests) → (posted_for old new waiting).numbers ≡ waiting.numbers
@@ -439,32 +243,15 @@ after-room waiting None i r = refl
 after-room waiting (Some sub) i r = either (λ (w : WaitingRequests). w.numbers ≡ waiting.numbers) (drops i (reply_code r)) _ waiting refl refl
 
 dropped-room : (s : State) (e : Event) (r : Reply) (waiting : WaitingRequests) → (requests_dropped s e r waiting).numbers ≡ waiting.numbers
-dropped-room s (event.Put address bytes) r waiting = refl
-dropped-room s (event.SetKey address key) r waiting = refl
-dropped-room s (event.SetPrefix cpu address) r waiting = refl
-dropped-room s (event.Show address count) r waiting = refl
 dropped-room s (event.Execute cpu i) r waiting = after-room waiting (sub_of s (subchannel_word i)) i r
-dropped-room s (event.ExecuteOther cpu i) r waiting = refl
-dropped-room s (event.Choose word) r waiting = refl
-dropped-room s (event.Up word path) r waiting = refl
-dropped-room s (event.Down word path) r waiting = refl
-dropped-room s (event.Report at report) r waiting = refl
-dropped-room s (event.Act at what) r waiting = refl
-dropped-room s (event.Restart at) r waiting = refl
-dropped-room s (event.PathDown chpid) r waiting = refl
-dropped-room s (event.PathUp chpid) r waiting = refl
-dropped-room s (event.PathReset chpid) r waiting = refl
-dropped-room s event.SystemReset r waiting = refl
-
-settled-as : (s : State) (e : Event) (r : Reply) (new : State) (o : Outcome) → Kept s o → does r new ≡ settled s e o → IsAs s new
-settled-as s e r new (Ok t) k n =
-    let same : record { reply = r; state = new } ≡ record t { state = record t.state { requests = requests_settled s e t } } = cc n in
-    subst (λ (x : Turn). IsAs s x.state) (sym same)
-    (k.0, k.1, k.2, posted_all-room s.subs t.state.subs (requests_dropped s e t.reply t.state.requests) ∙ (dropped-room s e t.reply t.state.requests ∙ k.3))
-settled-as s e r new (Err f) k n = absurd (cc n)
+dropped-room s e r waiting = refl
 
 step-as : (s : State) (e : Event) (r : Reply) (new : State) → Step s e r new → IsAs s new
-step-as s e r new (o, w, n) = settled-as s e r new o (steps-kept s e o w) n
+step-as s e r new step =
+    let is : HasTurn s e r new = step-turn s e r new step in
+    let k : IsAs s is.left = turn-as s e r is.left is.turn in
+    subst (IsAs s) (sym is.settles)
+    (k.0, k.1, k.2, posted_all-room s.subs is.left.subs (requests_dropped s e r is.left.requests) ∙ (dropped-room s e r is.left.requests ∙ k.3))
 
 pub step-blocks : (s : State) (e : Event) (r : Reply) (new : State) → Step s e r new → length new.storage.keys ≡ length s.storage.keys
 step-blocks s e r new w = (step-as s e r new w).0

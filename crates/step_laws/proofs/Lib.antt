@@ -1,3 +1,5 @@
+pub mod Executed
+pub mod Turns
 mod Walk
 mod Suiting
 pub mod Places

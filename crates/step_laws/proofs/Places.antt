@@ -12,8 +12,8 @@ use Rattle.chan_model.specs.Sides.{same_side}
 use Rattle.channel_config.specs.declared.parts.SubchannelSetup.{SubchannelSetup}
 use Rattle.channel_config.specs.Lawful.{IsShared, uses_by}
 use Rattle.subchannel_model.specs.declared.state.Subchannel.{Subchannel}
-use Rattle.subchannel_model.proofs.Named.{one_later}
-use Rattle.subchannel_model.specs.Places.{first_place, reaches}
+use Rattle.subchannel_model.proofs.Named.{found_with, one_later}
+use Rattle.subchannel_model.specs.Places.{Found, found_at, first_place, reaches}
 
 -- an element of a list in which one was set
 pub set-get : {A : Type 0} (xs : List A) (k : ℕ) (y : A) (i : ℕ) (x : A) → slice_get (slice_set xs k y) i ≡ Some x →
@@ -34,11 +34,9 @@ get-set (z ∷ xs) zero x y e = refl
 get-set (z ∷ xs) (suc k) x y e = get-set xs k x y e
 
 pub get-other : {A : Type 0} (xs : List A) (k : ℕ) (y : A) (i : ℕ) → i ≢ k → slice_get (slice_set xs k y) i ≡ slice_get xs i
-get-other [] k y i n = refl
 get-other (z ∷ xs) zero y zero n = absurd (n refl)
-get-other (z ∷ xs) zero y (suc i) n = refl
-get-other (z ∷ xs) (suc k) y zero n = refl
 get-other (z ∷ xs) (suc k) y (suc i) n = get-other xs k y i (λ h. n (ap suc h))
+get-other other k y i n = refl
 
 -- an element of a list that was mapped
 some-mapped : {A B : Type 0} (f : A → B) (o : Option A) (y : B) → option_map f o ≡ Some y → (x : A) × (o ≡ Some x) × (f x ≡ y)
@@ -125,3 +123,15 @@ pub reached-there : (place : ℕ) (side : Side) (sub : Subchannel) → reaches p
 reached-there place side sub e =
     let both : ((sub.setup.«unit» == place) ≡ true) × (same_side sub.setup.side side ≡ true) = and_parts (sub.setup.«unit» == place) (same_side sub.setup.side side) e in
     (eqb-true sub.setup.«unit» place both.0, one-side sub.setup.side side both.1)
+
+-- a subchannel that was found stands at its place
+found_with-there : (place : ℕ) (o : Option Subchannel) (f : Found) → found_with place o ≡ Some f → (place ≡ f.place) × (o ≡ Some f.sub)
+found_with-there place None f e = absurd (cc e)
+found_with-there place (Some sub) f e =
+    let same : record { place = place; sub = sub } ≡ f = cc e in (ap (λ (x : Found). x.place) same, ap (λ (x : Found). Some x.sub) same)
+
+pub found-there : (subs : List Subchannel) (p : Option ℕ) (f : Found) → found_at subs p ≡ Some f → (p ≡ Some f.place) × (slice_get subs f.place ≡ Some f.sub)
+found-there subs None f e = absurd (cc e)
+found-there subs (Some place) f e =
+    let there : (place ≡ f.place) × (slice_get subs place ≡ Some f.sub) = found_with-there place (slice_get subs place) f e in
+    (ap (λ (k : ℕ). Some k) there.0, subst (λ (k : ℕ). slice_get subs k ≡ Some f.sub) there.0 there.1)

@@ -50,13 +50,8 @@ candidate-found s =
 
 -- the four that may be done
 unsent-is : (phase : HoldPhase) (path : Option ℕ) (r : ℕ) → unsent_at phase path ≡ Some r → phase ≡ hold.Reset r
-unsent-is hold.Free path r e = absurd (cc e)
-unsent-is (hold.Offer t p) path r e = absurd (cc e)
-unsent-is (hold.On t p c) path r e = absurd (cc e)
-unsent-is (hold.Away t) path r e = absurd (cc e)
-unsent-is (hold.Letting t p) path r e = absurd (cc e)
 unsent-is (hold.Reset n) None r e = let same : n ≡ r = cc e in ap hold.Reset same
-unsent-is (hold.Reset n) (Some path) r e = absurd (cc e)
+unsent-is other path r e = absurd (cc e)
 
 reset-suits : (s : SubchannelState) (unsent choice : Option ℕ) → unsent_reset s.hold ≡ unsent → IfThere (λ (c : Chosen). Suits c s) (reset_chosen unsent choice)
 reset-suits s None choice e = tt
@@ -69,13 +64,11 @@ clear-suits s (Some r) false = tt
 clear-suits s (Some r) true = record { fits = tt; found = tt }
 
 halt-at-suits : (s : SubchannelState) (phase : HoldPhase) (choice : Option ℕ) → s.hold.phase ≡ phase → IfThere (λ (c : Chosen). Suits c s) (halt_at phase choice)
-halt-at-suits s hold.Free choice e = record { fits = tt; found = tt }
 halt-at-suits s (hold.Offer t p) choice e = tt
 halt-at-suits s (hold.On t p c) choice e = record { fits = subst (λ (phase : HoldPhase). IsHeldBy phase t) (sym e) refl; found = tt }
 halt-at-suits s (hold.Away t) None e = tt
 halt-at-suits s (hold.Away t) (Some path) e = record { fits = subst (λ (phase : HoldPhase). IsHeldBy phase t) (sym e) refl; found = tt }
-halt-at-suits s (hold.Letting t p) choice e = record { fits = tt; found = tt }
-halt-at-suits s (hold.Reset r) choice e = record { fits = tt; found = tt }
+halt-at-suits s other choice e = record { fits = tt; found = tt }
 
 halt-suits : (s : SubchannelState) (pending : Bool) (choice : Option ℕ) → IfThere (λ (c : Chosen). Suits c s) (halt_chosen pending s.hold.phase choice)
 halt-suits s false choice = tt
@@ -89,11 +82,8 @@ offer-at-suits : (s : SubchannelState) (phase : HoldPhase) (c : Candidate) (reac
     IfThere (λ (c : Chosen). Suits c s) (offer_at phase c reachable choice)
 offer-at-suits s hold.Free c reachable None e h = over-suits s reachable
 offer-at-suits s hold.Free c reachable (Some path) e h = record { fits = e; found = h }
-offer-at-suits s (hold.Offer t p) c reachable choice e h = tt
-offer-at-suits s (hold.On t p d) c reachable choice e h = tt
-offer-at-suits s (hold.Away t) c reachable choice e h = tt
-offer-at-suits s (hold.Letting t p) c reachable choice e h = tt
 offer-at-suits s (hold.Reset r) c reachable choice e h = over-suits s reachable
+offer-at-suits s other c reachable choice e h = tt
 
 offer-suits : (s : SubchannelState) (found : Option Candidate) (reachable : Bool) (choice : Option ℕ) → IfThere (IsFoundAs s) found →
     IfThere (λ (c : Chosen). Suits c s) (offer_chosen s.hold.phase found reachable choice)

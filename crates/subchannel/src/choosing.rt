@@ -16,7 +16,7 @@ use chan_model::lent::PlainDown;
 use chan_model::names::Path;
 use chan_model::paths::PathSet;
 use chan_model::signal::OnPath;
-use finding::engines::Counted;
+use finding::engines::Served;
 use functions::blocks::available_paths;
 use hold::Hold;
 use scsw_irb::scsw::Scsw;
@@ -41,7 +41,7 @@ fn is_away(phase: HoldPhase) -> bool
     matches!(phase, HoldPhase::Away { .. })
 }
 
-fn paths_unreset(subs: &Counted<'_>, sub: &Subchannel) -> PathSet
+fn paths_unreset(subs: &Served<'_>, sub: &Subchannel) -> PathSet
     ensures { result ≡ spec.paths_unreset subs.now sub.now }
 {
     if sub.state.scsw.activity.halt_pending && is_away(sub.state.hold.phase) {
@@ -53,7 +53,7 @@ fn paths_unreset(subs: &Counted<'_>, sub: &Subchannel) -> PathSet
 
 /// The paths of which one is chosen: for a Reset each that is available, for a Halt of a program that is away those by which
 /// the program may come back, and otherwise those that may be used and whose engines are free.
-pub fn paths_to_choose(subs: &Counted<'_>, sub: &Subchannel) -> PathSet
+pub fn paths_to_choose(subs: &Served<'_>, sub: &Subchannel) -> PathSet
     ensures { result ≡ spec.paths_to_choose subs.now sub.now }
 {
     match unsent_reset(&sub.state.hold) {

@@ -10,7 +10,7 @@ use allegiance::allegiances::may_reconnect;
 use allegiance::path_use::PathUse;
 use chan_model::names::Path;
 use chan_model::paths::PathSet;
-use finding::engines::Counted;
+use finding::engines::Served;
 use functions::blocks::{available_paths, installed_paths};
 use subchannel_model::state::Subchannel;
 
@@ -29,7 +29,7 @@ pub(crate) fn path_use(sub: &Subchannel) -> PathUse
     }
 }
 
-fn is_engaged(subs: &Counted<'_>, sub: &Subchannel, path: usize) -> bool
+fn is_engaged(subs: &Served<'_>, sub: &Subchannel, path: usize) -> bool
     ensures { result ≡ spec.is_engaged subs.now (slice_get sub.now.setup.paths path) }
 {
     match sub.setup.paths.as_slice().get(path) {
@@ -50,7 +50,7 @@ fn keeps_dedicated(sub: &Subchannel, path: usize) -> bool
 /// Whether a path may be used and its engine is free. What differs most is asked first.
 #[inline(always)]
 #[tactic(auto, using(crate::proofs::Usable::usable_so))]
-fn is_usable(subs: &Counted<'_>, sub: &Subchannel, path: usize) -> bool
+fn is_usable(subs: &Served<'_>, sub: &Subchannel, path: usize) -> bool
     requires { path < 8 }
     ensures { result ≡ use_spec.is_usable subs.now sub.now path }
 {
@@ -62,7 +62,7 @@ fn is_usable(subs: &Counted<'_>, sub: &Subchannel, path: usize) -> bool
 }
 
 /// The paths that may be used and whose engines are free.
-pub(crate) fn usable_paths(subs: &Counted<'_>, sub: &Subchannel) -> PathSet
+pub(crate) fn usable_paths(subs: &Served<'_>, sub: &Subchannel) -> PathSet
     ensures { result ≡ set_spec.usable_paths (spec.path_use sub.now) (spec.engaged_paths subs.now sub.now) }
 {
     [
@@ -106,7 +106,7 @@ pub(crate) fn is_any_lost(sub: &Subchannel) -> bool
 }
 
 /// The paths of the subchannel whose engines serve some subchannel.
-pub(crate) fn engaged_paths(subs: &Counted<'_>, sub: &Subchannel) -> PathSet
+pub(crate) fn engaged_paths(subs: &Served<'_>, sub: &Subchannel) -> PathSet
     ensures { result ≡ spec.engaged_paths subs.now sub.now }
 {
     [
@@ -151,7 +151,7 @@ pub(crate) fn return_paths(sub: &Subchannel) -> PathSet
 
 /// Whether the program that is away is granted this path, by which it asks to come back: it is one by which it may, and its
 /// engine serves no subchannel.
-pub fn is_granted(subs: &Counted<'_>, sub: &Subchannel, path: Path) -> bool
+pub fn is_granted(subs: &Served<'_>, sub: &Subchannel, path: Path) -> bool
     ensures { result ≡ (set_spec.is_member (spec.return_paths sub.now) path
         && not (set_spec.is_member (spec.engaged_paths subs.now sub.now) path)) }
 {

@@ -7,7 +7,7 @@ use crate::unit_turns::cyclic_path;
 use chan_events::event::Event;
 use chan_model::names::Path;
 use chan_model::paths::PathSet;
-use finding::engines::Counted;
+use finding::engines::Served;
 use subchannel::choosing::{chosen, paths_to_choose};
 use subchannel::losing::path_index;
 use subchannel_model::state::{Chosen, Subchannel};
@@ -25,7 +25,7 @@ fn is_idle(chosen: &Chosen) -> bool
 }
 
 /// Whether the subsystem has something to do for a subchannel of itself.
-fn has_to_choose(subs: &Counted<'_>, sub: &Subchannel) -> bool
+fn has_to_choose(subs: &Served<'_>, sub: &Subchannel) -> bool
     ensures { result ≡ spec.has_to_choose subs.now sub.now }
 {
     let paths = paths_to_choose(subs, sub);
@@ -33,7 +33,7 @@ fn has_to_choose(subs: &Counted<'_>, sub: &Subchannel) -> bool
 }
 
 /// The event of a turn for a subchannel, which this word names, on the channel path of this identifier.
-pub fn turn_at(subs: &Counted<'_>, sub: &Subchannel, word: u32, chpid: u8) -> Option<Event>
+pub fn turn_at(subs: &Served<'_>, sub: &Subchannel, word: u32, chpid: u8) -> Option<Event>
     ensures { result ≡ spec.turn_at subs.now (Some sub.now) word chpid }
 {
     let path = path_index(chpid, sub.setup.paths.as_slice())?;

@@ -8,7 +8,7 @@ ghost use Rattle.machine_model.specs.OtherTurns.{LentWhole};
 ghost use Rattle.machine_model.specs.State as state_spec;
 
 use chan_events::event::OtherInstruction;
-use finding::engines::Counted;
+use finding::engines::Served;
 use io_step::PathTable;
 
 /// Whether the path is among these.
@@ -30,7 +30,7 @@ pub fn configured(chpids: &[u8]) -> PathTable
 }
 
 /// Of each channel path, whether its engine serves a subchannel.
-fn engaged(subs: &Counted<'_>) -> PathTable
+fn engaged(subs: &Served<'_>) -> PathTable
     ensures { result ≡ other_spec.engaged_chpids subs.now 0x100 }
 {
     let mut table = [false; 256];
@@ -41,7 +41,7 @@ fn engaged(subs: &Counted<'_>) -> PathTable
 }
 
 /// The same where the instruction asks for it, STORE CHANNEL PATH STATUS alone; else no channel path.
-pub fn engaged_for(subs: &Counted<'_>, instruction: OtherInstruction) -> PathTable
+pub fn engaged_for(subs: &Served<'_>, instruction: OtherInstruction) -> PathTable
     ensures { (lent : LentWhole) (up : List Bool) (cpu : ℕ) → turns.other_turn lent up result cpu instruction
         ≡ turns.other_turn lent up (other_spec.engaged_chpids subs.now 0x100) cpu instruction }
 {

@@ -39,7 +39,7 @@ use chan_model::signal::{Down, OnPath, Up};
 use chan_model::unit_state::Place;
 use control_units::sharing::Sharing;
 use event_log::logs::Log;
-use finding::engines::Counted;
+use finding::engines::Served;
 use status::make_pending;
 use storage_keys::Storage;
 use subchannel::answering::{answer_path, answer_paths, standing_path};
@@ -217,7 +217,7 @@ pub fn path_of(sub: &Subchannel, path: u32) -> Option<Path>
 }
 
 /// Whether a program may come back by a path, where its Back waits there; no other signal asks.
-pub fn returns_at(subs: &Counted<'_>, sub: &Subchannel, path: Path) -> bool
+pub fn returns_at(subs: &Served<'_>, sub: &Subchannel, path: Path) -> bool
     ensures { giving_spec.MayReturn subs.now sub.now path result }
 {
     match sub.wires.front_up(path) {

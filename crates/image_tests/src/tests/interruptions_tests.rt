@@ -2,7 +2,7 @@
 
 use interruptions::Pending;
 use scsw_irb::code::IntCode;
-use std::alloc::AllocError;
+use std::alloc::{AllocError, Global};
 use supply::{Given, Refusing};
 
 /// A request of a subchannel of set 0.
@@ -89,32 +89,35 @@ fn a_subchannel_has_one_request(rt: HostRuntime) -> Result<(), AllocError> {
     Ok(())
 }
 
+/// Whether room for such numbers is refused where so many requests for room are granted.
+fn is_refused(alloc: Global, left: u64, numbers: u16) -> bool {
+    let mut supply = Refusing {
+        left,
+        refused: false,
+    };
+    let is_refused = Pending::new_with(alloc, &mut supply, numbers).is_err();
+    is_refused && supply.refused
+}
+
 #[test]
-fn the_one_request_for_room_is_refused(rt: HostRuntime) -> Result<(), AllocError> {
-    for left in 0..2 {
-        let mut supply = Refusing {
-            left,
-            refused: false,
-        };
-        let is_refused = Pending::new_with(rt.alloc(), &mut supply, 2).is_err();
-        assert!(rt; is_refused == (left == 0) && supply.refused == (left == 0));
-        let mut supply = Given { refused: false };
-        let mut pending = Pending::new_with(rt.alloc(), &mut supply, 2)?;
-        post(&mut pending, 1, 7);
-        let answered = answered(&mut pending, 0x01);
-        drop(pending);
-        assert!(rt; !supply.refused && answered == Some(1));
+fn each_of_the_five_requests_for_room_is_refused_in_turn(
+    rt: HostRuntime,
+) -> Result<(), AllocError> {
+    for left in 0..6 {
+        let without_subchannels = is_refused(rt.alloc(), left, 0);
+        let with_subchannels = is_refused(rt.alloc(), left, 2);
+        assert!(rt; without_subchannels == (left < 5) && with_subchannels == (left < 5));
     }
     Ok(())
 }
 
 #[test]
-fn room_for_no_subchannel_is_not_asked_for(rt: HostRuntime) -> Result<(), AllocError> {
-    let mut supply = Refusing {
-        left: 0,
-        refused: false,
-    };
-    let pending = Pending::new_with(rt.alloc(), &mut supply, 0)?;
-    assert!(rt; pending.numbers() == 0 && !supply.refused);
+fn room_that_is_given_is_used(rt: HostRuntime) -> Result<(), AllocError> {
+    let mut supply = Given { refused: false };
+    let mut pending = Pending::new_with(rt.alloc(), &mut supply, 2)?;
+    post(&mut pending, 1, 7);
+    let answered = answered(&mut pending, 0x01);
+    drop(pending);
+    assert!(rt; !supply.refused && answered == Some(1));
     Ok(())
 }

@@ -5,7 +5,7 @@ use chan_model::hold_state::HoldPhase;
 use chan_model::names::{Path, Side};
 use channel_config::names::SubchannelId;
 use channel_config::parts::{ChpidList, SubchannelSetup};
-use finding::engines::{Counted, Engines, engaged};
+use finding::engines::engaged;
 use finding::tables::Places;
 use std::alloc::{AllocError, Global};
 use subchannel_model::state::{Subchannel, SubchannelState};
@@ -144,19 +144,10 @@ fn engaged_in(alloc: Global, phase: HoldPhase) -> Result<Option<u8>, AllocError>
 }
 
 #[test]
-fn an_engine_is_engaged_while_some_subchannel_engages_it(
-    rt: HostRuntime,
-) -> Result<(), AllocError> {
+fn a_subchannel_engages_the_engine_of_its_path(rt: HostRuntime) -> Result<(), AllocError> {
     let of_offered = engaged_in(rt.alloc(), offered())?;
     let of_free = engaged_in(rt.alloc(), HoldPhase::Free)?;
     assert!(rt; of_offered == Some(0x20) && of_free == None);
-    let mut subs = four(rt.alloc())?;
-    for want in [true, true, true, true, false] {
-        let engines = Engines::of(&subs);
-        let counted = Counted::of(&subs, &engines);
-        assert!(rt; counted.is_engaged(0x20) == want && !counted.is_engaged(0x10));
-        subs.pop();
-    }
     Ok(())
 }
 

@@ -1,14 +1,14 @@
 use Rattle.std.proofs.Common.{◌≡◌, ◌++◌, map, take, drop}
-use Rattle.finding.specs.Tables.{Counts}
+use Rattle.finding.specs.Tables.{Serves}
 use Rattle.machine_model.specs.PathSteps.{swept}
 use Rattle.machine_model.specs.Requests.{posted_all}
 use Rattle.machine_steps.proofs.paths.sweep_all.Given as goal
 
 -- the first subchannels are swept, with what is posted for them, and the rest are as before
-abbrev pub invariant-loop-sub : goal.invariant-loop-sub
-invariant-loop-sub l = record {
-  subs : l.sub-items ≡ map (swept l.what) (take l.sub-index l.initial.sub-items) ++ drop l.sub-index l.initial.sub-items;
-  posted : l.pending ≡ posted_all (take l.sub-index l.initial.sub-items) (map (swept l.what) (take l.sub-index l.initial.sub-items)) l.fn.pending;
+abbrev pub invariant-loop-place : goal.invariant-loop-place
+invariant-loop-place l = record {
+  subs : l.sub-items ≡ map (swept l.what) (take l.place l.initial.sub-items) ++ drop l.place l.initial.sub-items;
+  posted : l.pending ≡ posted_all (take l.place l.initial.sub-items) (map (swept l.what) (take l.place l.initial.sub-items)) l.fn.pending;
   numbers : l.pending.numbers ≡ 0x100;
-  counted : Counts l.engines l.sub-items;
+  served : Serves l.engines l.sub-items;
 }

@@ -7,7 +7,8 @@ use Rattle.subchannel_model.specs.Places.{reached_in}
 use Rattle.machine_model.specs.Steps.{Performs}
 use Rattle.chan_events.specs.Replies.{plain_outcome}
 use Rattle.machine_steps.specs.contracts.machine.Machine.{the_view}
-use Rattle.machine_steps.proofs.Lifting.{at_seen, act-performs, counted-still}
+use Rattle.machine_steps.proofs.Lifting.{at_seen, act-performs, gets}
+use Rattle.machine_steps.proofs.Serving.{serves-still}
 use Rattle.machine_steps.proofs.machine.Machine.act.Goals as goal
 
 pub returns : goal.returns
@@ -28,6 +29,6 @@ pub invariant_of-self : goal.invariant_of-self
 invariant_of-self c =
     let subs = c.self.inside.subs.items in
     let stands = at_seen subs c.as_slice-2.result.now c.in-Some-reached_in.place c.index_mut-sub.result.now (sym c.as_slice-2.ensures.value) c.in-Some-reached_in.ensures.bound c.index_mut-sub.ensures.value in (
-      counted-still c.self.inside.engines subs c.in-Some-reached_in.place c.index_mut-sub.result.now c.act_sub.new.sub stands c.self.invariant.0 c.act_sub.ensures.engaged,
+      serves-still c.self.inside.engines subs c.in-Some-reached_in.place c.index_mut-sub.result.now c.act_sub.new.sub (gets subs c.in-Some-reached_in.place c.index_mut-sub.result.now stands) c.self.invariant.0 c.act_sub.ensures.engaged,
       omega (arith, length-set c.self.inside.units.items c.args.number c.act_sub.new.«unit», c.self.invariant.1),
     )

@@ -1,12 +1,15 @@
-use Rattle.std.proofs.Common.{arith, ◌∙◌, ap, subst, sym, List}
-use Rattle.std.specs.Prelude.{All}
+use Rattle.std.proofs.Common.{◌∙◌, ap, subst, sym, List}
+use Rattle.std.specs.Prelude.{All, slice_get, slice_set}
+use Rattle.chan_events.specs.declared.event.Event.TheVariants as event
+use Rattle.finding.specs.Tables.{Serves}
 use Rattle.chan_events.specs.Replies.{plain_outcome}
 use Rattle.machine_steps.specs.Postable.{IsPostable}
 use Rattle.machine_model.specs.State.{State}
 use Rattle.subchannel_model.specs.Choosing.{paths_to_choose}
 use Rattle.subchannel_model.specs.declared.state.Subchannel.{Subchannel}
 use Rattle.machine_steps.specs.contracts.machine.Machine.{the_view}
-use Rattle.machine_steps.proofs.Lifting.{at_seen, named_at, chooses, chooses-none, postable-at, counted-room, counted-out, counted-in}
+use Rattle.machine_steps.proofs.Lifting.{at_seen, named_at, chooses, chooses-none, postable-at, gets}
+use Rattle.machine_steps.proofs.Serving.{served-performed}
 use Rattle.machine_steps.proofs.machine.Machine.choose.Goals as goal
 
 pub returns : goal.returns
@@ -16,7 +19,7 @@ returns g c =
     let stands = at_seen old.subs c.args.self.now.subs c.in-Some.place c.index_mut-sub.result.now (ap (λ (s : State). s.subs) c.self.view_is) c.in-Some.ensures.bound c.index_mut-sub.ensures.value in
     let both = chooses g.P.PathChoice.picks old c.args.self.now c.args.word c.in-Some.place c.index_mut-sub.result.now c.index.result.now c.choose_sub-answer.new.sub
     c.paths_to_choose-paths.result c.choose-path.result c.chosen-what.result (plain_outcome c.choose_sub-answer.result) c.post.new.pending c.self.view_is at stands c.index.ensures
-    (c.paths_to_choose-paths.ensures ∙ ap (λ (subs : List Subchannel). paths_to_choose subs c.index.result.now) (c.of-counted.ensures ∙ c.as_slice.ensures.value))
+    (c.paths_to_choose-paths.ensures ∙ ap (λ (subs : List Subchannel). paths_to_choose subs c.index.result.now) (c.of-served.ensures ∙ c.as_slice.ensures.value))
     c.choose-path.ensures.law c.choose-path.ensures.rule c.chosen-what.ensures.chosen c.choose_sub-answer.ensures.gives c.post.ensures in
     record { performs = both.0; ruled = both.1 }
 
@@ -25,18 +28,25 @@ returns-in_default g c =
     let both = chooses-none g.P.PathChoice.picks c.args.self.now c.args.word (sym c.place_of.ensures.place ∙ c.in_default.is) in
     record { performs = both.0; ruled = both.1 }
 
-pub change-requires-clause-some : goal.change-requires-clause-some
-change-requires-clause-some g c =
-    let subs = c.self.inside.subs.items in
-    let stands = at_seen subs c.args.self.now.subs c.in-Some.place c.index_mut-sub.result.now (ap (λ (s : State). s.subs) c.self.view_is) c.in-Some.ensures.bound c.index_mut-sub.ensures.value in
-    counted-out c.self.inside.engines subs c.in-Some.place c.index_mut-sub.result.now c.engaged-before.result stands c.self.invariant.0 c.engaged-before.ensures.value c.engaged-before.ensures.small
-
 pub invariant_of-self : goal.invariant_of-self
 invariant_of-self g c =
-    let subs = c.self.inside.subs.items in
-    let stands = at_seen subs c.args.self.now.subs c.in-Some.place c.index_mut-sub.result.now (ap (λ (s : State). s.subs) c.self.view_is) c.in-Some.ensures.bound c.index_mut-sub.ensures.value in (
-      counted-in c.self.inside.engines c.change.new.self subs c.in-Some.place c.index_mut-sub.result.now c.choose_sub-answer.new.sub c.engaged-before.result c.engaged-after.result stands c.self.invariant.0
-          c.engaged-before.ensures.value c.engaged-after.ensures.value c.change.ensures,
+    let old = the_view c.self.inside in
+    let place = c.in-Some.place in
+    let sub = c.index_mut-sub.result.now in
+    let after = c.choose_sub-answer.new.sub in
+    let answer = plain_outcome c.choose_sub-answer.result in
+    let at = named_at old c.args.self.now c.args.word place c.place_of.result c.self.view_is c.place_of.ensures.place c.in-Some.is in
+    let stands = at_seen old.subs c.args.self.now.subs place sub (ap (λ (s : State). s.subs) c.self.view_is) c.in-Some.ensures.bound c.index_mut-sub.ensures.value in
+    let both = chooses g.P.PathChoice.picks old c.args.self.now c.args.word place sub c.index.result.now after
+    c.paths_to_choose-paths.result c.choose-path.result c.chosen-what.result answer c.post.new.pending c.self.view_is at stands c.index.ensures
+    (c.paths_to_choose-paths.ensures ∙ ap (λ (subs : List Subchannel). paths_to_choose subs c.index.result.now) (c.of-served.ensures ∙ c.as_slice.ensures.value))
+    c.choose-path.ensures.law c.choose-path.ensures.rule c.chosen-what.ensures.chosen c.choose_sub-answer.ensures.gives c.post.ensures in (
+      subst (λ (s : State). Serves c.change.new.self (slice_set s.subs place after)) (sym c.self.view_is)
+          (served-performed c.engines.ensures.alone c.self.inside.engines c.change.new.self c.args.self.now _ (event.Choose c.args.word) answer place sub after
+          c.engaged-before.result c.engaged-after.result (ap (λ (s : State). slice_get s.subs place) (sym c.self.view_is) ∙ gets old.subs place sub stands)
+          (subst (λ (s : State). Serves c.self.inside.engines s.subs) c.self.view_is c.self.invariant.0) both.0
+          (ap (λ (s : State). slice_set s.subs place after) c.self.view_is)
+          c.engaged-before.ensures.value c.engaged-after.ensures.value c.change.ensures),
       c.self.invariant.1,
     )
 
@@ -47,6 +57,3 @@ post-requires g c =
     postable-at old.subs c.in-Some.place c.index_mut-sub.result.now c.choose_sub-answer.new.sub c.self.inside.pending.numbers stands
     (subst (λ (s : State). All IsPostable s.subs) (sym c.self.view_is) c.requires.postable) c.choose_sub-answer.ensures.setup
     (ap (λ (s : State). s.requests.numbers) c.self.view_is ∙ c.requires.requests)
-
-pub change-requires-clause-room : goal.change-requires-clause-room
-change-requires-clause-room g c = λ chpid small. counted-room c.self.inside.engines c.self.inside.subs.items c.self.invariant.0 (omega arith) chpid small

@@ -5,7 +5,8 @@ use Rattle.machine_model.specs.State.{State, with_sub, state_with_unit}
 use Rattle.machine_model.specs.Steps.{Performs}
 use Rattle.event_log.specs.Logs.{answer_in}
 use Rattle.machine_steps.specs.contracts.machine.Machine.{the_view}
-use Rattle.machine_steps.proofs.Lifting.{at_seen, named_at, down-performs-at, counted-still}
+use Rattle.machine_steps.proofs.Lifting.{at_seen, named_at, down-performs-at, gets}
+use Rattle.machine_steps.proofs.Serving.{serves-still}
 use Rattle.machine_steps.proofs.machine.Machine.down.Goals as goal
 
 pub returns-clause-performs : goal.returns-clause-performs
@@ -24,6 +25,6 @@ pub invariant_of-self : goal.invariant_of-self
 invariant_of-self c =
     let subs = c.self.inside.subs.items in
     let stands = at_seen subs c.args.self.now.subs c.in-Some.place c.index_mut-sub.result.now (ap (λ (s : State). s.subs) c.self.view_is) c.in-Some.ensures.bound c.index_mut-sub.ensures.value in (
-      counted-still c.self.inside.engines subs c.in-Some.place c.index_mut-sub.result.now c.down_sub.new.sub stands c.self.invariant.0 c.down_sub.ensures.engaged,
+      serves-still c.self.inside.engines subs c.in-Some.place c.index_mut-sub.result.now c.down_sub.new.sub (gets subs c.in-Some.place c.index_mut-sub.result.now stands) c.self.invariant.0 c.down_sub.ensures.engaged,
       omega (arith, length-set c.self.inside.units.items c.index.result.now.setup.«unit» c.down_sub.new.«unit», c.self.invariant.1),
     )

@@ -1,4 +1,4 @@
-use Rattle.std.proofs.Common.{arith, ◌≡◌, ap, sym, ◌∙◌, subst, None, Some}
+use Rattle.std.proofs.Common.{◌≡◌, refl, ap, sym, ◌∙◌, subst, None, Some}
 use Rattle.channel_config.specs.SubchannelWords.{subchannel_named}
 use Rattle.chan_events.specs.declared.event.Event.TheVariants as event
 use Rattle.machine_model.specs.State.{State, with_sub}
@@ -7,7 +7,8 @@ use Rattle.subchannel_model.specs.Places.{place_in}
 use Rattle.machine_model.specs.InstructionSteps.{subchannel_word}
 use Rattle.chan_events.specs.Replies.{plain_outcome}
 use Rattle.machine_steps.specs.contracts.machine.Machine.{the_view}
-use Rattle.machine_steps.proofs.Lifting.{at_seen, executes, executes-absent, executes-unnamed, counted-room, counted-out, counted-in}
+use Rattle.machine_steps.proofs.Lifting.{at_seen, executes, executes-absent, executes-unnamed, gets}
+use Rattle.machine_steps.proofs.Serving.{served-performed}
 use Rattle.machine_steps.proofs.machine.Machine.execute.Goals as goal
 
 pub returns-in_default : goal.returns-in_default
@@ -41,20 +42,24 @@ returns c =
     (executes old c.args.cpu c.in-Some-place_in.place c.args.instruction.now c.in-Some.id c.index_mut-sub.result.now c.perform_provided-answer.new.sub c.perform_provided-answer.new.storage
     c.perform_provided-answer.new.pending c.post.new.pending (plain_outcome c.perform_provided-answer.result) named placed stands c.perform_provided-answer.ensures.done c.post.ensures)
 
-pub change-requires-clause-some : goal.change-requires-clause-some
-change-requires-clause-some c =
-    let subs = c.self.inside.subs.items in
-    let stands = at_seen subs c.as_slice.result.now c.in-Some-place_in.place c.index_mut-sub.result.now (sym c.as_slice.ensures.value) c.in-Some-place_in.ensures.bound c.index_mut-sub.ensures.value in
-    counted-out c.self.inside.engines subs c.in-Some-place_in.place c.index_mut-sub.result.now c.engaged-before.result stands c.self.invariant.0 c.engaged-before.ensures.value c.engaged-before.ensures.small
-
 pub invariant_of-self-2 : goal.invariant_of-self-2
 invariant_of-self-2 c =
-    let subs = c.self.inside.subs.items in
-    let stands = at_seen subs c.as_slice.result.now c.in-Some-place_in.place c.index_mut-sub.result.now (sym c.as_slice.ensures.value) c.in-Some-place_in.ensures.bound c.index_mut-sub.ensures.value in (
-      counted-in c.self.inside.engines c.change.new.self subs c.in-Some-place_in.place c.index_mut-sub.result.now c.perform_provided-answer.new.sub c.engaged-before.result c.engaged-after.result stands c.self.invariant.0
-          c.engaged-before.ensures.value c.engaged-after.ensures.value c.change.ensures,
+    let old = the_view c.self.inside in
+    let subs : c.as_slice.result.now ≡ old.subs = c.as_slice.ensures.value in
+    let named : subchannel_named old.sets (subchannel_word c.args.instruction.now) ≡ Some c.in-Some.id =
+    ap (subchannel_named old.sets) (sym c.word_of.ensures) ∙ (sym c.subchannel_named.ensures.value ∙ c.in-Some.is) in
+    let placed : place_in c.in-Some.id old.subs ≡ Some c.in-Some-place_in.place =
+    ap (place_in c.in-Some.id) (sym subs) ∙ (sym c.place_in.ensures.place ∙ c.in-Some-place_in.is) in
+    let place = c.in-Some-place_in.place in
+    let sub = c.index_mut-sub.result.now in
+    let after = c.perform_provided-answer.new.sub in
+    let stands = at_seen old.subs c.as_slice.result.now place sub (sym subs) c.in-Some-place_in.ensures.bound c.index_mut-sub.ensures.value in
+    let new : State = record (with_sub (record old { storage = c.perform_provided-answer.new.storage }) place after) { requests = c.post.new.pending } in
+    let done : Performs old (event.Execute c.args.cpu c.args.instruction.now) (plain_outcome c.perform_provided-answer.result) new =
+    executes old c.args.cpu place c.args.instruction.now c.in-Some.id sub after c.perform_provided-answer.new.storage
+    c.perform_provided-answer.new.pending c.post.new.pending (plain_outcome c.perform_provided-answer.result) named placed stands c.perform_provided-answer.ensures.done c.post.ensures in (
+      served-performed c.engines.ensures.alone c.self.inside.engines c.change.new.self old new (event.Execute c.args.cpu c.args.instruction.now)
+          (plain_outcome c.perform_provided-answer.result) place sub after c.engaged-before.result c.engaged-after.result
+          (gets old.subs place sub stands) c.self.invariant.0 done refl c.engaged-before.ensures.value c.engaged-after.ensures.value c.change.ensures,
       c.self.invariant.1,
     )
-
-pub change-requires-clause-room : goal.change-requires-clause-room
-change-requires-clause-room c = λ chpid small. counted-room c.self.inside.engines c.self.inside.subs.items c.self.invariant.0 (omega arith) chpid small

@@ -6,7 +6,8 @@ use Rattle.subchannel_model.specs.Places.{reached_in}
 use Rattle.machine_model.specs.Steps.{Performs}
 use Rattle.chan_events.specs.Replies.{plain_outcome}
 use Rattle.machine_steps.specs.contracts.machine.Machine.{the_view}
-use Rattle.machine_steps.proofs.Lifting.{at_seen, report-performs, counted-still}
+use Rattle.machine_steps.proofs.Lifting.{at_seen, report-performs, gets}
+use Rattle.machine_steps.proofs.Serving.{serves-still}
 use Rattle.machine_steps.proofs.machine.Machine.report.Goals as goal
 
 pub returns : goal.returns
@@ -26,6 +27,6 @@ pub invariant_of-self : goal.invariant_of-self
 invariant_of-self c =
     let subs = c.self.inside.subs.items in
     let stands = at_seen subs c.as_slice.result.now c.in-Some.place c.index_mut-sub.result.now (sym c.as_slice.ensures.value) c.in-Some.ensures.bound c.index_mut-sub.ensures.value in (
-      counted-still c.self.inside.engines subs c.in-Some.place c.index_mut-sub.result.now c.report_sub.new.sub stands c.self.invariant.0 c.report_sub.ensures.engaged,
+      serves-still c.self.inside.engines subs c.in-Some.place c.index_mut-sub.result.now c.report_sub.new.sub (gets subs c.in-Some.place c.index_mut-sub.result.now stands) c.self.invariant.0 c.report_sub.ensures.engaged,
       omega (arith, length-set c.self.inside.units.items c.args.number c.report_sub.new.«unit», c.self.invariant.1),
     )

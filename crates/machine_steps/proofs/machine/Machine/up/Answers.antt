@@ -1,4 +1,4 @@
-use Rattle.std.proofs.Common.{◌≡◌, ℕ, arith, ◌∙◌, ap, subst, true, nat_lt, Err, List, length}
+use Rattle.std.proofs.Common.{◌≡◌, refl, ℕ, ◌∙◌, ap, subst, true, nat_lt, Err, List, length}
 use Rattle.chan_model.specs.declared.fault.Fault.TheVariants as fault
 use Rattle.chan_events.specs.declared.event.Event.TheVariants as event
 use Rattle.subchannel_model.specs.declared.state.Subchannel.{Subchannel}
@@ -7,7 +7,8 @@ use Rattle.machine_model.specs.Steps.{Performs}
 use Rattle.event_log.specs.Logs.{answer_in}
 use Rattle.subchannel_steps.specs.Giving.{MayReturn}
 use Rattle.machine_steps.specs.contracts.machine.Machine.{the_view}
-use Rattle.machine_steps.proofs.Lifting.{at_seen, named_at, one_there, up-pathless, up-performs, counted-room, counted-out, counted-in}
+use Rattle.machine_steps.proofs.Lifting.{at_seen, named_at, one_there, up-pathless, up-performs, gets}
+use Rattle.machine_steps.proofs.Serving.{served-performed}
 use Rattle.machine_steps.proofs.machine.Machine.up.Goals as goal
 
 pub returns-in_default-path_of-clause-performs : goal.returns-in_default-path_of-clause-performs
@@ -25,7 +26,7 @@ returns-clause-performs c =
     let at = named_at old c.args.self.now c.args.word c.in-Some.place c.place_of.result c.self.view_is c.place_of.ensures.place c.in-Some.is in
     let stands = at_seen old.subs c.args.self.now.subs c.in-Some.place c.index_mut-sub.result.now (ap (λ (s : State). s.subs) c.self.view_is) c.in-Some.ensures.bound c.index_mut-sub.ensures.value in
     let may : MayReturn old.subs c.index-2.result.now path c.returns_at-returns.result =
-    subst (λ (subs : List Subchannel). MayReturn subs c.index-2.result.now path c.returns_at-returns.result) (c.of-counted.ensures ∙ c.as_slice.ensures.value) c.returns_at-returns.ensures in
+    subst (λ (subs : List Subchannel). MayReturn subs c.index-2.result.now path c.returns_at-returns.result) (c.of-served.ensures ∙ c.as_slice.ensures.value) c.returns_at-returns.ensures in
     subst (λ (s : State). Performs s (event.Up c.args.word c.args.path) (answer_in c.up_sub-answer.result c.up_sub-answer.new.log)
     (record (with_sub (record old { storage = c.up_sub-answer.new.storage }) c.in-Some.place c.up_sub-answer.new.sub) { requests = c.post.new.pending })) c.self.view_is
     (subst (λ (p : ℕ). Performs old (event.Up c.args.word p) (answer_in c.up_sub-answer.result c.up_sub-answer.new.log)
@@ -41,20 +42,24 @@ up_sub-answer-requires-clause-inside c =
     subst (λ (x : Subchannel). nat_lt c.in-Some-path_of.path (length x.setup.paths) ≡ true) same
     (ap (λ (p : ℕ). nat_lt p (length c.index.result.now.setup.paths)) c.in-Some-path_of.ensures.1 ∙ c.in-Some-path_of.ensures.0)
 
-pub change-requires-clause-some : goal.change-requires-clause-some
-change-requires-clause-some c =
-    let subs = c.self.inside.subs.items in
-    let stands = at_seen subs c.args.self.now.subs c.in-Some.place c.index_mut-sub.result.now (ap (λ (s : State). s.subs) c.self.view_is) c.in-Some.ensures.bound c.index_mut-sub.ensures.value in
-    counted-out c.self.inside.engines subs c.in-Some.place c.index_mut-sub.result.now c.engaged-before.result stands c.self.invariant.0 c.engaged-before.ensures.value c.engaged-before.ensures.small
-
 pub invariant_of-self : goal.invariant_of-self
 invariant_of-self c =
-    let subs = c.self.inside.subs.items in
-    let stands = at_seen subs c.args.self.now.subs c.in-Some.place c.index_mut-sub.result.now (ap (λ (s : State). s.subs) c.self.view_is) c.in-Some.ensures.bound c.index_mut-sub.ensures.value in (
-      counted-in c.self.inside.engines c.change.new.self subs c.in-Some.place c.index_mut-sub.result.now c.up_sub-answer.new.sub c.engaged-before.result c.engaged-after.result stands c.self.invariant.0
+    let old = the_view c.self.inside in
+    let path = c.in-Some-path_of.path in
+    let place = c.in-Some.place in
+    let sub = c.index_mut-sub.result.now in
+    let after = c.up_sub-answer.new.sub in
+    let answer = answer_in c.up_sub-answer.result c.up_sub-answer.new.log in
+    let at = named_at old c.args.self.now c.args.word place c.place_of.result c.self.view_is c.place_of.ensures.place c.in-Some.is in
+    let stands = at_seen old.subs c.args.self.now.subs place sub (ap (λ (s : State). s.subs) c.self.view_is) c.in-Some.ensures.bound c.index_mut-sub.ensures.value in
+    let may : MayReturn old.subs c.index-2.result.now path c.returns_at-returns.result =
+    subst (λ (subs : List Subchannel). MayReturn subs c.index-2.result.now path c.returns_at-returns.result) (c.of-served.ensures ∙ c.as_slice.ensures.value) c.returns_at-returns.ensures in
+    let new : State = record (with_sub (record old { storage = c.up_sub-answer.new.storage }) place after) { requests = c.post.new.pending } in
+    let done : Performs old (event.Up c.args.word path) answer new =
+    up-performs old c.args.word path place c.index-2.result.now sub after c.up_sub-answer.new.storage
+    c.returns_at-returns.result answer c.post.new.pending at stands c.index-2.ensures may c.up_sub-answer.ensures.gives c.post.ensures in (
+      served-performed c.engines.ensures.alone c.self.inside.engines c.change.new.self old new (event.Up c.args.word path) answer place sub after
+          c.engaged-before.result c.engaged-after.result (gets old.subs place sub stands) c.self.invariant.0 done refl
           c.engaged-before.ensures.value c.engaged-after.ensures.value c.change.ensures,
       c.self.invariant.1,
     )
-
-pub change-requires-clause-room : goal.change-requires-clause-room
-change-requires-clause-room c = λ chpid small. counted-room c.self.inside.engines c.self.inside.subs.items c.self.invariant.0 (omega arith) chpid small

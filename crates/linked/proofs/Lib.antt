@@ -1,0 +1,3 @@
+pub mod Members
+pub mod Walks
+mod Turns
