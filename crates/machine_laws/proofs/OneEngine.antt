@@ -27,7 +27,8 @@ use Rattle.machine_model.specs.PathSteps.{swept}
 use Rattle.machine_model.specs.State.{State, opening_of}
 use Rattle.machine_model.specs.Steps.{Run, Opened, Step, Stepped}
 use Rattle.step_laws.specs.Walks.{AreWalks}
-use Rattle.step_laws.proofs.Places.{set-get, map-get, one-side}
+use Rattle.chan_model.proofs.OneSide.{one-side}
+use Rattle.step_laws.proofs.Places.{set-get, map-get}
 use Rattle.machine_laws.specs.Engines.{IsAlone, IsOnePath}
 use Rattle.machine_laws.proofs.PathSets.{both-parts, both-from}
 use Rattle.machine_laws.proofs.Moving.{IsFree, IsMoved}

@@ -43,7 +43,7 @@ use Rattle.machine_laws.specs.Beginnings.{StartCounts, with_taken}
 use Rattle.machine_laws.proofs.Tales.{IsAccepted, IsTold, told-wider}
 use Rattle.machine_laws.proofs.TaleEvents.{takes-of, accepted-wider, Wide, taken-told, AreBusyPassed, Tells}
 use Rattle.machine_laws.proofs.HoldEvents.{IsOfHold}
-use Rattle.step_laws.proofs.Places.{same-side, one-side}
+use Rattle.chan_model.proofs.OneSide.{same-side, one-side}
 use Rattle.step_laws.specs.Walks.{IsOfSide}
 
 -- the links of a unit after an event at the subchannel of this side, and what is told of the subchannel before and after it

@@ -61,7 +61,8 @@ use Rattle.program_laws.proofs.LinkModes.{AnyGive, NoGive, AnyData, HandPlain, H
 use Rattle.program_laws.proofs.UnitFlows.{IsGive, IsData}
 use Rattle.program_laws.proofs.UnitActs.{IsGentle, if-ok}
 use Rattle.program_laws.proofs.Vanishing.{send-ok}
-use Rattle.program_laws.proofs.LinkReports.{one-side, report-owner, told-closed, told-own}
+use Rattle.chan_model.proofs.OneSide.{one-side}
+use Rattle.program_laws.proofs.LinkReports.{report-owner, told-closed, told-own}
 use Rattle.program_laws.proofs.LinkMeets.{quiet, mode-meets}
 
 abbrev pub AtSub : Side → Subchannel → Option ProgramTrace → UnitState → Type 0

@@ -3,6 +3,7 @@ use Rattle.std.proofs.Common.{◌≡◌, refl, sym, ◌∙◌, ap, subst, ℕ, �
 use Rattle.std.specs.Prelude.{if◌then◌else◌, IfSome}
 use Rattle.std.proofs.lemmas.Bool.{eqb-true, eq-eqb}
 use Rattle.scsw_irb.specs.declared.status.DeviceStatus.{DeviceStatus}
+use Rattle.chan_model.proofs.OneSide.{one-side}
 use Rattle.chan_model.specs.declared.names.Side.{Side}
 use Rattle.chan_model.specs.declared.names.Side.TheVariants.{First, Second}
 use Rattle.chan_model.specs.Reports.{DeviceAnswer, Report}
@@ -219,12 +220,6 @@ module _ (side : Side) (begun : Option ActiveProgram) (k : ProgramTrace) (downs 
       writes-told b e n o a y lead t h.0 h.1 f w
 
 -- a report that is taken
-pub one-side : (a b : Side) → same_side a b ≡ true → a ≡ b
-one-side First First e = refl
-one-side First Second e = absurd (cc e)
-one-side Second First e = absurd (cc e)
-one-side Second Second e = refl
-
 is-owner-self : (side : Side) (t p c : ℕ) → is_owner (own.Owned side t (On p c)) side t ≡ true
 is-owner-self First t p c = eq-eqb t t refl
 is-owner-self Second t p c = eq-eqb t t refl

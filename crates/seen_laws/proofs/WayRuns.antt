@@ -33,7 +33,8 @@ use Rattle.machine_model.specs.ReportSteps.{with_any_up}
 use Rattle.machine_model.specs.State.{State, opening_of}
 use Rattle.machine_model.specs.Steps.{Run, Opened, Stepped, Step}
 use Rattle.machine_model.specs.Turns.{SubTurn, UpTurn, with_state}
-use Rattle.step_laws.proofs.Places.{set-get, map-get, same-side, one-side, both-true, found-there}
+use Rattle.chan_model.proofs.OneSide.{same-side, one-side}
+use Rattle.step_laws.proofs.Places.{set-get, map-get, both-true, found-there}
 use Rattle.step_laws.specs.Walks.{OneSub}
 use Rattle.machine_laws.specs.Agreeing.{AreAbove}
 use Rattle.seen_laws.specs.Devices.{Transfer, Holding, with_holder, with_transfer, reported, side_seen, with_restart, setup_named, acted_after, held_met, holding_met, holding_after, nothing_held}

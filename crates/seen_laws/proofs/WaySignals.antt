@@ -27,7 +27,7 @@ use Rattle.chan_model.specs.UnitReports.{is_outward, may_end, most_of, is_to_sup
 use Rattle.chan_model.specs.UnitTable.{UnitStep, came_of, side_of, leaving_from, leaving, asking_from, asking, is_idle, telling}
 use Rattle.chan_model.proofs.Named.{report_absorbed, sent_again}
 use Rattle.machine_model.specs.ActSteps.{acts}
-use Rattle.step_laws.proofs.Places.{same-side}
+use Rattle.chan_model.proofs.OneSide.{same-side}
 use Rattle.step_laws.specs.Walks.{IsOfSide}
 use Rattle.seen_laws.specs.Devices as seen
 use Rattle.seen_laws.specs.Devices.{Connected, Asking, Apart, Held, Holding, side_seen, is_holder, moved, acted_after, held_met}
@@ -35,7 +35,7 @@ use Rattle.seen_laws.specs.OneHolder.{is_next, answers, takes_if, holds_and, is_
 use Rattle.seen_laws.specs.DevicePaths.{Ways, way_met, IsUpBy, IsDownBy, IsGivenTo, IsTakenBy}
 use Rattle.seen_laws.proofs.Holdings.{transfer_in, holder_in, holding_of}
 use Rattle.seen_laws.proofs.Lists.{OnSent}
-use Rattle.seen_laws.proofs.Meets.{Meets, Ignored, Turns, Begins, Declines, Moves, Ends, Ends_last, Leaves, Grants, IsPlainDown, ArePlainDown, IsCommandOn, AreCommandsOn, IsDataAnswer, Offers, Refuses, Halts, Resets, Answers, Sends_command, Sends_room, Sends_bytes}
+use Rattle.seen_laws.proofs.Meets.{Meets, Turns, Begins, Moves, Ends, Grants, IsPlainDown, ArePlainDown, IsCommandOn, AreCommandsOn, IsDataAnswer, Offers, Refuses, Halts, Resets, Answers, Sends_command, Sends_room, Sends_bytes}
 use Rattle.seen_laws.proofs.UnitMoves.{owner-of-act}
 use Rattle.seen_laws.proofs.Ways.{OnWay, IsPast, IsPlaced, OwnWay, Follows, accept-way, way_acted, act-follows}
 

@@ -19,7 +19,8 @@ use Rattle.chan_model.specs.declared.signal.Up.TheVariants as up
 use Rattle.channel_config.specs.declared.names.SubchannelId.{SubchannelId}
 use Rattle.machine_model.specs.InstructionSteps.{subchannel_word}
 use Rattle.shown_laws.specs.Codes.{MayBe, enabled_in}
-use Rattle.shown_laws.specs.Shown.{StoredStatus, names, stored_by, is_about, is_accepted, is_release, Between}
+use Rattle.shown_laws.specs.Shown.{StoredStatus, names, stored_by, is_about, is_accepted, Between}
+use Rattle.seen_laws.specs.BeginsItsOwn.{is_release}
 
 -- status is pending exactly where fewer were cleared than made
 pub record IsPendingShown (shown : StoredStatus) : Type 0 where

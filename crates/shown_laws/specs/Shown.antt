@@ -11,8 +11,6 @@ use Rattle.chan_events.specs.declared.reply.Entry.{Entry}
 use Rattle.chan_events.specs.Replies.{Reply}
 use Rattle.chan_events.specs.declared.reply.Reply.TheVariants as reply
 use Rattle.chan_model.specs.declared.answer.Answer.TheVariants as answer
-use Rattle.chan_model.specs.Signals.{Down}
-use Rattle.chan_model.specs.declared.signal.Down.TheVariants as down
 use Rattle.channel_config.specs.declared.names.SubchannelId.{SubchannelId}
 use Rattle.channel_config.specs.SubchannelWords.{subchannel_named}
 use Rattle.machine_laws.specs.Claims.{is_id}
@@ -58,8 +56,3 @@ abbrev pub is_accepted : Reply → Bool
 is_accepted (reply.Code (answer.Zero serials)) = true
 is_accepted (reply.Status (answer.Zero serials) scsw) = true
 is_accepted r = false
-
--- the device is let go
-abbrev pub is_release : Down → Bool
-is_release (down.Release t) = true
-is_release signal = false

@@ -5,6 +5,7 @@ use Rattle.std.specs.Prelude.{◌⊎◌, slice_get, slice_set, option_map, count
 use Rattle.std.proofs.lemmas.Bool.{eq-eqb, eqb-true, and_parts}
 use Rattle.std.proofs.lemmas.List.Sums.{sum_by-cons}
 use Rattle.std.proofs.lemmas.Option.{slice_get-map}
+use Rattle.chan_model.proofs.OneSide.{same-side, one-side}
 use Rattle.chan_model.specs.declared.names.Side.{Side}
 use Rattle.chan_model.specs.declared.names.Side.TheVariants.{First, Second}
 use Rattle.chan_model.specs.Sides.{same_side}
@@ -75,21 +76,11 @@ alone test (z ∷ xs) (suc i) (suc j) x y le e f g h =
     let more : count_by test xs ≤ count_by test (z ∷ xs) = count-more test z xs in
     ap suc (alone test xs i j x y (omega (arith, le, more)) e f g h)
 
--- each side of a unit is reached by one subchannel at most
-pub same-side : (k : Side) → same_side k k ≡ true
-same-side First = refl
-same-side Second = refl
-
-pub one-side : (a b : Side) → same_side a b ≡ true → a ≡ b
-one-side First First e = refl
-one-side First Second e = absurd (cc e)
-one-side Second First e = absurd (cc e)
-one-side Second Second e = refl
-
 pub both-true : (a b : Bool) → a ≡ true → b ≡ true → (a && b) ≡ true
 both-true true b e f = f
 both-true false b e f = absurd (cc e)
 
+-- each side of a unit is reached by one subchannel at most
 is-used : (s x : SubchannelSetup) → x.«unit» ≡ s.«unit» → same_side x.side s.side ≡ true → (x.«unit» == s.«unit» && same_side x.side s.side) ≡ true
 is-used s x e f = both-true (x.«unit» == s.«unit») (same_side x.side s.side) (eq-eqb x.«unit» s.«unit» e) f
 
