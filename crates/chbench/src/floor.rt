@@ -11,6 +11,7 @@ use core_lock::stock::SeatStock;
 use core_parts::naming::Naming;
 use device_law::answering::answer_to;
 use device_models::any_device::AnyDevice;
+use event_log::history::LentReply;
 use machine_model::state::UnitTurn;
 use path_select::Rotating;
 use subsystem::subsystem::Subsystem;
@@ -139,6 +140,50 @@ impl Floor for Answering {
 
     fn subsystem(&self) -> &Subsystem<Rotating> {
         &self.subsystem
+    }
+}
+
+/// Whether what is kept of a reply has no more bytes than there are for it: looked at as one that is a value is.
+#[inline(never)]
+fn is_there(reply: &LentReply<'_>) -> bool {
+    let (kept, bytes) = reply.parts();
+    kept.length() <= bytes.len()
+}
+
+/// A channel subsystem whose answers stay in its history, and are looked at there.
+#[derive(Drop)]
+pub struct Looking {
+    performing: Performing,
+}
+
+impl Looking {
+    /// This subsystem.
+    pub fn of(subsystem: Subsystem<Rotating>) -> Self {
+        Looking {
+            performing: Performing::of(subsystem),
+        }
+    }
+
+    /// Whether the last event has a reply.
+    fn replied(&self) -> bool {
+        match self.performing.subsystem.last_reply() {
+            Some(reply) => is_there(&reply),
+            None => false,
+        }
+    }
+}
+
+impl Floor for Looking {
+    fn accepts(&mut self, event: &Event) -> bool {
+        self.performing.accepts(event) && self.replied()
+    }
+
+    fn reports(&mut self, unit: u32, device: &mut AnyDevice) -> bool {
+        self.performing.reports(unit, device) && self.replied()
+    }
+
+    fn subsystem(&self) -> &Subsystem<Rotating> {
+        self.performing.subsystem()
     }
 }
 

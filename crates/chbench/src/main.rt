@@ -6,6 +6,7 @@
 //! - `step KIND SUBCHANNELS CYCLES`: so many cycles by `Subsystem::step`, at the last of so many subchannels. The kind is
 //!   `write`, `read`, `chain`, `reconnect`, or `test`, which is one TEST SUBCHANNEL.
 //! - `perform KIND SUBCHANNELS CYCLES`: the same by `Subsystem::perform`, whose answers stay in the history.
+//! - `look KIND SUBCHANNELS CYCLES`: the same, and each answer is looked at where it stands, by `Subsystem::last_reply`.
 //! - `enter KIND SUBCHANNELS CYCLES`: the same by `Guarded::enter`, from the first seat of a core that no lock guards; `Core::enter`
 //!   does the same with an event that it takes.
 //! - `race CPUS LOOKERS TIMES`: so many CPUs, each on a thread of its own, execute TEST SUBCHANNEL under the lock, so many times
@@ -23,7 +24,7 @@ mod seats;
 
 use crate::bench::{Bench, Count, config_of};
 use crate::cycle::Kind;
-use crate::floor::{Answering, Performing};
+use crate::floor::{Answering, Floor, Looking, Performing};
 use crate::race::{Race, RaceCount};
 use crate::seats::{Outcome, Task};
 use path_select::Rotating;
@@ -34,12 +35,38 @@ use std::thread::Threads;
 use std::{env, io};
 use subsystem::subsystem::Subsystem;
 
+/// What is done with the answers of a subsystem by itself.
+#[derive(Clone, Copy)]
+enum Answers {
+    /// Each is a value, and is read.
+    AreOwned,
+    /// Each stays in the history.
+    Stay,
+    /// Each stays in the history, and is looked at there.
+    AreLent,
+}
+
+impl Answers {
+    /// By the word of a group; None where it is none of these.
+    fn named(name: &str) -> Option<Answers> {
+        if name == "step" {
+            Some(Answers::AreOwned)
+        } else if name == "perform" {
+            Some(Answers::Stay)
+        } else if name == "look" {
+            Some(Answers::AreLent)
+        } else {
+            None
+        }
+    }
+}
+
 /// What a group of words asks for.
 #[derive(Clone, Copy)]
 enum Wanted {
-    /// Cycles at a subsystem by itself; `stays`: the answers stay in the history.
+    /// Cycles at a subsystem by itself.
     Step {
-        stays: bool,
+        answers: Answers,
         kind: Kind,
         subchannels: u32,
         cycles: u64,
@@ -71,9 +98,9 @@ impl Wanted {
 
     /// What is asked for by its name.
     fn named(name: &str, second: &str, third: u32, times: u64) -> Option<Wanted> {
-        if name == "step" || name == "perform" {
+        if let Some(answers) = Answers::named(name) {
             Some(Wanted::Step {
-                stays: name == "perform",
+                answers,
                 kind: Kind::named(second)?,
                 subchannels: third,
                 cycles: times,
@@ -99,17 +126,25 @@ impl Wanted {
     fn perform<R: Threads + Wait + Sync>(self, rt: &R, alloc: Global) -> Option<Outcome> {
         match self {
             Wanted::Step {
-                stays: false,
+                answers,
                 kind,
                 subchannels,
                 cycles,
-            } => Some(Outcome::Count(stepped(alloc, kind, subchannels, cycles)?)),
-            Wanted::Step {
-                stays: true,
-                kind,
-                subchannels,
-                cycles,
-            } => Some(Outcome::Count(performed(alloc, kind, subchannels, cycles)?)),
+            } => {
+                let subsystem = opened(alloc, kind, subchannels)?;
+                let count = match answers {
+                    Answers::AreOwned => {
+                        measured(alloc, Answering::of(subsystem), kind, subchannels, cycles)?
+                    }
+                    Answers::Stay => {
+                        measured(alloc, Performing::of(subsystem), kind, subchannels, cycles)?
+                    }
+                    Answers::AreLent => {
+                        measured(alloc, Looking::of(subsystem), kind, subchannels, cycles)?
+                    }
+                };
+                Some(Outcome::Count(count))
+            }
             Wanted::AtCore(task) => seats::perform(rt, alloc, task),
         }
     }
@@ -121,16 +156,14 @@ fn opened(alloc: Global, kind: Kind, subchannels: u32) -> Option<Subsystem<Rotat
     Subsystem::new(alloc, config, Rotating).ok()
 }
 
-/// Cycles at a subsystem by itself.
-fn stepped(alloc: Global, kind: Kind, subchannels: u32, cycles: u64) -> Option<Count> {
-    let floor = Answering::of(opened(alloc, kind, subchannels)?);
-    let mut bench = Bench::at(alloc, floor, kind, subchannels)?;
-    bench.measure(alloc, kind, cycles).ok()
-}
-
-/// The same, whose answers stay in the history.
-fn performed(alloc: Global, kind: Kind, subchannels: u32, cycles: u64) -> Option<Count> {
-    let floor = Performing::of(opened(alloc, kind, subchannels)?);
+/// Cycles at a floor of so many subchannels.
+fn measured<F: Floor + Drop>(
+    alloc: Global,
+    floor: F,
+    kind: Kind,
+    subchannels: u32,
+    cycles: u64,
+) -> Option<Count> {
     let mut bench = Bench::at(alloc, floor, kind, subchannels)?;
     bench.measure(alloc, kind, cycles).ok()
 }
@@ -182,7 +215,7 @@ fn main(rt: HostRuntime) -> io::Result<ExitCode> {
     for group in words.as_slice().chunks(4) {
         let Some(wanted) = Wanted::of(group) else {
             println!(rt;
-                "chbench: step|perform|enter KIND SUBCHANNELS CYCLES | race CPUS LOOKERS TIMES .."
+                "chbench: step|perform|look|enter KIND SUBCHANNELS CYCLES | race CPUS LOOKERS TIMES .."
             )?;
             return Ok(ExitCode::from(2));
         };
