@@ -5,6 +5,7 @@ ghost use Rattle.std.specs.Bool.{OnTrue, OnFalse};
 ghost use Rattle.machine_model.specs.State.{IsAsBefore};
 ghost use Rattle.embedding.specs.Hosts as spec;
 ghost use Rattle.embedding.specs.Hosts.{Enters, GoesOn, Turned};
+ghost use Rattle.subsystem.specs.Keeping.{answer_of};
 
 use crate::clock::Clock;
 use chan_events::event::Event;
@@ -87,11 +88,18 @@ impl Host {
         self.clock.goes_on(by);
     }
 
-    /// Performs an event: a step that the history keeps, or a refusal that changes nothing.
+    /// Performs an event: a step that the history keeps, or a refusal that changes nothing. The reply is a value of its own.
     pub fn perform(&mut self, event: &Event) -> Result<Reply, Fault>
         ensures { Enters self.old.past event.now result self.new.past }
     {
         self.subsystem.step(event)
+    }
+
+    /// The same for one who does not keep the reply: it is in the history, and nothing is copied.
+    fn enter(&mut self, event: &Event) -> Result<(), Fault>
+        ensures { Enters self.old.past event.now (answer_of result self.new.past.history) self.new.past }
+    {
+        self.subsystem.perform(event)
     }
 
     /// Turns the subchannel and its unit until nothing is due, an event is refused, or so many events were accepted. `Quiet`
@@ -167,8 +175,8 @@ impl Host {
             unit: UNIT,
             report: report.copy(),
         };
-        match self.perform(&event) {
-            Ok(_) => Turn::Moved,
+        match self.enter(&event) {
+            Ok(()) => Turn::Moved,
             Err(fault) => {
                 if let Fault::NoMemory | Fault::WireFull = fault {
                     self.kept = Some(report);
@@ -197,7 +205,7 @@ impl Host {
         ensures done { OnTrue result (GoesOn 1 self.old.past self.new.past) }
         ensures refused { OnFalse result (IsAsBefore self.old.past self.new.past) }
     {
-        self.perform(event).is_ok()
+        self.enter(event).is_ok()
     }
 
     /// The subsystem does what is due for the subchannel.
