@@ -2,7 +2,8 @@
 use Rattle.std.proofs.Common.{◌≡◌, refl, zero, suc, sym, ◌∙◌, ap, ℕ, Bool, true, false, not, ◌&&◌, Option, Some, List}
 use Rattle.std.proofs.lemmas.Bool.{eqb-true}
 use Rattle.allegiance.specs.declared.path_use.PathUse.{PathUse}
-use Rattle.allegiance.specs.PathUse.{is_member, each_path, in_both, without, keeps_dedicated, is_allowed, allowed_paths, reachable_paths, usable_paths}
+use Rattle.allegiance.specs.PathUse.{keeps_dedicated, is_allowed, allowed_paths, reachable_paths, usable_paths}
+use Rattle.chan_model.specs.PathSets.{is_member, each_path, in_both, without}
 
 pub first-holds : (a b : Bool) → (a && b) ≡ true → a ≡ true
 first-holds true b h = refl

@@ -7,7 +7,7 @@ use Rattle.chan_model.specs.declared.hold_state.HoldState.{HoldState}
 use Rattle.chan_model.specs.ResetCauses.{is_path, engaged_path, is_held, is_reset}
 use Rattle.allegiance.specs.declared.allegiances.AllegianceCause.{AllegianceCause}
 use Rattle.allegiance.specs.declared.allegiances.AllegianceCause.TheVariants.{Data, End, Clear, SystemReset}
-use Rattle.allegiance.specs.PathUse.{is_member}
+use Rattle.chan_model.specs.PathSets.{is_member}
 
 -- the path on which the program was connected last: the one at hand, otherwise the last-used path
 abbrev pub last_connected : HoldPhase → Option ℕ → Option ℕ

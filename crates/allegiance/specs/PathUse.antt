@@ -1,28 +1,8 @@
 -- Which paths of a subchannel are allowed, usable, and found not operational (SA22-7832, chapter 15; which masks count and
 -- when they change is this project's own choice).
-use Rattle.std.specs.Prelude.{ℕ, Bool, true, false, not, ◌==◌, ◌&&◌, ◌||◌, Option, None, Some, List, [], ◌∷◌, slice_index_or}
+use Rattle.std.specs.Prelude.{ℕ, Bool, true, ◌==◌, ◌&&◌, Option, None, Some, List}
+use Rattle.chan_model.specs.PathSets.{is_member, each_path, in_both, without, joined}
 use Rattle.allegiance.specs.declared.path_use.PathUse.{PathUse}
-
--- sets of the paths 0 to 7
-abbrev pub is_member : List Bool → ℕ → Bool
-is_member set path = slice_index_or set path false
-
-abbrev pub each_path : (ℕ → Bool) → List Bool
-each_path f = f 0 ∷ f 1 ∷ f 2 ∷ f 3 ∷ f 4 ∷ f 5 ∷ f 6 ∷ f 7 ∷ []
-
-abbrev pub in_both : List Bool → List Bool → List Bool
-in_both a b = each_path (λ p. is_member a p && is_member b p)
-
-abbrev pub without : List Bool → List Bool → List Bool
-without a b = each_path (λ p. is_member a p && not (is_member b p))
-
-abbrev pub joined : List Bool → List Bool → List Bool
-joined a b = each_path (λ p. is_member a p || is_member b p)
-
-abbrev pub is_any : List Bool → Bool
-is_any set =
-    is_member set 0 || (is_member set 1 || (is_member set 2 || (is_member set 3
-    || (is_member set 4 || (is_member set 5 || (is_member set 6 || is_member set 7))))))
 
 -- a dedicated allegiance keeps to its path
 abbrev pub keeps_dedicated : Option ℕ → ℕ → Bool

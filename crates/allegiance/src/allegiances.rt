@@ -91,7 +91,7 @@ pub fn may_reconnect(hold: &HoldState, available: &PathSet, path: Path) -> bool
     ensures { result ≡ spec.may_reconnect hold.now available.now path }
 {
     if !hold.single_path {
-        return available[path.index()];
+        return available.has(path);
     }
     match hold.first_path {
         None => false,

@@ -2,3 +2,4 @@ pub mod Named
 pub mod OneSide
 pub mod KeptSignals
 pub mod TakenSignals
+pub mod PathMasks

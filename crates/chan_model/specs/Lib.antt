@@ -4,6 +4,7 @@ pub mod Lent
 pub mod Reports
 pub mod Loads
 pub mod PathSets
+pub mod Masks
 pub mod HoldTable
 pub mod ResetCauses
 pub mod UnitTable

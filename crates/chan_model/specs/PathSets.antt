@@ -1,5 +1,5 @@
 -- Sets of paths, and the masks that control blocks have for them: path 0 is the leftmost bit (SA22-7832, chapter 15).
-use Rattle.std.specs.Prelude.{ℕ, ◌+◌, ◌*◌, ◌/◌, ◌^◌, ◌==◌, Bool, false, List, [], ◌∷◌, Option, None, Some, slice_index_or}
+use Rattle.std.specs.Prelude.{ℕ, ◌+◌, ◌*◌, ◌/◌, ◌^◌, ◌==◌, Bool, true, false, not, ◌&&◌, ◌||◌, List, [], ◌∷◌, replicate, Option, None, Some, slice_index_or}
 use Rattle.zbits.specs.Bits.{bit_of}
 use Rattle.zbits.specs.Layout.{bit_number}
 
@@ -25,3 +25,31 @@ abbrev pub mask_of_paths : List Bool → ℕ
 mask_of_paths set =
     128 * path_bit set 0 + 64 * path_bit set 1 + 32 * path_bit set 2 + 16 * path_bit set 3
     + 8 * path_bit set 4 + 4 * path_bit set 5 + 2 * path_bit set 6 + path_bit set 7
+
+-- whether a path is in the set
+abbrev pub is_member : List Bool → ℕ → Bool
+is_member set path = slice_index_or set path false
+
+-- the set of the paths 0 to 7 of which something is so
+abbrev pub each_path : (ℕ → Bool) → List Bool
+each_path f = f 0 ∷ f 1 ∷ f 2 ∷ f 3 ∷ f 4 ∷ f 5 ∷ f 6 ∷ f 7 ∷ []
+
+abbrev pub all_paths : List Bool
+all_paths = replicate 8 true
+
+abbrev pub no_paths : List Bool
+no_paths = replicate 8 false
+
+abbrev pub in_both : List Bool → List Bool → List Bool
+in_both a b = each_path (λ p. is_member a p && is_member b p)
+
+abbrev pub without : List Bool → List Bool → List Bool
+without a b = each_path (λ p. is_member a p && not (is_member b p))
+
+abbrev pub joined : List Bool → List Bool → List Bool
+joined a b = each_path (λ p. is_member a p || is_member b p)
+
+abbrev pub is_any : List Bool → Bool
+is_any set =
+    is_member set 0 || (is_member set 1 || (is_member set 2 || (is_member set 3
+    || (is_member set 4 || (is_member set 5 || (is_member set 6 || is_member set 7))))))

@@ -4,7 +4,7 @@
 ghost use Rattle.std.specs.Prelude.{◌≡◌, ◌<◌, ◌≤◌, ◌^◌, ◌+◌, ◌-◌, nat_lt, slice_index};
 ghost use Rattle.subchannel_model.specs.Store as store_spec;
 ghost use Rattle.subchannel_model.specs.Enable as enable_spec;
-ghost use Rattle.allegiance.specs.PathUse.{each_path};
+ghost use Rattle.chan_model.specs.PathSets.{each_path};
 
 use chan_model::paths::{PathSet, mask_of_path, mask_of_paths};
 use schib_block::pmcw;

@@ -18,7 +18,7 @@ use Rattle.agreement_laws.specs.Invariant.{IsGood}
 use Rattle.step_laws.specs.Walks.{AreWalks}
 use Rattle.subchannel_model.specs.declared.state.Subchannel.{Subchannel}
 use Rattle.subchannel_model.specs.declared.state.SubchannelState.{SubchannelState}
-use Rattle.allegiance.specs.PathUse.{is_member}
+use Rattle.chan_model.specs.PathSets.{is_member}
 use Rattle.subchannel_model.proofs.Named.{carried_where}
 use Rattle.subchannel_model.specs.Sending.{carried, carried_by, with_any_sent}
 

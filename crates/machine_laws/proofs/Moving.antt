@@ -3,7 +3,8 @@ use Rattle.std.proofs.Common.{◌≡◌, refl, sym, ◌∙◌, ap, subst, ℕ, �
 use Rattle.std.specs.Prelude.{◌⊎◌}
 use Rattle.std.proofs.lemmas.Bool.{and_parts}
 use Rattle.allegiance.specs.Allegiances.{may_reconnect}
-use Rattle.allegiance.specs.PathUse.{is_member, reachable_paths, in_both, allowed_paths}
+use Rattle.allegiance.specs.PathUse.{reachable_paths, allowed_paths}
+use Rattle.chan_model.specs.PathSets.{is_member, in_both}
 use Rattle.chan_model.specs.declared.fault.Fault.{Fault}
 use Rattle.chan_model.specs.declared.hold_state.HoldPhase.{HoldPhase}
 use Rattle.chan_model.specs.declared.hold_state.HoldPhase.TheVariants as hold

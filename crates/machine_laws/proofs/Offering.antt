@@ -2,7 +2,8 @@
 use Rattle.std.proofs.Common.{◌≡◌, refl, sym, ◌∙◌, ap, subst, ℕ, ◌+◌, Bool, true, false, ◌&&◌, Option, None, Some, Result, List, ◌∷◌, IfOk, if◌then◌else◌}
 use Rattle.std.specs.Prelude.{unwrap_or}
 use Rattle.std.proofs.lemmas.Bool.{and_parts, and_right, eqb-true}
-use Rattle.allegiance.specs.PathUse.{is_member, is_any, keeps_dedicated, is_allowed, allowed_paths, in_both, reachable_paths, usable_paths}
+use Rattle.allegiance.specs.PathUse.{keeps_dedicated, is_allowed, allowed_paths, reachable_paths, usable_paths}
+use Rattle.chan_model.specs.PathSets.{is_member, is_any, in_both}
 use Rattle.chan_events.specs.Events.{Event}
 use Rattle.chan_events.specs.declared.event.Event.TheVariants as event
 use Rattle.chan_events.specs.Replies.{Reply}

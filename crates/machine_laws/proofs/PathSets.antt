@@ -2,7 +2,7 @@
 use Rattle.std.proofs.Common.{◌≡◌, refl, sym, ◌∙◌, ℕ, zero, suc, ◌<◌, Bool, true, false, not, ◌&&◌, List, arith}
 use Rattle.std.proofs.lemmas.Bool.{and_parts, and_from}
 use Rattle.std.proofs.lemmas.Option.{get_or_from_slice_get}
-use Rattle.allegiance.specs.PathUse.{is_member, each_path, in_both, without}
+use Rattle.chan_model.specs.PathSets.{is_member, each_path, in_both, without}
 use Rattle.path_select.specs.Choice.{IsUsable}
 
 pub each-true : (f : ℕ → Bool) (p : ℕ) → is_member (each_path f) p ≡ true → f p ≡ true

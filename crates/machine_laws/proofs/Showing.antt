@@ -8,7 +8,7 @@ use Rattle.std.proofs.lemmas.List.Elements.{All-contains}
 use Rattle.std.proofs.lemmas.List.FromFn.{get_or-range_with_len, length-range_with_len}
 use Rattle.std.proofs.lemmas.Map.Keys.{any_passes_from_place}
 use Rattle.std.proofs.lemmas.Option.{slice_get_within, get_or_from_slice_get}
-use Rattle.allegiance.specs.PathUse.{is_member}
+use Rattle.chan_model.specs.PathSets.{is_member, all_paths}
 use Rattle.chan_events.specs.Events.{Event}
 use Rattle.chan_events.specs.declared.reply.Entry.{Entry}
 use Rattle.chan_events.specs.Replies.{Reply}
@@ -20,7 +20,7 @@ use Rattle.subchannel_model.specs.declared.state.Subchannel.{Subchannel}
 use Rattle.subchannel_model.specs.declared.state.SubchannelState.{SubchannelState}
 use Rattle.subchannel_model.proofs.Named.{index_after}
 use Rattle.subchannel_model.specs.Losing.{path_lost, path_index, loses_at, shows_at}
-use Rattle.subchannel_model.specs.Opening.{opened, all_paths}
+use Rattle.subchannel_model.specs.Opening.{opened}
 use Rattle.machine_model.specs.declared.state.Sweep.{Sweep}
 use Rattle.machine_model.specs.declared.state.Sweep.TheVariants as sweep
 use Rattle.machine_model.specs.PathSteps.{swept}

@@ -1,7 +1,7 @@
 -- What a path that goes down, comes up or is reset, and a reset of the subsystem, leave of one subchannel.
 use Rattle.std.proofs.Common.{◌≡◌, ◌≢◌, refl, sym, ◌∙◌, ap, subst, ℕ, zero, suc, ◌+◌, ◌<◌, ◌||◌, ◌&&◌, Bool, true, false, Option, None, Some, List, [], ◌∷◌, length, slice_index_or, slice_set, if◌then◌else◌, arith}
 use Rattle.std.proofs.lemmas.Bool.{or_parts, eq-eqb}
-use Rattle.allegiance.specs.PathUse.{is_member}
+use Rattle.chan_model.specs.PathSets.{is_member}
 use Rattle.channel_config.specs.declared.parts.SubchannelSetup.{SubchannelSetup}
 use Rattle.chan_model.specs.ResetCauses.{is_path, engaged_path, is_held, is_reset, rests_on}
 use Rattle.subchannel_model.specs.declared.state.Subchannel.{Subchannel}

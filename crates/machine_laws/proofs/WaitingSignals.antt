@@ -1,6 +1,6 @@
 -- What holds of each signal that waits on the wires of a subchannel, as signals are sent, taken and lost.
 use Rattle.std.proofs.Common.{◌≡◌, refl, subst, ℕ, zero, suc, Bool, true, false, Option, None, Some, List, [], ◌∷◌, ◌++◌, drop, replicate, slice_get, slice_set}
-use Rattle.allegiance.specs.PathUse.{is_member}
+use Rattle.chan_model.specs.PathSets.{is_member}
 use Rattle.chan_model.specs.declared.signal.OnPath.{OnPath}
 use Rattle.wires.specs.Queues.{queue, taken, lost}
 use Rattle.subchannel_model.proofs.Named.{carried_where}

@@ -1,7 +1,7 @@
 -- The states of channel paths have one source: each subchannel shows them, and nothing waits on a path that is down (SA22-7832,
 -- chapter 15, the path-available mask).
 use Rattle.std.specs.Prelude.{◌≡◌, ℕ, Bool, false, Some, List, [], slice_get}
-use Rattle.allegiance.specs.PathUse.{is_member}
+use Rattle.chan_model.specs.PathSets.{is_member}
 use Rattle.wires.specs.Queues.{queue}
 use Rattle.subchannel_model.specs.declared.state.Subchannel.{Subchannel}
 use Rattle.machine_model.specs.State.{State}

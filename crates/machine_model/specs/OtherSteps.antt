@@ -11,8 +11,7 @@ use Rattle.storage_keys.specs.declared.StorageFault.{StorageFault}
 use Rattle.storage_keys.specs.Storage.{Contents, operand_check, operand_stored}
 use Rattle.chan_model.specs.declared.fault.Fault.TheVariants as fault
 use Rattle.chan_model.specs.ConditionCodes.{rchp_code}
-use Rattle.chan_model.specs.PathSets.{mask_of_paths}
-use Rattle.allegiance.specs.PathUse.{each_path}
+use Rattle.chan_model.specs.PathSets.{mask_of_paths, each_path}
 use Rattle.interruptions.specs.Requests as requests
 use Rattle.channel_reports.specs.Queue as reports
 use Rattle.chan_events.specs.declared.event.OtherInstruction.{OtherInstruction}

@@ -27,7 +27,7 @@ use Rattle.chan_model.specs.declared.unit_state.Place.{Place}
 use Rattle.chan_model.specs.declared.unit_state.Place.TheVariants.{Away}
 use Rattle.wires.specs.Queues.{queue}
 use Rattle.subchannel_model.specs.declared.state.Subchannel.{Subchannel}
-use Rattle.allegiance.specs.PathUse.{is_member}
+use Rattle.chan_model.specs.PathSets.{is_member}
 use Rattle.subchannel_model.specs.Opening.{opened}
 use Rattle.subchannel_model.specs.Store.{available_paths}
 use Rattle.subchannel_model.specs.Places.{place_of_id, sub_at, reached_sub, Found, found_at}

@@ -5,7 +5,7 @@ use Rattle.chan_model.specs.declared.fault.Fault.{Fault}
 use Rattle.chan_model.specs.declared.fault.Fault.TheVariants as fault
 use Rattle.chan_model.specs.Signals.{Up}
 use Rattle.chan_model.specs.declared.signal.Up.TheVariants as up
-use Rattle.allegiance.specs.PathUse.{is_member}
+use Rattle.chan_model.specs.PathSets.{is_member}
 use Rattle.subchannel_model.specs.Choosing.{return_paths, engaged_paths}
 use Rattle.chan_events.specs.declared.reply.Reply.TheVariants as reply
 use Rattle.wires.specs.Queues.{queue, taken}

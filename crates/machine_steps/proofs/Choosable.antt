@@ -4,7 +4,8 @@ use Rattle.std.specs.Prelude.{◌≢◌, IfOk, slice_get}
 use Rattle.std.proofs.Math.Nat.{mod-eq_of_lt}
 use Rattle.std.proofs.lemmas.Bool.{cond_both}
 use Rattle.std.proofs.lemmas.Option.{get_or_from_slice_get, same_Some}
-use Rattle.allegiance.specs.PathUse.{is_any, is_member, reachable_paths}
+use Rattle.allegiance.specs.PathUse.{reachable_paths}
+use Rattle.chan_model.specs.PathSets.{is_any, is_member}
 use Rattle.path_select.specs.Choice.{IsChoice, IsUsable}
 use Rattle.chan_model.specs.declared.fault.Fault.{Fault}
 use Rattle.chan_model.specs.declared.fault.Fault.TheVariants.{WireFull}

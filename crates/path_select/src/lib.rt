@@ -59,9 +59,10 @@ fn first_from(usable: &PathSet, first: usize) -> Option<Path>
     ensures next { IsNextFrom usable.now first result }
 {
     for step in 0..8 {
-        let index = (first + step) % 8;
-        if usable[index] {
-            return Path::new(index as u32);
+        if let Some(path) = Path::new(((first + step) % 8) as u32)
+            && usable.has(path)
+        {
+            return Some(path);
         }
     }
     None

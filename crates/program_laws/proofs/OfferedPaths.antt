@@ -2,11 +2,11 @@
 -- last.
 use Rattle.std.proofs.Common.{◌≡◌, refl, sym, ◌∙◌, subst, ℕ, ◌+◌, ◌&&◌, ◌||◌, Bool, true, false, Option, None, Some, Result, List, [], ◌∷◌, inl, inr}
 use Rattle.std.specs.Prelude.{map, slice_get, slice_set, IfOk}
-use Rattle.allegiance.specs.PathUse.{is_member, reachable_paths}
+use Rattle.allegiance.specs.PathUse.{reachable_paths}
 use Rattle.orb_block.specs.declared.Orb.{Orb}
 use Rattle.chan_model.specs.declared.fault.Fault.{Fault}
 use Rattle.chan_model.specs.declared.signal.Down.TheVariants as down
-use Rattle.chan_model.specs.PathSets.{has_path}
+use Rattle.chan_model.specs.PathSets.{has_path, is_member}
 use Rattle.chan_events.specs.Events.{Event}
 use Rattle.chan_events.specs.declared.event.Event.TheVariants as event
 use Rattle.chan_events.specs.declared.event.Instruction.TheVariants as instruction

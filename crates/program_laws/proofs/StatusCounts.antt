@@ -2,7 +2,8 @@
 -- interface-control check, and of a program that finds no path.
 use Rattle.std.proofs.Common.{◌≡◌, refl, ap, subst, arith, ℕ, ◌+◌, ◌<◌, Bool, true, false, List, ◌∷◌, Option, None, Some, Result, Ok}
 use Rattle.std.specs.Prelude.{if◌then◌else◌, ◌&&◌, ◌||◌, ◌==◌, not, is_none, is_some, unwrap_or, IfOk, IfSome}
-use Rattle.allegiance.specs.PathUse.{is_any, reachable_paths}
+use Rattle.allegiance.specs.PathUse.{reachable_paths}
+use Rattle.chan_model.specs.PathSets.{is_any}
 use Rattle.chan_model.specs.declared.fault.Fault.{Fault}
 use Rattle.chan_model.specs.declared.hold_state.HoldPhase.{HoldPhase}
 use Rattle.chan_model.specs.declared.hold_state.HoldPhase.TheVariants as hold

@@ -97,7 +97,7 @@ impl Pmcw {
     }
 
     /// The seven words of the image.
-    pub(crate) fn words(&self) -> [u32; 7]
+    pub fn words(&self) -> [u32; 7]
         ensures { result ≡ map layout_spec.word_of (pmcw_tables self.now) }
     {
         let ids = self.chpids;

@@ -4,7 +4,7 @@ use Rattle.std.specs.List.{list_any, range_with_len}
 use Rattle.std.proofs.lemmas.Bool.{eqb-true, and_from}
 use Rattle.std.proofs.lemmas.Option.{slice_get_within, get_or_from_slice_get}
 use Rattle.std.proofs.lemmas.List.FromFn.{get_or-range_with_len, length-range_with_len, get_or-map-range_with_len}
-use Rattle.allegiance.specs.PathUse.{is_member, each_path, reachable_paths}
+use Rattle.allegiance.specs.PathUse.{reachable_paths}
 use Rattle.chan_events.specs.Events.{Event}
 use Rattle.chan_events.specs.declared.event.Event.TheVariants as event
 use Rattle.chan_events.specs.declared.reply.Entry.{Entry}
@@ -19,7 +19,7 @@ use Rattle.chan_model.specs.declared.signal.Down.TheVariants as down
 use Rattle.chan_model.specs.declared.signal.OnPath.{OnPath}
 use Rattle.chan_model.specs.declared.signal.Up.TheVariants as up
 use Rattle.chan_model.specs.HoldTable.{refusing, granting, asked_back, came_of}
-use Rattle.chan_model.specs.PathSets.{mask_of_paths}
+use Rattle.chan_model.specs.PathSets.{mask_of_paths, is_member, each_path}
 use Rattle.chan_model.specs.ResetCauses.{is_path, engaged_path}
 use Rattle.channel_config.specs.declared.parts.SubchannelSetup.{SubchannelSetup}
 use Rattle.channel_config.specs.Lawful.{IsLawful}

@@ -2,7 +2,7 @@
 use Rattle.std.proofs.Common.{◌≡◌, refl, sym, ◌∙◌, ap, subst, ℕ, nat_lt, Bool, true, false, Option, None, Some, Result, List, length, slice_get, IfOk, if◌then◌else◌}
 use Rattle.std.proofs.lemmas.Bool.{eqb-true}
 use Rattle.allegiance.specs.Allegiances.{may_reconnect}
-use Rattle.allegiance.specs.PathUse.{is_member}
+use Rattle.chan_model.specs.PathSets.{is_member}
 use Rattle.chan_events.specs.declared.event.UnitAct.{UnitAct}
 use Rattle.chan_events.specs.declared.reply.Reply.TheVariants as reply
 use Rattle.chan_model.specs.declared.fault.Fault.{Fault}

@@ -1,7 +1,7 @@
 -- After each run what is seen of each subchannel is what it keeps: each entry is right.
 use Rattle.std.proofs.Common.{◌≡◌, refl, sym, ◌∙◌, ap, subst, ℕ, Bool, true, false, Option, Some, Result, Ok, List, [], ◌∷◌, ◌++◌, length, map, slice_get, slice_set, IfOk, if◌then◌else◌}
 use Rattle.std.proofs.lemmas.Option.{slice_get_within, get_or_from_slice_get}
-use Rattle.allegiance.specs.PathUse.{is_member}
+use Rattle.chan_model.specs.PathSets.{is_member}
 use Rattle.chan_events.specs.Events.{Event}
 use Rattle.chan_events.specs.declared.event.Event.TheVariants as event
 use Rattle.chan_events.specs.declared.event.Instruction.TheVariants as instruction

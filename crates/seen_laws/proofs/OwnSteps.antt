@@ -1,7 +1,8 @@
 -- What each step of a subchannel does to what is over for it: it stays over, or an Accept or a reset makes it so.
 use Rattle.std.proofs.Common.{◌≡◌, refl, sym, ◌∙◌, ap, subst, ℕ, ◌+◌, ◌&&◌, nat_lt, Bool, true, false, Option, None, Some, Result, [], ◌∷◌, length, slice_get, IfOk, if◌then◌else◌, inl, inr}
 use Rattle.std.specs.Prelude.{◌⊎◌, unwrap_or}
-use Rattle.allegiance.specs.PathUse.{is_any, reachable_paths}
+use Rattle.allegiance.specs.PathUse.{reachable_paths}
+use Rattle.chan_model.specs.PathSets.{is_any}
 use Rattle.chan_events.specs.declared.event.UnitAct.{UnitAct}
 use Rattle.chan_model.specs.declared.answer.ConditionCode.{ConditionCode}
 use Rattle.chan_model.specs.declared.answer.ConditionCode.TheVariants as code

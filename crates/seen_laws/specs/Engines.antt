@@ -2,14 +2,13 @@
 -- chapter 15, the active allegiance); and STORE CHANNEL PATH STATUS shows just these engines (chapter 14).
 use Rattle.std.specs.Prelude.{◌≡◌, ℕ, ◌+◌, ◌*◌, Bool, true, false, Some, List, map, slice_get}
 use Rattle.std.specs.List.{list_any, range_with_len}
-use Rattle.allegiance.specs.PathUse.{each_path}
 use Rattle.chan_events.specs.Events.{Event}
 use Rattle.chan_events.specs.declared.event.Event.TheVariants as event
 use Rattle.chan_events.specs.declared.event.OtherInstruction.TheVariants as other
 use Rattle.chan_events.specs.declared.reply.Entry.{Entry}
 use Rattle.chan_events.specs.Replies.{Reply}
 use Rattle.chan_events.specs.declared.reply.Reply.TheVariants as reply
-use Rattle.chan_model.specs.PathSets.{mask_of_paths}
+use Rattle.chan_model.specs.PathSets.{mask_of_paths, each_path}
 use Rattle.chan_model.specs.declared.signal.Down.TheVariants as down
 use Rattle.chan_model.specs.declared.signal.Up.TheVariants as up
 use Rattle.channel_config.specs.Setup.{Setup, set_count}

@@ -1,7 +1,8 @@
 -- What is chosen, and why.
 use Rattle.std.proofs.Common.{◌≡◌, refl, sym, ◌∙◌, ap, subst, ℕ, Bool, true, false, Option, None, Some, List, [], ◌∷◌}
 use Rattle.std.specs.Prelude.{◌⊎◌, unwrap_or}
-use Rattle.allegiance.specs.PathUse.{is_any, reachable_paths}
+use Rattle.allegiance.specs.PathUse.{reachable_paths}
+use Rattle.chan_model.specs.PathSets.{is_any}
 use Rattle.chan_model.specs.declared.hold_state.HoldPhase.{HoldPhase}
 use Rattle.chan_model.specs.ResetCauses.{is_held}
 use Rattle.chan_model.specs.declared.hold_state.HoldPhase.TheVariants as hold

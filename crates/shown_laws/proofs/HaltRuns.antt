@@ -1,7 +1,8 @@
 -- After each run what is chosen where a halt is shown pending is what is due by where the program is.
 use Rattle.std.proofs.Common.{◌≡◌, refl, sym, ◌∙◌, subst, ℕ, Bool, true, false, Option, None, Some, List, [], ◌∷◌, inl, inr}
 use Rattle.std.specs.Prelude.{unwrap_or}
-use Rattle.allegiance.specs.PathUse.{is_any, reachable_paths}
+use Rattle.allegiance.specs.PathUse.{reachable_paths}
+use Rattle.chan_model.specs.PathSets.{is_any}
 use Rattle.chan_events.specs.Events.{Event}
 use Rattle.chan_events.specs.declared.event.Event.TheVariants as event
 use Rattle.chan_events.specs.declared.reply.Entry.{Entry}

@@ -3,7 +3,7 @@ use Rattle.std.proofs.Common.{◌≡◌, sym, ◌∙◌, ap, subst, ℕ, ◌+◌
 use Rattle.std.specs.Prelude.{slice_get, if◌then◌else◌, IfOk}
 use Rattle.std.proofs.lemmas.Bool.{and_parts}
 use Rattle.std.proofs.lemmas.Option.{same_Some}
-use Rattle.allegiance.specs.PathUse.{is_member, keeps_dedicated, is_allowed, allowed_paths, in_both, reachable_paths}
+use Rattle.allegiance.specs.PathUse.{keeps_dedicated, is_allowed, allowed_paths, reachable_paths}
 use Rattle.zbits.specs.Bits.{field_of}
 use Rattle.chan_events.specs.Events.{Event}
 use Rattle.chan_events.specs.declared.event.Event.TheVariants as event
@@ -12,7 +12,7 @@ use Rattle.chan_events.specs.Replies.{Reply}
 use Rattle.chan_events.specs.declared.reply.Reply.TheVariants as reply
 use Rattle.chan_model.specs.declared.fault.Fault.{Fault}
 use Rattle.chan_model.specs.declared.signal.Down.TheVariants as down
-use Rattle.chan_model.specs.PathSets.{has_path, mask_of_paths}
+use Rattle.chan_model.specs.PathSets.{has_path, mask_of_paths, is_member, in_both}
 use Rattle.channel_config.specs.declared.names.SubchannelId.{SubchannelId}
 use Rattle.channel_config.specs.Setup.{Setup, set_count}
 use Rattle.channel_config.specs.SubchannelWords.{subchannel_named}

@@ -16,8 +16,7 @@ use Rattle.storage_keys.specs.Storage.{Contents, absolute_under, absolute, absol
 use Rattle.storage_keys.proofs.OperandLemmas.{map-slice_index-range}
 use Rattle.schib_block.specs.declared.schib.Schib.{Schib}
 use Rattle.schib_block.specs.SchibTable.{schib_tables, word_2}
-use Rattle.chan_model.specs.PathSets.{has_path, mask_of_path, mask_of_paths, path_bit}
-use Rattle.allegiance.specs.PathUse.{is_member}
+use Rattle.chan_model.specs.PathSets.{has_path, mask_of_path, mask_of_paths, path_bit, is_member}
 use Rattle.subchannel_model.specs.declared.state.Subchannel.{Subchannel}
 use Rattle.subchannel_model.specs.Store.{installed_paths, pmcw_of, schib_of}
 

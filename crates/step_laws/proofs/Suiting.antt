@@ -1,7 +1,8 @@
 -- What is chosen for a subchannel suits it.
 use Rattle.std.proofs.Common.{◌≡◌, refl, sym, subst, ap, ℕ, Bool, true, false, List, ◌∷◌, Option, None, Some}
 use Rattle.std.specs.Prelude.{unwrap_or}
-use Rattle.allegiance.specs.PathUse.{is_any, reachable_paths}
+use Rattle.allegiance.specs.PathUse.{reachable_paths}
+use Rattle.chan_model.specs.PathSets.{is_any}
 use Rattle.chan_model.specs.declared.hold_state.HoldPhase.{HoldPhase}
 use Rattle.chan_model.specs.declared.hold_state.HoldPhase.TheVariants as hold
 use Rattle.subchannel_model.specs.declared.state.Candidate.{Candidate}

@@ -1,7 +1,7 @@
 -- Of what decides whether a path is usable, or lost, each order of asking answers alike; and where no path is lost, the masks stay.
 use Rattle.std.proofs.Common.{◌≡◌, refl, ap₂, Bool, true, false, List, [], ◌∷◌}
 use Rattle.std.specs.Prelude.{◌&&◌, ◌||◌, not, length}
-use Rattle.allegiance.specs.PathUse.{each_path, is_member, is_any, without, joined}
+use Rattle.chan_model.specs.PathSets.{each_path, is_member, is_any, without, joined}
 
 -- logically available, of no other dedicated path, within, available, and engaged or operational
 pub usable_so : (l d i a e : Bool) → (i && (a && (l && (d && not e)))) ≡ (((l && d) && i) && (i && a)) && not e

@@ -1,6 +1,7 @@
 -- Whether one path is usable, or found not operational, by what the subchannel has of it.
 use Rattle.std.specs.Prelude.{ℕ, nat_lt, Bool, not, ◌&&◌, List, length, slice_get}
-use Rattle.allegiance.specs.PathUse.{is_member, keeps_dedicated}
+use Rattle.allegiance.specs.PathUse.{keeps_dedicated}
+use Rattle.chan_model.specs.PathSets.{is_member}
 use Rattle.subchannel_model.specs.declared.state.Subchannel.{Subchannel}
 use Rattle.subchannel_model.specs.Choosing.{is_engaged}
 

@@ -8,7 +8,8 @@ use Rattle.chan_model.specs.HoldTable.{offering, sending_reset, hold_after}
 use Rattle.chan_model.specs.ResetCauses.{is_path, engaged_path}
 use Rattle.allegiance.specs.Allegiances.{may_reconnect}
 use Rattle.allegiance.specs.declared.path_use.PathUse.{PathUse}
-use Rattle.allegiance.specs.PathUse.{is_member, each_path, is_any, reachable_paths, usable_paths, lost_paths, marked}
+use Rattle.allegiance.specs.PathUse.{reachable_paths, usable_paths, lost_paths, marked}
+use Rattle.chan_model.specs.PathSets.{is_member, each_path, is_any}
 use Rattle.subchannel_model.specs.declared.state.Candidate.{Candidate}
 use Rattle.subchannel_model.specs.declared.state.Chosen.{Chosen}
 use Rattle.subchannel_model.specs.declared.state.Chosen.TheVariants.{Idle, Resets, PerformsClear, Halts, PerformsHalt, FindsNoPath, Offers}

@@ -8,7 +8,7 @@ use Rattle.chan_model.specs.ConditionCodes.{in_order}
 use Rattle.subchannel_model.specs.declared.status.Condition.{Condition}
 use Rattle.subchannel_model.specs.declared.state.SubchannelState.{SubchannelState}
 use Rattle.subchannel_model.specs.Conditions.{is_operational}
-use Rattle.subchannel_model.specs.Opening.{all_paths, no_paths}
+use Rattle.chan_model.specs.PathSets.{all_paths, no_paths}
 use Rattle.subchannel_model.specs.Losing.{reset_drawn}
 use Rattle.subchannel_model.specs.Programs.{without_programs}
 use Rattle.subchannel_model.specs.Status.{serials_cleared}

@@ -8,7 +8,7 @@ use Rattle.chan_model.specs.declared.answer.ConditionCode.TheVariants.{Zero}
 use Rattle.subchannel_model.specs.declared.status.Condition.{Condition}
 use Rattle.subchannel_model.specs.declared.state.PmcwState.{PmcwState}
 use Rattle.subchannel_model.specs.declared.state.SubchannelState.{SubchannelState}
-use Rattle.subchannel_model.specs.Opening.{no_paths}
+use Rattle.chan_model.specs.PathSets.{no_paths}
 
 -- what an instruction finds of a subchannel, which may not be provided
 abbrev pub condition_of : Option SubchannelState → Condition

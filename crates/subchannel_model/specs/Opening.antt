@@ -1,19 +1,14 @@
 -- A subchannel at the opening: not enabled, all its paths logically available, operational and up (own).
 use Rattle.std.proofs.Common.{lit<}
-use Rattle.std.specs.Prelude.{Bool, true, false, List, replicate, None}
+use Rattle.std.specs.Prelude.{false, None}
 use Rattle.scsw_irb.specs.Empty.{zero_scsw}
 use Rattle.chan_model.specs.HoldTable.{free_hold}
+use Rattle.chan_model.specs.PathSets.{all_paths, no_paths}
 use Rattle.channel_config.specs.declared.parts.SubchannelSetup.{SubchannelSetup}
 use Rattle.wires.specs.Queues.{no_queues}
 use Rattle.subchannel_model.specs.declared.state.PmcwState.{PmcwState}
 use Rattle.subchannel_model.specs.declared.state.SubchannelState.{SubchannelState}
 use Rattle.subchannel_model.specs.declared.state.Subchannel.{Subchannel}
-
-abbrev pub all_paths : List Bool
-all_paths = replicate 8 true
-
-abbrev pub no_paths : List Bool
-no_paths = replicate 8 false
 
 abbrev pub opening_pmcw : PmcwState
 opening_pmcw = record { parameter = 0; subclass = 0; enabled = false; multipath = false; logical = all_paths; not_operational = no_paths; last_used = None; operational = all_paths; available = all_paths; subclass_fits = lit< tt }

@@ -11,7 +11,7 @@ use Rattle.scsw_irb.specs.declared.scsw.Scsw.{Scsw}
 use Rattle.scsw_irb.specs.declared.status.DeviceStatus.{DeviceStatus}
 use Rattle.scsw_irb.specs.declared.status.SubchannelStatus.{SubchannelStatus}
 use Rattle.storage_keys.specs.Storage.{Contents}
-use Rattle.chan_model.specs.PathSets.{paths_of_mask}
+use Rattle.chan_model.specs.PathSets.{paths_of_mask, all_paths, no_paths}
 use Rattle.chan_model.specs.UnitReports.{has_unit_check}
 use Rattle.chan_model.specs.declared.hold_state.HoldPhase.{HoldPhase}
 use Rattle.ccw_walk.specs.Walks.{WalkPlace}
@@ -29,7 +29,7 @@ use Rattle.subchannel_model.specs.declared.state.SubchannelState.{SubchannelStat
 use Rattle.subchannel_model.specs.declared.state.UpStep.{UpStep}
 use Rattle.subchannel_model.specs.declared.status.Shown.{Shown}
 use Rattle.subchannel_model.specs.Status.{check_bits, conditions}
-use Rattle.subchannel_model.specs.Opening.{all_paths, no_paths, opening_pmcw}
+use Rattle.subchannel_model.specs.Opening.{opening_pmcw}
 use Rattle.subchannel_model.specs.Ends.{shows_length, work_shown}
 use Rattle.subchannel_model.specs.Causes.{with_cause}
 use Rattle.subchannel_model.specs.Choosing.{halt_at, offer_at}

@@ -1,6 +1,6 @@
 -- Signals that are sent on the wires of a subchannel's paths (own).
 use Rattle.std.specs.Prelude.{ℕ, Bool, false, ◌==◌, if◌then◌else◌, Option, None, Some, List, length}
-use Rattle.allegiance.specs.PathUse.{is_member}
+use Rattle.chan_model.specs.PathSets.{is_member}
 use Rattle.chan_model.specs.declared.signal.OnPath.{OnPath}
 use Rattle.wires.specs.Queues.{queue, sent}
 use Rattle.subchannel_model.specs.declared.state.Subchannel.{Subchannel}

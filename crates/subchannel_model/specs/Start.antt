@@ -7,11 +7,10 @@ use Rattle.scsw_irb.specs.declared.scsw.Scsw.{Scsw}
 use Rattle.scsw_irb.specs.Empty.{no_functions, no_activity}
 use Rattle.chan_model.specs.declared.answer.ConditionCode.{ConditionCode}
 use Rattle.chan_model.specs.ConditionCodes.{in_order}
-use Rattle.chan_model.specs.PathSets.{paths_of_mask}
+use Rattle.chan_model.specs.PathSets.{paths_of_mask, no_paths}
 use Rattle.subchannel_model.specs.declared.status.Condition.{Condition}
 use Rattle.subchannel_model.specs.declared.state.SubchannelState.{SubchannelState}
 use Rattle.subchannel_model.specs.Conditions.{is_operational, any_function}
-use Rattle.subchannel_model.specs.Opening.{no_paths}
 use Rattle.subchannel_model.specs.Status.{no_device_status, no_subchannel_status}
 
 -- condition code: 1 status pending; 2 start, halt or clear in progress

@@ -6,8 +6,7 @@ use Rattle.schib_block.specs.declared.pmcw.Pmcw as block
 use Rattle.schib_block.specs.declared.schib.Schib.{Schib}
 use Rattle.chan_model.specs.declared.answer.ConditionCode.{ConditionCode}
 use Rattle.chan_model.specs.ConditionCodes.{in_order}
-use Rattle.chan_model.specs.PathSets.{mask_of_path, mask_of_paths}
-use Rattle.allegiance.specs.PathUse.{each_path, in_both}
+use Rattle.chan_model.specs.PathSets.{mask_of_path, mask_of_paths, each_path, in_both}
 use Rattle.subchannel_model.specs.declared.status.Condition.{Condition}
 use Rattle.subchannel_model.specs.declared.state.Subchannel.{Subchannel}
 

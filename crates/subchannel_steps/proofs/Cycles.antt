@@ -1,7 +1,7 @@
 -- The paths in cyclic order of 8: those from a number are those from its rest by 8.
 use Rattle.std.proofs.Common.{◌≡◌, refl, sym, ◌∙◌, ap, ℕ, ◌+◌, ◌<◌, ◌%◌, zero, suc, Option, Some, Bool, true, false, List, if◌then◌else◌}
 use Rattle.std.proofs.Math.Nat.{mod-add-mod, mod-mod, mod-eq_of_lt}
-use Rattle.allegiance.specs.PathUse.{is_member}
+use Rattle.chan_model.specs.PathSets.{is_member}
 use Rattle.machine_model.specs.State.{cyclic_path}
 
 cycles : (paths : List Bool) (n from : ℕ) → cyclic_path paths n (from % 8) ≡ cyclic_path paths n from

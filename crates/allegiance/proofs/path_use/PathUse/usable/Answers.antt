@@ -1,5 +1,6 @@
 use Rattle.std.proofs.Common.{◌≡◌, sym, ◌∙◌, ap, List, Bool}
-use Rattle.allegiance.specs.PathUse.{is_member, without, usable_paths}
+use Rattle.allegiance.specs.PathUse.{usable_paths}
+use Rattle.chan_model.specs.PathSets.{is_member, without}
 use Rattle.allegiance.proofs.Members.{usable-keeps}
 use Rattle.allegiance.proofs.path_use.PathUse.usable.Goals as goal
 
