@@ -1,0 +1,2 @@
+pub mod Unwired
+pub mod Lending
