@@ -99,7 +99,12 @@ fn breaks_chain(scsw: &ScswWords, begun: &ActiveProgram, status: DeviceStatus, m
 }
 
 /// Whether the next command is chained to after an End.
-pub fn chains_command(scsw: &ScswWords, begun: &ActiveProgram, status: DeviceStatus, more: bool) -> bool
+pub fn chains_command(
+    scsw: &ScswWords,
+    begun: &ActiveProgram,
+    status: DeviceStatus,
+    more: bool,
+) -> bool
     ensures { result ≡ spec.chains_command scsw.now begun.now status more }
 {
     let ccw = begun.transfer.moving.ccw();
@@ -116,7 +121,12 @@ fn is_alert(begun: &ActiveProgram, status: DeviceStatus) -> bool
 }
 
 /// Channel end alone: the device works on.
-fn channel_end_shown(scsw: &ScswWords, begun: &ActiveProgram, status: DeviceStatus, more: bool) -> Shown
+fn channel_end_shown(
+    scsw: &ScswWords,
+    begun: &ActiveProgram,
+    status: DeviceStatus,
+    more: bool,
+) -> Shown
     ensures { result ≡ parts.channel_end_shown scsw.now begun.now status more }
 {
     Shown {
@@ -138,7 +148,12 @@ fn channel_end_shown(scsw: &ScswWords, begun: &ActiveProgram, status: DeviceStat
 }
 
 /// The last End of a program.
-fn last_end_shown(scsw: &ScswWords, begun: &ActiveProgram, status: DeviceStatus, more: bool) -> Shown
+fn last_end_shown(
+    scsw: &ScswWords,
+    begun: &ActiveProgram,
+    status: DeviceStatus,
+    more: bool,
+) -> Shown
     ensures { result ≡ parts.last_end_shown scsw.now begun.now status more }
 {
     Shown {
@@ -157,7 +172,12 @@ fn last_end_shown(scsw: &ScswWords, begun: &ActiveProgram, status: DeviceStatus,
 }
 
 /// The last End of an earlier program while a start waits.
-fn earlier_end_shown(scsw: &ScswWords, begun: &ActiveProgram, status: DeviceStatus, more: bool) -> Shown
+fn earlier_end_shown(
+    scsw: &ScswWords,
+    begun: &ActiveProgram,
+    status: DeviceStatus,
+    more: bool,
+) -> Shown
     ensures { result ≡ parts.earlier_end_shown scsw.now begun.now status more }
 {
     let before = scsw.scsw();
