@@ -230,7 +230,7 @@ fn chains_at(state: &PackedState, end: &EndSignal) -> bool
 {
     match &state.rest().begun {
         None => false,
-        Some(begun) => chains_command(state.scsw().scsw(), begun, end.status, end.more),
+        Some(begun) => chains_command(state.scsw(), begun, end.status, end.more),
     }
 }
 
