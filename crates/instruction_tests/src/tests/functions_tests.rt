@@ -1,4 +1,5 @@
-//! The table of condition codes, each code of each instruction once, and status words that are known from elsewhere.
+//! The table of condition codes, each code once that an instruction has at a subchannel that is provided, and status words that
+//! are known from elsewhere.
 
 use crate::tests::setups::{idle_state, is_same_words, packed};
 use ccw_walk::Walk;
@@ -231,8 +232,7 @@ fn a_suspended_program_is_resumed(rt: HostRuntime) {
     assert!(rt; rsch(&mut state) == ConditionCode::Two && state.rest().suspended.is_some());
     let mut active = subchannel([0x0880_40C0, 0x1008, 0]);
     assert!(rt;
-        rsch(&mut active) == ConditionCode::Zero
-            && active.not_operational().mask() == 0xFF
+        rsch(&mut active) == ConditionCode::Zero && active.not_operational().mask() == 0xFF
     );
 }
 
