@@ -1,4 +1,4 @@
-use Rattle.std.proofs.Common.{◌≡◌, ◌<◌, List, Bool, false, sym, ◌∙◌, ap, arith}
+use Rattle.std.proofs.Common.{List, Bool, false, sym, ◌∙◌, ap, arith}
 use Rattle.std.specs.Prelude.{slice_set}
 use Rattle.chan_model.specs.PathSets.{is_member}
 use Rattle.subchannel_model.specs.Choosing.{engaged_paths}
@@ -15,9 +15,9 @@ returns-then-is_engaged c =
 pub returns-else-has : goal.returns-else-has
 returns-else-has c =
     λ all is. is ∙ elim c.else-has.branch [
-      else-has-via-then-has+else-is_engaged w ↦
-        freed_free all (engaged_paths c.args.subs.now c.args.sub.now) c.args.path (omega arith) (sym w.is_engaged.ensures ∙ w.if-is_engaged.false)
-    | else-has-via-else-has w ↦
-        freed_absent all (engaged_paths c.args.subs.now c.args.sub.now) c.args.path (omega arith)
-        (ap (λ (set : List Bool). is_member set c.args.path) (sym is) ∙ (sym c.has.ensures ∙ w.if-has.false))
+      | else-has-via-then-has+else-is_engaged w ↦
+          freed_free all (engaged_paths c.args.subs.now c.args.sub.now) c.args.path (omega arith) (sym w.is_engaged.ensures ∙ w.if-is_engaged.false)
+      | else-has-via-else-has w ↦
+          freed_absent all (engaged_paths c.args.subs.now c.args.sub.now) c.args.path (omega arith)
+          (ap (λ (set : List Bool). is_member set c.args.path) (sym is) ∙ (sym c.has.ensures ∙ w.if-has.false))
     ]
