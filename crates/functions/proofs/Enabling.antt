@@ -4,7 +4,7 @@ use Rattle.std.proofs.Math.Bridge.{le_prop}
 use Rattle.std.proofs.lemmas.Nat.{mod_below}
 use Rattle.zbits.specs.Bits.{field_of}
 use Rattle.zbits.specs.Layout.{bit_number, word_of}
-use Rattle.pmcw_words.specs.Packing.{seven-items}
+use Rattle.schib_block.specs.PmcwPacking.{seven-items}
 use Rattle.zbits.proofs.LayoutLemmas.{bit_number-lt}
 use Rattle.schib_block.specs.declared.pmcw.Pmcw.{Pmcw}
 use Rattle.schib_block.specs.SchibTable.{pmcw_tables, word_1}
