@@ -8,8 +8,8 @@ ghost use Rattle.subchannel_model.specs.Parts as parts;
 ghost use Rattle.subchannel_words.specs.Unwired.{with_state};
 
 use ccw_walk::Walk;
-use status::make_pending;
 use scsw_irb::words::ScswWords;
+use status::make_pending;
 use subchannel_model::cause::StatusCause;
 use subchannel_model::state::{ActiveProgram, Program, ProgramPosition};
 use subchannel_words::{PackedState, Rest};
