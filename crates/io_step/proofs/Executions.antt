@@ -82,27 +82,25 @@ tests-sub s before after cpu address place old new u r checked irb left =
     ∙ ap (λ (x : State). does r (with_sub x place new)) (sym irb)))
 
 -- the IRB is stored with code 0 and 1
-pub irb-stored : (s : State) (before after : Contents) (cpu number address : ℕ) (sub : Subchannel) (code : ConditionCode) (irb : Irb) (image : List ℕ) (b : Bool) →
-    code ≡ code_at tsch_code sub → b ≡ stores_irb code → b ≡ true → irb ≡ irb_of sub.state → image ≡ image_of (irb_tables irb) → number ≡ cpu →
+pub irb-stored : (s : State) (before after : Contents) (cpu number address : ℕ) (sub : Subchannel) (code : ConditionCode) (image : List ℕ) (b : Bool) →
+    code ≡ code_at tsch_code sub → b ≡ stores_irb code → b ≡ true → image ≡ image_of (irb_tables (irb_of sub.state)) → number ≡ cpu →
     after ≡ operand_stored before number address image →
     state_with_storage s after ≡ with_irb (state_with_storage s before) cpu address sub (stores_irb (code_at tsch_code sub))
-irb-stored s before after cpu number address sub code irb image b tested is passes made written named stored =
-    let bytes : image ≡ image_of (irb_tables (irb_of sub.state)) = written ∙ ap (λ (x : Irb). image_of (irb_tables x)) made in
+irb-stored s before after cpu number address sub code image b tested is passes written named stored =
     let stores : stores_irb (code_at tsch_code sub) ≡ true = ap stores_irb (sym tested) ∙ (sym is ∙ passes) in
     ap (λ (x : Contents). state_with_storage s x)
-    (stored ∙ (ap (λ (k : ℕ). operand_stored before k address image) named ∙ ap (λ (xs : List ℕ). operand_stored before cpu address xs) bytes))
+    (stored ∙ (ap (λ (k : ℕ). operand_stored before k address image) named ∙ ap (λ (xs : List ℕ). operand_stored before cpu address xs) written))
     ∙ sym (ap (λ (x : Bool). with_irb (state_with_storage s before) cpu address sub x) stores)
 
-pub stores-sub : (s : State) (before after : Contents) (cpu number address place : ℕ) (sub : Subchannel) (schib : Schib) (image : List ℕ) (u : Unit {0}) →
-    slice_get s.subs place ≡ Some sub → Ok u ≡ from_storage (operand_check before cpu address 52 4) → number ≡ cpu → schib ≡ schib_of sub →
-    image ≡ image_of (schib_tables schib) → after ≡ operand_stored before number address image →
+pub stores-sub : (s : State) (before after : Contents) (cpu number address place : ℕ) (sub : Subchannel) (image : List ℕ) (u : Unit {0}) →
+    slice_get s.subs place ≡ Some sub → Ok u ≡ from_storage (operand_check before cpu address 52 4) → number ≡ cpu →
+    image ≡ image_of (schib_tables (schib_of sub)) → after ≡ operand_stored before number address image →
     does (reply.Status (store_answer sub) sub.state.scsw) (with_sub (state_with_storage s after) place sub)
     ≡ stores (state_with_storage s before) cpu address (Some (record { place = place; sub = sub })) (operand_check before cpu address 52 4)
-stores-sub s before after cpu number address place sub schib image u there checked named made written stored =
+stores-sub s before after cpu number address place sub image u there checked named written stored =
     let check : operand_check before cpu address 52 4 ≡ Ok u = permitted (operand_check before cpu address 52 4) u checked in
-    let bytes : image_of (schib_tables (schib_of sub)) ≡ image = ap (λ (x : Schib). image_of (schib_tables x)) (sym made) ∙ sym written in
     let all : operand_stored before cpu address (image_of (schib_tables (schib_of sub))) ≡ after =
-    ap (λ (xs : List ℕ). operand_stored before cpu address xs) bytes
+    ap (λ (xs : List ℕ). operand_stored before cpu address xs) (sym written)
     ∙ (ap (λ (k : ℕ). operand_stored before k address image) (sym named) ∙ sym stored) in
     let shown = reply.Status (store_answer sub) sub.state.scsw in
     sym (ap (λ (x : Result (Unit {0}) StorageFault). stores (state_with_storage s before) cpu address (Some (record { place = place; sub = sub })) x) check

@@ -1,2 +1,3 @@
 mod Engaged
 mod Executions
+mod Reading
