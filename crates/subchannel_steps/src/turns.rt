@@ -47,7 +47,8 @@ use subchannel::choosing::{mark_lost_paths, offer, send_halt, send_reset};
 use subchannel::paths::is_granted;
 use subchannel::taking::take_up;
 use subchannel_model::cause::StatusCause;
-use subchannel_model::state::{Candidate, Chosen, Subchannel};
+use subchannel_model::state::{Candidate, Chosen};
+use subchannel_words::Subchannel;
 use unit::Unit;
 use working::sent::SentDown;
 
@@ -71,7 +72,7 @@ fn reset_on(sub: &mut Subchannel, number: u64, path: Path) -> PlainReply
     ensures gives { choose_spec.choose_sub sub.old (chosen_spec.Resets number path) ≡ Ok (turn_spec.leaves (reply_of result) sub.new) }
     ensures setup { sub.new.setup ≡ sub.old.setup }
 {
-    let available = sub.state.pmcw.available;
+    let available = sub.state.up();
     let reset = send_reset(&mut sub.state, path);
     send_any_down(&mut sub.wires, &available, &lend_down(&reset));
     Reply::ResetSent { path, number }
@@ -84,7 +85,7 @@ fn halt_on(sub: &mut Subchannel, number: u64, path: Path) -> PlainReply
     ensures gives { choose_spec.choose_sub sub.old (chosen_spec.Halts number path) ≡ Ok (turn_spec.leaves (reply_of result) sub.new) }
     ensures setup { sub.new.setup ≡ sub.old.setup }
 {
-    let available = sub.state.pmcw.available;
+    let available = sub.state.up();
     let halt = Some(OnPath {
         path,
         signal: PlainDown::of(Down::Halt { number }),
@@ -103,13 +104,13 @@ fn offer_on(sub: &mut Subchannel, candidate: Candidate, path: Path) -> PlainRepl
     ensures gives { choose_spec.choose_sub sub.old (chosen_spec.Offers candidate path) ≡ Ok (turn_spec.leaves (reply_of result) sub.new) }
     ensures setup { sub.new.setup ≡ sub.old.setup }
 {
-    let available = sub.state.pmcw.available;
+    let available = sub.state.up();
     let select = Some(offer(&mut sub.state, &candidate.program, path));
     send_any_down(&mut sub.wires, &available, &lend_down(&select));
     Reply::Offered {
         path,
         resumed: candidate.resumes,
-        number: sub.state.drawn,
+        number: sub.state.rest().drawn,
     }
 }
 
@@ -169,7 +170,7 @@ fn standing_finds_full(sub: &Subchannel) -> bool
     ensures { OnFalse result ((s : on_path.OnPath signals.Down) → answering_spec.standing_path sub.now.state.hold.phase ≡ Some s.path →
         giving_spec.TellsFull sub.now.wires.down (sending_spec.carried_by sub.now (Some s)) false) }
 {
-    match standing_path(&sub.state.hold) {
+    match standing_path(&sub.state.rest().hold) {
         None => false,
         Some(at) => finds_down_full(sub, at),
     }
@@ -209,7 +210,7 @@ fn up_finds_full(
 pub fn path_of(sub: &Subchannel, path: u32) -> Option<Path>
     ensures { giving_spec.PathOf sub.now path result }
 {
-    if (path as usize) < sub.setup.paths.as_slice().len() {
+    if (path as usize) < sub.state.setup().paths.as_slice().len() {
         Path::new(path)
     } else {
         None
@@ -271,7 +272,7 @@ pub fn up_sub(
     ensures refused { OnErr result (log.new ≡ log.old) }
 {
     may_come_up(storage, sub, path, returns)?;
-    let available = sub.state.pmcw.available;
+    let available = sub.state.up();
     let first = first_up(&sub.wires, path);
     let taken = take_up(storage, &mut sub.state, path, &first, returns, sent);
     let answer = sent.get();
@@ -286,7 +287,7 @@ fn answer_finds_full(sub: &Subchannel, unit: &Unit, path: Path, signal: &LentDow
     ensures { (may : Bool) → giving_spec.TellsFull sub.now.wires.up (sending_spec.carried_by sub.now
         (unit_spec.came_of (unit_spec.unit_takes «unit».now sub.now.setup.side path (lent_down signal.now) may)).sent) result }
 {
-    finds_up_full(sub, path) && unit.answers(sub.setup.side, signal)
+    finds_up_full(sub, path) && unit.answers(sub.state.setup().side, signal)
 }
 
 /// The unit takes the signal that waits longest on the wire down of a path, once it is known that its answer finds room; its
@@ -316,8 +317,8 @@ pub fn down_sub(
     if answer_finds_full(sub, unit, path, &front) {
         return Err(Fault::WireFull);
     }
-    let side = sub.setup.side;
-    let came = take(sharing, sub.setup.unit, unit, side, path, &front);
+    let side = sub.state.setup().side;
+    let came = take(sharing, sub.state.setup().unit, unit, side, path, &front);
     let answer = lend_up(&came.sent);
     log.meet_down(&front, came.taken, &answer);
     sub.wires.drop_down(path);
