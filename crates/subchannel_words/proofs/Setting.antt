@@ -9,8 +9,6 @@ use Rattle.chan_model.specs.Masks.{mask-is}
 use Rattle.subchannel_model.specs.Store.{pmcw_of}
 use Rattle.subchannel_words.specs.declared.rest.Rest.{Rest}
 use Rattle.subchannel_words.proofs.Tied.{path-is}
-use Rattle.orb_block.specs.declared.Orb.{Orb}
-use 
 use Rattle.subchannel_words.specs.Unwired.{bare}
 
 pub parameter-tied : (setup : SubchannelSetup) (p : Pmcw) (scsw : Scsw) (up : List Bool) (rest : Rest) (n : ℕ)
@@ -45,11 +43,3 @@ pub path-tied : (setup : SubchannelSetup) (p : Pmcw) (scsw : Scsw) (up : List Bo
 path-tied setup p scsw up rest path tied small =
     ap (λ (x : Pmcw). record x { last_used = mask_of_path path }) tied
     ∙ ap (λ (o : Option ℕ). record (pmcw_of (bare setup p scsw up rest)) { last_used = mask_of_path o }) (sym (path-is path small))
-
--- a start by the parts
-pub started-tied : (setup : SubchannelSetup) (p : Pmcw) (scsw : Scsw) (up : List Bool) (rest : Rest) (orb : Orb)
-    → p ≡ pmcw_of (bare setup p scsw up rest) → orb.paths < 256
-    → started_words p orb ≡ pmcw_of (bare setup (started_words p orb) scsw up rest)
-started-tied setup p scsw up rest orb tied small =
-    ap (λ (x : Pmcw). started_words x orb) tied
-    ∙ ap (λ (n : ℕ). record (started_words (pmcw_of (bare setup p scsw up rest)) orb) { logical = n }) (sym (mask-is orb.paths small))

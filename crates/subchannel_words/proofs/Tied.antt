@@ -7,23 +7,20 @@ use Rattle.zbits.proofs.LayoutLemmas.{bit_number-lt}
 use Rattle.scsw_irb.specs.declared.scsw.Scsw.{Scsw}
 use Rattle.schib_block.specs.declared.pmcw.Pmcw.{Pmcw}
 use Rattle.schib_block.specs.Modify.{modified}
-use Rattle.chan_model.specs.PathSets.{mask_of_path, mask_of_paths, paths_of_mask}
-use Rattle.channel_config.specs.declared.parts.SubchannelSetup.{SubchannelSetup}
-use Rattle.chan_model.specs.PathSets.{in_both}
-use Rattle.wires.specs.Queues.{Queues}
+use Rattle.chan_model.specs.PathSets.{in_both, is_member, mask_of_path, mask_of_paths, paths_of_mask}
 use Rattle.chan_model.specs.Masks.{mask-is}
+use Rattle.channel_config.specs.declared.parts.SubchannelSetup.{SubchannelSetup}
 use Rattle.subchannel_model.specs.declared.state.PmcwState.{PmcwState}
-use Rattle.subchannel_model.specs.declared.state.Subchannel.{Subchannel}
 use Rattle.subchannel_model.specs.Store.{installed_paths, pmcw_of}
 use Rattle.subchannel_words.specs.declared.rest.Rest.{Rest}
-use Rattle.subchannel_words.specs.Unwired.{path_of_mask, rest_of, state_of, sub_of}
+use Rattle.subchannel_words.specs.Unwired.{Unwired, bare, path_of_mask, rest_in, state_of, unwired_of, unwired_sub, with_pmcw}
 
 -- MODIFY SUBCHANNEL keeps them so
-pub modified-tied : (setup : SubchannelSetup) (p : Pmcw) (scsw : Scsw) (up : List Bool) (rest : Rest) (wires : Queues) (g : Pmcw)
-    → p ≡ pmcw_of (sub_of setup p scsw up rest wires) → g.logical < 256 → g.operational < 256
-    → modified p g ≡ pmcw_of (sub_of setup (modified p g) scsw up rest wires)
-modified-tied setup p scsw up rest wires g tied logical operational =
-    let q = pmcw_of (sub_of setup p scsw up rest wires) in
+pub modified-tied : (setup : SubchannelSetup) (p : Pmcw) (scsw : Scsw) (up : List Bool) (rest : Rest) (g : Pmcw)
+    → p ≡ pmcw_of (bare setup p scsw up rest) → g.logical < 256 → g.operational < 256
+    → modified p g ≡ pmcw_of (bare setup (modified p g) scsw up rest)
+modified-tied setup p scsw up rest g tied logical operational =
+    let q = pmcw_of (bare setup p scsw up rest) in
     ap (λ (x : Pmcw). modified x g) tied
     ∙ ap (λ (m : ℕ). record (modified q g) { logical = m }) (sym (mask-is g.logical logical))
     ∙ ap (λ (m : ℕ). record (modified q g) { logical = mask_of_paths (paths_of_mask g.logical); operational = m }) (sym (mask-is g.operational operational))
@@ -87,49 +84,53 @@ path-is None h = refl
 path-is (Some p) h = own-path p h
 
 -- what is packed is what was there
-pub packed-is : (sub : Subchannel) → length sub.state.pmcw.logical ≡ 8 → length sub.state.pmcw.not_operational ≡ 8 → length sub.state.pmcw.operational ≡ 8
-    → IfSome sub.state.pmcw.last_used (λ p. p < 8) → state_of (pmcw_of sub) sub.state.pmcw.available ≡ sub.state.pmcw
-packed-is sub logical not_operational operational path =
-    let s = sub.state.pmcw in
-    ap (λ (x : List Bool). record (state_of (pmcw_of sub) s.available) { logical = x }) (set-is s.logical logical)
-    ∙ ap (λ (x : List Bool). record (state_of (pmcw_of sub) s.available) { logical = s.logical; not_operational = x }) (set-is s.not_operational not_operational)
-    ∙ ap (λ (x : Option ℕ). record (state_of (pmcw_of sub) s.available) { logical = s.logical; not_operational = s.not_operational; last_used = x }) (path-is s.last_used path)
-    ∙ ap (λ (x : List Bool). record (state_of (pmcw_of sub) s.available) { logical = s.logical; not_operational = s.not_operational; last_used = s.last_used; operational = x }) (set-is s.operational operational)
+pub packed-is : (s : Unwired) → length s.state.pmcw.logical ≡ 8 → length s.state.pmcw.not_operational ≡ 8 → length s.state.pmcw.operational ≡ 8
+    → IfSome s.state.pmcw.last_used (λ p. p < 8) → state_of (pmcw_of (unwired_sub s)) s.state.pmcw.available ≡ s.state.pmcw
+packed-is s logical not_operational operational path =
+    let q = s.state.pmcw in
+    let first = state_of (pmcw_of (unwired_sub s)) q.available in
+    ap (λ (x : List Bool). record first { logical = x }) (set-is q.logical logical)
+    ∙ ap (λ (x : List Bool). record first { logical = q.logical; not_operational = x }) (set-is q.not_operational not_operational)
+    ∙ ap (λ (x : Option ℕ). record first { logical = q.logical; not_operational = q.not_operational; last_used = x }) (path-is q.last_used path)
+    ∙ ap (λ (x : List Bool). record first { logical = q.logical; not_operational = q.not_operational; last_used = q.last_used; operational = x }) (set-is q.operational operational)
 
-pub whole-is : (sub : Subchannel) (p : Pmcw) (scsw : Scsw) (up : List Bool) → p ≡ pmcw_of sub → scsw ≡ sub.state.scsw → up ≡ sub.state.pmcw.available
-    → length sub.state.pmcw.logical ≡ 8 → length sub.state.pmcw.not_operational ≡ 8 → length sub.state.pmcw.operational ≡ 8 → IfSome sub.state.pmcw.last_used (λ n. n < 8)
-    → sub_of sub.setup p scsw up (rest_of sub) sub.wires ≡ sub
-whole-is sub p scsw up ep es eu logical not_operational operational path =
-    ap (λ (x : Pmcw). sub_of sub.setup x scsw up (rest_of sub) sub.wires) ep
-    ∙ ap (λ (x : Scsw). sub_of sub.setup (pmcw_of sub) x up (rest_of sub) sub.wires) es
-    ∙ ap (λ (x : List Bool). sub_of sub.setup (pmcw_of sub) sub.state.scsw x (rest_of sub) sub.wires) eu
-    ∙ ap (λ (x : PmcwState). record sub { state = record sub.state { pmcw = x } }) (packed-is sub logical not_operational operational path)
+pub whole-is : (s : Unwired) (p : Pmcw) (scsw : Scsw) → p ≡ pmcw_of (unwired_sub s) → scsw ≡ s.state.scsw
+    → length s.state.pmcw.logical ≡ 8 → length s.state.pmcw.not_operational ≡ 8 → length s.state.pmcw.operational ≡ 8 → IfSome s.state.pmcw.last_used (λ n. n < 8)
+    → unwired_of s.setup p scsw s.state.pmcw.available (rest_in s.state) ≡ s
+whole-is s p scsw ep es logical not_operational operational path =
+    ap (λ (x : Pmcw). unwired_of s.setup x scsw s.state.pmcw.available (rest_in s.state)) ep
+    ∙ ap (λ (x : Scsw). unwired_of s.setup (pmcw_of (unwired_sub s)) x s.state.pmcw.available (rest_in s.state)) es
+    ∙ ap (λ (x : PmcwState). with_pmcw s x) (packed-is s logical not_operational operational path)
 
-pub whole-tied : (sub : Subchannel) (p : Pmcw) (scsw : Scsw) (up : List Bool) → p ≡ pmcw_of sub → scsw ≡ sub.state.scsw → up ≡ sub.state.pmcw.available
-    → length sub.state.pmcw.logical ≡ 8 → length sub.state.pmcw.not_operational ≡ 8 → length sub.state.pmcw.operational ≡ 8 → IfSome sub.state.pmcw.last_used (λ n. n < 8)
-    → p ≡ pmcw_of (sub_of sub.setup p scsw up (rest_of sub) sub.wires)
-whole-tied sub p scsw up ep es eu logical not_operational operational path =
-    ep ∙ ap pmcw_of (sym (whole-is sub p scsw up ep es eu logical not_operational operational path))
+pub whole-tied : (s : Unwired) (p : Pmcw) (scsw : Scsw) → p ≡ pmcw_of (unwired_sub s) → scsw ≡ s.state.scsw
+    → length s.state.pmcw.logical ≡ 8 → length s.state.pmcw.not_operational ≡ 8 → length s.state.pmcw.operational ≡ 8 → IfSome s.state.pmcw.last_used (λ n. n < 8)
+    → p ≡ pmcw_of (bare s.setup p scsw s.state.pmcw.available (rest_in s.state))
+whole-tied s p scsw ep es logical not_operational operational path =
+    ep ∙ ap (λ (x : Unwired). pmcw_of (unwired_sub x)) (sym (whole-is s p scsw ep es logical not_operational operational path))
 
 -- so do LPUM, and PAM
 pub used-is : (n : ℕ) → n < 8 → path_of_mask (mask_of_path (Some n)) ≡ Some n
 used-is n small = own-path n small
 
-pub used-tied : (setup : SubchannelSetup) (p : Pmcw) (scsw : Scsw) (up : List Bool) (rest : Rest) (wires : Queues) (n : ℕ)
-    → p ≡ pmcw_of (sub_of setup p scsw up rest wires) → n < 8
-    → record p { last_used = mask_of_path (Some n) } ≡ pmcw_of (sub_of setup (record p { last_used = mask_of_path (Some n) }) scsw up rest wires)
-used-tied setup p scsw up rest wires n tied small =
-    let q = pmcw_of (sub_of setup p scsw up rest wires) in
-    ap (λ (x : Pmcw). record x { last_used = mask_of_path (Some n) }) tied
-    ∙ ap (λ (path : Option ℕ). record q { last_used = mask_of_path path }) (sym (own-path n small))
+-- the masks of the words are the sets of the subchannel
+pub installed-is : (s : Unwired) (p : Pmcw) → p ≡ pmcw_of (unwired_sub s) → paths_of_mask p.installed ≡ installed_paths (unwired_sub s)
+installed-is s p tied = ap (λ (x : Pmcw). paths_of_mask x.installed) tied ∙ set-is (installed_paths (unwired_sub s)) refl
 
-pub shown-tied : (setup : SubchannelSetup) (p : Pmcw) (scsw : Scsw) (up now : List Bool) (rest : Rest) (wires : Queues)
-    → p ≡ pmcw_of (sub_of setup p scsw up rest wires)
+pub available-is : (s : Unwired) (p : Pmcw) → p ≡ pmcw_of (unwired_sub s) → paths_of_mask p.available ≡ in_both (installed_paths (unwired_sub s)) s.state.pmcw.available
+available-is s p tied = ap (λ (x : Pmcw). paths_of_mask x.available) tied ∙ set-is (in_both (installed_paths (unwired_sub s)) s.state.pmcw.available) refl
+
+pub shown-tied : (setup : SubchannelSetup) (p : Pmcw) (scsw : Scsw) (up now : List Bool) (rest : Rest)
+    → p ≡ pmcw_of (bare setup p scsw up rest)
     → record p { available = mask_of_paths (in_both (paths_of_mask p.installed) now) }
-    ≡ pmcw_of (sub_of setup (record p { available = mask_of_paths (in_both (paths_of_mask p.installed) now) }) scsw now rest wires)
-shown-tied setup p scsw up now rest wires tied =
-    let sub = sub_of setup p scsw up rest wires in
-    let q = pmcw_of sub in
-    let installed : paths_of_mask p.installed ≡ installed_paths sub = ap (λ (x : Pmcw). paths_of_mask x.installed) tied ∙ set-is (installed_paths sub) refl in
+    ≡ pmcw_of (bare setup (record p { available = mask_of_paths (in_both (paths_of_mask p.installed) now) }) scsw now rest)
+shown-tied setup p scsw up now rest tied =
+    let q = pmcw_of (bare setup p scsw up rest) in
+    let installed = installed-is (unwired_of setup p scsw up rest) p tied in
     ap (λ (x : Pmcw). record x { available = mask_of_paths (in_both (paths_of_mask p.installed) now) }) tied
     ∙ ap (λ (set : List Bool). record q { available = mask_of_paths (in_both set now) }) installed
+
+-- a mask is a byte
+pub mask-lt : (set : List Bool) → mask_of_paths set < 256
+mask-lt set =
+    let bit : (k : ℕ) → bit_number (is_member set k) < 2 = λ k. bit_number-lt (is_member set k) in
+    omega (arith, bit 0, bit 1, bit 2, bit 3, bit 4, bit 5, bit 6, bit 7)

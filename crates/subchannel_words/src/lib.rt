@@ -8,6 +8,7 @@
 #![tactic(auto)]
 
 mod block;
+mod images;
 pub mod rest;
 pub mod state;
 pub mod subchannel;

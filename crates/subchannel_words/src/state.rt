@@ -24,7 +24,6 @@ use chan_model::paths::{PathSet, mask_of_path};
 use channel_config::parts::SubchannelSetup;
 use orb_block::Orb;
 use pmcw_words::PmcwWords;
-use schib_block::pmcw::Pmcw;
 use status_words::ScswWords;
 use std::marker::Model;
 use subchannel_model::state::{PmcwState, SubchannelState};
@@ -100,13 +99,6 @@ impl PackedState {
         ensures { result.now ≡ map word_of (scsw_tables self.now.state.scsw) }
     {
         self.scsw.words()
-    }
-
-    /// The path-management-control word.
-    pub fn pmcw(&self) -> Pmcw
-        ensures { result ≡ pmcw_of (unwired_sub self.now) }
-    {
-        self.pmcw.pmcw()
     }
 
     /// The interruption parameter.
@@ -341,8 +333,7 @@ impl PackedState {
     fn disable(&mut self)
         ensures { self.new ≡ with_pmcw self.old (disabled self.old.state.pmcw) }
     {
-        self.pmcw
-            .modify(&[0, 0, 0xFF00_0000, 0x0000_FF00, 0, 0, 0]);
+        self.pmcw.modify(&[0, 0, 0xFF00_0000, 0x0000_FF00, 0, 0, 0]);
     }
 }
 

@@ -1,4 +1,5 @@
-use Rattle.std.proofs.Common.{◌≡◌, ◌∙◌, ap, subst, sym, List, Bool}
+use Rattle.std.proofs.Common.{◌≡◌, ◌<◌, ◌∙◌, ap, subst, sym, ℕ, List, Bool}
+use Rattle.subchannel_words.proofs.Tied.{mask-lt}
 use Rattle.schib_block.specs.declared.pmcw.Pmcw.{Pmcw}
 use Rattle.subchannel_model.specs.Store.{pmcw_of}
 use Rattle.subchannel_words.specs.Unwired.{Unwired, bare, unwired_of, with_pmcw}
@@ -9,12 +10,12 @@ pub invariant_of-self : goal.invariant_of-self
 invariant_of-self c =
     let s = c.self.inside in
     subst (λ (p : Pmcw). p ≡ pmcw_of (bare s.setup p s.scsw s.up s.rest)) (sym c.set_operational.ensures)
-    (operational-tied s.setup s.pmcw s.scsw s.up s.rest c.bits.result c.self.invariant c.bits.ensures.byte)
+    (operational-tied s.setup s.pmcw s.scsw s.up s.rest c.mask.result c.self.invariant (subst (λ (n : ℕ). n < 256) (sym c.mask.ensures.mask) (mask-lt c.args.set)))
 
 pub returns : goal.returns
 returns c =
     let s = c.self.inside in
     let before = unwired_of s.setup s.pmcw s.scsw s.up s.rest in
     ap (λ (p : Pmcw). unwired_of s.setup p s.scsw s.up s.rest) c.set_operational.ensures
-    ∙ ap (λ (set : List Bool). with_pmcw before (record before.state.pmcw { operational = set })) c.bits.ensures.set
+    ∙ ap (λ (set : List Bool). with_pmcw before (record before.state.pmcw { operational = set })) c.mask.ensures.set
     ∙ ap (λ (p : Unwired). with_pmcw p (record p.state.pmcw { operational = c.args.set })) c.self.view_is

@@ -2,7 +2,6 @@ use Rattle.std.proofs.Common.{◌≡◌, ◌∙◌, ap, subst, sym, ℕ, List, B
 use Rattle.schib_block.specs.declared.pmcw.Pmcw.{Pmcw}
 use Rattle.chan_model.specs.PathSets.{mask_of_paths, paths_of_mask}
 use Rattle.chan_model.specs.PathSets.{in_both}
-use Rattle.wires.specs.Queues.{no_queues}
 use Rattle.subchannel_model.specs.Parts.{available_pmcw}
 use Rattle.subchannel_model.specs.Store.{pmcw_of}
 use Rattle.subchannel_words.proofs.Tied.{shown-tied}
@@ -14,9 +13,9 @@ invariant_of-self c =
     let s = c.self.inside in
     let now = c.set.new.self in
     let mask : c.mask.result ≡ mask_of_paths (in_both (paths_of_mask s.pmcw.installed) now) =
-    c.mask.ensures ∙ ap mask_of_paths (c.intersection.ensures ∙ ap (λ (set : List Bool). in_both set now) (c.of-installed.ensures ∙ ap paths_of_mask c.installed.ensures)) in
+    c.mask.ensures.mask ∙ ap mask_of_paths (c.intersection.ensures ∙ ap (λ (set : List Bool). in_both set now) (c.of_mask-installed.ensures ∙ ap paths_of_mask c.installed.ensures)) in
     subst (λ (p : Pmcw). p ≡ pmcw_of (bare s.setup p s.scsw now s.rest)) (sym (c.set_available.ensures ∙ ap (λ (n : ℕ). record s.pmcw { available = n }) mask))
-    (shown-tied s.setup s.pmcw s.scsw s.up now s.rest no_queues c.self.invariant)
+    (shown-tied s.setup s.pmcw s.scsw s.up now s.rest c.self.invariant)
 
 pub returns : goal.returns
 returns c =

@@ -9,4 +9,4 @@ returns c =
     let logical : (p : Unwired) (set : List Bool) → Unwired = λ p set. with_pmcw p (record p.state.pmcw { logical = set }) in
     c.find_operational.ensures
     ∙ ap (λ (p : Unwired). with_pmcw p (found_operational p.state.pmcw))
-    (c.set_logical.ensures ∙ ap (logical c.set_parameter.new.self) c.of.ensures ∙ ap (λ (p : Unwired). logical p (paths_of_mask c.args.orb.now.paths)) c.set_parameter.ensures)
+    (c.set_logical.ensures ∙ ap (logical c.set_parameter.new.self) c.of_mask.ensures ∙ ap (λ (p : Unwired). logical p (paths_of_mask c.args.orb.now.paths)) c.set_parameter.ensures)
