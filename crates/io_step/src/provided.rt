@@ -49,7 +49,7 @@ fn store_irb(storage: &mut Storage, sub: &Subchannel, cpu: Cpu, address: u32)
         (steps.stores_irb (steps.code_at tsch_code sub.now)) }
 {
     if stores_irb(test_code_of(sub)) {
-        let image = sub.irb();
+        let image = sub.state.irb();
         storage.store_operand(cpu.number(), address, &image);
     }
 }
@@ -81,7 +81,7 @@ fn store(
         (plain_outcome result) storage.new sub.now }
 {
     check_operand(storage, cpu, address, SCHIB_BYTES, WORD)?;
-    let image = sub.schib();
+    let image = sub.state.schib();
     storage.store_operand(cpu.number(), address, &image);
     Ok(Reply::Status {
         answer: Answer::Zero(sub.state.rest().serials),
