@@ -6,7 +6,7 @@ ghost use Rattle.finding.specs.Tables as spec;
 
 use hold::Hold;
 use std::marker::Model;
-use subchannel_model::state::Subchannel;
+use subchannel_words::Subchannel;
 
 /// The identifier of the channel path whose engine the subchannel engages: the path of its active allegiance (SA22-7832,
 /// chapter 15). None where it has none.
@@ -14,8 +14,13 @@ pub fn engaged(sub: &Subchannel) -> Option<u8>
     ensures value { result ≡ spec.engaged sub.now }
     ensures small { IfSome result (λ c. c < 0x100) }
 {
-    let path = Hold::of(sub.state.hold).engaged_path()?;
-    sub.setup.paths.as_slice().get(path.index()).copied()
+    let path = Hold::of(sub.state.rest().hold).engaged_path()?;
+    sub.state
+        .setup()
+        .paths
+        .as_slice()
+        .get(path.index())
+        .copied()
 }
 
 /// Which subchannel the engine of each channel path serves, by its identifier (CHPID): the place of that subchannel, or none.

@@ -10,7 +10,7 @@ use chan_model::names::Side;
 use channel_config::names::SubchannelId;
 use std::alloc::{AllocError, Global};
 use std::marker::Model;
-use subchannel_model::state::Subchannel;
+use subchannel_words::Subchannel;
 use supply::Supply;
 
 /// How many numbers of a set have entries in the table of names.
@@ -88,8 +88,9 @@ fn name_index(id: SubchannelId) -> Option<usize>
 fn unit_index(side: Side, sub: &Subchannel) -> Option<usize>
     ensures { result ≡ spec.unit_index side sub.now }
 {
-    if sub.setup.side.same(side) {
-        Some(usize::from(sub.setup.unit))
+    let setup = sub.state.setup();
+    if setup.side.same(side) {
+        Some(usize::from(setup.unit))
     } else {
         None
     }
@@ -145,7 +146,7 @@ impl Places {
     fn enter(&mut self, place: usize, sub: &Subchannel)
         ensures { self.new ≡ spec.entered place sub.now self.old }
     {
-        write_entry(&mut self.named, name_index(sub.setup.id), place);
+        write_entry(&mut self.named, name_index(sub.state.setup().id), place);
         write_entry(&mut self.firsts, unit_index(Side::First, sub), place);
         write_entry(&mut self.seconds, unit_index(Side::Second, sub), place);
     }

@@ -5,12 +5,13 @@ ghost use Rattle.subchannel_model.specs.Places as place_spec;
 
 use chan_model::names::Side;
 use channel_config::names::SubchannelId;
-use subchannel_model::state::Subchannel;
+use subchannel_words::Subchannel;
 
 fn is_named(id: SubchannelId, sub: &Subchannel) -> bool
     ensures { result ≡ place_spec.is_named id sub.now }
 {
-    sub.setup.id.set == id.set && sub.setup.id.number == id.number
+    let named = sub.state.setup().id;
+    named.set == id.set && named.number == id.number
 }
 
 /// The place of the first subchannel of this name. None where no subchannel has it.
@@ -29,7 +30,8 @@ pub(crate) fn place_in(id: SubchannelId, subs: &[Subchannel]) -> Option<usize>
 fn reaches(unit: usize, side: Side, sub: &Subchannel) -> bool
     ensures { result ≡ place_spec.reaches «unit» side sub.now }
 {
-    usize::from(sub.setup.unit) == unit && sub.setup.side.same(side)
+    let setup = sub.state.setup();
+    usize::from(setup.unit) == unit && setup.side.same(side)
 }
 
 /// The place of the first subchannel that reaches this side of a unit. None where no subchannel does.

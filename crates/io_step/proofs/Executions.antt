@@ -8,6 +8,7 @@ use Rattle.orb_block.specs.declared.Orb.{Orb}
 use Rattle.schib_block.specs.declared.pmcw.Pmcw.{Pmcw}
 use Rattle.schib_block.specs.declared.schib.Schib.{Schib}
 use Rattle.schib_block.specs.Modify as modify
+use Rattle.schib_block.specs.Reading.{pmcw_of_words}
 use Rattle.schib_block.specs.SchibTable.{schib_tables}
 use Rattle.storage_keys.specs.declared.StorageFault.{StorageFault}
 use Rattle.storage_keys.specs.Storage.{Contents, operand_at, operand_check, operand_stored, where_permitted, absolute_places}
@@ -16,7 +17,6 @@ use Rattle.chan_model.specs.declared.fault.Fault.TheVariants as fault
 use Rattle.chan_events.specs.Replies.{Reply}
 use Rattle.chan_events.specs.declared.reply.Reply.TheVariants as reply
 use Rattle.chan_model.specs.declared.answer.ConditionCode.{ConditionCode}
-use Rattle.scsw_irb.specs.declared.irb.Irb.{Irb}
 use Rattle.scsw_irb.specs.ScswTable.{irb_tables}
 use Rattle.subchannel_model.specs.declared.state.Subchannel.{Subchannel}
 use Rattle.machine_model.specs.State.{State, with_sub}
@@ -107,13 +107,13 @@ stores-sub s before after cpu number address place sub image u there checked nam
     ∙ (ap (λ (x : Contents). does shown (state_with_storage s x)) all
     ∙ ap (λ (xs : List Subchannel). does shown (record s { storage = after; subs = xs })) (sym (set_there s.subs place sub there))))
 
-pub enables-sub : (s : State) (before after : Contents) (cpu number subclass place : ℕ) (multipath : Bool) (old new : Subchannel) (schib : Schib) (image : List ℕ) (u : Unit {0}) (r : Reply) →
+pub enables-sub : (s : State) (before after : Contents) (cpu number subclass place : ℕ) (multipath : Bool) (old new : Subchannel) (schib : Schib) (image words : List ℕ) (u : Unit {0}) (r : Reply) →
     Ok u ≡ from_storage (operand_check before cpu 0xF00 52 4) → number ≡ cpu → schib ≡ enabling_schib old subclass multipath →
-    image ≡ image_of (schib_tables schib) → after ≡ operand_stored before number 0xF00 image → modify_sub old schib.pmcw ≡ leaves r new →
+    image ≡ image_of (schib_tables schib) → after ≡ operand_stored before number 0xF00 image → pmcw_of_words words ≡ schib.pmcw → modify_sub old (pmcw_of_words words) ≡ leaves r new →
     Enables (state_with_storage s before) cpu (Some (record { place = place; sub = old })) subclass multipath (operand_at before cpu 0xF00 52 4) (does r (with_sub (state_with_storage s after) place new))
-enables-sub s before after cpu number subclass place multipath old new schib image u r checked named made written stored left =
+enables-sub s before after cpu number subclass place multipath old new schib image words u r checked named made written stored read left =
     let given : modify_sub old (enabling (pmcw_of old) subclass multipath) ≡ leaves r new =
-    ap (λ (x : Schib). modify_sub old x.pmcw) (sym made) ∙ left in
+    ap (λ (x : Schib). modify_sub old x.pmcw) (sym made) ∙ (ap (modify_sub old) (sym read) ∙ left) in
     let bytes : image_of (schib_tables (enabling_schib old subclass multipath)) ≡ image =
     ap (λ (x : Schib). image_of (schib_tables x)) (sym made) ∙ sym written in
     let all : operand_stored before cpu 0xF00 (image_of (schib_tables (enabling_schib old subclass multipath))) ≡ after =

@@ -9,6 +9,7 @@ ghost use Rattle.machine_model.specs.Bounds.{IsRoomy};
 ghost use Rattle.subchannel_model.specs.Test.{tsch_code};
 ghost use Rattle.chan_events.specs.declared.event.Instruction.TheVariants as instruction_spec;
 
+use crate::enabling::enabling_schib;
 use crate::operands::{ENABLE_BLOCK, WORD, check_operand, orb_at, word_at};
 use crate::turns::{
     cancel_sub, clear_sub, halt_sub, modify_sub, resume_sub, start_sub, stores_irb, test_code_of,
@@ -19,7 +20,7 @@ use chan_events::reply::{PlainReply, Reply};
 use chan_model::answer::Answer;
 use chan_model::fault::Fault;
 use chan_model::names::Cpu;
-use functions::blocks::enabling_schib;
+use pmcw_words::PmcwWords;
 use schib_block::SCHIB_BYTES;
 use scsw_irb::irb::IRB_BYTES;
 use storage_keys::Storage;
@@ -119,7 +120,8 @@ fn enable(
     check_operand(storage, cpu, ENABLE_BLOCK, SCHIB_BYTES, WORD)?;
     let schib = enabling_schib(sub, subclass, multipath);
     storage.store_operand(cpu.number(), ENABLE_BLOCK, &schib.write());
-    Ok(modify_sub(sub, &schib.pmcw.words()))
+    let given = PmcwWords::of(schib.pmcw);
+    Ok(modify_sub(sub, given.words()))
 }
 
 /// Executes an instruction on a subchannel that is provided: what it answers, and what is left of storage and of the

@@ -126,7 +126,7 @@ impl Machine {
     {
         match self.place_of(places, word) {
             None => None,
-            Some(place) => Some(self.subs[place].state.rest().serials),
+            Some(place) => self.serials_at(place),
         }
     }
 
@@ -134,7 +134,8 @@ impl Machine {
     pub fn serials_at(&self, place: usize) -> Option<Serials>
         ensures { result ≡ state_spec.serials_in (slice_get self.now.subs place) }
     {
-        Some(self.subs.get(place)?.state.rest().serials)
+        let sub = self.subs.get(place)?;
+        Some(sub.state.rest().serials)
     }
 
     #[inline(always)]
@@ -266,7 +267,8 @@ impl Machine {
         let Some(place) = self.place_of(places, word) else {
             return Err(Fault::NoSuchSubchannel);
         };
-        let number = self.subs[place].state.setup().unit as usize;
+        let sub = &self.subs[place];
+        let number = sub.state.setup().unit as usize;
         if number >= self.units.len() {
             return Err(Fault::NoSuchUnit);
         }

@@ -17,7 +17,7 @@ use chan_model::names::Path;
 use chan_model::signal::Up;
 use hold::Hold;
 use storage_keys::Storage;
-use subchannel_model::state::SubchannelState;
+use subchannel_words::PackedState;
 use transfer::chunks::is_answered;
 use working::moving::data_by;
 use working::sent::SentDown;
@@ -41,17 +41,17 @@ pub fn answer_paths()
 {}
 
 /// Whether the program that is connected answers a Data of this path: one of its command, and not of a chunk before the last.
-fn answers_data(state: &SubchannelState, path: Path, signal: &LentUp<'_>) -> bool
-    requires { taking_spec.IsBelow state.now.begun }
-    ensures { result ≡ is_some (working_spec.moved_by state.now path (lent_up signal.now)) }
+fn answers_data(state: &PackedState, path: Path, signal: &LentUp<'_>) -> bool
+    requires { taking_spec.IsBelow state.now.state.begun }
+    ensures { result ≡ is_some (working_spec.moved_by state.now.state path (lent_up signal.now)) }
 {
     let Some(data) = data_by(path, signal) else {
         return false;
     };
-    if !Hold::of(state.hold).is_connected(path, data.number, data.connection) {
+    if !Hold::of(state.rest().hold).is_connected(path, data.number, data.connection) {
         return false;
     }
-    match &state.begun {
+    match &state.rest().begun {
         None => false,
         Some(begun) => is_answered(&begun.transfer, data.command, data.sequence),
     }
@@ -62,15 +62,15 @@ fn answers_data(state: &SubchannelState, path: Path, signal: &LentUp<'_>) -> boo
 #[tactic(auto, using(crate::proofs::Answered::data_answers))]
 pub fn answer_path(
     storage: &Storage,
-    state: &SubchannelState,
+    state: &PackedState,
     path: Path,
     signal: &LentUp<'_>,
     returns: bool,
 ) -> Option<Path>
-    requires made { state.now.serials.made < 2 ^ 63 }
-    requires drawn { state.now.drawn < 2 ^ 63 }
-    requires below { taking_spec.IsBelow state.now.begun }
-    ensures { sent_path (taking_spec.takes_up returns storage.now state.now path (lent_up signal.now)).step.came.sent ≡ result }
+    requires made { state.now.state.serials.made < 2 ^ 63 }
+    requires drawn { state.now.state.drawn < 2 ^ 63 }
+    requires below { taking_spec.IsBelow state.now.state.begun }
+    ensures { sent_path (taking_spec.takes_up returns storage.now state.now.state path (lent_up signal.now)).step.came.sent ≡ result }
 {
     match *signal.kept {
         Up::Data { .. } if answers_data(state, path, signal) => Some(path),
@@ -82,18 +82,18 @@ pub fn answer_path(
 /// The path of the signal that a copy of the state sends.
 fn unmoved_path(
     storage: &Storage,
-    state: &SubchannelState,
+    state: &PackedState,
     path: Path,
     signal: &LentUp<'_>,
     returns: bool,
 ) -> Option<Path>
-    requires made { state.now.serials.made < 2 ^ 63 }
-    requires drawn { state.now.drawn < 2 ^ 63 }
-    requires below { taking_spec.IsBelow state.now.begun }
+    requires made { state.now.state.serials.made < 2 ^ 63 }
+    requires drawn { state.now.state.drawn < 2 ^ 63 }
+    requires below { taking_spec.IsBelow state.now.state.begun }
     requires unmoved { spec.is_data (lent_up signal.now) ≡ false }
-    ensures { sent_path (taking_spec.takes_up returns storage.now state.now path (lent_up signal.now)).step.came.sent ≡ result }
+    ensures { sent_path (taking_spec.takes_up returns storage.now state.now.state path (lent_up signal.now)).step.came.sent ≡ result }
 {
-    let mut copy = *state;
+    let mut copy = state.copy();
     let mut sent = SentDown::new();
     let _ = take_unmoved(storage, &mut copy, path, signal, returns, &mut sent);
     sent.path()

@@ -9,43 +9,40 @@ ghost use Rattle.working.specs.Stepping.{subchannel_stepped};
 
 use chan_model::lent::LentUp;
 use chan_model::names::Path;
-use scsw_irb::scsw::ActivityControl;
 use scsw_irb::status::DeviceStatus;
 use status::make_pending;
+use status_words::ScswWords;
 use subchannel_model::cause::StatusCause;
-use subchannel_model::state::SubchannelState;
+use subchannel_words::PackedState;
 use working::answers::by_hold;
 use working::sent::SentDown;
 
-/// Whether nothing goes on but a start that waits.
-fn is_open(activity: &ActivityControl) -> bool
-    ensures { result ≡ spec.is_open activity.now }
+/// Whether nothing goes on but a start that waits: of the activity control, bits 20 to 26, start pending is bit 21.
+fn is_open(scsw: &ScswWords) -> bool
+    ensures { result ≡ spec.is_open scsw.now.activity }
 {
-    !(activity.resume_pending
-        || activity.halt_pending
-        || activity.clear_pending
-        || activity.subchannel_active
-        || activity.device_active
-        || activity.suspended)
+    !scsw.any(0xBE0)
 }
 
-/// Whether an Attn may be taken: no status is pending, and nothing goes on but a start that waits.
-pub fn may_attend(state: &SubchannelState) -> bool
-    ensures { result ≡ spec.may_attend state.now }
+/// Whether an Attn may be taken: no status is pending, bit 31, and nothing goes on but a start that waits.
+pub fn may_attend(state: &PackedState) -> bool
+    ensures { result ≡ spec.may_attend state.now.state }
 {
-    !state.scsw.status.pending && is_open(&state.scsw.activity)
+    let scsw = state.scsw();
+    !scsw.any(0x1) && is_open(scsw)
 }
 
 /// Attn: but for a control-unit end alone it makes status.
 pub(crate) fn attend(
-    state: &mut SubchannelState,
+    state: &mut PackedState,
     path: Path,
     signal: &LentUp<'_>,
     status: DeviceStatus,
     sent: &mut SentDown,
 ) -> bool
-    requires { state.old.serials.made < 2 ^ 63 }
-    ensures { subchannel_stepped state.new (came_so result sent.new) ≡ spec.attend state.old status (hold_takes state.old.hold path (lent_up signal.now) (spec.may_attend state.old)) }
+    requires { state.old.state.serials.made < 2 ^ 63 }
+    ensures step { subchannel_stepped state.new.state (came_so result sent.new) ≡ spec.attend state.old.state status (hold_takes state.old.state.hold path (lent_up signal.now) (spec.may_attend state.old.state)) }
+    ensures setup { state.new.setup ≡ state.old.setup }
 {
     let may = may_attend(state);
     let taken = by_hold(state, path, signal, may, sent);

@@ -1,28 +1,28 @@
 //! What the subsystem does of itself for a subchannel (own).
 
 ghost use Rattle.std.specs.Prelude.{◌≡◌, ◌<◌, ◌+◌, ◌^◌, if◌then◌else◌, IfSome, Some, length, true};
+ghost use Rattle.chan_model.specs.PathSets.{is_any};
 ghost use Rattle.chan_model.specs.Lent.{plain_down};
 ghost use Rattle.chan_model.specs.Signals.{map_sent};
 ghost use Rattle.chan_model.specs.HoldTable.{came_of, offering, sending_reset};
-ghost use Rattle.allegiance.specs.PathUse as set_spec;
+ghost use Rattle.allegiance.specs.PathUse.{reachable_paths};
 ghost use Rattle.subchannel_model.specs.Choosing as spec;
 ghost use Rattle.subchannel_model.specs.Parts as parts;
+ghost use Rattle.subchannel_words.specs.Unwired.{with_state};
 ghost use Rattle.chan_model.specs.declared.hold_state.HoldPhase.TheVariants as phase;
 
-use crate::paths::{is_any_lost, path_use, return_paths, usable_paths};
-use allegiance::path_use::{PathUse, is_any};
+use crate::paths::{is_any_lost, is_any_reachable, path_use, return_paths, usable_paths};
+use allegiance::path_use::PathUse;
 use chan_model::hold_state::{HoldPhase, HoldState};
 use chan_model::lent::PlainDown;
 use chan_model::names::Path;
 use chan_model::paths::PathSet;
 use chan_model::signal::OnPath;
 use finding::engines::Served;
-use functions::blocks::available_paths;
 use hold::Hold;
-use scsw_irb::scsw::Scsw;
-use subchannel_model::state::{
-    Candidate, Chosen, PmcwState, Program, ProgramPosition, Subchannel, SubchannelState,
-};
+use status_words::ScswWords;
+use subchannel_model::state::{Candidate, Chosen, Program, ProgramPosition};
+use subchannel_words::{PackedState, Subchannel};
 
 /// The number of a Reset that was not sent yet.
 fn unsent_reset(hold: &HoldState) -> Option<u64>
@@ -41,10 +41,11 @@ fn is_away(phase: HoldPhase) -> bool
     matches!(phase, HoldPhase::Away { .. })
 }
 
+/// Halt pending is bit 22.
 fn paths_unreset(subs: &Served<'_>, sub: &Subchannel) -> PathSet
     ensures { result ≡ spec.paths_unreset subs.now sub.now }
 {
-    if sub.state.scsw.activity.halt_pending && is_away(sub.state.hold.phase) {
+    if sub.state.scsw().any(0x200) && is_away(sub.state.rest().hold.phase) {
         return_paths(sub)
     } else {
         usable_paths(subs, sub)
@@ -56,9 +57,9 @@ fn paths_unreset(subs: &Served<'_>, sub: &Subchannel) -> PathSet
 pub fn paths_to_choose(subs: &Served<'_>, sub: &Subchannel) -> PathSet
     ensures { result ≡ spec.paths_to_choose subs.now sub.now }
 {
-    match unsent_reset(&sub.state.hold) {
+    match unsent_reset(&sub.state.rest().hold) {
         None => paths_unreset(subs, sub),
-        Some(_) => available_paths(sub),
+        Some(_) => sub.state.available(),
     }
 }
 
@@ -86,13 +87,14 @@ fn resuming(resume: bool, suspended: Option<ProgramPosition>) -> Option<Candidat
     }
 }
 
-/// The program that is to be offered.
-fn candidate(state: &SubchannelState) -> Option<Candidate>
-    ensures { result ≡ spec.candidate state.now }
+/// The program that is to be offered. Start pending is bit 21, resume pending bit 20.
+fn candidate(state: &PackedState) -> Option<Candidate>
+    ensures { result ≡ spec.candidate state.now.state }
 {
-    match starting(state.scsw.activity.start_pending, state.waiting) {
+    let rest = state.rest();
+    match starting(state.scsw().any(0x400), rest.waiting) {
         Some(candidate) => Some(candidate),
-        None => resuming(state.scsw.activity.resume_pending, state.suspended),
+        None => resuming(state.scsw().any(0x800), rest.suspended),
     }
 }
 
@@ -140,26 +142,19 @@ fn halt_chosen(pending: bool, hold: &HoldState, choice: &Option<Path>) -> Option
     }
 }
 
-/// Whether some path is within reach, be its engine free or not.
-fn is_within_reach(sub: &Subchannel) -> bool
-    ensures { result ≡ set_spec.is_any (set_spec.reachable_paths (spec.path_use sub.now)) }
-{
-    is_any(&path_use(sub).reachable())
-}
-
 /// A program that is to be offered, and where a path is within reach or none.
 fn offer_chosen(
     sub: &Subchannel,
     candidate: Option<Candidate>,
     choice: &Option<Path>,
 ) -> Option<Chosen>
-    ensures chosen { result ≡ parts.offer_chosen sub.now.state.hold.phase candidate (set_spec.is_any (set_spec.reachable_paths (spec.path_use sub.now))) choice.now }
+    ensures chosen { result ≡ parts.offer_chosen sub.now.state.hold.phase candidate (is_any (reachable_paths (spec.path_use sub.now))) choice.now }
     ensures fits { IfSome result (λ c. spec.IsFitFor c sub.now.state.hold) }
 {
     let candidate = candidate?;
-    match (sub.state.hold.phase, *choice) {
+    match (sub.state.rest().hold.phase, *choice) {
         (HoldPhase::Free, Some(path)) => Some(Chosen::Offers { candidate, path }),
-        (HoldPhase::Free | HoldPhase::Reset { .. }, _) if !is_within_reach(sub) => Some(
+        (HoldPhase::Free | HoldPhase::Reset { .. }, _) if !is_any_reachable(sub) => Some(
             Chosen::FindsNoPath,
         ),
         _ => None,
@@ -167,19 +162,20 @@ fn offer_chosen(
 }
 
 /// What is done, where this path was chosen of those of `paths_to_choose`: the first that applies of a Reset that is due, a
-/// clear without a path for its Reset, a halt, and an offer.
+/// clear without a path for its Reset, a halt, and an offer. Clear pending is bit 23, halt pending bit 22.
 pub fn chosen(sub: &Subchannel, choice: Option<Path>) -> Chosen
     ensures chosen { result ≡ spec.chosen sub.now choice }
     ensures fits { spec.IsFitFor result sub.now.state.hold }
 {
     let state = &sub.state;
-    if let Some(chosen) = reset_chosen(&state.hold, &choice) {
+    let hold = &state.rest().hold;
+    if let Some(chosen) = reset_chosen(hold, &choice) {
         return chosen;
     }
-    if let Some(chosen) = clear_chosen(&state.hold, state.scsw.activity.clear_pending) {
+    if let Some(chosen) = clear_chosen(hold, state.scsw().any(0x100)) {
         return chosen;
     }
-    if let Some(chosen) = halt_chosen(state.scsw.activity.halt_pending, &state.hold, &choice) {
+    if let Some(chosen) = halt_chosen(state.scsw().any(0x200), hold, &choice) {
         return chosen;
     }
     match offer_chosen(sub, candidate(state), &choice) {
@@ -188,54 +184,51 @@ pub fn chosen(sub: &Subchannel, choice: Option<Path>) -> Chosen
     }
 }
 
-/// Whether a program is to be offered, and neither a Reset that has a path nor a clear nor a halt comes before it.
-fn looks_for_path(state: &SubchannelState, choice: &Option<Path>) -> bool
-    ensures { result ≡ spec.looks_for_path state.now choice.now }
+/// Whether a program is to be offered, and neither a Reset that has a path nor a clear nor a halt comes before it. Clear
+/// pending is bit 23, halt pending bit 22.
+fn looks_for_path(state: &PackedState, choice: &Option<Path>) -> bool
+    ensures { result ≡ spec.looks_for_path state.now.state choice.now }
 {
-    let activity = &state.scsw.activity;
-    reset_chosen(&state.hold, choice).is_none()
-        && clear_chosen(&state.hold, activity.clear_pending).is_none()
-        && !activity.halt_pending
+    let hold = &state.rest().hold;
+    reset_chosen(hold, choice).is_none()
+        && clear_chosen(hold, state.scsw().any(0x100)).is_none()
+        && !state.scsw().any(0x200)
         && candidate(state).is_some()
 }
 
-fn mark_pmcw(pmcw: &mut PmcwState, marked: &PathUse)
-    ensures { pmcw.new ≡ record pmcw.old { operational = marked.now.operational; not_operational = marked.now.not_operational } }
-{
-    pmcw.operational = marked.operational;
-    pmcw.not_operational = marked.not_operational;
-}
-
-fn mark_scsw(scsw: &mut Scsw, any: bool)
+/// N, bit 15, is set where there is such a path.
+fn mark_scsw(scsw: &mut ScswWords, any: bool)
     ensures { scsw.new ≡ record scsw.old { path_not_operational = if any then true else scsw.old.path_not_operational } }
 {
-    scsw.path_not_operational = any || scsw.path_not_operational;
+    if any {
+        scsw.change(0, 0x1_0000);
+    }
 }
 
 /// Marks the paths that are found not operational by these masks, and shows whether there are any.
-fn mark_state(state: &mut SubchannelState, used: PathUse)
-    ensures { state.new ≡ spec.marked_state state.old used true }
+fn mark_state(state: &mut PackedState, used: PathUse)
+    ensures { state.new ≡ with_state state.old (spec.marked_state state.old.state used true) }
 {
     let mut used = used;
     let any = used.mark_lost();
-    mark_pmcw(&mut state.pmcw, &used);
-    mark_scsw(&mut state.scsw, any);
+    state.mark_paths(used.operational, used.not_operational);
+    mark_scsw(state.scsw_mut(), any);
 }
 
-/// A set says something of each of the eight paths.
+/// A set says something of each of the eight paths. A law, with nothing to do.
 fn is_whole(set: &PathSet)
     ensures { length set.now ≡ 8 }
 {
-    let _ = set[7];
+    let _mask = set.mask();
 }
 
-/// The sets of paths that are operational, and not operational, say something of each path.
-fn has_each_path(pmcw: &PmcwState)
-    ensures operational { length pmcw.now.operational ≡ 8 }
-    ensures not_operational { length pmcw.now.not_operational ≡ 8 }
+/// The sets of paths that are operational, and not operational, say something of each path. A law, with nothing to do.
+fn has_each_path(state: &PackedState)
+    ensures operational { length state.now.state.pmcw.operational ≡ 8 }
+    ensures not_operational { length state.now.state.pmcw.not_operational ≡ 8 }
 {
-    is_whole(&pmcw.operational);
-    is_whole(&pmcw.not_operational);
+    is_whole(&state.operational());
+    is_whole(&state.not_operational());
 }
 
 /// Where a program is to be offered, the paths that are found not operational are marked so, also where nothing comes of it.
@@ -244,7 +237,7 @@ pub fn mark_lost_paths(sub: &mut Subchannel, choice: &Option<Path>)
     ensures { sub.new ≡ spec.marked_sub sub.old choice.now }
 {
     if !is_any_lost(sub) {
-        has_each_path(&sub.state.pmcw);
+        has_each_path(&sub.state);
         return;
     }
     if looks_for_path(&sub.state, choice) {
@@ -254,42 +247,45 @@ pub fn mark_lost_paths(sub: &mut Subchannel, choice: &Option<Path>)
 }
 
 /// The Reset that is due is sent on a path; nothing is sent where there is none.
-pub fn send_reset(state: &mut SubchannelState, path: Path) -> Option<OnPath<PlainDown>>
-    ensures state { state.new ≡ spec.reset_sent state.old path }
-    ensures sent { map_sent plain_down result ≡ (came_of (sending_reset state.old.hold state.old.hold.phase path)).sent }
+pub fn send_reset(state: &mut PackedState, path: Path) -> Option<OnPath<PlainDown>>
+    ensures state { state.new ≡ with_state state.old (spec.reset_sent state.old.state path) }
+    ensures sent { map_sent plain_down result ≡ (came_of (sending_reset state.old.state.hold state.old.state.hold.phase path)).sent }
 {
-    let mut hold = Hold::of(state.hold);
+    let rest = state.rest_mut();
+    let mut hold = Hold::of(rest.hold);
     let reset = hold.send_reset(path);
-    state.hold = hold.state();
-    state.last_path = Some(path);
+    rest.hold = hold.state();
+    rest.last_path = Some(path);
     reset
 }
 
-fn tell_halt(scsw: &mut Scsw)
+/// Halt pending, bit 22, is cleared.
+fn tell_halt(scsw: &mut ScswWords)
     ensures { scsw.new ≡ parts.halt_sent_scsw scsw.old }
 {
-    scsw.activity.halt_pending = false;
+    scsw.change(0x200, 0);
 }
 
 /// The program at work is told of a halt, which is no longer pending.
-pub fn send_halt(state: &mut SubchannelState)
-    ensures { state.new ≡ spec.halt_sent state.old }
+pub fn send_halt(state: &mut PackedState)
+    ensures { state.new ≡ with_state state.old (spec.halt_sent state.old.state) }
 {
-    tell_halt(&mut state.scsw);
+    tell_halt(state.scsw_mut());
 }
 
 /// A program is offered on a path under a fresh number.
-pub fn offer(state: &mut SubchannelState, program: &Program, path: Path) -> OnPath<PlainDown>
-    requires drawn { state.old.drawn < 2 ^ 63 }
-    requires free { state.old.hold.phase ≡ phase.Free }
-    ensures state { state.new ≡ spec.offered state.old program.now path }
-    ensures sent { map_sent plain_down (Some result) ≡ (offering state.old.hold (state.old.drawn + 1) path program.now.single_path).sent }
+pub fn offer(state: &mut PackedState, program: &Program, path: Path) -> OnPath<PlainDown>
+    requires drawn { state.old.state.drawn < 2 ^ 63 }
+    requires free { state.old.state.hold.phase ≡ phase.Free }
+    ensures state { state.new ≡ with_state state.old (spec.offered state.old.state program.now path) }
+    ensures sent { map_sent plain_down (Some result) ≡ (offering state.old.state.hold (state.old.state.drawn + 1) path program.now.single_path).sent }
 {
-    state.drawn += 1;
-    let mut hold = Hold::of(state.hold);
-    let select = hold.offer(state.drawn, path, program.single_path);
-    state.hold = hold.state();
-    state.offered = program.start;
-    state.last_path = Some(path);
+    let rest = state.rest_mut();
+    rest.drawn += 1;
+    let mut hold = Hold::of(rest.hold);
+    let select = hold.offer(rest.drawn, path, program.single_path);
+    rest.hold = hold.state();
+    rest.offered = program.start;
+    rest.last_path = Some(path);
     select
 }

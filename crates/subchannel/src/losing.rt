@@ -1,15 +1,19 @@
 //! What a subchannel loses as its unit restarts, or as a path of it is lost, and how its path-available mask follows (own).
 
 ghost use Rattle.std.specs.Prelude.{◌≡◌, ◌<◌, ◌≤◌, ◌^◌, length};
+ghost use Rattle.wires.specs.Queues.{lost};
 ghost use Rattle.subchannel_model.specs.Losing as spec;
 ghost use Rattle.subchannel_model.specs.Parts as parts;
+ghost use Rattle.subchannel_words.specs.Unwired.{with_state};
 
 use chan_model::hold_state::HoldPhase;
 use chan_model::names::Path;
+use functions::effects::draw_reset;
 use hold::Hold;
 use status::make_pending;
 use subchannel_model::cause::StatusCause;
-use subchannel_model::state::{PmcwState, Subchannel, SubchannelState};
+use subchannel_words::{PackedState, Rest, Subchannel};
+use wires::Wires;
 
 fn is_offered_or_held(phase: HoldPhase) -> bool
     ensures { result ≡ spec.is_offered_or_held phase }
@@ -21,31 +25,21 @@ fn is_offered_or_held(phase: HoldPhase) -> bool
 }
 
 /// Whether some program of the subchannel is not over.
-fn has_program(state: &SubchannelState) -> bool
-    ensures { result ≡ parts.has_any state.now.waiting state.now.begun state.now.suspended }
+fn has_program(rest: &Rest) -> bool
+    ensures { result ≡ parts.has_any rest.now.waiting rest.now.begun rest.now.suspended }
 {
-    state.waiting.is_some() || state.begun.is_some() || state.suspended.is_some()
-}
-
-/// The hold is to be reset under a number of its own.
-pub(crate) fn draw_reset(state: &mut SubchannelState)
-    requires { state.old.drawn < 2 ^ 63 }
-    ensures { state.new ≡ spec.reset_drawn state.old }
-{
-    state.drawn += 1;
-    let mut hold = Hold::of(state.hold);
-    hold.reset(state.drawn);
-    state.hold = hold.state();
+    rest.waiting.is_some() || rest.begun.is_some() || rest.suspended.is_some()
 }
 
 /// The device of the subchannel is lost to it: its hold is to be reset, and where a program was offered or held there, the
 /// interface-control check is made pending (SA22-7832, chapter 16).
-pub fn reset_for(state: &mut SubchannelState)
-    requires made { state.old.serials.made < 2 ^ 63 }
-    requires drawn { state.old.drawn < 2 ^ 63 }
-    ensures { state.new ≡ spec.reset_for state.old }
+pub fn reset_for(state: &mut PackedState)
+    requires made { state.old.state.serials.made < 2 ^ 63 }
+    requires drawn { state.old.state.drawn < 2 ^ 63 }
+    ensures { state.new ≡ with_state state.old (spec.reset_for state.old.state) }
 {
-    let shows = is_offered_or_held(state.hold.phase) && has_program(state);
+    let rest = state.rest();
+    let shows = is_offered_or_held(rest.hold.phase) && has_program(rest);
     draw_reset(state);
     if shows {
         make_pending(state, &StatusCause::InterfaceControlCheck);
@@ -66,16 +60,27 @@ pub fn path_index(chpid: u8, paths: &[u8]) -> Option<Path>
 }
 
 /// A path is lost: a hold that rests on it is to be reset.
-fn lose_hold(state: &mut SubchannelState, path: Path)
-    requires made { state.old.serials.made < 2 ^ 63 }
-    requires drawn { state.old.drawn < 2 ^ 63 }
-    ensures { state.new ≡ spec.path_lost state.old path }
+fn lose_hold(state: &mut PackedState, path: Path)
+    requires made { state.old.state.serials.made < 2 ^ 63 }
+    requires drawn { state.old.state.drawn < 2 ^ 63 }
+    ensures { state.new ≡ with_state state.old (spec.path_lost state.old.state path) }
 {
     // Only the answer counts: `reset_for` draws the number, and resets the hold under it.
-    let mut hold = Hold::of(state.hold);
-    if hold.path_down(path, state.drawn + 1) {
+    let mut hold = Hold::of(state.rest().hold);
+    if hold.path_down(path, state.rest().drawn + 1) {
         reset_for(state);
     }
+}
+
+/// A path is lost, with the signals on its wires.
+fn lose_both(state: &mut PackedState, wires: &mut Wires, path: Path)
+    requires made { state.old.state.serials.made < 2 ^ 63 }
+    requires drawn { state.old.state.drawn < 2 ^ 63 }
+    ensures state { state.new ≡ with_state state.old (spec.path_lost state.old.state path) }
+    ensures wires { wires.new ≡ record { down = lost wires.old.down path; up = lost wires.old.up path } }
+{
+    lose_hold(state, path);
+    wires.lose(path);
 }
 
 /// All that is on a channel path is lost: a hold that rests on it is to be reset, and the signals on its wires vanish. Where
@@ -85,24 +90,17 @@ pub fn lose_path(sub: &mut Subchannel, chpid: u8)
     requires drawn { sub.old.state.drawn < 2 ^ 63 }
     ensures { sub.new ≡ spec.loses chpid sub.old }
 {
-    if let Some(path) = path_index(chpid, sub.setup.paths.as_slice()) {
-        lose_hold(&mut sub.state, path);
-        sub.wires.lose(path);
+    if let Some(path) = path_index(chpid, sub.state.setup().paths.as_slice()) {
+        lose_both(&mut sub.state, &mut sub.wires, path);
     }
-}
-
-fn show_available(pmcw: &mut PmcwState, path: Path, up: bool)
-    ensures { pmcw.new ≡ parts.available_pmcw pmcw.old path up }
-{
-    pmcw.available[path.index()] = up;
 }
 
 /// The path-available mask shows whether a channel path is up. Where the subchannel has no such path, nothing changes.
 pub fn show_path(sub: &mut Subchannel, chpid: u8, up: bool)
     ensures { sub.new ≡ spec.shows_path chpid up sub.old }
 {
-    if let Some(path) = path_index(chpid, sub.setup.paths.as_slice()) {
-        show_available(&mut sub.state.pmcw, path, up);
+    if let Some(path) = path_index(chpid, sub.state.setup().paths.as_slice()) {
+        sub.state.show_path(path, up);
     }
 }
 

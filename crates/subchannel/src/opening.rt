@@ -3,10 +3,45 @@
 ghost use Rattle.std.specs.Prelude.{◌≡◌};
 ghost use Rattle.subchannel_model.specs.Opening as spec;
 
-use subchannel_model::state::PmcwState;
+use chan_model::paths::PathSet;
+use channel_config::parts::SubchannelSetup;
+use hold::Hold;
+use scsw_irb::scsw::Scsw;
+use scsw_irb::serials::Serials;
+use subchannel_model::state::{PmcwState, SubchannelState};
+use subchannel_words::PackedState;
+
+/// A subchannel of this set-up at the opening; its wires are made apart.
+pub fn opened(setup: SubchannelSetup) -> PackedState
+    ensures { result ≡ record { setup = setup; state = spec.opening_subchannel } }
+{
+    PackedState::of(setup, opening_subchannel())
+}
+
+fn opening_subchannel() -> SubchannelState
+    ensures { result ≡ spec.opening_subchannel }
+{
+    SubchannelState {
+        pmcw: opening_pmcw(),
+        scsw: Scsw::zero(),
+        serials: Serials {
+            made: 0,
+            cleared: 0,
+        },
+        drawn: 0,
+        starts: 0,
+        waiting: None,
+        begun: None,
+        suspended: None,
+        hold: Hold::new().state(),
+        offered: 0,
+        last_path: None,
+        dedicated: None,
+    }
+}
 
 /// What changes of the path-management-control word of a subchannel, at the opening.
-pub fn opening_pmcw() -> PmcwState
+fn opening_pmcw() -> PmcwState
     ensures { result ≡ spec.opening_pmcw }
 {
     PmcwState {
@@ -14,10 +49,10 @@ pub fn opening_pmcw() -> PmcwState
         subclass: 0,
         enabled: false,
         multipath: false,
-        logical: [true; 8],
-        not_operational: [false; 8],
+        logical: PathSet::all(),
+        not_operational: PathSet::none(),
         last_used: None,
-        operational: [true; 8],
-        available: [true; 8],
+        operational: PathSet::all(),
+        available: PathSet::all(),
     }
 }

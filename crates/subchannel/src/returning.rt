@@ -10,24 +10,26 @@ ghost use Rattle.working.specs.Stepping.{subchannel_stepped};
 use chan_model::lent::LentUp;
 use chan_model::names::Path;
 use chan_model::signal::Down;
-use subchannel_model::state::{PmcwState, SubchannelState};
+use subchannel_words::PackedState;
 use working::answers::by_hold;
 use working::sent::SentDown;
 
-/// Back: the path of a Grant is the one that was used last, and the one that was chosen last.
+/// Back: the path of a Grant is the one that was used last (SA22-7832, chapter 15: last-path-used mask), and the one that was
+/// chosen last.
 pub(crate) fn come_back(
-    state: &mut SubchannelState,
+    state: &mut PackedState,
     path: Path,
     signal: &LentUp<'_>,
     returns: bool,
     sent: &mut SentDown,
 ) -> bool
-    ensures { subchannel_stepped state.new (came_so result sent.new) ≡ spec.back state.old path (hold_takes state.old.hold path (lent_up signal.now) returns) }
+    ensures step { subchannel_stepped state.new.state (came_so result sent.new) ≡ spec.back state.old.state path (hold_takes state.old.state.hold path (lent_up signal.now) returns) }
+    ensures setup { state.new.setup ≡ state.old.setup }
 {
     let taken = by_hold(state, path, signal, returns, sent);
     if is_granted(sent) {
-        mark_last_used(&mut state.pmcw, path);
-        state.last_path = Some(path);
+        state.mark_last_used(path);
+        state.rest_mut().last_path = Some(path);
     }
     taken
 }
@@ -40,11 +42,4 @@ fn is_granted(answer: &SentDown) -> bool
         Some(sent) => matches!(sent.signal.kept, Down::Grant { .. }),
         None => false,
     }
-}
-
-/// The path was used last (SA22-7832, chapter 15: last-path-used mask).
-fn mark_last_used(pmcw: &mut PmcwState, path: Path)
-    ensures { pmcw.new ≡ record pmcw.old { last_used = Some path } }
-{
-    pmcw.last_used = Some(path);
 }

@@ -3,43 +3,31 @@
 ghost use Rattle.std.specs.Prelude.{◌≡◌, ◌<◌, ◌^◌};
 ghost use Rattle.subchannel_model.specs.SystemReset as spec;
 ghost use Rattle.subchannel_model.specs.Parts as parts;
+ghost use Rattle.subchannel_words.specs.Unwired.{with_state};
 
-use crate::losing::draw_reset;
-use crate::opening::opening_pmcw;
 use allegiance::allegiances::{AllegianceCause, dedicated};
-use functions::effects::clear_serials;
-use scsw_irb::scsw::{ActivityControl, FunctionControl, Scsw, StatusControl};
-use subchannel_model::state::{PmcwState, Subchannel, SubchannelState};
+use functions::effects::{clear_serials, draw_reset, end_programs};
+use status_words::ScswWords;
+use subchannel_words::{PackedState, Subchannel};
 
-/// A path that is down stays so.
-fn reset_pmcw(pmcw: &mut PmcwState)
-    ensures { pmcw.new ≡ parts.pmcw_reset pmcw.old }
-{
-    let available = pmcw.available;
-    *pmcw = opening_pmcw();
-    pmcw.available = available;
-}
-
-fn reset_scsw(scsw: &mut Scsw)
+/// Function, activity and status control, bits 17 to 31, are cleared.
+fn reset_scsw(scsw: &mut ScswWords)
     ensures { scsw.new ≡ parts.scsw_reset scsw.old }
 {
-    scsw.functions = FunctionControl::none();
-    scsw.activity = ActivityControl::none();
-    scsw.status = StatusControl::none();
+    scsw.change(0x7FFF, 0);
 }
 
-fn reset_state(state: &mut SubchannelState)
-    requires { state.old.drawn < 2 ^ 63 }
-    ensures { state.new ≡ spec.state_reset state.old }
+fn reset_state(state: &mut PackedState)
+    requires { state.old.state.drawn < 2 ^ 63 }
+    ensures { state.new ≡ with_state state.old (spec.state_reset state.old.state) }
 {
-    reset_pmcw(&mut state.pmcw);
-    reset_scsw(&mut state.scsw);
-    clear_serials(&mut state.serials);
+    state.reset_paths();
+    reset_scsw(state.scsw_mut());
     draw_reset(state);
-    state.waiting = None;
-    state.begun = None;
-    state.suspended = None;
-    state.dedicated = dedicated(state.dedicated, AllegianceCause::SystemReset);
+    let rest = state.rest_mut();
+    clear_serials(&mut rest.serials);
+    end_programs(rest);
+    rest.dedicated = dedicated(rest.dedicated, AllegianceCause::SystemReset);
 }
 
 /// The channel subsystem is reset. The Reset that is then due is not sent here.

@@ -7,6 +7,7 @@ ghost use Rattle.working.specs.Sent.{came_so};
 ghost use Rattle.subchannel.specs.Answering.{is_data};
 ghost use Rattle.working.specs.Stepping.{subchannel_stepped};
 ghost use Rattle.subchannel_model.specs.Taking as spec;
+ghost use Rattle.subchannel_words.specs.Unwired.{with_state};
 
 use crate::attending::attend;
 use crate::losing::reset_for;
@@ -18,53 +19,55 @@ use hold::Hold;
 use status::make_pending;
 use storage_keys::Storage;
 use subchannel_model::cause::StatusCause;
-use subchannel_model::state::SubchannelState;
+use subchannel_words::PackedState;
 use working::accepting::accept;
 use working::answers::{by_hold, ignored, quiet, take_by};
 use working::ending::end_command;
 use working::moving::take_data;
 use working::sent::SentDown;
 
-/// A clear that is pending is performed.
-fn do_clear(state: &mut SubchannelState)
-    requires { state.old.serials.made < 2 ^ 63 }
-    ensures { state.new ≡ spec.clear_done state.old }
+/// A clear that is pending, bit 23, is performed.
+fn do_clear(state: &mut PackedState)
+    requires { state.old.state.serials.made < 2 ^ 63 }
+    ensures { state.new ≡ with_state state.old (spec.clear_done state.old.state) }
 {
-    if state.scsw.activity.clear_pending {
+    if state.scsw().any(0x100) {
         make_pending(state, &StatusCause::ClearDone);
     }
 }
 
 /// Cleared: the device was reset.
 fn reset_taken(
-    state: &mut SubchannelState,
+    state: &mut PackedState,
     path: Path,
     signal: &LentUp<'_>,
     sent: &mut SentDown,
 ) -> bool
-    requires { state.old.serials.made < 2 ^ 63 }
-    ensures { subchannel_stepped state.new (came_so result sent.new) ≡ spec.reset_taken state.old (hold_takes state.old.hold path (lent_up signal.now) false) }
+    requires { state.old.state.serials.made < 2 ^ 63 }
+    ensures step { subchannel_stepped state.new.state (came_so result sent.new) ≡ spec.reset_taken state.old.state (hold_takes state.old.state.hold path (lent_up signal.now) false) }
+    ensures setup { state.new.setup ≡ state.old.setup }
 {
-    let mut hold = Hold::of(state.hold);
+    let mut hold = Hold::of(state.rest().hold);
     let taken = take_by(&mut hold, path, signal, false, sent);
     if !taken {
         return ignored(sent);
     }
-    state.hold = hold.state();
+    state.rest_mut().hold = hold.state();
     do_clear(state);
     taken
 }
 
 /// Notice: the unit restarted. A count above the one known becomes known, and the hold is to be reset.
-fn notice(state: &mut SubchannelState, restarts: u64, sent: &mut SentDown) -> bool
-    requires made { state.old.serials.made < 2 ^ 63 }
-    requires drawn { state.old.drawn < 2 ^ 63 }
-    ensures { subchannel_stepped state.new (came_so result sent.new) ≡ spec.notice state.old restarts }
+fn notice(state: &mut PackedState, restarts: u64, sent: &mut SentDown) -> bool
+    requires made { state.old.state.serials.made < 2 ^ 63 }
+    requires drawn { state.old.state.drawn < 2 ^ 63 }
+    ensures step { subchannel_stepped state.new.state (came_so result sent.new) ≡ spec.notice state.old.state restarts }
+    ensures setup { state.new.setup ≡ state.old.setup }
 {
-    if restarts <= state.hold.known {
+    if restarts <= state.rest().hold.known {
         return ignored(sent);
     }
-    state.hold.known = restarts;
+    state.rest_mut().hold.known = restarts;
     reset_for(state);
     quiet(sent)
 }
@@ -74,17 +77,18 @@ fn notice(state: &mut SubchannelState, restarts: u64, sent: &mut SentDown) -> bo
 #[tactic(auto, using(crate::proofs::Working::end_takes))]
 pub fn take_unmoved(
     storage: &Storage,
-    state: &mut SubchannelState,
+    state: &mut PackedState,
     path: Path,
     signal: &LentUp<'_>,
     returns: bool,
     sent: &mut SentDown,
 ) -> bool
-    requires made { state.old.serials.made < 2 ^ 63 }
-    requires drawn { state.old.drawn < 2 ^ 63 }
-    requires below { spec.IsBelow state.old.begun }
+    requires made { state.old.state.serials.made < 2 ^ 63 }
+    requires drawn { state.old.state.drawn < 2 ^ 63 }
+    requires below { spec.IsBelow state.old.state.begun }
     requires unmoved { is_data (lent_up signal.now) ≡ false }
-    ensures met { spec.meets storage.now (subchannel_stepped state.new (came_so result sent.new)) ≡ spec.takes_up returns storage.now state.old path (lent_up signal.now) }
+    ensures met { spec.meets storage.now (subchannel_stepped state.new.state (came_so result sent.new)) ≡ spec.takes_up returns storage.now state.old.state path (lent_up signal.now) }
+    ensures setup { state.new.setup ≡ state.old.setup }
 {
     match *signal.kept {
         Up::Accept { .. } => accept(storage, state, path, signal, sent),
@@ -101,16 +105,17 @@ pub fn take_unmoved(
 /// `returns`: a program that is away may come back by the path.
 pub fn take_up(
     storage: &mut Storage,
-    state: &mut SubchannelState,
+    state: &mut PackedState,
     path: Path,
     signal: &LentUp<'_>,
     returns: bool,
     sent: &mut SentDown,
 ) -> bool
-    requires made { state.old.serials.made < 2 ^ 63 }
-    requires drawn { state.old.drawn < 2 ^ 63 }
-    requires below { spec.IsBelow state.old.begun }
-    ensures met { spec.meets storage.new (subchannel_stepped state.new (came_so result sent.new)) ≡ spec.takes_up returns storage.old state.old path (lent_up signal.now) }
+    requires made { state.old.state.serials.made < 2 ^ 63 }
+    requires drawn { state.old.state.drawn < 2 ^ 63 }
+    requires below { spec.IsBelow state.old.state.begun }
+    ensures met { spec.meets storage.new (subchannel_stepped state.new.state (came_so result sent.new)) ≡ spec.takes_up returns storage.old state.old.state path (lent_up signal.now) }
+    ensures setup { state.new.setup ≡ state.old.setup }
 {
     match *signal.kept {
         Up::Data { .. } => take_data(storage, state, path, signal, sent),
