@@ -1,8 +1,10 @@
-//! The condition codes of the instructions on a subchannel (SA22-7832, chapter 14): the table, a function for each row.
+//! The condition codes of the instructions on a subchannel (SA22-7832, chapter 14): the table, a function for each row. What is
+//! tested of the status word are bits of its word 0.
 
 ghost use Rattle.std.specs.Prelude.{◌≡◌, Some};
 ghost use Rattle.chan_model.specs.ConditionCodes as code_spec;
 ghost use Rattle.subchannel_model.specs.Conditions as condition_spec;
+ghost use Rattle.subchannel_model.specs.Conditions.{condition_of};
 ghost use Rattle.subchannel_model.specs.Start as start_spec;
 ghost use Rattle.subchannel_model.specs.Resume as resume_spec;
 ghost use Rattle.subchannel_model.specs.Halt as halt_spec;
@@ -14,23 +16,8 @@ ghost use Rattle.subchannel_model.specs.Test as test_spec;
 ghost use Rattle.subchannel_model.specs.Status as status_spec;
 
 use chan_model::answer::ConditionCode;
-use scsw_irb::scsw::{ActivityControl, FunctionControl, StatusControl};
-use subchannel_model::state::SubchannelState;
-use subchannel_model::status::Condition;
-
-/// What an instruction finds of a provided subchannel.
-pub fn condition_of(state: &SubchannelState) -> Condition
-    ensures { result ≡ condition_spec.condition_of (Some state.now) }
-{
-    Condition {
-        provided: true,
-        enabled: state.pmcw.enabled,
-        functions: state.scsw.functions,
-        activity: state.scsw.activity,
-        status: state.scsw.status,
-        may_suspend: state.scsw.suspend,
-    }
-}
+use status_words::ScswWords;
+use subchannel_words::PackedState;
 
 /// 3 where the subchannel is not operational, otherwise 1, otherwise 2, otherwise 0.
 fn in_order(operational: bool, one: bool, two: bool) -> ConditionCode
@@ -47,120 +34,114 @@ fn in_order(operational: bool, one: bool, two: bool) -> ConditionCode
     }
 }
 
-fn is_operational(condition: Condition) -> bool
-    ensures { result ≡ condition_spec.is_operational condition }
+/// Status pending: bit 31.
+fn is_pending(scsw: &ScswWords) -> bool
+    ensures { result ≡ scsw.now.status.pending }
 {
-    condition.provided && condition.enabled
+    scsw.any(0x01)
 }
 
-fn any_function(functions: FunctionControl) -> bool
-    ensures { result ≡ condition_spec.any_function functions }
+/// The start, halt and clear function: bits 17 to 19.
+fn any_function(scsw: &ScswWords) -> bool
+    ensures { result ≡ condition_spec.any_function scsw.now.functions }
 {
-    functions.start || functions.halt || functions.clear
+    scsw.any(0x7000)
 }
 
-fn is_start_alone(functions: FunctionControl) -> bool
-    ensures { result ≡ condition_spec.start_alone functions }
+/// Of these functions the start function, and no other.
+fn is_start_alone(scsw: &ScswWords) -> bool
+    ensures { result ≡ condition_spec.start_alone scsw.now.functions }
 {
-    functions.start && !functions.halt && !functions.clear
+    scsw.shows(0x7000, 0x4000)
 }
 
 /// START SUBCHANNEL.
-pub fn ssch_code(condition: Condition) -> ConditionCode
-    ensures { result ≡ start_spec.ssch_code condition }
+pub fn ssch_code(state: &PackedState) -> ConditionCode
+    ensures { result ≡ start_spec.ssch_code (condition_of (Some state.now.state)) }
 {
+    let scsw = state.scsw();
+    in_order(state.is_enabled(), is_pending(scsw), any_function(scsw))
+}
+
+/// RESUME SUBCHANNEL. Resume pending is bit 20.
+pub fn rsch_code(state: &PackedState) -> ConditionCode
+    ensures { result ≡ resume_spec.rsch_code (condition_of (Some state.now.state)) }
+{
+    let scsw = state.scsw();
     in_order(
-        is_operational(condition),
-        condition.status.pending,
-        any_function(condition.functions),
+        state.is_enabled(),
+        is_pending(scsw),
+        !is_start_alone(scsw) || scsw.any(0x800) || !scsw.may_suspend(),
     )
 }
 
-/// RESUME SUBCHANNEL.
-pub fn rsch_code(condition: Condition) -> ConditionCode
-    ensures { result ≡ resume_spec.rsch_code condition }
+/// Status is pending that is not intermediate alone: intermediate status is bit 28, alert, primary and secondary status are bits
+/// 27, 29 and 30.
+fn shows_end(scsw: &ScswWords) -> bool
+    ensures { result ≡ halt_spec.shows_end scsw.now.status }
 {
-    in_order(
-        is_operational(condition),
-        condition.status.pending,
-        !is_start_alone(condition.functions)
-            || condition.activity.resume_pending
-            || !condition.may_suspend,
-    )
+    is_pending(scsw) && (!scsw.any(0x08) || scsw.any(0x16))
 }
 
-/// Status is pending that is not intermediate alone.
-fn shows_end(status: StatusControl) -> bool
-    ensures { result ≡ halt_spec.shows_end status }
+/// HALT SUBCHANNEL. The halt and the clear function are bits 18 and 19.
+pub fn hsch_code(state: &PackedState) -> ConditionCode
+    ensures { result ≡ halt_spec.hsch_code (condition_of (Some state.now.state)) }
 {
-    status.pending && (!status.intermediate || status.alert || status.primary || status.secondary)
-}
-
-/// HALT SUBCHANNEL.
-pub fn hsch_code(condition: Condition) -> ConditionCode
-    ensures { result ≡ halt_spec.hsch_code condition }
-{
-    in_order(
-        is_operational(condition),
-        shows_end(condition.status),
-        condition.functions.halt || condition.functions.clear,
-    )
+    let scsw = state.scsw();
+    in_order(state.is_enabled(), shows_end(scsw), scsw.any(0x3000))
 }
 
 /// CLEAR SUBCHANNEL.
-pub fn csch_code(condition: Condition) -> ConditionCode
-    ensures { result ≡ clear_spec.csch_code condition }
+pub fn csch_code(state: &PackedState) -> ConditionCode
+    ensures { result ≡ clear_spec.csch_code (condition_of (Some state.now.state)) }
 {
-    in_order(is_operational(condition), false, false)
+    in_order(state.is_enabled(), false, false)
 }
 
-fn waits(activity: ActivityControl) -> bool
-    ensures { result ≡ cancel_spec.waits activity }
+/// Resume pending, start pending and suspended: bits 20, 21 and 26.
+fn waits(scsw: &ScswWords) -> bool
+    ensures { result ≡ cancel_spec.waits scsw.now.activity }
 {
-    activity.start_pending || activity.resume_pending || activity.suspended
+    scsw.any(0xC20)
 }
 
-/// CANCEL SUBCHANNEL.
-pub fn xsch_code(condition: Condition) -> ConditionCode
-    ensures { result ≡ cancel_spec.xsch_code condition }
+/// CANCEL SUBCHANNEL. Subchannel active is bit 24.
+pub fn xsch_code(state: &PackedState) -> ConditionCode
+    ensures { result ≡ cancel_spec.xsch_code (condition_of (Some state.now.state)) }
 {
+    let scsw = state.scsw();
     in_order(
-        is_operational(condition),
-        condition.status.pending,
-        !is_start_alone(condition.functions)
-            || !waits(condition.activity)
-            || condition.activity.subchannel_active,
+        state.is_enabled(),
+        is_pending(scsw),
+        !is_start_alone(scsw) || !waits(scsw) || scsw.any(0x80),
     )
 }
 
 /// MODIFY SUBCHANNEL. It needs no enabled subchannel.
-pub fn msch_code(condition: Condition) -> ConditionCode
-    ensures { result ≡ modify_spec.msch_code condition }
+pub fn msch_code(state: &PackedState) -> ConditionCode
+    ensures { result ≡ modify_spec.msch_code (condition_of (Some state.now.state)) }
 {
-    in_order(
-        condition.provided,
-        condition.status.pending,
-        any_function(condition.functions),
-    )
+    let scsw = state.scsw();
+    in_order(true, is_pending(scsw), any_function(scsw))
 }
 
-/// STORE SUBCHANNEL. It needs no enabled subchannel.
-pub fn stsch_code(condition: Condition) -> ConditionCode
-    ensures { result ≡ store_spec.stsch_code condition }
+/// STORE SUBCHANNEL: always 0 where a subchannel is provided. It needs no enabled subchannel.
+pub fn stsch_code(_state: &PackedState) -> ConditionCode
+    ensures { result ≡ store_spec.stsch_code (condition_of (Some _state.now.state)) }
 {
-    in_order(condition.provided, false, false)
+    in_order(true, false, false)
 }
 
 /// TEST SUBCHANNEL.
-pub fn tsch_code(condition: Condition) -> ConditionCode
-    ensures { result ≡ test_spec.tsch_code condition }
+pub fn tsch_code(state: &PackedState) -> ConditionCode
+    ensures { result ≡ test_spec.tsch_code (condition_of (Some state.now.state)) }
 {
-    in_order(is_operational(condition), !condition.status.pending, false)
+    in_order(state.is_enabled(), !is_pending(state.scsw()), false)
 }
 
-/// Whether intermediate status stands, and no alert, primary or secondary status beside it.
-pub fn is_intermediate_alone(status: StatusControl) -> bool
-    ensures { result ≡ status_spec.intermediate_alone status }
+/// Whether intermediate status (bit 28) stands, and no alert, primary or secondary status (bits 27, 29 and 30) beside it.
+pub fn is_intermediate_alone(scsw: &ScswWords) -> bool
+    ensures { result ≡ status_spec.intermediate_alone scsw.now.status }
 {
-    status.intermediate && !status.alert && !status.primary && !status.secondary
+    scsw.shows(0x1E, 0x08)
 }

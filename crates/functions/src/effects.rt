@@ -1,105 +1,95 @@
-//! What each accepted instruction leaves of a subchannel (SA22-7832, chapter 14; own).
+//! What each accepted instruction leaves of a subchannel (SA22-7832, chapter 14; own). What it changes of the status word are bits
+//! of word 0; a start changes all of it.
 
-ghost use Rattle.std.specs.Prelude.{◌≡◌, ◌<◌, ◌^◌};
+ghost use Rattle.std.specs.Prelude.{◌≡◌, ◌<◌, ◌^◌, None};
+ghost use Rattle.scsw_irb.specs.Empty.{zero_scsw};
+ghost use Rattle.schib_block.specs.Reading.{pmcw_of_words};
 ghost use Rattle.subchannel_model.specs.Status as status_spec;
-ghost use Rattle.subchannel_model.specs.Conditions as condition_spec;
 ghost use Rattle.subchannel_model.specs.Resume as resume_spec;
 ghost use Rattle.subchannel_model.specs.Parts as parts;
+ghost use Rattle.subchannel_model.specs.Losing as losing_spec;
 ghost use Rattle.subchannel_model.specs.Halt as halt_spec;
 ghost use Rattle.subchannel_model.specs.Clear as clear_spec;
 ghost use Rattle.subchannel_model.specs.Cancel as cancel_spec;
 ghost use Rattle.subchannel_model.specs.Modify as modify_spec;
 ghost use Rattle.subchannel_model.specs.Start as start_spec;
+ghost use Rattle.subchannel_words.specs.Unwired.{with_state};
 
 use crate::codes::is_intermediate_alone;
 use allegiance::allegiances::{AllegianceCause, dedicated};
-use chan_model::paths::paths_of_mask;
 use hold::Hold;
 use orb_block::Orb;
-use schib_block::pmcw;
-use scsw_irb::scsw::{ActivityControl, DeferredCode, FunctionControl, Scsw, StatusControl};
+use scsw_irb::scsw::Scsw;
 use scsw_irb::serials::Serials;
-use scsw_irb::status::{DeviceStatus, SubchannelStatus};
-use subchannel_model::state::{PmcwState, Program, SubchannelState};
+use status_words::ScswWords;
+use subchannel_model::state::Program;
+use subchannel_words::{PackedState, Rest};
 
-fn start_scsw(scsw: &mut Scsw, orb: &Orb)
-    ensures { scsw.new ≡ start_spec.started_scsw scsw.old orb.now }
+/// What START SUBCHANNEL leaves of a status word of zeros.
+fn started_scsw(orb: &Orb) -> Scsw
+    ensures { result ≡ start_spec.started_scsw zero_scsw orb.now }
 {
+    let mut scsw = Scsw::zero();
     scsw.key = orb.key;
     scsw.suspend = orb.suspend;
-    scsw.deferred = DeferredCode::Zero;
     scsw.format_one = orb.format_one;
     scsw.prefetch = orb.prefetch;
     scsw.initial_status = orb.initial_status;
     scsw.address_limit = orb.address_limit;
     scsw.suppress_suspended = orb.suppress_suspended;
-    scsw.path_not_operational = false;
-    scsw.functions = FunctionControl {
-        start: true,
-        ..FunctionControl::none()
-    };
-    scsw.activity = ActivityControl {
-        start_pending: true,
-        device_active: scsw.activity.device_active,
-        ..ActivityControl::none()
-    };
+    scsw.functions.start = true;
+    scsw.activity.start_pending = true;
     scsw.command_address = orb.program;
-    scsw.device_status = DeviceStatus::empty();
-    scsw.subchannel_status = SubchannelStatus::empty();
-    scsw.count = 0;
+    scsw
 }
 
-fn start_pmcw(pmcw: &mut PmcwState, orb: &Orb)
-    ensures { pmcw.new ≡ parts.started_pmcw pmcw.old orb.now }
+/// An earlier program's device active, bit 25, stays, and so does the status control, bits 27 to 31.
+fn start_scsw(scsw: &mut ScswWords, orb: &Orb)
+    ensures { scsw.new ≡ start_spec.started_scsw scsw.old orb.now }
 {
-    pmcw.parameter = orb.parameter;
-    pmcw.logical = paths_of_mask(orb.paths);
-    pmcw.not_operational = [false; 8];
+    scsw.replace(0x5F, started_scsw(orb));
 }
 
 /// START SUBCHANNEL with code 0.
-pub fn start(state: &mut SubchannelState, orb: &Orb)
-    requires { state.old.starts < 2 ^ 63 }
-    ensures { state.new ≡ start_spec.started state.old orb.now }
+pub fn start(state: &mut PackedState, orb: &Orb)
+    requires { state.old.state.starts < 2 ^ 63 }
+    ensures { state.new ≡ with_state state.old (start_spec.started state.old.state orb.now) }
 {
-    let single_path = !state.pmcw.multipath;
-    start_pmcw(&mut state.pmcw, orb);
-    start_scsw(&mut state.scsw, orb);
-    state.starts += 1;
-    state.waiting = Some(Program {
-        start: state.starts,
+    let single_path = !state.is_multipath();
+    state.start_paths(orb);
+    start_scsw(state.scsw_mut(), orb);
+    let rest = state.rest_mut();
+    rest.starts += 1;
+    rest.waiting = Some(Program {
+        start: rest.starts,
         orb: *orb,
         single_path,
     });
-    state.suspended = None;
+    rest.suspended = None;
 }
 
-fn find_operational(pmcw: &mut PmcwState)
-    ensures { pmcw.new ≡ condition_spec.found_operational pmcw.old }
-{
-    pmcw.not_operational = [false; 8];
-}
-
-fn resume_scsw(scsw: &mut Scsw)
+/// Resume pending, bit 20, is set.
+fn resume_scsw(scsw: &mut ScswWords)
     ensures { scsw.new ≡ parts.resumed_scsw scsw.old }
 {
-    scsw.activity.resume_pending = true;
+    scsw.change(0, 0x800);
 }
 
-/// RESUME SUBCHANNEL with code 0.
-pub(crate) fn resume(state: &mut SubchannelState)
-    ensures { state.new ≡ resume_spec.resumed state.old }
+/// RESUME SUBCHANNEL with code 0. Suspended is bit 26.
+pub(crate) fn resume(state: &mut PackedState)
+    ensures { state.new ≡ with_state state.old (resume_spec.resumed state.old.state) }
 {
-    if state.scsw.activity.suspended {
-        find_operational(&mut state.pmcw);
+    if state.scsw().any(0x20) {
+        state.find_operational();
     }
-    resume_scsw(&mut state.scsw);
+    resume_scsw(state.scsw_mut());
 }
 
-fn drops_status(scsw: &Scsw) -> bool
+/// Status pending is bit 31, subchannel active bit 24.
+fn drops_status(scsw: &ScswWords) -> bool
     ensures { result ≡ halt_spec.drops_status scsw.now }
 {
-    scsw.status.pending && is_intermediate_alone(scsw.status) && scsw.activity.subchannel_active
+    scsw.any(0x01) && is_intermediate_alone(scsw) && scsw.any(0x80)
 }
 
 /// The counts once all status that was made is cleared.
@@ -109,113 +99,109 @@ pub fn clear_serials(serials: &mut Serials)
     serials.cleared = serials.made;
 }
 
-fn halt_scsw(scsw: &mut Scsw)
+/// The halt function, bit 18, and halt pending, bit 22, are set.
+fn halt_scsw(scsw: &mut ScswWords)
     ensures { scsw.new ≡ halt_spec.halted_scsw scsw.old }
 {
-    scsw.functions.halt = true;
-    scsw.activity.halt_pending = true;
+    scsw.change(0, 0x2200);
 }
 
-fn halting(state: &mut SubchannelState)
-    ensures { state.new ≡ halt_spec.halt_begun state.old }
+fn halting(state: &mut PackedState)
+    ensures { state.new ≡ with_state state.old (halt_spec.halt_begun state.old.state) }
 {
-    find_operational(&mut state.pmcw);
-    halt_scsw(&mut state.scsw);
+    state.find_operational();
+    halt_scsw(state.scsw_mut());
 }
 
-/// Its status is no longer pending.
-pub fn drop_scsw(scsw: &mut Scsw)
+/// Its status is no longer pending: the status control, bits 27 to 31, is cleared.
+pub fn drop_scsw(scsw: &mut ScswWords)
     ensures { scsw.new ≡ status_spec.without_status scsw.old }
 {
-    scsw.status = StatusControl::none();
+    scsw.change(0x1F, 0);
 }
 
-fn drop_status(state: &mut SubchannelState)
-    ensures { state.new ≡ halt_spec.status_dropped state.old }
+fn drop_status(state: &mut PackedState)
+    ensures { state.new ≡ with_state state.old (halt_spec.status_dropped state.old.state) }
 {
-    drop_scsw(&mut state.scsw);
-    clear_serials(&mut state.serials);
+    drop_scsw(state.scsw_mut());
+    clear_serials(&mut state.rest_mut().serials);
 }
 
 /// HALT SUBCHANNEL with code 0.
-pub(crate) fn halt(state: &mut SubchannelState)
-    ensures { state.new ≡ halt_spec.halted state.old }
+pub(crate) fn halt(state: &mut PackedState)
+    ensures { state.new ≡ with_state state.old (halt_spec.halted state.old.state) }
 {
-    let drops = drops_status(&state.scsw);
+    let drops = drops_status(state.scsw());
     halting(state);
     if drops {
         drop_status(state);
     }
 }
 
-fn cleared_scsw() -> Scsw
+/// The clear function, bit 19, and clear pending, bit 23, alone.
+fn cleared_scsw() -> ScswWords
     ensures { result ≡ parts.cleared_scsw }
 {
-    let mut scsw = Scsw::zero();
-    scsw.functions.clear = true;
-    scsw.activity.clear_pending = true;
+    let mut scsw = ScswWords::zero();
+    scsw.change(0, 0x1100);
     scsw
 }
 
-fn clear_pmcw(pmcw: &mut PmcwState)
-    ensures { pmcw.new ≡ parts.cleared_pmcw pmcw.old }
+/// All its programs are over.
+pub fn end_programs(rest: &mut Rest)
+    ensures { rest.new ≡ record rest.old { waiting = None; begun = None; suspended = None } }
 {
-    pmcw.not_operational = [false; 8];
-    pmcw.last_used = None;
-    pmcw.operational = [true; 8];
+    rest.waiting = None;
+    rest.begun = None;
+    rest.suspended = None;
+}
+
+/// The hold is to be reset under a number of its own.
+pub fn draw_reset(state: &mut PackedState)
+    requires { state.old.state.drawn < 2 ^ 63 }
+    ensures { state.new ≡ with_state state.old (losing_spec.reset_drawn state.old.state) }
+{
+    let rest = state.rest_mut();
+    rest.drawn += 1;
+    let mut hold = Hold::of(rest.hold);
+    hold.reset(rest.drawn);
+    rest.hold = hold.state();
 }
 
 /// CLEAR SUBCHANNEL with code 0.
-pub(crate) fn clear(state: &mut SubchannelState)
-    requires { state.old.drawn < 2 ^ 63 }
-    ensures { state.new ≡ clear_spec.cleared state.old }
+pub(crate) fn clear(state: &mut PackedState)
+    requires { state.old.state.drawn < 2 ^ 63 }
+    ensures { state.new ≡ with_state state.old (clear_spec.cleared state.old.state) }
 {
-    clear_pmcw(&mut state.pmcw);
-    state.scsw = cleared_scsw();
-    clear_serials(&mut state.serials);
-    state.drawn += 1;
-    state.waiting = None;
-    state.begun = None;
-    state.suspended = None;
-    let mut hold = Hold::of(state.hold);
-    hold.reset(state.drawn);
-    state.hold = hold.state();
-    state.dedicated = dedicated(state.dedicated, AllegianceCause::Clear);
+    state.clear_paths();
+    *state.scsw_mut() = cleared_scsw();
+    draw_reset(state);
+    let rest = state.rest_mut();
+    clear_serials(&mut rest.serials);
+    end_programs(rest);
+    rest.dedicated = dedicated(rest.dedicated, AllegianceCause::Clear);
 }
 
-fn cancel_scsw(scsw: &mut Scsw)
+/// N, the functions, resume pending, start pending and suspended, bits 15, 17 to 21 and 26, are cleared.
+fn cancel_scsw(scsw: &mut ScswWords)
     ensures { scsw.new ≡ cancel_spec.cancelled_scsw scsw.old }
 {
-    scsw.path_not_operational = false;
-    scsw.functions = FunctionControl::none();
-    scsw.activity.resume_pending = false;
-    scsw.activity.start_pending = false;
-    scsw.activity.suspended = false;
+    scsw.change(0x1_7C20, 0);
 }
 
 /// CANCEL SUBCHANNEL with code 0.
-pub(crate) fn cancel(state: &mut SubchannelState)
-    ensures { state.new ≡ cancel_spec.cancelled state.old }
+pub(crate) fn cancel(state: &mut PackedState)
+    ensures { state.new ≡ with_state state.old (cancel_spec.cancelled state.old.state) }
 {
-    cancel_scsw(&mut state.scsw);
-    state.waiting = None;
-    state.suspended = None;
-}
-
-fn place_word(state: &mut PmcwState, word: &pmcw::Pmcw)
-    ensures { state.new ≡ modify_spec.pmcw_with_word state.old word.now }
-{
-    state.parameter = word.parameter;
-    state.subclass = word.subclass;
-    state.enabled = word.enabled;
-    state.multipath = word.multipath;
-    state.logical = paths_of_mask(word.logical);
-    state.operational = paths_of_mask(word.operational);
+    cancel_scsw(state.scsw_mut());
+    let rest = state.rest_mut();
+    rest.waiting = None;
+    rest.suspended = None;
 }
 
 /// MODIFY SUBCHANNEL with code 0.
-pub fn place(state: &mut SubchannelState, given: &pmcw::Pmcw)
-    ensures { state.new ≡ modify_spec.placed state.old given.now }
+pub fn place(state: &mut PackedState, given: &[u32; 7])
+    ensures { state.new ≡ with_state state.old (modify_spec.placed state.old.state (pmcw_of_words given.now)) }
 {
-    place_word(&mut state.pmcw, given);
+    state.modify(given);
 }

@@ -12,6 +12,8 @@ ghost use Rattle.subchannel_model.specs.Modify as modify_spec;
 ghost use Rattle.subchannel_model.specs.Conditions as condition_spec;
 ghost use Rattle.subchannel_model.specs.Conditions.{condition_of};
 ghost use Rattle.subchannel_model.specs.Start.{started};
+ghost use Rattle.schib_block.specs.Reading.{pmcw_of_words};
+ghost use Rattle.subchannel_words.specs.Unwired.{with_state};
 
 pub mod blocks;
 pub mod codes;
@@ -20,16 +22,15 @@ pub mod law;
 
 use chan_model::answer::ConditionCode;
 use orb_block::Orb;
-use schib_block::pmcw;
-use subchannel_model::state::SubchannelState;
+use subchannel_words::PackedState;
 
 /// START SUBCHANNEL with an ORB that is allowed.
-pub fn ssch(state: &mut SubchannelState, orb: Orb) -> ConditionCode
-    requires { state.old.starts < 2 ^ 63 }
-    ensures code { result ≡ start_spec.ssch_code (condition_of (Some state.old)) }
-    ensures state { state.new ≡ condition_spec.left_by result state.old (started state.old orb) }
+pub fn ssch(state: &mut PackedState, orb: Orb) -> ConditionCode
+    requires { state.old.state.starts < 2 ^ 63 }
+    ensures code { result ≡ start_spec.ssch_code (condition_of (Some state.old.state)) }
+    ensures state { state.new ≡ with_state state.old (condition_spec.left_by result state.old.state (started state.old.state orb)) }
 {
-    let code = codes::ssch_code(codes::condition_of(state));
+    let code = codes::ssch_code(state);
     if code == ConditionCode::Zero {
         effects::start(state, &orb);
     }
@@ -37,11 +38,11 @@ pub fn ssch(state: &mut SubchannelState, orb: Orb) -> ConditionCode
 }
 
 /// RESUME SUBCHANNEL.
-pub fn rsch(state: &mut SubchannelState) -> ConditionCode
-    ensures code { result ≡ resume_spec.rsch_code (condition_of (Some state.old)) }
-    ensures state { state.new ≡ condition_spec.left_by result state.old (resume_spec.resumed state.old) }
+pub fn rsch(state: &mut PackedState) -> ConditionCode
+    ensures code { result ≡ resume_spec.rsch_code (condition_of (Some state.old.state)) }
+    ensures state { state.new ≡ with_state state.old (condition_spec.left_by result state.old.state (resume_spec.resumed state.old.state)) }
 {
-    let code = codes::rsch_code(codes::condition_of(state));
+    let code = codes::rsch_code(state);
     if code == ConditionCode::Zero {
         effects::resume(state);
     }
@@ -49,11 +50,11 @@ pub fn rsch(state: &mut SubchannelState) -> ConditionCode
 }
 
 /// HALT SUBCHANNEL.
-pub fn hsch(state: &mut SubchannelState) -> ConditionCode
-    ensures code { result ≡ halt_spec.hsch_code (condition_of (Some state.old)) }
-    ensures state { state.new ≡ condition_spec.left_by result state.old (halt_spec.halted state.old) }
+pub fn hsch(state: &mut PackedState) -> ConditionCode
+    ensures code { result ≡ halt_spec.hsch_code (condition_of (Some state.old.state)) }
+    ensures state { state.new ≡ with_state state.old (condition_spec.left_by result state.old.state (halt_spec.halted state.old.state)) }
 {
-    let code = codes::hsch_code(codes::condition_of(state));
+    let code = codes::hsch_code(state);
     if code == ConditionCode::Zero {
         effects::halt(state);
     }
@@ -61,12 +62,12 @@ pub fn hsch(state: &mut SubchannelState) -> ConditionCode
 }
 
 /// CLEAR SUBCHANNEL. The Reset that is then due is not sent here.
-pub fn csch(state: &mut SubchannelState) -> ConditionCode
-    requires { state.old.drawn < 2 ^ 63 }
-    ensures code { result ≡ clear_spec.csch_code (condition_of (Some state.old)) }
-    ensures state { state.new ≡ condition_spec.left_by result state.old (clear_spec.cleared state.old) }
+pub fn csch(state: &mut PackedState) -> ConditionCode
+    requires { state.old.state.drawn < 2 ^ 63 }
+    ensures code { result ≡ clear_spec.csch_code (condition_of (Some state.old.state)) }
+    ensures state { state.new ≡ with_state state.old (condition_spec.left_by result state.old.state (clear_spec.cleared state.old.state)) }
 {
-    let code = codes::csch_code(codes::condition_of(state));
+    let code = codes::csch_code(state);
     if code == ConditionCode::Zero {
         effects::clear(state);
     }
@@ -74,11 +75,11 @@ pub fn csch(state: &mut SubchannelState) -> ConditionCode
 }
 
 /// CANCEL SUBCHANNEL.
-pub fn xsch(state: &mut SubchannelState) -> ConditionCode
-    ensures code { result ≡ cancel_spec.xsch_code (condition_of (Some state.old)) }
-    ensures state { state.new ≡ condition_spec.left_by result state.old (cancel_spec.cancelled state.old) }
+pub fn xsch(state: &mut PackedState) -> ConditionCode
+    ensures code { result ≡ cancel_spec.xsch_code (condition_of (Some state.old.state)) }
+    ensures state { state.new ≡ with_state state.old (condition_spec.left_by result state.old.state (cancel_spec.cancelled state.old.state)) }
 {
-    let code = codes::xsch_code(codes::condition_of(state));
+    let code = codes::xsch_code(state);
     if code == ConditionCode::Zero {
         effects::cancel(state);
     }
@@ -86,11 +87,11 @@ pub fn xsch(state: &mut SubchannelState) -> ConditionCode
 }
 
 /// MODIFY SUBCHANNEL with a word that is allowed.
-pub fn msch(state: &mut SubchannelState, given: &pmcw::Pmcw) -> ConditionCode
-    ensures code { result ≡ modify_spec.msch_code (condition_of (Some state.old)) }
-    ensures state { state.new ≡ condition_spec.left_by result state.old (modify_spec.placed state.old given.now) }
+pub fn msch(state: &mut PackedState, given: &[u32; 7]) -> ConditionCode
+    ensures code { result ≡ modify_spec.msch_code (condition_of (Some state.old.state)) }
+    ensures state { state.new ≡ with_state state.old (condition_spec.left_by result state.old.state (modify_spec.placed state.old.state (pmcw_of_words given.now))) }
 {
-    let code = codes::msch_code(codes::condition_of(state));
+    let code = codes::msch_code(state);
     if code == ConditionCode::Zero {
         effects::place(state, given);
     }

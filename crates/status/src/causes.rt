@@ -7,16 +7,20 @@ ghost use Rattle.subchannel_model.specs.declared.cause.StatusCause.TheVariants a
 ghost use Rattle.subchannel_model.specs.Status as joined_spec;
 ghost use Rattle.subchannel_model.specs.Causes as spec;
 ghost use Rattle.subchannel_model.specs.Parts as parts;
+ghost use Rattle.subchannel_words.specs.Unwired.{with_state};
+ghost use Rattle.status.specs.Ended.{rest_after_end};
 
 use crate::ends::{end_shown, is_last_end, show_primary};
 use crate::shown::{add_status, check_status, conditions, shows_primary};
-use crate::testing::end_programs;
 use ccw_walk::check::Check;
-use scsw_irb::scsw::{ActivityControl, DeferredCode, Scsw, StatusControl};
+use functions::effects::end_programs;
+use scsw_irb::scsw::{ActivityControl, DeferredCode, StatusControl};
 use scsw_irb::status::{DeviceStatus, SubchannelStatus};
+use status_words::ScswWords;
 use subchannel_model::cause::StatusCause;
-use subchannel_model::state::{ActiveProgram, Program, SubchannelState};
+use subchannel_model::state::{ActiveProgram, Program};
 use subchannel_model::status::Shown;
+use subchannel_words::{PackedState, Rest};
 
 /// Status is pending, and nothing else is shown.
 fn plain_shown(command_address: u32, count: u16) -> Shown
@@ -34,45 +38,47 @@ fn plain_shown(command_address: u32, count: u16) -> Shown
 }
 
 /// The command address of the program of which a status speaks.
-fn address_shown(state: &SubchannelState) -> u32
-    ensures { result ≡ spec.address_shown state.now }
+fn address_shown(state: &PackedState) -> u32
+    ensures { result ≡ spec.address_shown state.now.state }
 {
-    if state.waiting.is_some() {
-        return state.scsw.command_address;
+    let rest = state.rest();
+    if rest.waiting.is_some() {
+        return state.scsw().scsw().command_address;
     }
-    match (state.begun, state.suspended) {
+    match (rest.begun, rest.suspended) {
         (Some(begun), _) => begun.transfer.walk.tried(),
         (None, Some(standing)) => standing.walk.tried(),
-        (None, None) => state.scsw.command_address,
+        (None, None) => state.scsw().scsw().command_address,
     }
 }
 
 /// The count of the program of which a status speaks.
-fn count_shown(state: &SubchannelState) -> u16
-    ensures { result ≡ spec.count_shown state.now }
+fn count_shown(state: &PackedState) -> u16
+    ensures { result ≡ spec.count_shown state.now.state }
 {
-    if state.waiting.is_some() {
-        return state.scsw.count;
+    let rest = state.rest();
+    if rest.waiting.is_some() {
+        return state.scsw().scsw().count;
     }
-    match (state.begun, state.suspended) {
+    match (rest.begun, rest.suspended) {
         (Some(begun), _) => begun.transfer.moving.residual(),
         (None, Some(standing)) => standing.count,
-        (None, None) => state.scsw.count,
+        (None, None) => state.scsw().scsw().count,
     }
 }
 
 /// Nothing but the address and the count of the program of which a status speaks is shown.
-fn program_shown(state: &SubchannelState) -> Shown
-    ensures { result ≡ spec.program_shown state.now }
+fn program_shown(state: &PackedState) -> Shown
+    ensures { result ≡ spec.program_shown state.now.state }
 {
     plain_shown(address_shown(state), count_shown(state))
 }
 
 /// Whether the program of which a status speaks showed its primary status.
-fn was_shown(state: &SubchannelState) -> bool
-    ensures { result ≡ spec.was_shown state.now.waiting state.now.begun }
+fn was_shown(rest: &Rest) -> bool
+    ensures { result ≡ spec.was_shown rest.now.waiting rest.now.begun }
 {
-    match (state.waiting, state.begun) {
+    match (rest.waiting, rest.begun) {
         (None, Some(begun)) => begun.primary_shown,
         _ => false,
     }
@@ -98,20 +104,21 @@ fn attention_deferred(waiting: Option<Program>) -> Option<DeferredCode>
     }
 }
 
-fn attention_shown(state: &SubchannelState) -> Shown
-    ensures { result ≡ spec.attention_shown state.now }
+fn attention_shown(state: &PackedState) -> Shown
+    ensures { result ≡ spec.attention_shown state.now.state }
 {
+    let before = state.scsw().scsw();
     Shown {
         conditions: conditions(true, false, false),
         device: DeviceStatus::ATTENTION,
-        deferred: attention_deferred(state.waiting),
-        ..plain_shown(state.scsw.command_address, state.scsw.count)
+        deferred: attention_deferred(state.rest().waiting),
+        ..plain_shown(before.command_address, before.count)
     }
 }
 
 /// A program that is to be offered found no path.
-fn no_path_shown(state: &SubchannelState) -> Shown
-    ensures { result ≡ spec.no_path_shown state.now }
+fn no_path_shown(state: &PackedState) -> Shown
+    ensures { result ≡ spec.no_path_shown state.now.state }
 {
     Shown {
         conditions: conditions(true, true, true),
@@ -120,10 +127,10 @@ fn no_path_shown(state: &SubchannelState) -> Shown
     }
 }
 
-fn interface_shown(state: &SubchannelState) -> Shown
-    ensures { result ≡ spec.interface_shown state.now }
+fn interface_shown(state: &PackedState) -> Shown
+    ensures { result ≡ spec.interface_shown state.now.state }
 {
-    let primary = shows_primary(state.scsw.functions, was_shown(state));
+    let primary = shows_primary(state.scsw(), was_shown(state.rest()));
     Shown {
         conditions: conditions(true, primary, true),
         subchannel: SubchannelStatus::INTERFACE_CONTROL_CHECK,
@@ -140,12 +147,12 @@ fn intermediate() -> StatusControl
     }
 }
 
-fn pci_shown(state: &SubchannelState, tried: u32, count: u16) -> Shown
-    ensures { result ≡ spec.pci_shown state.now tried count }
+fn pci_shown(state: &PackedState, tried: u32, count: u16) -> Shown
+    ensures { result ≡ spec.pci_shown state.now.state tried count }
 {
     Shown {
         conditions: intermediate(),
-        activity: state.scsw.activity,
+        activity: state.scsw().scsw().activity,
         subchannel: SubchannelStatus::PROGRAM_CONTROLLED,
         ..plain_shown(tried, count)
     }
@@ -165,8 +172,8 @@ fn suspension_shown(tried: u32, count: u16) -> Shown
 }
 
 /// What a cause shows.
-pub fn shown_of(state: &SubchannelState, cause: &StatusCause) -> Shown
-    ensures { result ≡ (spec.row_of state.now cause.now).shown }
+pub fn shown_of(state: &PackedState, cause: &StatusCause) -> Shown
+    ensures { result ≡ (spec.row_of state.now.state cause.now).shown }
 {
     match cause {
         StatusCause::End {
@@ -190,139 +197,136 @@ pub fn shown_of(state: &SubchannelState, cause: &StatusCause) -> Shown
 }
 
 /// The program that was begun is over, or where none was begun the one that was to be.
-fn end_begun(state: &mut SubchannelState)
-    ensures { state.new ≡ spec.without_begun state.old.begun state.old }
+fn end_begun(state: &mut PackedState)
+    ensures { state.new ≡ with_state state.old (spec.without_begun state.old.state.begun state.old.state) }
 {
-    if state.begun.is_some() {
-        state.begun = None;
+    if state.rest().begun.is_some() {
+        state.rest_mut().begun = None;
     } else {
-        state.waiting = None;
-        state.suspended = None;
+        let rest = state.rest_mut();
+        rest.waiting = None;
+        rest.suspended = None;
     }
 }
 
 /// The program that waits is over, or where none waits the suspended one.
-fn end_waiting(state: &mut SubchannelState)
-    ensures { state.new ≡ spec.without_waiting state.old.waiting state.old }
+fn end_waiting(state: &mut PackedState)
+    ensures { state.new ≡ with_state state.old (spec.without_waiting state.old.state.waiting state.old.state) }
 {
-    if state.waiting.is_some() {
-        state.waiting = None;
+    if state.rest().waiting.is_some() {
+        state.rest_mut().waiting = None;
     } else {
-        state.suspended = None;
+        state.rest_mut().suspended = None;
     }
 }
 
-fn leave_end(state: &mut SubchannelState, begun: &ActiveProgram, last: bool)
-    ensures { state.new ≡ spec.programs_after_end state.old begun.now last }
+fn leave_end(state: &mut PackedState, begun: &ActiveProgram, last: bool)
+    ensures { state.new ≡ with_state state.old (spec.programs_after_end state.old.state begun.now last) }
 {
     if last {
-        end_programs(state);
+        end_programs(state.rest_mut());
         return;
     }
     let mut next = *begun;
     show_primary(&mut next);
-    state.begun = Some(next);
+    state.rest_mut().begun = Some(next);
 }
 
 /// The programs that are over with a cause end.
-fn leave_programs(state: &mut SubchannelState, cause: &StatusCause)
-    ensures state { state.new ≡ (spec.row_of state.old cause.now).left }
-    ensures counts { state.new.serials ≡ state.old.serials }
-    ensures enabled { state.new.pmcw.enabled ≡ state.old.pmcw.enabled }
-    ensures word { state.new.scsw ≡ state.old.scsw }
+fn leave_programs(state: &mut PackedState, cause: &StatusCause)
+    ensures state { state.new ≡ with_state state.old (spec.row_of state.old.state cause.now).left }
+    ensures counts { state.new.state.serials ≡ state.old.state.serials }
+    ensures enabled { state.new.state.pmcw.enabled ≡ state.old.state.pmcw.enabled }
+    ensures word { state.new.state.scsw ≡ state.old.state.scsw }
 {
     match cause {
         StatusCause::End { begun, status, .. } => leave_end(state, begun, is_last_end(*status)),
         StatusCause::FetchFault { .. } => end_begun(state),
-        StatusCause::Attention => state.waiting = None,
+        StatusCause::Attention => state.rest_mut().waiting = None,
         StatusCause::NoPath => end_waiting(state),
-        StatusCause::InterfaceControlCheck => end_programs(state),
+        StatusCause::InterfaceControlCheck => end_programs(state.rest_mut()),
         StatusCause::Pci { .. } | StatusCause::Suspension { .. } | StatusCause::ClearDone => {}
-        StatusCause::HaltDone => end_programs(state),
+        StatusCause::HaltDone => end_programs(state.rest_mut()),
     }
 }
 
-fn clear_scsw() -> Scsw
+/// The clear function, bit 19, alone.
+fn clear_scsw() -> ScswWords
     ensures { result ≡ parts.clear_scsw }
 {
-    let mut scsw = Scsw::zero();
-    scsw.functions.clear = true;
+    let mut scsw = ScswWords::zero();
+    scsw.change(0, 0x1000);
     scsw
 }
 
-fn without_intermediate(scsw: Scsw) -> Scsw
-    ensures { result ≡ parts.without_intermediate scsw }
+/// Intermediate status, bit 28, is turned off.
+fn turn_off_intermediate(scsw: &mut ScswWords)
+    ensures { scsw.new ≡ parts.without_intermediate scsw.old }
 {
-    let mut next = scsw;
-    next.status.intermediate = false;
-    next
+    scsw.change(0x08, 0);
 }
 
-/// The status word that the status of a cause joins; that of a subchannel that is not enabled stays as it is.
-fn scsw_joined(state: &SubchannelState, cause: &StatusCause) -> Scsw
-    ensures { result ≡ parts.scsw_joined state.now.pmcw.enabled state.now.scsw (spec.scsw_before state.now.scsw cause.now) }
+/// The status word becomes the one that the status of a cause joins; that of a subchannel that is not enabled stays as it is.
+fn prepare_scsw(enabled: bool, scsw: &mut ScswWords, cause: &StatusCause)
+    ensures { scsw.new ≡ parts.scsw_joined enabled scsw.old (spec.scsw_before scsw.old cause.now) }
 {
     match cause {
-        StatusCause::ClearDone if state.pmcw.enabled => clear_scsw(),
-        StatusCause::HaltDone if state.pmcw.enabled => without_intermediate(state.scsw),
-        _ => state.scsw,
+        StatusCause::ClearDone if enabled => *scsw = clear_scsw(),
+        StatusCause::HaltDone if enabled => turn_off_intermediate(scsw),
+        _ => {}
     }
 }
 
-fn primary_is_shown(state: &mut SubchannelState)
-    ensures state { IfSome state.old.begun (λ b. state.new ≡ record state.old { begun = Some (end_spec.has_shown b) }) }
-    ensures counts { state.new.serials ≡ state.old.serials }
-    ensures enabled { state.new.pmcw.enabled ≡ state.old.pmcw.enabled }
-    ensures word { state.new.scsw ≡ state.old.scsw }
+fn primary_is_shown(rest: &mut Rest)
+    ensures rest { IfSome rest.old.begun (λ b. rest.new ≡ record rest.old { begun = Some (end_spec.has_shown b) }) }
+    ensures counts { rest.new.serials ≡ rest.old.serials }
 {
-    if let Some(begun) = &mut state.begun {
+    if let Some(begun) = &mut rest.begun {
         show_primary(begun);
     }
 }
 
 /// The programs that are over with an End of the program at work end.
-fn leave_ended(state: &mut SubchannelState, last: bool)
-    ensures state { IfSome state.old.begun (λ b. state.new ≡ spec.programs_after_end state.old b last) }
-    ensures counts { state.new.serials ≡ state.old.serials }
-    ensures enabled { state.new.pmcw.enabled ≡ state.old.pmcw.enabled }
-    ensures word { state.new.scsw ≡ state.old.scsw }
+fn leave_ended(rest: &mut Rest, last: bool)
+    ensures rest { IfSome rest.old.begun (λ b. rest.new ≡ rest_after_end rest.old b last) }
+    ensures counts { rest.new.serials ≡ rest.old.serials }
 {
     if last {
-        end_programs(state);
+        end_programs(rest);
     } else {
-        primary_is_shown(state);
+        primary_is_shown(rest);
     }
 }
 
 /// What an End of the program at work shows.
-fn shown_at_end(state: &SubchannelState, status: DeviceStatus, more: bool) -> Shown
-    ensures { IfSome state.now.begun (λ b. result ≡ (spec.row_of state.now (cause_spec.End b status more)).shown) }
+fn shown_at_end(state: &PackedState, status: DeviceStatus, more: bool) -> Shown
+    ensures { IfSome state.now.state.begun (λ b. result ≡ (spec.row_of state.now.state (cause_spec.End b status more)).shown) }
 {
-    match &state.begun {
+    match &state.rest().begun {
         None => plain_shown(0, 0),
         Some(begun) => end_shown(state, begun, status, more),
     }
 }
 
 /// An End of the program at work.
-pub(crate) fn join_end(state: &mut SubchannelState, status: DeviceStatus, more: bool)
-    requires { state.old.serials.made < 2 ^ 63 }
-    ensures { IfSome state.old.begun (λ b. state.new ≡ spec.with_cause state.old (cause_spec.End b status more)) }
+pub(crate) fn join_end(state: &mut PackedState, status: DeviceStatus, more: bool)
+    requires { state.old.state.serials.made < 2 ^ 63 }
+    ensures { IfSome state.old.state.begun (λ b. state.new ≡ with_state state.old (spec.with_cause state.old.state (cause_spec.End b status more))) }
 {
     let shown = shown_at_end(state, status, more);
-    leave_ended(state, is_last_end(status));
+    leave_ended(state.rest_mut(), is_last_end(status));
     add_status(state, &shown);
 }
 
 /// A cause of status.
-pub(crate) fn join(state: &mut SubchannelState, cause: &StatusCause)
-    requires { state.old.serials.made < 2 ^ 63 }
-    ensures state { state.new ≡ spec.with_cause state.old cause.now }
-    ensures made { state.new.serials ≡ joined_spec.serials_made state.old.pmcw.enabled state.old.serials }
+pub(crate) fn join(state: &mut PackedState, cause: &StatusCause)
+    requires { state.old.state.serials.made < 2 ^ 63 }
+    ensures state { state.new ≡ with_state state.old (spec.with_cause state.old.state cause.now) }
+    ensures made { state.new.state.serials ≡ joined_spec.serials_made state.old.state.pmcw.enabled state.old.state.serials }
 {
     let shown = shown_of(state, cause);
-    let scsw = scsw_joined(state, cause);
+    let enabled = state.is_enabled();
     leave_programs(state, cause);
-    state.scsw = scsw;
+    prepare_scsw(enabled, state.scsw_mut(), cause);
     add_status(state, &shown);
 }

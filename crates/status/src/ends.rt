@@ -6,10 +6,12 @@ ghost use Rattle.subchannel_model.specs.Ends as spec;
 ghost use Rattle.subchannel_model.specs.Parts as parts;
 
 use crate::shown::{check_status, conditions, shows_primary};
-use scsw_irb::scsw::{ActivityControl, DeferredCode, Scsw};
+use scsw_irb::scsw::{ActivityControl, DeferredCode};
 use scsw_irb::status::{DeviceStatus, SubchannelStatus};
-use subchannel_model::state::{ActiveProgram, Program, SubchannelState};
+use status_words::ScswWords;
+use subchannel_model::state::{ActiveProgram, Program};
 use subchannel_model::status::Shown;
+use subchannel_words::PackedState;
 
 /// Whether an End is the last of its program: it has device end or unit check, or no channel end.
 pub fn is_last_end(status: DeviceStatus) -> bool
@@ -55,43 +57,55 @@ fn suppresses_length(begun: &ActiveProgram) -> bool
     ccw.suppress_length && !ccw.chain_data
 }
 
-fn shows_length(scsw: Scsw, begun: &ActiveProgram, status: DeviceStatus, more: bool) -> bool
-    ensures { result ≡ spec.shows_length scsw begun.now status more }
+/// The halt function: bit 18.
+fn is_halted(scsw: &ScswWords) -> bool
+    ensures { result ≡ scsw.now.functions.halt }
+{
+    scsw.any(0x2000)
+}
+
+fn shows_length(scsw: &ScswWords, begun: &ActiveProgram, status: DeviceStatus, more: bool) -> bool
+    ensures { result ≡ spec.shows_length scsw.now begun.now status more }
 {
     !begun.transfer.ended
         && begun.transfer.moving.is_incorrect(more)
         && !is_unit_check_alone(status)
-        && !scsw.functions.halt
+        && !is_halted(scsw)
         && !suppresses_length(begun)
         && shows_immediate(begun, status)
 }
 
 fn end_status(
-    scsw: Scsw,
+    scsw: &ScswWords,
     begun: &ActiveProgram,
     status: DeviceStatus,
     more: bool,
 ) -> SubchannelStatus
-    ensures { result ≡ parts.end_bits scsw begun.now status more }
+    ensures { result ≡ parts.end_bits scsw.now begun.now status more }
 {
     length_status(shows_length(scsw, begun, status, more)).joined(check_status(
         begun.transfer.fault,
     ))
 }
 
-fn breaks_chain(scsw: Scsw, begun: &ActiveProgram, status: DeviceStatus, more: bool) -> bool
-    ensures { result ≡ spec.breaks_chain scsw begun.now status more }
+fn breaks_chain(scsw: &ScswWords, begun: &ActiveProgram, status: DeviceStatus, more: bool) -> bool
+    ensures { result ≡ spec.breaks_chain scsw.now begun.now status more }
 {
     status.has_check()
         || status.has_unit_exception()
         || shows_length(scsw, begun, status, more)
         || begun.transfer.fault.is_some()
-        || scsw.functions.halt
+        || is_halted(scsw)
 }
 
 /// Whether the next command is chained to after an End.
-pub fn chains_command(scsw: Scsw, begun: &ActiveProgram, status: DeviceStatus, more: bool) -> bool
-    ensures { result ≡ spec.chains_command scsw begun.now status more }
+pub fn chains_command(
+    scsw: &ScswWords,
+    begun: &ActiveProgram,
+    status: DeviceStatus,
+    more: bool,
+) -> bool
+    ensures { result ≡ spec.chains_command scsw.now begun.now status more }
 {
     let ccw = begun.transfer.moving.ccw();
     ccw.chain_command
@@ -107,13 +121,18 @@ fn is_alert(begun: &ActiveProgram, status: DeviceStatus) -> bool
 }
 
 /// Channel end alone: the device works on.
-fn channel_end_shown(scsw: Scsw, begun: &ActiveProgram, status: DeviceStatus, more: bool) -> Shown
-    ensures { result ≡ parts.channel_end_shown scsw begun.now status more }
+fn channel_end_shown(
+    scsw: &ScswWords,
+    begun: &ActiveProgram,
+    status: DeviceStatus,
+    more: bool,
+) -> Shown
+    ensures { result ≡ parts.channel_end_shown scsw.now begun.now status more }
 {
     Shown {
         conditions: conditions(
             is_alert(begun, status),
-            shows_primary(scsw.functions, begun.primary_shown),
+            shows_primary(scsw, begun.primary_shown),
             false,
         ),
         activity: ActivityControl {
@@ -129,13 +148,18 @@ fn channel_end_shown(scsw: Scsw, begun: &ActiveProgram, status: DeviceStatus, mo
 }
 
 /// The last End of a program.
-fn last_end_shown(scsw: Scsw, begun: &ActiveProgram, status: DeviceStatus, more: bool) -> Shown
-    ensures { result ≡ parts.last_end_shown scsw begun.now status more }
+fn last_end_shown(
+    scsw: &ScswWords,
+    begun: &ActiveProgram,
+    status: DeviceStatus,
+    more: bool,
+) -> Shown
+    ensures { result ≡ parts.last_end_shown scsw.now begun.now status more }
 {
     Shown {
         conditions: conditions(
             is_alert(begun, status),
-            shows_primary(scsw.functions, begun.primary_shown),
+            shows_primary(scsw, begun.primary_shown),
             true,
         ),
         activity: ActivityControl::none(),
@@ -148,29 +172,35 @@ fn last_end_shown(scsw: Scsw, begun: &ActiveProgram, status: DeviceStatus, more:
 }
 
 /// The last End of an earlier program while a start waits.
-fn earlier_end_shown(scsw: Scsw, begun: &ActiveProgram, status: DeviceStatus, more: bool) -> Shown
-    ensures { result ≡ parts.earlier_end_shown scsw begun.now status more }
+fn earlier_end_shown(
+    scsw: &ScswWords,
+    begun: &ActiveProgram,
+    status: DeviceStatus,
+    more: bool,
+) -> Shown
+    ensures { result ≡ parts.earlier_end_shown scsw.now begun.now status more }
 {
+    let before = scsw.scsw();
     Shown {
         conditions: conditions(true, false, false),
         activity: ActivityControl::none(),
         device: status,
         subchannel: end_status(scsw, begun, status, more),
         deferred: Some(DeferredCode::One),
-        command_address: scsw.command_address,
-        count: scsw.count,
+        command_address: before.command_address,
+        count: before.count,
     }
 }
 
 /// The last End of a program, or of an earlier one while a start waits.
 fn last_shown(
-    scsw: Scsw,
+    scsw: &ScswWords,
     begun: &ActiveProgram,
     waiting: Option<Program>,
     status: DeviceStatus,
     more: bool,
 ) -> Shown
-    ensures { result ≡ spec.last_shown scsw begun.now waiting status more }
+    ensures { result ≡ spec.last_shown scsw.now begun.now waiting status more }
 {
     match waiting {
         None => last_end_shown(scsw, begun, status, more),
@@ -180,17 +210,17 @@ fn last_shown(
 
 /// An End of a program where a start may wait.
 pub(crate) fn end_shown(
-    state: &SubchannelState,
+    state: &PackedState,
     begun: &ActiveProgram,
     status: DeviceStatus,
     more: bool,
 ) -> Shown
-    ensures { result ≡ spec.end_shown state.now begun.now status more }
+    ensures { result ≡ spec.end_shown state.now.state begun.now status more }
 {
     if is_last_end(status) {
-        last_shown(state.scsw, begun, state.waiting, status, more)
+        last_shown(state.scsw(), begun, state.rest().waiting, status, more)
     } else {
-        channel_end_shown(state.scsw, begun, status, more)
+        channel_end_shown(state.scsw(), begun, status, more)
     }
 }
 

@@ -3,26 +3,37 @@
 ghost use Rattle.std.specs.Prelude.{◌≡◌, ◌<◌, ◌^◌};
 ghost use Rattle.subchannel_model.specs.Causes as cause_spec;
 ghost use Rattle.subchannel_model.specs.Status as spec;
+ghost use Rattle.subchannel_words.specs.Unwired.{with_state};
 
 use ccw_walk::check::Check;
-use scsw_irb::scsw::{ActivityControl, FunctionControl, Scsw, StatusControl};
+use scsw_irb::scsw::{Scsw, StatusControl};
 use scsw_irb::status::{DeviceStatus, SubchannelStatus};
-use subchannel_model::state::SubchannelState;
+use status_words::ScswWords;
 use subchannel_model::status::Shown;
+use subchannel_words::PackedState;
 
 /// A status is made pending. A subchannel that is not enabled gets none, but its activity changes.
-pub(crate) fn add_status(state: &mut SubchannelState, shown: &Shown)
-    requires { state.old.serials.made < 2 ^ 63 }
-    ensures { state.new ≡ cause_spec.with_status state.old shown.now }
+pub(crate) fn add_status(state: &mut PackedState, shown: &Shown)
+    requires { state.old.state.serials.made < 2 ^ 63 }
+    ensures { state.new ≡ with_state state.old (cause_spec.with_status state.old.state shown.now) }
 {
-    let enabled = state.pmcw.enabled;
-    make_scsw(enabled, &mut state.scsw, shown);
+    let enabled = state.is_enabled();
+    make_scsw(enabled, state.scsw_mut(), shown);
     if enabled {
-        state.serials.made += 1;
+        state.rest_mut().serials.made += 1;
     }
 }
 
-fn make_scsw(enabled: bool, scsw: &mut Scsw, shown: &Shown)
+/// The status word is read and written whole.
+fn make_scsw(enabled: bool, scsw: &mut ScswWords, shown: &Shown)
+    ensures { scsw.new ≡ spec.scsw_made enabled scsw.old shown.now }
+{
+    let mut word = scsw.scsw();
+    make_word(enabled, &mut word, shown);
+    *scsw = ScswWords::of(word);
+}
+
+fn make_word(enabled: bool, scsw: &mut Scsw, shown: &Shown)
     ensures { scsw.new ≡ spec.scsw_made enabled scsw.old shown.now }
 {
     if !enabled {
@@ -99,9 +110,10 @@ pub(crate) fn check_status(check: Option<Check>) -> SubchannelStatus
     }
 }
 
-/// Whether primary status is shown: once in a program, and not where its clear is in progress.
-pub(crate) fn shows_primary(functions: FunctionControl, shown_before: bool) -> bool
-    ensures { result ≡ spec.shows_primary functions shown_before }
+/// Whether primary status is shown: once in a program, and not where its clear is in progress. The start and the clear function
+/// are bits 17 and 19.
+pub(crate) fn shows_primary(scsw: &ScswWords, shown_before: bool) -> bool
+    ensures { result ≡ spec.shows_primary scsw.now.functions shown_before }
 {
-    functions.start && !functions.clear && !shown_before
+    scsw.shows(0x5000, 0x4000) && !shown_before
 }

@@ -1,102 +1,89 @@
-//! What TEST SUBCHANNEL leaves of a subchannel (SA22-7832, chapters 14 and 16).
+//! What TEST SUBCHANNEL leaves of a subchannel (SA22-7832, chapters 14 and 16). What it clears of the status word are bits of word 0.
 
 ghost use Rattle.std.specs.Prelude.{◌≡◌};
 ghost use Rattle.subchannel_model.specs.Test as test_spec;
-ghost use Rattle.subchannel_model.specs.Parts as parts;
-ghost use Rattle.subchannel_model.specs.Programs as program_spec;
+ghost use Rattle.subchannel_words.specs.Unwired.{with_state};
 
 use functions::codes::is_intermediate_alone;
-use functions::effects::{clear_serials, drop_scsw};
-use scsw_irb::scsw::{ActivityControl, DeferredCode, FunctionControl, Scsw, StatusControl};
-use subchannel_model::state::SubchannelState;
+use functions::effects::{clear_serials, drop_scsw, end_programs};
+use status_words::ScswWords;
+use subchannel_words::PackedState;
 
-fn active_alone(activity: ActivityControl) -> ActivityControl
-    ensures { result ≡ parts.active_alone activity }
+/// What is cleared where status is pending that is not intermediate status alone, or where a suspended program is halted: the
+/// deferred code, N, the functions, the status control, and of the activity all but subchannel active and device active.
+const ENDED: u32 = 0x0301_7F3F;
+
+/// What is cleared of a suspended program where intermediate status alone is pending: the deferred code, N, resume pending and the
+/// status control.
+const SUSPENDED: u32 = 0x0301_081F;
+
+/// Status pending (bit 31).
+fn is_pending(scsw: &ScswWords) -> bool
+    ensures { result ≡ scsw.now.status.pending }
 {
-    ActivityControl {
-        subchannel_active: activity.subchannel_active,
-        device_active: activity.device_active,
-        ..ActivityControl::none()
-    }
+    scsw.any(0x01)
 }
 
-fn end_scsw(scsw: &mut Scsw)
-    ensures { scsw.new ≡ test_spec.ended_scsw scsw.old }
+/// Suspended (bit 26).
+fn is_suspended(scsw: &ScswWords) -> bool
+    ensures { result ≡ scsw.now.activity.suspended }
 {
-    scsw.functions = FunctionControl::none();
-    scsw.activity = active_alone(scsw.activity);
-    scsw.status = StatusControl::none();
-    scsw.path_not_operational = false;
-    scsw.deferred = DeferredCode::Zero;
+    scsw.any(0x20)
 }
 
-fn suspend_scsw(scsw: &mut Scsw)
-    ensures { scsw.new ≡ test_spec.suspended_scsw scsw.old }
+/// The halt function (bit 18).
+fn is_halted(scsw: &ScswWords) -> bool
+    ensures { result ≡ scsw.now.functions.halt }
 {
-    scsw.activity.resume_pending = false;
-    scsw.status = StatusControl::none();
-    scsw.path_not_operational = false;
-    scsw.deferred = DeferredCode::Zero;
+    scsw.any(0x2000)
 }
 
-fn clear_intermediate(scsw: &mut Scsw)
+fn clear_intermediate(scsw: &mut ScswWords)
     ensures { scsw.new ≡ test_spec.intermediate_cleared scsw.old }
 {
-    if !scsw.activity.suspended {
+    if !is_suspended(scsw) {
         drop_scsw(scsw);
-    } else if scsw.functions.halt {
-        end_scsw(scsw);
+    } else if is_halted(scsw) {
+        scsw.change(ENDED, 0);
     } else {
-        suspend_scsw(scsw);
+        scsw.change(SUSPENDED, 0);
     }
 }
 
-fn test_scsw(scsw: &mut Scsw)
+fn test_scsw(scsw: &mut ScswWords)
     ensures { scsw.new ≡ test_spec.tested_scsw scsw.old }
 {
-    if !scsw.status.pending {
+    if !is_pending(scsw) {
         return;
     }
-    if is_intermediate_alone(scsw.status) {
+    if is_intermediate_alone(scsw) {
         clear_intermediate(scsw);
     } else {
-        end_scsw(scsw);
+        scsw.change(ENDED, 0);
     }
 }
 
 /// TEST SUBCHANNEL with code 0: the status word and the counts.
-pub(crate) fn clear_status(state: &mut SubchannelState)
-    ensures { state.new ≡ test_spec.tested state.old }
+pub(crate) fn clear_status(state: &mut PackedState)
+    ensures { state.new ≡ with_state state.old (test_spec.tested state.old.state) }
 {
-    test_scsw(&mut state.scsw);
-    clear_serials(&mut state.serials);
+    test_scsw(state.scsw_mut());
+    clear_serials(&mut state.rest_mut().serials);
 }
 
-fn ends_suspended(scsw: &Scsw) -> bool
+fn ends_suspended(scsw: &ScswWords) -> bool
     ensures { result ≡ test_spec.ends_suspended scsw.now }
 {
-    scsw.status.pending
-        && is_intermediate_alone(scsw.status)
-        && scsw.activity.suspended
-        && scsw.functions.halt
-}
-
-/// All its programs are over.
-pub(crate) fn end_programs(state: &mut SubchannelState)
-    ensures { state.new ≡ program_spec.without_programs state.old }
-{
-    state.waiting = None;
-    state.begun = None;
-    state.suspended = None;
+    is_pending(scsw) && is_intermediate_alone(scsw) && is_suspended(scsw) && is_halted(scsw)
 }
 
 /// TEST SUBCHANNEL with code 0.
-pub(crate) fn test_wholly(state: &mut SubchannelState)
-    ensures { state.new ≡ test_spec.tested_wholly state.old }
+pub(crate) fn test_wholly(state: &mut PackedState)
+    ensures { state.new ≡ with_state state.old (test_spec.tested_wholly state.old.state) }
 {
-    let ends = ends_suspended(&state.scsw);
+    let ends = ends_suspended(state.scsw());
     clear_status(state);
     if ends {
-        end_programs(state);
+        end_programs(state.rest_mut());
     }
 }
