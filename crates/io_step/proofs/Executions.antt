@@ -6,7 +6,7 @@ use Rattle.zbits.specs.Layout.{image_of}
 use Rattle.zbits.specs.Words.{bytes_of_words, word_at}
 use Rattle.orb_block.specs.declared.Orb.{Orb}
 use Rattle.schib_block.specs.declared.pmcw.Pmcw.{Pmcw}
-use Rattle.schib_block.specs.declared.schib.Schib.{Schib}
+use Rattle.scsw_irb.specs.declared.scsw.Scsw.{Scsw}
 use Rattle.schib_block.specs.Modify as modify
 use Rattle.schib_block.specs.Reading.{pmcw_of_words}
 use Rattle.schib_block.specs.SchibTable.{schib_tables}
@@ -107,15 +107,16 @@ stores-sub s before after cpu number address place sub image u there checked nam
     ∙ (ap (λ (x : Contents). does shown (state_with_storage s x)) all
     ∙ ap (λ (xs : List Subchannel). does shown (record s { storage = after; subs = xs })) (sym (set_there s.subs place sub there))))
 
-pub enables-sub : (s : State) (before after : Contents) (cpu number subclass place : ℕ) (multipath : Bool) (old new : Subchannel) (schib : Schib) (image words : List ℕ) (u : Unit {0}) (r : Reply) →
-    Ok u ≡ from_storage (operand_check before cpu 0xF00 52 4) → number ≡ cpu → schib ≡ enabling_schib old subclass multipath →
-    image ≡ image_of (schib_tables schib) → after ≡ operand_stored before number 0xF00 image → pmcw_of_words words ≡ schib.pmcw → modify_sub old (pmcw_of_words words) ≡ leaves r new →
+pub enables-sub : (s : State) (before after : Contents) (cpu number subclass place : ℕ) (multipath : Bool) (old new : Subchannel) (word : Pmcw) (scsw : Scsw) (image words : List ℕ) (u : Unit {0}) (r : Reply) →
+    Ok u ≡ from_storage (operand_check before cpu 0xF00 52 4) → number ≡ cpu → word ≡ enabling (pmcw_of old) subclass multipath → scsw ≡ old.state.scsw →
+    image ≡ image_of (schib_tables (record { pmcw = word; scsw = scsw })) → after ≡ operand_stored before number 0xF00 image → pmcw_of_words words ≡ word → modify_sub old (pmcw_of_words words) ≡ leaves r new →
     Enables (state_with_storage s before) cpu (Some (record { place = place; sub = old })) subclass multipath (operand_at before cpu 0xF00 52 4) (does r (with_sub (state_with_storage s after) place new))
-enables-sub s before after cpu number subclass place multipath old new schib image words u r checked named made written stored read left =
+enables-sub s before after cpu number subclass place multipath old new word scsw image words u r checked named made shown written stored read left =
     let given : modify_sub old (enabling (pmcw_of old) subclass multipath) ≡ leaves r new =
-    ap (λ (x : Schib). modify_sub old x.pmcw) (sym made) ∙ (ap (modify_sub old) (sym read) ∙ left) in
+    ap (modify_sub old) (sym made) ∙ (ap (modify_sub old) (sym read) ∙ left) in
     let bytes : image_of (schib_tables (enabling_schib old subclass multipath)) ≡ image =
-    ap (λ (x : Schib). image_of (schib_tables x)) (sym made) ∙ sym written in
+    sym (written ∙ (ap (λ (x : Pmcw). image_of (schib_tables (record { pmcw = x; scsw = scsw }))) made
+    ∙ ap (λ (x : Scsw). image_of (schib_tables (record { pmcw = enabling (pmcw_of old) subclass multipath; scsw = x }))) shown)) in
     let all : operand_stored before cpu 0xF00 (image_of (schib_tables (enabling_schib old subclass multipath))) ≡ after =
     ap (λ (xs : List ℕ). operand_stored before cpu 0xF00 xs) bytes
     ∙ (ap (λ (k : ℕ). operand_stored before k 0xF00 image) (sym named) ∙ sym stored) in

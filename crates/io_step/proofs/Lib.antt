@@ -1,3 +1,4 @@
 mod Engaged
 mod Executions
 mod Reading
+mod Enabled

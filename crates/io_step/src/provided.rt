@@ -9,18 +9,16 @@ ghost use Rattle.machine_model.specs.Bounds.{IsRoomy};
 ghost use Rattle.subchannel_model.specs.Test.{tsch_code};
 ghost use Rattle.chan_events.specs.declared.event.Instruction.TheVariants as instruction_spec;
 
-use crate::enabling::enabling_schib;
+use crate::enabling::{block_of, enabling};
 use crate::operands::{ENABLE_BLOCK, WORD, check_operand, orb_at, word_at};
 use crate::turns::{
-    cancel_sub, clear_sub, halt_sub, modify_sub, resume_sub, start_sub, stores_irb, test_code_of,
-    test_sub,
+    cancel_sub, clear_sub, halt_sub, modify_sub, resume_sub, start_sub, store_reply, stores_irb,
+    test_code_of, test_sub,
 };
 use chan_events::event::Instruction;
-use chan_events::reply::{PlainReply, Reply};
-use chan_model::answer::Answer;
+use chan_events::reply::PlainReply;
 use chan_model::fault::Fault;
 use chan_model::names::Cpu;
-use pmcw_words::PmcwWords;
 use schib_block::SCHIB_BYTES;
 use scsw_irb::irb::IRB_BYTES;
 use storage_keys::Storage;
@@ -84,10 +82,7 @@ fn store(
     check_operand(storage, cpu, address, SCHIB_BYTES, WORD)?;
     let image = sub.state.schib();
     storage.store_operand(cpu.number(), address, &image);
-    Ok(Reply::Status {
-        answer: Answer::Zero(sub.state.rest().serials),
-        scsw: sub.state.scsw().scsw(),
-    })
+    Ok(store_reply(sub))
 }
 
 fn modify(
@@ -118,9 +113,9 @@ fn enable(
     ensures setup { sub.new.setup ≡ sub.old.setup }
 {
     check_operand(storage, cpu, ENABLE_BLOCK, SCHIB_BYTES, WORD)?;
-    let schib = enabling_schib(sub, subclass, multipath);
-    storage.store_operand(cpu.number(), ENABLE_BLOCK, &schib.write());
-    let given = PmcwWords::of(schib.pmcw);
+    let given = enabling(sub.state.pmcw(), subclass, multipath);
+    let image = block_of(&given, sub.state.scsw());
+    storage.store_operand(cpu.number(), ENABLE_BLOCK, &image);
     Ok(modify_sub(sub, given.words()))
 }
 

@@ -2,6 +2,8 @@
 
 ghost use Rattle.std.specs.Prelude.{◌≡◌};
 ghost use Rattle.chan_events.specs.Replies.{reply_of};
+ghost use Rattle.chan_events.specs.declared.reply.Reply.TheVariants as reply_spec;
+ghost use Rattle.chan_model.specs.declared.answer.Answer.TheVariants as answer_spec;
 ghost use Rattle.machine_model.specs.InstructionSteps as spec;
 ghost use Rattle.machine_model.specs.Turns as turn_spec;
 ghost use Rattle.machine_model.specs.Bounds.{IsRoomy};
@@ -63,6 +65,16 @@ pub fn stores_irb(code: ConditionCode) -> bool
     match code {
         ConditionCode::Zero | ConditionCode::One => true,
         ConditionCode::Two | ConditionCode::Three => false,
+    }
+}
+
+/// What STORE SUBCHANNEL answers.
+pub fn store_reply(sub: &Subchannel) -> PlainReply
+    ensures { reply_of result ≡ reply_spec.Status (answer_spec.Zero sub.now.state.serials) sub.now.state.scsw }
+{
+    Reply::Status {
+        answer: Answer::Zero(sub.state.rest().serials),
+        scsw: sub.state.scsw().scsw(),
     }
 }
 

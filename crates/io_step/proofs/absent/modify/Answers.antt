@@ -16,6 +16,6 @@ returns c = λ word s.
 
 pub returns-in_err-word_at : goal.returns-in_err-word_at
 returns-in_err-word_at c = let p = err_from_is_err_and c.from_residual.result c.from_residual.ensures.1 in rw (p.1, p.2) (λ word. (
-  λ s. modifies-not (state_with_storage s c.args.storage.now) None (operand_at c.args.storage.now c.args.cpu c.args.address 52 4) c.in_err-word_at.field-0.0 c.in_err-word_at.ensures,
+  λ s. modifies-not (state_with_storage s c.args.storage.now) None (operand_at c.args.storage.now c.args.cpu c.args.address 52 4) c.in_err-word_at.field-0.0 c.in_err-word_at.ensures.refused,
   refl,
 ))

@@ -18,6 +18,6 @@ returns-clause-done c = λ word s place there.
 pub returns-in_err-given-clause-done : goal.returns-in_err-given-clause-done
 returns-in_err-given-clause-done c = let p = err_from_is_err_and c.from_residual.result c.from_residual.ensures.1 in rw (p.1, p.2) (λ word. (
   λ s place there. modifies-not (state_with_storage s c.args.storage.now) (Some (record { place = place; sub = c.args.sub.now }))
-      (operand_at c.args.storage.now c.args.cpu c.args.address 52 4) c.in_err-given.field-0.0 c.in_err-given.ensures,
+      (operand_at c.args.storage.now c.args.cpu c.args.address 52 4) c.in_err-given.field-0.0 c.in_err-given.ensures.refused,
   (refl, refl),
 ))
