@@ -9,6 +9,7 @@ ghost use Rattle.subchannel_model.specs.Taking as spec;
 ghost use Rattle.subchannel_model.specs.Parts as parts;
 ghost use Rattle.subchannel_model.specs.declared.cause.StatusCause.TheVariants as cause;
 ghost use Rattle.working.specs.Stepping.{subchannel_stepped};
+ghost use Rattle.subchannel_words.specs.Unwired.{with_state};
 ghost use Rattle.chan_model.specs.declared.signal.Down.TheVariants as down;
 ghost use Rattle.transfer.specs.Commands as transfer_spec;
 
@@ -23,13 +24,12 @@ use chan_model::lent::{LentUp, PlainDown};
 use chan_model::names::Path;
 use chan_model::signal::Down;
 use hold::Hold;
-use scsw_irb::scsw::Scsw;
 use status::make_pending;
+use status_words::ScswWords;
 use storage_keys::Storage;
 use subchannel_model::cause::StatusCause;
-use subchannel_model::state::{
-    ActiveProgram, PmcwState, Program, ProgramPosition, SubchannelState,
-};
+use subchannel_model::state::{ActiveProgram, Program, ProgramPosition};
+use subchannel_words::{PackedState, Rest};
 use transfer::Transfer;
 use transfer::commands::{command_of, room_to_tell};
 
@@ -67,64 +67,63 @@ fn standing_as(
 }
 
 /// The program that was offered, where it is not over.
-fn standing(state: &SubchannelState) -> Option<ProgramPosition>
-    ensures { result ≡ spec.standing state.now }
+fn standing(state: &PackedState) -> Option<ProgramPosition>
+    ensures { result ≡ spec.standing state.now.state }
 {
-    standing_as(state.waiting, state.suspended, state.offered)
+    let rest = state.rest();
+    standing_as(rest.waiting, rest.suspended, rest.offered)
 }
 
-fn is_suspended_as(state: &SubchannelState, start: u64) -> bool
-    ensures { result ≡ is_some (spec.suspended_as state.now.suspended start) }
+fn is_suspended_as(rest: &Rest, start: u64) -> bool
+    ensures { result ≡ is_some (spec.suspended_as rest.now.suspended start) }
 {
-    match &state.suspended {
+    match &rest.suspended {
         Some(standing) => standing.program.start == start,
         None => false,
     }
 }
 
 /// Whether the program that was offered is not over.
-fn is_standing(state: &SubchannelState) -> bool
-    ensures { result ≡ is_some (spec.standing state.now) }
+fn is_standing(rest: &Rest) -> bool
+    ensures { result ≡ is_some (spec.standing_as rest.now.waiting rest.now.suspended rest.now.offered) }
 {
-    match &state.waiting {
-        Some(program) if program.start == state.offered => true,
-        _ => is_suspended_as(state, state.offered),
+    match &rest.waiting {
+        Some(program) if program.start == rest.offered => true,
+        _ => is_suspended_as(rest, rest.offered),
     }
+}
+
+/// Whether a halt is pending.
+fn is_halt_pending(scsw: &ScswWords) -> bool
+    ensures { result ≡ scsw.now.activity.halt_pending }
+{
+    scsw.any(0x200)
 }
 
 /// Whether the program that was offered takes the device.
-fn goes_ahead(state: &SubchannelState) -> bool
-    ensures { result ≡ spec.goes_ahead state.now }
+fn goes_ahead(state: &PackedState) -> bool
+    ensures { result ≡ spec.goes_ahead state.now.state }
 {
-    is_standing(state) && !state.scsw.activity.halt_pending
+    is_standing(state.rest()) && !is_halt_pending(state.scsw())
 }
 
-fn use_path(pmcw: &mut PmcwState, path: Path)
-    ensures { pmcw.new ≡ spec.path_used pmcw.old path }
-{
-    pmcw.last_used = Some(path);
-    pmcw.operational[path.index()] = true;
-}
-
-fn work(scsw: &mut Scsw)
+/// Start pending, resume pending and suspended are turned off; subchannel active and device active are turned on.
+fn work(scsw: &mut ScswWords)
     ensures { scsw.new ≡ parts.working_scsw scsw.old }
 {
-    scsw.activity.start_pending = false;
-    scsw.activity.resume_pending = false;
-    scsw.activity.suspended = false;
-    scsw.activity.subchannel_active = true;
-    scsw.activity.device_active = true;
+    scsw.change(0xC20, 0xC0);
 }
 
-fn take_over(state: &mut SubchannelState, program: Program, transfer: Transfer)
-    ensures { state.new ≡ spec.taking_over state.old program transfer }
+fn take_over(state: &mut PackedState, program: Program, transfer: Transfer)
+    ensures { state.new ≡ with_state state.old (spec.taking_over state.old.state program transfer) }
 {
-    work(&mut state.scsw);
-    state.waiting = None;
-    if state.suspended.is_some() {
-        state.suspended = None;
+    work(state.scsw_mut());
+    let rest = state.rest_mut();
+    rest.waiting = None;
+    if rest.suspended.is_some() {
+        rest.suspended = None;
     }
-    state.begun = Some(ActiveProgram {
+    rest.begun = Some(ActiveProgram {
         program,
         primary_shown: false,
         transfer,
@@ -148,18 +147,19 @@ fn tell_first(storage: &Storage, begun: &mut ActiveProgram, number: u64) -> Plai
 /// The program takes the device with its first command, of which the device is told.
 fn send_first(
     storage: &Storage,
-    state: &mut SubchannelState,
+    state: &mut PackedState,
     path: Path,
     number: u64,
     program: Program,
     first: Transfer,
     sent: &mut SentDown,
 ) -> bool
-    requires { state.old.serials.made < 2 ^ 63 }
-    ensures { subchannel_stepped state.new (came_so result sent.new) ≡ parts.sends_first state.old path number program (transfer_spec.begun_with_room storage.now first) }
+    requires { state.old.state.serials.made < 2 ^ 63 }
+    ensures step { subchannel_stepped state.new.state (came_so result sent.new) ≡ parts.sends_first state.old.state path number program (transfer_spec.begun_with_room storage.now first) }
+    ensures setup { state.new.setup ≡ state.old.setup }
 {
     take_over(state, program, first);
-    if let Some(begun) = &mut state.begun {
+    if let Some(begun) = &mut state.rest_mut().begun {
         let signal = tell_first(storage, begun, number);
         sent.put(path, &signal.lend());
     }
@@ -170,14 +170,15 @@ fn send_first(
 /// The program is suspended before its first command.
 #[inline(never)]
 fn suspend_first(
-    state: &mut SubchannelState,
+    state: &mut PackedState,
     standing: &ProgramPosition,
     walk: Walk,
     sent: &mut SentDown,
 ) -> bool
-    requires { state.old.serials.made < 2 ^ 63 }
-    ensures { subchannel_stepped state.new (came_so result sent.new) ≡
-        spec.let_go (spec.suspending state.old standing.now.program walk standing.now.count) }
+    requires { state.old.state.serials.made < 2 ^ 63 }
+    ensures step { subchannel_stepped state.new.state (came_so result sent.new) ≡
+        spec.let_go (spec.suspending state.old.state standing.now.program walk standing.now.count) }
+    ensures setup { state.new.setup ≡ state.old.setup }
 {
     suspend(state, standing.program, walk, standing.count);
     let_go(state, sent)
@@ -186,15 +187,16 @@ fn suspend_first(
 /// The program ends with a check before its first command.
 #[inline(never)]
 fn check_first(
-    state: &mut SubchannelState,
+    state: &mut PackedState,
     tried: u32,
     check: Check,
     count: u16,
     sent: &mut SentDown,
 ) -> bool
-    requires { state.old.serials.made < 2 ^ 63 }
-    ensures { subchannel_stepped state.new (came_so result sent.new) ≡
-        spec.let_go (with_cause state.old (cause.FetchFault tried check count)) }
+    requires { state.old.state.serials.made < 2 ^ 63 }
+    ensures step { subchannel_stepped state.new.state (came_so result sent.new) ≡
+        spec.let_go (with_cause state.old.state (cause.FetchFault tried check count)) }
+    ensures setup { state.new.setup ≡ state.old.setup }
 {
     make_pending(
         state,
@@ -210,7 +212,7 @@ fn check_first(
 /// The program begins by what its first block, from which its walk stands here, comes to.
 fn begin_as(
     storage: &Storage,
-    state: &mut SubchannelState,
+    state: &mut PackedState,
     path: Path,
     number: u64,
     standing: &ProgramPosition,
@@ -218,9 +220,10 @@ fn begin_as(
     advance: Option<Advance>,
     sent: &mut SentDown,
 ) -> bool
-    requires { state.old.serials.made < 2 ^ 63 }
-    ensures { subchannel_stepped state.new (came_so result sent.new) ≡
-        spec.beginning storage.now state.old path number standing.now walk (transfer_spec.command_begins walk 1 advance) }
+    requires { state.old.state.serials.made < 2 ^ 63 }
+    ensures step { subchannel_stepped state.new.state (came_so result sent.new) ≡
+        spec.beginning storage.now state.old.state path number standing.now walk (transfer_spec.command_begins walk 1 advance) }
+    ensures setup { state.new.setup ≡ state.old.setup }
 {
     match advance {
         Some(Advance::Takes(ccw)) => {
@@ -237,14 +240,15 @@ fn begin_as(
 
 fn begin_with(
     storage: &Storage,
-    state: &mut SubchannelState,
+    state: &mut PackedState,
     path: Path,
     number: u64,
     standing: &ProgramPosition,
     sent: &mut SentDown,
 ) -> bool
-    requires { state.old.serials.made < 2 ^ 63 }
-    ensures { subchannel_stepped state.new (came_so result sent.new) ≡ parts.begin_with storage.now state.old path number standing.now (transfer_spec.first_command storage.now standing.now.walk) }
+    requires { state.old.state.serials.made < 2 ^ 63 }
+    ensures step { subchannel_stepped state.new.state (came_so result sent.new) ≡ parts.begin_with storage.now state.old.state path number standing.now (transfer_spec.first_command storage.now standing.now.walk) }
+    ensures setup { state.new.setup ≡ state.old.setup }
 {
     let mut walk = standing.walk;
     let advance = walk.advance(storage);
@@ -253,13 +257,14 @@ fn begin_with(
 
 fn begin_standing(
     storage: &Storage,
-    state: &mut SubchannelState,
+    state: &mut PackedState,
     path: Path,
     number: u64,
     sent: &mut SentDown,
 ) -> bool
-    requires { state.old.serials.made < 2 ^ 63 }
-    ensures { subchannel_stepped state.new (came_so result sent.new) ≡ spec.begin_standing storage.now state.old path number (spec.standing state.old) }
+    requires { state.old.state.serials.made < 2 ^ 63 }
+    ensures step { subchannel_stepped state.new.state (came_so result sent.new) ≡ spec.begin_standing storage.now state.old.state path number (spec.standing state.old.state) }
+    ensures setup { state.new.setup ≡ state.old.setup }
 {
     match standing(state) {
         None => quiet(sent),
@@ -268,33 +273,29 @@ fn begin_standing(
 }
 
 /// A halt that is pending is performed as the device is let go.
-fn do_halt(state: &mut SubchannelState)
-    requires { state.old.serials.made < 2 ^ 63 }
-    ensures { state.new ≡ spec.halt_done state.old }
+fn do_halt(state: &mut PackedState)
+    requires { state.old.state.serials.made < 2 ^ 63 }
+    ensures { state.new ≡ with_state state.old (spec.halt_done state.old.state) }
 {
-    if state.scsw.activity.halt_pending {
+    if is_halt_pending(state.scsw()) {
         make_pending(state, &StatusCause::HaltDone);
     }
 }
 
 /// What comes of an Accept that the hold took as `sent` says.
-fn accepted_by(
-    storage: &Storage,
-    state: &mut SubchannelState,
-    taken: bool,
-    sent: &mut SentDown,
-) -> bool
-    requires { state.old.serials.made < 2 ^ 63 }
-    ensures { subchannel_stepped state.new (came_so result sent.new) ≡ spec.accepted_by storage.now state.old state.old.hold.phase (came_so taken sent.old) }
+fn accepted_by(storage: &Storage, state: &mut PackedState, taken: bool, sent: &mut SentDown) -> bool
+    requires { state.old.state.serials.made < 2 ^ 63 }
+    ensures step { subchannel_stepped state.new.state (came_so result sent.new) ≡ spec.accepted_by storage.now state.old.state state.old.state.hold.phase (came_so taken sent.old) }
+    ensures setup { state.new.setup ≡ state.old.setup }
 {
-    let phase = state.hold.phase;
+    let phase = state.rest().hold.phase;
     match phase {
         HoldPhase::On { number, path, .. } => {
-            use_path(&mut state.pmcw, path);
+            state.use_path(path);
             begin_standing(storage, state, path, number, sent)
         }
         HoldPhase::Letting { path, .. } => {
-            use_path(&mut state.pmcw, path);
+            state.use_path(path);
             do_halt(state);
             taken
         }
@@ -305,19 +306,20 @@ fn accepted_by(
 /// Accept: the program that was offered takes the device.
 pub fn accept(
     storage: &Storage,
-    state: &mut SubchannelState,
+    state: &mut PackedState,
     path: Path,
     signal: &LentUp<'_>,
     sent: &mut SentDown,
 ) -> bool
-    requires { state.old.serials.made < 2 ^ 63 }
-    ensures { subchannel_stepped state.new (came_so result sent.new) ≡ spec.accept storage.now state.old (hold_takes state.old.hold path (lent_up signal.now) (spec.goes_ahead state.old)) }
+    requires { state.old.state.serials.made < 2 ^ 63 }
+    ensures step { subchannel_stepped state.new.state (came_so result sent.new) ≡ spec.accept storage.now state.old.state (hold_takes state.old.state.hold path (lent_up signal.now) (spec.goes_ahead state.old.state)) }
+    ensures setup { state.new.setup ≡ state.old.setup }
 {
-    let mut hold = Hold::of(state.hold);
+    let mut hold = Hold::of(state.rest().hold);
     let taken = take_by(&mut hold, path, signal, goes_ahead(state), sent);
     if !taken {
         return ignored(sent);
     }
-    state.hold = hold.state();
+    state.rest_mut().hold = hold.state();
     accepted_by(storage, state, taken, sent)
 }

@@ -13,7 +13,7 @@ use chan_model::lent_forms::lend_down;
 use chan_model::names::Path;
 use chan_model::signal::OnPath;
 use hold::Hold;
-use subchannel_model::state::SubchannelState;
+use subchannel_words::PackedState;
 
 pub fn ignored(sent: &mut SentDown) -> bool
     ensures { came_so result sent.new ≡ not_taken }
@@ -55,28 +55,30 @@ pub fn take_by(
     came.taken
 }
 
-pub(crate) fn let_go(state: &mut SubchannelState, sent: &mut SentDown) -> bool
-    ensures { subchannel_stepped state.new (came_so result sent.new) ≡ spec.let_go state.old }
+pub(crate) fn let_go(state: &mut PackedState, sent: &mut SentDown) -> bool
+    ensures step { subchannel_stepped state.new.state (came_so result sent.new) ≡ spec.let_go state.old.state }
+    ensures setup { state.new.setup ≡ state.old.setup }
 {
-    let mut hold = Hold::of(state.hold);
+    let mut hold = Hold::of(state.rest().hold);
     let released = hold.let_go();
-    state.hold = hold.state();
+    state.rest_mut().hold = hold.state();
     sent.put_any(&lend_down(&released));
     true
 }
 
 /// What the hold does with a signal; `may`: it may be taken, as the hold's table asks.
 pub fn by_hold(
-    state: &mut SubchannelState,
+    state: &mut PackedState,
     path: Path,
     signal: &LentUp<'_>,
     may: bool,
     sent: &mut SentDown,
 ) -> bool
-    ensures { subchannel_stepped state.new (came_so result sent.new) ≡ spec.by_hold state.old (hold_takes state.old.hold path (lent_up signal.now) may) }
+    ensures step { subchannel_stepped state.new.state (came_so result sent.new) ≡ spec.by_hold state.old.state (hold_takes state.old.state.hold path (lent_up signal.now) may) }
+    ensures setup { state.new.setup ≡ state.old.setup }
 {
-    let mut hold = Hold::of(state.hold);
+    let mut hold = Hold::of(state.rest().hold);
     let taken = take_by(&mut hold, path, signal, may, sent);
-    state.hold = hold.state();
+    state.rest_mut().hold = hold.state();
     taken
 }

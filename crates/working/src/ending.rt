@@ -11,6 +11,7 @@ ghost use Rattle.working.specs.Stepping.{subchannel_stepped};
 ghost use Rattle.working.specs.Working as working_spec;
 ghost use Rattle.subchannel_model.specs.declared.cause.StatusCause.TheVariants as cause;
 ghost use Rattle.transfer.specs.Commands as transfer_spec;
+ghost use Rattle.subchannel_words.specs.Unwired.{with_state};
 
 use crate::answers::{ignored, let_go, quiet, send};
 use crate::intermediate::suspend;
@@ -29,7 +30,8 @@ use status::{make_end_pending, make_pending};
 use storage_keys::Storage;
 use subchannel_model::cause::StatusCause;
 use subchannel_model::signals::EndSignal;
-use subchannel_model::state::{ActiveProgram, Program, SubchannelState};
+use subchannel_model::state::{ActiveProgram, Program};
+use subchannel_words::PackedState;
 use transfer::commands::{begun_with_room, next_command};
 use transfer::{CommandStart, WithRoom};
 
@@ -55,10 +57,10 @@ pub fn end_by(path: Path, signal: &LentUp<'_>) -> Option<EndSignal>
 }
 
 /// Whether an End is of the command at hand of the program at work.
-fn is_of_command(state: &SubchannelState, end: &EndSignal) -> bool
-    ensures { result ≡ working_spec.is_of_command state.now.begun end.now }
+fn is_of_command(state: &PackedState, end: &EndSignal) -> bool
+    ensures { result ≡ working_spec.is_of_command state.now.state.begun end.now }
 {
-    match &state.begun {
+    match &state.rest().begun {
         None => false,
         Some(begun) => end.command == begun.transfer.command,
     }
@@ -77,22 +79,24 @@ fn dedicated_by_end(before: Option<Path>, signal: EndSignal) -> Option<Path>
     dedicated(before, cause)
 }
 
-fn take_end(state: &mut SubchannelState, signal: EndSignal)
-    ensures { state.new ≡ spec.end_taken state.old signal }
+fn take_end(state: &mut PackedState, signal: EndSignal)
+    ensures { state.new ≡ with_state state.old (spec.end_taken state.old.state signal) }
 {
-    state.dedicated = dedicated_by_end(state.dedicated, signal);
+    let rest = state.rest_mut();
+    rest.dedicated = dedicated_by_end(rest.dedicated, signal);
 }
 
 /// The program goes on with a command, of which its device is told.
 fn send_next(
-    state: &mut SubchannelState,
+    state: &mut PackedState,
     end: &EndSignal,
     command: WithRoom,
     sent: &mut SentDown,
 ) -> bool
-    requires { state.old.serials.made < 2 ^ 63 }
-    ensures { IfSome state.old.begun (λ b. subchannel_stepped state.new (came_so result sent.new) ≡
-        parts.sends_next state.old (spec.with_end b) end.now command) }
+    requires { state.old.state.serials.made < 2 ^ 63 }
+    ensures step { IfSome state.old.state.begun (λ b. subchannel_stepped state.new.state (came_so result sent.new) ≡
+        parts.sends_next state.old.state (spec.with_end b) end.now command) }
+    ensures setup { state.new.setup ≡ state.old.setup }
 {
     let WithRoom { transfer, room } = command;
     let next = PlainDown::of(Down::Command {
@@ -107,16 +111,17 @@ fn send_next(
 
 /// The program is suspended instead of going on.
 fn suspend_at(
-    state: &mut SubchannelState,
+    state: &mut PackedState,
     end: &EndSignal,
     program: Program,
     walk: Walk,
     count: u16,
     sent: &mut SentDown,
 ) -> bool
-    requires { state.old.serials.made < 2 ^ 63 }
-    ensures { subchannel_stepped state.new (came_so result sent.new) ≡
-        spec.let_go (spec.suspending (spec.end_taken state.old end.now) program walk count) }
+    requires { state.old.state.serials.made < 2 ^ 63 }
+    ensures step { subchannel_stepped state.new.state (came_so result sent.new) ≡
+        spec.let_go (spec.suspending (spec.end_taken state.old.state end.now) program walk count) }
+    ensures setup { state.new.setup ≡ state.old.setup }
 {
     take_end(state, *end);
     suspend(state, program, walk, count);
@@ -125,16 +130,17 @@ fn suspend_at(
 
 /// The program ends with a check instead of going on.
 fn check_at(
-    state: &mut SubchannelState,
+    state: &mut PackedState,
     end: &EndSignal,
     tried: u32,
     check: Check,
     count: u16,
     sent: &mut SentDown,
 ) -> bool
-    requires { state.old.serials.made < 2 ^ 63 }
-    ensures { subchannel_stepped state.new (came_so result sent.new) ≡
-        spec.let_go (with_cause (spec.end_taken state.old end.now) (cause.FetchFault tried check count)) }
+    requires { state.old.state.serials.made < 2 ^ 63 }
+    ensures step { subchannel_stepped state.new.state (came_so result sent.new) ≡
+        spec.let_go (with_cause (spec.end_taken state.old.state end.now) (cause.FetchFault tried check count)) }
+    ensures setup { state.new.setup ≡ state.old.setup }
 {
     take_end(state, *end);
     make_pending(
@@ -148,18 +154,14 @@ fn check_at(
     let_go(state, sent)
 }
 
-fn chain(
-    storage: &Storage,
-    state: &mut SubchannelState,
-    end: &EndSignal,
-    sent: &mut SentDown,
-) -> bool
-    requires made { state.old.serials.made < 2 ^ 63 }
-    requires below { spec.IsBelow state.old.begun }
-    ensures { IfSome state.old.begun (λ b. subchannel_stepped state.new (came_so result sent.new) ≡
-        parts.chain_with storage.now state.old (spec.with_end b) end.now (transfer_spec.next_command storage.now b.transfer (end_spec.has_status_modifier end.now.status))) }
+fn chain(storage: &Storage, state: &mut PackedState, end: &EndSignal, sent: &mut SentDown) -> bool
+    requires made { state.old.state.serials.made < 2 ^ 63 }
+    requires below { spec.IsBelow state.old.state.begun }
+    ensures step { IfSome state.old.state.begun (λ b. subchannel_stepped state.new.state (came_so result sent.new) ≡
+        parts.chain_with storage.now state.old.state (spec.with_end b) end.now (transfer_spec.next_command storage.now b.transfer (end_spec.has_status_modifier end.now.status))) }
+    ensures setup { state.new.setup ≡ state.old.setup }
 {
-    let Some(begun) = &state.begun else {
+    let Some(begun) = &state.rest().begun else {
         return ignored(sent);
     };
     let next = next_command(storage, &begun.transfer, end.status.has_modifier());
@@ -181,21 +183,17 @@ fn note_end(begun: &mut ActiveProgram)
     begun.transfer.ended = true;
 }
 
-fn go_on(
-    storage: &Storage,
-    state: &mut SubchannelState,
-    end: &EndSignal,
-    sent: &mut SentDown,
-) -> bool
-    requires made { state.old.serials.made < 2 ^ 63 }
-    requires below { spec.IsBelow state.old.begun }
-    ensures { IfSome state.old.begun (λ b. subchannel_stepped state.new (came_so result sent.new) ≡
-        spec.goes_on storage.now state.old (spec.with_end b) end.now) }
+fn go_on(storage: &Storage, state: &mut PackedState, end: &EndSignal, sent: &mut SentDown) -> bool
+    requires made { state.old.state.serials.made < 2 ^ 63 }
+    requires below { spec.IsBelow state.old.state.begun }
+    ensures step { IfSome state.old.state.begun (λ b. subchannel_stepped state.new.state (came_so result sent.new) ≡
+        spec.goes_on storage.now state.old.state (spec.with_end b) end.now) }
+    ensures setup { state.new.setup ≡ state.old.setup }
 {
     if end.status.has_device_end() {
         return chain(storage, state, end, sent);
     }
-    if let Some(begun) = &mut state.begun {
+    if let Some(begun) = &mut state.rest_mut().begun {
         note_end(begun);
     }
     take_end(state, *end);
@@ -203,18 +201,20 @@ fn go_on(
 }
 
 /// Shows the end of the program at work, or of its command.
-fn show_end(state: &mut SubchannelState, end: &EndSignal)
-    requires { state.old.serials.made < 2 ^ 63 }
-    ensures { IfSome state.old.begun (λ b. state.new ≡ parts.end_shown_at state.old b end.now) }
+fn show_end(state: &mut PackedState, end: &EndSignal)
+    requires { state.old.state.serials.made < 2 ^ 63 }
+    ensures state { IfSome state.old.state.begun (λ b. state.new ≡ with_state state.old (parts.end_shown_at state.old.state b end.now)) }
+    ensures setup { state.new.setup ≡ state.old.setup }
 {
-    let before = state.dedicated;
+    let before = state.rest().dedicated;
     make_end_pending(state, end.status, end.more);
-    state.dedicated = dedicated_by_end(before, *end);
+    state.rest_mut().dedicated = dedicated_by_end(before, *end);
 }
 
-fn stop_at(state: &mut SubchannelState, end: &EndSignal, sent: &mut SentDown) -> bool
-    requires { state.old.serials.made < 2 ^ 63 }
-    ensures { IfSome state.old.begun (λ b. subchannel_stepped state.new (came_so result sent.new) ≡ spec.stops_at state.old b end.now) }
+fn stop_at(state: &mut PackedState, end: &EndSignal, sent: &mut SentDown) -> bool
+    requires { state.old.state.serials.made < 2 ^ 63 }
+    ensures step { IfSome state.old.state.begun (λ b. subchannel_stepped state.new.state (came_so result sent.new) ≡ spec.stops_at state.old.state b end.now) }
+    ensures setup { state.new.setup ≡ state.old.setup }
 {
     show_end(state, end);
     if is_last_end(end.status) {
@@ -225,24 +225,25 @@ fn stop_at(state: &mut SubchannelState, end: &EndSignal, sent: &mut SentDown) ->
 }
 
 /// Whether the program at work goes on after an End.
-fn chains_at(state: &SubchannelState, end: &EndSignal) -> bool
-    ensures { result ≡ working_spec.chains_at state.now state.now.begun end.now }
+fn chains_at(state: &PackedState, end: &EndSignal) -> bool
+    ensures { result ≡ working_spec.chains_at state.now.state state.now.state.begun end.now }
 {
-    match &state.begun {
+    match &state.rest().begun {
         None => false,
-        Some(begun) => chains_command(state.scsw, begun, end.status, end.more),
+        Some(begun) => chains_command(state.scsw(), begun, end.status, end.more),
     }
 }
 
 fn command_ended(
     storage: &Storage,
-    state: &mut SubchannelState,
+    state: &mut PackedState,
     end: &EndSignal,
     sent: &mut SentDown,
 ) -> bool
-    requires made { state.old.serials.made < 2 ^ 63 }
-    requires below { spec.IsBelow state.old.begun }
-    ensures { IfSome state.old.begun (λ b. subchannel_stepped state.new (came_so result sent.new) ≡ spec.command_ended storage.now state.old b end.now) }
+    requires made { state.old.state.serials.made < 2 ^ 63 }
+    requires below { spec.IsBelow state.old.state.begun }
+    ensures step { IfSome state.old.state.begun (λ b. subchannel_stepped state.new.state (came_so result sent.new) ≡ spec.command_ended storage.now state.old.state b end.now) }
+    ensures setup { state.new.setup ≡ state.old.setup }
 {
     if chains_at(state, end) {
         go_on(storage, state, end, sent)
@@ -254,19 +255,20 @@ fn command_ended(
 /// End: the command ended.
 pub fn end_command(
     storage: &Storage,
-    state: &mut SubchannelState,
+    state: &mut PackedState,
     path: Path,
     signal: &LentUp<'_>,
     sent: &mut SentDown,
 ) -> bool
-    requires made { state.old.serials.made < 2 ^ 63 }
-    requires below { spec.IsBelow state.old.begun }
-    ensures { subchannel_stepped state.new (came_so result sent.new) ≡ working_spec.end_taken_by storage.now state.old (working_spec.end_by path (lent_up signal.now)) }
+    requires made { state.old.state.serials.made < 2 ^ 63 }
+    requires below { spec.IsBelow state.old.state.begun }
+    ensures step { subchannel_stepped state.new.state (came_so result sent.new) ≡ working_spec.end_taken_by storage.now state.old.state (working_spec.end_by path (lent_up signal.now)) }
+    ensures setup { state.new.setup ≡ state.old.setup }
 {
     let Some(end) = end_by(path, signal) else {
         return ignored(sent);
     };
-    if !Hold::of(state.hold).is_on(end.number) || !is_of_command(state, &end) {
+    if !Hold::of(state.rest().hold).is_on(end.number) || !is_of_command(state, &end) {
         return ignored(sent);
     }
     command_ended(storage, state, &end, sent)

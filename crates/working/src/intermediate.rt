@@ -1,21 +1,25 @@
 //! Intermediate status: a program-controlled interruption (PCI), and a suspension.
 
-ghost use Rattle.std.specs.Prelude.{◌≡◌, ◌<◌, ◌^◌};
+ghost use Rattle.std.specs.Prelude.{◌≡◌, ◌<◌, ◌^◌, option_map};
 ghost use Rattle.data_move.specs.Moving.{residual};
 ghost use Rattle.subchannel_model.specs.declared.cause.StatusCause.TheVariants as cause;
 ghost use Rattle.subchannel_model.specs.Taking as spec;
 ghost use Rattle.subchannel_model.specs.Parts as parts;
+ghost use Rattle.subchannel_words.specs.Unwired.{with_state};
 
 use ccw_walk::Walk;
-use scsw_irb::scsw::{ActivityControl, Scsw};
 use status::make_pending;
+use status_words::ScswWords;
 use subchannel_model::cause::StatusCause;
-use subchannel_model::state::{ActiveProgram, Program, ProgramPosition, SubchannelState};
+use subchannel_model::state::{ActiveProgram, Program, ProgramPosition};
+use subchannel_words::{PackedState, Rest};
 
-fn drop_interruption(begun: &mut ActiveProgram)
-    ensures { begun.new ≡ spec.without_pci begun.old }
+fn drop_interruption(rest: &mut Rest)
+    ensures { rest.new ≡ record rest.old { begun = option_map spec.without_pci rest.old.begun } }
 {
-    begun.transfer.pci_pending = false;
+    if let Some(begun) = &mut rest.begun {
+        begun.transfer.pci_pending = false;
+    }
 }
 
 fn interruption_of(begun: &ActiveProgram) -> StatusCause
@@ -28,36 +32,35 @@ fn interruption_of(begun: &ActiveProgram) -> StatusCause
 }
 
 /// The block that took control last makes the interruption that it asks for.
-pub(crate) fn interrupt(state: &mut SubchannelState)
-    requires { state.old.serials.made < 2 ^ 63 }
-    ensures { state.new ≡ spec.interrupted state.old state.old.begun }
+pub(crate) fn interrupt(state: &mut PackedState)
+    requires { state.old.state.serials.made < 2 ^ 63 }
+    ensures { state.new ≡ with_state state.old (spec.interrupted state.old.state state.old.state.begun) }
 {
-    let Some(begun) = &mut state.begun else {
+    let Some(begun) = &state.rest().begun else {
         return;
     };
     if !begun.transfer.pci_pending {
         return;
     }
     let cause = interruption_of(begun);
-    drop_interruption(begun);
+    drop_interruption(state.rest_mut());
     make_pending(state, &cause);
 }
 
-fn suspend_alone(scsw: &mut Scsw)
+/// Of the activity control, suspended alone stays on.
+fn suspend_alone(scsw: &mut ScswWords)
     ensures { scsw.new ≡ parts.suspended_alone scsw.old }
 {
-    scsw.activity = ActivityControl {
-        suspended: true,
-        ..ActivityControl::none()
-    };
+    scsw.change(0xFC0, 0x20);
 }
 
-fn stand_still(state: &mut SubchannelState, program: Program, walk: Walk, count: u16)
-    ensures state { state.new ≡ parts.standing_still state.old program walk count }
+fn stand_still(state: &mut PackedState, program: Program, walk: Walk, count: u16)
+    ensures { state.new ≡ with_state state.old (parts.standing_still state.old.state program walk count) }
 {
-    state.waiting = None;
-    state.begun = None;
-    state.suspended = Some(ProgramPosition {
+    let rest = state.rest_mut();
+    rest.waiting = None;
+    rest.begun = None;
+    rest.suspended = Some(ProgramPosition {
         program,
         walk,
         count,
@@ -65,13 +68,13 @@ fn stand_still(state: &mut SubchannelState, program: Program, walk: Walk, count:
 }
 
 /// A program is suspended where it stands; of its last command `count` bytes were not moved.
-pub(crate) fn suspend(state: &mut SubchannelState, program: Program, walk: Walk, count: u16)
-    requires { state.old.serials.made < 2 ^ 63 }
-    ensures { state.new ≡ spec.suspending state.old program walk count }
+pub(crate) fn suspend(state: &mut PackedState, program: Program, walk: Walk, count: u16)
+    requires { state.old.state.serials.made < 2 ^ 63 }
+    ensures { state.new ≡ with_state state.old (spec.suspending state.old.state program walk count) }
 {
     stand_still(state, program, walk, count);
     if program.orb.suppress_suspended {
-        suspend_alone(&mut state.scsw);
+        suspend_alone(state.scsw_mut());
         return;
     }
     let tried = walk.tried();

@@ -11,6 +11,7 @@ ghost use Rattle.subchannel_model.specs.Taking as spec;
 ghost use Rattle.subchannel_model.specs.Parts as parts;
 ghost use Rattle.working.specs.Working as working_spec;
 ghost use Rattle.working.specs.Stepping.{subchannel_stepped};
+ghost use Rattle.subchannel_words.specs.Unwired.{with_state};
 
 use crate::answers::ignored;
 use crate::intermediate::interrupt;
@@ -23,7 +24,8 @@ use chan_model::signal::{Down, Load, Up};
 use hold::Hold;
 use storage_keys::Storage;
 use subchannel_model::signals::DataSignal;
-use subchannel_model::state::{ActiveProgram, SubchannelState};
+use subchannel_model::state::ActiveProgram;
+use subchannel_words::PackedState;
 use transfer::Transfer;
 use transfer::chunks::{absorb, bring, give_next, is_answered};
 use transfer::commands::{find_room, is_outward};
@@ -59,20 +61,22 @@ fn dedicated_by_data(before: Option<Path>) -> Option<Path>
 }
 
 /// The dedicated allegiance follows, and a block that took control may ask for an interruption.
-fn follow(state: &mut SubchannelState)
-    requires { state.old.serials.made < 2 ^ 63 }
-    ensures { state.new ≡ working_spec.followed state.old }
+fn follow(state: &mut PackedState)
+    requires { state.old.state.serials.made < 2 ^ 63 }
+    ensures { state.new ≡ with_state state.old (working_spec.followed state.old.state) }
 {
-    state.dedicated = dedicated_by_data(state.dedicated);
+    let rest = state.rest_mut();
+    rest.dedicated = dedicated_by_data(rest.dedicated);
     interrupt(state);
 }
 
 /// The program at work is a command further; a block that took control may ask for an interruption.
-pub(crate) fn move_on(state: &mut SubchannelState, transfer: Transfer)
-    requires { state.old.serials.made < 2 ^ 63 }
-    ensures { IfSome state.old.begun (λ b. state.new ≡ spec.moving_on state.old b transfer) }
+pub(crate) fn move_on(state: &mut PackedState, transfer: Transfer)
+    requires { state.old.state.serials.made < 2 ^ 63 }
+    ensures state { IfSome state.old.state.begun (λ b. state.new ≡ with_state state.old (spec.moving_on state.old.state b transfer)) }
+    ensures setup { state.new.setup ≡ state.old.setup }
 {
-    if let Some(begun) = &mut state.begun {
+    if let Some(begun) = &mut state.rest_mut().begun {
         begun.transfer = transfer;
     }
     follow(state);
@@ -138,21 +142,21 @@ fn count_of(signal: &LentUp<'_>) -> usize
 }
 
 /// Whether a Data is to be answered by the program at work.
-fn is_due(state: &SubchannelState, moved: &DataSignal) -> bool
-    requires { spec.IsBelow state.now.begun }
-    ensures { result ≡ working_spec.is_due state.now.begun moved.now }
+fn is_due(state: &PackedState, moved: &DataSignal) -> bool
+    requires { spec.IsBelow state.now.state.begun }
+    ensures { result ≡ working_spec.is_due state.now.state.begun moved.now }
 {
-    match &state.begun {
+    match &state.rest().begun {
         None => false,
         Some(begun) => is_answered(&begun.transfer, moved.command, moved.sequence),
     }
 }
 
 /// Whether the command at work takes bytes to the device.
-fn goes_out(state: &SubchannelState) -> bool
-    ensures { IfSome state.now.begun (λ b. result ≡ is_outward_code b.transfer.code) }
+fn goes_out(state: &PackedState) -> bool
+    ensures { IfSome state.now.state.begun (λ b. result ≡ is_outward_code b.transfer.code) }
 {
-    match &state.begun {
+    match &state.rest().begun {
         None => false,
         Some(begun) => is_outward(begun.transfer.code),
     }
@@ -160,18 +164,19 @@ fn goes_out(state: &SubchannelState) -> bool
 
 fn give_bytes(
     storage: &Storage,
-    state: &mut SubchannelState,
+    state: &mut PackedState,
     moved: &DataSignal,
     count: usize,
     sent: &mut SentDown,
 ) -> bool
-    requires made { state.old.serials.made < 2 ^ 63 }
+    requires made { state.old.state.serials.made < 2 ^ 63 }
     requires sequence { moved.now.sequence < 2 ^ 63 }
-    requires below { spec.IsBelow state.old.begun }
-    ensures { IfSome state.old.begun (λ b. subchannel_stepped state.new (came_so result sent.new) ≡
-        working_spec.give_next storage.now state.old b moved.now count) }
+    requires below { spec.IsBelow state.old.state.begun }
+    ensures step { IfSome state.old.state.begun (λ b. subchannel_stepped state.new.state (came_so result sent.new) ≡
+        working_spec.give_next storage.now state.old.state b moved.now count) }
+    ensures setup { state.new.setup ≡ state.old.setup }
 {
-    if let Some(begun) = &mut state.begun {
+    if let Some(begun) = &mut state.rest_mut().begun {
         give(storage, begun, moved, count, sent);
     }
     follow(state);
@@ -180,17 +185,18 @@ fn give_bytes(
 
 fn take_bytes(
     storage: &mut Storage,
-    state: &mut SubchannelState,
+    state: &mut PackedState,
     moved: &DataSignal,
     bytes: &[u8],
     sent: &mut SentDown,
 ) -> bool
-    requires made { state.old.serials.made < 2 ^ 63 }
-    requires below { spec.IsBelow state.old.begun }
-    ensures { IfSome state.old.begun (λ b. spec.meets storage.new (subchannel_stepped state.new (came_so result sent.new)) ≡
-        spec.take_in state.old b moved.now (brought_by storage.old b.transfer moved.now.sequence bytes.now)) }
+    requires made { state.old.state.serials.made < 2 ^ 63 }
+    requires below { spec.IsBelow state.old.state.begun }
+    ensures step { IfSome state.old.state.begun (λ b. spec.meets storage.new (subchannel_stepped state.new.state (came_so result sent.new)) ≡
+        spec.take_in state.old.state b moved.now (brought_by storage.old b.transfer moved.now.sequence bytes.now)) }
+    ensures setup { state.new.setup ≡ state.old.setup }
 {
-    if let Some(begun) = &mut state.begun {
+    if let Some(begun) = &mut state.rest_mut().begun {
         take_in(storage, begun, moved, bytes, sent);
     }
     follow(state);
@@ -199,16 +205,17 @@ fn take_bytes(
 
 fn move_bytes(
     storage: &mut Storage,
-    state: &mut SubchannelState,
+    state: &mut PackedState,
     moved: &DataSignal,
     signal: &LentUp<'_>,
     sent: &mut SentDown,
 ) -> bool
-    requires made { state.old.serials.made < 2 ^ 63 }
+    requires made { state.old.state.serials.made < 2 ^ 63 }
     requires sequence { moved.now.sequence < 2 ^ 63 }
-    requires below { spec.IsBelow state.old.begun }
-    ensures { IfSome state.old.begun (λ b. spec.meets storage.new (subchannel_stepped state.new (came_so result sent.new)) ≡
-        spec.move_bytes storage.old state.old b moved.now (load_of (lent_up signal.now))) }
+    requires below { spec.IsBelow state.old.state.begun }
+    ensures step { IfSome state.old.state.begun (λ b. spec.meets storage.new (subchannel_stepped state.new.state (came_so result sent.new)) ≡
+        spec.move_bytes storage.old state.old.state b moved.now (load_of (lent_up signal.now))) }
+    ensures setup { state.new.setup ≡ state.old.setup }
 {
     if goes_out(state) {
         give_bytes(storage, state, moved, count_of(signal), sent)
@@ -220,19 +227,20 @@ fn move_bytes(
 /// Data: bytes were moved.
 pub fn take_data(
     storage: &mut Storage,
-    state: &mut SubchannelState,
+    state: &mut PackedState,
     path: Path,
     signal: &LentUp<'_>,
     sent: &mut SentDown,
 ) -> bool
-    requires made { state.old.serials.made < 2 ^ 63 }
-    requires below { spec.IsBelow state.old.begun }
-    ensures { spec.meets storage.new (subchannel_stepped state.new (came_so result sent.new)) ≡ working_spec.data_taken storage.old state.old (load_of (lent_up signal.now)) (working_spec.data_by path (lent_up signal.now)) }
+    requires made { state.old.state.serials.made < 2 ^ 63 }
+    requires below { spec.IsBelow state.old.state.begun }
+    ensures step { spec.meets storage.new (subchannel_stepped state.new.state (came_so result sent.new)) ≡ working_spec.data_taken storage.old state.old.state (load_of (lent_up signal.now)) (working_spec.data_by path (lent_up signal.now)) }
+    ensures setup { state.new.setup ≡ state.old.setup }
 {
     let Some(moved) = data_by(path, signal) else {
         return ignored(sent);
     };
-    if !Hold::of(state.hold).is_connected(path, moved.number, moved.connection)
+    if !Hold::of(state.rest().hold).is_connected(path, moved.number, moved.connection)
         || !is_due(state, &moved)
     {
         return ignored(sent);

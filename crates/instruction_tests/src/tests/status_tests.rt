@@ -1,6 +1,8 @@
 //! Status words that are known from elsewhere, cause by cause.
 
-use crate::tests::setups::{begun, begun_by, is_same_words, program, state_of_words, waiting};
+use crate::tests::setups::{
+    begun, begun_by, is_same_words, packed, program, state_of_words, waiting,
+};
 use ccw_walk::Walk;
 use ccw_walk::check::Check;
 use chan_model::answer::ConditionCode;
@@ -14,6 +16,7 @@ use std::alloc::Global;
 use storage_keys::Storage;
 use subchannel_model::cause::StatusCause;
 use subchannel_model::state::{ActiveProgram, ProgramPosition, SubchannelState};
+use subchannel_words::PackedState;
 use transfer::chunks::{absorbed, next_given};
 
 /// The same once its device has absorbed the four bytes.
@@ -31,9 +34,9 @@ fn moved(alloc: Global) -> Option<ActiveProgram> {
 }
 
 /// The subchannel after a cause; None where its counts are used up.
-fn after(state: &SubchannelState, cause: StatusCause) -> Option<SubchannelState> {
-    if state.serials.made < 9 {
-        let mut next = *state;
+fn after(state: &SubchannelState, cause: StatusCause) -> Option<PackedState> {
+    let mut next = packed(*state);
+    if next.rest().serials.made < 9 {
         make_pending(&mut next, &cause);
         Some(next)
     } else {
@@ -46,11 +49,12 @@ fn shows(state: &SubchannelState, cause: StatusCause, words: [u32; 3]) -> bool {
     match after(state, cause) {
         None => false,
         Some(next) => {
+            let rest = next.rest();
             is_same_words(&next, words)
-                && next.serials.made == 9
-                && next.waiting.is_none()
-                && next.begun.is_none()
-                && next.suspended.is_none()
+                && rest.serials.made == 9
+                && rest.waiting.is_none()
+                && rest.begun.is_none()
+                && rest.suspended.is_none()
         }
     }
 }
@@ -120,7 +124,7 @@ fn channel_end_alone_and_device_end_later(rt: HostRuntime) {
         return assert!(rt; false, "the counts are small");
     };
     assert!(rt; is_same_words(&ended, [0x0080_4045, 0x1008, 0x0800_0004]));
-    let Some(begun) = ended.begun else {
+    let Some(begun) = ended.rest().begun else {
         return assert!(rt; false, "the program works on");
     };
     assert!(rt; begun.primary_shown && begun.transfer.unchained);
@@ -201,18 +205,18 @@ fn a_suspended_program_shows_its_own_words(rt: HostRuntime) {
 
 #[test]
 fn a_command_is_chained_where_nothing_breaks_the_chain(rt: HostRuntime) {
-    let state = state_of_words([0x0080_40C0, 0x1000, 0]);
+    let state = packed(state_of_words([0x0080_40C0, 0x1000, 0]));
     let Some(chained) = begun_by(rt.alloc(), 1, 0x60) else {
         return assert!(rt; false, "no memory, or the program is wrong");
     };
     let end = DeviceStatus::of_bits(0x0C);
-    assert!(rt; chains_command(state.scsw, &chained, end, false));
+    assert!(rt; chains_command(state.scsw(), &chained, end, false));
     let check = DeviceStatus::of_bits(0x0E);
-    assert!(rt; !chains_command(state.scsw, &chained, check, false));
+    assert!(rt; !chains_command(state.scsw(), &chained, check, false));
     let Some(long) = begun_by(rt.alloc(), 1, 0x40) else {
         return assert!(rt; false, "no memory, or the program is wrong");
     };
-    assert!(rt; !chains_command(state.scsw, &long, end, false));
+    assert!(rt; !chains_command(state.scsw(), &long, end, false));
 }
 
 #[test]
@@ -306,19 +310,19 @@ fn a_clear_and_a_halt(rt: HostRuntime) {
 fn a_subchannel_that_is_not_enabled(rt: HostRuntime) {
     let mut state = waiting([0x0080_4440, 0x1000, 0]);
     state.pmcw.enabled = false;
-    assert!(rt; shown_of(&state, &StatusCause::NoPath).activity == Scsw::zero().activity);
-    if state.serials.made < 9 {
-        let mut next = state;
+    let mut next = packed(state);
+    assert!(rt; shown_of(&next, &StatusCause::NoPath).activity == Scsw::zero().activity);
+    if next.rest().serials.made < 9 {
         make_pending(&mut next, &StatusCause::NoPath);
-        assert!(rt;
-            is_same_words(&next, [0x0080_4000, 0x1000, 0])
-                && next.serials.made == 8
-                && next.waiting.is_none()
-        );
     }
+    assert!(rt;
+        is_same_words(&next, [0x0080_4000, 0x1000, 0])
+            && next.rest().serials.made == 8
+            && next.rest().waiting.is_none()
+    );
 }
 
-/// A subchannel with these words, and a status that is not cleared.
+/// A subchannel with these words and a start that waits, and a status that is not cleared.
 fn pending(words: [u32; 3]) -> SubchannelState {
     SubchannelState {
         serials: Serials {
@@ -331,42 +335,50 @@ fn pending(words: [u32; 3]) -> SubchannelState {
 
 #[test]
 fn pending_status_is_tested_once(rt: HostRuntime) {
-    let mut state = pending([0x0381_4045, 0x1008, 0x0800_0000]);
+    let mut state = packed(pending([0x0381_4045, 0x1008, 0x0800_0000]));
     assert!(rt;
         tsch(&mut state) == ConditionCode::Zero
             && is_same_words(&state, [0x0080_0040, 0x1008, 0x0800_0000])
-            && (state.serials.made, state.serials.cleared) == (9, 9)
     );
-    assert!(rt; state.waiting.is_some() && tsch(&mut state) == ConditionCode::One);
-    state.pmcw.enabled = false;
+    let serials = state.rest().serials;
     assert!(rt;
-        tsch(&mut state) == ConditionCode::Three
-            && is_same_words(&state, [0x0080_0040, 0x1008, 0x0800_0000])
+        (serials.made, serials.cleared) == (9, 9)
+            && state.rest().waiting.is_some()
+            && tsch(&mut state) == ConditionCode::One
     );
 }
 
 #[test]
+fn a_subchannel_that_is_not_enabled_is_not_tested(rt: HostRuntime) {
+    let words = [0x0381_4045, 0x1008, 0x0800_0000];
+    let mut state = pending(words);
+    state.pmcw.enabled = false;
+    let mut state = packed(state);
+    assert!(rt; tsch(&mut state) == ConditionCode::Three && is_same_words(&state, words));
+}
+
+#[test]
 fn intermediate_status_is_tested(rt: HostRuntime) {
-    let mut active = pending([0x0080_40C9, 0x1008, 0x0080_0004]);
+    let mut active = packed(pending([0x0080_40C9, 0x1008, 0x0080_0004]));
     assert!(rt;
         tsch(&mut active) == ConditionCode::Zero
             && is_same_words(&active, [0x0080_40C0, 0x1008, 0x0080_0004])
     );
-    let mut suspended = pending([0x0981_4829, 0x1008, 0]);
+    let mut suspended = packed(pending([0x0981_4829, 0x1008, 0]));
     assert!(rt;
         tsch(&mut suspended) == ConditionCode::Zero
             && is_same_words(&suspended, [0x0880_4020, 0x1008, 0])
-            && suspended.waiting.is_some()
+            && suspended.rest().waiting.is_some()
     );
-    let mut halted = SubchannelState {
+    let mut halted = packed(SubchannelState {
         suspended: with_suspended([0; 3]).suspended,
         ..pending([0x0880_6229, 0x1008, 0])
-    };
+    });
     assert!(rt;
         tsch(&mut halted) == ConditionCode::Zero
             && is_same_words(&halted, [0x0880_0000, 0x1008, 0])
-            && halted.waiting.is_none()
-            && halted.suspended.is_none()
+            && halted.rest().waiting.is_none()
+            && halted.rest().suspended.is_none()
     );
     law::counts();
 }

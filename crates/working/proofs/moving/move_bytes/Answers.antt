@@ -42,30 +42,30 @@ met-so : (begun : Option ActiveProgram) (storage : Contents) (step : UpStep) (af
 met-so None storage step after came = tt
 met-so (Some b) storage step after came = ap (meets storage) came
 
-pub returns-then-goes_out : goal.returns-then-goes_out
-returns-then-goes_out c =
+pub returns-then-goes_out-clause-step : goal.returns-then-goes_out-clause-step
+returns-then-goes_out-clause-step c =
     let storage = c.args.storage.now in
-    let s = c.args.state.now in
+    let s = c.args.state.now.state in
     let moved = c.args.moved.now in
     let load : Load = load_of (lent_up c.args.signal.now) in
-    let step : UpStep = subchannel_stepped c.give_bytes.new.state (came_so c.give_bytes.result c.give_bytes.new.sent) in
-    let came = subst (λ (n : ℕ). IfSome s.begun (λ b. step ≡ give_next storage s b moved n)) c.count_of.ensures c.give_bytes.ensures in
+    let step : UpStep = subchannel_stepped c.give_bytes.new.state.state (came_so c.give_bytes.result c.give_bytes.new.sent) in
+    let came = subst (λ (n : ℕ). IfSome s.begun (λ b. step ≡ give_next storage s b moved n)) c.count_of.ensures c.give_bytes.ensures.step in
     first-way s.begun c.goes_out.result (meets storage step)
     (λ b. meets storage (give_next storage s b moved (load_length load)))
     (λ b. take_in s b moved (brought storage b.transfer moved.sequence (load_bytes load)))
     c.if-goes_out.true c.goes_out.ensures
     (met-so s.begun storage step (λ b. give_next storage s b moved (load_length load)) came)
 
-pub returns-else-goes_out : goal.returns-else-goes_out
-returns-else-goes_out c =
+pub returns-else-goes_out-clause-step : goal.returns-else-goes_out-clause-step
+returns-else-goes_out-clause-step c =
     let storage = c.args.storage.now in
-    let s = c.args.state.now in
+    let s = c.args.state.now.state in
     let moved = c.args.moved.now in
     let load : Load = load_of (lent_up c.args.signal.now) in
-    let met : Met = meets c.take_bytes.new.storage (subchannel_stepped c.take_bytes.new.state (came_so c.take_bytes.result c.take_bytes.new.sent)) in
+    let met : Met = meets c.take_bytes.new.storage (subchannel_stepped c.take_bytes.new.state.state (came_so c.take_bytes.result c.take_bytes.new.sent)) in
     second-way s.begun c.goes_out.result met
     (λ b. meets storage (give_next storage s b moved (load_length load)))
     (λ b. take_in s b moved (brought storage b.transfer moved.sequence (load_bytes load)))
     c.if-goes_out.false c.goes_out.ensures
     (subst (λ (bytes : List ℕ). IfSome s.begun (λ b. met ≡ take_in s b moved (brought storage b.transfer moved.sequence bytes)))
-    c.bytes.ensures.value c.take_bytes.ensures)
+    c.bytes.ensures.value c.take_bytes.ensures.step)
