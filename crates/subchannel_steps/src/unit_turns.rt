@@ -6,6 +6,7 @@ ghost use Rattle.chan_model.specs.UnitReports as report_spec;
 ghost use Rattle.chan_model.specs.declared.names.Side.TheVariants.{Second};
 ghost use Rattle.machine_model.specs.State as state_spec;
 ghost use Rattle.subchannel_model.specs.Places as place_spec;
+ghost use Rattle.subchannel_model.specs.Store as store_spec;
 ghost use Rattle.machine_model.specs.State.{State};
 ghost use Rattle.machine_model.specs.UnitTurns.{lent_turn};
 ghost use Rattle.finding.specs.Tables.{Fits};
@@ -118,6 +119,13 @@ pub fn cyclic_path(paths: &PathSet, from: u64) -> Option<u32>
     None
 }
 
+/// The installed paths of a subchannel that are not down.
+fn available_paths(sub: &Subchannel) -> PathSet
+    ensures { result ≡ store_spec.available_paths sub.now }
+{
+    sub.state.available()
+}
+
 /// The path that a program of this side may ask for, whose last connection had this number.
 fn away_path(
     places: &Places,
@@ -130,7 +138,7 @@ fn away_path(
     ensures { result ≡ state_spec.away_path (place_spec.reached_sub «unit» side subs.now) connection }
 {
     let sub = reached_sub(places, unit, side, subs)?;
-    cyclic_path(&sub.state.available(), connection)
+    cyclic_path(&available_paths(sub), connection)
 }
 
 /// What a unit without a signal and without work is to do.
