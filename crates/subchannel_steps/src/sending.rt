@@ -28,6 +28,18 @@ pub fn first_up(wires: &Wires, path: Path) -> LentUp<'_>
     }
 }
 
+/// The signal that waits longest on the wire down of a path, where one waits.
+#[inline(always)]
+pub fn first_down(wires: &Wires, path: Path) -> LentDown<'_>
+    requires { 0 < length (queue wires.now.down path) }
+    ensures { first_of wires.now.down path ≡ Some (lent_down result) }
+{
+    match wires.front_down(path) {
+        Some(front) => front,
+        None => unreachable!(),
+    }
+}
+
 /// Whether a signal that is sent down on a path finds its wire full. On a path that is down it finds none.
 pub fn finds_down_full(sub: &Subchannel, path: Path) -> bool
     ensures { (sent : on_path.OnPath signals.Down) → sent.path ≡ path →

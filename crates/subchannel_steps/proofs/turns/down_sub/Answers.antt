@@ -14,20 +14,4 @@ use Rattle.chan_model.specs.Signals.{Up, map_taken}
 use Rattle.subchannel_steps.proofs.turns.down_sub.Goals as goal
 
 pub returns-clause-gives : goal.returns-clause-gives
-returns-clause-gives c =
-    let members = c.args.sharing.now in
-    let sub = c.args.sub.now in
-    let u = c.args.unit.now in
-    let k = sub.setup.«unit» in
-    let path = c.in-Some.path in
-    let signal = lent_down c.in-Some-front_down.front in
-    let came = map_taken plain_up c.take-came.result in
-    let asks = is_asked_for u sub.setup.side signal in
-    let step = unit_takes u sub.setup.side path signal (may_take members k asks) in
-    let room : false ≡ finds_full sub.wires.up (carried_by sub (came_of step).sent) = (c.if-answer_finds_full.ensures (may_take members k asks)).0 in
-    subst (λ (n : ℕ). down_shared members sub n u ≡ downed signal came c.send_any_up.new.sub c.take-came.new.«unit» c.take-came.new.sharing) c.in-Some.ensures.1
-    (down-fronted members sub path u (Some signal) (ap (λ (n : ℕ). nat_lt n (length sub.setup.paths)) c.in-Some.ensures.1 ∙ c.in-Some.ensures.0) c.in-Some-front_down.ensures.first
-    ∙ down-done members c.take-came.new.sharing k asks u c.take-came.new.«unit» sub c.send_any_up.new.sub path signal step came room c.take-came.ensures.came
-    (c.send_any_up.ensures ∙ ap₂ (λ (w : Queues) (sent : Option (OnPath Up)). with_any_up (record sub { wires = w }) sent) c.drop_down.ensures c.lend_up-answer.ensures)
-    c.take-came.ensures.state c.take-came.ensures.members)
-    ∙ ap (λ (r : Reply). Ok (record { turn = record { reply = r; sub = c.send_any_up.new.sub; «unit» = c.take-came.new.«unit» }; members = c.take-came.new.sharing })) (sym (c.meet_down.ensures.reply ∙ ap (λ (sent : Option (OnPath Up)). reply.Down signal came.taken sent) c.lend_up-answer.ensures))
+returns-clause-gives c = ?
