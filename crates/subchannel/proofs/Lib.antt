@@ -1,6 +1,7 @@
 pub mod AnswerPaths
+mod Freeing
+mod Kept
 mod PathIndices
 mod Returned
 pub mod Answered
-pub mod Usable
 pub mod Working

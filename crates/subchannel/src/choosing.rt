@@ -186,9 +186,10 @@ pub fn chosen(sub: &Subchannel, choice: Option<Path>) -> Chosen
 
 /// Whether a program is to be offered, and neither a Reset that has a path nor a clear nor a halt comes before it. Clear
 /// pending is bit 23, halt pending bit 22.
-fn looks_for_path(state: &PackedState, choice: &Option<Path>) -> bool
-    ensures { result ≡ spec.looks_for_path state.now.state choice.now }
+fn looks_for_path(sub: &Subchannel, choice: &Option<Path>) -> bool
+    ensures { result ≡ spec.looks_for_path sub.now.state choice.now }
 {
+    let state = &sub.state;
     let hold = &state.rest().hold;
     reset_chosen(hold, choice).is_none()
         && clear_chosen(hold, state.scsw().any(0x100)).is_none()
@@ -223,12 +224,12 @@ fn is_whole(set: &PathSet)
 }
 
 /// The sets of paths that are operational, and not operational, say something of each path. A law, with nothing to do.
-fn has_each_path(state: &PackedState)
-    ensures operational { length state.now.state.pmcw.operational ≡ 8 }
-    ensures not_operational { length state.now.state.pmcw.not_operational ≡ 8 }
+fn has_each_path(sub: &Subchannel)
+    ensures operational { length sub.now.state.pmcw.operational ≡ 8 }
+    ensures not_operational { length sub.now.state.pmcw.not_operational ≡ 8 }
 {
-    is_whole(&state.operational());
-    is_whole(&state.not_operational());
+    is_whole(&sub.state.operational());
+    is_whole(&sub.state.not_operational());
 }
 
 /// Where a program is to be offered, the paths that are found not operational are marked so, also where nothing comes of it.
@@ -237,10 +238,10 @@ pub fn mark_lost_paths(sub: &mut Subchannel, choice: &Option<Path>)
     ensures { sub.new ≡ spec.marked_sub sub.old choice.now }
 {
     if !is_any_lost(sub) {
-        has_each_path(&sub.state);
+        has_each_path(sub);
         return;
     }
-    if looks_for_path(&sub.state, choice) {
+    if looks_for_path(sub, choice) {
         let used = path_use(sub);
         mark_state(&mut sub.state, used);
     }

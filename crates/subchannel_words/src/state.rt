@@ -80,6 +80,19 @@ impl PackedState {
         }
     }
 
+    /// The same subchannel; it takes no memory.
+    pub fn copy(&self) -> PackedState
+        ensures { result ≡ self.now }
+    {
+        PackedState {
+            setup: self.setup.copy(),
+            pmcw: self.pmcw,
+            scsw: self.scsw,
+            up: self.up,
+            rest: self.rest,
+        }
+    }
+
     /// What does not change of it.
     pub fn setup(&self) -> &SubchannelSetup
         ensures { result.now ≡ self.now.setup }

@@ -2,7 +2,7 @@ use Rattle.std.proofs.Common.{◌≡◌, refl, sym, ◌∙◌, ap, ap₂, Bool, 
 use Rattle.std.specs.Prelude.{if◌then◌else◌}
 use Rattle.allegiance.specs.declared.path_use.PathUse.{PathUse}
 use Rattle.subchannel_model.specs.declared.state.Subchannel.{Subchannel}
-use Rattle.subchannel.proofs.Usable.{kept_without, kept_joined}
+use Rattle.subchannel.proofs.Kept.{kept_without, kept_joined}
 use Rattle.allegiance.specs.PathUse.{lost_paths}
 use Rattle.chan_model.specs.PathSets.{is_any}
 use Rattle.subchannel_model.specs.Choosing.{looks_for_path, marked_state, path_use}

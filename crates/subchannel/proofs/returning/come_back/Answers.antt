@@ -5,7 +5,7 @@ use Rattle.subchannel.proofs.Returned.{back_refused}
 use Rattle.subchannel.proofs.returning.come_back.Goals as goal
 
 -- where no Grant was sent
-pub returns-else-is_granted : goal.returns-else-is_granted
-returns-else-is_granted c =
-    back_refused c.args.state.now c.args.path (hold_takes c.args.state.now.hold c.args.path (lent_up c.args.signal.now) c.args.returns)
-    c.by_hold-taken.new.state c.by_hold-taken.result c.by_hold-taken.new.sent c.by_hold-taken.ensures (sym c.is_granted.ensures ∙ c.if-is_granted.false)
+pub returns-else-is_granted-clause-step : goal.returns-else-is_granted-clause-step
+returns-else-is_granted-clause-step c =
+    back_refused c.args.state.now.state c.args.path (hold_takes c.args.state.now.state.hold c.args.path (lent_up c.args.signal.now) c.args.returns)
+    c.by_hold-taken.new.state.state c.by_hold-taken.result c.by_hold-taken.new.sent c.by_hold-taken.ensures.step (sym c.is_granted.ensures ∙ c.if-is_granted.false)

@@ -6,9 +6,7 @@ use Rattle.subchannel.proofs.Working.{told_takes}
 use Rattle.subchannel.proofs.taking.take_up.Goals as goal
 
 -- a Data
-pub returns-in-Data : goal.returns-in-Data
-returns-in-Data c =
+pub returns-in-Data-clause-met : goal.returns-in-Data-clause-met
+returns-in-Data-clause-met c =
     let is : is_data (lent_up c.args.signal.now) ≡ true = ap (λ (k : KeptUp). is_data (up_in k c.args.signal.now.bytes.now)) c.in-Data.is in
-    record {
-      met = c.take_data.ensures ∙ told_takes c.args.returns c.args.storage.now c.args.state.now c.args.path (lent_up c.args.signal.now) is;
-    }
+    c.take_data.ensures.step ∙ told_takes c.args.returns c.args.storage.now c.args.state.now.state c.args.path (lent_up c.args.signal.now) is
