@@ -6,8 +6,8 @@ use Rattle.std.specs.Int.RustNames.{bit_and, bit_or}
 use Rattle.std.proofs.lemmas.Nat.{and_mask}
 use Rattle.std.proofs.Math.Nat.{mod-eq_of_lt}
 use Rattle.std.proofs.lemmas.Nat.Bits.{bit_at_not, bit_at-lt}
-use Rattle.masks.specs.Flags.{flag_of, flags_of, picked, some_of}
-use Rattle.masks.proofs.Flags.{flag-left, flag-marked, none, not-not}
+use Rattle.zbits.specs.Flags.{flag_of, flags_of, picked, some_of}
+use Rattle.zbits.proofs.Flags.{flag-left, flag-marked, none, not-not}
 use Rattle.chan_model.specs.PathSets.{paths_of_mask, each_path, in_both, is_any, is_member, joined, without}
 
 pub each-below-8 : (P : ℕ → Type 0) → P 0 → P 1 → P 2 → P 3 → P 4 → P 5 → P 6 → P 7 → (k : ℕ) → k < 8 → P k

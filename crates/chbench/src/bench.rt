@@ -145,6 +145,7 @@ impl<F: Floor + Drop> Bench<F> {
                 subchannel,
                 address: IRB,
             }),
+            Beat::Cancel => self.instruction(Instruction::Xsch { subchannel }),
         }
     }
 

@@ -40,6 +40,8 @@ pub enum Kind {
     Chain,
     /// One write of four bytes, whose unit leaves its path and comes back on the next one eight times.
     Reconnect,
+    /// No program runs: a START SUBCHANNEL, which a CANCEL SUBCHANNEL takes back.
+    Start,
     /// No program: the TEST SUBCHANNEL alone.
     Test,
 }
@@ -63,6 +65,8 @@ pub enum Beat {
     Ask(u32),
     /// TEST SUBCHANNEL.
     Test,
+    /// CANCEL SUBCHANNEL.
+    Cancel,
 }
 
 impl Kind {
@@ -76,6 +80,8 @@ impl Kind {
             Some(Kind::Chain)
         } else if name == "reconnect" {
             Some(Kind::Reconnect)
+        } else if name == "start" {
+            Some(Kind::Start)
         } else if name == "test" {
             Some(Kind::Test)
         } else {
@@ -90,6 +96,7 @@ impl Kind {
             Kind::Read => "read",
             Kind::Chain => "chain",
             Kind::Reconnect => "reconnect",
+            Kind::Start => "start",
             Kind::Test => "test",
         }
     }
@@ -98,7 +105,7 @@ impl Kind {
     pub fn paths(self) -> usize {
         match self {
             Kind::Reconnect => 8,
-            Kind::Write | Kind::Read | Kind::Chain | Kind::Test => 1,
+            Kind::Write | Kind::Read | Kind::Chain | Kind::Start | Kind::Test => 1,
         }
     }
 
@@ -109,7 +116,9 @@ impl Kind {
         loads.push(put(ORB, &[0, 0, 0, 0, 0, 0x80, 0x80, 0, 0, 0, 0x10, 0]))?;
         loads.push(put(DATA, &[0xC1, 0xC2, 0xC3, 0xC4]))?;
         match self {
-            Kind::Write | Kind::Reconnect | Kind::Test => loads.push(put(PROGRAM, &WRITE))?,
+            Kind::Write | Kind::Reconnect | Kind::Start | Kind::Test => {
+                loads.push(put(PROGRAM, &WRITE))?;
+            }
             Kind::Read => loads.push(put(PROGRAM, &READ))?,
             Kind::Chain => {
                 loads.push(links(PROGRAM, CHAINED / 2 - 1, &WRITE_AND_CHAIN))?;
@@ -122,9 +131,16 @@ impl Kind {
     /// The events of one cycle.
     pub fn beats(self, alloc: Global) -> Result<Vec<Beat>, AllocError> {
         let mut beats = Vec::new(alloc);
-        if let Kind::Test = self {
-            beats.push(Beat::Test)?;
-            return Ok(beats);
+        match self {
+            Kind::Start => {
+                beats.extend_from_slice(&[Beat::Start, Beat::Cancel])?;
+                return Ok(beats);
+            }
+            Kind::Test => {
+                beats.push(Beat::Test)?;
+                return Ok(beats);
+            }
+            _ => {}
         }
         beats.extend_from_slice(&[Beat::Start, Beat::Choose, Beat::Down(0), Beat::Up(0)])?;
         match self {
@@ -142,7 +158,7 @@ impl Kind {
                 }
                 add_transfer(&mut beats)?;
             }
-            Kind::Test => {}
+            Kind::Start | Kind::Test => {}
         }
         beats.extend_from_slice(&[Beat::Test, Beat::Down(0), Beat::Up(0)])?;
         Ok(beats)

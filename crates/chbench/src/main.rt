@@ -4,7 +4,8 @@
 //! Its words are any number of groups of four, each performed at a machine of its own; all numbers are decimal:
 //!
 //! - `step KIND SUBCHANNELS CYCLES`: so many cycles by `Subsystem::step`, at the last of so many subchannels. The kind is
-//!   `write`, `read`, `chain`, `reconnect`, or `test`, which is one TEST SUBCHANNEL.
+//!   `write`, `read`, `chain`, `reconnect`, `start`, which is a START SUBCHANNEL that a CANCEL SUBCHANNEL takes back, or `test`,
+//!   which is one TEST SUBCHANNEL.
 //! - `perform KIND SUBCHANNELS CYCLES`: the same by `Subsystem::perform`, whose answers stay in the history.
 //! - `look KIND SUBCHANNELS CYCLES`: the same, and each answer is looked at where it stands, by `Subsystem::last_reply`.
 //! - `enter KIND SUBCHANNELS CYCLES`: the same by `Guarded::enter`, from the first seat of a core that no lock guards; `Core::enter`

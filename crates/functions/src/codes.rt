@@ -16,7 +16,7 @@ ghost use Rattle.subchannel_model.specs.Test as test_spec;
 ghost use Rattle.subchannel_model.specs.Status as status_spec;
 
 use chan_model::answer::ConditionCode;
-use status_words::ScswWords;
+use scsw_irb::words::ScswWords;
 use subchannel_words::PackedState;
 
 /// 3 where the subchannel is not operational, otherwise 1, otherwise 2, otherwise 0.

@@ -21,7 +21,7 @@ use hold::Hold;
 use orb_block::Orb;
 use scsw_irb::scsw::Scsw;
 use scsw_irb::serials::Serials;
-use status_words::ScswWords;
+use scsw_irb::words::ScswWords;
 use subchannel_model::state::Program;
 use subchannel_words::{PackedState, Rest};
 

@@ -14,7 +14,7 @@ use chan_model::answer::Answer;
 use chan_model::fault::Fault;
 use chan_model::names::Cpu;
 use functions::blocks::enabling_word;
-use pmcw_words::PmcwWords;
+use schib_block::words::PmcwWords;
 use schib_block::SCHIB_BYTES;
 use scsw_irb::irb::IRB_BYTES;
 use storage_keys::Storage;

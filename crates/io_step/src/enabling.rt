@@ -7,9 +7,9 @@ ghost use Rattle.subchannel_model.specs.Enable as enable_spec;
 ghost use Rattle.zbits.specs.Bits.{field_of};
 ghost use Rattle.zbits.specs.Layout.{image_of};
 
-use pmcw_words::PmcwWords;
+use schib_block::words::PmcwWords;
 use schib_block::SCHIB_BYTES;
-use status_words::ScswWords;
+use scsw_irb::words::ScswWords;
 use zbits::be_bytes;
 
 /// The second word, with ISC (bits 2 to 4) and D (bit 13), and E one (bit 8).

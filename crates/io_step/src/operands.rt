@@ -11,7 +11,7 @@ ghost use Rattle.std.specs.Prelude.{◌≡◌, ◌<◌, ◌≤◌, ◌+◌, leng
 use chan_model::fault::Fault;
 use chan_model::names::Cpu;
 use orb_block::{ORB_BYTES, Orb};
-use pmcw_words::PmcwWords;
+use schib_block::words::PmcwWords;
 use schib_block::SCHIB_BYTES;
 use storage_keys::Storage;
 use zbits::be_words;

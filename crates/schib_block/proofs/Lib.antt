@@ -1,2 +1,5 @@
 pub mod SchibLemmas
 pub mod Written
+pub mod PmcwWritten
+pub mod PmcwModifying
+pub mod PmcwMarking

@@ -5,6 +5,7 @@
 pub mod law;
 pub mod pmcw;
 pub mod schib;
+pub mod words;
 
 /// How many bytes a subchannel-information block has.
 pub const SCHIB_BYTES: usize = 52;

@@ -1,2 +1,4 @@
 pub mod IrbLemmas
 pub mod Fits
+pub mod ScswChanging
+pub mod ScswShowing

@@ -16,7 +16,7 @@ use ccw_walk::check::Check;
 use functions::effects::end_programs;
 use scsw_irb::scsw::{ActivityControl, DeferredCode, StatusControl};
 use scsw_irb::status::{DeviceStatus, SubchannelStatus};
-use status_words::ScswWords;
+use scsw_irb::words::ScswWords;
 use subchannel_model::cause::StatusCause;
 use subchannel_model::state::{ActiveProgram, Program};
 use subchannel_model::status::Shown;

@@ -8,7 +8,7 @@ ghost use Rattle.subchannel_model.specs.Parts as parts;
 use crate::shown::{check_status, conditions, shows_primary};
 use scsw_irb::scsw::{ActivityControl, DeferredCode};
 use scsw_irb::status::{DeviceStatus, SubchannelStatus};
-use status_words::ScswWords;
+use scsw_irb::words::ScswWords;
 use subchannel_model::state::{ActiveProgram, Program};
 use subchannel_model::status::Shown;
 use subchannel_words::PackedState;

@@ -8,7 +8,7 @@ ghost use Rattle.subchannel_words.specs.Unwired.{with_state};
 use ccw_walk::check::Check;
 use scsw_irb::scsw::{Scsw, StatusControl};
 use scsw_irb::status::{DeviceStatus, SubchannelStatus};
-use status_words::ScswWords;
+use scsw_irb::words::ScswWords;
 use subchannel_model::status::Shown;
 use subchannel_words::PackedState;
 

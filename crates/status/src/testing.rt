@@ -6,7 +6,7 @@ ghost use Rattle.subchannel_words.specs.Unwired.{with_state};
 
 use functions::codes::is_intermediate_alone;
 use functions::effects::{clear_serials, drop_scsw, end_programs};
-use status_words::ScswWords;
+use scsw_irb::words::ScswWords;
 use subchannel_words::PackedState;
 
 /// What is cleared where status is pending that is not intermediate status alone, or where a suspended program is halted: the

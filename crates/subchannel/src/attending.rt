@@ -11,7 +11,7 @@ use chan_model::lent::LentUp;
 use chan_model::names::Path;
 use scsw_irb::status::DeviceStatus;
 use status::make_pending;
-use status_words::ScswWords;
+use scsw_irb::words::ScswWords;
 use subchannel_model::cause::StatusCause;
 use subchannel_words::PackedState;
 use working::answers::by_hold;

@@ -20,7 +20,7 @@ use chan_model::paths::PathSet;
 use chan_model::signal::OnPath;
 use finding::engines::Served;
 use hold::Hold;
-use status_words::ScswWords;
+use scsw_irb::words::ScswWords;
 use subchannel_model::state::{Candidate, Chosen, Program, ProgramPosition};
 use subchannel_words::{PackedState, Subchannel};
 

@@ -7,7 +7,7 @@ ghost use Rattle.subchannel_words.specs.Unwired.{with_state};
 
 use allegiance::allegiances::{AllegianceCause, dedicated};
 use functions::effects::{clear_serials, draw_reset, end_programs};
-use status_words::ScswWords;
+use scsw_irb::words::ScswWords;
 use subchannel_words::{PackedState, Subchannel};
 
 /// Function, activity and status control, bits 17 to 31, are cleared.

@@ -1,7 +1,7 @@
 -- The status word, and what is beside the words, lent to be changed.
 use Rattle.std.specs.Borrow.{Fml, Lends, MutBor}
 use Rattle.scsw_irb.specs.declared.scsw.Scsw.{Scsw}
-use Rattle.status_words.specs.contracts.words.ScswWords.{the_row as scsw_row}
+use Rattle.scsw_irb.specs.contracts.words.ScswWords.{the_row as scsw_row}
 use Rattle.subchannel_words.specs.declared.rest.Rest.{Rest}
 use Rattle.subchannel_words.specs.contracts.rest.Rest.{the_row as rest_row}
 use Rattle.subchannel_words.specs.contracts.state.PackedState.{the_row}

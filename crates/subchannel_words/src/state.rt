@@ -23,8 +23,8 @@ use chan_model::names::Path;
 use chan_model::paths::{PathSet, mask_of_path};
 use channel_config::parts::SubchannelSetup;
 use orb_block::Orb;
-use pmcw_words::PmcwWords;
-use status_words::ScswWords;
+use schib_block::words::PmcwWords;
+use scsw_irb::words::ScswWords;
 use std::marker::Model;
 use subchannel_model::state::{PmcwState, SubchannelState};
 

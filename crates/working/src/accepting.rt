@@ -25,7 +25,7 @@ use chan_model::names::Path;
 use chan_model::signal::Down;
 use hold::Hold;
 use status::make_pending;
-use status_words::ScswWords;
+use scsw_irb::words::ScswWords;
 use storage_keys::Storage;
 use subchannel_model::cause::StatusCause;
 use subchannel_model::state::{ActiveProgram, Program, ProgramPosition};

@@ -9,7 +9,7 @@ ghost use Rattle.subchannel_words.specs.Unwired.{with_state};
 
 use ccw_walk::Walk;
 use status::make_pending;
-use status_words::ScswWords;
+use scsw_irb::words::ScswWords;
 use subchannel_model::cause::StatusCause;
 use subchannel_model::state::{ActiveProgram, Program, ProgramPosition};
 use subchannel_words::{PackedState, Rest};

@@ -1,0 +1,12 @@
+use Rattle.std.proofs.Common.{◌∙◌, ap}
+use Rattle.schib_block.specs.declared.pmcw.Pmcw.{Pmcw}
+use Rattle.schib_block.specs.Modify.{modified}
+use Rattle.schib_block.specs.Reading.{pmcw_of_words}
+use Rattle.schib_block.proofs.PmcwModifying.{modified-are, modified-is}
+use Rattle.schib_block.proofs.words.PmcwWords.modify.Goals as goal
+
+pub invariant_of-self : goal.invariant_of-self
+invariant_of-self c = modified-are c.self.inside.words c.args.given.now c.self.invariant c.are_words.ensures
+
+pub returns : goal.returns
+returns c = modified-is c.self.inside.words c.args.given.now ∙ ap (λ (p : Pmcw). modified p (pmcw_of_words c.args.given.now)) c.self.view_is

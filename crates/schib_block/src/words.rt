@@ -1,0 +1,294 @@
+//! The words of a path-management-control word, and what masks do to them (SA22-7832, chapter 15).
+
+ghost use Rattle.std.specs.Prelude.{◌≡◌, ◌<◌, ◌^◌, ◌↔◌, map, ℕ, IsTrue, length, slice_index};
+ghost use Rattle.zbits.specs.Layout.{word_of};
+ghost use Rattle.schib_block.specs.SchibTable.{pmcw_tables};
+ghost use Rattle.schib_block.specs.Reading.{pmcw_of_words};
+ghost use Rattle.schib_block.specs.Modify.{IsAllowedPmcw, modified};
+
+use crate::pmcw::Pmcw;
+use std::marker::Model;
+use zbits::field;
+
+/// The bits of each word that MODIFY SUBCHANNEL takes from the given one; of word 0 it takes all, of the last three none.
+const TAKEN_1: u32 = 0x3884_0000;
+
+const TAKEN_2: u32 = 0xFF00_0000;
+
+const TAKEN_3: u32 = 0x0000_FF00;
+
+/// A path-management-control word as its seven words.
+#[derive(Clone, Copy)]
+pub struct PmcwWords {
+    words: [u32; 7],
+}
+
+impl Model for PmcwWords {
+    ghost use Rattle.schib_block.specs.declared.pmcw.Pmcw.{Pmcw};
+    ghost use Rattle.schib_block.specs.Reading.{pmcw_of_words};
+    ghost use Rattle.schib_block.specs.PmcwWords.{ArePmcwWords};
+
+    ghost Value = { Pmcw };
+
+    ghost view = { λ p. pmcw_of_words p.words };
+
+    ghost invariant = { λ p. ArePmcwWords p.words };
+
+    ghost use Rattle.std.specs.Prelude.{map};
+    ghost use Rattle.zbits.specs.Layout.{word_of};
+    ghost use Rattle.schib_block.specs.SchibTable.{pmcw_tables};
+
+    ghost inverse = { λ p. record { words = map word_of (pmcw_tables p) } };
+
+    ghost use Rattle.std.proofs.Common.{ap, sym};
+    ghost use Rattle.schib_block.specs.PmcwPacking.{words-are};
+
+    ghost inverse_ok = { λ a h. ap (λ ws. record { words = ws }) (sym (words-are a.words h)) };
+}
+
+impl PmcwWords {
+    /// The seven words of the image.
+    pub fn words(&self) -> &[u32; 7]
+        ensures image { result.now ≡ map word_of (pmcw_tables self.now) }
+        ensures value { pmcw_of_words result.now ≡ self.now }
+    {
+        &self.words
+    }
+
+    /// The words of a path-management-control word.
+    pub fn of(pmcw: Pmcw) -> PmcwWords
+        ensures { result ≡ pmcw }
+    {
+        is_in_range(&pmcw);
+        are_in_range(&pmcw);
+        are_bytes(&pmcw.chpids);
+        let words = pmcw.words();
+        PmcwWords { words }
+    }
+
+    /// Whether MODIFY SUBCHANNEL takes a given word: its LM and MM are zero.
+    pub fn is_allowed(given: &[u32; 7]) -> bool
+        ensures { IsTrue result ↔ IsAllowedPmcw (pmcw_of_words given.now) }
+    {
+        given[1] & 0x0078_0000 == 0
+    }
+
+    /// MODIFY SUBCHANNEL: what it takes of a given word, whatever the bits there that are always zero here.
+    pub fn modify(&mut self, given: &[u32; 7])
+        ensures { self.new ≡ modified self.old (pmcw_of_words given.now) }
+    {
+        are_words(given);
+        let [_, controls, masks, block, front, back, last] = self.words;
+        self.words = [
+            given[0],
+            controls & !TAKEN_1 | given[1] & TAKEN_1,
+            masks & !TAKEN_2 | given[2] & TAKEN_2,
+            block & !TAKEN_3 | given[3] & TAKEN_3,
+            front,
+            back,
+            last,
+        ];
+    }
+
+    /// LPUM: the path that was last used, as a mask.
+    pub fn set_last_used(&mut self, mask: u8)
+        ensures { self.new ≡ record self.old { last_used = mask } }
+    {
+        let [parameter, controls, masks, block, front, back, last] = self.words;
+        self.words = [
+            parameter,
+            controls,
+            masks & 0xFFFF_00FF | u32::from(mask) << 8,
+            block,
+            front,
+            back,
+            last,
+        ];
+    }
+
+    /// PAM: the paths that are available, as a mask.
+    pub fn set_available(&mut self, mask: u8)
+        ensures { self.new ≡ record self.old { available = mask } }
+    {
+        let [parameter, controls, masks, block, front, back, last] = self.words;
+        self.words = [
+            parameter,
+            controls,
+            masks,
+            block & 0xFFFF_FF00 | u32::from(mask),
+            front,
+            back,
+            last,
+        ];
+    }
+
+    /// The interruption parameter is set.
+    pub fn set_parameter(&mut self, parameter: u32)
+        ensures { self.new ≡ record self.old { parameter = parameter } }
+    {
+        let [_, controls, masks, block, front, back, last] = self.words;
+        self.words = [parameter, controls, masks, block, front, back, last];
+    }
+
+    /// LPM: the paths that a program may use, as a mask.
+    pub fn set_logical(&mut self, mask: u8)
+        ensures { self.new ≡ record self.old { logical = mask } }
+    {
+        let [parameter, controls, masks, block, front, back, last] = self.words;
+        self.words = [
+            parameter,
+            controls,
+            masks & 0x00FF_FFFF | u32::from(mask) << 24,
+            block,
+            front,
+            back,
+            last,
+        ];
+    }
+
+    /// PNOM: the paths that were found not operational, as a mask.
+    pub fn set_not_operational(&mut self, mask: u8)
+        ensures { self.new ≡ record self.old { not_operational = mask } }
+    {
+        let [parameter, controls, masks, block, front, back, last] = self.words;
+        self.words = [
+            parameter,
+            controls,
+            masks & 0xFF00_FFFF | u32::from(mask) << 16,
+            block,
+            front,
+            back,
+            last,
+        ];
+    }
+
+    /// POM: the paths that are operational, as a mask.
+    pub fn set_operational(&mut self, mask: u8)
+        ensures { self.new ≡ record self.old { operational = mask } }
+    {
+        let [parameter, controls, masks, block, front, back, last] = self.words;
+        self.words = [
+            parameter,
+            controls,
+            masks,
+            block & 0xFFFF_00FF | u32::from(mask) << 8,
+            front,
+            back,
+            last,
+        ];
+    }
+
+    /// PIM: the paths that are installed, as a mask.
+    pub fn installed(&self) -> u8
+        ensures { result ≡ self.now.installed }
+    {
+        field(self.words[2], 24, 31) as u8
+    }
+
+    /// E: the subchannel is enabled.
+    pub fn is_enabled(&self) -> bool
+        ensures { result ≡ self.now.enabled }
+    {
+        self.words[1] & 0x0080_0000 != 0
+    }
+
+    /// D: programs may be in multipath mode.
+    pub fn is_multipath(&self) -> bool
+        ensures { result ≡ self.now.multipath }
+    {
+        self.words[1] & 0x0004_0000 != 0
+    }
+
+    /// LPM: the paths that a program may use, as a mask.
+    pub fn logical(&self) -> u8
+        ensures { result ≡ self.now.logical }
+    {
+        field(self.words[2], 0, 7) as u8
+    }
+
+    /// PNOM: the paths that were found not operational, as a mask.
+    pub fn not_operational(&self) -> u8
+        ensures { result ≡ self.now.not_operational }
+    {
+        field(self.words[2], 8, 15) as u8
+    }
+
+    /// LPUM: the path that was last used, as a mask.
+    pub fn last_used(&self) -> u8
+        ensures { result ≡ self.now.last_used }
+    {
+        field(self.words[2], 16, 23) as u8
+    }
+
+    /// PAM: the paths that are available, as a mask.
+    pub fn available(&self) -> u8
+        ensures { result ≡ self.now.available }
+    {
+        field(self.words[3], 24, 31) as u8
+    }
+
+    /// ISC: the interruption subclass, 0 to 7.
+    pub fn subclass(&self) -> u8
+        ensures value { result ≡ self.now.subclass }
+        ensures bound { result < 8 }
+    {
+        field(self.words[1], 2, 4) as u8
+    }
+
+    /// POM: the paths that are operational, as a mask.
+    pub fn operational(&self) -> u8
+        ensures { result ≡ self.now.operational }
+    {
+        field(self.words[3], 16, 23) as u8
+    }
+
+    /// The interruption parameter.
+    pub fn parameter(&self) -> u32
+        ensures { result ≡ self.now.parameter }
+    {
+        self.words[0]
+    }
+}
+
+/// The numbers of a word are those of their types. A law, with nothing to do.
+fn is_in_range(pmcw: &Pmcw)
+    ensures parameter { pmcw.now.parameter < 2 ^ 32 }
+    ensures device { pmcw.now.device_number < 2 ^ 16 }
+    ensures logical { pmcw.now.logical < 256 }
+    ensures not_operational { pmcw.now.not_operational < 256 }
+    ensures last_used { pmcw.now.last_used < 256 }
+    ensures installed { pmcw.now.installed < 256 }
+    ensures block { pmcw.now.measurement_block < 2 ^ 16 }
+{
+    let _parameter = pmcw.parameter;
+    let _device = pmcw.device_number;
+    let _logical = pmcw.logical;
+    let _not_operational = pmcw.not_operational;
+    let _last_used = pmcw.last_used;
+    let _installed = pmcw.installed;
+    let _block = pmcw.measurement_block;
+}
+
+/// The same of two masks. A law, with nothing to do.
+fn are_in_range(pmcw: &Pmcw)
+    ensures operational { pmcw.now.operational < 256 }
+    ensures available { pmcw.now.available < 256 }
+{
+    let _operational = pmcw.operational;
+    let _available = pmcw.available;
+}
+
+/// Each is a byte. A law, with nothing to do.
+fn are_bytes(ids: &[u8; 8])
+    ensures bytes { (path : ℕ) → slice_index ids.now path < 256 }
+    ensures eight { length ids.now ≡ 8 }
+{
+    let _first = ids[0];
+}
+
+/// Each is a word. A law, with nothing to do.
+fn are_words(words: &[u32; 7])
+    ensures { (place : ℕ) → slice_index words.now place < 2 ^ 32 }
+{
+    let _first = words[0];
+}
