@@ -1,10 +1,6 @@
-//! Enabling (own): ISC, D and E one are placed in the words that MODIFY SUBCHANNEL is then given.
+//! Enabling where nothing is provided (own): ISC, D and E one are placed in a word of storage.
 
-ghost use Rattle.std.specs.Prelude.{◌≡◌, ◌<◌, ◌≤◌, ◌^◌, ◌+◌, ◌-◌, map};
-ghost use Rattle.zbits.specs.Layout.{word_of};
-ghost use Rattle.schib_block.specs.declared.pmcw.Pmcw.{Pmcw};
-ghost use Rattle.schib_block.specs.Reading.{pmcw_of_words};
-ghost use Rattle.schib_block.specs.SchibTable.{pmcw_tables};
+ghost use Rattle.std.specs.Prelude.{◌≡◌, ◌<◌, ◌≤◌, ◌^◌, ◌+◌, ◌-◌};
 ghost use Rattle.subchannel_model.specs.Enable as enable_spec;
 
 use zbits::set_field;
@@ -26,16 +22,4 @@ pub fn enabling_word(word: u32, subclass: u8, multipath: bool) -> u32
     let word = with_field(word, 2, 4, u32::from(subclass % 8));
     let word = with_field(word, 8, 8, 1);
     with_field(word, 13, 13, u32::from(multipath))
-}
-
-/// The words of a path-management-control word with ISC, E one and D placed in them: `read`, as they are read; `written`, as the
-/// word is written that they are.
-pub fn enabling_words(words: &[u32; 7], subclass: u8, multipath: bool) -> [u32; 7]
-    ensures read { pmcw_of_words result ≡ enable_spec.enabling (pmcw_of_words words.now) subclass multipath }
-    ensures written { (word : Pmcw) → words.now ≡ map word_of (pmcw_tables word) → pmcw_of_words words.now ≡ word
-        → result ≡ map word_of (pmcw_tables (enable_spec.enabling word subclass multipath)) }
-{
-    let mut words = *words;
-    words[1] = enabling_word(words[1], subclass, multipath);
-    words
 }

@@ -6,8 +6,9 @@ use Rattle.zbits.specs.Layout.{image_of}
 use Rattle.zbits.specs.Words.{bytes_of_words, word_at}
 use Rattle.orb_block.specs.declared.Orb.{Orb}
 use Rattle.schib_block.specs.declared.pmcw.Pmcw.{Pmcw}
-use Rattle.schib_block.specs.declared.schib.Schib.{Schib}
+use Rattle.scsw_irb.specs.declared.scsw.Scsw.{Scsw}
 use Rattle.schib_block.specs.Modify as modify
+use Rattle.schib_block.specs.Reading.{pmcw_of_words}
 use Rattle.schib_block.specs.SchibTable.{schib_tables}
 use Rattle.storage_keys.specs.declared.StorageFault.{StorageFault}
 use Rattle.storage_keys.specs.Storage.{Contents, operand_at, operand_check, operand_stored, where_permitted, absolute_places}
@@ -16,7 +17,6 @@ use Rattle.chan_model.specs.declared.fault.Fault.TheVariants as fault
 use Rattle.chan_events.specs.Replies.{Reply}
 use Rattle.chan_events.specs.declared.reply.Reply.TheVariants as reply
 use Rattle.chan_model.specs.declared.answer.ConditionCode.{ConditionCode}
-use Rattle.scsw_irb.specs.declared.irb.Irb.{Irb}
 use Rattle.scsw_irb.specs.ScswTable.{irb_tables}
 use Rattle.subchannel_model.specs.declared.state.Subchannel.{Subchannel}
 use Rattle.machine_model.specs.State.{State, with_sub}
@@ -82,42 +82,41 @@ tests-sub s before after cpu address place old new u r checked irb left =
     ∙ ap (λ (x : State). does r (with_sub x place new)) (sym irb)))
 
 -- the IRB is stored with code 0 and 1
-pub irb-stored : (s : State) (before after : Contents) (cpu number address : ℕ) (sub : Subchannel) (code : ConditionCode) (irb : Irb) (image : List ℕ) (b : Bool) →
-    code ≡ code_at tsch_code sub → b ≡ stores_irb code → b ≡ true → irb ≡ irb_of sub.state → image ≡ image_of (irb_tables irb) → number ≡ cpu →
+pub irb-stored : (s : State) (before after : Contents) (cpu number address : ℕ) (sub : Subchannel) (code : ConditionCode) (image : List ℕ) (b : Bool) →
+    code ≡ code_at tsch_code sub → b ≡ stores_irb code → b ≡ true → image ≡ image_of (irb_tables (irb_of sub.state)) → number ≡ cpu →
     after ≡ operand_stored before number address image →
     state_with_storage s after ≡ with_irb (state_with_storage s before) cpu address sub (stores_irb (code_at tsch_code sub))
-irb-stored s before after cpu number address sub code irb image b tested is passes made written named stored =
-    let bytes : image ≡ image_of (irb_tables (irb_of sub.state)) = written ∙ ap (λ (x : Irb). image_of (irb_tables x)) made in
+irb-stored s before after cpu number address sub code image b tested is passes written named stored =
     let stores : stores_irb (code_at tsch_code sub) ≡ true = ap stores_irb (sym tested) ∙ (sym is ∙ passes) in
     ap (λ (x : Contents). state_with_storage s x)
-    (stored ∙ (ap (λ (k : ℕ). operand_stored before k address image) named ∙ ap (λ (xs : List ℕ). operand_stored before cpu address xs) bytes))
+    (stored ∙ (ap (λ (k : ℕ). operand_stored before k address image) named ∙ ap (λ (xs : List ℕ). operand_stored before cpu address xs) written))
     ∙ sym (ap (λ (x : Bool). with_irb (state_with_storage s before) cpu address sub x) stores)
 
-pub stores-sub : (s : State) (before after : Contents) (cpu number address place : ℕ) (sub : Subchannel) (schib : Schib) (image : List ℕ) (u : Unit {0}) →
-    slice_get s.subs place ≡ Some sub → Ok u ≡ from_storage (operand_check before cpu address 52 4) → number ≡ cpu → schib ≡ schib_of sub →
-    image ≡ image_of (schib_tables schib) → after ≡ operand_stored before number address image →
+pub stores-sub : (s : State) (before after : Contents) (cpu number address place : ℕ) (sub : Subchannel) (image : List ℕ) (u : Unit {0}) →
+    slice_get s.subs place ≡ Some sub → Ok u ≡ from_storage (operand_check before cpu address 52 4) → number ≡ cpu →
+    image ≡ image_of (schib_tables (schib_of sub)) → after ≡ operand_stored before number address image →
     does (reply.Status (store_answer sub) sub.state.scsw) (with_sub (state_with_storage s after) place sub)
     ≡ stores (state_with_storage s before) cpu address (Some (record { place = place; sub = sub })) (operand_check before cpu address 52 4)
-stores-sub s before after cpu number address place sub schib image u there checked named made written stored =
+stores-sub s before after cpu number address place sub image u there checked named written stored =
     let check : operand_check before cpu address 52 4 ≡ Ok u = permitted (operand_check before cpu address 52 4) u checked in
-    let bytes : image_of (schib_tables (schib_of sub)) ≡ image = ap (λ (x : Schib). image_of (schib_tables x)) (sym made) ∙ sym written in
     let all : operand_stored before cpu address (image_of (schib_tables (schib_of sub))) ≡ after =
-    ap (λ (xs : List ℕ). operand_stored before cpu address xs) bytes
+    ap (λ (xs : List ℕ). operand_stored before cpu address xs) (sym written)
     ∙ (ap (λ (k : ℕ). operand_stored before k address image) (sym named) ∙ sym stored) in
     let shown = reply.Status (store_answer sub) sub.state.scsw in
     sym (ap (λ (x : Result (Unit {0}) StorageFault). stores (state_with_storage s before) cpu address (Some (record { place = place; sub = sub })) x) check
     ∙ (ap (λ (x : Contents). does shown (state_with_storage s x)) all
     ∙ ap (λ (xs : List Subchannel). does shown (record s { storage = after; subs = xs })) (sym (set_there s.subs place sub there))))
 
-pub enables-sub : (s : State) (before after : Contents) (cpu number subclass place : ℕ) (multipath : Bool) (old new : Subchannel) (schib : Schib) (image : List ℕ) (u : Unit {0}) (r : Reply) →
-    Ok u ≡ from_storage (operand_check before cpu 0xF00 52 4) → number ≡ cpu → schib ≡ enabling_schib old subclass multipath →
-    image ≡ image_of (schib_tables schib) → after ≡ operand_stored before number 0xF00 image → modify_sub old schib.pmcw ≡ leaves r new →
+pub enables-sub : (s : State) (before after : Contents) (cpu number subclass place : ℕ) (multipath : Bool) (old new : Subchannel) (word : Pmcw) (scsw : Scsw) (image words : List ℕ) (u : Unit {0}) (r : Reply) →
+    Ok u ≡ from_storage (operand_check before cpu 0xF00 52 4) → number ≡ cpu → word ≡ enabling (pmcw_of old) subclass multipath → scsw ≡ old.state.scsw →
+    image ≡ image_of (schib_tables (record { pmcw = word; scsw = scsw })) → after ≡ operand_stored before number 0xF00 image → pmcw_of_words words ≡ word → modify_sub old (pmcw_of_words words) ≡ leaves r new →
     Enables (state_with_storage s before) cpu (Some (record { place = place; sub = old })) subclass multipath (operand_at before cpu 0xF00 52 4) (does r (with_sub (state_with_storage s after) place new))
-enables-sub s before after cpu number subclass place multipath old new schib image u r checked named made written stored left =
+enables-sub s before after cpu number subclass place multipath old new word scsw image words u r checked named made shown written stored read left =
     let given : modify_sub old (enabling (pmcw_of old) subclass multipath) ≡ leaves r new =
-    ap (λ (x : Schib). modify_sub old x.pmcw) (sym made) ∙ left in
+    ap (modify_sub old) (sym made) ∙ (ap (modify_sub old) (sym read) ∙ left) in
     let bytes : image_of (schib_tables (enabling_schib old subclass multipath)) ≡ image =
-    ap (λ (x : Schib). image_of (schib_tables x)) (sym made) ∙ sym written in
+    sym (written ∙ (ap (λ (x : Pmcw). image_of (schib_tables (record { pmcw = x; scsw = scsw }))) made
+    ∙ ap (λ (x : Scsw). image_of (schib_tables (record { pmcw = enabling (pmcw_of old) subclass multipath; scsw = x }))) shown)) in
     let all : operand_stored before cpu 0xF00 (image_of (schib_tables (enabling_schib old subclass multipath))) ≡ after =
     ap (λ (xs : List ℕ). operand_stored before cpu 0xF00 xs) bytes
     ∙ (ap (λ (k : ℕ). operand_stored before k 0xF00 image) (sym named) ∙ sym stored) in

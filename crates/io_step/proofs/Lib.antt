@@ -1,2 +1,4 @@
 mod Engaged
 mod Executions
+mod Reading
+mod Enabled

@@ -5,18 +5,20 @@ ghost use Rattle.io_step.specs.Executing as spec;
 ghost use Rattle.chan_events.specs.Replies.{plain_outcome};
 ghost use Rattle.chan_events.specs.declared.event.Instruction.TheVariants as instruction_spec;
 
-use crate::operands::{ENABLE_BLOCK, ENABLE_WORD, WORD, check_operand, operand, orb_at, word_at};
+use crate::operands::{
+    ENABLE_BLOCK, ENABLE_WORD, WORD, check_operand, operand, orb_at, word_at, word_in,
+};
 use chan_events::event::Instruction;
 use chan_events::reply::{PlainReply, Reply};
 use chan_model::answer::Answer;
 use chan_model::fault::Fault;
 use chan_model::names::Cpu;
 use functions::blocks::enabling_word;
+use schib_block::words::PmcwWords;
 use schib_block::SCHIB_BYTES;
-use schib_block::pmcw::Pmcw;
 use scsw_irb::irb::IRB_BYTES;
 use storage_keys::Storage;
-use zbits::{be_bytes, be_words};
+use zbits::be_bytes;
 
 fn start(storage: &Storage, cpu: Cpu, address: u32) -> Result<PlainReply, Fault>
     ensures { (word : ℕ) →
@@ -63,10 +65,10 @@ fn enable(
 {
     check_operand(storage, cpu, ENABLE_BLOCK, SCHIB_BYTES, WORD)?;
     let image = operand::<SCHIB_BYTES>(storage, cpu, ENABLE_BLOCK)?;
-    if !Pmcw::of_schib(&image).is_allowed() {
+    let words = word_in(&image);
+    if !PmcwWords::is_allowed(&words) {
         return Err(Fault::Operand);
     }
-    let words = be_words::<13>(&image);
     let placed = be_bytes::<4>(&[enabling_word(words[1], subclass, multipath)]);
     storage.store_operand(cpu.number(), ENABLE_WORD, &placed);
     Ok(Reply::Code(Answer::Three))

@@ -12,6 +12,7 @@
 #![tactic(auto)]
 
 mod absent;
+mod enabling;
 mod instruction;
 mod operands;
 mod others;

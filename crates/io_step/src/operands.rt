@@ -2,15 +2,19 @@
 
 ghost use Rattle.io_step.specs.Operands.{HasOrb, HasWord, from_storage};
 ghost use Rattle.schib_block.specs.Modify.{IsAllowedPmcw};
+ghost use Rattle.schib_block.specs.Reading.{pmcw_of_words};
+ghost use Rattle.schib_block.specs.SchibTable.{ShowsPmcw};
 ghost use Rattle.storage_keys.specs.Storage.{operand_at, operand_check};
-ghost use Rattle.std.specs.Prelude.{◌≡◌, ◌<◌, ◌≤◌, ◌+◌, length, IfOk, OnOk};
+ghost use Rattle.zbits.specs.Words.{words_of};
+ghost use Rattle.std.specs.Prelude.{◌≡◌, ◌<◌, ◌≤◌, ◌+◌, length, Err, IfErr, IfOk, Ok, OnOk};
 
 use chan_model::fault::Fault;
 use chan_model::names::Cpu;
 use orb_block::{ORB_BYTES, Orb};
+use schib_block::words::PmcwWords;
 use schib_block::SCHIB_BYTES;
-use schib_block::pmcw::Pmcw;
 use storage_keys::Storage;
+use zbits::be_words;
 
 /// The boundary of a word, on which all but one of the operands must be.
 pub const WORD: u32 = 4;
@@ -59,15 +63,26 @@ pub fn orb_at(storage: &Storage, cpu: Cpu, address: u32) -> Result<Orb, Fault>
     Orb::read(&image).map_err(|_| Fault::Operand)
 }
 
-/// The path-management-control word of the subchannel-information block at a real address, where MODIFY SUBCHANNEL
-/// takes it.
-pub fn word_at(storage: &Storage, cpu: Cpu, address: u32) -> Result<Pmcw, Fault>
-    ensures word { HasWord (operand_at storage.now cpu address 52 4) result }
-    ensures allowed { IfOk result (λ given. IsAllowedPmcw given) }
+/// The words of the path-management-control word that a subchannel-information block has, whatever their reserved bits:
+/// this is all that MODIFY SUBCHANNEL looks at.
+pub fn word_in(image: &[u8; SCHIB_BYTES]) -> [u32; 7]
+    ensures shown { ShowsPmcw image.now (pmcw_of_words result) }
+    ensures words { result ≡ words_of 7 image.now }
+{
+    let [parameter, controls, masks, block, front, back, last, ..] = be_words::<13>(image);
+    [parameter, controls, masks, block, front, back, last]
+}
+
+/// The words of the path-management-control word of the subchannel-information block at a real address, where MODIFY
+/// SUBCHANNEL takes it.
+pub fn word_at(storage: &Storage, cpu: Cpu, address: u32) -> Result<[u32; 7], Fault>
+    ensures word { IfOk result (λ given. HasWord (operand_at storage.now cpu address 52 4) (Ok (pmcw_of_words given))) }
+    ensures refused { IfErr result (λ f. HasWord (operand_at storage.now cpu address 52 4) (Err f)) }
+    ensures allowed { IfOk result (λ given. IsAllowedPmcw (pmcw_of_words given)) }
 {
     let image = operand::<SCHIB_BYTES>(storage, cpu, address)?;
-    let given = Pmcw::of_schib(&image);
-    if given.is_allowed() {
+    let given = word_in(&image);
+    if PmcwWords::is_allowed(&given) {
         Ok(given)
     } else {
         Err(Fault::Operand)

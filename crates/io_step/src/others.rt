@@ -1,6 +1,7 @@
 //! The instructions that name no subchannel.
 
 ghost use Rattle.std.specs.Prelude.{◌≡◌, ◌≤◌, ◌<◌, ◌+◌, ◌*◌, Ok, Err, IfOk, IfErr, OnErr, OnOk, Some, length};
+ghost use Rattle.chan_model.specs.PathSets as sets;
 ghost use Rattle.io_step.specs.Operands.{from_storage};
 ghost use Rattle.machine_model.specs.OtherSteps as spec;
 ghost use Rattle.machine_model.specs.OtherTurns as turns;
@@ -10,7 +11,6 @@ use chan_events::reply::{PATH_STATUS_BYTES, report_word};
 use chan_model::answer::ConditionCode;
 use chan_model::fault::Fault;
 use chan_model::names::Cpu;
-use chan_model::paths::mask_of_paths;
 use channel_reports::Reports;
 use interruptions::Pending;
 use scsw_irb::code::IntCode;
@@ -123,13 +123,36 @@ pub fn rchp(reports: &mut Reports, up: &PathTable, path: u32) -> Result<Conditio
     Ok(reports.rchp(named, up[usize::from(named)]))
 }
 
+/// 1 where the channel path of this index is in the set, otherwise 0.
+fn path_bit(set: [bool; 8], index: usize) -> u8
+    requires { index < 8 }
+    ensures value { result ≡ sets.path_bit set index }
+    ensures bound { result ≤ 1 }
+{
+    u8::from(set[index])
+}
+
+/// The byte of eight channel paths, the first leftmost.
+fn byte_of(set: [bool; 8]) -> u8
+    ensures { result ≡ sets.mask_of_paths set }
+{
+    128 * path_bit(set, 0)
+        + 64 * path_bit(set, 1)
+        + 32 * path_bit(set, 2)
+        + 16 * path_bit(set, 3)
+        + 8 * path_bit(set, 4)
+        + 4 * path_bit(set, 5)
+        + 2 * path_bit(set, 6)
+        + path_bit(set, 7)
+}
+
 /// Eight channel paths, the first leftmost.
 fn engaged_byte(engaged: &PathTable, place: usize) -> u8
     requires { place < 32 }
     ensures { result ≡ spec.engaged_byte engaged.now place }
 {
     let first = 8 * place;
-    mask_of_paths([
+    byte_of([
         engaged[first],
         engaged[first + 1],
         engaged[first + 2],

@@ -19,7 +19,7 @@ use chan_model::names::Cpu;
 use channel_reports::Reports;
 use interruptions::Pending;
 use storage_keys::Storage;
-use subchannel_model::state::Subchannel;
+use subchannel_words::Subchannel;
 
 /// Whether an instruction that set this code drops the request of its subchannel.
 fn drops(instruction: Instruction, code: Option<ConditionCode>) -> bool
@@ -54,7 +54,7 @@ pub fn perform_provided(
     ensures setup { sub.new.setup ≡ sub.old.setup }
     ensures numbers { pending.new.numbers ≡ pending.old.numbers }
 {
-    let id = sub.setup.id;
+    let id = sub.state.setup().id;
     let reply = execute(storage, sub, cpu, instruction)?;
     if drops(instruction, reply_code(&reply)) {
         pending.drop_request(id.set, id.number);

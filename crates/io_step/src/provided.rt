@@ -9,21 +9,20 @@ ghost use Rattle.machine_model.specs.Bounds.{IsRoomy};
 ghost use Rattle.subchannel_model.specs.Test.{tsch_code};
 ghost use Rattle.chan_events.specs.declared.event.Instruction.TheVariants as instruction_spec;
 
+use crate::enabling::{block_of, enabling};
 use crate::operands::{ENABLE_BLOCK, WORD, check_operand, orb_at, word_at};
 use crate::turns::{
-    cancel_sub, clear_sub, halt_sub, irb_of, modify_sub, resume_sub, start_sub, stores_irb,
+    cancel_sub, clear_sub, halt_sub, modify_sub, resume_sub, start_sub, store_reply, stores_irb,
     test_code_of, test_sub,
 };
 use chan_events::event::Instruction;
-use chan_events::reply::{PlainReply, Reply};
-use chan_model::answer::Answer;
+use chan_events::reply::PlainReply;
 use chan_model::fault::Fault;
 use chan_model::names::Cpu;
-use functions::blocks::{enabling_schib, schib_of};
 use schib_block::SCHIB_BYTES;
 use scsw_irb::irb::IRB_BYTES;
 use storage_keys::Storage;
-use subchannel_model::state::Subchannel;
+use subchannel_words::Subchannel;
 
 fn start(
     storage: &Storage,
@@ -49,7 +48,7 @@ fn store_irb(storage: &mut Storage, sub: &Subchannel, cpu: Cpu, address: u32)
         (steps.stores_irb (steps.code_at tsch_code sub.now)) }
 {
     if stores_irb(test_code_of(sub)) {
-        let image = irb_of(&sub.state).write();
+        let image = sub.state.irb();
         storage.store_operand(cpu.number(), address, &image);
     }
 }
@@ -81,12 +80,9 @@ fn store(
         (plain_outcome result) storage.new sub.now }
 {
     check_operand(storage, cpu, address, SCHIB_BYTES, WORD)?;
-    let image = schib_of(sub).write();
+    let image = sub.state.schib();
     storage.store_operand(cpu.number(), address, &image);
-    Ok(Reply::Status {
-        answer: Answer::Zero(sub.state.serials),
-        scsw: sub.state.scsw,
-    })
+    Ok(store_reply(sub))
 }
 
 fn modify(
@@ -117,9 +113,10 @@ fn enable(
     ensures setup { sub.new.setup ≡ sub.old.setup }
 {
     check_operand(storage, cpu, ENABLE_BLOCK, SCHIB_BYTES, WORD)?;
-    let schib = enabling_schib(sub, subclass, multipath);
-    storage.store_operand(cpu.number(), ENABLE_BLOCK, &schib.write());
-    Ok(modify_sub(sub, &schib.pmcw))
+    let given = enabling(sub.state.pmcw(), subclass, multipath);
+    let image = block_of(&given, sub.state.scsw());
+    storage.store_operand(cpu.number(), ENABLE_BLOCK, &image);
+    Ok(modify_sub(sub, given.words()))
 }
 
 /// Executes an instruction on a subchannel that is provided: what it answers, and what is left of storage and of the

@@ -2,10 +2,13 @@
 
 ghost use Rattle.std.specs.Prelude.{◌≡◌};
 ghost use Rattle.chan_events.specs.Replies.{reply_of};
+ghost use Rattle.chan_events.specs.declared.reply.Reply.TheVariants as reply_spec;
+ghost use Rattle.chan_model.specs.declared.answer.Answer.TheVariants as answer_spec;
 ghost use Rattle.machine_model.specs.InstructionSteps as spec;
 ghost use Rattle.machine_model.specs.Turns as turn_spec;
 ghost use Rattle.machine_model.specs.Bounds.{IsRoomy};
 ghost use Rattle.schib_block.specs.Modify.{IsAllowedPmcw};
+ghost use Rattle.schib_block.specs.Reading.{pmcw_of_words};
 ghost use Rattle.subchannel_model.specs.Start.{ssch_code, started};
 ghost use Rattle.subchannel_model.specs.Resume.{rsch_code, resumed};
 ghost use Rattle.subchannel_model.specs.Halt.{hsch_code, halted};
@@ -15,15 +18,12 @@ ghost use Rattle.subchannel_model.specs.Test as test_spec;
 
 use chan_events::reply::{PlainReply, Reply};
 use chan_model::answer::{Answer, ConditionCode};
-use chan_model::paths::mask_of_path;
-use functions::codes::condition_of;
+use functions::codes::tsch_code;
 use functions::law::modified;
 use functions::{csch, hsch, msch, rsch, ssch, xsch};
 use orb_block::Orb;
-use schib_block::pmcw::Pmcw;
-use scsw_irb::irb::Irb;
 use status::tsch;
-use subchannel_model::state::{Subchannel, SubchannelState};
+use subchannel_words::Subchannel;
 
 /// START SUBCHANNEL with an allowed ORB.
 pub fn start_sub(sub: &mut Subchannel, orb: Orb) -> PlainReply
@@ -33,14 +33,14 @@ pub fn start_sub(sub: &mut Subchannel, orb: Orb) -> PlainReply
     ensures setup { sub.new.setup ≡ sub.old.setup }
 {
     let code = ssch(&mut sub.state, orb);
-    Reply::Code(Answer::of(code, sub.state.serials))
+    Reply::Code(Answer::of(code, sub.state.rest().serials))
 }
 
 /// The condition code of TEST SUBCHANNEL.
 pub fn test_code_of(sub: &Subchannel) -> ConditionCode
     ensures { result ≡ spec.code_at test_spec.tsch_code sub.now }
 {
-    functions::codes::tsch_code(condition_of(&sub.state))
+    tsch_code(&sub.state)
 }
 
 /// TEST SUBCHANNEL, but for the IRB.
@@ -49,22 +49,12 @@ pub fn test_sub(sub: &mut Subchannel) -> PlainReply
         turn_spec.leaves (reply_of result) sub.new }
     ensures setup { sub.new.setup ≡ sub.old.setup }
 {
-    let scsw = sub.state.scsw;
+    let scsw = sub.state.scsw().scsw();
     let code = tsch(&mut sub.state);
-    let answer = Answer::of(code, sub.state.serials);
+    let answer = Answer::of(code, sub.state.rest().serials);
     match code {
         ConditionCode::Zero | ConditionCode::One => Reply::Status { answer, scsw },
         ConditionCode::Two | ConditionCode::Three => Reply::Code(answer),
-    }
-}
-
-/// The interruption-response block of a subchannel.
-pub fn irb_of(state: &SubchannelState) -> Irb
-    ensures { result ≡ test_spec.irb_of state.now }
-{
-    Irb {
-        scsw: state.scsw,
-        last_path_used: mask_of_path(state.pmcw.last_used),
     }
 }
 
@@ -78,15 +68,25 @@ pub fn stores_irb(code: ConditionCode) -> bool
     }
 }
 
-/// MODIFY SUBCHANNEL with a word that it allows.
-pub fn modify_sub(sub: &mut Subchannel, given: &Pmcw) -> PlainReply
-    requires { IsAllowedPmcw given.now }
-    ensures left { spec.modify_sub sub.old given.now ≡ turn_spec.leaves (reply_of result) sub.new }
+/// What STORE SUBCHANNEL answers.
+pub fn store_reply(sub: &Subchannel) -> PlainReply
+    ensures { reply_of result ≡ reply_spec.Status (answer_spec.Zero sub.now.state.serials) sub.now.state.scsw }
+{
+    Reply::Status {
+        answer: Answer::Zero(sub.state.rest().serials),
+        scsw: sub.state.scsw().scsw(),
+    }
+}
+
+/// MODIFY SUBCHANNEL with the words of one that it allows.
+pub fn modify_sub(sub: &mut Subchannel, given: &[u32; 7]) -> PlainReply
+    requires { IsAllowedPmcw (pmcw_of_words given.now) }
+    ensures left { spec.modify_sub sub.old (pmcw_of_words given.now) ≡ turn_spec.leaves (reply_of result) sub.new }
     ensures setup { sub.new.setup ≡ sub.old.setup }
 {
     modified();
     let code = msch(&mut sub.state, given);
-    Reply::Code(Answer::of(code, sub.state.serials))
+    Reply::Code(Answer::of(code, sub.state.rest().serials))
 }
 
 /// RESUME SUBCHANNEL.
@@ -96,7 +96,7 @@ pub fn resume_sub(sub: &mut Subchannel) -> PlainReply
     ensures setup { sub.new.setup ≡ sub.old.setup }
 {
     let code = rsch(&mut sub.state);
-    Reply::Code(Answer::of(code, sub.state.serials))
+    Reply::Code(Answer::of(code, sub.state.rest().serials))
 }
 
 /// HALT SUBCHANNEL.
@@ -106,7 +106,7 @@ pub fn halt_sub(sub: &mut Subchannel) -> PlainReply
     ensures setup { sub.new.setup ≡ sub.old.setup }
 {
     let code = hsch(&mut sub.state);
-    Reply::Code(Answer::of(code, sub.state.serials))
+    Reply::Code(Answer::of(code, sub.state.rest().serials))
 }
 
 /// CLEAR SUBCHANNEL.
@@ -117,7 +117,7 @@ pub fn clear_sub(sub: &mut Subchannel) -> PlainReply
     ensures setup { sub.new.setup ≡ sub.old.setup }
 {
     let code = csch(&mut sub.state);
-    Reply::Code(Answer::of(code, sub.state.serials))
+    Reply::Code(Answer::of(code, sub.state.rest().serials))
 }
 
 /// CANCEL SUBCHANNEL.
@@ -127,5 +127,5 @@ pub fn cancel_sub(sub: &mut Subchannel) -> PlainReply
     ensures setup { sub.new.setup ≡ sub.old.setup }
 {
     let code = xsch(&mut sub.state);
-    Reply::Code(Answer::of(code, sub.state.serials))
+    Reply::Code(Answer::of(code, sub.state.rest().serials))
 }

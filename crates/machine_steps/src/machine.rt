@@ -33,7 +33,7 @@ use scsw_irb::serials::Serials;
 use std::marker::Model;
 use storage_keys::Storage;
 use subchannel::choosing::{chosen, paths_to_choose};
-use subchannel_model::state::Subchannel;
+use subchannel_words::Subchannel;
 use subchannel_steps::acts::{act_sub, not_held, side_of_act};
 use subchannel_steps::posting::post;
 use subchannel_steps::sharing::restart;
@@ -126,7 +126,7 @@ impl Machine {
     {
         match self.place_of(places, word) {
             None => None,
-            Some(place) => Some(self.subs[place].state.serials),
+            Some(place) => self.serials_at(place),
         }
     }
 
@@ -134,7 +134,8 @@ impl Machine {
     pub fn serials_at(&self, place: usize) -> Option<Serials>
         ensures { result ≡ state_spec.serials_in (slice_get self.now.subs place) }
     {
-        Some(self.subs.get(place)?.state.serials)
+        let sub = self.subs.get(place)?;
+        Some(sub.state.rest().serials)
     }
 
     #[inline(always)]
@@ -160,7 +161,7 @@ impl Machine {
         };
         let sub = &mut self.subs[place];
         let before = engaged(sub);
-        let made = sub.state.serials.made;
+        let made = sub.state.rest().serials.made;
         let answer = perform_provided(&mut self.storage, sub, &mut self.pending, cpu, instruction);
         post(&mut self.pending, sub, made);
         let after = engaged(sub);
@@ -212,10 +213,10 @@ impl Machine {
         let served = Served::of(self.subs.as_slice(), &self.engines);
         let paths = paths_to_choose(&served, &self.subs[place]);
         let sub = &mut self.subs[place];
-        let path = choice.choose(&paths, sub.state.last_path);
+        let path = choice.choose(&paths, sub.state.rest().last_path);
         let what = chosen(sub, path);
         let before = engaged(sub);
-        let made = sub.state.serials.made;
+        let made = sub.state.rest().serials.made;
         let answer = choose_sub(sub, &path, what);
         let after = engaged(sub);
         self.engines.change(place, before, after);
@@ -246,7 +247,7 @@ impl Machine {
         let returns = returns_at(&served, &self.subs[place], path);
         let sub = &mut self.subs[place];
         let before = engaged(sub);
-        let made = sub.state.serials.made;
+        let made = sub.state.rest().serials.made;
         let answer = up_sub(&mut self.storage, sub, path, returns, &mut self.sent, log);
         post(&mut self.pending, sub, made);
         let after = engaged(sub);
@@ -266,7 +267,8 @@ impl Machine {
         let Some(place) = self.place_of(places, word) else {
             return Err(Fault::NoSuchSubchannel);
         };
-        let number = self.subs[place].setup.unit as usize;
+        let sub = &self.subs[place];
+        let number = sub.state.setup().unit as usize;
         if number >= self.units.len() {
             return Err(Fault::NoSuchUnit);
         }

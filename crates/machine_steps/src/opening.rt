@@ -17,15 +17,12 @@ use channel_reports::Reports;
 use control_units::sharing::Sharing;
 use finding::engines::Engines;
 use finding::tables::Places;
-use hold::Hold;
 use interruptions::Pending;
-use scsw_irb::scsw::Scsw;
-use scsw_irb::serials::Serials;
 use std::alloc::{AllocError, Global};
 use storage_keys::Storage;
-use subchannel::opening::opening_pmcw;
-use subchannel_model::state::{Subchannel, SubchannelState};
+use subchannel::opening;
 use subchannel_steps::tables::configured;
+use subchannel_words::Subchannel;
 use supply::{Supply, push};
 use unit::Unit;
 use wires::Wires;
@@ -45,32 +42,9 @@ fn opened<S: Supply>(
     ensures memory { OnErr result (S.refused supply.new ≡ true) }
 {
     Ok(Subchannel {
-        setup: setup.copy(),
-        state: opening_subchannel(),
+        state: opening::opened(setup.copy()),
         wires: Wires::new_with(alloc, supply)?,
     })
-}
-
-fn opening_subchannel() -> SubchannelState
-    ensures { result ≡ opening_spec.opening_subchannel }
-{
-    SubchannelState {
-        pmcw: opening_pmcw(),
-        scsw: Scsw::zero(),
-        serials: Serials {
-            made: 0,
-            cleared: 0,
-        },
-        drawn: 0,
-        starts: 0,
-        waiting: None,
-        begun: None,
-        suspended: None,
-        hold: Hold::new().state(),
-        offered: 0,
-        last_path: None,
-        dedicated: None,
-    }
 }
 
 fn opened_all<S: Supply>(

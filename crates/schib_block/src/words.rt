@@ -49,7 +49,8 @@ impl Model for PmcwWords {
 impl PmcwWords {
     /// The seven words of the image.
     pub fn words(&self) -> &[u32; 7]
-        ensures { result.now ≡ map word_of (pmcw_tables self.now) }
+        ensures image { result.now ≡ map word_of (pmcw_tables self.now) }
+        ensures value { pmcw_of_words result.now ≡ self.now }
     {
         &self.words
     }

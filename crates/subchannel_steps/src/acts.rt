@@ -12,7 +12,7 @@ ghost use Rattle.chan_events.specs.Replies.{plain_outcome};
 
 use crate::sending::{finds_up_full, send_any_up};
 use crate::sharing::side_of;
-use crate::turns::path_of;
+use crate::turns::{path_of, reached_side};
 use crate::unit_turns::reached_sub;
 use chan_events::event::UnitAct;
 use chan_events::reply::{PlainReply, Reply};
@@ -21,7 +21,7 @@ use chan_model::lent_forms::lend_up;
 use chan_model::names::{Path, Side};
 use chan_model::unit_state::{Own, Place};
 use finding::tables::Places;
-use subchannel_model::state::Subchannel;
+use subchannel_words::Subchannel;
 use unit::Unit;
 
 /// The path of a place that has one: of a program that is connected.
@@ -105,7 +105,7 @@ fn attend(sub: &mut Subchannel, unit: &mut Unit, path: Path) -> Result<PlainRepl
     ensures gives { giving_spec.GivesBoth sub.old «unit».old
         (report_spec.report_taken sub.old (unit_spec.attending «unit».old sub.old.setup.side path)) (plain_outcome result) sub.new «unit».new }
 {
-    let side = sub.setup.side;
+    let side = reached_side(sub);
     if !unit.is_idle() || side_of(unit.state(), side).fresh {
         return Err(Fault::NotNow);
     }
@@ -125,7 +125,7 @@ fn notice(sub: &mut Subchannel, unit: &Unit, path: Path) -> Result<PlainReply, F
     ensures gives { giving_spec.GivesBoth sub.old «unit».now
         (report_spec.report_taken sub.old (unit_spec.noticing «unit».now sub.old.setup.side path)) (plain_outcome result) sub.new «unit».now }
 {
-    let side = sub.setup.side;
+    let side = reached_side(sub);
     if !side_of(unit.state(), side).fresh {
         return Err(Fault::NotNow);
     }
@@ -181,7 +181,7 @@ fn has_path_at(places: &Places, unit: usize, side: Side, path: u32, subs: &[Subc
 {
     match reached_sub(places, unit, side, subs) {
         None => false,
-        Some(sub) => (path as usize) < sub.setup.paths.as_slice().len(),
+        Some(sub) => (path as usize) < sub.state.setup().paths.as_slice().len(),
     }
 }
 

@@ -10,7 +10,8 @@ use chan_model::paths::PathSet;
 use finding::engines::Served;
 use subchannel::choosing::{chosen, paths_to_choose};
 use subchannel::losing::path_index;
-use subchannel_model::state::{Chosen, Subchannel};
+use subchannel_model::state::Chosen;
+use subchannel_words::Subchannel;
 
 fn lowest_path(paths: &PathSet) -> Option<Path>
     ensures { result ≡ spec.lowest_path paths.now }
@@ -36,7 +37,7 @@ fn has_to_choose(subs: &Served<'_>, sub: &Subchannel) -> bool
 pub fn turn_at(subs: &Served<'_>, sub: &Subchannel, word: u32, chpid: u8) -> Option<Event>
     ensures { result ≡ spec.turn_at subs.now (Some sub.now) word chpid }
 {
-    let path = path_index(chpid, sub.setup.paths.as_slice())?;
+    let path = path_index(chpid, sub.state.setup().paths.as_slice())?;
     if sub.wires.front_up(path).is_some() {
         return Some(Event::Up {
             subchannel: word,

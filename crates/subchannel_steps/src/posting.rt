@@ -6,18 +6,18 @@ ghost use Rattle.subchannel_steps.specs.Giving as giving_spec;
 
 use interruptions::Pending;
 use scsw_irb::code::IntCode;
-use subchannel_model::state::Subchannel;
+use subchannel_words::Subchannel;
 
 /// The request of a subchannel: its name, with the interruption parameter and the subclass that it has.
 fn request_of(sub: &Subchannel) -> IntCode
     ensures { result ≡ requests_spec.request_of sub.now }
 {
-    let pmcw = &sub.state.pmcw;
+    let id = sub.state.setup().id;
     IntCode {
-        set: sub.setup.id.set % 4,
-        subchannel: sub.setup.id.number,
-        parameter: pmcw.parameter,
-        subclass: pmcw.subclass,
+        set: id.set % 4,
+        subchannel: id.number,
+        parameter: sub.state.parameter(),
+        subclass: sub.state.subclass(),
     }
 }
 
@@ -28,7 +28,7 @@ pub fn post(pending: &mut Pending, sub: &Subchannel, made: u64)
     requires { sub.now.setup.id.number < pending.old.numbers }
     ensures { pending.new ≡ giving_spec.posted_since made sub.now pending.old }
 {
-    if made < sub.state.serials.made {
+    if made < sub.state.rest().serials.made {
         pending.post(request_of(sub));
     }
 }

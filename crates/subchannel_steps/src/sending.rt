@@ -13,7 +13,7 @@ use chan_model::lent::{LentDown, LentUp};
 use chan_model::names::Path;
 use chan_model::paths::PathSet;
 use chan_model::signal::OnPath;
-use subchannel_model::state::Subchannel;
+use subchannel_words::Subchannel;
 use wires::Wires;
 
 /// The signal that waits longest on the wire up of a path, where one waits.
@@ -28,12 +28,24 @@ pub fn first_up(wires: &Wires, path: Path) -> LentUp<'_>
     }
 }
 
+/// The signal that waits longest on the wire down of a path, where one waits.
+#[inline(always)]
+pub fn first_down(wires: &Wires, path: Path) -> LentDown<'_>
+    requires { 0 < length (queue wires.now.down path) }
+    ensures { first_of wires.now.down path ≡ Some (lent_down result) }
+{
+    match wires.front_down(path) {
+        Some(front) => front,
+        None => unreachable!(),
+    }
+}
+
 /// Whether a signal that is sent down on a path finds its wire full. On a path that is down it finds none.
 pub fn finds_down_full(sub: &Subchannel, path: Path) -> bool
     ensures { (sent : on_path.OnPath signals.Down) → sent.path ≡ path →
         giving_spec.TellsFull sub.now.wires.down (spec.carried_by sub.now (Some sent)) result }
 {
-    sub.state.pmcw.available[path.index()] && sub.wires.down_is_full(path)
+    sub.state.up().has(path) && sub.wires.down_is_full(path)
 }
 
 /// Sends a signal down, where there is one. `available`: the paths of its subchannel that are not down.
@@ -44,7 +56,7 @@ pub fn send_any_down(wires: &mut Wires, available: &PathSet, sent: &Option<OnPat
     let Some(sent) = sent else {
         return;
     };
-    if available[sent.path.index()] {
+    if available.has(sent.path) {
         wires.send_down(sent.path, &sent.signal);
     }
 }
@@ -54,7 +66,7 @@ pub fn finds_up_full(sub: &Subchannel, path: Path) -> bool
     ensures { (sent : on_path.OnPath signals.Up) → sent.path ≡ path →
         giving_spec.TellsFull sub.now.wires.up (spec.carried_by sub.now (Some sent)) result }
 {
-    sub.state.pmcw.available[path.index()] && sub.wires.up_is_full(path)
+    sub.state.up().has(path) && sub.wires.up_is_full(path)
 }
 
 /// Sends a signal up, where there is one.
@@ -65,7 +77,7 @@ pub fn send_any_up(sub: &mut Subchannel, sent: &Option<OnPath<LentUp<'_>>>)
     let Some(sent) = sent else {
         return;
     };
-    if sub.state.pmcw.available[sent.path.index()] {
+    if sub.state.up().has(sent.path) {
         sub.wires.send_up(sent.path, &sent.signal);
     }
 }

@@ -1,6 +1,6 @@
 //! What an event does at one subchannel.
 
-ghost use Rattle.std.specs.Prelude.{◌≡◌, ◌<◌, ◌≤◌, ◌^◌, Bool, Err, IfErr, OnErr, OnOk, Option, Some, false, length, nat_lt, true};
+ghost use Rattle.std.specs.Prelude.{◌≡◌, ◌<◌, ◌≤◌, ◌^◌, Bool, Err, IfErr, List, OnErr, OnOk, Option, Some, false, length, nat_lt, true};
 ghost use Rattle.subchannel_steps.specs.Giving as giving_spec;
 ghost use Rattle.machine_model.specs.ChooseSteps as choose_spec;
 ghost use Rattle.subchannel_model.specs.Sending as sending_spec;
@@ -8,6 +8,7 @@ ghost use Rattle.machine_model.specs.UpSteps as up_spec;
 ghost use Rattle.machine_model.specs.DownSteps as down_spec;
 ghost use Rattle.machine_model.specs.ReportSteps as report_spec;
 ghost use Rattle.machine_model.specs.Turns as turn_spec;
+ghost use Rattle.control_units.specs.declared.Member.{Member};
 ghost use Rattle.subchannel.specs.Answering as answering_spec;
 ghost use Rattle.chan_model.specs.Lent.{lent_down, lent_up};
 ghost use Rattle.chan_model.specs.Signals as signals;
@@ -27,13 +28,15 @@ ghost use Rattle.chan_events.specs.Replies.{plain_outcome, reply_of};
 ghost use Rattle.unit.specs.UnitWords.{IsAllowed};
 ghost use Rattle.wires.specs.Queues.{first_of, queue};
 
-use crate::sending::{finds_down_full, finds_up_full, first_up, send_any_down, send_any_up};
+use crate::sending::{
+    finds_down_full, finds_up_full, first_down, first_up, send_any_down, send_any_up,
+};
 use crate::sharing::take;
 use chan_events::reply::{PlainReply, Reply};
 use chan_model::fault::Fault;
 use chan_model::lent::{LentDown, LentUp, PlainDown};
 use chan_model::lent_forms::{lend_down, lend_up};
-use chan_model::names::Path;
+use chan_model::names::{Path, Side};
 use chan_model::report::{Report, ReportPath};
 use chan_model::signal::{Down, OnPath, Up};
 use chan_model::unit_state::Place;
@@ -47,7 +50,8 @@ use subchannel::choosing::{mark_lost_paths, offer, send_halt, send_reset};
 use subchannel::paths::is_granted;
 use subchannel::taking::take_up;
 use subchannel_model::cause::StatusCause;
-use subchannel_model::state::{Candidate, Chosen, Subchannel};
+use subchannel_model::state::{Candidate, Chosen};
+use subchannel_words::Subchannel;
 use unit::Unit;
 use working::sent::SentDown;
 
@@ -71,7 +75,7 @@ fn reset_on(sub: &mut Subchannel, number: u64, path: Path) -> PlainReply
     ensures gives { choose_spec.choose_sub sub.old (chosen_spec.Resets number path) ≡ Ok (turn_spec.leaves (reply_of result) sub.new) }
     ensures setup { sub.new.setup ≡ sub.old.setup }
 {
-    let available = sub.state.pmcw.available;
+    let available = sub.state.up();
     let reset = send_reset(&mut sub.state, path);
     send_any_down(&mut sub.wires, &available, &lend_down(&reset));
     Reply::ResetSent { path, number }
@@ -84,7 +88,7 @@ fn halt_on(sub: &mut Subchannel, number: u64, path: Path) -> PlainReply
     ensures gives { choose_spec.choose_sub sub.old (chosen_spec.Halts number path) ≡ Ok (turn_spec.leaves (reply_of result) sub.new) }
     ensures setup { sub.new.setup ≡ sub.old.setup }
 {
-    let available = sub.state.pmcw.available;
+    let available = sub.state.up();
     let halt = Some(OnPath {
         path,
         signal: PlainDown::of(Down::Halt { number }),
@@ -103,13 +107,13 @@ fn offer_on(sub: &mut Subchannel, candidate: Candidate, path: Path) -> PlainRepl
     ensures gives { choose_spec.choose_sub sub.old (chosen_spec.Offers candidate path) ≡ Ok (turn_spec.leaves (reply_of result) sub.new) }
     ensures setup { sub.new.setup ≡ sub.old.setup }
 {
-    let available = sub.state.pmcw.available;
+    let available = sub.state.up();
     let select = Some(offer(&mut sub.state, &candidate.program, path));
     send_any_down(&mut sub.wires, &available, &lend_down(&select));
     Reply::Offered {
         path,
         resumed: candidate.resumes,
-        number: sub.state.drawn,
+        number: sub.state.rest().drawn,
     }
 }
 
@@ -169,7 +173,7 @@ fn standing_finds_full(sub: &Subchannel) -> bool
     ensures { OnFalse result ((s : on_path.OnPath signals.Down) → answering_spec.standing_path sub.now.state.hold.phase ≡ Some s.path →
         giving_spec.TellsFull sub.now.wires.down (sending_spec.carried_by sub.now (Some s)) false) }
 {
-    match standing_path(&sub.state.hold) {
+    match standing_path(&sub.state.rest().hold) {
         None => false,
         Some(at) => finds_down_full(sub, at),
     }
@@ -209,7 +213,7 @@ fn up_finds_full(
 pub fn path_of(sub: &Subchannel, path: u32) -> Option<Path>
     ensures { giving_spec.PathOf sub.now path result }
 {
-    if (path as usize) < sub.setup.paths.as_slice().len() {
+    if (path as usize) < sub.state.setup().paths.as_slice().len() {
         Path::new(path)
     } else {
         None
@@ -271,7 +275,7 @@ pub fn up_sub(
     ensures refused { OnErr result (log.new ≡ log.old) }
 {
     may_come_up(storage, sub, path, returns)?;
-    let available = sub.state.pmcw.available;
+    let available = sub.state.up();
     let first = first_up(&sub.wires, path);
     let taken = take_up(storage, &mut sub.state, path, &first, returns, sent);
     let answer = sent.get();
@@ -281,12 +285,44 @@ pub fn up_sub(
     Ok(())
 }
 
+/// The side of its unit that the subchannel reaches.
+pub fn reached_side(sub: &Subchannel) -> Side
+    ensures { result ≡ sub.now.setup.side }
+{
+    sub.state.setup().side
+}
+
+/// The number of the unit that the subchannel reaches.
+fn reached_unit(sub: &Subchannel) -> u16
+    ensures { result ≡ sub.now.setup.«unit» }
+{
+    sub.state.setup().unit
+}
+
 /// Whether the answer of a unit to a signal finds its wire full. What the control unit may do makes no difference.
 fn answer_finds_full(sub: &Subchannel, unit: &Unit, path: Path, signal: &LentDown<'_>) -> bool
     ensures { (may : Bool) → giving_spec.TellsFull sub.now.wires.up (sending_spec.carried_by sub.now
         (unit_spec.came_of (unit_spec.unit_takes «unit».now sub.now.setup.side path (lent_down signal.now) may)).sent) result }
 {
-    finds_up_full(sub, path) && unit.answers(sub.setup.side, signal)
+    finds_up_full(sub, path) && unit.answers(reached_side(sub), signal)
+}
+
+/// Whether a signal waits on the wire down of a path, and the answer to it finds room. A refusal is that of the event.
+fn may_go_down(sub: &Subchannel, unit: &Unit, path: Path) -> Result<(), Fault>
+    requires { nat_lt path (length sub.now.setup.paths) ≡ true }
+    ensures waits { OnOk result (0 < length (queue sub.now.wires.down path)) }
+    ensures room { OnOk result ((signal : signals.Down) (may : Bool) → first_of sub.now.wires.down path ≡ Some signal →
+        giving_spec.TellsFull sub.now.wires.up (sending_spec.carried_by sub.now
+        (unit_spec.came_of (unit_spec.unit_takes «unit».now sub.now.setup.side path signal may)).sent) false) }
+    ensures refused { IfErr result (λ f. (members : List Member) → down_spec.down_shared members sub.now path «unit».now ≡ Err f) }
+{
+    let Some(front) = sub.wires.front_down(path) else {
+        return Err(Fault::NotSent);
+    };
+    if answer_finds_full(sub, unit, path, &front) {
+        return Err(Fault::WireFull);
+    }
+    Ok(())
 }
 
 /// The unit takes the signal that waits longest on the wire down of a path, once it is known that its answer finds room; its
@@ -310,14 +346,11 @@ pub fn down_sub(
     let Some(path) = path_of(sub, path) else {
         return Err(Fault::NoSuchPath);
     };
-    let Some(front) = sub.wires.front_down(path) else {
-        return Err(Fault::NotSent);
-    };
-    if answer_finds_full(sub, unit, path, &front) {
-        return Err(Fault::WireFull);
-    }
-    let side = sub.setup.side;
-    let came = take(sharing, sub.setup.unit, unit, side, path, &front);
+    may_go_down(sub, unit, path)?;
+    let side = reached_side(sub);
+    let number = reached_unit(sub);
+    let front = first_down(&sub.wires, path);
+    let came = take(sharing, number, unit, side, path, &front);
     let answer = lend_up(&came.sent);
     log.meet_down(&front, came.taken, &answer);
     sub.wires.drop_down(path);

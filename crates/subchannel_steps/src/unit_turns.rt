@@ -1,10 +1,12 @@
 //! What a unit is to do next.
 
 ghost use Rattle.std.specs.Prelude.{◌≡◌, ◌<◌, MatchOption, None, Some};
+ghost use Rattle.chan_model.specs.PathSets.{is_member};
 ghost use Rattle.chan_model.specs.UnitReports as report_spec;
 ghost use Rattle.chan_model.specs.declared.names.Side.TheVariants.{Second};
 ghost use Rattle.machine_model.specs.State as state_spec;
 ghost use Rattle.subchannel_model.specs.Places as place_spec;
+ghost use Rattle.subchannel_model.specs.Store as store_spec;
 ghost use Rattle.machine_model.specs.State.{State};
 ghost use Rattle.machine_model.specs.UnitTurns.{lent_turn};
 ghost use Rattle.finding.specs.Tables.{Fits};
@@ -16,9 +18,8 @@ use chan_model::report::LentWork;
 use chan_model::unit_state::{Own, Place};
 use channel_config::names::SubchannelId;
 use finding::tables::Places;
-use functions::blocks::available_paths;
 use machine_model::state::UnitTurn;
-use subchannel_model::state::Subchannel;
+use subchannel_words::Subchannel;
 use unit::Unit;
 use wires::Wires;
 
@@ -88,9 +89,20 @@ fn taken_from(places: &Places, unit: usize, side: Side, subs: &[Subchannel]) -> 
     let sub = reached_sub(places, unit, side, subs)?;
     let path = signal_path(&sub.wires)?;
     Some(Waiting {
-        subchannel: sub.setup.id,
+        subchannel: sub.state.setup().id,
         path,
     })
+}
+
+/// Whether the path of this index is in the set.
+fn has_path(paths: &PathSet, index: u32) -> bool
+    requires { index < 8 }
+    ensures { result ≡ is_member paths.now index }
+{
+    match Path::new(index) {
+        Some(path) => paths.has(path),
+        None => false,
+    }
 }
 
 /// The first of the paths, in cyclic order of 8 from this one.
@@ -99,12 +111,19 @@ pub fn cyclic_path(paths: &PathSet, from: u64) -> Option<u32>
 {
     let mut next = (from % 8) as u32;
     for _ in 0..8u32 {
-        if paths[next as usize] {
+        if has_path(paths, next) {
             return Some(next);
         }
         next = (next + 1) % 8;
     }
     None
+}
+
+/// The installed paths of a subchannel that are not down.
+fn available_paths(sub: &Subchannel) -> PathSet
+    ensures { result ≡ store_spec.available_paths sub.now }
+{
+    sub.state.available()
 }
 
 /// The path that a program of this side may ask for, whose last connection had this number.

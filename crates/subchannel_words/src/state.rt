@@ -100,6 +100,13 @@ impl PackedState {
         &self.setup
     }
 
+    /// The path-management-control word.
+    pub fn pmcw(&self) -> &PmcwWords
+        ensures { result.now ≡ pmcw_of (unwired_sub self.now) }
+    {
+        &self.pmcw
+    }
+
     /// The words of the path-management-control word, as the block has them.
     pub fn pmcw_words(&self) -> &[u32; 7]
         ensures { result.now ≡ map word_of (pmcw_tables (pmcw_of (unwired_sub self.now))) }

@@ -8,7 +8,8 @@ use channel_config::parts::{ChpidList, SubchannelSetup};
 use finding::engines::engaged;
 use finding::tables::Places;
 use std::alloc::{AllocError, Global};
-use subchannel_model::state::{Subchannel, SubchannelState};
+use subchannel_model::state::SubchannelState;
+use subchannel_words::{PackedState, Subchannel};
 use supply::{Given, Refusing, Supply};
 use wires::Wires;
 
@@ -30,15 +31,15 @@ fn subchannel(
     let mut paths = ChpidList::new();
     paths.push(0x10);
     paths.push(0x20);
+    let setup = SubchannelSetup {
+        id,
+        device: 0x100,
+        unit,
+        side,
+        paths,
+    };
     Ok(Subchannel {
-        setup: SubchannelSetup {
-            id,
-            device: 0x100,
-            unit,
-            side,
-            paths,
-        },
-        state: state(phase),
+        state: PackedState::of(setup, state(phase)),
         wires,
     })
 }

@@ -17,7 +17,8 @@ use io_step::{ChannelPaths, perform, perform_other, reply_code};
 use scsw_irb::code::IntCode;
 use std::alloc::Global;
 use storage_keys::{Storage, StorageFault};
-use subchannel_model::state::{Subchannel, SubchannelState};
+use subchannel_model::state::SubchannelState;
+use subchannel_words::{PackedState, Subchannel};
 use wires::Wires;
 
 const WORD: u32 = 0x0001_0001;
@@ -62,8 +63,7 @@ fn made(alloc: Global) -> Option<Lent> {
     Some(Lent {
         storage,
         sub: Subchannel {
-            setup,
-            state: state(true),
+            state: PackedState::of(setup, state(true)),
             wires,
         },
         pending,
@@ -75,10 +75,11 @@ fn made(alloc: Global) -> Option<Lent> {
 fn is_roomy(sub: &Subchannel) -> bool
     ensures { OnTrue result (IsRoomy sub.now) }
 {
-    sub.state.drawn <= LIMIT
-        && sub.state.starts <= LIMIT
-        && sub.state.serials.made <= LIMIT
-        && sub.state.begun.is_none()
+    let rest = sub.state.rest();
+    rest.drawn <= LIMIT
+        && rest.starts <= LIMIT
+        && rest.serials.made <= LIMIT
+        && rest.begun.is_none()
 }
 
 /// The condition code, or the refusal; a 9 stands where there is no code.

@@ -2,12 +2,17 @@
 
 use ccw_walk::Walk;
 use chan_model::hold_state::{HoldPhase, HoldState};
+use chan_model::names::Side;
+use chan_model::paths::PathSet;
+use channel_config::names::SubchannelId;
+use channel_config::parts::{ChpidList, SubchannelSetup};
 use orb_block::Orb;
 use scsw_irb::scsw::Scsw;
 use scsw_irb::serials::Serials;
 use std::alloc::Global;
 use storage_keys::Storage;
 use subchannel_model::state::{ActiveProgram, PmcwState, Program, SubchannelState};
+use subchannel_words::PackedState;
 use transfer::CommandStart;
 use transfer::commands::first_command;
 
@@ -19,11 +24,11 @@ pub(crate) fn idle_state() -> SubchannelState {
             subclass: 0,
             enabled: true,
             multipath: false,
-            logical: [true; 8],
-            not_operational: [false; 8],
+            logical: PathSet::all(),
+            not_operational: PathSet::none(),
             last_used: None,
-            operational: [true; 8],
-            available: [true; 8],
+            operational: PathSet::all(),
+            available: PathSet::all(),
         },
         scsw: Scsw::zero(),
         serials: Serials {
@@ -49,9 +54,28 @@ pub(crate) fn idle_state() -> SubchannelState {
     }
 }
 
+/// The set-up of subchannel 0 of set 0: device 0100 on the first side of unit 0, by the paths 10 and 11.
+pub(crate) fn setup() -> SubchannelSetup {
+    let mut paths = ChpidList::new();
+    paths.push(0x10);
+    paths.push(0x11);
+    SubchannelSetup {
+        id: SubchannelId { set: 0, number: 0 },
+        device: 0x100,
+        unit: 0,
+        side: Side::First,
+        paths,
+    }
+}
+
+/// The subchannel of that set-up in this state.
+pub(crate) fn packed(state: SubchannelState) -> PackedState {
+    PackedState::of(setup(), state)
+}
+
 /// Whether the status word of a subchannel has these three words.
-pub(crate) fn is_same_words(state: &SubchannelState, words: [u32; 3]) -> bool {
-    state.scsw.words() == words
+pub(crate) fn is_same_words(state: &PackedState, words: [u32; 3]) -> bool {
+    *state.scsw_words() == words
 }
 
 /// An enabled subchannel whose status word has these three words, and whose statuses are all cleared.

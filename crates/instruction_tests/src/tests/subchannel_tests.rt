@@ -1,19 +1,16 @@
 //! A subchannel whose paths go down, come up or are found down, and a reset of the channel subsystem.
 
-use crate::tests::setups::{begun, is_same_words, state_of_words, waiting};
+use crate::tests::setups::{begun, is_same_words, packed, state_of_words, waiting};
 use chan_model::hold_state::{HoldPhase, HoldState};
 use chan_model::lent::{PlainDown, PlainUp};
-use chan_model::names::{Path, Side};
-use chan_model::paths::mask_of_paths;
+use chan_model::names::Path;
 use chan_model::signal::{Down, Up};
-use channel_config::names::SubchannelId;
-use channel_config::parts::{ChpidList, SubchannelSetup};
-use functions::blocks::pmcw_of;
 use std::alloc::{AllocError, Global};
 use subchannel::choosing::mark_lost_paths;
 use subchannel::losing::{go_down, lose_path, show_path};
 use subchannel::system_reset::reset_by_system;
-use subchannel_model::state::{Subchannel, SubchannelState};
+use subchannel_model::state::{PmcwState, SubchannelState};
+use subchannel_words::{PackedState, Subchannel};
 use wires::Wires;
 
 fn first_path() -> Path {
@@ -51,59 +48,53 @@ fn subchannel(
     let mut wires = Wires::new(alloc)?;
     send(&mut wires, first_path());
     send(&mut wires, second_path());
-    let mut paths = ChpidList::new();
-    paths.push(0x10);
-    paths.push(0x11);
+    let state = SubchannelState {
+        drawn: 1,
+        hold: HoldState {
+            phase,
+            first_path: Some(first_path()),
+            ..state.hold
+        },
+        ..state
+    };
     Ok(Subchannel {
-        setup: SubchannelSetup {
-            id: SubchannelId { set: 0, number: 0 },
-            device: 0x100,
-            unit: 0,
-            side: Side::First,
-            paths,
-        },
-        state: SubchannelState {
-            drawn: 1,
-            hold: HoldState {
-                phase,
-                first_path: Some(first_path()),
-                ..state.hold
-            },
-            ..state
-        },
+        state: packed(state),
         wires,
     })
 }
 
 fn lose(sub: &mut Subchannel, chpid: u8) {
-    if sub.state.serials.made < 9 && sub.state.drawn < 9 {
+    let rest = sub.state.rest();
+    if rest.serials.made < 9 && rest.drawn < 9 {
         lose_path(sub, chpid);
     }
 }
 
 fn down(sub: &mut Subchannel, chpid: u8) {
-    if sub.state.serials.made < 9 && sub.state.drawn < 9 {
+    let rest = sub.state.rest();
+    if rest.serials.made < 9 && rest.drawn < 9 {
         go_down(sub, chpid);
     }
 }
 
 /// Whether its hold is to be reset under the next number, and so many statuses were made.
 fn is_reset(sub: &Subchannel, made: u64) -> bool {
-    let state = &sub.state;
-    matches!(state.hold.phase, HoldPhase::Reset { number: 2 })
-        && state.hold.reset_path.is_none()
-        && state.drawn == 2
-        && state.serials.made == made
+    let rest = sub.state.rest();
+    matches!(rest.hold.phase, HoldPhase::Reset { number: 2 })
+        && rest.hold.reset_path.is_none()
+        && rest.drawn == 2
+        && rest.serials.made == made
 }
 
 /// Whether no program is left.
 fn is_over(sub: &Subchannel) -> bool {
-    sub.state.waiting.is_none() && sub.state.begun.is_none()
+    let rest = sub.state.rest();
+    rest.waiting.is_none() && rest.begun.is_none()
 }
 
 /// Whether its hold is connected.
 fn is_on(sub: &Subchannel) -> bool {
-    matches!(sub.state.hold.phase, HoldPhase::On { .. })
+    matches!(sub.state.rest().hold.phase, HoldPhase::On { .. })
 }
 
 fn offered() -> HoldPhase {
@@ -170,11 +161,11 @@ fn waits_behind_path(alloc: Global, start: &SubchannelState, phase: HoldPhase) -
     let Ok(mut sub) = subchannel(alloc, *start, phase) else {
         return false;
     };
-    sub.state.hold.reset_path = Some(first_path());
+    sub.state.rest_mut().hold.reset_path = Some(first_path());
     lose(&mut sub, 0x10);
     is_same_words(&sub.state, [0x0080_4400, 0x1000, 0])
         && is_reset(&sub, 8)
-        && sub.state.waiting.is_some()
+        && sub.state.rest().waiting.is_some()
 }
 
 #[test]
@@ -201,16 +192,16 @@ fn a_path_that_no_program_is_on_goes_down_and_up(rt: HostRuntime) -> Result<(), 
     let kept = is_same_words(&sub.state, [0x0080_40C0, 0x1000, 0]);
     let works = is_on(&sub) && !is_over(&sub);
     let emptied = waits(&sub, first_path()) && !waits(&sub, second_path());
-    let gone = pmcw_of(&sub);
+    let gone = sub.state.pmcw();
     down(&mut sub, 0x12);
-    let passed_over = sub.state.drawn == 1 && waits(&sub, first_path());
+    let passed_over = sub.state.rest().drawn == 1 && waits(&sub, first_path());
     show_path(&mut sub, 0x12, true);
-    let still_gone = pmcw_of(&sub);
+    let still_gone = sub.state.pmcw();
     show_path(&mut sub, 0x11, true);
-    let back = pmcw_of(&sub);
+    let back = sub.state.pmcw();
     down(&mut sub, 0x10);
     let over = is_reset(&sub, 9);
-    let other_gone = pmcw_of(&sub);
+    let other_gone = sub.state.pmcw();
     drop(sub);
     assert!(rt; kept, "no status is shown");
     assert!(rt; works, "the program works on");
@@ -234,11 +225,36 @@ fn with_first_down(alloc: Global, state: SubchannelState) -> Result<Subchannel, 
     Ok(sub)
 }
 
-/// The state of the subchannel once its lost paths are marked at this choice.
-fn marked(sub: Subchannel, choice: &Option<Path>) -> SubchannelState {
+/// What changes of the path-management-control word of a subchannel.
+fn pmcw_of(state: &PackedState) -> PmcwState {
+    PmcwState {
+        parameter: state.parameter(),
+        subclass: state.subclass(),
+        enabled: state.is_enabled(),
+        multipath: state.is_multipath(),
+        logical: state.logical(),
+        not_operational: state.not_operational(),
+        last_used: state.last_used(),
+        operational: state.operational(),
+        available: state.up(),
+    }
+}
+
+/// The words of a subchannel in which lost paths are marked.
+#[derive(Clone, Copy)]
+struct Marked {
+    scsw: [u32; 3],
+    pmcw: PmcwState,
+}
+
+/// The words of the subchannel once its lost paths are marked at this choice.
+fn marked(sub: Subchannel, choice: &Option<Path>) -> Marked {
     let mut sub = sub;
     mark_lost_paths(&mut sub, choice);
-    sub.state
+    Marked {
+        scsw: *sub.state.scsw_words(),
+        pmcw: pmcw_of(&sub.state),
+    }
 }
 
 #[test]
@@ -246,23 +262,22 @@ fn a_path_that_is_down_is_found_once(rt: HostRuntime) -> Result<(), AllocError> 
     let halted = with_first_down(rt.alloc(), waiting([0x0080_6600, 0x1000, 0]))?;
     let halted = marked(halted, &None);
     assert!(rt;
-        is_same_words(&halted, [0x0080_6600, 0x1000, 0])
-            && mask_of_paths(halted.pmcw.operational) == 0xFF
+        halted.scsw == [0x0080_6600, 0x1000, 0] && halted.pmcw.operational.mask() == 0xFF
     );
     for choice in [None, Some(second_path())] {
         let start = with_first_down(rt.alloc(), waiting([0x0080_4400, 0x1000, 0]))?;
         let found = marked(start, &choice);
         assert!(rt;
-            is_same_words(&found, [0x0081_4400, 0x1000, 0])
-                && mask_of_paths(found.pmcw.operational) == 0x7F
-                && mask_of_paths(found.pmcw.not_operational) == 0x80
+            found.scsw == [0x0081_4400, 0x1000, 0]
+                && found.pmcw.operational.mask() == 0x7F
+                && found.pmcw.not_operational.mask() == 0x80
         );
         let again = SubchannelState {
             pmcw: found.pmcw,
             ..waiting([0x0080_4400, 0x1000, 0])
         };
         let known = marked(subchannel(rt.alloc(), again, offered())?, &choice);
-        assert!(rt; is_same_words(&known, [0x0080_4400, 0x1000, 0]));
+        assert!(rt; known.scsw == [0x0080_4400, 0x1000, 0]);
     }
     Ok(())
 }
@@ -280,27 +295,27 @@ fn a_reset_of_the_subsystem_keeps_what_is_up(rt: HostRuntime) -> Result<(), Allo
     active.pmcw.multipath = true;
     let mut sub = subchannel(rt.alloc(), active, connected())?;
     show_path(&mut sub, 0x11, false);
-    if sub.state.drawn < 9 {
+    if sub.state.rest().drawn < 9 {
         reset_by_system(&mut sub);
     }
-    let state = sub.state;
+    let kept = is_same_words(&sub.state, [0x0080_0000, 0x1000, 0x0080_0004]);
+    let rest = *sub.state.rest();
     let over = is_reset(&sub, 9) && is_over(&sub);
-    let word = pmcw_of(&sub);
+    let word = sub.state.pmcw();
     let waiting_on_both = waits(&sub, first_path()) && waits(&sub, second_path());
     drop(sub);
     assert!(rt;
-        is_same_words(&state, [0x0080_0000, 0x1000, 0x0080_0004])
-            && over
-            && state.serials.cleared == 9
+        kept && over
+            && rest.serials.cleared == 9
             && !word.enabled
             && word.parameter == 0
             && !word.multipath
     );
     assert!(rt;
         word.available == 0x80
-            && state.starts == 2
-            && state.last_path.is_some()
-            && state.dedicated.is_none()
+            && rest.starts == 2
+            && rest.last_path.is_some()
+            && rest.dedicated.is_none()
     );
     assert!(rt; waiting_on_both, "the signals are kept");
     Ok(())

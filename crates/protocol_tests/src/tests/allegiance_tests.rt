@@ -4,7 +4,7 @@ use allegiance::allegiances::{AllegianceCause, active, dedicated, may_reconnect,
 use allegiance::path_use::PathUse;
 use chan_model::hold_state::{HoldPhase, HoldState};
 use chan_model::names::Path;
-use chan_model::paths::{mask_of_path, mask_of_paths, paths_of_mask};
+use chan_model::paths::{PathSet, mask_of_path};
 
 fn held(phase: HoldPhase, single_path: bool) -> HoldState {
     HoldState {
@@ -66,7 +66,7 @@ fn a_program_works_by_its_first_path_or_by_its_last(rt: HostRuntime) {
 
 #[test]
 fn a_program_comes_back_by_its_first_path_or_by_any(rt: HostRuntime) {
-    let available = paths_of_mask(0x09);
+    let available = PathSet::of_mask(0x09);
     for (single_path, index, may) in [
         (true, 1, true),
         (true, 4, false),
@@ -100,28 +100,28 @@ fn unit_check_binds_a_subchannel_until_a_later_program_is_served(rt: HostRuntime
 #[test]
 fn the_usable_paths_are_counted_down(rt: HostRuntime) {
     let mut paths = PathUse {
-        logical: paths_of_mask(0xF0),
-        installed: paths_of_mask(0xFF),
-        available: paths_of_mask(0x7F),
-        operational: paths_of_mask(0xFF),
-        not_operational: paths_of_mask(0x02),
+        logical: PathSet::of_mask(0xF0),
+        installed: PathSet::of_mask(0xFF),
+        available: PathSet::of_mask(0x7F),
+        operational: PathSet::of_mask(0xFF),
+        not_operational: PathSet::of_mask(0x02),
         dedicated: None,
     };
-    let engaged = paths_of_mask(0x21);
+    let engaged = PathSet::of_mask(0x21);
     assert!(rt;
-        mask_of_paths(paths.allowed()) == 0xF0
-            && mask_of_paths(paths.reachable()) == 0x70
-            && mask_of_paths(paths.usable(&engaged)) == 0x50
-            && mask_of_paths(paths.lost()) == 0x80
+        paths.allowed().mask() == 0xF0
+            && paths.reachable().mask() == 0x70
+            && paths.usable(&engaged).mask() == 0x50
+            && paths.lost().mask() == 0x80
     );
     assert!(rt;
         paths.mark_lost()
-            && mask_of_paths(paths.operational) == 0x7F
-            && mask_of_paths(paths.not_operational) == 0x82
+            && paths.operational.mask() == 0x7F
+            && paths.not_operational.mask() == 0x82
             && !paths.mark_lost()
     );
     paths.dedicated = Path::new(3);
-    assert!(rt; mask_of_paths(paths.usable(&engaged)) == 0x10);
+    assert!(rt; paths.usable(&engaged).mask() == 0x10);
     paths.dedicated = Path::new(4);
-    assert!(rt; mask_of_paths(paths.allowed()) == 0);
+    assert!(rt; paths.allowed().mask() == 0);
 }

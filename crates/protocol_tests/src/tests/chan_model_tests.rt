@@ -4,11 +4,33 @@ use chan_model::answer::{Answer, ConditionCode};
 use chan_model::chunk::{Chunk, ChunkLength};
 use chan_model::fault::Fault;
 use chan_model::names::{Cpu, Path, Side};
-use chan_model::paths::{mask_of_path, mask_of_paths, paths_of_mask};
+use chan_model::paths::{PathSet, mask_of_path};
 use chan_model::report::{DeviceAnswer, Report};
 use chan_model::signal::{Down, Load, Up};
 use scsw_irb::serials::Serials;
 use storage_keys::StorageFault;
+
+/// Whether the path of this number is in the set.
+fn is_in(set: PathSet, number: u32) -> bool {
+    match Path::new(number) {
+        Some(path) => set.has(path),
+        None => false,
+    }
+}
+
+/// Of each path, whether it is in the set.
+fn members(set: PathSet) -> [bool; 8] {
+    [
+        is_in(set, 0),
+        is_in(set, 1),
+        is_in(set, 2),
+        is_in(set, 3),
+        is_in(set, 4),
+        is_in(set, 5),
+        is_in(set, 6),
+        is_in(set, 7),
+    ]
+}
 
 #[test]
 fn names_keep_their_range(rt: HostRuntime) {
@@ -24,8 +46,8 @@ fn names_keep_their_range(rt: HostRuntime) {
     }
     assert!(rt;
         mask_of_path(None) == 0
-            && mask_of_paths(paths_of_mask(0xA1)) == 0xA1
-            && paths_of_mask(0xA1) == [true, false, true, false, false, false, false, true]
+            && PathSet::of_mask(0xA1).mask() == 0xA1
+            && members(PathSet::of_mask(0xA1)) == [true, false, true, false, false, false, false, true]
             && Side::First.same(Side::First)
             && !Side::First.same(Side::Second)
     );

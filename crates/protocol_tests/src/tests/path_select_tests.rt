@@ -1,12 +1,12 @@
 //! Paths are chosen by either rule.
 
 use chan_model::names::Path;
-use chan_model::paths::paths_of_mask;
+use chan_model::paths::PathSet;
 use path_select::{Lowest, PathChoice, Rotating};
 
 fn chosen<P: PathChoice>(choice: &P, mask: u8, last: Option<u32>) -> Option<usize> {
     let last = last.and_then(Path::new);
-    Some(choice.choose(&paths_of_mask(mask), last)?.index())
+    Some(choice.choose(&PathSet::of_mask(mask), last)?.index())
 }
 
 #[test]

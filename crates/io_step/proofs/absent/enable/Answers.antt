@@ -1,4 +1,5 @@
-use Rattle.std.proofs.Common.{ap, sym, subst, refl, ℕ, None, Result, Err, List, inl, inr, arith}
+use Rattle.std.proofs.Common.{ap, sym, subst, refl, ℕ, None, Result, Err, List, inl, inr}
+use Rattle.schib_block.specs.Reading.{pmcw_of_words}
 use Rattle.storage_keys.specs.declared.StorageFault.{StorageFault}
 use Rattle.storage_keys.specs.Storage.{operand_at}
 use Rattle.chan_model.specs.declared.fault.Fault.TheVariants as fault
@@ -8,13 +9,14 @@ use Rattle.machine_model.specs.Turns.{does}
 use Rattle.machine_model.proofs.Named.{Enables}
 use Rattle.io_step.specs.Executing.{state_with_storage}
 use Rattle.io_step.proofs.Executions.{enables-none, not-allowed, permitted}
+use Rattle.io_step.proofs.Reading.{second}
 use Rattle.io_step.proofs.absent.enable.Goals as goal
 
 pub returns-then-not-is_allowed : goal.returns-then-not-is_allowed
 returns-then-not-is_allowed c = λ word.
     let fetched = permitted (operand_at c.args.storage.now c.args.cpu 0xF00 52 4) c.in_ok-image.image c.in_ok-image.ensures in (
       λ s. subst (λ (x : Result (List ℕ) StorageFault). Enables (state_with_storage s c.args.storage.now) c.args.cpu None c.args.subclass c.args.multipath x (Err fault.Operand)) (sym fetched)
-          (c.of_schib.result, c.of_schib.ensures.shown, inl (not-allowed c.of_schib.result c.is_allowed.result c.if-not-is_allowed.true c.is_allowed.ensures.1, refl)),
+          (pmcw_of_words c.word_in-words.result, c.word_in-words.ensures.shown, inl (not-allowed (pmcw_of_words c.word_in-words.result) c.is_allowed.result c.if-not-is_allowed.true c.is_allowed.ensures.1, refl)),
       refl,
     )
 
@@ -22,7 +24,7 @@ pub returns : goal.returns
 returns c = λ word s.
     let fetched = permitted (operand_at c.args.storage.now c.args.cpu 0xF00 52 4) c.in_ok-image.image c.in_ok-image.ensures in
     let left = enables-none s c.args.storage.now c.store_operand.new.self c.args.cpu c.number.result c.args.subclass c.args.multipath c.in_ok-image.image c.be_bytes-placed.result _ c.enabling_word.result
-    (c.be_words-words.ensures.words 1 (omega arith)) c.enabling_word.ensures c.be_bytes-placed.ensures c.number.ensures.value c.store_operand.ensures in
+    (second c.in_ok-image.image c.word_in-words.result c.word_in-words.ensures.words) c.enabling_word.ensures c.be_bytes-placed.ensures c.number.ensures.value c.store_operand.ensures in
     subst (λ (x : Result (List ℕ) StorageFault). Enables (state_with_storage s c.args.storage.now) c.args.cpu None c.args.subclass c.args.multipath x
     (does (reply.Code answer.Three) (state_with_storage s c.store_operand.new.self))) (sym fetched)
-    (c.of_schib.result, c.of_schib.ensures.shown, inr (c.is_allowed.ensures.0 c.if-not-is_allowed.false, ap (does (reply.Code answer.Three)) left))
+    (pmcw_of_words c.word_in-words.result, c.word_in-words.ensures.shown, inr (c.is_allowed.ensures.0 c.if-not-is_allowed.false, ap (does (reply.Code answer.Three)) left))

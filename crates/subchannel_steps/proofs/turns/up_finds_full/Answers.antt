@@ -1,10 +1,13 @@
-use Rattle.std.proofs.Common.{◌∙◌, Bool, false, subst, Some}
+use Rattle.std.proofs.Common.{◌∙◌, ap, sym, Bool, false, subst, Some}
 use Rattle.std.specs.Bool.{OnFalse}
 use Rattle.chan_model.specs.Signals.{Down}
 use Rattle.chan_model.specs.declared.signal.OnPath.{OnPath}
 use Rattle.chan_model.specs.Lent.{lent_up}
 use Rattle.subchannel.specs.Answering.{IsAnswerPath}
+use Rattle.subchannel_model.specs.declared.state.Subchannel.{Subchannel}
 use Rattle.subchannel_model.specs.Sending.{carried_by}
+use Rattle.subchannel_model.specs.Taking.{takes_up}
+use Rattle.working.specs.Sent.{sent_path}
 use Rattle.subchannel_steps.specs.Giving.{TellsFull}
 use Rattle.subchannel_steps.proofs.Answered.{tells_none, tells_nothing, tells_some}
 use Rattle.subchannel_steps.proofs.turns.up_finds_full.Goals as goal
@@ -20,9 +23,14 @@ returns-then-not-answers_may_find_full c =
 
 pub returns-in-Some : goal.returns-in-Some
 returns-in-Some c =
-    tells_some c.args.sub.now.state.pmcw.available c.args.sub.now.wires.down _ c.in-Some.at c.finds_down_full.result c.in-Some.ensures c.finds_down_full.ensures
+    let sub = c.args.sub.now in
+    let sends = λ (x : Subchannel). (takes_up c.args.returns c.args.storage.now x.state c.args.path (lent_up c.args.signal.now)).step.came.sent in
+    tells_some sub.state.pmcw.available sub.wires.down (sends sub) c.in-Some.at c.finds_down_full.result
+    (ap (λ (x : Subchannel). sent_path (sends x)) (sym c.sub.view_is) ∙ c.in-Some.ensures) c.finds_down_full.ensures
 
 pub returns-in-None : goal.returns-in-None
 returns-in-None c =
     let sub = c.args.sub.now in
-    tells_nothing sub.state.pmcw.available sub.wires.down _ (c.answer_path.ensures ∙ c.in-None.is)
+    let sends = λ (x : Subchannel). (takes_up c.args.returns c.args.storage.now x.state c.args.path (lent_up c.args.signal.now)).step.came.sent in
+    tells_nothing sub.state.pmcw.available sub.wires.down (sends sub)
+    (ap (λ (x : Subchannel). sent_path (sends x)) (sym c.sub.view_is) ∙ (c.answer_path.ensures ∙ c.in-None.is))

@@ -1,0 +1,44 @@
+//! What enabling stores, and modifies by (own).
+
+ghost use Rattle.std.specs.Prelude.{◌≡◌, ◌%◌, true};
+ghost use Rattle.schib_block.specs.Reading.{flag_of};
+ghost use Rattle.schib_block.specs.SchibTable.{schib_tables};
+ghost use Rattle.subchannel_model.specs.Enable as enable_spec;
+ghost use Rattle.zbits.specs.Bits.{field_of};
+ghost use Rattle.zbits.specs.Layout.{image_of};
+
+use schib_block::words::PmcwWords;
+use schib_block::SCHIB_BYTES;
+use scsw_irb::words::ScswWords;
+use zbits::be_bytes;
+
+/// The second word, with ISC (bits 2 to 4) and D (bit 13), and E one (bit 8).
+fn controls(subclass: u8, multipath: bool) -> u32
+    ensures subclass { field_of result 2 4 ≡ subclass % 8 }
+    ensures enabled { flag_of result 8 ≡ true }
+    ensures multipath { flag_of result 13 ≡ multipath }
+{
+    u32::from(subclass % 8) * 0x0800_0000 + 0x0080_0000 + u32::from(multipath) * 0x0004_0000
+}
+
+/// The word with ISC, D and E one placed in it. Of `subclass` the three rightmost bits are placed.
+pub fn enabling(word: &PmcwWords, subclass: u8, multipath: bool) -> PmcwWords
+    ensures { result ≡ enable_spec.enabling word.now subclass multipath }
+{
+    let [parameter, _, masks, block, ..] = *word.words();
+    let given = controls(subclass, multipath);
+    let mut enabling = *word;
+    enabling.modify(&[parameter, given, masks, block, 0, 0, 0]);
+    enabling
+}
+
+/// The subchannel-information block of two words.
+pub fn block_of(pmcw: &PmcwWords, scsw: &ScswWords) -> [u8; SCHIB_BYTES]
+    ensures { result ≡ image_of (schib_tables (record { pmcw = pmcw.now; scsw = scsw.now })) }
+{
+    let [parameter, controls, masks, block, front, back, last] = *pmcw.words();
+    let [status, address, count] = *scsw.words();
+    be_bytes(&[
+        parameter, controls, masks, block, front, back, last, status, address, count, 0, 0, 0,
+    ])
+}
