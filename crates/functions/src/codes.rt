@@ -16,6 +16,10 @@ ghost use Rattle.subchannel_model.specs.Test as test_spec;
 ghost use Rattle.subchannel_model.specs.Status as status_spec;
 
 use chan_model::answer::ConditionCode;
+use scsw_irb::bits::{
+    ALERT, CLEAR_FUNCTION, FUNCTIONS, HALT_FUNCTION, INTERMEDIATE, PRIMARY, RESUME_PENDING,
+    SECONDARY, START_FUNCTION, START_PENDING, STATUS_PENDING, SUBCHANNEL_ACTIVE, SUSPENDED,
+};
 use scsw_irb::words::ScswWords;
 use subchannel_words::PackedState;
 
@@ -34,25 +38,25 @@ fn in_order(operational: bool, one: bool, two: bool) -> ConditionCode
     }
 }
 
-/// Status pending: bit 31.
-fn is_pending(scsw: &ScswWords) -> bool
+/// Whether status is pending.
+pub fn is_pending(scsw: &ScswWords) -> bool
     ensures { result ≡ scsw.now.status.pending }
 {
-    scsw.any(0x01)
+    scsw.any(STATUS_PENDING)
 }
 
-/// The start, halt and clear function: bits 17 to 19.
+/// A function is specified.
 fn any_function(scsw: &ScswWords) -> bool
     ensures { result ≡ condition_spec.any_function scsw.now.functions }
 {
-    scsw.any(0x7000)
+    scsw.any(FUNCTIONS)
 }
 
 /// Of these functions the start function, and no other.
 fn is_start_alone(scsw: &ScswWords) -> bool
     ensures { result ≡ condition_spec.start_alone scsw.now.functions }
 {
-    scsw.shows(0x7000, 0x4000)
+    scsw.shows(FUNCTIONS, START_FUNCTION)
 }
 
 /// START SUBCHANNEL.
@@ -63,7 +67,7 @@ pub fn ssch_code(state: &PackedState) -> ConditionCode
     in_order(state.is_enabled(), is_pending(scsw), any_function(scsw))
 }
 
-/// RESUME SUBCHANNEL. Resume pending is bit 20.
+/// RESUME SUBCHANNEL.
 pub fn rsch_code(state: &PackedState) -> ConditionCode
     ensures { result ≡ resume_spec.rsch_code (condition_of (Some state.now.state)) }
 {
@@ -71,24 +75,27 @@ pub fn rsch_code(state: &PackedState) -> ConditionCode
     in_order(
         state.is_enabled(),
         is_pending(scsw),
-        !is_start_alone(scsw) || scsw.any(0x800) || !scsw.may_suspend(),
+        !is_start_alone(scsw) || scsw.any(RESUME_PENDING) || !scsw.may_suspend(),
     )
 }
 
-/// Status is pending that is not intermediate alone: intermediate status is bit 28, alert, primary and secondary status are bits
-/// 27, 29 and 30.
+/// Status is pending that is not intermediate alone.
 fn shows_end(scsw: &ScswWords) -> bool
     ensures { result ≡ halt_spec.shows_end scsw.now.status }
 {
-    is_pending(scsw) && (!scsw.any(0x08) || scsw.any(0x16))
+    is_pending(scsw) && (!scsw.any(INTERMEDIATE) || scsw.any(ALERT | PRIMARY | SECONDARY))
 }
 
-/// HALT SUBCHANNEL. The halt and the clear function are bits 18 and 19.
+/// HALT SUBCHANNEL.
 pub fn hsch_code(state: &PackedState) -> ConditionCode
     ensures { result ≡ halt_spec.hsch_code (condition_of (Some state.now.state)) }
 {
     let scsw = state.scsw();
-    in_order(state.is_enabled(), shows_end(scsw), scsw.any(0x3000))
+    in_order(
+        state.is_enabled(),
+        shows_end(scsw),
+        scsw.any(HALT_FUNCTION | CLEAR_FUNCTION),
+    )
 }
 
 /// CLEAR SUBCHANNEL.
@@ -98,14 +105,14 @@ pub fn csch_code(state: &PackedState) -> ConditionCode
     in_order(state.is_enabled(), false, false)
 }
 
-/// Resume pending, start pending and suspended: bits 20, 21 and 26.
+/// A program waits to be begun or to go on.
 fn waits(scsw: &ScswWords) -> bool
     ensures { result ≡ cancel_spec.waits scsw.now.activity }
 {
-    scsw.any(0xC20)
+    scsw.any(RESUME_PENDING | START_PENDING | SUSPENDED)
 }
 
-/// CANCEL SUBCHANNEL. Subchannel active is bit 24.
+/// CANCEL SUBCHANNEL.
 pub fn xsch_code(state: &PackedState) -> ConditionCode
     ensures { result ≡ cancel_spec.xsch_code (condition_of (Some state.now.state)) }
 {
@@ -113,7 +120,7 @@ pub fn xsch_code(state: &PackedState) -> ConditionCode
     in_order(
         state.is_enabled(),
         is_pending(scsw),
-        !is_start_alone(scsw) || !waits(scsw) || scsw.any(0x80),
+        !is_start_alone(scsw) || !waits(scsw) || scsw.any(SUBCHANNEL_ACTIVE),
     )
 }
 
@@ -139,9 +146,9 @@ pub fn tsch_code(state: &PackedState) -> ConditionCode
     in_order(state.is_enabled(), !is_pending(state.scsw()), false)
 }
 
-/// Whether intermediate status (bit 28) stands, and no alert, primary or secondary status (bits 27, 29 and 30) beside it.
+/// Whether intermediate status stands, and no alert, primary or secondary status beside it.
 pub fn is_intermediate_alone(scsw: &ScswWords) -> bool
     ensures { result ≡ status_spec.intermediate_alone scsw.now.status }
 {
-    scsw.shows(0x1E, 0x08)
+    scsw.shows(ALERT | INTERMEDIATE | PRIMARY | SECONDARY, INTERMEDIATE)
 }

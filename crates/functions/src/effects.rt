@@ -15,10 +15,14 @@ ghost use Rattle.subchannel_model.specs.Modify as modify_spec;
 ghost use Rattle.subchannel_model.specs.Start as start_spec;
 ghost use Rattle.subchannel_words.specs.Unwired.{with_state};
 
-use crate::codes::is_intermediate_alone;
+use crate::codes::{is_intermediate_alone, is_pending};
 use allegiance::allegiances::{AllegianceCause, dedicated};
 use hold::Hold;
 use orb_block::Orb;
+use scsw_irb::bits::{
+    CLEAR_FUNCTION, CLEAR_PENDING, DEVICE_ACTIVE, FUNCTIONS, HALT_FUNCTION, HALT_PENDING,
+    PATH_NOT_OPERATIONAL, RESUME_PENDING, START_PENDING, STATUS, SUBCHANNEL_ACTIVE, SUSPENDED,
+};
 use scsw_irb::scsw::Scsw;
 use scsw_irb::serials::Serials;
 use scsw_irb::words::ScswWords;
@@ -43,11 +47,11 @@ fn started_scsw(orb: &Orb) -> Scsw
     scsw
 }
 
-/// An earlier program's device active, bit 25, stays, and so does the status control, bits 27 to 31.
+/// An earlier program's device active stays, and so does the status control.
 fn start_scsw(scsw: &mut ScswWords, orb: &Orb)
     ensures { scsw.new ≡ start_spec.started_scsw scsw.old orb.now }
 {
-    scsw.replace(0x5F, started_scsw(orb));
+    scsw.replace(DEVICE_ACTIVE | STATUS, started_scsw(orb));
 }
 
 /// START SUBCHANNEL with code 0.
@@ -68,28 +72,27 @@ pub fn start(state: &mut PackedState, orb: &Orb)
     rest.suspended = None;
 }
 
-/// Resume pending, bit 20, is set.
+/// Resume pending is set.
 fn resume_scsw(scsw: &mut ScswWords)
     ensures { scsw.new ≡ parts.resumed_scsw scsw.old }
 {
-    scsw.change(0, 0x800);
+    scsw.change(0, RESUME_PENDING);
 }
 
-/// RESUME SUBCHANNEL with code 0. Suspended is bit 26.
+/// RESUME SUBCHANNEL with code 0.
 pub(crate) fn resume(state: &mut PackedState)
     ensures { state.new ≡ with_state state.old (resume_spec.resumed state.old.state) }
 {
-    if state.scsw().any(0x20) {
+    if state.scsw().any(SUSPENDED) {
         state.find_operational();
     }
     resume_scsw(state.scsw_mut());
 }
 
-/// Status pending is bit 31, subchannel active bit 24.
 fn drops_status(scsw: &ScswWords) -> bool
     ensures { result ≡ halt_spec.drops_status scsw.now }
 {
-    scsw.any(0x01) && is_intermediate_alone(scsw) && scsw.any(0x80)
+    is_pending(scsw) && is_intermediate_alone(scsw) && scsw.any(SUBCHANNEL_ACTIVE)
 }
 
 /// The counts once all status that was made is cleared.
@@ -99,11 +102,11 @@ pub fn clear_serials(serials: &mut Serials)
     serials.cleared = serials.made;
 }
 
-/// The halt function, bit 18, and halt pending, bit 22, are set.
+/// The halt function and halt pending are set.
 fn halt_scsw(scsw: &mut ScswWords)
     ensures { scsw.new ≡ halt_spec.halted_scsw scsw.old }
 {
-    scsw.change(0, 0x2200);
+    scsw.change(0, HALT_FUNCTION | HALT_PENDING);
 }
 
 fn halting(state: &mut PackedState)
@@ -113,11 +116,11 @@ fn halting(state: &mut PackedState)
     halt_scsw(state.scsw_mut());
 }
 
-/// Its status is no longer pending: the status control, bits 27 to 31, is cleared.
+/// Its status is no longer pending: the status control is cleared.
 pub fn drop_scsw(scsw: &mut ScswWords)
     ensures { scsw.new ≡ status_spec.without_status scsw.old }
 {
-    scsw.change(0x1F, 0);
+    scsw.change(STATUS, 0);
 }
 
 fn drop_status(state: &mut PackedState)
@@ -138,12 +141,12 @@ pub(crate) fn halt(state: &mut PackedState)
     }
 }
 
-/// The clear function, bit 19, and clear pending, bit 23, alone.
+/// The clear function and clear pending alone.
 fn cleared_scsw() -> ScswWords
     ensures { result ≡ parts.cleared_scsw }
 {
     let mut scsw = ScswWords::zero();
-    scsw.change(0, 0x1100);
+    scsw.change(0, CLEAR_FUNCTION | CLEAR_PENDING);
     scsw
 }
 
@@ -182,11 +185,17 @@ pub(crate) fn clear(state: &mut PackedState)
     rest.dedicated = dedicated(rest.dedicated, AllegianceCause::Clear);
 }
 
-/// N, the functions, resume pending, start pending and suspended, bits 15, 17 to 21 and 26, are cleared.
+/// What CANCEL SUBCHANNEL clears: N, the functions, resume pending, start pending and suspended.
+const CANCELLED: u32 = PATH_NOT_OPERATIONAL
+    | FUNCTIONS
+    | RESUME_PENDING
+    | START_PENDING
+    | SUSPENDED;
+
 fn cancel_scsw(scsw: &mut ScswWords)
     ensures { scsw.new ≡ cancel_spec.cancelled_scsw scsw.old }
 {
-    scsw.change(0x1_7C20, 0);
+    scsw.change(CANCELLED, 0);
 }
 
 /// CANCEL SUBCHANNEL with code 0.

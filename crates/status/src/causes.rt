@@ -14,6 +14,7 @@ use crate::ends::{end_shown, is_last_end, show_primary};
 use crate::shown::{add_status, check_status, conditions, shows_primary};
 use ccw_walk::check::Check;
 use functions::effects::end_programs;
+use scsw_irb::bits::{CLEAR_FUNCTION, INTERMEDIATE};
 use scsw_irb::scsw::{ActivityControl, DeferredCode, StatusControl};
 use scsw_irb::status::{DeviceStatus, SubchannelStatus};
 use scsw_irb::words::ScswWords;
@@ -250,20 +251,20 @@ fn leave_programs(state: &mut PackedState, cause: &StatusCause)
     }
 }
 
-/// The clear function, bit 19, alone.
+/// The clear function alone.
 fn clear_scsw() -> ScswWords
     ensures { result ≡ parts.clear_scsw }
 {
     let mut scsw = ScswWords::zero();
-    scsw.change(0, 0x1000);
+    scsw.change(0, CLEAR_FUNCTION);
     scsw
 }
 
-/// Intermediate status, bit 28, is turned off.
+/// Intermediate status is turned off.
 fn turn_off_intermediate(scsw: &mut ScswWords)
     ensures { scsw.new ≡ parts.without_intermediate scsw.old }
 {
-    scsw.change(0x08, 0);
+    scsw.change(INTERMEDIATE, 0);
 }
 
 /// The status word becomes the one that the status of a cause joins; that of a subchannel that is not enabled stays as it is.

@@ -6,6 +6,7 @@ ghost use Rattle.subchannel_model.specs.Ends as spec;
 ghost use Rattle.subchannel_model.specs.Parts as parts;
 
 use crate::shown::{check_status, conditions, shows_primary};
+use crate::testing::is_halted;
 use scsw_irb::scsw::{ActivityControl, DeferredCode};
 use scsw_irb::status::{DeviceStatus, SubchannelStatus};
 use scsw_irb::words::ScswWords;
@@ -55,13 +56,6 @@ fn suppresses_length(begun: &ActiveProgram) -> bool
 {
     let ccw = begun.transfer.moving.ccw();
     ccw.suppress_length && !ccw.chain_data
-}
-
-/// The halt function: bit 18.
-fn is_halted(scsw: &ScswWords) -> bool
-    ensures { result ≡ scsw.now.functions.halt }
-{
-    scsw.any(0x2000)
 }
 
 fn shows_length(scsw: &ScswWords, begun: &ActiveProgram, status: DeviceStatus, more: bool) -> bool

@@ -6,6 +6,7 @@ ghost use Rattle.subchannel_model.specs.Status as spec;
 ghost use Rattle.subchannel_words.specs.Unwired.{with_state};
 
 use ccw_walk::check::Check;
+use scsw_irb::bits::{CLEAR_FUNCTION, START_FUNCTION};
 use scsw_irb::scsw::{Scsw, StatusControl};
 use scsw_irb::status::{DeviceStatus, SubchannelStatus};
 use scsw_irb::words::ScswWords;
@@ -110,10 +111,9 @@ pub(crate) fn check_status(check: Option<Check>) -> SubchannelStatus
     }
 }
 
-/// Whether primary status is shown: once in a program, and not where its clear is in progress. The start and the clear function
-/// are bits 17 and 19.
+/// Whether primary status is shown: once in a program, and not where its clear is in progress.
 pub(crate) fn shows_primary(scsw: &ScswWords, shown_before: bool) -> bool
     ensures { result ≡ spec.shows_primary scsw.now.functions shown_before }
 {
-    scsw.shows(0x5000, 0x4000) && !shown_before
+    scsw.shows(START_FUNCTION | CLEAR_FUNCTION, START_FUNCTION) && !shown_before
 }

@@ -4,8 +4,9 @@ ghost use Rattle.std.specs.Prelude.{◌≡◌};
 ghost use Rattle.subchannel_model.specs.Test as test_spec;
 ghost use Rattle.subchannel_words.specs.Unwired.{with_state};
 
-use functions::codes::is_intermediate_alone;
+use functions::codes::{is_intermediate_alone, is_pending};
 use functions::effects::{clear_serials, drop_scsw, end_programs};
+use scsw_irb::bits::{HALT_FUNCTION, SUSPENDED};
 use scsw_irb::words::ScswWords;
 use subchannel_words::PackedState;
 
@@ -15,27 +16,20 @@ const ENDED: u32 = 0x0301_7F3F;
 
 /// What is cleared of a suspended program where intermediate status alone is pending: the deferred code, N, resume pending and the
 /// status control.
-const SUSPENDED: u32 = 0x0301_081F;
+const INTERMEDIATE_ENDED: u32 = 0x0301_081F;
 
-/// Status pending (bit 31).
-fn is_pending(scsw: &ScswWords) -> bool
-    ensures { result ≡ scsw.now.status.pending }
-{
-    scsw.any(0x01)
-}
-
-/// Suspended (bit 26).
+/// Whether the program is suspended.
 fn is_suspended(scsw: &ScswWords) -> bool
     ensures { result ≡ scsw.now.activity.suspended }
 {
-    scsw.any(0x20)
+    scsw.any(SUSPENDED)
 }
 
-/// The halt function (bit 18).
-fn is_halted(scsw: &ScswWords) -> bool
+/// Whether the halt function is specified.
+pub(crate) fn is_halted(scsw: &ScswWords) -> bool
     ensures { result ≡ scsw.now.functions.halt }
 {
-    scsw.any(0x2000)
+    scsw.any(HALT_FUNCTION)
 }
 
 fn clear_intermediate(scsw: &mut ScswWords)
@@ -46,7 +40,7 @@ fn clear_intermediate(scsw: &mut ScswWords)
     } else if is_halted(scsw) {
         scsw.change(ENDED, 0);
     } else {
-        scsw.change(SUSPENDED, 0);
+        scsw.change(INTERMEDIATE_ENDED, 0);
     }
 }
 

@@ -9,27 +9,39 @@ ghost use Rattle.working.specs.Stepping.{subchannel_stepped};
 
 use chan_model::lent::LentUp;
 use chan_model::names::Path;
+use scsw_irb::bits::{
+    CLEAR_PENDING, DEVICE_ACTIVE, HALT_PENDING, RESUME_PENDING, STATUS_PENDING, SUBCHANNEL_ACTIVE,
+    SUSPENDED,
+};
 use scsw_irb::status::DeviceStatus;
-use status::make_pending;
 use scsw_irb::words::ScswWords;
+use status::make_pending;
 use subchannel_model::cause::StatusCause;
 use subchannel_words::PackedState;
 use working::answers::by_hold;
 use working::sent::SentDown;
 
-/// Whether nothing goes on but a start that waits: of the activity control, bits 20 to 26, start pending is bit 21.
+/// The activity control, but for start pending.
+const BUSY: u32 = RESUME_PENDING
+    | HALT_PENDING
+    | CLEAR_PENDING
+    | SUBCHANNEL_ACTIVE
+    | DEVICE_ACTIVE
+    | SUSPENDED;
+
+/// Whether nothing goes on but a start that waits.
 fn is_open(scsw: &ScswWords) -> bool
     ensures { result ≡ spec.is_open scsw.now.activity }
 {
-    !scsw.any(0xBE0)
+    !scsw.any(BUSY)
 }
 
-/// Whether an Attn may be taken: no status is pending, bit 31, and nothing goes on but a start that waits.
+/// Whether an Attn may be taken: no status is pending, and nothing goes on but a start that waits.
 pub fn may_attend(state: &PackedState) -> bool
     ensures { result ≡ spec.may_attend state.now.state }
 {
     let scsw = state.scsw();
-    !scsw.any(0x1) && is_open(scsw)
+    !scsw.any(STATUS_PENDING) && is_open(scsw)
 }
 
 /// Attn: but for a control-unit end alone it makes status.

@@ -20,6 +20,9 @@ use chan_model::paths::PathSet;
 use chan_model::signal::OnPath;
 use finding::engines::Served;
 use hold::Hold;
+use scsw_irb::bits::{
+    CLEAR_PENDING, HALT_PENDING, PATH_NOT_OPERATIONAL, RESUME_PENDING, START_PENDING,
+};
 use scsw_irb::words::ScswWords;
 use subchannel_model::state::{Candidate, Chosen, Program, ProgramPosition};
 use subchannel_words::{PackedState, Subchannel};
@@ -41,11 +44,10 @@ fn is_away(phase: HoldPhase) -> bool
     matches!(phase, HoldPhase::Away { .. })
 }
 
-/// Halt pending is bit 22.
 fn paths_unreset(subs: &Served<'_>, sub: &Subchannel) -> PathSet
     ensures { result ≡ spec.paths_unreset subs.now sub.now }
 {
-    if sub.state.scsw().any(0x200) && is_away(sub.state.rest().hold.phase) {
+    if sub.state.scsw().any(HALT_PENDING) && is_away(sub.state.rest().hold.phase) {
         return_paths(sub)
     } else {
         usable_paths(subs, sub)
@@ -87,14 +89,14 @@ fn resuming(resume: bool, suspended: Option<ProgramPosition>) -> Option<Candidat
     }
 }
 
-/// The program that is to be offered. Start pending is bit 21, resume pending bit 20.
+/// The program that is to be offered.
 fn candidate(state: &PackedState) -> Option<Candidate>
     ensures { result ≡ spec.candidate state.now.state }
 {
     let rest = state.rest();
-    match starting(state.scsw().any(0x400), rest.waiting) {
+    match starting(state.scsw().any(START_PENDING), rest.waiting) {
         Some(candidate) => Some(candidate),
-        None => resuming(state.scsw().any(0x800), rest.suspended),
+        None => resuming(state.scsw().any(RESUME_PENDING), rest.suspended),
     }
 }
 
@@ -162,7 +164,7 @@ fn offer_chosen(
 }
 
 /// What is done, where this path was chosen of those of `paths_to_choose`: the first that applies of a Reset that is due, a
-/// clear without a path for its Reset, a halt, and an offer. Clear pending is bit 23, halt pending bit 22.
+/// clear without a path for its Reset, a halt, and an offer.
 pub fn chosen(sub: &Subchannel, choice: Option<Path>) -> Chosen
     ensures chosen { result ≡ spec.chosen sub.now choice }
     ensures fits { spec.IsFitFor result sub.now.state.hold }
@@ -172,10 +174,10 @@ pub fn chosen(sub: &Subchannel, choice: Option<Path>) -> Chosen
     if let Some(chosen) = reset_chosen(hold, &choice) {
         return chosen;
     }
-    if let Some(chosen) = clear_chosen(hold, state.scsw().any(0x100)) {
+    if let Some(chosen) = clear_chosen(hold, state.scsw().any(CLEAR_PENDING)) {
         return chosen;
     }
-    if let Some(chosen) = halt_chosen(state.scsw().any(0x200), hold, &choice) {
+    if let Some(chosen) = halt_chosen(state.scsw().any(HALT_PENDING), hold, &choice) {
         return chosen;
     }
     match offer_chosen(sub, candidate(state), &choice) {
@@ -184,25 +186,24 @@ pub fn chosen(sub: &Subchannel, choice: Option<Path>) -> Chosen
     }
 }
 
-/// Whether a program is to be offered, and neither a Reset that has a path nor a clear nor a halt comes before it. Clear
-/// pending is bit 23, halt pending bit 22.
+/// Whether a program is to be offered, and neither a Reset that has a path nor a clear nor a halt comes before it.
 fn looks_for_path(sub: &Subchannel, choice: &Option<Path>) -> bool
     ensures { result ≡ spec.looks_for_path sub.now.state choice.now }
 {
     let state = &sub.state;
     let hold = &state.rest().hold;
     reset_chosen(hold, choice).is_none()
-        && clear_chosen(hold, state.scsw().any(0x100)).is_none()
-        && !state.scsw().any(0x200)
+        && clear_chosen(hold, state.scsw().any(CLEAR_PENDING)).is_none()
+        && !state.scsw().any(HALT_PENDING)
         && candidate(state).is_some()
 }
 
-/// N, bit 15, is set where there is such a path.
+/// N is set where there is such a path.
 fn mark_scsw(scsw: &mut ScswWords, any: bool)
     ensures { scsw.new ≡ record scsw.old { path_not_operational = if any then true else scsw.old.path_not_operational } }
 {
     if any {
-        scsw.change(0, 0x1_0000);
+        scsw.change(0, PATH_NOT_OPERATIONAL);
     }
 }
 
@@ -260,11 +261,11 @@ pub fn send_reset(state: &mut PackedState, path: Path) -> Option<OnPath<PlainDow
     reset
 }
 
-/// Halt pending, bit 22, is cleared.
+/// Halt pending is cleared.
 fn tell_halt(scsw: &mut ScswWords)
     ensures { scsw.new ≡ parts.halt_sent_scsw scsw.old }
 {
-    scsw.change(0x200, 0);
+    scsw.change(HALT_PENDING, 0);
 }
 
 /// The program at work is told of a halt, which is no longer pending.

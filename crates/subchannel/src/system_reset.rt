@@ -7,14 +7,15 @@ ghost use Rattle.subchannel_words.specs.Unwired.{with_state};
 
 use allegiance::allegiances::{AllegianceCause, dedicated};
 use functions::effects::{clear_serials, draw_reset, end_programs};
+use scsw_irb::bits::CONTROLS;
 use scsw_irb::words::ScswWords;
 use subchannel_words::{PackedState, Subchannel};
 
-/// Function, activity and status control, bits 17 to 31, are cleared.
+/// Function, activity and status control are cleared.
 fn reset_scsw(scsw: &mut ScswWords)
     ensures { scsw.new ≡ parts.scsw_reset scsw.old }
 {
-    scsw.change(0x7FFF, 0);
+    scsw.change(CONTROLS, 0);
 }
 
 fn reset_state(state: &mut PackedState)

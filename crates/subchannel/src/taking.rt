@@ -16,6 +16,7 @@ use chan_model::lent::LentUp;
 use chan_model::names::Path;
 use chan_model::signal::Up;
 use hold::Hold;
+use scsw_irb::bits::CLEAR_PENDING;
 use status::make_pending;
 use storage_keys::Storage;
 use subchannel_model::cause::StatusCause;
@@ -26,12 +27,12 @@ use working::ending::end_command;
 use working::moving::take_data;
 use working::sent::SentDown;
 
-/// A clear that is pending, bit 23, is performed.
+/// A clear that is pending is performed.
 fn do_clear(state: &mut PackedState)
     requires { state.old.state.serials.made < 2 ^ 63 }
     ensures { state.new ≡ with_state state.old (spec.clear_done state.old.state) }
 {
-    if state.scsw().any(0x100) {
+    if state.scsw().any(CLEAR_PENDING) {
         make_pending(state, &StatusCause::ClearDone);
     }
 }

@@ -24,8 +24,11 @@ use chan_model::lent::{LentUp, PlainDown};
 use chan_model::names::Path;
 use chan_model::signal::Down;
 use hold::Hold;
-use status::make_pending;
+use scsw_irb::bits::{
+    DEVICE_ACTIVE, HALT_PENDING, RESUME_PENDING, START_PENDING, SUBCHANNEL_ACTIVE, SUSPENDED,
+};
 use scsw_irb::words::ScswWords;
+use status::make_pending;
 use storage_keys::Storage;
 use subchannel_model::cause::StatusCause;
 use subchannel_model::state::{ActiveProgram, Program, ProgramPosition};
@@ -97,7 +100,7 @@ fn is_standing(rest: &Rest) -> bool
 fn is_halt_pending(scsw: &ScswWords) -> bool
     ensures { result ≡ scsw.now.activity.halt_pending }
 {
-    scsw.any(0x200)
+    scsw.any(HALT_PENDING)
 }
 
 /// Whether the program that was offered takes the device.
@@ -111,7 +114,10 @@ fn goes_ahead(state: &PackedState) -> bool
 fn work(scsw: &mut ScswWords)
     ensures { scsw.new ≡ parts.working_scsw scsw.old }
 {
-    scsw.change(0xC20, 0xC0);
+    scsw.change(
+        RESUME_PENDING | START_PENDING | SUSPENDED,
+        SUBCHANNEL_ACTIVE | DEVICE_ACTIVE,
+    );
 }
 
 fn take_over(state: &mut PackedState, program: Program, transfer: Transfer)

@@ -8,8 +8,12 @@ ghost use Rattle.subchannel_model.specs.Parts as parts;
 ghost use Rattle.subchannel_words.specs.Unwired.{with_state};
 
 use ccw_walk::Walk;
-use status::make_pending;
+use scsw_irb::bits::{
+    CLEAR_PENDING, DEVICE_ACTIVE, HALT_PENDING, RESUME_PENDING, START_PENDING, SUBCHANNEL_ACTIVE,
+    SUSPENDED,
+};
 use scsw_irb::words::ScswWords;
+use status::make_pending;
 use subchannel_model::cause::StatusCause;
 use subchannel_model::state::{ActiveProgram, Program, ProgramPosition};
 use subchannel_words::{PackedState, Rest};
@@ -47,11 +51,19 @@ pub(crate) fn interrupt(state: &mut PackedState)
     make_pending(state, &cause);
 }
 
-/// Of the activity control, suspended alone stays on.
+/// The activity control, but for suspended.
+const ACTIVE: u32 = RESUME_PENDING
+    | START_PENDING
+    | HALT_PENDING
+    | CLEAR_PENDING
+    | SUBCHANNEL_ACTIVE
+    | DEVICE_ACTIVE;
+
+/// Of the activity control, suspended alone is on.
 fn suspend_alone(scsw: &mut ScswWords)
     ensures { scsw.new ≡ parts.suspended_alone scsw.old }
 {
-    scsw.change(0xFC0, 0x20);
+    scsw.change(ACTIVE, SUSPENDED);
 }
 
 fn stand_still(state: &mut PackedState, program: Program, walk: Walk, count: u16)
