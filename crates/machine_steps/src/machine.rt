@@ -33,7 +33,6 @@ use scsw_irb::serials::Serials;
 use std::marker::Model;
 use storage_keys::Storage;
 use subchannel::choosing::{chosen, paths_to_choose};
-use subchannel_words::Subchannel;
 use subchannel_steps::acts::{act_sub, not_held, side_of_act};
 use subchannel_steps::posting::{made_by, post};
 use subchannel_steps::sharing::restart;
@@ -41,6 +40,7 @@ use subchannel_steps::tables::engaged_for;
 use subchannel_steps::turns::{
     choose_sub, down_sub, path_of, reached_unit, report_sub, returns_at, up_sub,
 };
+use subchannel_words::Subchannel;
 use unit::Unit;
 use working::sent::SentDown;
 
