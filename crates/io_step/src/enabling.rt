@@ -7,8 +7,8 @@ ghost use Rattle.subchannel_model.specs.Enable as enable_spec;
 ghost use Rattle.zbits.specs.Bits.{field_of};
 ghost use Rattle.zbits.specs.Layout.{image_of};
 
-use schib_block::words::PmcwWords;
 use schib_block::SCHIB_BYTES;
+use schib_block::words::PmcwWords;
 use scsw_irb::words::ScswWords;
 use zbits::be_bytes;
 

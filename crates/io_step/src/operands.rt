@@ -11,8 +11,8 @@ ghost use Rattle.std.specs.Prelude.{◌≡◌, ◌<◌, ◌≤◌, ◌+◌, leng
 use chan_model::fault::Fault;
 use chan_model::names::Cpu;
 use orb_block::{ORB_BYTES, Orb};
-use schib_block::words::PmcwWords;
 use schib_block::SCHIB_BYTES;
+use schib_block::words::PmcwWords;
 use storage_keys::Storage;
 use zbits::be_words;
 

@@ -17,7 +17,7 @@ ghost use Rattle.chan_events.specs.Replies.{plain_outcome};
 use chan_events::event::{Event, Instruction, OtherInstruction, UnitAct};
 use chan_events::reply::{PlainReply, Reply};
 use chan_model::fault::Fault;
-use chan_model::names::Cpu;
+use chan_model::names::{Cpu, Path};
 use chan_model::report::Report;
 use channel_config::names::subchannel_named;
 use channel_reports::Reports;
@@ -33,12 +33,14 @@ use scsw_irb::serials::Serials;
 use std::marker::Model;
 use storage_keys::Storage;
 use subchannel::choosing::{chosen, paths_to_choose};
-use subchannel_words::Subchannel;
 use subchannel_steps::acts::{act_sub, not_held, side_of_act};
-use subchannel_steps::posting::post;
+use subchannel_steps::posting::{made_by, post};
 use subchannel_steps::sharing::restart;
 use subchannel_steps::tables::engaged_for;
-use subchannel_steps::turns::{choose_sub, down_sub, path_of, report_sub, returns_at, up_sub};
+use subchannel_steps::turns::{
+    choose_sub, down_sub, path_of, reached_unit, report_sub, returns_at, up_sub,
+};
+use subchannel_words::Subchannel;
 use unit::Unit;
 use working::sent::SentDown;
 
@@ -57,6 +59,13 @@ fn word_of(instruction: Instruction) -> u32
         | Instruction::Xsch { subchannel }
         | Instruction::Enable { subchannel, .. } => subchannel,
     }
+}
+
+/// The path of the last offer, Reset or Grant.
+fn last_path_of(sub: &Subchannel) -> Option<Path>
+    ensures { result ≡ sub.now.state.last_path }
+{
+    sub.state.rest().last_path
 }
 
 /// Storage, channel paths, subchannels and units, and what waits for the program.
@@ -161,7 +170,7 @@ impl Machine {
         };
         let sub = &mut self.subs[place];
         let before = engaged(sub);
-        let made = sub.state.rest().serials.made;
+        let made = made_by(sub);
         let answer = perform_provided(&mut self.storage, sub, &mut self.pending, cpu, instruction);
         post(&mut self.pending, sub, made);
         let after = engaged(sub);
@@ -213,10 +222,10 @@ impl Machine {
         let served = Served::of(self.subs.as_slice(), &self.engines);
         let paths = paths_to_choose(&served, &self.subs[place]);
         let sub = &mut self.subs[place];
-        let path = choice.choose(&paths, sub.state.rest().last_path);
+        let path = choice.choose(&paths, last_path_of(sub));
         let what = chosen(sub, path);
         let before = engaged(sub);
-        let made = sub.state.rest().serials.made;
+        let made = made_by(sub);
         let answer = choose_sub(sub, &path, what);
         let after = engaged(sub);
         self.engines.change(place, before, after);
@@ -247,7 +256,7 @@ impl Machine {
         let returns = returns_at(&served, &self.subs[place], path);
         let sub = &mut self.subs[place];
         let before = engaged(sub);
-        let made = sub.state.rest().serials.made;
+        let made = made_by(sub);
         let answer = up_sub(&mut self.storage, sub, path, returns, &mut self.sent, log);
         post(&mut self.pending, sub, made);
         let after = engaged(sub);
@@ -267,8 +276,7 @@ impl Machine {
         let Some(place) = self.place_of(places, word) else {
             return Err(Fault::NoSuchSubchannel);
         };
-        let sub = &self.subs[place];
-        let number = sub.state.setup().unit as usize;
+        let number = usize::from(reached_unit(&self.subs[place]));
         if number >= self.units.len() {
             return Err(Fault::NoSuchUnit);
         }

@@ -20,9 +20,9 @@ use interruptions::Pending;
 use machine_model::state::Sweep;
 use subchannel::losing::{go_down, lose_path, show_path};
 use subchannel::system_reset::reset_by_system;
-use subchannel_words::Subchannel;
-use subchannel_steps::posting::post;
+use subchannel_steps::posting::{made_by, post};
 use subchannel_steps::tables::has_chpid;
+use subchannel_words::Subchannel;
 
 /// The channel path of this identifier, where it is configured.
 fn chpid_of(chpids: &[u8], number: u32) -> Option<u8>
@@ -62,7 +62,7 @@ fn sweep_one(
     ensures served { engines.new ≡ served_at place (engaged_by sub.old) (engaged_by sub.new) engines.old }
 {
     let before = engaged(sub);
-    let made = sub.state.rest().serials.made;
+    let made = made_by(sub);
     sweep(sub, what);
     post(pending, sub, made);
     let after = engaged(sub);

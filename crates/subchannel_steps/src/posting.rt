@@ -21,6 +21,13 @@ fn request_of(sub: &Subchannel) -> IntCode
     }
 }
 
+/// How many statuses a subchannel has made.
+pub fn made_by(sub: &Subchannel) -> u64
+    ensures { result ≡ sub.now.state.serials.made }
+{
+    sub.state.rest().serials.made
+}
+
 /// Posts the request of a subchannel that had made so many statuses before an event, where the event made one. Where a
 /// request of it stands, nothing changes.
 #[inline(always)]
@@ -28,7 +35,7 @@ pub fn post(pending: &mut Pending, sub: &Subchannel, made: u64)
     requires { sub.now.setup.id.number < pending.old.numbers }
     ensures { pending.new ≡ giving_spec.posted_since made sub.now pending.old }
 {
-    if made < sub.state.rest().serials.made {
+    if made < made_by(sub) {
         pending.post(request_of(sub));
     }
 }

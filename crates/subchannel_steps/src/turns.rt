@@ -293,7 +293,7 @@ pub fn reached_side(sub: &Subchannel) -> Side
 }
 
 /// The number of the unit that the subchannel reaches.
-fn reached_unit(sub: &Subchannel) -> u16
+pub fn reached_unit(sub: &Subchannel) -> u16
     ensures { result ≡ sub.now.setup.«unit» }
 {
     sub.state.setup().unit

@@ -261,9 +261,7 @@ fn marked(sub: Subchannel, choice: &Option<Path>) -> Marked {
 fn a_path_that_is_down_is_found_once(rt: HostRuntime) -> Result<(), AllocError> {
     let halted = with_first_down(rt.alloc(), waiting([0x0080_6600, 0x1000, 0]))?;
     let halted = marked(halted, &None);
-    assert!(rt;
-        halted.scsw == [0x0080_6600, 0x1000, 0] && halted.pmcw.operational.mask() == 0xFF
-    );
+    assert!(rt; halted.scsw == [0x0080_6600, 0x1000, 0] && halted.pmcw.operational.mask() == 0xFF);
     for choice in [None, Some(second_path())] {
         let start = with_first_down(rt.alloc(), waiting([0x0080_4400, 0x1000, 0]))?;
         let found = marked(start, &choice);

@@ -47,7 +47,8 @@ fn names_keep_their_range(rt: HostRuntime) {
     assert!(rt;
         mask_of_path(None) == 0
             && PathSet::of_mask(0xA1).mask() == 0xA1
-            && members(PathSet::of_mask(0xA1)) == [true, false, true, false, false, false, false, true]
+            && members(PathSet::of_mask(0xA1))
+                == [true, false, true, false, false, false, false, true]
             && Side::First.same(Side::First)
             && !Side::First.same(Side::Second)
     );

@@ -1,4 +1,4 @@
-use Rattle.std.proofs.Common.{◌∙◌, ap, subst, sym, List}
+use Rattle.std.proofs.Common.{◌∙◌, ap, subst, sym, ℕ, List, Option}
 use Rattle.std.specs.Prelude.{All, slice_get, slice_set}
 use Rattle.chan_events.specs.declared.event.Event.TheVariants as event
 use Rattle.finding.specs.Tables.{Serves}
@@ -7,6 +7,7 @@ use Rattle.machine_steps.specs.Postable.{IsPostable}
 use Rattle.machine_model.specs.State.{State}
 use Rattle.subchannel_model.specs.Choosing.{paths_to_choose}
 use Rattle.subchannel_model.specs.declared.state.Subchannel.{Subchannel}
+use Rattle.subchannel_steps.specs.Giving.{posted_since}
 use Rattle.machine_steps.specs.contracts.machine.Machine.{the_view}
 use Rattle.machine_steps.proofs.Lifting.{at_seen, named_at, chooses, chooses-none, postable-at, gets}
 use Rattle.machine_steps.proofs.Serving.{served-performed}
@@ -20,7 +21,8 @@ returns g c =
     let both = chooses g.P.PathChoice.picks old c.args.self.now c.args.word c.in-Some.place c.index_mut-sub.result.now c.index.result.now c.choose_sub-answer.new.sub
     c.paths_to_choose-paths.result c.choose-path.result c.chosen-what.result (plain_outcome c.choose_sub-answer.result) c.post.new.pending c.self.view_is at stands c.index.ensures
     (c.paths_to_choose-paths.ensures ∙ ap (λ (subs : List Subchannel). paths_to_choose subs c.index.result.now) (c.of-served.ensures ∙ c.as_slice.ensures.value))
-    c.choose-path.ensures.law c.choose-path.ensures.rule c.chosen-what.ensures.chosen c.choose_sub-answer.ensures.gives c.post.ensures in
+    c.choose-path.ensures.law (subst (λ (last : Option ℕ). g.P.PathChoice.picks c.paths_to_choose-paths.result last c.choose-path.result) c.last_path_of.ensures c.choose-path.ensures.rule)
+    c.chosen-what.ensures.chosen c.choose_sub-answer.ensures.gives (c.post.ensures ∙ ap (λ (n : ℕ). posted_since n c.choose_sub-answer.new.sub old.requests) c.made_by-made.ensures) in
     record { performs = both.0; ruled = both.1 }
 
 pub returns-in_default : goal.returns-in_default
@@ -40,7 +42,8 @@ invariant_of-self g c =
     let both = chooses g.P.PathChoice.picks old c.args.self.now c.args.word place sub c.index.result.now after
     c.paths_to_choose-paths.result c.choose-path.result c.chosen-what.result answer c.post.new.pending c.self.view_is at stands c.index.ensures
     (c.paths_to_choose-paths.ensures ∙ ap (λ (subs : List Subchannel). paths_to_choose subs c.index.result.now) (c.of-served.ensures ∙ c.as_slice.ensures.value))
-    c.choose-path.ensures.law c.choose-path.ensures.rule c.chosen-what.ensures.chosen c.choose_sub-answer.ensures.gives c.post.ensures in (
+    c.choose-path.ensures.law (subst (λ (last : Option ℕ). g.P.PathChoice.picks c.paths_to_choose-paths.result last c.choose-path.result) c.last_path_of.ensures c.choose-path.ensures.rule)
+    c.chosen-what.ensures.chosen c.choose_sub-answer.ensures.gives (c.post.ensures ∙ ap (λ (n : ℕ). posted_since n c.choose_sub-answer.new.sub old.requests) c.made_by-made.ensures) in (
       subst (λ (s : State). Serves c.change.new.self (slice_set s.subs place after)) (sym c.self.view_is)
           (served-performed c.engines.ensures.alone c.self.inside.engines c.change.new.self c.args.self.now _ (event.Choose c.args.word) answer place sub after
           c.engaged-before.result c.engaged-after.result (ap (λ (s : State). slice_get s.subs place) (sym c.self.view_is) ∙ gets old.subs place sub stands)

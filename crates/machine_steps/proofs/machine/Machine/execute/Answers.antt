@@ -1,4 +1,4 @@
-use Rattle.std.proofs.Common.{◌≡◌, refl, ap, sym, ◌∙◌, subst, None, Some}
+use Rattle.std.proofs.Common.{◌≡◌, ℕ, refl, ap, sym, ◌∙◌, subst, None, Some}
 use Rattle.channel_config.specs.SubchannelWords.{subchannel_named}
 use Rattle.chan_events.specs.declared.event.Event.TheVariants as event
 use Rattle.machine_model.specs.State.{State, with_sub}
@@ -6,6 +6,7 @@ use Rattle.machine_model.specs.Steps.{Performs}
 use Rattle.subchannel_model.specs.Places.{place_in}
 use Rattle.machine_model.specs.InstructionSteps.{subchannel_word}
 use Rattle.chan_events.specs.Replies.{plain_outcome}
+use Rattle.subchannel_steps.specs.Giving.{posted_since}
 use Rattle.machine_steps.specs.contracts.machine.Machine.{the_view}
 use Rattle.machine_steps.proofs.Lifting.{at_seen, executes, executes-absent, executes-unnamed, gets}
 use Rattle.machine_steps.proofs.Serving.{served-performed}
@@ -40,7 +41,8 @@ returns c =
     subst (λ (s : State). Performs s (event.Execute c.args.cpu c.args.instruction.now) (plain_outcome c.perform_provided-answer.result)
     (record (with_sub (record old { storage = c.perform_provided-answer.new.storage }) c.in-Some-place_in.place c.perform_provided-answer.new.sub) { requests = c.post.new.pending })) c.self.view_is
     (executes old c.args.cpu c.in-Some-place_in.place c.args.instruction.now c.in-Some.id c.index_mut-sub.result.now c.perform_provided-answer.new.sub c.perform_provided-answer.new.storage
-    c.perform_provided-answer.new.pending c.post.new.pending (plain_outcome c.perform_provided-answer.result) named placed stands c.perform_provided-answer.ensures.done c.post.ensures)
+    c.perform_provided-answer.new.pending c.post.new.pending (plain_outcome c.perform_provided-answer.result) named placed stands c.perform_provided-answer.ensures.done
+    (c.post.ensures ∙ ap (λ (n : ℕ). posted_since n c.perform_provided-answer.new.sub c.perform_provided-answer.new.pending) c.made_by-made.ensures))
 
 pub invariant_of-self-2 : goal.invariant_of-self-2
 invariant_of-self-2 c =
@@ -57,7 +59,8 @@ invariant_of-self-2 c =
     let new : State = record (with_sub (record old { storage = c.perform_provided-answer.new.storage }) place after) { requests = c.post.new.pending } in
     let done : Performs old (event.Execute c.args.cpu c.args.instruction.now) (plain_outcome c.perform_provided-answer.result) new =
     executes old c.args.cpu place c.args.instruction.now c.in-Some.id sub after c.perform_provided-answer.new.storage
-    c.perform_provided-answer.new.pending c.post.new.pending (plain_outcome c.perform_provided-answer.result) named placed stands c.perform_provided-answer.ensures.done c.post.ensures in (
+    c.perform_provided-answer.new.pending c.post.new.pending (plain_outcome c.perform_provided-answer.result) named placed stands c.perform_provided-answer.ensures.done
+    (c.post.ensures ∙ ap (λ (n : ℕ). posted_since n c.perform_provided-answer.new.sub c.perform_provided-answer.new.pending) c.made_by-made.ensures) in (
       served-performed c.engines.ensures.alone c.self.inside.engines c.change.new.self old new (event.Execute c.args.cpu c.args.instruction.now)
           (plain_outcome c.perform_provided-answer.result) place sub after c.engaged-before.result c.engaged-after.result
           (gets old.subs place sub stands) c.self.invariant.0 done refl c.engaged-before.ensures.value c.engaged-after.ensures.value c.change.ensures,

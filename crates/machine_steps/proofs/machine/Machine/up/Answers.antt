@@ -5,7 +5,7 @@ use Rattle.subchannel_model.specs.declared.state.Subchannel.{Subchannel}
 use Rattle.machine_model.specs.State.{State, with_sub}
 use Rattle.machine_model.specs.Steps.{Performs}
 use Rattle.event_log.specs.Logs.{answer_in}
-use Rattle.subchannel_steps.specs.Giving.{MayReturn}
+use Rattle.subchannel_steps.specs.Giving.{MayReturn, posted_since}
 use Rattle.machine_steps.specs.contracts.machine.Machine.{the_view}
 use Rattle.machine_steps.proofs.Lifting.{at_seen, named_at, one_there, up-pathless, up-performs, gets}
 use Rattle.machine_steps.proofs.Serving.{served-performed}
@@ -32,7 +32,8 @@ returns-clause-performs c =
     (subst (λ (p : ℕ). Performs old (event.Up c.args.word p) (answer_in c.up_sub-answer.result c.up_sub-answer.new.log)
     (record (with_sub (record old { storage = c.up_sub-answer.new.storage }) c.in-Some.place c.up_sub-answer.new.sub) { requests = c.post.new.pending })) c.in-Some-path_of.ensures.1
     (up-performs old c.args.word path c.in-Some.place c.index-2.result.now c.index_mut-sub.result.now c.up_sub-answer.new.sub c.up_sub-answer.new.storage
-    c.returns_at-returns.result (answer_in c.up_sub-answer.result c.up_sub-answer.new.log) c.post.new.pending at stands c.index-2.ensures may c.up_sub-answer.ensures.gives c.post.ensures))
+    c.returns_at-returns.result (answer_in c.up_sub-answer.result c.up_sub-answer.new.log) c.post.new.pending at stands c.index-2.ensures may c.up_sub-answer.ensures.gives
+    (c.post.ensures ∙ ap (λ (n : ℕ). posted_since n c.up_sub-answer.new.sub old.requests) c.made_by-made.ensures)))
 
 pub up_sub-answer-requires-clause-inside : goal.up_sub-answer-requires-clause-inside
 up_sub-answer-requires-clause-inside c =
@@ -57,7 +58,8 @@ invariant_of-self c =
     let new : State = record (with_sub (record old { storage = c.up_sub-answer.new.storage }) place after) { requests = c.post.new.pending } in
     let done : Performs old (event.Up c.args.word path) answer new =
     up-performs old c.args.word path place c.index-2.result.now sub after c.up_sub-answer.new.storage
-    c.returns_at-returns.result answer c.post.new.pending at stands c.index-2.ensures may c.up_sub-answer.ensures.gives c.post.ensures in (
+    c.returns_at-returns.result answer c.post.new.pending at stands c.index-2.ensures may c.up_sub-answer.ensures.gives
+    (c.post.ensures ∙ ap (λ (n : ℕ). posted_since n c.up_sub-answer.new.sub old.requests) c.made_by-made.ensures) in (
       served-performed c.engines.ensures.alone c.self.inside.engines c.change.new.self old new (event.Up c.args.word path) answer place sub after
           c.engaged-before.result c.engaged-after.result (gets old.subs place sub stands) c.self.invariant.0 done refl
           c.engaged-before.ensures.value c.engaged-after.ensures.value c.change.ensures,
