@@ -22,6 +22,7 @@ use functions::codes::tsch_code;
 use functions::law::modified;
 use functions::{csch, hsch, msch, rsch, ssch, xsch};
 use orb_block::Orb;
+use scsw_irb::scsw::Scsw;
 use status::tsch;
 use subchannel_words::Subchannel;
 
@@ -43,13 +44,22 @@ pub fn test_code_of(sub: &Subchannel) -> ConditionCode
     tsch_code(&sub.state)
 }
 
+/// The status word that a reply shows. A call that is not built in: its answer is a value of many small parts, which are kept
+/// together so.
+#[inline(never)]
+fn shown_word(sub: &Subchannel) -> Scsw
+    ensures { result ≡ sub.now.state.scsw }
+{
+    sub.state.scsw().scsw()
+}
+
 /// TEST SUBCHANNEL, but for the IRB.
 pub fn test_sub(sub: &mut Subchannel) -> PlainReply
     ensures left { spec.test_with sub.old (spec.code_at test_spec.tsch_code sub.old) ≡
         turn_spec.leaves (reply_of result) sub.new }
     ensures setup { sub.new.setup ≡ sub.old.setup }
 {
-    let scsw = sub.state.scsw().scsw();
+    let scsw = shown_word(sub);
     let code = tsch(&mut sub.state);
     let answer = Answer::of(code, sub.state.rest().serials);
     match code {
@@ -74,7 +84,7 @@ pub fn store_reply(sub: &Subchannel) -> PlainReply
 {
     Reply::Status {
         answer: Answer::Zero(sub.state.rest().serials),
-        scsw: sub.state.scsw().scsw(),
+        scsw: shown_word(sub),
     }
 }
 

@@ -57,6 +57,7 @@ impl ScswWords {
     }
 
     /// Takes a given status word, but for the bits of word 0 that are kept.
+    #[inline(always)]
     pub fn replace(&mut self, keep: u32, given: Scsw)
         requires { IsTrue (is_keep keep) }
         ensures { self.new ≡ chosen_scsw keep self.old given }
@@ -102,6 +103,7 @@ impl ScswWords {
     }
 
     /// The words of a status word.
+    #[inline(always)]
     pub fn of(scsw: Scsw) -> ScswWords
         ensures { result ≡ scsw }
     {
