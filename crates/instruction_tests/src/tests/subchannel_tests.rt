@@ -192,28 +192,29 @@ fn a_path_that_no_program_is_on_goes_down_and_up(rt: HostRuntime) -> Result<(), 
     let kept = is_same_words(&sub.state, [0x0080_40C0, 0x1000, 0]);
     let works = is_on(&sub) && !is_over(&sub);
     let emptied = waits(&sub, first_path()) && !waits(&sub, second_path());
-    let gone = sub.state.pmcw();
+    let gone = sub.state.available();
     down(&mut sub, 0x12);
     let passed_over = sub.state.rest().drawn == 1 && waits(&sub, first_path());
     show_path(&mut sub, 0x12, true);
-    let still_gone = sub.state.pmcw();
+    let still_gone = sub.state.available();
     show_path(&mut sub, 0x11, true);
-    let back = sub.state.pmcw();
+    let back = sub.state.available();
+    let installed = sub.state.installed();
     down(&mut sub, 0x10);
     let over = is_reset(&sub, 9);
-    let other_gone = sub.state.pmcw();
+    let other_gone = sub.state.available();
     drop(sub);
     assert!(rt; kept, "no status is shown");
     assert!(rt; works, "the program works on");
     assert!(rt; emptied, "the path that is down alone has no signal");
-    assert!(rt; gone.available == 0x80);
+    assert!(rt; gone.mask() == 0x80);
     assert!(rt; passed_over, "the subchannel has no such path");
     assert!(rt;
-        still_gone.available == 0x80
-            && back.available == 0xC0
-            && back.installed == 0xC0
+        still_gone.mask() == 0x80
+            && back.mask() == 0xC0
+            && installed.mask() == 0xC0
             && over
-            && other_gone.available == 0x40
+            && other_gone.mask() == 0x40
     );
     Ok(())
 }
@@ -242,16 +243,16 @@ fn pmcw_of(state: &PackedState) -> PmcwState {
 
 /// The words of a subchannel in which lost paths are marked.
 #[derive(Clone, Copy)]
-struct Marked {
+struct MarkedWords {
     scsw: [u32; 3],
     pmcw: PmcwState,
 }
 
 /// The words of the subchannel once its lost paths are marked at this choice.
-fn marked(sub: Subchannel, choice: &Option<Path>) -> Marked {
+fn marked(sub: Subchannel, choice: &Option<Path>) -> MarkedWords {
     let mut sub = sub;
     mark_lost_paths(&mut sub, choice);
-    Marked {
+    MarkedWords {
         scsw: *sub.state.scsw_words(),
         pmcw: pmcw_of(&sub.state),
     }
@@ -299,18 +300,18 @@ fn a_reset_of_the_subsystem_keeps_what_is_up(rt: HostRuntime) -> Result<(), Allo
     let kept = is_same_words(&sub.state, [0x0080_0000, 0x1000, 0x0080_0004]);
     let rest = *sub.state.rest();
     let over = is_reset(&sub, 9) && is_over(&sub);
-    let word = sub.state.pmcw();
+    let word = *sub.state.pmcw();
     let waiting_on_both = waits(&sub, first_path()) && waits(&sub, second_path());
     drop(sub);
     assert!(rt;
         kept && over
             && rest.serials.cleared == 9
-            && !word.enabled
-            && word.parameter == 0
-            && !word.multipath
+            && !word.is_enabled()
+            && word.parameter() == 0
+            && !word.is_multipath()
     );
     assert!(rt;
-        word.available == 0x80
+        word.available() == 0x80
             && rest.starts == 2
             && rest.last_path.is_some()
             && rest.dedicated.is_none()
