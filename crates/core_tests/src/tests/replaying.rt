@@ -33,7 +33,7 @@ impl<'a> PathChoice for Recorded<'a> {
 fn shown_or_lowest(usable: &PathSet, last: Option<Path>, path: Path) -> Option<Path>
     ensures { IsChoice usable.now result }
 {
-    if usable[path.index()] {
+    if usable.has(path) {
         return Some(path);
     }
     Lowest.choose(usable, last)
