@@ -19,7 +19,7 @@ use script_rows::actions::{action_row, common_row};
 use script_rows::places::ActionPlace;
 use script_rows::race::{Race, race_row};
 use script_rows::settings::{Setting, configure, setting_row};
-use script_rows::words::{LineFault, is_name};
+use script_rows::words::{LineFault, LineRule, is_name};
 use std::alloc::{AllocError, Global};
 use supply::Supply;
 
@@ -54,12 +54,12 @@ fn set<S: Supply>(supply: &mut S, draft: &mut Draft, setting: &Setting) -> Resul
     ensures memory { result ≡ Err LineFault.NoMemory → S.refused supply.new ≡ true }
 {
     if draft.acted {
-        return Err(LineFault::Rule(4));
+        return Err(LineFault::Rule(LineRule::SettingAfterAction));
     }
     match configure(supply, &mut draft.config, setting) {
         Ok(()) => Ok(()),
         Err(ConfigFault::NoMemory) => Err(LineFault::NoMemory),
-        Err(ConfigFault::Rule(_)) => Err(LineFault::Rule(5)),
+        Err(ConfigFault::Rule(_)) => Err(LineFault::Rule(LineRule::BreaksConfiguration)),
     }
 }
 
@@ -74,7 +74,7 @@ fn may_race(races: bool, later: &[u8]) -> bool
 fn race(
     draft: &mut Draft,
     number: u64,
-    said: Result<Race, u8>,
+    said: Result<Race, LineRule>,
     races: bool,
     later: &[u8],
 ) -> Result<(), LineFault>
@@ -88,7 +88,7 @@ fn race(
         Err(rule) => return Err(LineFault::Rule(rule)),
     };
     if !may_race(races, later) {
-        return Err(LineFault::Rule(7));
+        return Err(LineFault::Rule(LineRule::MisplacedRace));
     }
     draft.race = Some(RaceLine { number, race });
     draft.acted = true;
@@ -102,7 +102,7 @@ fn act<S: Supply>(
     draft: &mut Draft,
     place: &ActionPlace,
     number: u64,
-    said: Result<(), u8>,
+    said: Result<(), LineRule>,
 ) -> Result<(), LineFault>
     ensures ok { OnOk result ((may : Bool) → (spec.broken_by (context draft.old) may (action_said (Some (row_at said (action_at place.now)))) ≡ None) ×
         Hears draft.old number (action_said (Some (row_at said (action_at place.now)))) draft.new) }
@@ -137,7 +137,7 @@ fn drive<S: Supply>(
 {
     match action_row(place, word, words) {
         Some(said) => act(supply, draft, place, number, said),
-        None => Err(LineFault::Rule(1)),
+        None => Err(LineFault::Rule(LineRule::UnknownWord)),
     }
 }
 
@@ -190,7 +190,7 @@ fn hear<S: Supply>(
     ensures memory { result ≡ Err LineFault.NoMemory → S.refused supply.new ≡ true }
 {
     let [first, others @ ..] = words else {
-        return Err(LineFault::Rule(1));
+        return Err(LineFault::Rule(LineRule::UnknownWord));
     };
     match common_row(place, first, others) {
         Some(said) => act(supply, draft, place, number, said),
@@ -224,10 +224,10 @@ fn take_words<'a, S: Supply>(
     ensures memory { result ≡ Err LineFault.NoMemory → S.refused supply.new ≡ true }
 {
     if !draft.begun && !begins(line.bytes()) {
-        return Err(LineFault::Rule(6));
+        return Err(LineFault::Rule(LineRule::StorageNotFirst));
     }
     if !is_readable(plain, line.bytes()) {
-        return Err(LineFault::Rule(3));
+        return Err(LineFault::Rule(LineRule::BadWord));
     }
     line.words_to(supply, words)?;
     hear(
@@ -271,7 +271,7 @@ fn take_line<'a, S: Supply>(
     if is_readable(plain, line.bytes()) {
         Ok(())
     } else {
-        Err(LineFault::Rule(3))
+        Err(LineFault::Rule(LineRule::BadWord))
     }
 }
 
