@@ -13,7 +13,11 @@ const WRONG: [(&[u8], u64, LineRule); 7] = [
     (b"# first \xFF\npath 10\n", 1, LineRule::BadWord),
     (b"storage 10\ndev 0\r\n", 2, LineRule::BadWord),
     (b"storage 10\nput 500 C1\nput 500 x", 3, LineRule::BadWord),
-    (b"storage 10\npathdown 100\npathdown 10\r\n", 3, LineRule::BadWord),
+    (
+        b"storage 10\npathdown 100\npathdown 10\r\n",
+        3,
+        LineRule::BadWord,
+    ),
 ];
 
 /// Reading a text, where a race may be or not, names this line and this rule.
@@ -27,8 +31,16 @@ fn is_named(rt: &HostRuntime, races: bool, text: &[u8], line: u64, rule: LineRul
 /// Lines that race CPUs, where the command lets them, each with the line that breaks a rule.
 const RACING: [(&[u8], u64, LineRule); 3] = [
     (b"storage 10\nrace 17 100 tsch 0\n", 2, LineRule::BadWord),
-    (b"storage 10\nrace 4 100 tsch 0\ndev 0\n", 2, LineRule::MisplacedRace),
-    (b"storage 10\nrace 4 100 tsch 0\nrace 4 100 tsch 0\n", 2, LineRule::MisplacedRace),
+    (
+        b"storage 10\nrace 4 100 tsch 0\ndev 0\n",
+        2,
+        LineRule::MisplacedRace,
+    ),
+    (
+        b"storage 10\nrace 4 100 tsch 0\nrace 4 100 tsch 0\n",
+        2,
+        LineRule::MisplacedRace,
+    ),
 ];
 
 #[test]
@@ -112,7 +124,14 @@ fn a_line_is_at_most_1024_bytes(rt: HostRuntime) -> Result<(), AllocError> {
     let longer = long_text(rt.alloc(), 1025)?;
     let wrong = counted(rt.alloc(), longer.as_slice());
     drop(longer);
-    assert!(rt; right.ok() == Some(1) && wrong.err() == Some(ScriptBad::Bad { line: 2, rule: LineRule::BadWord }));
+    assert!(rt;
+        right.ok() == Some(1)
+            && wrong.err()
+                == Some(ScriptBad::Bad {
+                    line: 2,
+                    rule: LineRule::BadWord
+                })
+    );
     Ok(())
 }
 
