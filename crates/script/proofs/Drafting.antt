@@ -19,6 +19,8 @@ use Rattle.std.specs.Str.{is_utf8}
 use Rattle.script.specs.Scripts.{setup_kept, setting_of, action_of, race_of, is_action, set_up, actions_from, latest, race_from, may_race, broken_by, AreClean, fault_at, fault}
 use Rattle.script_rows.specs.declared.words.LineFault.{LineFault}
 use Rattle.script_rows.specs.declared.words.LineFault.TheVariants as line_fault
+use Rattle.script_rows.specs.declared.words.LineRule.{LineRule}
+use Rattle.script_rows.specs.declared.words.LineRule.TheVariants.{BadWord, StorageNotFirst}
 use Rattle.script.specs.Reading.{BadIn, BreaksRule, bad_by}
 use Rattle.script.specs.Drafts.{context, Hears, IsNext, IsDraftOf}
 
@@ -74,7 +76,7 @@ same_fault : (races : Bool) (lines : List (List ℕ)) (i : ℕ) (d : Draft) (lin
 same_fault races lines i d line later h e after =
     ap (fault (context d) (may_race races later)) e
     ∙ ap (λ (ls : List (List ℕ)). fault (context d) (may_race races ls) (get_or lines i [])) after
-    ∙ ap (λ (f : Bool → List ℕ → Option ℕ). f (may_race races (drop (i + 1) lines)) (get_or lines i [])) (same_context _ _ _ _ _ _ h.begun h.acted h.setup)
+    ∙ ap (λ (f : Bool → List ℕ → Option LineRule). f (may_race races (drop (i + 1) lines)) (get_or lines i [])) (same_context _ _ _ _ _ _ h.begun h.acted h.setup)
 
 clean-more : (races : Bool) (lines : List (List ℕ)) (i : ℕ) → AreClean races lines i → fault_at races lines i ≡ None → AreClean races lines (i + 1)
 clean-more races lines i h e = λ k lt. elim (eqb_tells k i) [
@@ -114,20 +116,20 @@ drafted races lines i n old new line later lt num e after h f t =
     }
 
 -- a setting that is taken or refused is what the line says
-pub set-ok : (r : Result Unit LineFault) (old new : Draft) (setting : Setting) (number : ℕ) (may : Bool) (what : Result Said ℕ) → what ≡ Ok (Sets setting) →
+pub set-ok : (r : Result Unit LineFault) (old new : Draft) (setting : Setting) (number : ℕ) (may : Bool) (what : Result Said LineRule) → what ≡ Ok (Sets setting) →
     OnOk r ((n : ℕ) (m : Bool) → (broken_by (context old) m (Ok (Sets setting)) ≡ None) × Hears old n (Ok (Sets setting)) new) →
     OnOk r ((broken_by (context old) may what ≡ None) × Hears old number what new)
 set-ok (Ok done) old new setting number may what e h =
-    subst (λ (w : Result Said ℕ). (broken_by (context old) may w ≡ None) × Hears old number w new) (sym e) (h number may)
+    subst (λ (w : Result Said LineRule). (broken_by (context old) may w ≡ None) × Hears old number w new) (sym e) (h number may)
 set-ok (Err fault) old new setting number may what e h = tt
 
-pub set-err : (r : Result Unit LineFault) (old : Draft) (setting : Setting) (may : Bool) (what : Result Said ℕ) → what ≡ Ok (Sets setting) →
+pub set-err : (r : Result Unit LineFault) (old : Draft) (setting : Setting) (may : Bool) (what : Result Said LineRule) → what ≡ Ok (Sets setting) →
     IfErr r (λ f. (m : Bool) → BreaksRule f (broken_by (context old) m (Ok (Sets setting)))) →
     IfErr r (λ f. BreaksRule f (broken_by (context old) may what))
 set-err (Ok done) old setting may what e h = tt
-set-err (Err fault) old setting may what e h = subst (λ (w : Result Said ℕ). BreaksRule fault (broken_by (context old) may w)) (sym e) (h may)
+set-err (Err fault) old setting may what e h = subst (λ (w : Result Said LineRule). BreaksRule fault (broken_by (context old) may w)) (sym e) (h may)
 
-pub says-of : (r : Result Setting LineFault) (setting : Setting) (said : Option (Result Setting ℕ)) → r ≡ Ok setting → Says r said → said ≡ Some (Ok setting)
+pub says-of : (r : Result Setting LineFault) (setting : Setting) (said : Option (Result Setting LineRule)) → r ≡ Ok setting → Says r said → said ≡ Some (Ok setting)
 says-of r setting said e h = subst (λ (x : Result Setting LineFault). Says x said) e h
 
 or-true : (b : Bool) → (b || true) ≡ true
@@ -143,15 +145,15 @@ pub record IsWorded (old : Draft) (line : List ℕ) (parts : List (List ℕ)) : 
 
 said-worded : (old : Draft) (line : List ℕ) (words : List (List ℕ)) → IsWorded old line words → said line ≡ words_say words
 said-worded old line words is =
-    ap (λ (b : Bool). if b then Err 3 else (if has_words line then words_say (words_between_blanks line) else Ok Nothing)) is.readable
+    ap (λ (b : Bool). if b then Err BadWord else (if has_words line then words_say (words_between_blanks line) else Ok Nothing)) is.readable
     ∙ ap (λ (b : Bool). if b then words_say (words_between_blanks line) else Ok Nothing) is.worded ∙ ap words_say (sym is.words)
 
 pub taken-clean : (old : Draft) (line : List ℕ) (words : List (List ℕ)) (may : Bool) → IsWorded old line words →
     broken_by (context old) may (words_say words) ≡ None → fault (context old) may line ≡ None
 taken-clean old line words may is none =
     let other = broken_by (context old) may (said line) in
-    ap (λ (b : Bool). if b && (not old.begun && not (first_is_storage (words_between_blanks line))) then Some 6 else other) is.worded
-    ∙ ap (λ (b : Bool). if b then Some 6 else other) is.begun
+    ap (λ (b : Bool). if b && (not old.begun && not (first_is_storage (words_between_blanks line))) then Some StorageNotFirst else other) is.worded
+    ∙ ap (λ (b : Bool). if b then Some StorageNotFirst else other) is.begun
     ∙ ap (broken_by (context old) may) (said-worded old line words is) ∙ none
 
 pub taken-next : (old mid : Draft) (n : ℕ) (line : List ℕ) (words : List (List ℕ)) → IsWorded old line words → Hears old n (words_say words) mid →
@@ -160,10 +162,10 @@ taken-next old mid n line words is h =
     let what = sym (said-worded old line words is) in
     record {
       begun = sym (ap (λ (b : Bool). old.begun || b) is.worded ∙ or-true old.begun);
-      acted = h.acted ∙ ap (λ (w : Result Said ℕ). old.acted || is_action w) what;
-      setup = h.setup ∙ ap (λ (w : Result Said ℕ). set_up old.config (setting_of w)) what;
-      lines = h.lines ∙ ap (λ (w : Result Said ℕ). old.lines ++ action_of n w) what;
-      race = h.race ∙ ap (λ (w : Result Said ℕ). latest old.race (race_of n w)) what;
+      acted = h.acted ∙ ap (λ (w : Result Said LineRule). old.acted || is_action w) what;
+      setup = h.setup ∙ ap (λ (w : Result Said LineRule). set_up old.config (setting_of w)) what;
+      lines = h.lines ∙ ap (λ (w : Result Said LineRule). old.lines ++ action_of n w) what;
+      race = h.race ∙ ap (λ (w : Result Said LineRule). latest old.race (race_of n w)) what;
     }
 
 -- the draft of all lines, behind the last of which no line follows

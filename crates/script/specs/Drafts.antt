@@ -3,6 +3,7 @@ use Rattle.std.specs.Prelude.{◌≡◌, ℕ, Bool, ◌||◌, List, ◌++◌, ta
 use Rattle.std.specs.List.{list_any, flat_map}
 use Rattle.channel_config.specs.Setup.{no_setup}
 use Rattle.script.specs.declared.draft.Draft.{Draft}
+use Rattle.script_rows.specs.declared.words.LineRule.{LineRule}
 use Rattle.script.specs.Saying.{Said, said, has_words}
 use Rattle.script.specs.Scripts.{Context, setting_of, action_of, race_of, is_action, set_up, actions_from, latest, race_from, AreClean}
 
@@ -10,7 +11,7 @@ abbrev pub context : Draft → Context
 context d = record { begun = d.begun; acted = d.acted; setup = d.config }
 
 -- one line more, which says this
-pub record Hears (old : Draft) (number : ℕ) (what : Result Said ℕ) (new : Draft) : Type 0 where
+pub record Hears (old : Draft) (number : ℕ) (what : Result Said LineRule) (new : Draft) : Type 0 where
   pub begun : new.begun ≡ old.begun
   pub acted : new.acted ≡ (old.acted || is_action what)
   pub setup : new.config ≡ set_up old.config (setting_of what)

@@ -2,11 +2,12 @@
 use Rattle.std.specs.Prelude.{◌≡◌, ℕ, Bool, List, Option, Some}
 use Rattle.script_rows.specs.declared.words.LineFault.{LineFault}
 use Rattle.script_rows.specs.declared.words.LineFault.TheVariants.{NoMemory, Rule}
+use Rattle.script_rows.specs.declared.words.LineRule.{LineRule}
 use Rattle.script.specs.declared.ScriptBad.{ScriptBad}
 use Rattle.script.specs.declared.ScriptBad.TheVariants as bad
 use Rattle.script.specs.Scripts.{IsBad, IsFirstBad}
 
-abbrev pub BreaksRule : LineFault → Option ℕ → Type 0
+abbrev pub BreaksRule : LineFault → Option LineRule → Type 0
 BreaksRule NoMemory broken = Unit {0}
 BreaksRule (Rule rule) broken = broken ≡ Some rule
 

@@ -3,6 +3,8 @@ use Rattle.std.specs.Prelude.{◌≡◌, ℕ, ◌+◌, ◌<◌, Bool, true, fals
 use Rattle.std.specs.List.{list_any, flat_map}
 use Rattle.channel_config.specs.Setup.{Setup, no_setup}
 use Rattle.script_rows.specs.declared.settings.Setting.{Setting}
+use Rattle.script_rows.specs.declared.words.LineRule.{LineRule}
+use Rattle.script_rows.specs.declared.words.LineRule.TheVariants.{SettingAfterAction, BreaksConfiguration, StorageNotFirst, MisplacedRace}
 use Rattle.script.specs.declared.Line.{Line}
 use Rattle.script.specs.declared.RaceLine.{RaceLine}
 use Rattle.script.specs.Pieces.{words_between_blanks}
@@ -10,7 +12,7 @@ use Rattle.script_rows.specs.Settings.{configured}
 use Rattle.script.specs.Saying.{Said, Nothing, Sets, Does, Races, has_words, said, first_is_storage}
 
 -- the settings of a line, none or one
-abbrev pub setting_of : Result Said ℕ → List Setting
+abbrev pub setting_of : Result Said LineRule → List Setting
 setting_of (Ok Nothing) = []
 setting_of (Ok (Sets setting)) = setting ∷ []
 setting_of (Ok (Does action)) = []
@@ -18,7 +20,7 @@ setting_of (Ok (Races race)) = []
 setting_of (Err rule) = []
 
 -- the actions of a line, none or one, under its number
-abbrev pub action_of : ℕ → Result Said ℕ → List Line
+abbrev pub action_of : ℕ → Result Said LineRule → List Line
 action_of n (Ok Nothing) = []
 action_of n (Ok (Sets setting)) = []
 action_of n (Ok (Does action)) = record { number = n; action = action } ∷ []
@@ -26,7 +28,7 @@ action_of n (Ok (Races race)) = []
 action_of n (Err rule) = []
 
 -- the race of a line, under its number
-abbrev pub race_of : ℕ → Result Said ℕ → Option RaceLine
+abbrev pub race_of : ℕ → Result Said LineRule → Option RaceLine
 race_of n (Ok Nothing) = None
 race_of n (Ok (Sets setting)) = None
 race_of n (Ok (Does action)) = None
@@ -34,7 +36,7 @@ race_of n (Ok (Races race)) = Some (record { number = n; race = race })
 race_of n (Err rule) = None
 
 -- a line that drives the machine
-abbrev pub is_action : Result Said ℕ → Bool
+abbrev pub is_action : Result Said LineRule → Bool
 is_action (Ok Nothing) = false
 is_action (Ok (Sets setting)) = false
 is_action (Ok (Does action)) = true
@@ -77,33 +79,33 @@ context_of before = record {
   setup = set_up no_setup (flat_map (λ line. setting_of (said line)) before);
 }
 
--- 4: a configuration line after an action; 5: a rule of configurations is broken
-abbrev pub refused_setting : Result Setup ℕ → Option ℕ
+-- whichever rule of configurations is broken
+abbrev pub refused_setting : Result Setup ℕ → Option LineRule
 refused_setting (Ok s) = None
-refused_setting (Err rule) = Some 5
+refused_setting (Err rule) = Some BreaksConfiguration
 
--- 7: a race where none may be
-abbrev pub refused_race : Bool → Option ℕ
+-- a race where none may be
+abbrev pub refused_race : Bool → Option LineRule
 refused_race true = None
-refused_race false = Some 7
+refused_race false = Some MisplacedRace
 
 -- a race may be where the command lets it, in the last line that has words
 abbrev pub may_race : Bool → List (List ℕ) → Bool
 may_race races later = races && not (list_any has_words later)
 
-abbrev pub broken_by : Context → Bool → Result Said ℕ → Option ℕ
+abbrev pub broken_by : Context → Bool → Result Said LineRule → Option LineRule
 broken_by c may (Err rule) = Some rule
 broken_by c may (Ok Nothing) = None
-broken_by c may (Ok (Sets setting)) = if c.acted then Some 4 else refused_setting (configured c.setup setting)
+broken_by c may (Ok (Sets setting)) = if c.acted then Some SettingAfterAction else refused_setting (configured c.setup setting)
 broken_by c may (Ok (Does action)) = None
 broken_by c may (Ok (Races race)) = refused_race may
 
--- the first rule, in the order 6, 1 to 5, 7, that a line breaks after these lines; 6: the first line with words is no `storage` line
-abbrev pub fault : Context → Bool → List ℕ → Option ℕ
-fault c may line = if has_words line && (not c.begun && not (first_is_storage (words_between_blanks line))) then Some 6 else broken_by c may (said line)
+-- the first rule that a line breaks after these lines; that the first line with words is no `storage` line comes before all others
+abbrev pub fault : Context → Bool → List ℕ → Option LineRule
+fault c may line = if has_words line && (not c.begun && not (first_is_storage (words_between_blanks line))) then Some StorageNotFirst else broken_by c may (said line)
 
 -- the same of the line with n lines before it
-abbrev pub fault_at : Bool → List (List ℕ) → ℕ → Option ℕ
+abbrev pub fault_at : Bool → List (List ℕ) → ℕ → Option LineRule
 fault_at races lines n = fault (context_of (take n lines)) (may_race races (drop (n + 1) lines)) (slice_index_or lines n [])
 
 -- the first n lines break no rule
@@ -129,15 +131,15 @@ pub record IsScript (races : Bool) (text : List (List ℕ)) (s : ScriptContents)
   pub race : s.race ≡ race_from 1 text
 
 -- the line (from 1) is the first that breaks a rule, and the rule the first that it breaks
-pub record IsFirstBad (races : Bool) (text : List (List ℕ)) (line rule : ℕ) : Type 0 where
+pub record IsFirstBad (races : Bool) (text : List (List ℕ)) (line : ℕ) (rule : LineRule) : Type 0 where
   pub before : ℕ
   pub number : line ≡ before + 1
   pub within : before < length text
   pub clean : AreClean races text before
   pub broken : fault_at races text before ≡ Some rule
 
--- where no line has words, line 1 breaks rule 6
-abbrev pub IsBad : Bool → List (List ℕ) → ℕ → ℕ → Type 0
+-- where no line has words, line 1 is no `storage` line
+abbrev pub IsBad : Bool → List (List ℕ) → ℕ → LineRule → Type 0
 IsBad races text line rule =
     ((list_any has_words text ≡ true) × IsFirstBad races text line rule)
-    ⊎ ((list_any has_words text ≡ false) × (line ≡ 1) × (rule ≡ 6))
+    ⊎ ((list_any has_words text ≡ false) × (line ≡ 1) × (rule ≡ StorageNotFirst))

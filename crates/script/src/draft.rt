@@ -19,7 +19,7 @@ use script_rows::actions::{action_row, common_row};
 use script_rows::places::ActionPlace;
 use script_rows::race::{Race, race_row};
 use script_rows::settings::{Setting, configure, setting_row};
-use script_rows::words::{LineFault, is_name};
+use script_rows::words::{LineFault, LineRule, is_name};
 use std::alloc::{AllocError, Global};
 use supply::Supply;
 
@@ -34,6 +34,30 @@ pub struct Draft {
     pub acted: bool,
     pub lines: Lines,
     pub race: Option<RaceLine>,
+}
+
+/// A line of a text, with the lines that follow it: its number, whether it is known to be of ASCII, and whether the command lets its
+/// text race.
+#[derive(Drop)]
+struct GivenLine<'a> {
+    number: u64,
+    plain: bool,
+    races: bool,
+    line: TextLine<'a>,
+}
+
+/// The words of a line, the first of them apart.
+#[derive(Drop)]
+struct Sentence<'w, 'a> {
+    first: &'a [u8],
+    others: &'w [&'a [u8]],
+}
+
+/// Where a line is taken apart: room for its words, and a place for its action. Both may hold those of a line before it.
+#[derive(Drop)]
+struct Desk<'a> {
+    words: Vec<&'a [u8]>,
+    place: ActionPlace,
 }
 
 /// Whether the line's first word is `storage`.
@@ -54,43 +78,44 @@ fn set<S: Supply>(supply: &mut S, draft: &mut Draft, setting: &Setting) -> Resul
     ensures memory { result ≡ Err LineFault.NoMemory → S.refused supply.new ≡ true }
 {
     if draft.acted {
-        return Err(LineFault::Rule(4));
+        return Err(LineFault::Rule(LineRule::SettingAfterAction));
     }
     match configure(supply, &mut draft.config, setting) {
         Ok(()) => Ok(()),
         Err(ConfigFault::NoMemory) => Err(LineFault::NoMemory),
-        Err(ConfigFault::Rule(_)) => Err(LineFault::Rule(5)),
+        Err(ConfigFault::Rule(_)) => Err(LineFault::Rule(LineRule::BreaksConfiguration)),
     }
 }
 
-/// Whether a race may be, before a text of more lines; `races` says that the command lets it.
-fn may_race(races: bool, later: &[u8]) -> bool
-    ensures { result ≡ spec.may_race races (lines_of later.now) }
+/// Whether a race may be in this line.
+fn may_race(given: &GivenLine<'_>) -> bool
+    ensures { result ≡ spec.may_race given.now.races given.now.line.later }
 {
-    races && !some_have_words(later)
+    given.races && !some_have_words(given.line.later())
 }
 
-/// Takes a race before a text of more lines, or the rule that its words break.
+/// Takes the race of a line, or the rule that its words break.
 fn race(
     draft: &mut Draft,
-    number: u64,
-    said: Result<Race, u8>,
-    races: bool,
-    later: &[u8],
+    given: &GivenLine<'_>,
+    said: Result<Race, LineRule>,
 ) -> Result<(), LineFault>
-    ensures ok { OnOk result ((spec.broken_by (context draft.old) (spec.may_race races (lines_of later.now)) (race_said said) ≡ None) ×
-        Hears draft.old number (race_said said) draft.new) }
-    ensures err { IfErr result (λ f. BreaksRule f (spec.broken_by (context draft.old) (spec.may_race races (lines_of later.now)) (race_said said))) }
+    ensures ok { OnOk result ((spec.broken_by (context draft.old) (spec.may_race given.now.races given.now.line.later) (race_said said) ≡ None) ×
+        Hears draft.old given.now.number (race_said said) draft.new) }
+    ensures err { IfErr result (λ f. BreaksRule f (spec.broken_by (context draft.old) (spec.may_race given.now.races given.now.line.later) (race_said said))) }
     ensures memory { result ≢ Err LineFault.NoMemory }
 {
     let race = match said {
         Ok(race) => race,
         Err(rule) => return Err(LineFault::Rule(rule)),
     };
-    if !may_race(races, later) {
-        return Err(LineFault::Rule(7));
+    if !may_race(given) {
+        return Err(LineFault::Rule(LineRule::MisplacedRace));
     }
-    draft.race = Some(RaceLine { number, race });
+    draft.race = Some(RaceLine {
+        number: given.number,
+        race,
+    });
     draft.acted = true;
     Ok(())
 }
@@ -102,7 +127,7 @@ fn act<S: Supply>(
     draft: &mut Draft,
     place: &ActionPlace,
     number: u64,
-    said: Result<(), u8>,
+    said: Result<(), LineRule>,
 ) -> Result<(), LineFault>
     ensures ok { OnOk result ((may : Bool) → (spec.broken_by (context draft.old) may (action_said (Some (row_at said (action_at place.now)))) ≡ None) ×
         Hears draft.old number (action_said (Some (row_at said (action_at place.now)))) draft.new) }
@@ -137,11 +162,11 @@ fn drive<S: Supply>(
 {
     match action_row(place, word, words) {
         Some(said) => act(supply, draft, place, number, said),
-        None => Err(LineFault::Rule(1)),
+        None => Err(LineFault::Rule(LineRule::UnknownWord)),
     }
 }
 
-/// Takes what the words of a line say before a text of more lines, by the first of them: apart, as most lines are common ones.
+/// Takes what the words of a line say, by the first of them: apart, as most lines are common ones.
 #[cold]
 #[inline(never)]
 fn hear_other<S: Supply>(
@@ -149,27 +174,24 @@ fn hear_other<S: Supply>(
     supply: &mut S,
     draft: &mut Draft,
     place: &mut ActionPlace,
-    number: u64,
-    word: &[u8],
-    words: &[&[u8]],
-    races: bool,
-    later: &[u8],
+    given: &GivenLine<'_>,
+    said: &Sentence<'_, '_>,
 ) -> Result<(), LineFault>
-    ensures ok { OnOk result ((spec.broken_by (context draft.old) (spec.may_race races (lines_of later.now)) (words_say (word.now ∷ map (λ w. w.now) words.now)) ≡ None) ×
-        Hears draft.old number (words_say (word.now ∷ map (λ w. w.now) words.now)) draft.new) }
-    ensures err { IfErr result (λ f. BreaksRule f (spec.broken_by (context draft.old) (spec.may_race races (lines_of later.now)) (words_say (word.now ∷ map (λ w. w.now) words.now)))) }
+    ensures ok { OnOk result ((spec.broken_by (context draft.old) (spec.may_race given.now.races given.now.line.later) (words_say (said.now.first.now ∷ map (λ w. w.now) said.now.others.now)) ≡ None) ×
+        Hears draft.old given.now.number (words_say (said.now.first.now ∷ map (λ w. w.now) said.now.others.now)) draft.new) }
+    ensures err { IfErr result (λ f. BreaksRule f (spec.broken_by (context draft.old) (spec.may_race given.now.races given.now.line.later) (words_say (said.now.first.now ∷ map (λ w. w.now) said.now.others.now)))) }
     ensures given { OnOk result (S.refused supply.new ≡ S.refused supply.old) }
     ensures memory { result ≡ Err LineFault.NoMemory → S.refused supply.new ≡ true }
 {
-    match setting_row(alloc, supply, word, words) {
+    match setting_row(alloc, supply, said.first, said.others) {
         Some(Ok(setting)) => return set(supply, draft, &setting),
         Some(Err(fault)) => return Err(fault),
         None => {}
     }
-    if is_name(word, b"race".as_slice()) {
-        return race(draft, number, race_row(words), races, later);
+    if is_name(said.first, b"race".as_slice()) {
+        return race(draft, given, race_row(said.others));
     }
-    drive(supply, draft, place, number, word, words)
+    drive(supply, draft, place, given.number, said.first, said.others)
 }
 
 /// Takes what the words of a line say, by the first of them.
@@ -178,100 +200,88 @@ fn hear<S: Supply>(
     supply: &mut S,
     draft: &mut Draft,
     place: &mut ActionPlace,
-    number: u64,
+    given: &GivenLine<'_>,
     words: &[&[u8]],
-    races: bool,
-    line: &TextLine<'_>,
 ) -> Result<(), LineFault>
-    ensures ok { OnOk result ((spec.broken_by (context draft.old) (spec.may_race races line.now.later) (words_say (map (λ w. w.now) words.now)) ≡ None) ×
-        Hears draft.old number (words_say (map (λ w. w.now) words.now)) draft.new) }
-    ensures err { IfErr result (λ f. BreaksRule f (spec.broken_by (context draft.old) (spec.may_race races line.now.later) (words_say (map (λ w. w.now) words.now)))) }
+    ensures ok { OnOk result ((spec.broken_by (context draft.old) (spec.may_race given.now.races given.now.line.later) (words_say (map (λ w. w.now) words.now)) ≡ None) ×
+        Hears draft.old given.now.number (words_say (map (λ w. w.now) words.now)) draft.new) }
+    ensures err { IfErr result (λ f. BreaksRule f (spec.broken_by (context draft.old) (spec.may_race given.now.races given.now.line.later) (words_say (map (λ w. w.now) words.now)))) }
     ensures given { OnOk result (S.refused supply.new ≡ S.refused supply.old) }
     ensures memory { result ≡ Err LineFault.NoMemory → S.refused supply.new ≡ true }
 {
     let [first, others @ ..] = words else {
-        return Err(LineFault::Rule(1));
+        return Err(LineFault::Rule(LineRule::UnknownWord));
     };
     match common_row(place, first, others) {
-        Some(said) => act(supply, draft, place, number, said),
-        None => {
-            let later = line.later();
-            hear_other(
-                alloc, supply, draft, place, number, first, others, races, later,
-            )
-        }
+        Some(said) => act(supply, draft, place, given.number, said),
+        None => hear_other(
+            alloc,
+            supply,
+            draft,
+            place,
+            given,
+            &Sentence { first, others },
+        ),
     }
 }
 
-/// Takes a line that has words: they are written to a list, and its action to a place. `plain`: it is known to be of ASCII.
+/// Takes a line that has words.
 fn take_words<'a, S: Supply>(
     alloc: Global,
     supply: &mut S,
     draft: &mut Draft,
-    words: &mut Vec<&'a [u8]>,
-    place: &mut ActionPlace,
-    number: u64,
-    plain: bool,
-    line: &TextLine<'a>,
-    races: bool,
+    desk: &mut Desk<'a>,
+    given: &GivenLine<'a>,
 ) -> Result<(), LineFault>
-    requires worded { words_stand line.now.line ≡ true }
-    requires plain { plain ≡ true → is_ascii line.now.line ≡ true }
-    ensures ok { OnOk result ((spec.fault (context draft.old) (spec.may_race races line.now.later) line.now.line ≡ None) ×
-        IsNext draft.old number line.now.line draft.new) }
-    ensures err { IfErr result (λ f. BreaksRule f (spec.fault (context draft.old) (spec.may_race races line.now.later) line.now.line)) }
+    requires worded { words_stand given.now.line.line ≡ true }
+    requires plain { given.now.plain ≡ true → is_ascii given.now.line.line ≡ true }
+    ensures ok { OnOk result ((spec.fault (context draft.old) (spec.may_race given.now.races given.now.line.later) given.now.line.line ≡ None) ×
+        IsNext draft.old given.now.number given.now.line.line draft.new) }
+    ensures err { IfErr result (λ f. BreaksRule f (spec.fault (context draft.old) (spec.may_race given.now.races given.now.line.later) given.now.line.line)) }
     ensures given { OnOk result (S.refused supply.new ≡ S.refused supply.old) }
     ensures memory { result ≡ Err LineFault.NoMemory → S.refused supply.new ≡ true }
 {
-    if !draft.begun && !begins(line.bytes()) {
-        return Err(LineFault::Rule(6));
+    if !draft.begun && !begins(given.line.bytes()) {
+        return Err(LineFault::Rule(LineRule::StorageNotFirst));
     }
-    if !is_readable(plain, line.bytes()) {
-        return Err(LineFault::Rule(3));
+    if !is_readable(given.plain, given.line.bytes()) {
+        return Err(LineFault::Rule(LineRule::BadWord));
     }
-    line.words_to(supply, words)?;
+    given.line.words_to(supply, &mut desk.words)?;
     hear(
         alloc,
         supply,
         draft,
-        place,
-        number,
-        words.as_slice(),
-        races,
-        line,
+        &mut desk.place,
+        given,
+        desk.words.as_slice(),
     )?;
     draft.begun = true;
     Ok(())
 }
 
-/// Takes one line. `plain`: it is known to be of ASCII.
+/// Takes one line.
 fn take_line<'a, S: Supply>(
     alloc: Global,
     supply: &mut S,
     draft: &mut Draft,
-    words: &mut Vec<&'a [u8]>,
-    place: &mut ActionPlace,
-    number: u64,
-    plain: bool,
-    line: &TextLine<'a>,
-    races: bool,
+    desk: &mut Desk<'a>,
+    given: &GivenLine<'a>,
 ) -> Result<(), LineFault>
-    requires { plain ≡ true → is_ascii line.now.line ≡ true }
-    ensures ok { OnOk result ((spec.fault (context draft.old) (spec.may_race races line.now.later) line.now.line ≡ None) ×
-        IsNext draft.old number line.now.line draft.new) }
-    ensures err { IfErr result (λ f. BreaksRule f (spec.fault (context draft.old) (spec.may_race races line.now.later) line.now.line)) }
+    requires { given.now.plain ≡ true → is_ascii given.now.line.line ≡ true }
+    ensures ok { OnOk result ((spec.fault (context draft.old) (spec.may_race given.now.races given.now.line.later) given.now.line.line ≡ None) ×
+        IsNext draft.old given.now.number given.now.line.line draft.new) }
+    ensures err { IfErr result (λ f. BreaksRule f (spec.fault (context draft.old) (spec.may_race given.now.races given.now.line.later) given.now.line.line)) }
     ensures given { OnOk result (S.refused supply.new ≡ S.refused supply.old) }
     ensures memory { result ≡ Err LineFault.NoMemory → S.refused supply.new ≡ true }
 {
-    if has_words(line.bytes()) {
-        return take_words(
-            alloc, supply, draft, words, place, number, plain, line, races,
-        );
+    if has_words(given.line.bytes()) {
+        return take_words(alloc, supply, draft, desk, given);
     }
-    if is_readable(plain, line.bytes()) {
+    if is_readable(given.plain, given.line.bytes()) {
         Ok(())
     } else {
-        Err(LineFault::Rule(3))
+        Err(LineFault::Rule(LineRule::BadWord))
     }
 }
 
@@ -320,20 +330,26 @@ pub fn draft_of<S: Supply>(
         return Err(ScriptBad::NoMemory);
     };
     let mut draft = draft;
-    let mut words = Vec::new(alloc);
-    let mut place = ActionPlace::new();
+    let mut desk = Desk {
+        words: Vec::new(alloc),
+        place: ActionPlace::new(),
+    };
     let mut number = 0;
     let mut rest = text;
     'lines: loop {
         let line = TextLine::first(rest);
         number += 1;
-        match take_line(
-            alloc, supply, &mut draft, &mut words, &mut place, number, plain, &line, races,
-        ) {
+        let given = GivenLine {
+            number,
+            plain,
+            races,
+            line,
+        };
+        match take_line(alloc, supply, &mut draft, &mut desk, &given) {
             Ok(()) => {}
             Err(fault) => return Err(bad_line(number, fault)),
         }
-        match line.rest() {
+        match given.line.rest() {
             None => return Ok(draft),
             Some(later) => rest = later,
         }

@@ -20,6 +20,7 @@ use crate::text::some_have_words;
 use channel_config::config::Config;
 use script_rows::Action;
 use script_rows::race::Race;
+use script_rows::words::LineRule;
 use std::alloc::Global;
 use std::marker::Model;
 use supply::{Given, Supply};
@@ -44,7 +45,7 @@ pub enum ScriptBad {
     /// A growth was refused.
     NoMemory,
     /// This line, from 1, breaks this rule.
-    Bad { line: u64, rule: u8 },
+    Bad { line: u64, rule: LineRule },
 }
 
 /// A script: the configuration of a machine, and what is asked of it line by line.
@@ -75,10 +76,9 @@ impl Script {
     /// The script that a text is, else the first line that breaks a rule and the first rule that it breaks. There is no
     /// memory only where the supply refused a growth. `races`: the last line may ask for a race.
     ///
-    /// Rule 1: the first word is unknown. 2: a wrong number of words. 3: a bad number or other word, or a line of more
-    /// than 1,024 bytes or not of UTF-8. 4: a configuration line after an action. 5: a rule of configurations is
-    /// broken. 6, before all others of its line: the first line with words is no `storage` line; line 1 where no line
-    /// has words. 7: a race where none is allowed, or with words in a later line.
+    /// Of a line, `LineRule::StorageNotFirst` comes before all others, which are tried in their order; a line of more than
+    /// 1,024 bytes or not of UTF-8 breaks `LineRule::BadWord` whatever its words. Where no line has words, line 1 breaks
+    /// `LineRule::StorageNotFirst`.
     pub fn read_with<S: Supply>(
         alloc: Global,
         supply: &mut S,
@@ -91,7 +91,10 @@ impl Script {
         ensures memory { result ≡ Err ScriptBad.NoMemory → S.refused supply.new ≡ true }
     {
         if !some_have_words(text) {
-            return Err(ScriptBad::Bad { line: 1, rule: 6 });
+            return Err(ScriptBad::Bad {
+                line: 1,
+                rule: LineRule::StorageNotFirst,
+            });
         }
         let draft = draft_of(alloc, supply, races, is_plain(text), text)?;
         Ok(Script {

@@ -10,6 +10,14 @@ use std::alloc::{AllocError, Global};
 use std::marker::Model;
 use supply::{Supply, extend, make_room};
 
+/// A line with its action, whose bytes stand beside it.
+#[derive(Drop)]
+pub struct LentLine<'a> {
+    pub number: u64,
+    pub action: &'a KeptAction,
+    pub bytes: &'a [u8],
+}
+
 /// Lines in order. Each takes 56 bytes and those of its event.
 #[derive(Drop)]
 pub struct Lines {
@@ -93,16 +101,20 @@ impl Lines {
         }
     }
 
-    /// The number of the line at this place and its action, whose bytes stand beside it; None where there is none.
+    /// The line at this place; None where there is none.
     #[inline(always)]
-    pub fn kept(&self, place: usize) -> Option<(u64, &KeptAction, &[u8])>
+    pub fn kept(&self, place: usize) -> Option<LentLine<'_>>
         ensures line { MatchOption result (slice_get self.now place ≡ None)
-            (λ k. slice_get self.now place ≡ Some (record { number = k.0; action = action_in k.1.now k.2.now })) }
-        ensures length { IfSome result (λ k. action_length k.1.now ≤ length k.2.now) }
+            (λ k. slice_get self.now place ≡ Some (record { number = k.number; action = action_in k.action.now k.bytes.now })) }
+        ensures length { IfSome result (λ k. action_length k.action.now ≤ length k.bytes.now) }
     {
         match self.kept.as_slice().get(place) {
             None => None,
-            Some(kept) => Some((kept.number, &kept.action, kept.bytes(self.bytes.as_slice()))),
+            Some(kept) => Some(LentLine {
+                number: kept.number,
+                action: &kept.action,
+                bytes: kept.bytes(self.bytes.as_slice()),
+            }),
         }
     }
 

@@ -3,14 +3,26 @@ use Rattle.std.specs.Prelude.{◌≡◌, ℕ, Option, Some, Result, Ok, Err}
 use Rattle.script_rows.specs.declared.settings.Setting.{Setting}
 use Rattle.script_rows.specs.declared.words.LineFault.{LineFault}
 use Rattle.script_rows.specs.declared.words.LineFault.TheVariants.{NoMemory, Rule}
+use Rattle.script_rows.specs.declared.words.LineRule.{LineRule}
+use Rattle.script_rows.specs.declared.words.LineRule.TheVariants.{UnknownWord, WrongCount, BadWord, SettingAfterAction, BreaksConfiguration, StorageNotFirst, MisplacedRace}
 
 -- the rule that a fault names is the one that is broken
-abbrev pub FaultOf : {A : Type 0} → LineFault → Result A ℕ → Type 0
+abbrev pub FaultOf : {A : Type 0} → LineFault → Result A LineRule → Type 0
 FaultOf NoMemory said = Unit {0}
 FaultOf (Rule rule) said = said ≡ Err rule
 
 -- a row's answer
-abbrev pub Says : Result Setting LineFault → Option (Result Setting ℕ) → Type 0
+abbrev pub Says : Result Setting LineFault → Option (Result Setting LineRule) → Type 0
 Says (Ok setting) said = said ≡ Some (Ok setting)
 Says (Err NoMemory) said = Unit {0}
 Says (Err (Rule rule)) said = said ≡ Some (Err rule)
+
+-- the number by which a rule is printed
+abbrev pub rule_number : LineRule → ℕ
+rule_number UnknownWord = 1
+rule_number WrongCount = 2
+rule_number BadWord = 3
+rule_number SettingAfterAction = 4
+rule_number BreaksConfiguration = 5
+rule_number StorageNotFirst = 6
+rule_number MisplacedRace = 7

@@ -6,6 +6,7 @@ use Rattle.script_rows.specs.declared.Action.TheVariants as action
 use Rattle.script_rows.specs.declared.places.ActionPlace.{ActionPlace}
 use Rattle.script_rows.specs.declared.places.KeptAction.{KeptAction}
 use Rattle.script_rows.specs.declared.places.KeptAction.TheVariants as kept_action
+use Rattle.script_rows.specs.declared.words.LineRule.{LineRule}
 
 -- the action with the first of these bytes
 abbrev pub action_in : KeptAction → List ℕ → Action
@@ -23,10 +24,10 @@ abbrev pub action_at : ActionPlace → Action
 action_at place = action_in place.kept place.bytes
 
 -- what a row says, whose action stands in a place
-abbrev pub row_at : Result Unit ℕ → Action → Result Action ℕ
+abbrev pub row_at : Result Unit LineRule → Action → Result Action LineRule
 row_at (Ok done) asked = Ok asked
 row_at (Err rule) asked = Err rule
 
-abbrev pub rows_at : Option (Result Unit ℕ) → Action → Option (Result Action ℕ)
+abbrev pub rows_at : Option (Result Unit LineRule) → Action → Option (Result Action LineRule)
 rows_at None asked = None
 rows_at (Some said) asked = Some (row_at said asked)

@@ -1,5 +1,7 @@
 -- What a word of a line stands for, and how many words a line has (own).
 use Rattle.std.specs.Prelude.{ℕ, ◌+◌, ◌-◌, ◌*◌, ◌&&◌, nat_lt, nat_le, List, [], ◌∷◌, length, Option, Some, None, Result, Ok, Err, if◌then◌else◌}
+use Rattle.script_rows.specs.declared.words.LineRule.{LineRule}
+use Rattle.script_rows.specs.declared.words.LineRule.TheVariants.{WrongCount, BadWord}
 
 abbrev pub and_then : {A B : Type 0} → Option A → (A → Option B) → Option B
 and_then None f = None
@@ -61,15 +63,15 @@ hex_bytes word = if nat_lt 0 (length word) && nat_le (length word) 512 then byte
 abbrev pub subchannel : List ℕ → Option ℕ
 subchannel word = and_then (number word) (λ n. Some (if nat_le (length word) 4 then 0x10000 + n else n))
 
--- rule 3: a word is not what it should be
-abbrev pub or_rule_3 : {A : Type 0} → Option A → Result A ℕ
-or_rule_3 (Some said) = Ok said
-or_rule_3 None = Err 3
+-- a word is not what it should be
+abbrev pub or_bad_word : {A : Type 0} → Option A → Result A LineRule
+or_bad_word (Some said) = Ok said
+or_bad_word None = Err BadWord
 
--- rule 2: there are not as many words as there should be
-abbrev pub or_rule_2 : {A B : Type 0} → Option A → (A → Result B ℕ) → Result B ℕ
-or_rule_2 None says = Err 2
-or_rule_2 (Some words) says = says words
+-- there are not as many words as there should be
+abbrev pub or_wrong_count : {A B : Type 0} → Option A → (A → Result B LineRule) → Result B LineRule
+or_wrong_count None says = Err WrongCount
+or_wrong_count (Some words) says = says words
 
 abbrev pub one_of : List (List ℕ) → Option (List ℕ)
 one_of [] = None
@@ -98,14 +100,14 @@ four_of (a ∷ b ∷ c ∷ d ∷ []) = Some (a, b, c, d)
 four_of (a ∷ b ∷ c ∷ d ∷ e ∷ rest) = None
 
 -- rows of so many words, which say what they say where each word is what it should be
-abbrev pub with_one : {A : Type 0} → (List ℕ → Option A) → List (List ℕ) → Result A ℕ
-with_one says words = or_rule_2 (one_of words) (λ a. or_rule_3 (says a))
+abbrev pub with_one : {A : Type 0} → (List ℕ → Option A) → List (List ℕ) → Result A LineRule
+with_one says words = or_wrong_count (one_of words) (λ a. or_bad_word (says a))
 
-abbrev pub with_two : {A : Type 0} → (List ℕ → List ℕ → Option A) → List (List ℕ) → Result A ℕ
-with_two says words = or_rule_2 (two_of words) (λ p. or_rule_3 (says p.0 p.1))
+abbrev pub with_two : {A : Type 0} → (List ℕ → List ℕ → Option A) → List (List ℕ) → Result A LineRule
+with_two says words = or_wrong_count (two_of words) (λ p. or_bad_word (says p.0 p.1))
 
-abbrev pub with_three : {A : Type 0} → (List ℕ → List ℕ → List ℕ → Option A) → List (List ℕ) → Result A ℕ
-with_three says words = or_rule_2 (three_of words) (λ p. or_rule_3 (says p.0 p.1 p.2))
+abbrev pub with_three : {A : Type 0} → (List ℕ → List ℕ → List ℕ → Option A) → List (List ℕ) → Result A LineRule
+with_three says words = or_wrong_count (three_of words) (λ p. or_bad_word (says p.0 p.1 p.2))
 
-abbrev pub with_four : {A : Type 0} → (List ℕ → List ℕ → List ℕ → List ℕ → Option A) → List (List ℕ) → Result A ℕ
-with_four says words = or_rule_2 (four_of words) (λ p. or_rule_3 (says p.0 p.1 p.2 p.3))
+abbrev pub with_four : {A : Type 0} → (List ℕ → List ℕ → List ℕ → List ℕ → Option A) → List (List ℕ) → Result A LineRule
+with_four says words = or_wrong_count (four_of words) (λ p. or_bad_word (says p.0 p.1 p.2 p.3))

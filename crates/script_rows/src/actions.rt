@@ -10,19 +10,21 @@ ghost use Rattle.script_rows.specs.Settings.{setting_row};
 use crate::acts::act_row;
 use crate::paths::path_row;
 use crate::places::{ActionPlace, KeptAction};
-use crate::words::{hex_bytes, is_name, number, number_up_to, one, subchannel, three, two};
+use crate::words::{
+    LineRule, hex_bytes, is_name, number, number_up_to, one, subchannel, three, two,
+};
 use chan_events::event::{Event, Instruction, OtherInstruction};
 use chan_model::chunk::ChunkLength;
 use chan_model::names::Cpu;
 use storage_keys::key::Key;
 
-fn enable_row(words: &[&[u8]]) -> Result<Instruction, u8>
+fn enable_row(words: &[&[u8]]) -> Result<Instruction, LineRule>
     ensures { result ≡ spec.enable_row (map (λ w. w.now) words.now) }
 {
-    let (word, subclass, multipath) = three(words).ok_or(2)?;
-    let subchannel = subchannel(word).ok_or(3)?;
-    let subclass = number_up_to(7, subclass).ok_or(3)?;
-    let multipath = number_up_to(1, multipath).ok_or(3)?;
+    let (word, subclass, multipath) = three(words).ok_or(LineRule::WrongCount)?;
+    let subchannel = subchannel(word).ok_or(LineRule::BadWord)?;
+    let subclass = number_up_to(7, subclass).ok_or(LineRule::BadWord)?;
+    let multipath = number_up_to(1, multipath).ok_or(LineRule::BadWord)?;
     Ok(Instruction::Enable {
         subchannel,
         subclass: subclass as u8,
@@ -32,17 +34,17 @@ fn enable_row(words: &[&[u8]]) -> Result<Instruction, u8>
 
 /// A subchannel and the address of an operand.
 #[inline(always)]
-fn operand_row(words: &[&[u8]]) -> Result<(u32, u32), u8>
+fn operand_row(words: &[&[u8]]) -> Result<(u32, u32), LineRule>
     ensures { result ≡ spec.operand_row (map (λ w. w.now) words.now) }
 {
-    let (word, address) = two(words).ok_or(2)?;
-    let subchannel = subchannel(word).ok_or(3)?;
-    let address = number(address).ok_or(3)?;
+    let (word, address) = two(words).ok_or(LineRule::WrongCount)?;
+    let subchannel = subchannel(word).ok_or(LineRule::BadWord)?;
+    let address = number(address).ok_or(LineRule::BadWord)?;
     Ok((subchannel, address))
 }
 
 #[inline(always)]
-fn ssch_row(words: &[&[u8]]) -> Result<Instruction, u8>
+fn ssch_row(words: &[&[u8]]) -> Result<Instruction, LineRule>
     ensures { result ≡ spec.ssch_row (map (λ w. w.now) words.now) }
 {
     let (subchannel, address) = operand_row(words)?;
@@ -53,7 +55,7 @@ fn ssch_row(words: &[&[u8]]) -> Result<Instruction, u8>
 }
 
 #[inline(always)]
-fn tsch_row(words: &[&[u8]]) -> Result<Instruction, u8>
+fn tsch_row(words: &[&[u8]]) -> Result<Instruction, LineRule>
     ensures { result ≡ spec.tsch_row (map (λ w. w.now) words.now) }
 {
     let (subchannel, address) = operand_row(words)?;
@@ -63,7 +65,7 @@ fn tsch_row(words: &[&[u8]]) -> Result<Instruction, u8>
     })
 }
 
-fn stsch_row(words: &[&[u8]]) -> Result<Instruction, u8>
+fn stsch_row(words: &[&[u8]]) -> Result<Instruction, LineRule>
     ensures { result ≡ spec.stsch_row (map (λ w. w.now) words.now) }
 {
     let (subchannel, address) = operand_row(words)?;
@@ -73,7 +75,7 @@ fn stsch_row(words: &[&[u8]]) -> Result<Instruction, u8>
     })
 }
 
-fn msch_row(words: &[&[u8]]) -> Result<Instruction, u8>
+fn msch_row(words: &[&[u8]]) -> Result<Instruction, LineRule>
     ensures { result ≡ spec.msch_row (map (λ w. w.now) words.now) }
 {
     let (subchannel, address) = operand_row(words)?;
@@ -83,40 +85,40 @@ fn msch_row(words: &[&[u8]]) -> Result<Instruction, u8>
     })
 }
 
-fn rsch_row(words: &[&[u8]]) -> Result<Instruction, u8>
+fn rsch_row(words: &[&[u8]]) -> Result<Instruction, LineRule>
     ensures { result ≡ spec.rsch_row (map (λ w. w.now) words.now) }
 {
-    let word = one(words).ok_or(2)?;
-    let subchannel = subchannel(word).ok_or(3)?;
+    let word = one(words).ok_or(LineRule::WrongCount)?;
+    let subchannel = subchannel(word).ok_or(LineRule::BadWord)?;
     Ok(Instruction::Rsch { subchannel })
 }
 
-fn hsch_row(words: &[&[u8]]) -> Result<Instruction, u8>
+fn hsch_row(words: &[&[u8]]) -> Result<Instruction, LineRule>
     ensures { result ≡ spec.hsch_row (map (λ w. w.now) words.now) }
 {
-    let word = one(words).ok_or(2)?;
-    let subchannel = subchannel(word).ok_or(3)?;
+    let word = one(words).ok_or(LineRule::WrongCount)?;
+    let subchannel = subchannel(word).ok_or(LineRule::BadWord)?;
     Ok(Instruction::Hsch { subchannel })
 }
 
-fn csch_row(words: &[&[u8]]) -> Result<Instruction, u8>
+fn csch_row(words: &[&[u8]]) -> Result<Instruction, LineRule>
     ensures { result ≡ spec.csch_row (map (λ w. w.now) words.now) }
 {
-    let word = one(words).ok_or(2)?;
-    let subchannel = subchannel(word).ok_or(3)?;
+    let word = one(words).ok_or(LineRule::WrongCount)?;
+    let subchannel = subchannel(word).ok_or(LineRule::BadWord)?;
     Ok(Instruction::Csch { subchannel })
 }
 
-fn xsch_row(words: &[&[u8]]) -> Result<Instruction, u8>
+fn xsch_row(words: &[&[u8]]) -> Result<Instruction, LineRule>
     ensures { result ≡ spec.xsch_row (map (λ w. w.now) words.now) }
 {
-    let word = one(words).ok_or(2)?;
-    let subchannel = subchannel(word).ok_or(3)?;
+    let word = one(words).ok_or(LineRule::WrongCount)?;
+    let subchannel = subchannel(word).ok_or(LineRule::BadWord)?;
     Ok(Instruction::Xsch { subchannel })
 }
 
 /// The instruction that a line's words ask for, where its first word names one.
-fn instruction_row(word: &[u8], words: &[&[u8]]) -> Option<Result<Instruction, u8>>
+fn instruction_row(word: &[u8], words: &[&[u8]]) -> Option<Result<Instruction, LineRule>>
     ensures { result ≡ spec.instruction_row word.now (map (λ w. w.now) words.now) }
 {
     if is_name(word, b"enable".as_slice()) {
@@ -149,44 +151,44 @@ fn instruction_row(word: &[u8], words: &[&[u8]]) -> Option<Result<Instruction, u
     None
 }
 
-fn tpi_row(words: &[&[u8]]) -> Result<OtherInstruction, u8>
+fn tpi_row(words: &[&[u8]]) -> Result<OtherInstruction, LineRule>
     ensures { result ≡ spec.tpi_row (map (λ w. w.now) words.now) }
 {
-    let (mask, address) = two(words).ok_or(2)?;
-    let mask = number_up_to(0xFF, mask).ok_or(3)?;
-    let address = number(address).ok_or(3)?;
+    let (mask, address) = two(words).ok_or(LineRule::WrongCount)?;
+    let mask = number_up_to(0xFF, mask).ok_or(LineRule::BadWord)?;
+    let address = number(address).ok_or(LineRule::BadWord)?;
     Ok(OtherInstruction::Tpi {
         mask: mask as u8,
         address,
     })
 }
 
-fn rchp_row(words: &[&[u8]]) -> Result<OtherInstruction, u8>
+fn rchp_row(words: &[&[u8]]) -> Result<OtherInstruction, LineRule>
     ensures { result ≡ spec.rchp_row (map (λ w. w.now) words.now) }
 {
-    let path = one(words).ok_or(2)?;
-    let path = number(path).ok_or(3)?;
+    let path = one(words).ok_or(LineRule::WrongCount)?;
+    let path = number(path).ok_or(LineRule::BadWord)?;
     Ok(OtherInstruction::Rchp { path })
 }
 
-fn stcrw_row(words: &[&[u8]]) -> Result<OtherInstruction, u8>
+fn stcrw_row(words: &[&[u8]]) -> Result<OtherInstruction, LineRule>
     ensures { result ≡ spec.stcrw_row (map (λ w. w.now) words.now) }
 {
-    let address = one(words).ok_or(2)?;
-    let address = number(address).ok_or(3)?;
+    let address = one(words).ok_or(LineRule::WrongCount)?;
+    let address = number(address).ok_or(LineRule::BadWord)?;
     Ok(OtherInstruction::Stcrw { address })
 }
 
-fn stcps_row(words: &[&[u8]]) -> Result<OtherInstruction, u8>
+fn stcps_row(words: &[&[u8]]) -> Result<OtherInstruction, LineRule>
     ensures { result ≡ spec.stcps_row (map (λ w. w.now) words.now) }
 {
-    let address = one(words).ok_or(2)?;
-    let address = number(address).ok_or(3)?;
+    let address = one(words).ok_or(LineRule::WrongCount)?;
+    let address = number(address).ok_or(LineRule::BadWord)?;
     Ok(OtherInstruction::Stcps { address })
 }
 
 /// The instruction without a subchannel that a line's words ask for, where its first word names one.
-fn other_row(word: &[u8], words: &[&[u8]]) -> Option<Result<OtherInstruction, u8>>
+fn other_row(word: &[u8], words: &[&[u8]]) -> Option<Result<OtherInstruction, LineRule>>
     ensures { result ≡ spec.other_row word.now (map (λ w. w.now) words.now) }
 {
     if is_name(word, b"tpi".as_slice()) {
@@ -213,12 +215,12 @@ fn cpu_named(word: &[u8]) -> Option<Cpu>
 fn on_cpu(
     place: &mut ActionPlace,
     cpu: Option<Cpu>,
-    said: Result<Instruction, u8>,
-) -> Result<(), u8>
+    said: Result<Instruction, LineRule>,
+) -> Result<(), LineRule>
     ensures { row_at result (action_at place.new) ≡ spec.on_cpu cpu said }
 {
     let instruction = said?;
-    let cpu = cpu.ok_or(3)?;
+    let cpu = cpu.ok_or(LineRule::BadWord)?;
     place.kept = KeptAction::Event(Event::Execute { cpu, instruction });
     Ok(())
 }
@@ -226,12 +228,12 @@ fn on_cpu(
 fn other_on_cpu(
     place: &mut ActionPlace,
     cpu: Option<Cpu>,
-    said: Result<OtherInstruction, u8>,
-) -> Result<(), u8>
+    said: Result<OtherInstruction, LineRule>,
+) -> Result<(), LineRule>
     ensures { row_at result (action_at place.new) ≡ spec.other_on_cpu cpu said }
 {
     let instruction = said?;
-    let cpu = cpu.ok_or(3)?;
+    let cpu = cpu.ok_or(LineRule::BadWord)?;
     place.kept = KeptAction::Event(Event::ExecuteOther { cpu, instruction });
     Ok(())
 }
@@ -242,7 +244,7 @@ fn executed_row(
     cpu: Option<Cpu>,
     word: &[u8],
     words: &[&[u8]],
-) -> Option<Result<(), u8>>
+) -> Option<Result<(), LineRule>>
     ensures { rows_at result (action_at place.new) ≡ spec.executed_row cpu word.now (map (λ w. w.now) words.now) }
 {
     match instruction_row(word, words) {
@@ -254,25 +256,25 @@ fn executed_row(
     }
 }
 
-fn cpu_row(place: &mut ActionPlace, words: &[&[u8]]) -> Result<(), u8>
+fn cpu_row(place: &mut ActionPlace, words: &[&[u8]]) -> Result<(), LineRule>
     ensures { row_at result (action_at place.new) ≡ spec.cpu_row (map (λ w. w.now) words.now) }
 {
     match words {
-        [] => Err(1),
-        [_] => Err(1),
+        [] => Err(LineRule::UnknownWord),
+        [_] => Err(LineRule::UnknownWord),
         [cpu, word, others @ ..] => match executed_row(place, cpu_named(cpu), word, others) {
             Some(said) => said,
-            None => Err(1),
+            None => Err(LineRule::UnknownWord),
         },
     }
 }
 
-fn put_row(place: &mut ActionPlace, words: &[&[u8]]) -> Result<(), u8>
+fn put_row(place: &mut ActionPlace, words: &[&[u8]]) -> Result<(), LineRule>
     ensures { row_at result (action_at place.new) ≡ spec.put_row (map (λ w. w.now) words.now) }
 {
-    let (address, bytes) = two(words).ok_or(2)?;
-    let address = number(address).ok_or(3)?;
-    let bytes = hex_bytes(bytes).ok_or(3)?;
+    let (address, bytes) = two(words).ok_or(LineRule::WrongCount)?;
+    let address = number(address).ok_or(LineRule::BadWord)?;
+    let bytes = hex_bytes(bytes).ok_or(LineRule::BadWord)?;
     place.put(address, &bytes);
     Ok(())
 }
@@ -288,22 +290,22 @@ fn key_named(word: &[u8]) -> Option<Key>
     }
 }
 
-fn key_row(place: &mut ActionPlace, words: &[&[u8]]) -> Result<(), u8>
+fn key_row(place: &mut ActionPlace, words: &[&[u8]]) -> Result<(), LineRule>
     ensures { row_at result (action_at place.new) ≡ spec.key_row (map (λ w. w.now) words.now) }
 {
-    let (address, key) = two(words).ok_or(2)?;
-    let address = number(address).ok_or(3)?;
-    let key = key_named(key).ok_or(3)?;
+    let (address, key) = two(words).ok_or(LineRule::WrongCount)?;
+    let address = number(address).ok_or(LineRule::BadWord)?;
+    let key = key_named(key).ok_or(LineRule::BadWord)?;
     place.kept = KeptAction::Event(Event::SetKey { address, key });
     Ok(())
 }
 
-fn prefix_row(place: &mut ActionPlace, words: &[&[u8]]) -> Result<(), u8>
+fn prefix_row(place: &mut ActionPlace, words: &[&[u8]]) -> Result<(), LineRule>
     ensures { row_at result (action_at place.new) ≡ spec.prefix_row (map (λ w. w.now) words.now) }
 {
-    let (cpu, address) = two(words).ok_or(2)?;
-    let cpu = cpu_named(cpu).ok_or(3)?;
-    let address = number(address).ok_or(3)?;
+    let (cpu, address) = two(words).ok_or(LineRule::WrongCount)?;
+    let cpu = cpu_named(cpu).ok_or(LineRule::BadWord)?;
+    let address = number(address).ok_or(LineRule::BadWord)?;
     place.kept = KeptAction::Event(Event::SetPrefix { cpu, address });
     Ok(())
 }
@@ -320,69 +322,73 @@ fn show_length(word: &[u8]) -> Option<ChunkLength>
     }
 }
 
-fn show_row(place: &mut ActionPlace, words: &[&[u8]]) -> Result<(), u8>
+fn show_row(place: &mut ActionPlace, words: &[&[u8]]) -> Result<(), LineRule>
     ensures { row_at result (action_at place.new) ≡ spec.show_row (map (λ w. w.now) words.now) }
 {
-    let (address, length) = two(words).ok_or(2)?;
-    let address = number(address).ok_or(3)?;
-    let length = show_length(length).ok_or(3)?;
+    let (address, length) = two(words).ok_or(LineRule::WrongCount)?;
+    let address = number(address).ok_or(LineRule::BadWord)?;
+    let length = show_length(length).ok_or(LineRule::BadWord)?;
     place.kept = KeptAction::Event(Event::Show { address, length });
     Ok(())
 }
 
 #[inline(always)]
-fn choose_row(place: &mut ActionPlace, words: &[&[u8]]) -> Result<(), u8>
+fn choose_row(place: &mut ActionPlace, words: &[&[u8]]) -> Result<(), LineRule>
     ensures { row_at result (action_at place.new) ≡ spec.choose_row (map (λ w. w.now) words.now) }
 {
-    let word = one(words).ok_or(2)?;
-    let subchannel = subchannel(word).ok_or(3)?;
+    let word = one(words).ok_or(LineRule::WrongCount)?;
+    let subchannel = subchannel(word).ok_or(LineRule::BadWord)?;
     place.kept = KeptAction::Event(Event::Choose { subchannel });
     Ok(())
 }
 
 #[inline(always)]
-fn up_row(place: &mut ActionPlace, words: &[&[u8]]) -> Result<(), u8>
+fn up_row(place: &mut ActionPlace, words: &[&[u8]]) -> Result<(), LineRule>
     ensures { row_at result (action_at place.new) ≡ spec.up_row (map (λ w. w.now) words.now) }
 {
-    let (word, path) = two(words).ok_or(2)?;
-    let subchannel = subchannel(word).ok_or(3)?;
-    let path = number(path).ok_or(3)?;
+    let (word, path) = two(words).ok_or(LineRule::WrongCount)?;
+    let subchannel = subchannel(word).ok_or(LineRule::BadWord)?;
+    let path = number(path).ok_or(LineRule::BadWord)?;
     place.kept = KeptAction::Event(Event::Up { subchannel, path });
     Ok(())
 }
 
 #[inline(always)]
-fn down_row(place: &mut ActionPlace, words: &[&[u8]]) -> Result<(), u8>
+fn down_row(place: &mut ActionPlace, words: &[&[u8]]) -> Result<(), LineRule>
     ensures { row_at result (action_at place.new) ≡ spec.down_row (map (λ w. w.now) words.now) }
 {
-    let (word, path) = two(words).ok_or(2)?;
-    let subchannel = subchannel(word).ok_or(3)?;
-    let path = number(path).ok_or(3)?;
+    let (word, path) = two(words).ok_or(LineRule::WrongCount)?;
+    let subchannel = subchannel(word).ok_or(LineRule::BadWord)?;
+    let path = number(path).ok_or(LineRule::BadWord)?;
     place.kept = KeptAction::Event(Event::Down { subchannel, path });
     Ok(())
 }
 
 #[inline(always)]
-fn dev_row(place: &mut ActionPlace, words: &[&[u8]]) -> Result<(), u8>
+fn dev_row(place: &mut ActionPlace, words: &[&[u8]]) -> Result<(), LineRule>
     ensures { row_at result (action_at place.new) ≡ spec.dev_row (map (λ w. w.now) words.now) }
 {
-    let unit = one(words).ok_or(2)?;
-    let unit = number(unit).ok_or(3)?;
+    let unit = one(words).ok_or(LineRule::WrongCount)?;
+    let unit = number(unit).ok_or(LineRule::BadWord)?;
     place.kept = KeptAction::Dev(unit);
     Ok(())
 }
 
-fn glance_row(place: &mut ActionPlace, words: &[&[u8]]) -> Result<(), u8>
+fn glance_row(place: &mut ActionPlace, words: &[&[u8]]) -> Result<(), LineRule>
     ensures { row_at result (action_at place.new) ≡ spec.glance_row (map (λ w. w.now) words.now) }
 {
-    let word = one(words).ok_or(2)?;
-    let subchannel = subchannel(word).ok_or(3)?;
+    let word = one(words).ok_or(LineRule::WrongCount)?;
+    let subchannel = subchannel(word).ok_or(LineRule::BadWord)?;
     place.kept = KeptAction::Glance(subchannel);
     Ok(())
 }
 
 /// The lines that set and show storage.
-fn storage_row(place: &mut ActionPlace, word: &[u8], words: &[&[u8]]) -> Option<Result<(), u8>>
+fn storage_row(
+    place: &mut ActionPlace,
+    word: &[u8],
+    words: &[&[u8]],
+) -> Option<Result<(), LineRule>>
     ensures { rows_at result (action_at place.new) ≡ spec.storage_row word.now (map (λ w. w.now) words.now) }
 {
     if is_name(word, b"put".as_slice()) {
@@ -401,7 +407,11 @@ fn storage_row(place: &mut ActionPlace, word: &[u8], words: &[&[u8]]) -> Option<
 }
 
 /// The lines of the subsystem and its devices.
-fn subsystem_row(place: &mut ActionPlace, word: &[u8], words: &[&[u8]]) -> Option<Result<(), u8>>
+fn subsystem_row(
+    place: &mut ActionPlace,
+    word: &[u8],
+    words: &[&[u8]],
+) -> Option<Result<(), LineRule>>
     ensures { rows_at result (action_at place.new) ≡ spec.subsystem_row word.now (map (λ w. w.now) words.now) }
 {
     if is_name(word, b"cpu".as_slice()) {
@@ -425,7 +435,7 @@ fn subsystem_row(place: &mut ActionPlace, word: &[u8], words: &[&[u8]]) -> Optio
     None
 }
 
-fn event_row(place: &mut ActionPlace, word: &[u8], words: &[&[u8]]) -> Option<Result<(), u8>>
+fn event_row(place: &mut ActionPlace, word: &[u8], words: &[&[u8]]) -> Option<Result<(), LineRule>>
     ensures { rows_at result (action_at place.new) ≡ spec.event_row word.now (map (λ w. w.now) words.now) }
 {
     match storage_row(place, word, words) {
@@ -441,7 +451,11 @@ fn event_row(place: &mut ActionPlace, word: &[u8], words: &[&[u8]]) -> Option<Re
 }
 
 /// Writes to a place what a line's words ask the machine for, where its first word is known. An instruction without `cpu` is of CPU 0.
-pub fn action_row(place: &mut ActionPlace, word: &[u8], words: &[&[u8]]) -> Option<Result<(), u8>>
+pub fn action_row(
+    place: &mut ActionPlace,
+    word: &[u8],
+    words: &[&[u8]],
+) -> Option<Result<(), LineRule>>
     ensures { rows_at result (action_at place.new) ≡ spec.action_row word.now (map (λ w. w.now) words.now) }
 {
     match executed_row(place, Cpu::new(0), word, words) {
@@ -454,7 +468,11 @@ pub fn action_row(place: &mut ActionPlace, word: &[u8], words: &[&[u8]]) -> Opti
 /// device's turns and of its end: most lines are such, and their names are told from all others at one look. None where it is
 /// another line.
 #[inline(always)]
-pub fn common_row(place: &mut ActionPlace, word: &[u8], words: &[&[u8]]) -> Option<Result<(), u8>>
+pub fn common_row(
+    place: &mut ActionPlace,
+    word: &[u8],
+    words: &[&[u8]],
+) -> Option<Result<(), LineRule>>
     ensures known { is_some result ≡ spec.is_common word.now }
     ensures says { IfSome result (λ said. spec.action_row word.now (map (λ w. w.now) words.now) ≡ Some (row_at said (action_at place.new))) }
     ensures sole { IfSome result (λ said. (setting_row word.now (map (λ w. w.now) words.now) ≡ None) × (bytes_eq word.now (codes "race") ≡ false)) }

@@ -5,15 +5,15 @@ ghost use Rattle.script_rows.specs.Actions as spec;
 ghost use Rattle.script_rows.specs.Places.{action_at, rows_at, row_at};
 
 use crate::places::{ActionPlace, KeptAction};
-use crate::words::{is_name, number, number_up_to, one, two};
+use crate::words::{LineRule, is_name, number, number_up_to, one, two};
 use chan_events::event::{Event, UnitAct};
 use chan_model::names::Side;
 
-fn leave_row(place: &mut ActionPlace, words: &[&[u8]]) -> Result<(), u8>
+fn leave_row(place: &mut ActionPlace, words: &[&[u8]]) -> Result<(), LineRule>
     ensures { row_at result (action_at place.new) ≡ spec.leave_row (map (λ w. w.now) words.now) }
 {
-    let unit = one(words).ok_or(2)?;
-    let unit = number(unit).ok_or(3)?;
+    let unit = one(words).ok_or(LineRule::WrongCount)?;
+    let unit = number(unit).ok_or(LineRule::BadWord)?;
     place.kept = KeptAction::Event(Event::Act {
         unit,
         act: UnitAct::Leave,
@@ -21,12 +21,12 @@ fn leave_row(place: &mut ActionPlace, words: &[&[u8]]) -> Result<(), u8>
     Ok(())
 }
 
-fn ask_row(place: &mut ActionPlace, words: &[&[u8]]) -> Result<(), u8>
+fn ask_row(place: &mut ActionPlace, words: &[&[u8]]) -> Result<(), LineRule>
     ensures { row_at result (action_at place.new) ≡ spec.ask_row (map (λ w. w.now) words.now) }
 {
-    let (unit, path) = two(words).ok_or(2)?;
-    let unit = number(unit).ok_or(3)?;
-    let path = number(path).ok_or(3)?;
+    let (unit, path) = two(words).ok_or(LineRule::WrongCount)?;
+    let unit = number(unit).ok_or(LineRule::BadWord)?;
+    let path = number(path).ok_or(LineRule::BadWord)?;
     place.kept = KeptAction::Event(Event::Act {
         unit,
         act: UnitAct::Ask { path },
@@ -46,28 +46,28 @@ fn side_named(word: &[u8]) -> Option<Side>
 }
 
 /// A unit, a path and a side, which is the first where none is named.
-fn side_row(words: &[&[u8]]) -> Result<(u32, u32, Side), u8>
+fn side_row(words: &[&[u8]]) -> Result<(u32, u32, Side), LineRule>
     ensures { result ≡ spec.side_row (map (λ w. w.now) words.now) }
 {
     match words {
-        [] => Err(2),
-        [_] => Err(2),
+        [] => Err(LineRule::WrongCount),
+        [_] => Err(LineRule::WrongCount),
         [unit, path] => {
-            let unit = number(unit).ok_or(3)?;
-            let path = number(path).ok_or(3)?;
+            let unit = number(unit).ok_or(LineRule::BadWord)?;
+            let path = number(path).ok_or(LineRule::BadWord)?;
             Ok((unit, path, Side::First))
         }
         [unit, path, side] => {
-            let unit = number(unit).ok_or(3)?;
-            let path = number(path).ok_or(3)?;
-            let side = side_named(side).ok_or(3)?;
+            let unit = number(unit).ok_or(LineRule::BadWord)?;
+            let path = number(path).ok_or(LineRule::BadWord)?;
+            let side = side_named(side).ok_or(LineRule::BadWord)?;
             Ok((unit, path, side))
         }
-        [_, _, _, _, ..] => Err(2),
+        [_, _, _, _, ..] => Err(LineRule::WrongCount),
     }
 }
 
-fn attn_row(place: &mut ActionPlace, words: &[&[u8]]) -> Result<(), u8>
+fn attn_row(place: &mut ActionPlace, words: &[&[u8]]) -> Result<(), LineRule>
     ensures { row_at result (action_at place.new) ≡ spec.attn_row (map (λ w. w.now) words.now) }
 {
     let (unit, path, side) = side_row(words)?;
@@ -78,7 +78,7 @@ fn attn_row(place: &mut ActionPlace, words: &[&[u8]]) -> Result<(), u8>
     Ok(())
 }
 
-fn notice_row(place: &mut ActionPlace, words: &[&[u8]]) -> Result<(), u8>
+fn notice_row(place: &mut ActionPlace, words: &[&[u8]]) -> Result<(), LineRule>
     ensures { row_at result (action_at place.new) ≡ spec.notice_row (map (λ w. w.now) words.now) }
 {
     let (unit, path, side) = side_row(words)?;
@@ -89,17 +89,21 @@ fn notice_row(place: &mut ActionPlace, words: &[&[u8]]) -> Result<(), u8>
     Ok(())
 }
 
-fn restart_row(place: &mut ActionPlace, words: &[&[u8]]) -> Result<(), u8>
+fn restart_row(place: &mut ActionPlace, words: &[&[u8]]) -> Result<(), LineRule>
     ensures { row_at result (action_at place.new) ≡ spec.restart_row (map (λ w. w.now) words.now) }
 {
-    let unit = one(words).ok_or(2)?;
-    let unit = number(unit).ok_or(3)?;
+    let unit = one(words).ok_or(LineRule::WrongCount)?;
+    let unit = number(unit).ok_or(LineRule::BadWord)?;
     place.kept = KeptAction::Event(Event::Restart { unit });
     Ok(())
 }
 
 /// The lines of what units do of themselves.
-pub fn act_row(place: &mut ActionPlace, word: &[u8], words: &[&[u8]]) -> Option<Result<(), u8>>
+pub fn act_row(
+    place: &mut ActionPlace,
+    word: &[u8],
+    words: &[&[u8]],
+) -> Option<Result<(), LineRule>>
     ensures { rows_at result (action_at place.new) ≡ spec.act_row word.now (map (λ w. w.now) words.now) }
 {
     if is_name(word, b"leave".as_slice()) {

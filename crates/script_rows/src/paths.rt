@@ -5,37 +5,37 @@ ghost use Rattle.script_rows.specs.Actions as spec;
 ghost use Rattle.script_rows.specs.Places.{action_at, rows_at, row_at};
 
 use crate::places::{ActionPlace, KeptAction};
-use crate::words::{is_name, number, one};
+use crate::words::{LineRule, is_name, number, one};
 use chan_events::event::Event;
 
-fn pathdown_row(place: &mut ActionPlace, words: &[&[u8]]) -> Result<(), u8>
+fn pathdown_row(place: &mut ActionPlace, words: &[&[u8]]) -> Result<(), LineRule>
     ensures { row_at result (action_at place.new) ≡ spec.pathdown_row (map (λ w. w.now) words.now) }
 {
-    let chpid = one(words).ok_or(2)?;
-    let chpid = number(chpid).ok_or(3)?;
+    let chpid = one(words).ok_or(LineRule::WrongCount)?;
+    let chpid = number(chpid).ok_or(LineRule::BadWord)?;
     place.kept = KeptAction::Event(Event::PathDown { chpid });
     Ok(())
 }
 
-fn pathup_row(place: &mut ActionPlace, words: &[&[u8]]) -> Result<(), u8>
+fn pathup_row(place: &mut ActionPlace, words: &[&[u8]]) -> Result<(), LineRule>
     ensures { row_at result (action_at place.new) ≡ spec.pathup_row (map (λ w. w.now) words.now) }
 {
-    let chpid = one(words).ok_or(2)?;
-    let chpid = number(chpid).ok_or(3)?;
+    let chpid = one(words).ok_or(LineRule::WrongCount)?;
+    let chpid = number(chpid).ok_or(LineRule::BadWord)?;
     place.kept = KeptAction::Event(Event::PathUp { chpid });
     Ok(())
 }
 
-fn pathreset_row(place: &mut ActionPlace, words: &[&[u8]]) -> Result<(), u8>
+fn pathreset_row(place: &mut ActionPlace, words: &[&[u8]]) -> Result<(), LineRule>
     ensures { row_at result (action_at place.new) ≡ spec.pathreset_row (map (λ w. w.now) words.now) }
 {
-    let chpid = one(words).ok_or(2)?;
-    let chpid = number(chpid).ok_or(3)?;
+    let chpid = one(words).ok_or(LineRule::WrongCount)?;
+    let chpid = number(chpid).ok_or(LineRule::BadWord)?;
     place.kept = KeptAction::Event(Event::PathReset { chpid });
     Ok(())
 }
 
-fn sysreset_row(place: &mut ActionPlace, words: &[&[u8]]) -> Result<(), u8>
+fn sysreset_row(place: &mut ActionPlace, words: &[&[u8]]) -> Result<(), LineRule>
     ensures { row_at result (action_at place.new) ≡ spec.sysreset_row (map (λ w. w.now) words.now) }
 {
     match words {
@@ -43,12 +43,16 @@ fn sysreset_row(place: &mut ActionPlace, words: &[&[u8]]) -> Result<(), u8>
             place.kept = KeptAction::Event(Event::SystemReset);
             Ok(())
         }
-        [_, ..] => Err(2),
+        [_, ..] => Err(LineRule::WrongCount),
     }
 }
 
 /// The lines of channel paths, and of the reset of the channel subsystem.
-pub fn path_row(place: &mut ActionPlace, word: &[u8], words: &[&[u8]]) -> Option<Result<(), u8>>
+pub fn path_row(
+    place: &mut ActionPlace,
+    word: &[u8],
+    words: &[&[u8]],
+) -> Option<Result<(), LineRule>>
     ensures { rows_at result (action_at place.new) ≡ spec.path_row word.now (map (λ w. w.now) words.now) }
 {
     if is_name(word, b"pathdown".as_slice()) {

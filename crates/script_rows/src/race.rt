@@ -3,7 +3,7 @@
 ghost use Rattle.std.specs.Prelude.{◌≡◌, map};
 ghost use Rattle.script_rows.specs.Races as spec;
 
-use crate::words::{four, subchannel, times_up_to};
+use crate::words::{LineRule, four, subchannel, times_up_to};
 
 /// CPUs that execute TEST SUBCHANNEL of one subchannel side by side.
 #[derive(Clone, Copy, Debug)]
@@ -28,13 +28,13 @@ fn tested(name: &[u8], word: &[u8]) -> Option<u32>
 }
 
 /// What the words of a `race` line ask for, or the rule that they break.
-pub fn race_row(words: &[&[u8]]) -> Result<Race, u8>
+pub fn race_row(words: &[&[u8]]) -> Result<Race, LineRule>
     ensures { result ≡ spec.race_row (map (λ w. w.now) words.now) }
 {
-    let (cpus, times, name, word) = four(words).ok_or(2)?;
-    let cpus = times_up_to(16, cpus).ok_or(3)?;
-    let times = times_up_to(10_000, times).ok_or(3)?;
-    let subchannel = tested(name, word).ok_or(3)?;
+    let (cpus, times, name, word) = four(words).ok_or(LineRule::WrongCount)?;
+    let cpus = times_up_to(16, cpus).ok_or(LineRule::BadWord)?;
+    let times = times_up_to(10_000, times).ok_or(LineRule::BadWord)?;
+    let subchannel = tested(name, word).ok_or(LineRule::BadWord)?;
     Ok(Race {
         cpus,
         times,

@@ -5,7 +5,9 @@ ghost use Rattle.script_rows.specs.Settings as spec;
 ghost use Rattle.script_rows.specs.Faults.{FaultOf, Says};
 ghost use Rattle.channel_config.specs.Refusing.{Configures};
 
-use crate::words::{LineFault, Numbers, is_name, number, numbers_of, one, subchannel, two};
+use crate::words::{
+    LineFault, LineRule, Numbers, is_name, number, numbers_of, one, subchannel, two,
+};
 use channel_config::config::{Config, ConfigFault};
 use channel_config::parts::UnitKind;
 use std::alloc::Global;
@@ -52,36 +54,36 @@ fn kind_named(word: &[u8]) -> Option<UnitKind>
     }
 }
 
-fn storage_row(words: &[&[u8]]) -> Result<Setting, u8>
+fn storage_row(words: &[&[u8]]) -> Result<Setting, LineRule>
     ensures { result ≡ spec.storage_setting_row (map (λ w. w.now) words.now) }
 {
-    let blocks = one(words).ok_or(2)?;
-    let blocks = number(blocks).ok_or(3)?;
+    let blocks = one(words).ok_or(LineRule::WrongCount)?;
+    let blocks = number(blocks).ok_or(LineRule::BadWord)?;
     Ok(Setting::Storage { blocks })
 }
 
-fn sets_row(words: &[&[u8]]) -> Result<Setting, u8>
+fn sets_row(words: &[&[u8]]) -> Result<Setting, LineRule>
     ensures { result ≡ spec.sets_row (map (λ w. w.now) words.now) }
 {
-    let count = one(words).ok_or(2)?;
-    let count = number(count).ok_or(3)?;
+    let count = one(words).ok_or(LineRule::WrongCount)?;
+    let count = number(count).ok_or(LineRule::BadWord)?;
     Ok(Setting::Sets { count })
 }
 
-fn path_row(words: &[&[u8]]) -> Result<Setting, u8>
+fn path_row(words: &[&[u8]]) -> Result<Setting, LineRule>
     ensures { result ≡ spec.path_row (map (λ w. w.now) words.now) }
 {
-    let chpid = one(words).ok_or(2)?;
-    let chpid = number(chpid).ok_or(3)?;
+    let chpid = one(words).ok_or(LineRule::WrongCount)?;
+    let chpid = number(chpid).ok_or(LineRule::BadWord)?;
     Ok(Setting::Path { chpid })
 }
 
-fn unit_row(words: &[&[u8]]) -> Result<Setting, u8>
+fn unit_row(words: &[&[u8]]) -> Result<Setting, LineRule>
     ensures { result ≡ spec.unit_row (map (λ w. w.now) words.now) }
 {
-    let (unit, kind) = two(words).ok_or(2)?;
-    let unit = number(unit).ok_or(3)?;
-    let kind = kind_named(kind).ok_or(3)?;
+    let (unit, kind) = two(words).ok_or(LineRule::WrongCount)?;
+    let unit = number(unit).ok_or(LineRule::BadWord)?;
+    let kind = kind_named(kind).ok_or(LineRule::BadWord)?;
     Ok(Setting::Unit { number: unit, kind })
 }
 
@@ -96,8 +98,8 @@ fn share_row<S: Supply>(
     ensures memory { result ≡ Err LineFault.NoMemory → S.refused supply.new ≡ true }
 {
     match words {
-        [] => Err(LineFault::Rule(2)),
-        [_] => Err(LineFault::Rule(2)),
+        [] => Err(LineFault::Rule(LineRule::WrongCount)),
+        [_] => Err(LineFault::Rule(LineRule::WrongCount)),
         [_, _, ..] => {
             let units = numbers_of(alloc, supply, words)?;
             Ok(Setting::Share { units })
@@ -112,13 +114,13 @@ fn sub_row<S: Supply>(alloc: Global, supply: &mut S, words: &[&[u8]]) -> Result<
     ensures memory { result ≡ Err LineFault.NoMemory → S.refused supply.new ≡ true }
 {
     match words {
-        [] => Err(LineFault::Rule(2)),
-        [_] => Err(LineFault::Rule(2)),
-        [_, _] => Err(LineFault::Rule(2)),
+        [] => Err(LineFault::Rule(LineRule::WrongCount)),
+        [_] => Err(LineFault::Rule(LineRule::WrongCount)),
+        [_, _] => Err(LineFault::Rule(LineRule::WrongCount)),
         [word, device, unit, paths @ ..] => {
-            let word = subchannel(word).ok_or(LineFault::Rule(3))?;
-            let device = number(device).ok_or(LineFault::Rule(3))?;
-            let unit = number(unit).ok_or(LineFault::Rule(3))?;
+            let word = subchannel(word).ok_or(LineFault::Rule(LineRule::BadWord))?;
+            let device = number(device).ok_or(LineFault::Rule(LineRule::BadWord))?;
+            let unit = number(unit).ok_or(LineFault::Rule(LineRule::BadWord))?;
             let paths = numbers_of(alloc, supply, paths)?;
             Ok(Setting::Subchannel {
                 word,
@@ -131,7 +133,7 @@ fn sub_row<S: Supply>(alloc: Global, supply: &mut S, words: &[&[u8]]) -> Result<
 }
 
 /// The rule of a line that is not taken.
-fn ruled(said: Result<Setting, u8>) -> Result<Setting, LineFault>
+fn ruled(said: Result<Setting, LineRule>) -> Result<Setting, LineFault>
     ensures says { Says result (Some said) }
     ensures never { result ≢ Err LineFault.NoMemory }
 {

@@ -3,20 +3,56 @@
 ghost use Rattle.std.specs.Prelude.{◌≡◌, ◌<◌, ◌≤◌, [], ◌∷◌, ◌++◌, map, length, true, IfSome, OnOk, IfErr, MatchOption, MatchResult, Some, None, Ok, Err};
 ghost use Rattle.std.specs.Str.{bytes_eq};
 ghost use Rattle.script_rows.specs.Words as spec;
-ghost use Rattle.script_rows.specs.Faults.{FaultOf};
+ghost use Rattle.script_rows.specs.Faults.{FaultOf, rule_number};
 
 use chan_model::chunk::Chunk;
 use std::alloc::{AllocError, Global};
 use std::marker::Model;
 use supply::{Supply, push};
 
+/// The rules of lines (own), each named by what breaks it, in the order of their numbers.
+#[derive(Clone, Copy, Debug, PartialEq, Eq)]
+pub enum LineRule {
+    /// The first word is unknown.
+    UnknownWord,
+    /// There are not as many words as there should be.
+    WrongCount,
+    /// A number or another word is not what it should be, or the line is too long or not of UTF-8.
+    BadWord,
+    /// A configuration line stands after an action.
+    SettingAfterAction,
+    /// A rule of configurations is broken.
+    BreaksConfiguration,
+    /// The first line with words is no `storage` line.
+    StorageNotFirst,
+    /// A race stands where none is allowed, or before a line with words.
+    MisplacedRace,
+}
+
+impl LineRule {
+    /// The number by which it is printed.
+    pub fn number(self) -> u8
+        ensures { result ≡ rule_number self }
+    {
+        match self {
+            LineRule::UnknownWord => 1,
+            LineRule::WrongCount => 2,
+            LineRule::BadWord => 3,
+            LineRule::SettingAfterAction => 4,
+            LineRule::BreaksConfiguration => 5,
+            LineRule::StorageNotFirst => 6,
+            LineRule::MisplacedRace => 7,
+        }
+    }
+}
+
 /// Why a line is not taken.
 #[derive(Clone, Copy, Debug, PartialEq, Eq)]
 pub enum LineFault {
     /// A growth was refused.
     NoMemory,
-    /// The rule of this number is broken (own).
-    Rule(u8),
+    /// This rule is broken.
+    Rule(LineRule),
 }
 
 impl From<AllocError> for LineFault {
@@ -205,14 +241,14 @@ pub(crate) fn times_up_to(most: u32, word: &[u8]) -> Option<u32>
     }
 }
 
-/// The numbers of all these words, or rule 3.
+/// The numbers of all these words, or that one of them is none.
 pub(crate) fn numbers_of<S: Supply>(
     alloc: Global,
     supply: &mut S,
     words: &[&[u8]],
 ) -> Result<Numbers, LineFault>
     ensures says { MatchResult result (λ ns. spec.numbers_of (map (λ w. w.now) words.now) ≡ Some ns)
-        (λ f. FaultOf f (spec.or_rule_3 (spec.numbers_of (map (λ w. w.now) words.now)))) }
+        (λ f. FaultOf f (spec.or_bad_word (spec.numbers_of (map (λ w. w.now) words.now)))) }
     ensures given { OnOk result (S.refused supply.new ≡ S.refused supply.old) }
     ensures memory { result ≡ Err LineFault.NoMemory → S.refused supply.new ≡ true }
 {
@@ -220,7 +256,7 @@ pub(crate) fn numbers_of<S: Supply>(
     for word in words {
         match number(word) {
             Some(n) => found.push(supply, n)?,
-            None => return Err(LineFault::Rule(3)),
+            None => return Err(LineFault::Rule(LineRule::BadWord)),
         }
     }
     Ok(found)

@@ -6,6 +6,8 @@ use Rattle.script.specs.Pieces.{lines_of}
 use Rattle.script.specs.declared.Line.{Line}
 use Rattle.script.specs.declared.RaceLine.{RaceLine}
 use Rattle.script.specs.Scripts.{ScriptContents, IsScript, IsBad}
+use Rattle.script_rows.specs.declared.words.LineRule.{LineRule}
+use Rattle.script_rows.specs.Faults.{rule_number}
 use Rattle.script_text.specs.Text.{bad_text, event_line}
 use Rattle.script_text.specs.declared.ActionResult.TheVariants as told
 use Rattle.script_text.specs.declared.race.RaceCount.{RaceCount}
@@ -135,12 +137,12 @@ IsApproved held now (Stopped refused) = (refused ≡ false) × FailsIn held ok_t
 IsApproved held now other = ⊥
 
 -- a text is bad: its one line is written
-abbrev pub IsBadLineOutput : ℕ → ℕ → Seen → Seen → Ending → Type 0
-IsBadLineOutput line rule held now (Bad whole) = Puts held (bad_text line rule) now whole
+abbrev pub IsBadLineOutput : ℕ → LineRule → Seen → Seen → Ending → Type 0
+IsBadLineOutput line rule held now (Bad whole) = Puts held (bad_text line (rule_number rule)) now whole
 IsBadLineOutput line rule held now other = ⊥
 
 abbrev pub TellsBad : Bool → List ℕ → Seen → Seen → Bool → Type 0
-TellsBad races text held now whole = (line : ℕ) × (rule : ℕ) × IsBad races (lines_of text) line rule × Puts held (bad_text line rule) now whole
+TellsBad races text held now whole = (line : ℕ) × (rule : LineRule) × IsBad races (lines_of text) line rule × Puts held (bad_text line (rule_number rule)) now whole
 
 -- there is no script: the text was not read, there was no memory for it, or it is bad; `races` says that its last line may race
 abbrev pub HasNoScript : Bool → Option (List ℕ) → Seen → Seen → Ending → Type 0

@@ -19,6 +19,7 @@ mod running;
 
 use core_parts::supplies::CoreSupply;
 use script::{Script, ScriptBad};
+use script_rows::words::LineRule;
 use script_text::put_bad_line;
 use std::alloc::Global;
 use std::sync::Wait;
@@ -157,10 +158,10 @@ fn approve<S: Sink>(sink: &mut S) -> Ending
 }
 
 /// Writes the line of a bad script.
-fn tell_bad<S: Sink>(line: u64, rule: u8, sink: &mut S) -> Ending
+fn tell_bad<S: Sink>(line: u64, rule: LineRule, sink: &mut S) -> Ending
     ensures { IsBadLineOutput line rule (S.seen sink.old) (S.seen sink.new) result }
 {
-    let whole = put_bad_line(sink, line, rule);
+    let whole = put_bad_line(sink, line, rule.number());
     Ending::Bad { whole }
 }
 

@@ -14,8 +14,7 @@ use crate::places::Places;
 use chan_events::reply::Reply;
 use chan_model::fault::Fault;
 use core_parts::naming::Naming;
-use script::lines::Lines;
-use script_rows::places::KeptAction;
+use script::lines::{LentLine, Lines};
 use script_text::held::Held;
 use script_text::{ActionResult, put_event_line_at_once, put_reply_line_at_once};
 use streams::Sink;
@@ -97,22 +96,20 @@ fn write<J: Naming, S: Sink>(
     }
 }
 
-/// Performs one line, whose action stands there, and writes what it prints, through places of their own.
+/// Performs one line and writes what it prints, through places of their own.
 fn perform_one<J: Naming, M: Supply, S: Sink>(
     installation: &mut Installation<J>,
     supply: &mut M,
-    number: u64,
-    action: &KeptAction,
-    bytes: &[u8],
+    line: &LentLine<'_>,
     places: &mut Places,
     sink: &mut S,
 ) -> Written
-    requires { action_length action.now ≤ length bytes.now }
-    ensures { IsDone (M.refused supply.old) (M.refused supply.new) installation.old (record { number = number; action = action_in action.now bytes.now })
+    requires { action_length line.now.action.now ≤ length line.now.bytes.now }
+    ensures { IsDone (M.refused supply.old) (M.refused supply.new) installation.old (record { number = line.now.number; action = action_in line.now.action.now line.now.bytes.now })
         (S.seen sink.old) (S.seen sink.new) result installation.new }
 {
-    let acted = installation.act(supply, action, bytes, places);
-    write(installation, acted, number, &mut places.held, sink)
+    let acted = installation.act(supply, line.action, line.bytes, places);
+    write(installation, acted, line.number, &mut places.held, sink)
 }
 
 /// Performs the lines in order, up to the first whose print is not written whole. Room for what is entered is from a supply: a line
@@ -129,18 +126,10 @@ pub fn perform<J: Naming, M: Supply, S: Sink>(
     let mut places = Places::new();
     let mut refused = false;
     for place in 0..lines.len() {
-        let Some((number, action, bytes)) = lines.kept(place) else {
+        let Some(line) = lines.kept(place) else {
             break;
         };
-        let written = perform_one(
-            installation,
-            supply,
-            number,
-            action,
-            bytes,
-            &mut places,
-            sink,
-        );
+        let written = perform_one(installation, supply, &line, &mut places, sink);
         refused = refused | written.refused;
         if !written.whole {
             return PerformedLines {

@@ -26,6 +26,20 @@ use std::sync::Wait;
 use std::thread::Threads;
 use streams::Sink;
 
+/// What a machine is made of: its configuration, and the parts that were made for it.
+#[derive(Drop)]
+struct SetUp {
+    config: Config,
+    parts: Parts,
+}
+
+/// The actions of a script, and its last line, which is a race.
+#[derive(Drop)]
+struct RacingLines<'a> {
+    lines: &'a Lines,
+    last: RaceLine,
+}
+
 /// Performs a good script.
 #[tactic(auto, using(crate::proofs::Failing::no_memory_fails))]
 pub fn run_script<M: CoreSupply, S: Sink>(
@@ -42,7 +56,7 @@ pub fn run_script<M: CoreSupply, S: Sink>(
     let Ok(parts) = Parts::new_with(alloc, supply, &config) else {
         return no_memory(sink);
     };
-    run_named::<Brand, M, S>(alloc, supply, config, parts, &lines, sink)
+    run_named::<Brand, M, S>(alloc, supply, SetUp { config, parts }, &lines, sink)
 }
 
 /// Performs a good script, with the race of its last line where it asks for one.
@@ -62,10 +76,15 @@ pub fn race_script<T: Threads + Wait + Sync, M: CoreSupply, S: Sink>(
         return no_memory(sink);
     };
     match race {
-        Some(line) => race_named::<Brand, T, M, S>(
-            rt, alloc, supply, config, parts, &lines, line, sink,
-        ),
-        None => run_named::<Brand, M, S>(alloc, supply, config, parts, &lines, sink),
+        Some(last) => {
+            let asked = RacingLines {
+                lines: &lines,
+                last,
+            };
+            let set_up = SetUp { config, parts };
+            race_named::<Brand, T, M, S>(rt, alloc, supply, set_up, &asked, sink)
+        }
+        None => run_named::<Brand, M, S>(alloc, supply, SetUp { config, parts }, &lines, sink),
     }
 }
 
@@ -74,19 +93,18 @@ pub fn race_script<T: Threads + Wait + Sync, M: CoreSupply, S: Sink>(
 fn run_named<J: Naming, M: CoreSupply, S: Sink>(
     alloc: Global,
     supply: &mut M,
-    config: Config,
-    parts: Parts,
+    set_up: SetUp,
     lines: &Lines,
     sink: &mut S,
 ) -> Ending
-    requires named { parts.name ≡ J.name }
-    requires set_up { J.setup ≡ config }
-    requires directory { parts.name.directory ≡ directory_of (opening_of config) }
-    requires serials { parts.serials ≡ all_serials (opening_of config) }
-    ensures ends { IsRunOf (M.refused supply.new) config lines.now (S.seen sink.old) (S.seen sink.new) result }
+    requires named { set_up.parts.name ≡ J.name }
+    requires set_up { J.setup ≡ set_up.config }
+    requires directory { set_up.parts.name.directory ≡ directory_of (opening_of set_up.config) }
+    requires serials { set_up.parts.serials ≡ all_serials (opening_of set_up.config) }
+    ensures ends { IsRunOf (M.refused supply.new) set_up.config lines.now (S.seen sink.old) (S.seen sink.new) result }
     ensures memory { IsForMemory result → M.refused supply.new ≡ true }
 {
-    match Installation::<J>::new(alloc, supply, config, parts, 0) {
+    match Installation::<J>::new(alloc, supply, set_up.config, set_up.parts, 0) {
         Ok((installation, _)) => perform_all(installation, supply, lines, sink),
         Err(_) => no_memory(sink),
     }
@@ -98,22 +116,21 @@ fn race_named<J: Naming + Send + Sync, T: Threads + Wait + Sync, M: CoreSupply, 
     rt: &T,
     alloc: Global,
     supply: &mut M,
-    config: Config,
-    parts: Parts,
-    lines: &Lines,
-    race: RaceLine,
+    set_up: SetUp,
+    asked: &RacingLines<'_>,
     sink: &mut S,
 ) -> Ending
-    requires named { parts.name ≡ J.name }
-    requires set_up { J.setup ≡ config }
-    requires directory { parts.name.directory ≡ directory_of (opening_of config) }
-    requires serials { parts.serials ≡ all_serials (opening_of config) }
-    ensures ends { IsRaceOf (M.refused supply.new) config lines.now race (S.seen sink.old) (S.seen sink.new) result }
+    requires named { set_up.parts.name ≡ J.name }
+    requires set_up { J.setup ≡ set_up.config }
+    requires directory { set_up.parts.name.directory ≡ directory_of (opening_of set_up.config) }
+    requires serials { set_up.parts.serials ≡ all_serials (opening_of set_up.config) }
+    ensures ends { IsRaceOf (M.refused supply.new) set_up.config asked.now.lines.now asked.now.last (S.seen sink.old) (S.seen sink.new) result }
     ensures memory { IsForMemory result → M.refused supply.new ≡ true }
 {
-    match Installation::<J>::new(alloc, supply, config, parts, race.race.cpus) {
+    let cpus = asked.last.race.cpus;
+    match Installation::<J>::new(alloc, supply, set_up.config, set_up.parts, cpus) {
         Ok((installation, racers)) => {
-            perform_race(rt, installation, supply, racers, lines, race, sink)
+            perform_race(rt, installation, supply, racers, asked, sink)
         }
         Err(_) => no_memory(sink),
     }
@@ -139,20 +156,19 @@ fn perform_race<J: Naming + Send + Sync, T: Threads + Wait + Sync, M: CoreSupply
     installation: Installation<J>,
     supply: &mut M,
     racers: Racers<J>,
-    lines: &Lines,
-    line: RaceLine,
+    asked: &RacingLines<'_>,
     sink: &mut S,
 ) -> Ending
-    requires { AreMade line.race.cpus racers }
-    ensures { Races (M.refused supply.new) installation lines.now line (S.seen sink.old) (S.seen sink.new) result }
+    requires { AreMade asked.now.last.race.cpus racers }
+    ensures { Races (M.refused supply.new) installation asked.now.lines.now asked.now.last (S.seen sink.old) (S.seen sink.new) result }
 {
     let mut installation = installation;
-    let done = perform(&mut installation, supply, lines, sink);
+    let done = perform(&mut installation, supply, asked.lines, sink);
     if !done.whole {
         return end(installation.audited(), done, sink);
     }
-    let (count, refused) = installation.race(rt, line.race, racers);
-    let whole = put_event_line(sink, line.number, &Ok(ActionResult::Race(count)));
+    let (count, refused) = installation.race(rt, asked.last.race, racers);
+    let whole = put_event_line(sink, asked.last.number, &Ok(ActionResult::Race(count)));
     ending_of(count.audited, whole, done.refused | refused)
 }
 

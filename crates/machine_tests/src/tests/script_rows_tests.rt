@@ -7,7 +7,7 @@ use script_rows::Action;
 use script_rows::actions::action_row;
 use script_rows::places::ActionPlace;
 use script_rows::settings::{Setting, configure, setting_row};
-use script_rows::words::LineFault;
+use script_rows::words::{LineFault, LineRule};
 use std::alloc::{AllocError, Global};
 use supply::Given;
 
@@ -98,10 +98,14 @@ fn driving_lines_are_read(rt: HostRuntime) {
 }
 
 /// Lines of words that drive no machine, and the rule that each breaks.
-const WRONG: [(&[u8], u8); 3] = [(b"cpu 1 up 0 0", 1), (b"up 0 0 0", 2), (b"show 500 41", 3)];
+const WRONG: [(&[u8], LineRule); 3] = [
+    (b"cpu 1 up 0 0", LineRule::UnknownWord),
+    (b"up 0 0 0", LineRule::WrongCount),
+    (b"show 500 41", LineRule::BadWord),
+];
 
 /// The rule that a line breaks, as it is to drive a machine.
-fn broken(alloc: Global, place: &mut ActionPlace, line: &[u8]) -> Option<u8> {
+fn broken(alloc: Global, place: &mut ActionPlace, line: &[u8]) -> Option<LineRule> {
     let Ok(words) = words_of(alloc, line) else {
         return None;
     };
@@ -187,7 +191,10 @@ fn configuring_lines_are_read(rt: HostRuntime) {
 }
 
 /// Lines of words that configure no machine, and the rule that each breaks.
-const WRONG_SETTINGS: [(&[u8], u8); 2] = [(b"sub 0 0", 2), (b"share 0 x", 3)];
+const WRONG_SETTINGS: [(&[u8], LineRule); 2] = [
+    (b"sub 0 0", LineRule::WrongCount),
+    (b"share 0 x", LineRule::BadWord),
+];
 
 /// The fault of a line, as it is to configure a machine.
 fn fault_of(alloc: Global, line: &[u8]) -> Option<LineFault> {

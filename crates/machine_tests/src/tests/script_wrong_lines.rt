@@ -2,21 +2,26 @@
 
 use crate::tests::script_lines::text_of;
 use script::{Script, ScriptBad};
+use script_rows::words::LineRule;
 use std::alloc::{AllocError, Global};
 use supply::{Given, Refusing, Supply};
 
-const WRONG: [(&[u8], u64, u8); 7] = [
-    (b"", 1, 6),
-    (b"\n\n# nothing\n", 1, 6),
-    (b"\n#\xFF\n", 1, 6),
-    (b"# first \xFF\npath 10\n", 1, 3),
-    (b"storage 10\ndev 0\r\n", 2, 3),
-    (b"storage 10\nput 500 C1\nput 500 x", 3, 3),
-    (b"storage 10\npathdown 100\npathdown 10\r\n", 3, 3),
+const WRONG: [(&[u8], u64, LineRule); 7] = [
+    (b"", 1, LineRule::StorageNotFirst),
+    (b"\n\n# nothing\n", 1, LineRule::StorageNotFirst),
+    (b"\n#\xFF\n", 1, LineRule::StorageNotFirst),
+    (b"# first \xFF\npath 10\n", 1, LineRule::BadWord),
+    (b"storage 10\ndev 0\r\n", 2, LineRule::BadWord),
+    (b"storage 10\nput 500 C1\nput 500 x", 3, LineRule::BadWord),
+    (
+        b"storage 10\npathdown 100\npathdown 10\r\n",
+        3,
+        LineRule::BadWord,
+    ),
 ];
 
 /// Reading a text, where a race may be or not, names this line and this rule.
-fn is_named(rt: &HostRuntime, races: bool, text: &[u8], line: u64, rule: u8) -> bool {
+fn is_named(rt: &HostRuntime, races: bool, text: &[u8], line: u64, rule: LineRule) -> bool {
     match Script::read(rt.alloc(), races, text) {
         Ok(_) => false,
         Err(bad) => bad == ScriptBad::Bad { line, rule },
@@ -24,10 +29,18 @@ fn is_named(rt: &HostRuntime, races: bool, text: &[u8], line: u64, rule: u8) -> 
 }
 
 /// Lines that race CPUs, where the command lets them, each with the line that breaks a rule.
-const RACING: [(&[u8], u64, u8); 3] = [
-    (b"storage 10\nrace 17 100 tsch 0\n", 2, 3),
-    (b"storage 10\nrace 4 100 tsch 0\ndev 0\n", 2, 7),
-    (b"storage 10\nrace 4 100 tsch 0\nrace 4 100 tsch 0\n", 2, 7),
+const RACING: [(&[u8], u64, LineRule); 3] = [
+    (b"storage 10\nrace 17 100 tsch 0\n", 2, LineRule::BadWord),
+    (
+        b"storage 10\nrace 4 100 tsch 0\ndev 0\n",
+        2,
+        LineRule::MisplacedRace,
+    ),
+    (
+        b"storage 10\nrace 4 100 tsch 0\nrace 4 100 tsch 0\n",
+        2,
+        LineRule::MisplacedRace,
+    ),
 ];
 
 #[test]
@@ -35,7 +48,7 @@ fn wrong_races_are_named(rt: HostRuntime) {
     for (text, line, rule) in RACING {
         assert!(rt;
             is_named(&rt, true, text, line, rule),
-            "line {line} rule {rule}"
+            "line {line} rule {rule:?}"
         );
     }
 }
@@ -69,7 +82,7 @@ fn raced(alloc: Global, text: &[u8]) -> Option<(usize, u64, u32, u32, u32)> {
 fn a_race_is_in_the_last_line_with_words(rt: HostRuntime) -> Result<(), AllocError> {
     let text = text_of(rt.alloc(), &RACED)?;
     let found = raced(rt.alloc(), text.as_slice());
-    let refused = is_named(&rt, false, text.as_slice(), 4, 7);
+    let refused = is_named(&rt, false, text.as_slice(), 4, LineRule::MisplacedRace);
     drop(text);
     assert!(rt; found == Some((1, 4, 16, 10_000, 0x2_0003)));
     assert!(rt; refused, "a race may not be there");
@@ -81,7 +94,7 @@ fn wrong_lines_are_named(rt: HostRuntime) {
     for (text, line, rule) in WRONG {
         assert!(rt;
             is_named(&rt, false, text, line, rule),
-            "line {line} rule {rule}"
+            "line {line} rule {rule:?}"
         );
     }
 }
@@ -111,7 +124,14 @@ fn a_line_is_at_most_1024_bytes(rt: HostRuntime) -> Result<(), AllocError> {
     let longer = long_text(rt.alloc(), 1025)?;
     let wrong = counted(rt.alloc(), longer.as_slice());
     drop(longer);
-    assert!(rt; right.ok() == Some(1) && wrong.err() == Some(ScriptBad::Bad { line: 2, rule: 3 }));
+    assert!(rt;
+        right.ok() == Some(1)
+            && wrong.err()
+                == Some(ScriptBad::Bad {
+                    line: 2,
+                    rule: LineRule::BadWord
+                })
+    );
     Ok(())
 }
 

@@ -1,26 +1,26 @@
-use Rattle.std.proofs.Common.{ap, map, Option, Result, ℕ}
-use Rattle.script.specs.Pieces.{lines_of}
+use Rattle.std.proofs.Common.{ap, map, Option, Result}
 use Rattle.script.specs.Saying.{drive_said, setting_said}
 use Rattle.script.specs.Scripts.{may_race}
 use Rattle.script_rows.specs.Settings.{setting_row}
 use Rattle.script_rows.specs.declared.settings.Setting.{Setting}
+use Rattle.script_rows.specs.declared.words.LineRule.{LineRule}
 use Rattle.script.proofs.Drafting.{says-of, set-ok, set-err}
 use Rattle.script.proofs.draft.hear_other.Goals as goal
 
 pub returns-in-Some-Ok-clause-ok : goal.returns-in-Some-Ok-clause-ok
 returns-in-Some-Ok-clause-ok g c =
-    let word = c.args.word.now in
-    let words = map (λ w. w.now) c.args.words.now in
+    let word = c.args.said.now.first.now in
+    let words = map (λ w. w.now) c.args.said.now.others.now in
     let says = says-of _ _ (setting_row word words) c.in-Some-Ok.field-0-is c.in-Some-Ok.ensures.says in
-    set-ok c.set.result c.args.draft.now c.set.new.draft c.in-Some-Ok.setting c.args.number (may_race c.args.races (lines_of c.args.later.now))
+    set-ok c.set.result c.args.draft.now c.set.new.draft c.in-Some-Ok.setting c.args.given.now.number (may_race c.args.given.now.races c.args.given.now.line.later)
     (setting_said (setting_row word words) (drive_said word words))
-    (ap (λ (said : Option (Result Setting ℕ)). setting_said said (drive_said word words)) says) c.set.ensures.ok
+    (ap (λ (said : Option (Result Setting LineRule)). setting_said said (drive_said word words)) says) c.set.ensures.ok
 
 pub returns-in-Some-Ok-clause-err : goal.returns-in-Some-Ok-clause-err
 returns-in-Some-Ok-clause-err g c =
-    let word = c.args.word.now in
-    let words = map (λ w. w.now) c.args.words.now in
+    let word = c.args.said.now.first.now in
+    let words = map (λ w. w.now) c.args.said.now.others.now in
     let says = says-of _ _ (setting_row word words) c.in-Some-Ok.field-0-is c.in-Some-Ok.ensures.says in
-    set-err c.set.result c.args.draft.now c.in-Some-Ok.setting (may_race c.args.races (lines_of c.args.later.now))
+    set-err c.set.result c.args.draft.now c.in-Some-Ok.setting (may_race c.args.given.now.races c.args.given.now.line.later)
     (setting_said (setting_row word words) (drive_said word words))
-    (ap (λ (said : Option (Result Setting ℕ)). setting_said said (drive_said word words)) says) c.set.ensures.err
+    (ap (λ (said : Option (Result Setting LineRule)). setting_said said (drive_said word words)) says) c.set.ensures.err

@@ -12,8 +12,8 @@ returns-then-not-done g c =
     let between = g.S.Sink.seen done.new.sink in
     let now = g.S.Sink.seen c.end.new.sink in
     let is = not_true done.result.whole c.if-not-done.true in
-    stops_before short c.args.installation done.new.installation c.args.lines.now c.args.line held between now done.result.refused c.audited.result c.end.result
-    (subst (λ (whole : Bool). PerformsTo short whole c.args.installation c.args.lines.now held between done.result.refused done.new.installation) is done.ensures.performs)
+    stops_before short c.args.installation done.new.installation c.args.asked.now.lines.now c.args.asked.now.last held between now done.result.refused c.audited.result c.end.result
+    (subst (λ (whole : Bool). PerformsTo short whole c.args.installation c.args.asked.now.lines.now held between done.result.refused done.new.installation) is done.ensures.performs)
     c.audited.ensures
     (subst (λ (whole : Bool). EndsBy c.audited.result whole done.result.refused between now c.end.result) is c.end.ensures)
 
@@ -25,6 +25,6 @@ returns g c =
     let between = g.S.Sink.seen done.new.sink in
     let race = c.race-refused in
     let is = not_false done.result.whole c.if-not-done.false in
-    ends_race short c.args.installation done.new.installation c.args.lines.now c.args.line held between (g.S.Sink.seen c.put_event_line-whole.new.sink) done.result.refused race.result.1 c.put_event_line-whole.result race.result.0 c.ending_of.result
-    (subst (λ (whole : Bool). PerformsTo short whole c.args.installation c.args.lines.now held between done.result.refused done.new.installation) is done.ensures.performs)
+    ends_race short c.args.installation done.new.installation c.args.asked.now.lines.now c.args.asked.now.last held between (g.S.Sink.seen c.put_event_line-whole.new.sink) done.result.refused race.result.1 c.put_event_line-whole.result race.result.0 c.ending_of.result
+    (subst (λ (whole : Bool). PerformsTo short whole c.args.installation c.args.asked.now.lines.now held between done.result.refused done.new.installation) is done.ensures.performs)
     race.ensures c.put_event_line-whole.ensures c.ending_of.ensures
