@@ -1,9 +1,11 @@
 -- How a machine is set up, as its configuration lines make it one by one (own). A line that breaks a rule is refused
--- with the rule's number.
+-- by that rule.
 use Rattle.std.specs.Prelude.{ℕ, ◌+◌, ◌==◌, Bool, true, false, not, ◌&&◌, ◌||◌, nat_lt, nat_le, List, [], ◌∷◌, ◌++◌, length, slice_get, slice_set, slice_index_or, Option, Some, None, is_some, unwrap_or, Result, Ok, Err, count_by, if◌then◌else◌}
 use Rattle.std.specs.List.{list_any, list_all}
 use Rattle.chan_model.specs.declared.names.Side.{Side}
 use Rattle.chan_model.specs.declared.names.Side.TheVariants.{First, Second}
+use Rattle.channel_config.specs.declared.config.ConfigRule.{ConfigRule}
+use Rattle.channel_config.specs.declared.config.ConfigRule.TheVariants.{StorageSize, ChannelPath, UnitNumber, UnitOfSubchannel, PathsOfSubchannel, SharedUnit, SubchannelName, Sets}
 use Rattle.channel_config.specs.declared.names.SubchannelId.{SubchannelId}
 use Rattle.channel_config.specs.declared.parts.UnitKind.{UnitKind}
 use Rattle.channel_config.specs.declared.parts.SubchannelSetup.{SubchannelSetup}
@@ -27,24 +29,24 @@ no_setup = record { blocks = None; sets = None; paths = []; units = []; shared =
 abbrev pub set_count : Setup → ℕ
 set_count s = unwrap_or s.sets 1
 
--- 1: the blocks are given twice, or are not 10 to 1000 (hexadecimal)
-abbrev pub with_storage : Setup → ℕ → Result Setup ℕ
-with_storage s blocks = if is_some s.blocks || (nat_lt blocks 0x10 || nat_lt 0x1000 blocks) then Err 1 else Ok (record s { blocks = Some blocks })
+-- StorageSize: the blocks are given twice, or are not 10 to 1000 (hexadecimal)
+abbrev pub with_storage : Setup → ℕ → Result Setup ConfigRule
+with_storage s blocks = if is_some s.blocks || (nat_lt blocks 0x10 || nat_lt 0x1000 blocks) then Err StorageSize else Ok (record s { blocks = Some blocks })
 
--- 8: the sets are given twice, or after a subchannel, or are not 1 to 4
-abbrev pub with_sets : Setup → ℕ → Result Setup ℕ
-with_sets s sets = if is_some s.sets || (nat_lt 0 (length s.subchannels) || (nat_lt sets 1 || nat_lt 4 sets)) then Err 8 else Ok (record s { sets = Some sets })
+-- Sets: the sets are given twice, or after a subchannel, or are not 1 to 4
+abbrev pub with_sets : Setup → ℕ → Result Setup ConfigRule
+with_sets s sets = if is_some s.sets || (nat_lt 0 (length s.subchannels) || (nat_lt sets 1 || nat_lt 4 sets)) then Err Sets else Ok (record s { sets = Some sets })
 
 abbrev pub has_number : List ℕ → ℕ → Bool
 has_number numbers n = list_any (λ m. m == n) numbers
 
--- 2: the path is given twice, or is above FF
-abbrev pub with_path : Setup → ℕ → Result Setup ℕ
-with_path s chpid = if nat_lt 0xFF chpid || has_number s.paths chpid then Err 2 else Ok (record s { paths = s.paths ++ chpid ∷ [] })
+-- ChannelPath: the path is given twice, or is above FF
+abbrev pub with_path : Setup → ℕ → Result Setup ConfigRule
+with_path s chpid = if nat_lt 0xFF chpid || has_number s.paths chpid then Err ChannelPath else Ok (record s { paths = s.paths ++ chpid ∷ [] })
 
--- 3: the unit is not the next one, or is above 3FF
-abbrev pub with_unit : Setup → ℕ → UnitKind → Result Setup ℕ
-with_unit s number kind = if not (number == length s.units) || nat_lt 0x3FF number then Err 3
+-- UnitNumber: the unit is not the next one, or is above 3FF
+abbrev pub with_unit : Setup → ℕ → UnitKind → Result Setup ConfigRule
+with_unit s number kind = if not (number == length s.units) || nat_lt 0x3FF number then Err UnitNumber
     else Ok (record s { units = s.units ++ kind ∷ []; shared = s.shared ++ None ∷ [] })
 
 -- how many of these subchannels are of a set, and how many use a unit
@@ -71,7 +73,7 @@ abbrev pub are_distinct : List ℕ → Bool
 are_distinct [] = true
 are_distinct (n ∷ ns) = not (has_number ns n) && are_distinct ns
 
--- 6: a unit is unknown, shares a control unit already, or stands twice in the line. The units become a group, which has the
+-- SharedUnit: a unit is unknown, shares a control unit already, or stands twice in the line. The units become a group, which has the
 -- number of the first of them
 abbrev pub is_alone : Option (Option ℕ) → Bool
 is_alone None = false
@@ -85,11 +87,11 @@ abbrev pub grouped : List (Option ℕ) → ℕ → List ℕ → List (Option ℕ
 grouped shared group [] = shared
 grouped shared group (unit ∷ units) = grouped (slice_set shared unit (Some group)) group units
 
-abbrev pub with_share : Setup → List ℕ → Result Setup ℕ
+abbrev pub with_share : Setup → List ℕ → Result Setup ConfigRule
 with_share s units =
     if list_all (may_share s.shared) units && are_distinct units
     then Ok (record s { shared = grouped s.shared (slice_index_or units 0 0) units })
-    else Err 6
+    else Err SharedUnit
 
 -- the groups of the units, by their numbers; a unit that shares with none is a group of its own number
 abbrev pub groups_from : ℕ → List (Option ℕ) → List ℕ
@@ -103,16 +105,16 @@ groups_of s = groups_from 0 s.shared
 abbrev pub are_paths : List ℕ → List ℕ → Bool
 are_paths known paths = nat_lt 0 (length paths) && (nat_le (length paths) 8 && (list_all (has_number known) paths && are_distinct paths))
 
-abbrev pub or_rule : {A : Type 0} → ℕ → Option A → (A → Result Setup ℕ) → Result Setup ℕ
+abbrev pub or_rule : {A : Type 0} → ConfigRule → Option A → (A → Result Setup ConfigRule) → Result Setup ConfigRule
 or_rule rule None goes_on = Err rule
 or_rule rule (Some a) goes_on = goes_on a
 
--- 7: the word does not name the next subchannel of a set, or the device number is above FFFF;
--- 4: the unit is unknown, or two subchannels use it already;
--- 5: a path is unknown or given twice, or there are none or more than eight
-abbrev pub with_subchannel : Setup → ℕ → ℕ → ℕ → List ℕ → Result Setup ℕ
+-- SubchannelName: the word does not name the next subchannel of a set, or the device number is above FFFF;
+-- UnitOfSubchannel: the unit is unknown, or two subchannels use it already;
+-- PathsOfSubchannel: a path is unknown or given twice, or there are none or more than eight
+abbrev pub with_subchannel : Setup → ℕ → ℕ → ℕ → List ℕ → Result Setup ConfigRule
 with_subchannel s word device unit paths =
-    or_rule 7 (if nat_lt 0xFFFF device then None else next_subchannel s word) (λ id.
-    or_rule 4 (side_left s unit) (λ side.
-    if not (are_paths s.paths paths) then Err 5
+    or_rule SubchannelName (if nat_lt 0xFFFF device then None else next_subchannel s word) (λ id.
+    or_rule UnitOfSubchannel (side_left s unit) (λ side.
+    if not (are_paths s.paths paths) then Err PathsOfSubchannel
     else Ok (record s { subchannels = s.subchannels ++ (record { id = id; device = device; unit = unit; side = side; paths = paths }) ∷ [] })))

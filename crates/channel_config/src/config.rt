@@ -19,8 +19,30 @@ use supply::{Given, Supply, make_room, push};
 pub enum ConfigFault {
     /// A growth was refused.
     NoMemory,
-    /// The rule of this number is broken (own).
-    Rule(u8),
+    /// A rule of configurations is broken.
+    Rule(ConfigRule),
+}
+
+/// The rules that a configuration keeps (own), one for each kind of line but for that of a subchannel, which has three.
+#[derive(Clone, Copy, Debug, PartialEq, Eq)]
+pub enum ConfigRule {
+    /// The size of storage is given once, as 10 to 1000 (hexadecimal) blocks of 4,096 bytes.
+    StorageSize,
+    /// A channel path is given once, by an identifier of at most FF (hexadecimal).
+    ChannelPath,
+    /// A unit has the number that is next, of at most 3FF (hexadecimal).
+    UnitNumber,
+    /// The unit of a subchannel is known, and one other subchannel at most uses it.
+    UnitOfSubchannel,
+    /// The paths of a subchannel are known, each given once, at least one and at most eight.
+    PathsOfSubchannel,
+    /// Units that share a control unit are known, each given once and in one group.
+    SharedUnit,
+    /// The word of a subchannel names the next of a set that there is, of at most FF (hexadecimal), and its device number is at
+    /// most FFFF.
+    SubchannelName,
+    /// The number of sets is given once, before any subchannel, as 1 to 4.
+    Sets,
 }
 
 impl From<AllocError> for ConfigFault {
@@ -75,25 +97,26 @@ impl Config {
         }
     }
 
-    /// The size of storage, in blocks of 4,096 bytes. Rule 1: it is given twice, or is not 10 to 1000 (hexadecimal).
+    /// The size of storage, in blocks of 4,096 bytes. `StorageSize` is broken: it is given twice, or is not 10 to 1000
+    /// (hexadecimal).
     pub fn storage(&mut self, blocks: u32) -> Result<(), ConfigFault>
         ensures does { Configures self.old self.new result (spec.with_storage self.old blocks) }
         ensures never { result ≢ Err config_fault.NoMemory }
     {
         if self.blocks.is_some() || blocks < 0x10 || blocks > 0x1000 {
-            return Err(ConfigFault::Rule(1));
+            return Err(ConfigFault::Rule(ConfigRule::StorageSize));
         }
         self.blocks = Some(blocks);
         Ok(())
     }
 
-    /// How many sets of subchannels there are. Rule 8: it is given twice, or after a subchannel, or is not 1 to 4.
+    /// How many sets of subchannels there are. `Sets` is broken: it is given twice, or after a subchannel, or is not 1 to 4.
     pub fn sets(&mut self, sets: u32) -> Result<(), ConfigFault>
         ensures does { Configures self.old self.new result (spec.with_sets self.old sets) }
         ensures never { result ≢ Err config_fault.NoMemory }
     {
         if self.sets.is_some() || !self.subchannels.is_empty() || sets < 1 || sets > 4 {
-            return Err(ConfigFault::Rule(8));
+            return Err(ConfigFault::Rule(ConfigRule::Sets));
         }
         self.sets = Some(sets as u8);
         Ok(())
@@ -106,14 +129,14 @@ impl Config {
         self.path_with(&mut Given { refused: false }, chpid)
     }
 
-    /// One channel path more, by its identifier. Rule 2: it is given twice, or is above FF (hexadecimal).
+    /// One channel path more, by its identifier. `ChannelPath` is broken: it is given twice, or is above FF (hexadecimal).
     pub fn path_with<S: Supply>(&mut self, supply: &mut S, chpid: u32) -> Result<(), ConfigFault>
         ensures does { Configures self.old self.new result (spec.with_path self.old chpid) }
         ensures given { OnOk result (S.refused supply.new ≡ S.refused supply.old) }
         ensures memory { result ≡ Err config_fault.NoMemory → S.refused supply.new ≡ true }
     {
         if chpid > 0xFF || has_chpid(&self.paths, chpid) {
-            return Err(ConfigFault::Rule(2));
+            return Err(ConfigFault::Rule(ConfigRule::ChannelPath));
         }
         push(supply, &mut self.paths, chpid as u8)?;
         Ok(())
@@ -126,7 +149,7 @@ impl Config {
         self.unit_with(&mut Given { refused: false }, number, kind)
     }
 
-    /// One unit more. Rule 3: its number is not the next, or is above 3FF (hexadecimal).
+    /// One unit more. `UnitNumber` is broken: its number is not the next, or is above 3FF (hexadecimal).
     pub fn unit_with<S: Supply>(
         &mut self,
         supply: &mut S,
@@ -138,7 +161,7 @@ impl Config {
         ensures memory { result ≡ Err config_fault.NoMemory → S.refused supply.new ≡ true }
     {
         if number as usize != self.units.len() || number > 0x3FF {
-            return Err(ConfigFault::Rule(3));
+            return Err(ConfigFault::Rule(ConfigRule::UnitNumber));
         }
         make_room(supply, &mut self.shared, 1)?;
         push(supply, &mut self.units, kind)?;
@@ -146,14 +169,14 @@ impl Config {
         Ok(())
     }
 
-    /// These units share a control unit: one of them is served at a time (own). It takes no memory. Rule 6: a unit is
-    /// unknown, shares a control unit already, or is given twice.
+    /// These units share a control unit: one of them is served at a time (own). It takes no memory. `SharedUnit` is broken: a
+    /// unit is unknown, shares a control unit already, or is given twice.
     pub fn share(&mut self, units: &[u32]) -> Result<(), ConfigFault>
         ensures does { Configures self.old self.new result (spec.with_share self.old units.now) }
         ensures never { result ≢ Err config_fault.NoMemory }
     {
         if !are_alone(&self.shared, units) || !are_distinct(units) {
-            return Err(ConfigFault::Rule(6));
+            return Err(ConfigFault::Rule(ConfigRule::SharedUnit));
         }
         let group = group_of(&self.shared, units);
         join(&mut self.shared, group, units);
@@ -176,9 +199,10 @@ impl Config {
     /// One subchannel more, with its device number, its unit and its channel paths by path index. `word` is the
     /// subsystem-identification word that names it (SA22-7832, chapter 13).
     ///
-    /// Rule 7: the word names no subchannel of a set that there is, or not the next of its set, or one above FF
-    /// (hexadecimal), or the device number is above FFFF. Rule 4: the unit is unknown, or two subchannels use it already.
-    /// Rule 5: a path is unknown or given twice, or there are none or more than eight.
+    /// `SubchannelName` is broken: the word names no subchannel of a set that there is, or not the next of its set, or one
+    /// above FF (hexadecimal), or the device number is above FFFF. `UnitOfSubchannel` is broken: the unit is unknown, or two
+    /// subchannels use it already. `PathsOfSubchannel` is broken: a path is unknown or given twice, or there are none or more
+    /// than eight.
     pub fn subchannel_with<S: Supply>(
         &mut self,
         supply: &mut S,
@@ -192,16 +216,16 @@ impl Config {
         ensures memory { result ≡ Err config_fault.NoMemory → S.refused supply.new ≡ true }
     {
         if device > 0xFFFF {
-            return Err(ConfigFault::Rule(7));
+            return Err(ConfigFault::Rule(ConfigRule::SubchannelName));
         }
         let Some(id) = self.next_subchannel(word) else {
-            return Err(ConfigFault::Rule(7));
+            return Err(ConfigFault::Rule(ConfigRule::SubchannelName));
         };
         let Some(side) = self.side_left(unit) else {
-            return Err(ConfigFault::Rule(4));
+            return Err(ConfigFault::Rule(ConfigRule::UnitOfSubchannel));
         };
         let Some(paths) = chpids_of(&self.paths, paths) else {
-            return Err(ConfigFault::Rule(5));
+            return Err(ConfigFault::Rule(ConfigRule::PathsOfSubchannel));
         };
         let setup = SubchannelSetup {
             id,

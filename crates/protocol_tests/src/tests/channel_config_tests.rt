@@ -1,7 +1,7 @@
 //! One configuration, with a right line and wrong ones for each rule.
 
 use chan_model::names::Side;
-use channel_config::config::{Config, ConfigFault};
+use channel_config::config::{Config, ConfigFault, ConfigRule};
 use channel_config::names::{SubchannelId, subchannel_named};
 use channel_config::parts::UnitKind;
 use std::alloc::Global;
@@ -48,20 +48,20 @@ fn storage_and_sets_are_given_once(rt: HostRuntime) {
     drop(config);
     assert!(rt;
         blocks_before == None
-            && too_few == Err(ConfigFault::Rule(1))
-            && too_many == Err(ConfigFault::Rule(1))
+            && too_few == Err(ConfigFault::Rule(ConfigRule::StorageSize))
+            && too_many == Err(ConfigFault::Rule(ConfigRule::StorageSize))
             && given == Ok(())
     );
     assert!(rt;
-        given_twice == Err(ConfigFault::Rule(1))
+        given_twice == Err(ConfigFault::Rule(ConfigRule::StorageSize))
             && blocks == Some(0x1000)
             && sets_before == 1
-            && no_sets == Err(ConfigFault::Rule(8))
+            && no_sets == Err(ConfigFault::Rule(ConfigRule::Sets))
     );
     assert!(rt;
-        five_sets == Err(ConfigFault::Rule(8))
+        five_sets == Err(ConfigFault::Rule(ConfigRule::Sets))
             && four_sets == Ok(())
-            && sets_twice == Err(ConfigFault::Rule(8))
+            && sets_twice == Err(ConfigFault::Rule(ConfigRule::Sets))
             && sets == 4
     );
 }
@@ -89,16 +89,16 @@ fn paths_and_units_are_named_once(rt: HostRuntime) {
     let count = config.units().len();
     drop(config);
     assert!(rt;
-        out_of_range == Err(ConfigFault::Rule(2))
+        out_of_range == Err(ConfigFault::Rule(ConfigRule::ChannelPath))
             && first == Ok(())
             && second == Ok(())
-            && path_twice == Err(ConfigFault::Rule(2))
+            && path_twice == Err(ConfigFault::Rule(ConfigRule::ChannelPath))
     );
     assert!(rt; in_order, "the paths are in the order they were given in");
     assert!(rt;
-        out_of_turn == Err(ConfigFault::Rule(3))
+        out_of_turn == Err(ConfigFault::Rule(ConfigRule::UnitNumber))
             && units_accepted
-            && one_more == Err(ConfigFault::Rule(3))
+            && one_more == Err(ConfigFault::Rule(ConfigRule::UnitNumber))
             && count == 0x400
     );
 }
@@ -106,13 +106,13 @@ fn paths_and_units_are_named_once(rt: HostRuntime) {
 /// Whether each line that shares units is answered as its rule has it.
 fn shares(config: &mut Config) -> bool {
     let lines: [(&[u32], Result<(), ConfigFault>); 7] = [
-        (&[0, 6], Err(ConfigFault::Rule(6))),
-        (&[1, 0, 1], Err(ConfigFault::Rule(6))),
+        (&[0, 6], Err(ConfigFault::Rule(ConfigRule::SharedUnit))),
+        (&[1, 0, 1], Err(ConfigFault::Rule(ConfigRule::SharedUnit))),
         (&[4, 1], Ok(())),
-        (&[0, 1], Err(ConfigFault::Rule(6))),
-        (&[4, 1], Err(ConfigFault::Rule(6))),
+        (&[0, 1], Err(ConfigFault::Rule(ConfigRule::SharedUnit))),
+        (&[4, 1], Err(ConfigFault::Rule(ConfigRule::SharedUnit))),
         (&[2, 3], Ok(())),
-        (&[5, 2], Err(ConfigFault::Rule(6))),
+        (&[5, 2], Err(ConfigFault::Rule(ConfigRule::SharedUnit))),
     ];
     let mut all = true;
     for (units, wanted) in lines {
@@ -173,16 +173,52 @@ fn refuses_subchannels(config: &mut Config) -> bool {
     let all = [0x10, 0x11, 0x12, 0x13, 0x14, 0x15, 0x16, 0x17, 0x18];
     let mut refused = true;
     for (word, device, unit, paths, rule) in [
-        (0x0000_0001, 0x100, 1, &all[..1], 7),
-        (0x0005_0000, 0x100, 1, &all[..1], 7),
-        (0x0001_0000, 0x100, 1, &all[..1], 7),
-        (0x0001_0002, 0x100, 1, &all[..1], 7),
-        (0x0001_0001, 0x1_0000, 2, &all[..0], 7),
-        (0x0001_0001, 0x100, 2, &all[..0], 4),
-        (0x0001_0001, 0x100, 1, &all[..0], 5),
-        (0x0001_0001, 0x100, 1, &all[..9], 5),
-        (0x0001_0001, 0x100, 1, &[0x19], 5),
-        (0x0001_0001, 0x100, 1, &[0x10, 0x11, 0x10], 5),
+        (0x0000_0001, 0x100, 1, &all[..1], ConfigRule::SubchannelName),
+        (0x0005_0000, 0x100, 1, &all[..1], ConfigRule::SubchannelName),
+        (0x0001_0000, 0x100, 1, &all[..1], ConfigRule::SubchannelName),
+        (0x0001_0002, 0x100, 1, &all[..1], ConfigRule::SubchannelName),
+        (
+            0x0001_0001,
+            0x1_0000,
+            2,
+            &all[..0],
+            ConfigRule::SubchannelName,
+        ),
+        (
+            0x0001_0001,
+            0x100,
+            2,
+            &all[..0],
+            ConfigRule::UnitOfSubchannel,
+        ),
+        (
+            0x0001_0001,
+            0x100,
+            1,
+            &all[..0],
+            ConfigRule::PathsOfSubchannel,
+        ),
+        (
+            0x0001_0001,
+            0x100,
+            1,
+            &all[..9],
+            ConfigRule::PathsOfSubchannel,
+        ),
+        (
+            0x0001_0001,
+            0x100,
+            1,
+            &[0x19],
+            ConfigRule::PathsOfSubchannel,
+        ),
+        (
+            0x0001_0001,
+            0x100,
+            1,
+            &[0x10, 0x11, 0x10],
+            ConfigRule::PathsOfSubchannel,
+        ),
     ] {
         let answer = config.subchannel(word, device, unit, paths);
         refused = answer == Err(ConfigFault::Rule(rule)) && refused;
@@ -219,8 +255,8 @@ fn subchannels_use_what_there_is(rt: HostRuntime) {
     drop(config);
     assert!(rt; parts_accepted && first == Ok(()) && refused && second == Ok(()));
     assert!(rt;
-        third == Err(ConfigFault::Rule(4))
-            && sets_too_late == Err(ConfigFault::Rule(8))
+        third == Err(ConfigFault::Rule(ConfigRule::UnitOfSubchannel))
+            && sets_too_late == Err(ConfigFault::Rule(ConfigRule::Sets))
             && count == 2
             && second_kept
     );
