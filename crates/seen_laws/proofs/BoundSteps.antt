@@ -11,7 +11,8 @@ use Rattle.chan_model.specs.declared.unit_state.UnitState.{UnitState}
 use Rattle.wires.specs.Queues.{queue, taken, lost}
 use Rattle.subchannel_model.specs.Sending.{carried, with_any_sent}
 use Rattle.seen_laws.specs.ByItsPath.{Connected}
-use Rattle.seen_laws.proofs.Lists.{Each, each-front, each-weaker, after-front, after-none, taken-others, OnSent}
+use Rattle.machine_laws.proofs.WaitingSignals.{Each, each-front, each-weaker}
+use Rattle.seen_laws.proofs.Lists.{after-front, after-none, taken-others, OnSent}
 use Rattle.seen_laws.proofs.Meets.{Meets, Ignored, Turns, Begins, Declines, Moves, Ends, Ends_last, Grants, IsGone, Stays}
 use Rattle.seen_laws.proofs.Meets as meet
 use Rattle.seen_laws.proofs.Ties.{IsAt, SuitsPhase}

@@ -278,7 +278,7 @@ map-back : {A B : Type 0} (f : A → B) (g : B → A) → ((x : A) → g (f x) �
 map-back f g same [] = refl
 map-back f g same (x ∷ xs) = ap (λ y. y ∷ map g (map f xs)) (same x) ∙ ap (λ ys. x ∷ ys) (map-back f g same xs)
 
-opening-set_up : (setup : Setup) → IsLawful setup → IsSetUp setup (opening_of setup)
+pub opening-set_up : (setup : Setup) → IsLawful setup → IsSetUp setup (opening_of setup)
 opening-set_up setup lawful = record {
   lawful = lawful;
   blocks = length-replicate (unwrap_or setup.blocks 16) _;

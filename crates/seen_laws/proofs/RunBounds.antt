@@ -39,7 +39,8 @@ use Rattle.step_laws.specs.Walks as walked
 use Rattle.step_laws.specs.Walks.{Walked, IsOfSide}
 use Rattle.machine_laws.proofs.Linked.{AreApart}
 use Rattle.seen_laws.specs.ByItsPath.{SeenPaths, connected_in, IsReplyRight}
-use Rattle.seen_laws.proofs.Lists.{none-wait, Each}
+use Rattle.machine_laws.proofs.WaitingSignals.{Each}
+use Rattle.seen_laws.proofs.Lists.{none-wait}
 use Rattle.seen_laws.proofs.Meets.{Meets, takes-meets}
 use Rattle.seen_laws.proofs.Ties.{Ties, connects, meets-right}
 use Rattle.seen_laws.proofs.UnitMoves.{on_side, floor_of, IsLess, IsOther, other-less, takes-others, reports-others, acts-others}

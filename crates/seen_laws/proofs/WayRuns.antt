@@ -44,7 +44,8 @@ use Rattle.seen_laws.proofs.Bounds.{each-taken, each-sent}
 use Rattle.seen_laws.proofs.Holdings.{holding_of}
 use Rattle.seen_laws.proofs.HolderRuns.{AreSeen, AreKnown, IsRunRight, run-right, run_seen, holding_through, through-more}
 use Rattle.seen_laws.proofs.UnitTurns.{setups, setup-is, IsTurned, sunk-turned}
-use Rattle.seen_laws.proofs.Lists.{Each, each-front, none-wait}
+use Rattle.machine_laws.proofs.WaitingSignals.{Each, each-front}
+use Rattle.seen_laws.proofs.Lists.{none-wait}
 use Rattle.seen_laws.proofs.MemberSteps.{IsSunk, turn-sunk, IsStepped, turn-reported, IsActing, turn-acting, turn-restarted}
 use Rattle.seen_laws.proofs.MemberSteps as reading
 use Rattle.seen_laws.proofs.Ways.{OwnWay, Follows, transfer-follows, follows-same, met-follows, met-other, restart-follows, way_acted, act-follows}

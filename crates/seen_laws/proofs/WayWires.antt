@@ -27,7 +27,8 @@ use Rattle.seen_laws.specs.Devices.{Holding, side_seen}
 use Rattle.seen_laws.specs.DevicePaths.{Ways}
 use Rattle.seen_laws.proofs.Bounds.{EachUp, EachDown, each-sent, each-lost}
 use Rattle.seen_laws.proofs.UnitTurns.{if-ok}
-use Rattle.seen_laws.proofs.Lists.{each-weaker, OnSent}
+use Rattle.machine_laws.proofs.WaitingSignals.{each-weaker}
+use Rattle.seen_laws.proofs.Lists.{OnSent}
 use Rattle.seen_laws.proofs.Meets.{ArePlainDown, takes-meets}
 use Rattle.seen_laws.proofs.Meets as meets
 use Rattle.seen_laws.proofs.Ways.{OwnWay, Follows}

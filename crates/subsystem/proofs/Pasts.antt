@@ -1,6 +1,5 @@
 -- A history that leads to a state, as it opens and grows.
 use Rattle.std.proofs.Common.{◌≡◌, refl, ℕ, ◌∙◌, ap, sym, subst, List, [], ◌∷◌, ◌++◌, map, length, arith, Result, Ok, Err}
-use Rattle.std.proofs.lemmas.List.{length-map, length-replicate}
 use Rattle.std.proofs.lemmas.List.Elements.{All-cons, All-head, All-nil, All-tail}
 use Rattle.std.specs.Prelude.{unwrap_or, All}
 use Rattle.storage_keys.specs.Storage.{cleared_storage}
@@ -21,17 +20,14 @@ use Rattle.subchannel_model.specs.declared.state.Subchannel.{Subchannel}
 use Rattle.machine_laws.specs.Agreeing.{AllAgree}
 use Rattle.machine_laws.specs.Beginnings.{IsBegunOnce}
 use Rattle.machine_laws.specs.Claims.{IsClearedOnce}
+use Rattle.seen_laws.proofs.HolderRuns.{opening-set_up}
 use Rattle.machine_steps.specs.Postable.{IsPostable}
 use Rattle.machine_model.specs.State.{State, configured_paths, opening_of, idle_of}
-use Rattle.machine_model.specs.Setups.{IsSetUp, group_of}
+use Rattle.machine_model.specs.Setups.{IsSetUp}
 use Rattle.subsystem.specs.Keeping.{StaysSetUp}
 use Rattle.machine_model.specs.Steps.{HasRun, Run, Opened, Stepped, Step, Performs}
 
 -- set-ups of one state have one opening
-opened-setups : (xs : List SubchannelSetup) → map (λ sub. sub.setup) (map opened xs) ≡ xs
-opened-setups [] = refl
-opened-setups (x ∷ xs) = ap (λ ys. x ∷ ys) (opened-setups xs)
-
 idle-units : (xs ys : List UnitKind) → length xs ≡ length ys → map idle_of xs ≡ map idle_of ys
 idle-units [] [] e = refl
 idle-units [] (y ∷ ys) e = absurd (omega (arith, e))
@@ -67,22 +63,6 @@ one-opening a b s x y =
     opening-same (unwrap_or a.blocks 16) (unwrap_or b.blocks 16) (set_count a) (set_count b) a.paths b.paths a.subchannels b.subchannels (map idle_of a.units) (map idle_of b.units)
     (groups_of a) (groups_of b) (sym x.blocks ∙ y.blocks) (sym x.sets ∙ y.sets) (sym x.chpids ∙ y.chpids) (sym x.subs ∙ y.subs)
     (idle-units a.units b.units (sym x.units ∙ y.units)) (sym x.groups ∙ y.groups)
-
-idle-groups : (groups : List ℕ) → map group_of (map idle_member groups) ≡ groups
-idle-groups [] = refl
-idle-groups (g ∷ gs) = ap (λ xs. g ∷ xs) (idle-groups gs)
-
-opening-set_up : (setup : Setup) → IsLawful setup → IsSetUp setup (opening_of setup)
-opening-set_up setup lawful = record {
-  lawful = lawful;
-  blocks = length-replicate (unwrap_or setup.blocks 16) _;
-  sets = refl;
-  chpids = refl;
-  subs = opened-setups setup.subchannels;
-  units = length-map setup.units idle_of;
-  groups = idle-groups (groups_of setup);
-  requests = refl;
-}
 
 -- a run from the opening of one set-up is one from that of each
 run-of-each : (a : Setup) (h : List Entry) (s : State) → IsSetUp a s → Run (opening_of a) h s → HasRun h s
