@@ -32,9 +32,7 @@ use Rattle.subchannel_model.specs.Sending.{carried_by, finds_full}
 use Rattle.subchannel_model.specs.Taking.{Met, meets, ignoring, move_data, takes_up}
 use Rattle.wires.specs.Queues.{queue}
 use Rattle.control_units.specs.declared.Member.{Member}
-use Rattle.control_units.proofs.Named.{refused_at}
-use Rattle.control_units.specs.Units.{may_serve, member_told}
-use Rattle.control_units.specs.Parts.{begun_at, over_at}
+use Rattle.control_units.specs.Units.{may_serve, member_told, begun_at, over_at, refused_at}
 use Rattle.interruptions.specs.Requests as requests
 use Rattle.interruptions.specs.Requests.{WaitingRequests}
 use Rattle.scsw_irb.specs.declared.code.IntCode.{IntCode}
