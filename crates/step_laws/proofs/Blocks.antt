@@ -41,8 +41,7 @@ use Rattle.machine_model.specs.Turns.{UpTurn}
 use Rattle.machine_model.specs.InstructionSteps.{subchannel_word}
 use Rattle.machine_model.specs.UpSteps.{returns_at, up_front, up_sub}
 use Rattle.machine_model.specs.DownSteps.{asks_at}
-use Rattle.machine_model.proofs.Named.{makes_status}
-use Rattle.machine_model.specs.Requests.{reply_code, drops, requests_after, requests_dropped, posted_all, posted_for, request_of}
+use Rattle.machine_model.specs.Requests.{reply_code, drops, requests_after, requests_dropped, posted_all, posted_for, request_of, makes_status}
 use Rattle.machine_model.specs.Steps.{Step}
 use Rattle.machine_model.specs.Sharing.{is_let_go, members_asked, members_over, members_after}
 use Rattle.machine_model.specs.Setups.{group_of}
