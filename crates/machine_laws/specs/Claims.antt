@@ -24,10 +24,11 @@ pub record IsLaterSubchannel (old new : Subchannel) : Type 0 where
   pub cleared : old.state.serials.cleared ≤ new.state.serials.cleared
   pub made : old.state.serials.made ≤ new.state.serials.made
 
--- a subsystem-identification word names this subchannel
+-- the names are of one subchannel
 abbrev pub is_same_id : SubchannelId → SubchannelId → Bool
 is_same_id a b = (a.set == b.set) && (a.number == b.number)
 
+-- a subsystem-identification word names this subchannel
 abbrev pub is_id : Option SubchannelId → SubchannelId → Bool
 is_id None id = false
 is_id (Some named) id = is_same_id named id
