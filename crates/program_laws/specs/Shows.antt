@@ -1,5 +1,5 @@
 -- The command address and the count that the status word shows (SA22-7832, chapter 16).
-use Rattle.std.specs.Prelude.{◌≡◌, ◌&&◌, ◌||◌, ◌+◌, ◌<◌, Bool, true, false, is_none, is_some, Option, None, Some, length}
+use Rattle.std.specs.Prelude.{◌≡◌, ◌&&◌, ◌||◌, ℕ, ◌+◌, ◌<◌, Bool, true, false, is_none, is_some, Option, None, Some, length}
 use Rattle.scsw_irb.specs.declared.scsw.Scsw.{Scsw}
 use Rattle.ccw_walk.specs.Programs.{tried}
 use Rattle.subchannel_model.specs.declared.state.SubchannelState.{SubchannelState}
