@@ -21,11 +21,9 @@ use Rattle.chan_model.specs.declared.unit_state.Progress.TheVariants as progress
 use Rattle.chan_model.specs.declared.unit_state.SideState.{SideState}
 use Rattle.chan_model.specs.declared.unit_state.UnitState.{UnitState}
 use Rattle.chan_model.specs.Sides.{same_side}
-use Rattle.chan_model.specs.UnitReports.{is_outward, may_end, most_of, is_to_supply, answer_taken, report_on, report_of, unit_reports}
-use Rattle.chan_model.specs.UnitTable.{UnitStep, came_of, unit_after, sends, side_of, with_side, freed, raised, owns, resets, telling, noticing, unit_takes, leaving_from, leaving, asking_from, asking, attending, is_idle}
-use Rattle.chan_model.specs.Parts.{reset_side}
+use Rattle.chan_model.specs.UnitReports.{is_outward, may_end, most_of, is_to_supply, answer_taken, report_on, report_of, unit_reports, report_absorbed, sent_again}
+use Rattle.chan_model.specs.UnitTable.{UnitStep, came_of, unit_after, sends, side_of, with_side, freed, raised, owns, resets, telling, noticing, unit_takes, leaving_from, leaving, asking_from, asking, attending, is_idle, reset_side}
 use Rattle.chan_model.proofs.TakenSignals.{Takes, Ignores, Notices, Accepts, Denies, Begins, Joins, Leaves, Parts, Answers, Gives, Halts, Frees, Resets, Forgets, takes-by, takes-fresh}
-use Rattle.chan_model.proofs.Named.{report_absorbed, sent_again}
 use Rattle.agreement_laws.proofs.SeenSignals.{IsResetAbove}
 use Rattle.agreement_laws.specs.HolderSeen.{Holder, Holding, SideAnswered, side_seen, with_seen, with_answered, let_go, is_held_by, held_met, IsMetRight, IsTold}
 use Rattle.agree.proofs.UnitPaths.{floor_of}

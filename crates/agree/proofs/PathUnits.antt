@@ -11,7 +11,7 @@ use Rattle.chan_model.specs.declared.unit_state.Place.{Place}
 use Rattle.chan_model.specs.declared.unit_state.Place.TheVariants as place
 use Rattle.chan_model.specs.declared.unit_state.UnitState.{UnitState}
 use Rattle.chan_model.specs.declared.hold_state.HoldPhase.{HoldPhase}
-use Rattle.chan_model.specs.UnitTable.{UnitStep, unit_after, came_of}
+use Rattle.chan_model.specs.UnitTable.{UnitStep, unit_after, came_of, sends}
 use Rattle.unit.specs.UnitWords.{connection_of}
 use Rattle.agreement_laws.specs.Links.{Link}
 use Rattle.agreement_laws.specs.Moving.{still, LinkStep, sent_by}
@@ -20,7 +20,7 @@ use Rattle.agreement_laws.specs.PathsSeen.{Connected, linked, SeenPaths, way_of,
 use Rattle.agree.specs.ByItsPath.{seen_here, IsHereRight}
 use Rattle.agree.proofs.PathTies.{way-new, Each, each-weaker, none-above, none-beyond, moving_of, IsHeldWay, IsLast, IsMine, IsOfferOn, IsUpTied, Tied, unit-after-same, unit-after-more, unit-stays}
 use Rattle.agreement_laws.proofs.SeenSignals.{IsDownTied, IsPlainDown, plain-taken}
-use Rattle.agree.proofs.UnitPaths.{Held, held, holds, floor_of, IsQuiet, IsFreeing, telling_by, IsStill, Takes, Ignores, Tells, Changes, Gives, Frees, Accepts, Joins, Parts, Answers}
+use Rattle.agree.proofs.UnitPaths.{Held, held, holds, floor_of, IsQuiet, IsFreeing, IsStill, Takes, Ignores, Tells, Changes, Gives, Frees, Accepts, Joins, Parts, Answers}
 use Rattle.agree.proofs.UnitActs.{IsOfConnection, IsOffPath, Acts, Idles, Says, Begins, Leaves, Asks, Sends}
 
 quiet-up : (ks : List Connected) (phase : HoldPhase) (p : ℕ) (x : Up) → IsQuiet x → IsUpTied ks phase p x
@@ -45,7 +45,7 @@ MetBy side u l k x step = (new : Link) → LinkStep l (still l.drawn l.hold) (se
 
 -- it tells by the signal alone what is seen
 tells-met : (side : Side) (u v : UnitState) (l : Link) (k : SeenPaths) (p : ℕ) (d : Down) (x : Up) → IsQuiet x → IsStill u v side → Tied side u l k →
-    MetBy side u l k (record { path = p; signal = d }) (telling_by v p x)
+    MetBy side u l k (record { path = p; signal = d }) (sends v p x)
 tells-met side u v l k p d (up.Busy t) q is tie new s = record { right = refl; tied = unit-stays side u v l new k _ tie s is tt }
 tells-met side u v l k p d (up.Notice b) q is tie new s = record { right = refl; tied = unit-stays side u v l new k _ tie s is tt }
 tells-met side u v l k p d (up.Attn a status) q is tie new s = record { right = refl; tied = unit-stays side u v l new k _ tie s is tt }
@@ -61,7 +61,7 @@ none-held : (ks : List Connected) (f : ℕ) (h : Option Held) → h ≡ None →
 none-held ks f h e = subst (λ (x : Option Held). IsHeldWay ks x × IsLast ks x × IsMine f x) (sym e) (tt, tt, tt)
 
 frees-met : (side : Side) (u v : UnitState) (l : Link) (k : SeenPaths) (p : ℕ) (d : Down) (x : Up) → IsFreeing x → holds v side ≡ None → floor_of u side ≤ floor_of v side → Tied side u l k →
-    MetBy side u l k (record { path = p; signal = d }) (telling_by v p x)
+    MetBy side u l k (record { path = p; signal = d }) (sends v p x)
 frees-met side u v l k p d (up.Released t) q none le tie new s =
     let gone = none-held k.ways (floor_of v side) (holds v side) none in
     record { right = refl; tied = unit-after-same side u v l new k None _ tie s le (ap moving_of (sym none)) gone.0 gone.1 gone.2 tt }
@@ -167,7 +167,7 @@ SaidBy side u l k step = (new : Link) → LinkStep l (still l.drawn l.hold) (sen
 some-not : (x : OnPath Up) → Some x ≡ None → ⊥
 some-not x e = cc e
 
-says : (side : Side) (u v : UnitState) (l : Link) (k : SeenPaths) (p : ℕ) (x : Up) → IsQuiet x → IsStill u v side → Tied side u l k → SaidBy side u l k (telling_by v p x)
+says : (side : Side) (u v : UnitState) (l : Link) (k : SeenPaths) (p : ℕ) (x : Up) → IsQuiet x → IsStill u v side → Tied side u l k → SaidBy side u l k (sends v p x)
 says side u v l k p (up.Busy t) q is tie new s = record { right = tt; tied = unit-stays side u v l new k _ tie s is tt; quiet = λ e. absurd (some-not _ e) }
 says side u v l k p (up.Notice b) q is tie new s = record { right = tt; tied = unit-stays side u v l new k _ tie s is tt; quiet = λ e. absurd (some-not _ e) }
 says side u v l k p (up.Attn a status) q is tie new s = record { right = tt; tied = unit-stays side u v l new k _ tie s is tt; quiet = λ e. absurd (some-not _ e) }
@@ -182,9 +182,9 @@ says side u v l k p (up.Cleared r) q is tie new s = absurd q
 moves-by : (m : Option Connected) (t p c : ℕ) → m ≡ Some (linked t p c) → IsConnected m t p
 moves-by m t p c e = subst (λ (x : Option Connected). IsConnected x t p) (sym e) (refl, refl)
 
-sends : (side : Side) (u v : UnitState) (l : Link) (k : SeenPaths) (t p c : ℕ) (x : Up) → IsOfConnection t c x → holds u side ≡ Some (held t (place.On p c)) → IsStill u v side → Tied side u l k →
-    SaidBy side u l k (telling_by v p x)
-sends side u v l k t p c (up.Data load w d n m) its on is tie new s =
+sends-said : (side : Side) (u v : UnitState) (l : Link) (k : SeenPaths) (t p c : ℕ) (x : Up) → IsOfConnection t c x → holds u side ≡ Some (held t (place.On p c)) → IsStill u v side → Tied side u l k →
+    SaidBy side u l k (sends v p x)
+sends-said side u v l k t p c (up.Data load w d n m) its on is tie new s =
     let old = old-way side u l k (held t (place.On p c)) tie on in
     let way : way_of k.ways w d ≡ Some p = ap (λ (a : ℕ). way_of k.ways a d) its.0 ∙ (ap (λ (a : ℕ). way_of k.ways t a) its.1 ∙ old.0) in
     record {
@@ -192,20 +192,20 @@ sends side u v l k t p c (up.Data load w d n m) its on is tie new s =
       tied = unit-stays side u v l new k _ tie s is way;
       quiet = λ e. absurd (some-not _ e);
     }
-sends side u v l k t p c (up.End w n status more) its on is tie new s =
+sends-said side u v l k t p c (up.End w n status more) its on is tie new s =
     record {
       right = moves-by k.moving w p c (old-moving side u l k (held t (place.On p c)) tie on ∙ ap (λ (a : ℕ). Some (linked a p c)) (sym its));
       tied = unit-stays side u v l new k _ tie s is tt;
       quiet = λ e. absurd (some-not _ e);
     }
-sends side u v l k t p c (up.Accept w) its on is tie new s = absurd its
-sends side u v l k t p c (up.Busy w) its on is tie new s = absurd its
-sends side u v l k t p c (up.Leave w d) its on is tie new s = absurd its
-sends side u v l k t p c (up.Back w d) its on is tie new s = absurd its
-sends side u v l k t p c (up.Released w) its on is tie new s = absurd its
-sends side u v l k t p c (up.Cleared w) its on is tie new s = absurd its
-sends side u v l k t p c (up.Notice b) its on is tie new s = absurd its
-sends side u v l k t p c (up.Attn a status) its on is tie new s = absurd its
+sends-said side u v l k t p c (up.Accept w) its on is tie new s = absurd its
+sends-said side u v l k t p c (up.Busy w) its on is tie new s = absurd its
+sends-said side u v l k t p c (up.Leave w d) its on is tie new s = absurd its
+sends-said side u v l k t p c (up.Back w d) its on is tie new s = absurd its
+sends-said side u v l k t p c (up.Released w) its on is tie new s = absurd its
+sends-said side u v l k t p c (up.Cleared w) its on is tie new s = absurd its
+sends-said side u v l k t p c (up.Notice b) its on is tie new s = absurd its
+sends-said side u v l k t p c (up.Attn a status) its on is tie new s = absurd its
 
 off-moving : (t : ℕ) (at : Place) → IsOffPath at → moving_of (Some (held t at)) ≡ None
 off-moving t (place.On p c) off = absurd off
@@ -240,4 +240,4 @@ acts-said side u l k _ tie (Asks t p here v off on asks le) new s =
       tied = unit-after-more side u v l new k one k.moving _ tie s none le mine (gone ∙ ap moving_of (sym asks)) at.0 at.1 at.2 (way-new t p c k.ways);
       quiet = λ e. absurd (some-not _ e);
     }
-acts-said side u l k _ tie (Sends t p c x v its on is) new s = sends side u v l k t p c x its on is tie new s
+acts-said side u l k _ tie (Sends t p c x v its on is) new s = sends-said side u v l k t p c x its on is tie new s

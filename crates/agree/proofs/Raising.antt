@@ -11,11 +11,9 @@ use Rattle.chan_model.specs.declared.unit_state.Own.TheVariants.{Idle, Owned}
 use Rattle.chan_model.specs.declared.unit_state.Place.{Place}
 use Rattle.chan_model.specs.declared.unit_state.Place.TheVariants.{On, Ask, Away}
 use Rattle.chan_model.specs.declared.unit_state.UnitState.{UnitState}
-use Rattle.chan_model.proofs.Named.{without_side}
 use Rattle.chan_model.proofs.TakenSignals.{Takes, Ignores, Accepts, Denies, Begins, Joins, Parts, Answers, Gives, Halts, Frees, Resets, Forgets, takes-by}
 use Rattle.chan_model.proofs.TakenSignals as taken
-use Rattle.chan_model.specs.UnitTable.{UnitStep, marked_again, unit_after, side_of, owns, is_idle, raised, telling, leaving, leaving_from, asking, asking_from, attending, freed}
-use Rattle.chan_model.specs.Parts.{held, reset_side}
+use Rattle.chan_model.specs.UnitTable.{UnitStep, marked_again, unit_after, side_of, owns, is_idle, raised, telling, leaving, leaving_from, asking, asking_from, attending, freed, held, reset_side, without_side}
 use Rattle.chan_model.specs.UnitReports.{unit_reports}
 use Rattle.unit.specs.UnitWords.{connection_of, last_connection, last_sequence}
 use Rattle.agreement_laws.specs.Moving.{UnitAct, Takes_down, Leaves, Asks, Attends, Restarts, Notices, Reports, unit_steps}

@@ -18,8 +18,7 @@ use Rattle.chan_model.specs.declared.unit_state.AtHand.{AtHand}
 use Rattle.chan_model.specs.declared.unit_state.UnitState.{UnitState}
 use Rattle.chan_model.specs.Sides.{same_side}
 use Rattle.chan_model.specs.UnitTable.{UnitStep}
-use Rattle.chan_model.specs.UnitReports.{unit_reports, report_of, report_on, answer_taken, command_begun, report_supplied, end_sent, may_end, shown_end, is_outward, is_to_supply, most_of}
-use Rattle.chan_model.proofs.Named.{report_absorbed, sent_again}
+use Rattle.chan_model.specs.UnitReports.{unit_reports, report_of, report_on, answer_taken, command_begun, report_supplied, end_sent, may_end, shown_end, is_outward, is_to_supply, most_of, report_absorbed, sent_again}
 use Rattle.unit.specs.UnitWords.{last_sequence}
 
 -- what holds of none, and of each step to another state of the command at hand, holds of what a unit does with a report

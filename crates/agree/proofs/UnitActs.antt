@@ -21,14 +21,13 @@ use Rattle.chan_model.specs.declared.unit_state.Progress.TheVariants as progress
 use Rattle.chan_model.specs.declared.unit_state.SideState.{SideState}
 use Rattle.chan_model.specs.declared.unit_state.UnitState.{UnitState}
 use Rattle.chan_model.specs.Sides.{same_side}
-use Rattle.chan_model.specs.UnitReports.{is_outward, may_end, most_of, is_to_supply, answer_taken, report_on, report_of, unit_reports}
-use Rattle.chan_model.proofs.Named.{report_absorbed, sent_again}
-use Rattle.chan_model.specs.UnitTable.{UnitStep, side_of, owns, telling, noticing, leaving, asking, attending, is_idle, marked_again}
+use Rattle.chan_model.specs.UnitReports.{is_outward, may_end, most_of, is_to_supply, answer_taken, report_on, report_of, unit_reports, report_absorbed, sent_again}
+use Rattle.chan_model.specs.UnitTable.{UnitStep, side_of, owns, telling, noticing, leaving, asking, attending, is_idle, marked_again, changes, sends}
 use Rattle.unit.specs.UnitWords.{connection_of, LeavesOther, other_of}
 use Rattle.agreement_laws.specs.Moving.{is_owner_side}
 use Rattle.agreement_laws.specs.HolderSeen.{IsSaidRight}
 use Rattle.agree.proofs.Holdings.{holding_of, idle-unheld, side-restarted}
-use Rattle.agree.proofs.UnitPaths.{held, held_at, holds, floor_of, IsQuiet, silently, telling_by, IsStill, still, still-as, own-floor, not-owned}
+use Rattle.agree.proofs.UnitPaths.{held, held_at, holds, floor_of, IsQuiet, IsStill, still, still-as, own-floor, not-owned}
 
 -- of this program, and of this connection
 abbrev pub IsOfConnection : ℕ → ℕ → Up → Type 0
@@ -42,13 +41,13 @@ IsOffPath at = Unit {0}
 
 pub data Acts (side : Side) (u : UnitState) : Option UnitStep → Type 0 where
   Idles : Acts side u None
-  Says : (v : UnitState) (p : ℕ) (x : Up) → IsQuiet x → IsSaidRight (holding_of u) side x → IsStill u v side → Acts side u (telling_by v p x)
-  Begins : (v : UnitState) → IsStill u v side → Acts side u (silently v)
+  Says : (v : UnitState) (p : ℕ) (x : Up) → IsQuiet x → IsSaidRight (holding_of u) side x → IsStill u v side → Acts side u (sends v p x)
+  Begins : (v : UnitState) → IsStill u v side → Acts side u (changes v)
   Leaves : (t p c : ℕ) (v : UnitState) → holds u side ≡ Some (held t (place.On p c)) → holds v side ≡ Some (held t (place.Away c)) → floor_of u side ≤ floor_of v side →
-      Acts side u (telling_by v p (up.Leave t c))
+      Acts side u (sends v p (up.Leave t c))
   Asks : (t p : ℕ) (at : Place) (v : UnitState) → IsOffPath at → holds u side ≡ Some (held t at) → holds v side ≡ Some (held t (place.Ask p (connection_of at + 1))) → floor_of u side ≤ floor_of v side →
-      Acts side u (telling_by v p (up.Back t (connection_of at + 1)))
-  Sends : (t p c : ℕ) (x : Up) (v : UnitState) → IsOfConnection t c x → holds u side ≡ Some (held t (place.On p c)) → IsStill u v side → Acts side u (telling_by v p x)
+      Acts side u (sends v p (up.Back t (connection_of at + 1)))
+  Sends : (t p c : ℕ) (x : Up) (v : UnitState) → IsOfConnection t c x → holds u side ≡ Some (held t (place.On p c)) → IsStill u v side → Acts side u (sends v p x)
 
 if-acts : (side : Side) (u : UnitState) (b : Bool) (x y : Option UnitStep) → (b ≡ true → Acts side u x) → Acts side u y → Acts side u (if b then x else y)
 if-acts side u true x y e f = e refl
@@ -61,7 +60,7 @@ IsOn u side t p c = holds u side ≡ Some (held t (place.On p c))
 hand-still : (u : UnitState) (x : AtHand) (side : Side) → IsStill u (record u { at_hand = Some x }) side
 hand-still u x side = still-as u (record u { at_hand = Some x }) side refl refl refl
 
-data-acts : (side : Side) (u : UnitState) (p t c n s : ℕ) (x : AtHand) (load : Load) → IsOn u side t p c → Acts side u (telling_by (record u { at_hand = Some x }) p (up.Data load t c n s))
+data-acts : (side : Side) (u : UnitState) (p t c n s : ℕ) (x : AtHand) (load : Load) → IsOn u side t p c → Acts side u (sends (record u { at_hand = Some x }) p (up.Data load t c n s))
 data-acts side u p t c n s x load on = Sends t p c (up.Data load t c n s) _ (refl, refl) on (hand-still u x side)
 
 absorbed-acts : (side : Side) (u : UnitState) (p t c : ℕ) (x : AtHand) (given : Option (List ℕ)) (count : ℕ) → IsOn u side t p c → Acts side u (report_absorbed u p t c x given count)
@@ -73,7 +72,7 @@ again-acts side u p t c x None on = Idles
 again-acts side u p t c x (Some load) on = if-acts side u x.again _ None (λ e. data-acts side u p t c _ _ _ _ on) Idles
 
 end-acts : (side : Side) (u : UnitState) (p t c : ℕ) (x : AtHand) (n : ℕ) (status : DeviceStatus) (more : Bool) → IsOn u side t p c →
-    Acts side u (telling_by (record u { at_hand = Some x }) p (up.End t n status more))
+    Acts side u (sends (record u { at_hand = Some x }) p (up.End t n status more))
 end-acts side u p t c x n status more on = Sends t p c (up.End t n status more) _ refl on (hand-still u x side)
 
 answer-acts : (side : Side) (u : UnitState) (p t c : ℕ) (x : AtHand) (at : Progress) (a : DeviceAnswer) → IsOn u side t p c → Acts side u (answer_taken u p t c x at a)

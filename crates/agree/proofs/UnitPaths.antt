@@ -14,9 +14,7 @@ use Rattle.chan_model.specs.declared.unit_state.Place.TheVariants as place
 use Rattle.chan_model.specs.declared.unit_state.SideState.{SideState}
 use Rattle.chan_model.specs.declared.unit_state.UnitState.{UnitState}
 use Rattle.chan_model.specs.Sides.{same_side}
-use Rattle.chan_model.specs.Parts.{reset_side}
-use Rattle.chan_model.proofs.Named.{without_side}
-use Rattle.chan_model.specs.UnitTable.{UnitStep, side_of, with_side, freed, raised, owns, unit_takes, new_command}
+use Rattle.chan_model.specs.UnitTable.{UnitStep, changes, sends, side_of, with_side, freed, raised, owns, unit_takes, new_command, reset_side, without_side}
 use Rattle.chan_model.proofs.TakenSignals as taken
 use Rattle.agreement_laws.proofs.SeenSignals.{IsPlainDown, IsResetAbove}
 
@@ -51,12 +49,6 @@ IsFreeing (up.Released t) = Unit {0}
 IsFreeing (up.Cleared r) = Unit {0}
 IsFreeing x = ⊥
 
-abbrev pub silently : UnitState → Option UnitStep
-silently v = Some (record { state = v; sent = None })
-
-abbrev pub telling_by : UnitState → ℕ → Up → Option UnitStep
-telling_by v p x = Some (record { state = v; sent = Some (record { path = p; signal = x }) })
-
 -- the program is where it was
 pub record IsStill (u v : UnitState) (side : Side) : Type 0 where
   pub held : holds v side ≡ holds u side
@@ -65,16 +57,16 @@ pub record IsStill (u v : UnitState) (side : Side) : Type 0 where
 -- a signal is taken that came down by p
 pub data Takes (side : Side) (u : UnitState) (p : ℕ) : Down → Option UnitStep → Type 0 where
   Ignores : (d : Down) → Takes side u p d None
-  Tells : (d : Down) (v : UnitState) (x : Up) → IsQuiet x → IsStill u v side → Takes side u p d (telling_by v p x)
-  Changes : (d : Down) (v : UnitState) → IsPlainDown d → IsStill u v side → Takes side u p d (silently v)
-  Gives : (t c n s q : ℕ) (bytes : List ℕ) (v : UnitState) → holds u side ≡ Some (held t (place.On q c)) → IsStill u v side → Takes side u p (down.Give bytes t c n s) (silently v)
-  Frees : (d : Down) (v : UnitState) (x : Up) → IsFreeing x → holds v side ≡ None → floor_of u side ≤ floor_of v side → Takes side u p d (telling_by v p x)
-  Accepts : (t : ℕ) (v : UnitState) → floor_of u side < t → floor_of v side ≡ t → holds v side ≡ Some (held t (place.On p 0)) → Takes side u p (down.Select t) (telling_by v p (up.Accept t))
+  Tells : (d : Down) (v : UnitState) (x : Up) → IsQuiet x → IsStill u v side → Takes side u p d (sends v p x)
+  Changes : (d : Down) (v : UnitState) → IsPlainDown d → IsStill u v side → Takes side u p d (changes v)
+  Gives : (t c n s q : ℕ) (bytes : List ℕ) (v : UnitState) → holds u side ≡ Some (held t (place.On q c)) → IsStill u v side → Takes side u p (down.Give bytes t c n s) (changes v)
+  Frees : (d : Down) (v : UnitState) (x : Up) → IsFreeing x → holds v side ≡ None → floor_of u side ≤ floor_of v side → Takes side u p d (sends v p x)
+  Accepts : (t : ℕ) (v : UnitState) → floor_of u side < t → floor_of v side ≡ t → holds v side ≡ Some (held t (place.On p 0)) → Takes side u p (down.Select t) (sends v p (up.Accept t))
   Joins : (t c q : ℕ) (v : UnitState) → holds u side ≡ Some (held t (place.Ask q c)) → holds v side ≡ Some (held t (place.On q c)) → floor_of u side ≤ floor_of v side →
-      Takes side u p (down.Grant t c) (silently v)
+      Takes side u p (down.Grant t c) (changes v)
   Parts : (d : Down) (t c q : ℕ) (v : UnitState) → IsPlainDown d → holds u side ≡ Some (held t (place.Ask q c)) → holds v side ≡ Some (held t (place.Away c)) → floor_of u side ≤ floor_of v side →
-      Takes side u p d (silently v)
-  Answers : (t c : ℕ) → Takes side u p (down.Grant t c) (telling_by u p (up.Leave t c))
+      Takes side u p d (changes v)
+  Answers : (t c : ℕ) → Takes side u p (down.Grant t c) (sends u p (up.Leave t c))
 
 if-same : {A : Type 0} (b : Bool) (x : A) → (if b then x else x) ≡ x
 if-same true x = refl
@@ -136,7 +128,7 @@ without-held : (u : UnitState) (side : Side) (b : Bool) → owns u.own side ≡ 
 without-held u side true e = refl
 without-held u side false e = not-owned u.own side e
 
-reset-frees : (side : Side) (u : UnitState) (p r b : ℕ) → floor_of u side < r → Takes side u p (down.Reset r b) (telling_by (reset_side u side r) p (up.Cleared r))
+reset-frees : (side : Side) (u : UnitState) (p r b : ℕ) → floor_of u side < r → Takes side u p (down.Reset r b) (sends (reset_side u side r) p (up.Cleared r))
 reset-frees side u p r b above =
     Frees (down.Reset r b) (reset_side u side r) (up.Cleared r) tt (ap (λ (o : Own). held_at o side) (side-own (without_side u side) side _) ∙ without-held u side (owns u.own side) refl)
     (let f : floor_of (reset_side u side r) side ≡ r = here-floor (without_side u side) side _ in omega (arith, f, above))

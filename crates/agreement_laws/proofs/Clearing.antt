@@ -22,8 +22,7 @@ use Rattle.chan_model.specs.declared.unit_state.Progress.TheVariants as progress
 use Rattle.chan_model.specs.declared.unit_state.UnitState.{UnitState}
 use Rattle.chan_model.specs.Sides.{same_side}
 use Rattle.chan_model.specs.UnitTable.{UnitStep, side_of, is_idle, telling, unit_takes, leaving, asking, attending, noticing}
-use Rattle.chan_model.proofs.Named.{report_absorbed, sent_again}
-use Rattle.chan_model.specs.UnitReports.{is_to_supply, most_of, answer_taken, report_on, report_of, is_outward, may_end}
+use Rattle.chan_model.specs.UnitReports.{is_to_supply, most_of, answer_taken, report_on, report_of, is_outward, may_end, report_absorbed, sent_again}
 use Rattle.chan_model.proofs.OneSide.{one-side}
 use Rattle.chan_model.proofs.TakenSignals.{Takes, Ignores, Accepts, Denies, Begins, Joins, Parts, Answers, Gives, Halts, Frees, Resets, Forgets, takes-by}
 use Rattle.chan_model.proofs.TakenSignals as taken

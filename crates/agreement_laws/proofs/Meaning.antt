@@ -14,8 +14,7 @@ use Rattle.chan_model.specs.declared.unit_state.Own.TheVariants as own
 use Rattle.chan_model.specs.declared.unit_state.Place.{Place}
 use Rattle.chan_model.specs.declared.unit_state.Place.TheVariants.{On, Ask}
 use Rattle.chan_model.specs.Sides.{same_side}
-use Rattle.chan_model.specs.Agreement.{Agrees, owner_of}
-use Rattle.chan_model.proofs.Named.{IsAboveFloor}
+use Rattle.chan_model.specs.Agreement.{Agrees, owner_of, IsAboveFloor}
 use Rattle.agreement_laws.proofs.Clearing.{IsAnswered}
 use Rattle.agreement_laws.specs.Invariant.{Idle, Fresh, Owns, Ends, ends_seen, seen_by, IsSelectGood, IsResetTo, AreEndsGood}
 use Rattle.agreement_laws.proofs.HoldKeeps.{HoldMoves}

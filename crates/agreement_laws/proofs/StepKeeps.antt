@@ -13,8 +13,7 @@ use Rattle.chan_model.specs.Signals.{Up}
 use Rattle.chan_model.specs.declared.signal.Up.TheVariants as up
 use Rattle.chan_model.specs.declared.unit_state.UnitState.{UnitState}
 use Rattle.chan_model.specs.UnitTable.{side_of, unit_after}
-use Rattle.chan_model.specs.Agreement.{Agrees, IsOutstanding, owner_of}
-use Rattle.chan_model.proofs.Named.{IsAboveFloor}
+use Rattle.chan_model.specs.Agreement.{Agrees, IsOutstanding, owner_of, IsAboveFloor}
 use Rattle.agreement_laws.specs.Claims.{DoAgree, IsResetDue, EndsByReset, IsPassed}
 use Rattle.agreement_laws.specs.Links.{Link, Links, link_of, Carries, with_signal, with_accepted}
 use Rattle.agreement_laws.specs.Moving.{HoldAct, Nothing, Offers, Sends_reset, Lets_go, Is_reset, Loses, Takes, Sends, HoldActed, hold_acts, UnitAct, Takes_down, Leaves, Asks, Attends, Restarts, Notices, Reports, unit_steps, up_sent, LinkStep, LinkCause, Hold_acts, Unit_acts, IsHoldGiven, IsUnitGiven, unit_moved, sent_at, act_at, LinksStep}

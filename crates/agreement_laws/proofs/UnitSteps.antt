@@ -22,10 +22,8 @@ use Rattle.chan_model.specs.declared.unit_state.Progress.TheVariants as progress
 use Rattle.chan_model.specs.declared.unit_state.SideState.{SideState}
 use Rattle.chan_model.specs.declared.unit_state.UnitState.{UnitState}
 use Rattle.chan_model.specs.Sides.{same_side}
-use Rattle.chan_model.specs.UnitTable.{UnitStep, sends, side_of, is_owner, is_owner_on, is_idle, telling, unit_works, unit_takes, unit_after, leaving, leaving_from, asking, asking_from, attending, restarted, noticing}
-use Rattle.chan_model.specs.Parts.{reset_side}
-use Rattle.chan_model.proofs.Named.{report_absorbed, sent_again}
-use Rattle.chan_model.specs.UnitReports.{is_to_supply, most_of, may_end, is_outward, answer_taken, report_on, report_of}
+use Rattle.chan_model.specs.UnitTable.{UnitStep, sends, side_of, is_owner, is_owner_on, is_idle, telling, unit_works, unit_takes, unit_after, leaving, leaving_from, asking, asking_from, attending, restarted, noticing, reset_side}
+use Rattle.chan_model.specs.UnitReports.{is_to_supply, most_of, may_end, is_outward, answer_taken, report_on, report_of, report_absorbed, sent_again}
 use Rattle.agreement_laws.specs.Moving.{UnitAct, Takes_down, Leaves, Asks, Attends, Restarts, Notices, Reports, unit_steps, is_owner_side, sent_by, up_sent}
 use Rattle.agreement_laws.specs.Invariant.{SideSeen, Idle, Fresh, Owns, Ends, ends_seen, ends_of, seen_by, IsResetTo, IsResetGood, IsDownGood, IsFreshFree}
 use Rattle.agreement_laws.proofs.UnitKeeps.{UnitMoves, Stays, Clears, by_path}

@@ -1,4 +1,3 @@
-pub mod Named
 pub mod OneSide
 pub mod KeptSignals
 pub mod TakenSignals

@@ -14,8 +14,7 @@ use Rattle.chan_model.specs.declared.unit_state.Place.TheVariants.{On, Ask, Away
 use Rattle.chan_model.specs.declared.unit_state.UnitState.{UnitState}
 use Rattle.chan_model.specs.Sides.{same_side}
 use Rattle.chan_model.specs.Signals.{Down, Load}
-use Rattle.chan_model.specs.Parts.{is_place_on, reset_side}
-use Rattle.chan_model.specs.UnitTable.{UnitStep, changes, sends, side_of, is_owner, is_owner_on, freed, raised, selected, new_command, with_given, given_next, at_hand_answered, answered_load, answered_last, granted_at, granted, grant_refused_at, grant_refused, resets, forgetting, telling, unit_works, unit_takes}
+use Rattle.chan_model.specs.UnitTable.{UnitStep, changes, sends, side_of, is_owner, is_owner_on, freed, raised, selected, new_command, with_given, given_next, at_hand_answered, answered_load, answered_last, granted_at, granted, grant_refused_at, grant_refused, resets, forgetting, telling, unit_works, unit_takes, is_place_on, reset_side}
 use Rattle.chan_model.proofs.OneSide.{one-side}
 
 -- the program of this side and number holds the device, and is there

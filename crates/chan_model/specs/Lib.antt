@@ -11,4 +11,3 @@ pub mod UnitTable
 pub mod Agreement
 pub mod UnitReports
 pub mod ConditionCodes
-pub mod Parts

@@ -1,6 +1,7 @@
 -- What a unit asks of its device, and what it does with the device's answer (own).
 use Rattle.std.specs.Prelude.{ℕ, ◌+◌, ◌%◌, Bool, false, not, ◌==◌, ◌&&◌, ◌||◌, nat_lt, nat_le, if◌then◌else◌, Option, None, Some, is_none, option_and_then, List, length}
 use Rattle.std.specs.Int.RustNames.{bit_and}
+use Rattle.scsw_irb.specs.Status as bit
 use Rattle.scsw_irb.specs.Status.{has}
 use Rattle.scsw_irb.specs.declared.status.DeviceStatus.{DeviceStatus}
 use Rattle.chan_model.specs.declared.names.Side.{Side}
@@ -29,15 +30,15 @@ use Rattle.chan_model.specs.declared.unit_state.UnitState.{UnitState}
 use Rattle.chan_model.specs.Sides.{same_side}
 use Rattle.chan_model.specs.UnitTable.{UnitStep, changes, sends}
 
--- the bits of a device status (SA22-7832, chapter 16)
+-- what a device status says (SA22-7832, chapter 16)
 abbrev pub has_channel_end : DeviceStatus → Bool
-has_channel_end status = has status.0 0x08
+has_channel_end status = has status.0 bit.channel_end
 
 abbrev pub has_device_end : DeviceStatus → Bool
-has_device_end status = has status.0 0x04
+has_device_end status = has status.0 bit.device_end
 
 abbrev pub has_unit_check : DeviceStatus → Bool
-has_unit_check status = has status.0 0x02
+has_unit_check status = has status.0 bit.unit_check
 
 -- write and control commands move bytes to the device: their codes are odd
 abbrev pub is_outward : ℕ → Bool
@@ -63,82 +64,6 @@ is_settled x = is_none x.given && is_none x.unanswered
 abbrev pub is_to_supply : AtHand → Bool
 is_to_supply x = not (is_outward x.code || is_over x) && is_settled x
 
--- when a command may end with this status: at once, with channel end alone or unit check alone, or where it is halted before it
--- began; after its bytes, a halt or its channel end, with device end
-abbrev pub may_end : Bool → AtHand → Progress → DeviceStatus → Bool → Bool
-may_end halted x progress.New status more = not more && (((status.0 == 0x08) || (status.0 == 0x02)) || (halted && (status.0 == 0x0C)))
-may_end halted x progress.Working status more = (halted || (is_over x && is_settled x)) && has_device_end status
-may_end halted x progress.ChannelEnded status more = has_device_end status
-may_end halted x progress.Ended status more = false
-
--- the Data of the last chunk of a command
-abbrev pub data_sent : UnitState → ℕ → ℕ → ℕ → AtHand → Load → Option UnitStep
-data_sent u p t c x load = sends (record u { at_hand = Some x }) p (up.Data load t c u.last_command x.sequence)
-
--- the bytes that a write took, so many, to be answered with the next report
-abbrev pub with_absorbed : AtHand → ℕ → AtHand
-with_absorbed x count = record x { progress = progress.Working; given = None; unanswered = Some (load.Absorbed count) }
-
--- a command is begun: the bytes of a write are asked for
-abbrev pub command_begun : UnitState → ℕ → ℕ → ℕ → AtHand → Option UnitStep
-command_begun u p t c x =
-    if is_outward x.code then data_sent u p t c (with_absorbed x 0) (load.Absorbed 0)
-    else changes (record u { at_hand = Some (record x { progress = progress.Working }) })
-
--- the next chunk of a read: no more bytes than are asked for
-abbrev pub with_supplied : AtHand → List ℕ → AtHand
-with_supplied x bytes = record x { sequence = x.sequence + 1; unanswered = Some (load.Bytes bytes); asked = most_of x }
-
-abbrev pub report_supplied : UnitState → ℕ → ℕ → ℕ → AtHand → List ℕ → Option UnitStep
-report_supplied u p t c x bytes =
-    if is_to_supply x && nat_le (length bytes) (most_of x) then data_sent u p t c (with_supplied x bytes) (load.Bytes bytes) else None
-
--- what an End shows of the status that the device gave: channel end that was sent already is left out of the later status
-abbrev pub shown_end : Progress → DeviceStatus → DeviceStatus
-shown_end progress.ChannelEnded status = record { 0 = bit_and status.0 0xF7 }
-shown_end at status = status
-
-abbrev pub progress_after_end : DeviceStatus → Progress
-progress_after_end status = if is_last_end status then progress.Ended else progress.ChannelEnded
-
-abbrev pub end_sent : UnitState → ℕ → ℕ → AtHand → DeviceStatus → Bool → Option UnitStep
-end_sent u p t x status more =
-    sends (record u { at_hand = Some (record x { progress = progress_after_end status }) }) p (up.End t u.last_command status more)
-
--- an answer of the device, at each progress of the command at hand: at most the bytes that were given are absorbed, and a Data that
--- was not answered before a leave is sent again on the connection at hand
-abbrev pub answer_taken : UnitState → ℕ → ℕ → ℕ → AtHand → Progress → DeviceAnswer → Option UnitStep
-answer_taken u p t c x at (Ended status more) = if may_end u.halted x at status more then end_sent u p t x (shown_end at status) more else None
-answer_taken u p t c x progress.New Begins = command_begun u p t c x
-answer_taken u p t c x progress.Working (Absorbed count) =
-    option_and_then (λ bytes. if nat_le count (length bytes) then data_sent u p t c (with_absorbed x count) (load.Absorbed count) else None) x.given
-answer_taken u p t c x progress.Working (Supplied bytes) = report_supplied u p t c x bytes
-answer_taken u p t c x progress.Working Again =
-    option_and_then (λ load. if x.again then data_sent u p t c (record x { again = false }) load else None) x.unanswered
-answer_taken u p t c x at answer = None
-
-abbrev pub report_on : UnitState → ℕ → Place → Option AtHand → Report → Option UnitStep
-report_on u t (On p c) (Some x) r = if r.sequence == x.sequence then answer_taken u p t c x x.progress r.answer else None
-report_on u t place at_hand r = None
-
-abbrev pub report_of : UnitState → Own → Report → Option UnitStep
-report_of u Idle r = None
-report_of u (Owned k t place) r =
-    if same_side k r.side && ((r.number == t) && (r.command == u.last_command)) then report_on u t place u.at_hand r else None
-
--- What the unit does with a report; None where it is stale or against the law of devices.
-abbrev pub unit_reports : UnitState → Report → Option UnitStep
-unit_reports u r = report_of u u.own r
-
--- the path that the signal of a report is sent on
-abbrev pub path_of_sent : Option (OnPath Up) → ReportPath
-path_of_sent None = NothingSent
-path_of_sent (Some s) = SentOn s.path
-
-abbrev pub report_path : Option UnitStep → ReportPath
-report_path None = Refused
-report_path (Some step) = path_of_sent step.sent
-
 -- a call for the command at hand, and a report without a call
 abbrev pub calling : UnitState → Side → ℕ → AtHand → Call → Option Work
 calling u side t x c = Some (work.Call side t u.last_command x.sequence c)
@@ -148,7 +73,7 @@ reporting u side t x answer =
     Some (work.Report (record { side = side; number = t; command = u.last_command; sequence = x.sequence; answer = answer }))
 
 abbrev pub halted_report : UnitState → Side → ℕ → AtHand → Option Work
-halted_report u side t x = reporting u side t x (Ended (record { 0 = 0x0C }) false)
+halted_report u side t x = reporting u side t x (Ended (record { 0 = bit.normal_end }) false)
 
 -- the work on a command that is begun: first what is not answered, then bytes of a write; then the end of its bytes, or
 -- more bytes of a read
@@ -182,3 +107,89 @@ work_of_owner u (Owned side t place) = work_of_place u side t place u.at_hand
 -- What the unit has to do next while its program is connected: a call of the device, or a report without a call.
 abbrev pub unit_work : UnitState → Option Work
 unit_work u = work_of_owner u u.own
+
+-- a command may end at once with channel end alone or unit check alone
+abbrev pub is_initial : DeviceStatus → Bool
+is_initial status = (status.0 == bit.channel_end) || (status.0 == bit.unit_check)
+
+-- when a command may end with this status: at once, or where it is halted before it began with its usual end; after its bytes, a halt
+-- or its channel end, with device end
+abbrev pub may_end : Bool → AtHand → Progress → DeviceStatus → Bool → Bool
+may_end halted x progress.New status more = not more && (is_initial status || (halted && (status.0 == bit.normal_end)))
+may_end halted x progress.Working status more = (halted || (is_over x && is_settled x)) && has_device_end status
+may_end halted x progress.ChannelEnded status more = has_device_end status
+may_end halted x progress.Ended status more = false
+
+-- the Data of the last chunk of a command
+abbrev pub data_sent : UnitState → ℕ → ℕ → ℕ → AtHand → Load → Option UnitStep
+data_sent u p t c x load = sends (record u { at_hand = Some x }) p (up.Data load t c u.last_command x.sequence)
+
+-- the bytes that a write took, so many, to be answered with the next report
+abbrev pub with_absorbed : AtHand → ℕ → AtHand
+with_absorbed x count = record x { progress = progress.Working; given = None; unanswered = Some (load.Absorbed count) }
+
+-- the device absorbed so many of the bytes that were given, and no more than those
+abbrev pub report_absorbed : UnitState → ℕ → ℕ → ℕ → AtHand → Option (List ℕ) → ℕ → Option UnitStep
+report_absorbed u p t c x given count =
+    option_and_then (λ bytes. if nat_le count (length bytes) then data_sent u p t c (with_absorbed x count) (load.Absorbed count) else None) given
+
+-- a Data that was not answered before a leave is sent again on the connection at hand
+abbrev pub sent_again : UnitState → ℕ → ℕ → ℕ → AtHand → Option Load → Option UnitStep
+sent_again u p t c x unanswered = option_and_then (λ load. if x.again then data_sent u p t c (record x { again = false }) load else None) unanswered
+
+-- a command is begun: the bytes of a write are asked for
+abbrev pub command_begun : UnitState → ℕ → ℕ → ℕ → AtHand → Option UnitStep
+command_begun u p t c x =
+    if is_outward x.code then data_sent u p t c (with_absorbed x 0) (load.Absorbed 0)
+    else changes (record u { at_hand = Some (record x { progress = progress.Working }) })
+
+-- the next chunk of a read: no more bytes than are asked for
+abbrev pub with_supplied : AtHand → List ℕ → AtHand
+with_supplied x bytes = record x { sequence = x.sequence + 1; unanswered = Some (load.Bytes bytes); asked = most_of x }
+
+abbrev pub report_supplied : UnitState → ℕ → ℕ → ℕ → AtHand → List ℕ → Option UnitStep
+report_supplied u p t c x bytes =
+    if is_to_supply x && nat_le (length bytes) (most_of x) then data_sent u p t c (with_supplied x bytes) (load.Bytes bytes) else None
+
+-- what an End shows of the status that the device gave: channel end that was sent already is left out of the later status
+abbrev pub shown_end : Progress → DeviceStatus → DeviceStatus
+shown_end progress.ChannelEnded status = record { 0 = bit_and status.0 bit.all_but_channel_end }
+shown_end at status = status
+
+abbrev pub progress_after_end : DeviceStatus → Progress
+progress_after_end status = if is_last_end status then progress.Ended else progress.ChannelEnded
+
+abbrev pub end_sent : UnitState → ℕ → ℕ → AtHand → DeviceStatus → Bool → Option UnitStep
+end_sent u p t x status more =
+    sends (record u { at_hand = Some (record x { progress = progress_after_end status }) }) p (up.End t u.last_command status more)
+
+-- an answer of the device, at each progress of the command at hand
+abbrev pub answer_taken : UnitState → ℕ → ℕ → ℕ → AtHand → Progress → DeviceAnswer → Option UnitStep
+answer_taken u p t c x at (Ended status more) = if may_end u.halted x at status more then end_sent u p t x (shown_end at status) more else None
+answer_taken u p t c x progress.New Begins = command_begun u p t c x
+answer_taken u p t c x progress.Working (Absorbed count) = report_absorbed u p t c x x.given count
+answer_taken u p t c x progress.Working (Supplied bytes) = report_supplied u p t c x bytes
+answer_taken u p t c x progress.Working Again = sent_again u p t c x x.unanswered
+answer_taken u p t c x at answer = None
+
+abbrev pub report_on : UnitState → ℕ → Place → Option AtHand → Report → Option UnitStep
+report_on u t (On p c) (Some x) r = if r.sequence == x.sequence then answer_taken u p t c x x.progress r.answer else None
+report_on u t place at_hand r = None
+
+abbrev pub report_of : UnitState → Own → Report → Option UnitStep
+report_of u Idle r = None
+report_of u (Owned k t place) r =
+    if same_side k r.side && ((r.number == t) && (r.command == u.last_command)) then report_on u t place u.at_hand r else None
+
+-- What the unit does with a report; None where it is stale or against the law of devices.
+abbrev pub unit_reports : UnitState → Report → Option UnitStep
+unit_reports u r = report_of u u.own r
+
+-- the path that the signal of a report is sent on
+abbrev pub path_of_sent : Option (OnPath Up) → ReportPath
+path_of_sent None = NothingSent
+path_of_sent (Some s) = SentOn s.path
+
+abbrev pub report_path : Option UnitStep → ReportPath
+report_path None = Refused
+report_path (Some step) = path_of_sent step.sent

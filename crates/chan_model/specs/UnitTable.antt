@@ -1,6 +1,8 @@
 -- The device's side (own): for each signal from a subchannel of one side, for each act, and for each report, the new
 -- state and the signal that is sent. None stands where a signal is ignored, and where an act or report is refused.
 use Rattle.std.specs.Prelude.{ℕ, ◌+◌, Bool, true, false, not, ◌==◌, ◌&&◌, ◌||◌, nat_lt, if◌then◌else◌, Option, None, Some, is_some, List, [], ◌∷◌, length}
+use Rattle.scsw_irb.specs.Status as bit
+use Rattle.scsw_irb.specs.declared.status.DeviceStatus.{DeviceStatus}
 use Rattle.chan_model.specs.declared.names.Side.{Side}
 use Rattle.chan_model.specs.declared.names.Side.TheVariants.{First, Second}
 use Rattle.chan_model.specs.declared.signal.OnPath.{OnPath}
@@ -58,14 +60,26 @@ abbrev pub owns : Own → Side → Bool
 owns Idle side = false
 owns (Owned k u place) side = same_side k side
 
+-- the program is connected by this connection
+abbrev pub is_place_on : Place → ℕ → Bool
+is_place_on place c = elim place [ On p d ↦ c == d | other ↦ false ]
+
+-- the path by which it is connected, where it is
+abbrev pub path_of_place : Place → Option ℕ
+path_of_place place = elim place [ On p c ↦ Some p | other ↦ None ]
+
 -- the program of this side and number is connected by this connection
 abbrev pub is_owner_on : Own → Side → ℕ → ℕ → Bool
 is_owner_on Idle side t c = false
-is_owner_on (Owned k u place) side t c = (same_side k side && (t == u)) && elim place [ On p d ↦ c == d | other ↦ false ]
+is_owner_on (Owned k u place) side t c = (same_side k side && (t == u)) && is_place_on place c
 
 -- the device is let go, and its command forgotten
 abbrev pub freed : UnitState → UnitState
 freed u = record u { own = Idle; last_command = 0; at_hand = None; halted = false }
+
+-- the device is held by the program of this side and number, which is connected by its first connection on this path
+abbrev pub held : UnitState → Side → ℕ → ℕ → UnitState
+held u side t p = record (freed u) { own = Owned side t (On p 0) }
 
 -- Select: above the floor of its side, which becomes its number whether it is accepted or not; may: the control unit may
 -- serve the unit
@@ -73,7 +87,7 @@ abbrev pub raised : UnitState → Side → ℕ → UnitState
 raised u side t = with_side u side (record (side_of u side) { floor = t })
 
 abbrev pub selected : UnitState → Own → Side → ℕ → ℕ → Bool → Option UnitStep
-selected u Idle side p t may = if may then sends (record (freed u) { own = Owned side t (On p 0) }) p (up.Accept t) else sends u p (up.Busy t)
+selected u Idle side p t may = if may then sends (held u side t p) p (up.Accept t) else sends u p (up.Busy t)
 selected u (Owned k v place) side p t may = sends u p (up.Busy t)
 
 -- Command: the next of the program that holds the device
@@ -87,10 +101,12 @@ commanded u side t n code room =
     else None
 
 -- Give: the next chunk of the command at hand; no bytes stop the transfer
+abbrev pub kept_bytes : List ℕ → Option (List ℕ)
+kept_bytes bytes = elim bytes [ [] ↦ None | b ∷ bs ↦ Some (b ∷ bs) ]
+
 abbrev pub with_given : AtHand → ℕ → List ℕ → AtHand
 with_given x s bytes =
-    let kept : Option (List ℕ) = elim bytes [ [] ↦ None | b ∷ bs ↦ Some (b ∷ bs) ] in
-    record x { sequence = s; unanswered = None; again = false; given = kept; stopped = x.stopped || (length bytes == 0) }
+    record x { sequence = s; unanswered = None; again = false; given = kept_bytes bytes; stopped = x.stopped || (length bytes == 0) }
 
 abbrev pub given_next : UnitState → Option AtHand → ℕ → List ℕ → Option UnitStep
 given_next u None s bytes = None
@@ -133,9 +149,25 @@ abbrev pub grant_refused : UnitState → Own → Side → ℕ → ℕ → Option
 grant_refused u Idle side t c = None
 grant_refused u (Owned k v place) side t c = if same_side k side && (t == v) then grant_refused_at u k v place c else None
 
+-- Halt: of the program that holds the device, once
+abbrev pub unit_halting : UnitState → Side → ℕ → Option UnitStep
+unit_halting u side t = if is_owner u.own side t && not u.halted then changes (record u { halted = true }) else None
+
+-- Release: of the program that holds the device
+abbrev pub releasing : UnitState → Side → ℕ → ℕ → Option UnitStep
+releasing u side p t = if is_owner u.own side t then sends (freed u) p (up.Released t) else None
+
 -- Reset: with the unit's own restart count, where its side is fresh, or its number above the floor
 abbrev pub resets : UnitState → Side → ℕ → ℕ → Bool
 resets u side r b = (b == u.restarts) && ((side_of u side).fresh || nat_lt (side_of u side).floor r)
+
+-- a program of this side is forgotten; one of the other side stays
+abbrev pub without_side : UnitState → Side → UnitState
+without_side u side = if owns u.own side then freed u else u
+
+-- the side is not fresh any more, and the number is its floor
+abbrev pub reset_side : UnitState → Side → ℕ → UnitState
+reset_side u side r = with_side (without_side u side) side (record { floor = r; fresh = false })
 
 -- Got: of the attention that is not answered
 abbrev pub forgetting : UnitState → Option Attention → Side → ℕ → Option UnitStep
@@ -150,7 +182,7 @@ telling u p = sends u p (up.Notice u.restarts)
 abbrev pub noticing : UnitState → Side → ℕ → Option UnitStep
 noticing u side p = if (side_of u side).fresh then telling u p else None
 
--- Each signal to a side that is not fresh; a Halt is taken once for a program
+-- Each signal to a side that is not fresh
 abbrev pub unit_works : UnitState → Side → ℕ → Down → Bool → Option UnitStep
 unit_works u side p (down.Select t) may = if nat_lt (side_of u side).floor t then selected (raised u side t) u.own side p t may else None
 unit_works u side p (down.Command t n code room) may = commanded u side t n code room
@@ -159,17 +191,15 @@ unit_works u side p (down.Refuse t c) may = grant_refused u u.own side t c
 unit_works u side p (down.Took t n s room) may =
     if is_owner u.own side t && (n == u.last_command) then answered_last u u.at_hand s room else None
 unit_works u side p (down.Give bytes t c n s) may = given u side t c n s bytes
-unit_works u side p (down.Halt t) may = if is_owner u.own side t && not u.halted then changes (record u { halted = true }) else None
-unit_works u side p (down.Release t) may = if is_owner u.own side t then sends (freed u) p (up.Released t) else None
+unit_works u side p (down.Halt t) may = unit_halting u side t
+unit_works u side p (down.Release t) may = releasing u side p t
 unit_works u side p (down.Reset r b) may = None
 unit_works u side p (down.Got a) may = forgetting u u.attention side a
 
--- What the unit does with a signal of this side that came by path p; as the side is reset, a program of the other side stays.
+-- What the unit does with a signal of this side that came by path p.
 abbrev pub unit_takes : UnitState → Side → ℕ → Down → Bool → Option UnitStep
 unit_takes u side p (down.Reset r b) may =
-    if resets u side r b
-    then sends (with_side (if owns u.own side then freed u else u) side (record { floor = r; fresh = false })) p (up.Cleared r)
-    else noticing u side p
+    if resets u side r b then sends (reset_side u side r) p (up.Cleared r) else noticing u side p
 unit_takes u side p d may = if (side_of u side).fresh then telling u p else unit_works u side p d may
 
 -- the state after a signal, and what came of it
@@ -210,11 +240,14 @@ abbrev pub is_idle : Own → Bool
 is_idle Idle = true
 is_idle (Owned side t place) = false
 
+abbrev pub attention_status : Bool → DeviceStatus
+attention_status owed = record { 0 = if owed then bit.control_unit_end else bit.attention }
+
 abbrev pub attending : UnitState → Side → ℕ → Option UnitStep
 attending u side p =
     if is_idle u.own && not (side_of u side).fresh
     then sends (record u { attentions = u.attentions + 1; attention = Some (record { number = u.attentions + 1; side = side }); end_owed = false }) p
-    (up.Attn (u.attentions + 1) (record { 0 = if u.end_owed then 0x20 else 0x80 }))
+    (up.Attn (u.attentions + 1) (attention_status u.end_owed))
     else None
 
 -- Restart: both sides are fresh, and what was at hand is forgotten

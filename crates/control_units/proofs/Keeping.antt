@@ -12,9 +12,7 @@ use mir.Val.{bool_byte}
 use Rattle.std.proofs.Math.Dec.{eqb-suc-zero}
 use Rattle.control_units.specs.declared.Member.{Member}
 use Rattle.control_units.specs.declared.groups.Group.{Group}
-use Rattle.control_units.proofs.Named.{refused_at}
-use Rattle.control_units.specs.Units.{any_other, idle_member, member_told, is_begun_in, is_refused_in}
-use Rattle.control_units.specs.Parts.{is_owed_at, over_at}
+use Rattle.control_units.specs.Units.{any_other, idle_member, member_told, is_begun_in, is_refused_in, is_owed_at, over_at, refused_at}
 use Rattle.control_units.specs.Groups.{idle_group, group_of, AreGroupsOf, changed_at, changed, begun_changed, with_refused, begun_as}
 
 abbrev made : ℕ → Bool → Group

@@ -1,4 +1,3 @@
 pub mod Serving
 pub mod MapInPlace
 pub mod Keeping
-pub mod Named

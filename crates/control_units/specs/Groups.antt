@@ -3,8 +3,7 @@ use Rattle.std.specs.Prelude.{◌≡◌, ℕ, ◌+◌, ◌-◌, Bool, true, fals
 use Rattle.std.specs.List.{list_any}
 use Rattle.control_units.specs.declared.Member.{Member}
 use Rattle.control_units.specs.declared.groups.Group.{Group}
-use Rattle.control_units.specs.Parts.{begun_at, ended_at}
-use Rattle.control_units.specs.Units.{is_begun_in, is_refused_in}
+use Rattle.control_units.specs.Units.{is_begun_in, is_refused_in, begun_at}
 
 abbrev pub idle_group : Group
 idle_group = record { begun = 0; refused = false }
@@ -31,6 +30,10 @@ begun_changed before after g = record g { begun = g.begun - cond before 1 0 + co
 
 abbrev pub with_refused : Bool → Group → Group
 with_refused refused g = record g { refused = refused }
+
+-- a unit is not begun any more, and its group is told nothing
+abbrev pub ended_at : List Member → ℕ → Option Member → List Member
+ended_at members place found = elim found [ None ↦ members | Some m ↦ slice_set members place (record m { begun = false }) ]
 
 -- a unit is begun, or it is not any more
 abbrev pub begun_as : Bool → List Member → ℕ → Option Member → List Member

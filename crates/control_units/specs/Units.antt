@@ -1,7 +1,7 @@
 -- Units that share a control unit: one of a group is served at a time (own). What a control unit keeps is told by unit, in
 -- the order of their numbers: the number of its group, whether it is begun, and whether it was refused since a unit of its
 -- group was over. Units of the same number share; a unit with a number of its own shares with none.
-use Rattle.std.specs.Prelude.{ℕ, ◌+◌, ◌==◌, ◌&&◌, ◌||◌, Bool, true, false, not, if◌then◌else◌, None, Some, List, take, drop, map, slice_get, slice_set}
+use Rattle.std.specs.Prelude.{ℕ, ◌+◌, ◌==◌, ◌&&◌, ◌||◌, Bool, true, false, not, if◌then◌else◌, Option, None, Some, List, take, drop, map, slice_get, slice_set}
 use Rattle.std.specs.List.{list_any}
 use Rattle.control_units.specs.declared.Member.{Member}
 
@@ -22,26 +22,41 @@ abbrev pub is_refused_in : ℕ → Member → Bool
 is_refused_in group m = m.refused && (m.group == group)
 
 -- Whether the unit may be served: no other unit of its group is begun.
+abbrev pub may_serve_at : List Member → ℕ → Option Member → Bool
+may_serve_at members place found = elim found [ None ↦ true | Some m ↦ not (any_other (is_begun_in m.group) members place) ]
+
 abbrev pub may_serve : List Member → ℕ → Bool
-may_serve members place = elim (slice_get members place) [ None ↦ true | Some m ↦ not (any_other (is_begun_in m.group) members place) ]
+may_serve members place = may_serve_at members place (slice_get members place)
 
 -- A unit was asked for: it is refused where it may not be served.
+abbrev pub refused_at : List Member → ℕ → Option Member → List Member
+refused_at members place found = elim found [ None ↦ members | Some m ↦ slice_set members place (record m { refused = true }) ]
+
 abbrev pub asked : List Member → ℕ → Bool → List Member
 asked members place true = members
-asked members place false = elim (slice_get members place) [ None ↦ members | Some m ↦ slice_set members place (record m { refused = true }) ]
+asked members place false = refused_at members place (slice_get members place)
 
 -- A unit is begun.
+abbrev pub begun_at : List Member → ℕ → Option Member → List Member
+begun_at members place found = elim found [ None ↦ members | Some m ↦ slice_set members place (record m { begun = true }) ]
+
 abbrev pub member_begun : List Member → ℕ → List Member
-member_begun members place = elim (slice_get members place) [ None ↦ members | Some m ↦ slice_set members place (record m { begun = true }) ]
+member_begun members place = begun_at members place (slice_get members place)
 
 -- Whether a control-unit end is owed as a unit is over: some unit of its group was refused since one was over.
+abbrev pub is_owed_at : List Member → Option Member → Bool
+is_owed_at members found = elim found [ None ↦ false | Some m ↦ list_any (is_refused_in m.group) members ]
+
 abbrev pub is_owed : List Member → ℕ → Bool
-is_owed members place = elim (slice_get members place) [ None ↦ false | Some m ↦ list_any (is_refused_in m.group) members ]
+is_owed members place = is_owed_at members (slice_get members place)
 
 -- A unit is over: it is not begun, and no unit of its group is refused any more.
 abbrev pub member_told : ℕ → Member → Member
 member_told group m = if m.group == group then record m { refused = false } else m
 
+abbrev pub over_at : List Member → ℕ → Option Member → List Member
+over_at members place found =
+    elim found [ None ↦ members | Some m ↦ map (member_told m.group) (slice_set members place (record m { begun = false })) ]
+
 abbrev pub over : List Member → ℕ → List Member
-over members place =
-    elim (slice_get members place) [ None ↦ members | Some m ↦ map (member_told m.group) (slice_set members place (record m { begun = false })) ]
+over members place = over_at members place (slice_get members place)

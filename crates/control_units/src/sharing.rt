@@ -3,7 +3,6 @@
 ghost use Rattle.std.specs.Prelude.{◌≡◌, ◌<◌, ◌≤◌, IfOk, OnOk, OnErr, Some, length, map, slice_get, true, false};
 ghost use Rattle.std.specs.List.{list_any};
 ghost use Rattle.control_units.specs.Groups.{AreGroupsOf, begun_as};
-ghost use Rattle.control_units.specs.Parts as parts;
 ghost use Rattle.control_units.specs.Units as spec;
 
 use crate::groups::{Group, change_begun, idle_groups, set_refused};
@@ -87,7 +86,7 @@ impl ControlUnit for Sharing {
 /// Whether no other unit of the group of the unit at this place is begun.
 fn may_serve(members: &[Member], groups: &[Group], place: usize) -> bool
     requires { AreGroupsOf members.now groups.now }
-    ensures serves { result ≡ parts.may_serve_at members.now place (slice_get members.now place) }
+    ensures serves { result ≡ spec.may_serve_at members.now place (slice_get members.now place) }
     ensures law { spec.any_other spec.is_begun members.now place ≡ false → result ≡ true }
     ensures known { length members.now ≤ place → result ≡ true }
 {
@@ -195,8 +194,8 @@ fn mark_begun(members: &mut Vec<Member>, unit: u16, begun: bool)
 /// The unit is over. Answers whether some unit of its group was refused.
 fn end(members: &mut Vec<Member>, groups: &mut Vec<Group>, unit: u16) -> bool
     requires { AreGroupsOf members.old.items groups.old.items }
-    ensures owed { result ≡ parts.is_owed_at members.old.items (slice_get members.old.items «unit») }
-    ensures over { members.new.items ≡ parts.over_at members.old.items «unit» (slice_get members.old.items «unit») }
+    ensures owed { result ≡ spec.is_owed_at members.old.items (slice_get members.old.items «unit») }
+    ensures over { members.new.items ≡ spec.over_at members.old.items «unit» (slice_get members.old.items «unit») }
     ensures groups { AreGroupsOf members.new.items groups.new.items }
 {
     let Some(member) = members.get(usize::from(unit)) else {

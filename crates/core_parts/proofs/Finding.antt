@@ -5,7 +5,7 @@ use Rattle.channel_config.specs.declared.names.SubchannelId.{SubchannelId}
 use Rattle.channel_config.specs.declared.parts.SubchannelSetup.{SubchannelSetup}
 use Rattle.chan_events.specs.Events.{Event}
 use Rattle.machine_model.specs.State.{State}
-use Rattle.subchannel_model.proofs.Named.{one_later}
+use Rattle.subchannel_model.specs.Places.{one_later}
 use Rattle.core_parts.specs.Directory.{is_name, is_name_at, name_place}
 use Rattle.core_parts.specs.Turns.{or_turn, path_turn_among, path_turn_at}
 

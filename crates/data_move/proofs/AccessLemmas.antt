@@ -3,8 +3,7 @@ use Rattle.std.proofs.Common.{◌≡◌, ◌≢◌, ℕ, ◌+◌, ◌-◌, ◌<�
 use Rattle.std.specs.Prelude.{Some, None, Ok, IsTrue, nat_lt, if◌then◌else◌, slice_index}
 use Rattle.std.proofs.lemmas.Bool.{ltb-true, ltb-false}
 use Rattle.std.specs.List.{range_with_len}
-use Rattle.storage_keys.specs.Storage.{Contents, is_inside, where_permitted, put_at, stored_bytes}
-use Rattle.storage_keys.proofs.Named.{permits_store, check_by}
+use Rattle.storage_keys.specs.Storage.{Contents, is_inside, where_permitted, put_at, stored_bytes, keys_permit, key_permits_store, check_by}
 use Rattle.idaw.specs.Lists.{block}
 use Rattle.idaw.specs.Places.{Reach, place_of_byte, places_from}
 use Rattle.data_move.specs.Moving.{Moving, room, IsAt}
@@ -60,7 +59,7 @@ pub others_at : (r : Reach) (m : Moving) (old new : Contents) (key address : ℕ
     → (IsTrue (is_inside old address (length bytes)) → (place : ℕ) → address + length bytes ≤ place → slice_index (put_at old address bytes).bytes place ≡ slice_index old.bytes place)
     → (place : ℕ) → ((i : ℕ) → i < length bytes → place_of_byte (block m.kind) r (m.done + i) ≢ Some place) → slice_index new.bytes place ≡ slice_index old.bytes place
 others_at r m old new key address bytes a s here within done before after place apart =
-    let did = permitted (is_inside old address (length bytes)) (permits_store old key address (length bytes)) (put_at old address bytes) new done in
+    let did = permitted (is_inside old address (length bytes)) (keys_permit (key_permits_store key) old address (length bytes)) (put_at old address bytes) new done in
     ap (λ (x : Contents). slice_index x.bytes place) (sym did.1)
     ∙ either (place < m.piece) (m.piece + length bytes ≤ place) _
     (λ l. before did.0 place (omega arith)) (λ l. after did.0 place (omega arith))

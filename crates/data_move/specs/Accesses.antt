@@ -8,6 +8,7 @@ use Rattle.ccw_walk.specs.declared.check.Check.{Check}
 use Rattle.ccw_walk.specs.declared.check.Check.TheVariants.{Program}
 use Rattle.ccw_walk.specs.Checks.{check_of}
 use Rattle.idaw.specs.declared.ListKind.{ListKind}
+use Rattle.idaw.specs.declared.WordFault.{WordFault}
 use Rattle.idaw.specs.Lists.{address_of_word, width, word_fault}
 use Rattle.idaw.specs.Places.{Reach, reach_with_word}
 use Rattle.data_move.specs.Moving.{Moving, needs_word, room, with_piece}
@@ -29,8 +30,11 @@ word_fetched storage key m =
     else list_word_of m.kind (checked (fetched storage key (address_of_word m.kind m.ccw.address m.words) (width m.kind)))
 
 -- a word with a fault is a program check
+abbrev pub where_right : Option WordFault → Moving → Result Moving Check
+where_right fault m = elim fault [ None ↦ Ok m | Some w ↦ Err Program ]
+
 abbrev pub piece_begun : Moving → ℕ → Result ℕ Check → Result Moving Check
-piece_begun m size (Ok word) = elim (word_fault m.kind (m.words == 0) word size) [ None ↦ Ok (with_piece m word) | Some fault ↦ Err Program ]
+piece_begun m size (Ok word) = where_right (word_fault m.kind (m.words == 0) word size) (with_piece m word)
 piece_begun m size (Err check) = Err check
 
 -- the next bytes are located: by the next word of the list, where it is needed

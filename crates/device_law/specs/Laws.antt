@@ -1,8 +1,7 @@
 -- What every device keeps to, and what its unit may so report (own).
 use Rattle.std.specs.Prelude.{◌≡◌, ◌≤◌, ◌⊎◌, false, IsTrue, length}
 use Rattle.scsw_irb.specs.declared.status.DeviceStatus.{DeviceStatus}
-use Rattle.chan_model.specs.UnitReports.{has_device_end}
-use Rattle.chan_model.specs.Parts.{is_initial}
+use Rattle.chan_model.specs.UnitReports.{has_device_end, is_initial}
 use Rattle.chan_model.specs.Reports.{Call}
 use Rattle.chan_model.specs.declared.report.Call.TheVariants.{Initial, Absorb, Supply, Finish}
 use Rattle.chan_model.specs.Reports.{DeviceAnswer}

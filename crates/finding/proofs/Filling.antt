@@ -10,8 +10,7 @@ use Rattle.chan_model.specs.declared.names.Side.{Side}
 use Rattle.chan_model.specs.declared.names.Side.TheVariants.{First, Second}
 use Rattle.chan_model.specs.Sides.{same_side}
 use Rattle.subchannel_model.specs.declared.state.Subchannel.{Subchannel}
-use Rattle.subchannel_model.proofs.Named.{one_later}
-use Rattle.subchannel_model.specs.Places.{first_place, is_named, reaches}
+use Rattle.subchannel_model.specs.Places.{first_place, is_named, reaches, one_later}
 use Rattle.finding.specs.Tables.{IsTable, Tables, Fits, HasSize, id_at, of_side, name_index, unit_index, with_entry, entered}
 
 -- a place in the rest of a list, counted from the beginning of the list

@@ -1,8 +1,7 @@
 -- The first place of a list at which a test passes.
 use Rattle.std.proofs.Common.{◌≡◌, refl, sym, ◌∙◌, ap, ℕ, ◌+◌, ◌<◌, zero, suc, Bool, true, false, Option, None, Some, List, [], ◌∷◌, length, take, slice_index_or, if◌then◌else◌, arith}
 use Rattle.subchannel_model.specs.declared.state.Subchannel.{Subchannel}
-use Rattle.subchannel_model.proofs.Named.{one_later}
-use Rattle.subchannel_model.specs.Places.{first_place}
+use Rattle.subchannel_model.specs.Places.{first_place, one_later}
 
 -- where the first place of a longer list is none, so is that of its rest, and its head does not pass
 later-none : (o : Option ℕ) → one_later o ≡ None → o ≡ None

@@ -3,8 +3,7 @@ use Rattle.std.proofs.Common.{◌≡◌, refl, ◌∙◌, ap, ℕ, ◌+◌, ◌*
 use Rattle.std.specs.Prelude.{slice_get, IfSome}
 use Rattle.std.proofs.lemmas.Bool.{ltb-true}
 use Rattle.subchannel_model.specs.declared.state.Subchannel.{Subchannel}
-use Rattle.subchannel_model.proofs.Named.{one_later}
-use Rattle.subchannel_model.specs.Places.{first_place, place_in}
+use Rattle.subchannel_model.specs.Places.{first_place, place_in, one_later}
 use Rattle.channel_config.specs.declared.names.SubchannelId.{SubchannelId}
 use Rattle.finding.specs.Tables.{Tables, Fits, id_at, name_index}
 

@@ -5,8 +5,7 @@ use Rattle.std.specs.Prelude.{slice_get}
 use Rattle.std.proofs.lemmas.Map.Keys.{any_passes_from_place}
 use Rattle.chan_model.specs.ResetCauses.{engaged_path, is_path}
 use Rattle.subchannel_model.specs.declared.state.Subchannel.{Subchannel}
-use Rattle.subchannel_model.proofs.Named.{engages_at}
-use Rattle.subchannel_model.specs.Choosing.{engages, any_engages}
+use Rattle.subchannel_model.specs.Choosing.{engages, any_engages, engages_at}
 use Rattle.finding.specs.Tables.{Serves, server, engaged, chpid_at}
 
 -- a subchannel engages an engine where it is that of the path that it engages

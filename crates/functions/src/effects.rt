@@ -6,7 +6,6 @@ ghost use Rattle.scsw_irb.specs.Empty.{zero_scsw};
 ghost use Rattle.schib_block.specs.Reading.{pmcw_of_words};
 ghost use Rattle.subchannel_model.specs.Status as status_spec;
 ghost use Rattle.subchannel_model.specs.Resume as resume_spec;
-ghost use Rattle.subchannel_model.specs.Parts as parts;
 ghost use Rattle.subchannel_model.specs.Losing as losing_spec;
 ghost use Rattle.subchannel_model.specs.Halt as halt_spec;
 ghost use Rattle.subchannel_model.specs.Clear as clear_spec;
@@ -74,7 +73,7 @@ pub fn start(state: &mut PackedState, orb: &Orb)
 
 /// Resume pending is set.
 fn resume_scsw(scsw: &mut ScswWords)
-    ensures { scsw.new ≡ parts.resumed_scsw scsw.old }
+    ensures { scsw.new ≡ resume_spec.resumed_scsw scsw.old }
 {
     scsw.change(0, RESUME_PENDING);
 }
@@ -143,7 +142,7 @@ pub(crate) fn halt(state: &mut PackedState)
 
 /// The clear function and clear pending alone.
 fn cleared_scsw() -> ScswWords
-    ensures { result ≡ parts.cleared_scsw }
+    ensures { result ≡ clear_spec.cleared_scsw }
 {
     let mut scsw = ScswWords::zero();
     scsw.change(0, CLEAR_FUNCTION | CLEAR_PENDING);

@@ -26,9 +26,15 @@ address_of_word kind list i = list + width kind * i
 
 -- what is wrong with a word, the first that applies: a short word has an address of 31 bits; any word but the first of its list
 -- begins a block; a long word has an address of 64 bits, which must be that of a byte of storage
+abbrev pub has_leftmost_bit : ListKind → ℕ → Bool
+has_leftmost_bit kind word = elim kind [ Short ↦ nat_le (2 ^ 31) word | long ↦ false ]
+
+abbrev pub is_outside : ListKind → ℕ → ℕ → Bool
+is_outside kind word size = elim kind [ Short ↦ false | long ↦ nat_le size word ]
+
 abbrev pub word_fault : ListKind → Bool → ℕ → ℕ → Option WordFault
 word_fault kind first word size =
-    if elim kind [ Short ↦ nat_le (2 ^ 31) word | long ↦ false ] then Some LeftmostBit
+    if has_leftmost_bit kind word then Some LeftmostBit
     else if not first && not (word % block kind == 0) then Some OffBlock
-    else if elim kind [ Short ↦ false | long ↦ nat_le size word ] then Some OutsideStorage
+    else if is_outside kind word size then Some OutsideStorage
     else None

@@ -25,9 +25,7 @@ use Rattle.subchannel_model.specs.Enable.{enabling, enabling_schib, enabling_wor
 use Rattle.subchannel_model.specs.Places.{Found}
 use Rattle.subchannel_model.specs.Test.{tsch_code, irb_of}
 use Rattle.machine_model.specs.Turns.{Outcome, SubTurn, leaves, does, at_place}
-use Rattle.machine_model.proofs.Named.{start_at, modify_at, store_answer}
-use Rattle.machine_model.specs.InstructionSteps.{code_at, modify_sub, enable_sub, test_with, with_irb, with_schib, with_enabling, stores_irb}
-use Rattle.machine_model.proofs.Named.{PerformsStart, Modifies, Enables, stores, tests}
+use Rattle.machine_model.specs.InstructionSteps.{code_at, modify_sub, enable_sub, test_with, with_irb, with_schib, with_enabling, stores_irb, start_at, modify_at, store_answer, PerformsStart, PerformsModify, PerformsEnable, performs_store, performs_test}
 use Rattle.io_step.specs.Executing.{state_with_storage}
 use Rattle.io_step.specs.Operands.{HasOrb, HasWord, from_storage}
 
@@ -40,12 +38,12 @@ err_inj : (f g : Fault) → ◌≡◌ {A = Result Pmcw Fault} (Err f) (Err g) �
 err_inj f g e = cc
 
 pub modifies : (s : State) (found : Option Found) (fetched : Result (List ℕ) StorageFault) (given : Pmcw) (r : Outcome) →
-    HasWord fetched (Ok given) → r ≡ modify_at s found given → Modifies s found fetched r
+    HasWord fetched (Ok given) → r ≡ modify_at s found given → PerformsModify s found fetched r
 modifies s found (Ok image) given r h e = (given, h.0, inr (h.1, e))
 modifies s found (Err f) given r h e = absurd (cc h)
 
 pub modifies-not : (s : State) (found : Option Found) (fetched : Result (List ℕ) StorageFault) (f : Fault) →
-    HasWord fetched (Err f) → Modifies s found fetched (Err f)
+    HasWord fetched (Err f) → PerformsModify s found fetched (Err f)
 modifies-not s found (Ok image) f h = (h.0, h.1, inl (h.2, ap (λ (g : Fault). Err g) h.3))
 modifies-not s found (Err g) f h = ap (λ (k : Fault). Err k) (err_inj f (fault.Storage g) h)
 
@@ -74,10 +72,10 @@ pub tests-sub : (s : State) (before after : Contents) (cpu address place : ℕ) 
     Ok u ≡ from_storage (operand_check before cpu address 64 4) →
     state_with_storage s after ≡ with_irb (state_with_storage s before) cpu address old (stores_irb (code_at tsch_code old)) →
     test_with old (code_at tsch_code old) ≡ leaves r new →
-    does r (with_sub (state_with_storage s after) place new) ≡ tests (state_with_storage s before) cpu address (Some (record { place = place; sub = old })) (operand_check before cpu address 64 4)
+    does r (with_sub (state_with_storage s after) place new) ≡ performs_test (state_with_storage s before) cpu address (Some (record { place = place; sub = old })) (operand_check before cpu address 64 4)
 tests-sub s before after cpu address place old new u r checked irb left =
     let check : operand_check before cpu address 64 4 ≡ Ok u = permitted (operand_check before cpu address 64 4) u checked in
-    sym (ap (λ (x : Result (Unit {0}) StorageFault). tests (state_with_storage s before) cpu address (Some (record { place = place; sub = old })) x) check
+    sym (ap (λ (x : Result (Unit {0}) StorageFault). performs_test (state_with_storage s before) cpu address (Some (record { place = place; sub = old })) x) check
     ∙ (ap (λ (t : SubTurn). at_place (with_irb (state_with_storage s before) cpu address old (stores_irb (code_at tsch_code old))) place t) left
     ∙ ap (λ (x : State). does r (with_sub x place new)) (sym irb)))
 
@@ -87,30 +85,30 @@ pub irb-stored : (s : State) (before after : Contents) (cpu number address : ℕ
     after ≡ operand_stored before number address image →
     state_with_storage s after ≡ with_irb (state_with_storage s before) cpu address sub (stores_irb (code_at tsch_code sub))
 irb-stored s before after cpu number address sub code image b tested is passes written named stored =
-    let stores : stores_irb (code_at tsch_code sub) ≡ true = ap stores_irb (sym tested) ∙ (sym is ∙ passes) in
+    let performs_store : stores_irb (code_at tsch_code sub) ≡ true = ap stores_irb (sym tested) ∙ (sym is ∙ passes) in
     ap (λ (x : Contents). state_with_storage s x)
     (stored ∙ (ap (λ (k : ℕ). operand_stored before k address image) named ∙ ap (λ (xs : List ℕ). operand_stored before cpu address xs) written))
-    ∙ sym (ap (λ (x : Bool). with_irb (state_with_storage s before) cpu address sub x) stores)
+    ∙ sym (ap (λ (x : Bool). with_irb (state_with_storage s before) cpu address sub x) performs_store)
 
 pub stores-sub : (s : State) (before after : Contents) (cpu number address place : ℕ) (sub : Subchannel) (image : List ℕ) (u : Unit {0}) →
     slice_get s.subs place ≡ Some sub → Ok u ≡ from_storage (operand_check before cpu address 52 4) → number ≡ cpu →
     image ≡ image_of (schib_tables (schib_of sub)) → after ≡ operand_stored before number address image →
     does (reply.Status (store_answer sub) sub.state.scsw) (with_sub (state_with_storage s after) place sub)
-    ≡ stores (state_with_storage s before) cpu address (Some (record { place = place; sub = sub })) (operand_check before cpu address 52 4)
+    ≡ performs_store (state_with_storage s before) cpu address (Some (record { place = place; sub = sub })) (operand_check before cpu address 52 4)
 stores-sub s before after cpu number address place sub image u there checked named written stored =
     let check : operand_check before cpu address 52 4 ≡ Ok u = permitted (operand_check before cpu address 52 4) u checked in
     let all : operand_stored before cpu address (image_of (schib_tables (schib_of sub))) ≡ after =
     ap (λ (xs : List ℕ). operand_stored before cpu address xs) (sym written)
     ∙ (ap (λ (k : ℕ). operand_stored before k address image) (sym named) ∙ sym stored) in
     let shown = reply.Status (store_answer sub) sub.state.scsw in
-    sym (ap (λ (x : Result (Unit {0}) StorageFault). stores (state_with_storage s before) cpu address (Some (record { place = place; sub = sub })) x) check
+    sym (ap (λ (x : Result (Unit {0}) StorageFault). performs_store (state_with_storage s before) cpu address (Some (record { place = place; sub = sub })) x) check
     ∙ (ap (λ (x : Contents). does shown (state_with_storage s x)) all
     ∙ ap (λ (xs : List Subchannel). does shown (record s { storage = after; subs = xs })) (sym (set_there s.subs place sub there))))
 
 pub enables-sub : (s : State) (before after : Contents) (cpu number subclass place : ℕ) (multipath : Bool) (old new : Subchannel) (word : Pmcw) (scsw : Scsw) (image words : List ℕ) (u : Unit {0}) (r : Reply) →
     Ok u ≡ from_storage (operand_check before cpu 0xF00 52 4) → number ≡ cpu → word ≡ enabling (pmcw_of old) subclass multipath → scsw ≡ old.state.scsw →
     image ≡ image_of (schib_tables (record { pmcw = word; scsw = scsw })) → after ≡ operand_stored before number 0xF00 image → pmcw_of_words words ≡ word → modify_sub old (pmcw_of_words words) ≡ leaves r new →
-    Enables (state_with_storage s before) cpu (Some (record { place = place; sub = old })) subclass multipath (operand_at before cpu 0xF00 52 4) (does r (with_sub (state_with_storage s after) place new))
+    PerformsEnable (state_with_storage s before) cpu (Some (record { place = place; sub = old })) subclass multipath (operand_at before cpu 0xF00 52 4) (does r (with_sub (state_with_storage s after) place new))
 enables-sub s before after cpu number subclass place multipath old new word scsw image words u r checked named made shown written stored read left =
     let given : modify_sub old (enabling (pmcw_of old) subclass multipath) ≡ leaves r new =
     ap (modify_sub old) (sym made) ∙ (ap (modify_sub old) (sym read) ∙ left) in
@@ -124,7 +122,7 @@ enables-sub s before after cpu number subclass place multipath old new word scsw
     ap (λ (t : SubTurn). at_place (with_schib (state_with_storage s before) cpu 0xF00 (enabling_schib old subclass multipath)) place t) given
     ∙ ap (λ (x : Contents). does r (with_sub (state_with_storage s x) place new)) all in
     let there = fetched before cpu 0xF00 52 u (permitted (operand_check before cpu 0xF00 52 4) u checked) in
-    subst (λ (x : Result (List ℕ) StorageFault). Enables (state_with_storage s before) cpu (Some (record { place = place; sub = old })) subclass multipath x (does r (with_sub (state_with_storage s after) place new)))
+    subst (λ (x : Result (List ℕ) StorageFault). PerformsEnable (state_with_storage s before) cpu (Some (record { place = place; sub = old })) subclass multipath x (does r (with_sub (state_with_storage s after) place new)))
     (sym there.1) (sym done)
 
 -- what enabling leaves where nothing is provided

@@ -14,14 +14,12 @@ use Rattle.chan_events.specs.declared.reply.Reply.TheVariants as reply
 use Rattle.subchannel_model.specs.declared.state.Subchannel.{Subchannel}
 use Rattle.subchannel_model.specs.declared.state.SubchannelState.{SubchannelState}
 use Rattle.subchannel_model.specs.Conditions.{condition_of}
-use Rattle.subchannel_model.proofs.Named.{found_with, one_later}
-use Rattle.subchannel_model.specs.Places.{Found, found_at, is_named, place_in, place_of_id, sub_at}
+use Rattle.subchannel_model.specs.Places.{Found, found_at, is_named, place_in, place_of_id, sub_at, found_with, one_later}
 use Rattle.machine_model.specs.State.{State}
 use Rattle.machine_model.specs.InstructionSteps.{subchannel_word, stores_irb}
 use Rattle.machine_model.specs.Steps.{Step}
 use Rattle.step_laws.proofs.Places.{get-set, found-there}
-use Rattle.machine_laws.proofs.NamedAnswers.{state_of}
-use Rattle.machine_laws.specs.Codes.{serials_of, answer_in, IsByTable}
+use Rattle.machine_laws.specs.Codes.{serials_of, answer_in, IsByTable, state_of}
 use Rattle.step_laws.specs.Codes.{code_by}
 use Rattle.chan_model.specs.declared.answer.Answer.{Answer}
 use Rattle.scsw_irb.specs.declared.scsw.Scsw.{Scsw}

@@ -14,8 +14,8 @@ use Rattle.subchannel_model.specs.declared.state.SubchannelState.{SubchannelStat
 use Rattle.subchannel_model.specs.Causes.{without_begun, without_waiting, programs_after_end, row_of, with_cause}
 use Rattle.subchannel_model.specs.Programs.{without_programs}
 use Rattle.subchannel_model.specs.Test.{tested_wholly, ends_suspended, tested}
-use Rattle.subchannel_model.proofs.Named.{with_pci_of, with_attention}
-use Rattle.subchannel_model.specs.Taking.{without_pci, interrupted, with_transfer, moving_on, suspending, halt_done, clear_done}
+use Rattle.subchannel_model.proofs.Named.{with_pci_of}
+use Rattle.subchannel_model.specs.Taking.{without_pci, interrupted, with_transfer, moving_on, suspending, halt_done, clear_done, with_attention}
 use Rattle.subchannel_model.specs.Parts.{suspended_alone, standing_still}
 
 pub record IsBeside (s x : SubchannelState) : Type 0 where

@@ -14,9 +14,8 @@ use Rattle.subchannel_model.specs.declared.state.SubchannelState.{SubchannelStat
 use Rattle.subchannel_model.specs.declared.state.UpStep.{UpStep}
 use Rattle.subchannel_model.specs.Causes.{with_cause}
 use Rattle.subchannel_model.specs.Losing.{is_offered_or_held, reset_drawn, reset_with}
-use Rattle.subchannel_model.specs.Parts.{has_any}
-use Rattle.subchannel_model.proofs.Named.{with_known, with_attention}
-use Rattle.subchannel_model.specs.Taking.{ignoring, quietly, let_go, by_hold, clear_done, reset_taken, notice}
+use Rattle.subchannel_model.specs.Programs.{has_any}
+use Rattle.subchannel_model.specs.Taking.{ignoring, quietly, let_go, by_hold, clear_done, reset_taken, notice, with_known, with_attention}
 use Rattle.machine_laws.proofs.SameState.{IsSame, cause-same, clear_done-same, attention-same}
 use Rattle.machine_laws.proofs.Told.{Remembers}
 

@@ -15,13 +15,13 @@ use Rattle.subchannel_model.specs.declared.cause.StatusCause.TheVariants as caus
 use Rattle.subchannel_model.specs.declared.state.ActiveProgram.{ActiveProgram}
 use Rattle.subchannel_model.specs.declared.state.Program.{Program}
 use Rattle.subchannel_model.specs.declared.state.SubchannelState.{SubchannelState}
-use Rattle.subchannel_model.proofs.Named.{with_row, with_pci_of, with_attention}
+use Rattle.subchannel_model.proofs.Named.{with_pci_of}
 use Rattle.scsw_irb.specs.declared.scsw.Scsw.{Scsw}
-use Rattle.subchannel_model.specs.Causes.{without_begun, without_waiting, programs_after_end, CauseRow, row_of, scsw_before, with_cause}
-use Rattle.subchannel_model.specs.Parts.{scsw_joined, suspended_alone, standing_still}
+use Rattle.subchannel_model.specs.Causes.{without_begun, without_waiting, programs_after_end, CauseRow, row_of, scsw_before, with_cause, scsw_joined, with_row}
+use Rattle.subchannel_model.specs.Parts.{suspended_alone, standing_still}
 use Rattle.subchannel_model.specs.Losing.{reset_drawn, reset_with}
 use Rattle.subchannel_model.specs.Status.{scsw_made, serials_made}
-use Rattle.subchannel_model.specs.Taking.{let_go, without_pci, interrupted, with_transfer, moving_on, suspending, halt_done, clear_done}
+use Rattle.subchannel_model.specs.Taking.{let_go, without_pci, interrupted, with_transfer, moving_on, suspending, halt_done, clear_done, with_attention}
 use Rattle.subchannel_model.specs.declared.state.PmcwState.{PmcwState}
 use Rattle.machine_laws.proofs.Beside.{left-beside}
 

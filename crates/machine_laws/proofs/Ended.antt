@@ -37,8 +37,7 @@ use Rattle.machine_model.specs.declared.state.Sweep.{Sweep}
 use Rattle.machine_model.specs.PathSteps.{swept}
 use Rattle.step_laws.specs.Walks.{Walked, Suits, OneSub, OneUnit}
 use Rattle.machine_laws.specs.Agreeing.{IsEnd, IsDownTo, HoldEndsByReset}
-use Rattle.machine_laws.specs.Beginnings.{StartCounts, with_offer, with_taken}
-use Rattle.machine_laws.proofs.Named.{with_start}
+use Rattle.machine_laws.specs.Beginnings.{StartCounts, with_offer, with_taken, with_start}
 use Rattle.machine_laws.proofs.Growth.{IsLink, AreLaws}
 use Rattle.machine_laws.proofs.HoldEvents.{IsOfHold, up-turns, choose-turns, marked-turns}
 use Rattle.machine_laws.proofs.Swept.{swept-hold, swept-tells}

@@ -37,14 +37,13 @@ use Rattle.subchannel_model.specs.declared.state.SubchannelState.{SubchannelStat
 use Rattle.subchannel_model.specs.declared.state.UpStep.{UpStep}
 use Rattle.subchannel_model.specs.Choosing.{IsFitFor, chosen, marked_sub, reset_sent, halt_sent, offered}
 use Rattle.subchannel_model.specs.Halt.{drops_status, status_dropped, halt_begun}
-use Rattle.subchannel_model.specs.Losing.{is_offered_or_held, reset_for, path_index, loses_at, loses, shows_at}
-use Rattle.subchannel_model.specs.Parts.{has_any, available_pmcw}
+use Rattle.subchannel_model.specs.Losing.{is_offered_or_held, reset_for, path_index, loses_at, loses, shows_at, available_pmcw}
 use Rattle.subchannel_model.specs.Modify.{modified_state}
-use Rattle.subchannel_model.specs.Programs.{without_programs}
+use Rattle.subchannel_model.specs.Programs.{without_programs, has_any}
 use Rattle.subchannel_model.specs.Sending.{carried_by, finds_full}
 use Rattle.subchannel_model.specs.Start.{started}
-use Rattle.subchannel_model.proofs.Named.{with_known, index_after}
-use Rattle.subchannel_model.specs.Taking.{ignoring, quietly, reset_taken, takes_up}
+use Rattle.subchannel_model.specs.Places.{one_later}
+use Rattle.subchannel_model.specs.Taking.{ignoring, quietly, reset_taken, takes_up, with_known}
 use Rattle.subchannel_model.specs.Status.{intermediate_alone, without_status}
 use Rattle.subchannel_model.specs.SystemReset.{state_reset}
 use Rattle.subchannel_model.specs.Test.{ended_scsw, suspended_scsw, intermediate_cleared, ends_suspended, tested, tested_wholly}
@@ -83,7 +82,7 @@ pub record Follows (s : State) (e : Event) (r : Reply) (place : ℕ) (sub : Subc
 -- the index of a channel path of a subchannel
 index-there : (chpid x p : ℕ) (xs : List ℕ) (same : Bool) (o : Option ℕ) → (x == chpid) ≡ same →
     ((i : ℕ) → o ≡ Some i → slice_get xs i ≡ Some chpid) →
-    (if same then Some 0 else index_after o) ≡ Some p → slice_get (x ∷ xs) p ≡ Some chpid
+    (if same then Some 0 else one_later o) ≡ Some p → slice_get (x ∷ xs) p ≡ Some chpid
 index-there chpid x p xs true o e f h =
     let z : 0 ≡ p = cc h in subst (λ (k : ℕ). slice_get (x ∷ xs) k ≡ Some chpid) z (ap (λ (k : ℕ). Some k) (eqb-true x chpid e))
 index-there chpid x p xs false None e f h = absurd (cc h)

@@ -19,8 +19,7 @@ use Rattle.step_laws.specs.Walks.{AreWalks}
 use Rattle.subchannel_model.specs.declared.state.Subchannel.{Subchannel}
 use Rattle.subchannel_model.specs.declared.state.SubchannelState.{SubchannelState}
 use Rattle.chan_model.specs.PathSets.{is_member}
-use Rattle.subchannel_model.proofs.Named.{carried_where}
-use Rattle.subchannel_model.specs.Sending.{carried, carried_by, with_any_sent}
+use Rattle.subchannel_model.specs.Sending.{carried, carried_by, with_any_sent, carried_where}
 
 -- a signal more, where one is sent
 abbrev pub with_one : {A : Type 0} → List A → Option A → List A

@@ -43,9 +43,10 @@ use Rattle.machine_model.specs.Turns.{SubTurn, UpTurn}
 use Rattle.machine_model.specs.ChooseSteps.{choose_sub}
 use Rattle.subchannel_model.specs.Sending.{carried_by, finds_full}
 use Rattle.machine_model.specs.UpSteps.{up_front, up_sub}
-use Rattle.subchannel_model.proofs.Named.{with_known, give_next, with_attention}
-use Rattle.subchannel_model.specs.Taking.{Met, meets, ignoring, quietly, sending, let_go, by_hold, moving_on, giving, answering, take_in, standing, goes_ahead, path_used, taking_over, interrupted, suspending, beginning, begin_standing, halt_done, accept, move_bytes, move_data, with_end, end_taken, chaining, goes_on, stops_at, command_ended, end_of, reset_taken, may_attend, takes_up}
-use Rattle.subchannel_model.specs.Parts.{chain_with, end_shown_at, has_any}
+use Rattle.subchannel_model.proofs.Named.{give_next}
+use Rattle.subchannel_model.specs.Taking.{Met, meets, ignoring, quietly, sending, let_go, by_hold, moving_on, giving, answering, take_in, standing, goes_ahead, path_used, taking_over, interrupted, suspending, beginning, begin_standing, halt_done, accept, move_bytes, move_data, with_end, end_taken, chaining, goes_on, stops_at, command_ended, end_of, reset_taken, may_attend, takes_up, with_known, with_attention}
+use Rattle.subchannel_model.specs.Parts.{chain_with, end_shown_at}
+use Rattle.subchannel_model.specs.Programs.{has_any}
 use Rattle.subchannel_model.specs.Losing.{is_offered_or_held, reset_for}
 use Rattle.machine_laws.proofs.Resetting.{reset-acted}
 use Rattle.machine_laws.proofs.SameHold.{IsSameHold, same-hold, same-then, cause-same, interrupted-same, moving-same, suspending-same, halt_done-same, clear_done-same, attention-same}

@@ -1,4 +1,4 @@
-mod Named
+pub mod Names
 mod Sound
 mod Moves
 mod RunSound
@@ -21,7 +21,6 @@ mod Tales
 pub mod TaleEvents
 mod Swept
 mod Ended
-mod NamedReturns
 pub mod PathSets
 pub mod Offering
 pub mod SameState
@@ -37,7 +36,6 @@ pub mod Turning
 pub mod OneEngine
 mod Remembering
 mod Showing
-pub mod NamedAnswers
 mod Answered
 mod CalmStatus
 mod CalmSignals

@@ -22,10 +22,8 @@ use Rattle.subchannel_model.specs.declared.state.Subchannel.{Subchannel}
 use Rattle.machine_model.specs.State.{opening_of, idle_of}
 use Rattle.machine_model.specs.Sharing.{owing}
 use Rattle.subchannel_model.specs.Opening.{opened}
-use Rattle.subchannel_model.proofs.Named.{one_later}
-use Rattle.subchannel_model.specs.Places.{is_named, place_in}
-use Rattle.machine_laws.proofs.Named.{no_starts}
-use Rattle.machine_laws.specs.Beginnings.{StartCounts}
+use Rattle.subchannel_model.specs.Places.{is_named, place_in, one_later}
+use Rattle.machine_laws.specs.Beginnings.{StartCounts, no_starts}
 use Rattle.machine_laws.proofs.Growth.{Covers, IsLink, link-wider, AreLaws}
 use Rattle.machine_laws.proofs.HoldEvents.{IsOfHold}
 use Rattle.machine_laws.proofs.TaleEvents.{Tells}

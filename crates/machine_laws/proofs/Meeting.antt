@@ -1,7 +1,7 @@
 -- What a subchannel does with a signal that came up: a program is begun on the path of its offer, and one that is away is connected
 -- only where it may come back.
 use Rattle.std.proofs.Common.{◌≡◌, refl, sym, ◌∙◌, ap, subst, ℕ, ◌≤◌, ◌==◌, ◌&&◌, nat_lt, Bool, true, false, not, Option, None, Some, if◌then◌else◌, inl, inr, arith}
-use Rattle.std.specs.Prelude.{◌⊎◌}
+use Rattle.std.specs.Prelude.{◌⊎◌, unwrap_or}
 use Rattle.std.proofs.lemmas.Bool.{eqb-true}
 use Rattle.ccw_walk.specs.Walks.{WalkPlace}
 use Rattle.chan_events.specs.declared.reply.Reply.TheVariants as reply
@@ -37,11 +37,17 @@ use Rattle.subchannel_model.specs.Ends.{has_status_modifier, chains_command}
 use Rattle.subchannel_model.proofs.Named.{give_next}
 use Rattle.subchannel_model.specs.Taking.{Met, meets, ignoring, quietly, let_go, interrupted, standing, goes_ahead, path_used, taking_over, suspending, beginning, begin_standing, halt_done, accept, moving_on, giving, answering, take_in, move_bytes, move_data, with_end, end_taken, chaining, goes_on, stops_at, command_ended, end_of, back, may_attend, takes_up}
 use Rattle.subchannel_model.specs.Parts.{chain_with, end_shown_at}
-use Rattle.machine_laws.proofs.NamedReturns.{first_of_both, granted_on}
-use Rattle.machine_laws.specs.Returns.{accepted_by}
+use Rattle.machine_laws.specs.Returns.{accepted_by, granted_path}
 use Rattle.machine_laws.proofs.SameState.{IsSame, is-same, same-then, cause-same, interrupted-same, moving-same, suspending-same, halt_done-same}
 use Rattle.machine_laws.proofs.Told.{Remembers, IsTiedUp}
 use Rattle.machine_laws.proofs.CalmPaths.{IsPlain, ArePlain, IsCalm, same-calm, ignored-calm, with_phase, busy-step, left-step, released-step, cleared-step, attended-step, by_hold-calm, cleared-calm, attention-calm, let-calm, notice-calm}
+
+-- the path of the first of two Accepts, and that of a Grant
+abbrev first_of_both : Option ℕ → ℕ → Option ℕ
+first_of_both before path = Some (unwrap_or before path)
+
+abbrev granted_on : Option (OnPath Down) → Option ℕ
+granted_on sent = granted_path (reply.Up (up.Notice 0) true sent)
 
 -- what may be answered to a signal that came by p: no offer, and a Grant on p only, to a program that is held and may come back
 abbrev pub IsAnswer : Bool → ℕ → HoldPhase → ℕ → Down → Type 0

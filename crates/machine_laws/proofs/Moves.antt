@@ -34,8 +34,7 @@ use Rattle.machine_model.specs.State.{State}
 use Rattle.subchannel_model.specs.declared.cause.StatusCause.TheVariants as cause
 use Rattle.subchannel_model.specs.Causes.{with_cause}
 use Rattle.subchannel_model.specs.Choosing.{path_use, chosen, looks_for_path, marked_state, marked_sub, reset_sent, halt_sent, offered}
-use Rattle.subchannel_model.specs.Losing.{path_lost, path_index, loses_at, loses, shows_at}
-use Rattle.subchannel_model.specs.Parts.{available_pmcw}
+use Rattle.subchannel_model.specs.Losing.{path_lost, path_index, loses_at, loses, shows_at, available_pmcw}
 use Rattle.subchannel_model.specs.SystemReset.{state_reset}
 use Rattle.subchannel_model.specs.Test.{tested_wholly}
 use Rattle.subchannel_model.specs.Start.{started}

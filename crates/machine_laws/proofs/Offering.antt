@@ -16,9 +16,7 @@ use Rattle.subchannel_model.specs.declared.state.Candidate.{Candidate}
 use Rattle.subchannel_model.specs.declared.state.Chosen.{Chosen}
 use Rattle.subchannel_model.specs.declared.state.Chosen.TheVariants.{Idle, Resets, Halts, Offers}
 use Rattle.subchannel_model.specs.declared.state.Subchannel.{Subchannel}
-use Rattle.subchannel_model.proofs.Named.{paths_by, unsent_at}
-use Rattle.subchannel_model.specs.Choosing.{unsent_reset, is_away, first_some, candidate, path_use, engaged_paths, return_paths, paths_to_choose, reset_chosen, clear_chosen, halt_at, over_unless, offer_at, chosen, marked_sub}
-use Rattle.subchannel_model.specs.Parts.{halt_chosen, offer_chosen}
+use Rattle.subchannel_model.specs.Choosing.{unsent_reset, is_away, first_some, candidate, path_use, engaged_paths, return_paths, paths_to_choose, reset_chosen, clear_chosen, halt_at, over_unless, offer_at, chosen, marked_sub, halt_chosen, offer_chosen, paths_by, unsent_at}
 use Rattle.subchannel_model.specs.Sending.{carried_by, finds_full}
 use Rattle.machine_model.specs.ChooseSteps.{choose_sub}
 use Rattle.machine_model.specs.State.{State, sub_of}

@@ -12,14 +12,13 @@ use Rattle.chan_model.specs.declared.unit_state.Own.{Own}
 use Rattle.chan_model.specs.declared.unit_state.Own.TheVariants as own
 use Rattle.chan_model.specs.declared.unit_state.Place.{Place}
 use Rattle.chan_model.specs.Agreement.{device_path}
-use Rattle.chan_model.proofs.Named.{path_of_place}
-use Rattle.chan_model.specs.ResetCauses.{engaged_path}
+use Rattle.chan_model.specs.UnitTable.{path_of_place}
+use Rattle.chan_model.specs.ResetCauses.{engaged_path, is_path}
 use Rattle.chan_model.specs.Sides.{same_side}
 use Rattle.channel_config.specs.declared.parts.SubchannelSetup.{SubchannelSetup}
 use Rattle.channel_config.specs.Setup.{Setup}
 use Rattle.subchannel_model.specs.declared.state.Subchannel.{Subchannel}
-use Rattle.subchannel_model.proofs.Named.{is_chpid, engages_at}
-use Rattle.subchannel_model.specs.Choosing.{engages, any_engages, is_engaged}
+use Rattle.subchannel_model.specs.Choosing.{engages, any_engages, is_engaged, engages_at}
 use Rattle.subchannel_model.specs.Opening.{opened}
 use Rattle.subchannel_model.specs.Store.{installed_paths, available_paths}
 use Rattle.machine_model.specs.declared.state.Sweep.{Sweep}
@@ -41,7 +40,7 @@ record IsServed (chpid : ℕ) (x : Subchannel) : Type 0 where
   engaged : engaged_path x.state.hold.phase ≡ Some path
   is : slice_get x.setup.paths path ≡ Some chpid
 
-served-chpid : (o : Option ℕ) (chpid : ℕ) → is_chpid o chpid ≡ true → o ≡ Some chpid
+served-chpid : (o : Option ℕ) (chpid : ℕ) → is_path o chpid ≡ true → o ≡ Some chpid
 served-chpid None chpid e = absurd (cc e)
 served-chpid (Some c) chpid e = ap Some (eqb-true c chpid e)
 
@@ -54,7 +53,7 @@ served chpid x e = served-at x (engaged_path x.state.hold.phase) chpid refl e
 
 serves : (chpid : ℕ) (x : Subchannel) → IsServed chpid x → engages chpid x ≡ true
 serves chpid x k =
-    ap (λ (o : Option ℕ). engages_at x o chpid) k.engaged ∙ ap (λ (o : Option ℕ). is_chpid o chpid) k.is ∙ eq-eqb chpid chpid refl
+    ap (λ (o : Option ℕ). engages_at x o chpid) k.engaged ∙ ap (λ (o : Option ℕ). is_path o chpid) k.is ∙ eq-eqb chpid chpid refl
 
 pub record AreServed (subs : List Subchannel) : Type 0 where
   pub alone : (chpid : ℕ) → IsAlone chpid subs

@@ -9,9 +9,8 @@ use Rattle.subchannel_model.specs.declared.state.Program.{Program}
 use Rattle.subchannel_model.specs.declared.state.ProgramPosition.{ProgramPosition}
 use Rattle.subchannel_model.specs.declared.state.SubchannelState.{SubchannelState}
 use Rattle.subchannel_model.specs.Losing.{is_offered_or_held, reset_drawn, reset_with, reset_for}
-use Rattle.subchannel_model.specs.Parts.{has_any}
-use Rattle.subchannel_model.proofs.Named.{with_known}
-use Rattle.subchannel_model.specs.Taking.{quietly, ignoring}
+use Rattle.subchannel_model.specs.Programs.{has_any}
+use Rattle.subchannel_model.specs.Taking.{quietly, ignoring, with_known}
 use Rattle.machine_laws.proofs.Waits.{WaitsAs, IsBegunHeld, Waits, Turned, moved-as}
 
 -- what waits: a program that was offered or held the device is over

@@ -2,7 +2,7 @@
 -- subchannel that began a program rise.
 use Rattle.std.proofs.Common.{◌≡◌, refl, sym, ◌∙◌, ap, subst, ℕ, ◌<◌, ◌==◌, Bool, true, false, Option, None, Some, Result, List, [], ◌∷◌, ◌++◌, arith}
 use Rattle.std.specs.Prelude.{if◌then◌else◌, map, slice_get, slice_set, AllPairs, IfOk}
-use Rattle.std.proofs.lemmas.Bool.{eqb-true, eq-eqb, and_parts}
+use Rattle.std.proofs.lemmas.Bool.{eqb-true, and_parts}
 use Rattle.chan_model.specs.declared.fault.Fault.{Fault}
 use Rattle.chan_model.specs.declared.hold_state.HoldPhase.{HoldPhase}
 use Rattle.chan_model.specs.declared.hold_state.HoldState.{HoldState}
@@ -45,23 +45,22 @@ use Rattle.machine_model.specs.InstructionSteps.{test_with, function_sub}
 use Rattle.machine_model.specs.Steps.{Run, Opened, Stepped}
 use Rattle.machine_model.specs.Sharing.{owing}
 use Rattle.machine_laws.specs.Agreeing.{IsAgreed, AllAgree, AreAbove, IsEnd}
-use Rattle.machine_laws.specs.Beginnings.{StartCounts, with_offer, with_taken, starts_after, starts_by, starts, IsBegunOnce}
-use Rattle.machine_laws.proofs.Named.{with_start, is_same_id, no_starts}
-use Rattle.machine_laws.specs.Claims.{is_id}
+use Rattle.machine_laws.specs.Beginnings.{StartCounts, with_offer, with_taken, starts_after, starts_by, starts, IsBegunOnce, with_start, no_starts}
+use Rattle.machine_laws.specs.Claims.{is_id, is_same_id}
 use Rattle.step_laws.specs.Walks as walked
 use Rattle.machine_model.specs.PathSteps.{swept}
 use Rattle.step_laws.specs.Walks.{Walked, Suits, IsQuiet, is_start, OneSub, OneUnit, Function, Resumes, Halts, Clears, Cancels, effect_of}
 use Rattle.machine_laws.proofs.Moves.{sets-stay}
 use Rattle.machine_laws.proofs.Growth.{IsLink, covers-first, AreLaws}
 use Rattle.machine_laws.proofs.HoldEvents.{IsOfHold, up-turns, kept-turns, same-turns, choose-turns, marked-turns, clear-turns}
-use Rattle.machine_laws.proofs.RunSerials.{same-id}
+use Rattle.machine_laws.proofs.Names.{same-id, named-both, named-place}
 use Rattle.machine_laws.proofs.SameHold.{tested-same, halted-same}
 use Rattle.machine_laws.proofs.TaleEvents.{Tells, start-tells, test-tells, modify-tells, function-tells, choose-tells, marked-tells, up_sub-tells}
 use Rattle.machine_laws.proofs.Swept.{swept-told}
 use Rattle.machine_laws.proofs.UnitEvents.{Follows, IsKept, down-kept, report-kept, act-kept, owing-kept}
 use Rattle.machine_laws.proofs.Linked.{IsLinked, IsAbout, AreLinked, IsStateTold, place-set, hold-linked, unit-linked, restart-linked, opens-linked}
 use Rattle.step_laws.proofs.Marks.{marked-suits}
-use Rattle.step_laws.proofs.Places.{first-passes, both-true}
+use Rattle.step_laws.proofs.Places.{first-passes}
 
 -- the instructions leave the hold
 same-hold : (sub : Subchannel) → IsOfHold sub sub
@@ -83,21 +82,13 @@ modify-hold sub given c = same-hold sub
 silent-about : (which : Option ℕ) (place : ℕ) (k next : StartCounts) → next ≡ k → IsAbout which place k k next
 silent-about which place k next e = record { here = λ h. sym e; there = λ h. sym e }
 
-not-both : (id named : SubchannelId) (sub : Subchannel) → is_named id sub ≡ true → is_named named sub ≡ true → is_same_id named id ≡ true
-not-both id named sub e f =
-    let a : ((sub.setup.id.set == id.set) ≡ true) × ((sub.setup.id.number == id.number) ≡ true) = and_parts (sub.setup.id.set == id.set) (sub.setup.id.number == id.number) e in
-    let b : ((sub.setup.id.set == named.set) ≡ true) × ((sub.setup.id.number == named.number) ≡ true) = and_parts (sub.setup.id.set == named.set) (sub.setup.id.number == named.number) f in
-    both-true (named.set == id.set) (named.number == id.number)
-    (eq-eqb named.set id.set (sym (eqb-true sub.setup.id.set named.set b.0) ∙ eqb-true sub.setup.id.set id.set a.0))
-    (eq-eqb named.number id.number (sym (eqb-true sub.setup.id.number named.number b.1) ∙ eqb-true sub.setup.id.number id.number a.1))
-
 id-about : (subs : List Subchannel) (id named : SubchannelId) (place : ℕ) (sub : Subchannel) (same : Bool) (k mine : StartCounts) → is_same_id named id ≡ same → place_in named subs ≡ Some place →
     slice_get subs place ≡ Some sub → IsAbout (place_in id subs) place k mine (if same then mine else k)
 id-about subs id named place sub true k mine e at there =
     record { here = λ h. refl; there = λ n. absurd (n (subst (λ (x : SubchannelId). place_in x subs ≡ Some place) (same-id named id e) at)) }
 id-about subs id named place sub false k mine e at there =
     record {
-      here = λ h. let both : is_same_id named id ≡ true = not-both id named sub (first-passes (is_named id) subs place sub h there) (first-passes (is_named named) subs place sub at there) in
+      here = λ h. let both : is_same_id named id ≡ true = named-both id named sub (first-passes (is_named id) subs place sub h there) (first-passes (is_named named) subs place sub at there) in
           absurd (cc (sym both ∙ e));
       there = λ n. refl;
     }
@@ -127,10 +118,6 @@ offer-begun r k = refl
 down-rises : (b : Bool) (k mine : StartCounts) → (b ≡ true → AllPairs (λ x y. x < y) mine.begun) → AllPairs (λ x y. x < y) k.begun → AllPairs (λ x y. x < y) (if b then mine else k).begun
 down-rises true k mine f r = f refl
 down-rises false k mine f r = r
-
-named-place : (subs : List Subchannel) (id : SubchannelId) (x : Option SubchannelId) (place : ℕ) → place_of_id subs x ≡ Some place → is_id x id ≡ true → place_in id subs ≡ Some place
-named-place subs id None place at e = absurd (cc e)
-named-place subs id (Some named) place at e = subst (λ (x : SubchannelId). place_in x subs ≡ Some place) (same-id named id e) at
 
 -- an entry more
 starts-more : (sets : ℕ) (id : SubchannelId) (k : StartCounts) (h : List Entry) (x : Entry) → starts_by sets id k (h ++ x ∷ []) ≡ starts_after sets id x.event x.reply (starts_by sets id k h)

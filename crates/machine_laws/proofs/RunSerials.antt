@@ -2,7 +2,7 @@
 use Rattle.std.proofs.Common.{◌≡◌, refl, sym, ◌∙◌, ap, subst, ℕ, zero, suc, ◌<◌, ◌≤◌, ◌==◌, Bool, true, false, not, Option, None, Some, List, [], ◌∷◌, ◌++◌, length, arith, inl, inr}
 use Rattle.std.specs.Prelude.{slice_get, slice_set, if◌then◌else◌, ◌&&◌, All, AllPairs, ◌⊎◌}
 use Rattle.std.specs.List.{AllZip}
-use Rattle.std.proofs.lemmas.Bool.{eqb-true, ltb-true, and_parts}
+use Rattle.std.proofs.lemmas.Bool.{ltb-true}
 use Rattle.std.proofs.lemmas.List.Elements.{All-weaker, All-push}
 use Rattle.std.proofs.lemmas.List.Quantifiers.{all_pairs_push}
 use Rattle.std.proofs.lemmas.Grind.{flat_map-append}
@@ -10,6 +10,7 @@ use Rattle.channel_config.specs.declared.names.SubchannelId.{SubchannelId}
 use Rattle.channel_config.specs.Setup.{Setup, set_count}
 use Rattle.channel_config.specs.SubchannelWords.{subchannel_named}
 use Rattle.chan_events.specs.Events.{Event}
+use Rattle.chan_events.specs.declared.event.Event.TheVariants as event
 use Rattle.chan_events.specs.declared.event.Instruction.{Instruction}
 use Rattle.chan_events.specs.declared.event.Instruction.TheVariants as instruction
 use Rattle.chan_model.specs.declared.answer.ConditionCode.{ConditionCode}
@@ -21,16 +22,15 @@ use Rattle.subchannel_model.specs.Conditions.{is_operational, condition_of, left
 use Rattle.subchannel_model.specs.declared.state.Subchannel.{Subchannel}
 use Rattle.interruptions.specs.Requests.{WaitingRequests}
 use Rattle.machine_model.specs.State.{State, opening_of}
-use Rattle.subchannel_model.proofs.Named.{one_later}
-use Rattle.subchannel_model.specs.Places.{found_at, is_named, place_in, sub_at, Found}
+use Rattle.subchannel_model.specs.Places.{found_at, is_named, place_in, sub_at, Found, one_later}
 use Rattle.subchannel_model.specs.declared.state.SubchannelState.{SubchannelState}
 use Rattle.subchannel_model.specs.Test.{ends_suspended, tested_wholly, tested}
 use Rattle.subchannel_model.specs.Programs.{without_programs}
 use Rattle.machine_model.specs.Turns.{with_state}
 use Rattle.machine_model.specs.Steps.{Step, Run, Opened, Stepped}
 use Rattle.step_laws.specs.Walks.{AreWalks}
-use Rattle.machine_laws.proofs.Named.{is_same_id, serial_by, serial_at, serial_shown}
-use Rattle.machine_laws.specs.Claims.{IsLaterSubchannel, is_id, serial_of, serials}
+use Rattle.machine_laws.proofs.Names.{same-id}
+use Rattle.machine_laws.specs.Claims.{IsLaterSubchannel, is_id, serial_of, serials, is_same_id, serial_at, serial_shown}
 use Rattle.machine_laws.proofs.Sound.{AreNumbered}
 use Rattle.machine_laws.proofs.RunSound.{SoundSub, one-of, run-sound, step-sets, step-later}
 use Rattle.machine_model.specs.InstructionSteps.{subchannel_word}
@@ -201,13 +201,6 @@ test-shows n id s word address f r new sound stays at there k = by (code_for i f
         )
     by c is = inl (ap serial_shown (replies c is))
 
-pub same-id : (a b : SubchannelId) → is_same_id a b ≡ true → a ≡ b
-same-id a b e =
-    let both : ((a.set == b.set) ≡ true) × ((a.number == b.number) ≡ true) = and_parts (a.set == b.set) (a.number == b.number) e in
-    let sets : a.set ≡ b.set = eqb-true a.set b.set both.0 in
-    let numbers : a.number ≡ b.number = eqb-true a.number b.number both.1 in
-    ap (λ (set : ℕ). record a { set = set }) sets ∙ ap (λ (number : ℕ). record b { number = number }) numbers
-
 -- of the subchannel that the word names
 found-shows : (n : ℕ) (id : SubchannelId) (s : State) (word address : ℕ) (q : Option Found) (r : Reply) (new : State) → All (SoundSub n) s.subs →
     place_in id new.subs ≡ place_in id s.subs → found_at s.subs (place_in id s.subs) ≡ q → IsDone s (instruction.Tsch word address) q r new → Shows id s new (serial_shown r)
@@ -225,7 +218,7 @@ named-shows n id named s word address q r new true a stays e k same =
 
 executes-shows : (n : ℕ) (id named : SubchannelId) (s : State) (i : Instruction) (q : Option Found) (r : Reply) (new : State) → All (SoundSub n) s.subs →
     place_in id new.subs ≡ place_in id s.subs → subchannel_named s.sets (subchannel_word i) ≡ Some named → found_at s.subs (place_in named s.subs) ≡ q → IsDone s i q r new →
-    Shows id s new (serial_by s.sets id i r)
+    Shows id s new (serial_of s.sets id (event.Execute 0 i) r)
 executes-shows n id named s (instruction.Tsch word address) q r new a stays at e k =
     subst (λ (x : Option SubchannelId). Shows id s new (if is_id x id then serial_shown r else [])) (sym at)
     (named-shows n id named s word address q r new (is_same_id named id) a stays e k refl)

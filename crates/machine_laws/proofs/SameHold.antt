@@ -9,8 +9,7 @@ use Rattle.subchannel_model.specs.declared.state.SubchannelState.{SubchannelStat
 use Rattle.subchannel_model.specs.Causes.{with_cause}
 use Rattle.subchannel_model.specs.Test.{tested_wholly}
 use Rattle.subchannel_model.specs.Halt.{status_dropped, halt_begun, halted, drops_status}
-use Rattle.subchannel_model.proofs.Named.{with_attention}
-use Rattle.subchannel_model.specs.Taking.{interrupted, moving_on, suspending, halt_done, clear_done, with_transfer}
+use Rattle.subchannel_model.specs.Taking.{interrupted, moving_on, suspending, halt_done, clear_done, with_transfer, with_attention}
 use Rattle.machine_laws.proofs.Beside.{IsBeside, cause-beside, interrupted-beside, moving-beside, suspending-beside, halt_done-beside, clear_done-beside, attention-beside, tested-beside, if-both}
 
 pub record IsSameHold (s x : SubchannelState) : Type 0 where

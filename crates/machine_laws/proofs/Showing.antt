@@ -18,7 +18,7 @@ use Rattle.channel_config.specs.Setup.{Setup, set_count, has_number, are_distinc
 use Rattle.wires.specs.Queues.{queue, lost}
 use Rattle.subchannel_model.specs.declared.state.Subchannel.{Subchannel}
 use Rattle.subchannel_model.specs.declared.state.SubchannelState.{SubchannelState}
-use Rattle.subchannel_model.proofs.Named.{index_after}
+use Rattle.subchannel_model.specs.Places.{one_later}
 use Rattle.subchannel_model.specs.Losing.{path_lost, path_index, loses_at, shows_at}
 use Rattle.subchannel_model.specs.Opening.{opened}
 use Rattle.machine_model.specs.declared.state.Sweep.{Sweep}
@@ -74,7 +74,7 @@ moved-sourced up subs f sub after m k = record {
 }
 
 -- the index of a channel path
-index-cases : (b : Bool) (o : Option ℕ) (p : ℕ) → (if b then Some 0 else index_after o) ≡ Some p →
+index-cases : (b : Bool) (o : Option ℕ) (p : ℕ) → (if b then Some 0 else one_later o) ≡ Some p →
     ((b ≡ true) × (p ≡ zero)) ⊎ ((i : ℕ) × (o ≡ Some i) × (p ≡ suc i))
 index-cases true o p e = let same : 0 ≡ p = cc e in inl (refl, omega (arith, same))
 index-cases false None p e = absurd (cc e)
@@ -94,12 +94,12 @@ index-later chpid x xs p true h d e f =
     let again : has_number xs x ≡ true = any_passes_from_place (λ m. m == x) xs p chpid e (eq-eqb chpid x (sym (eqb-true x chpid h))) in
     absurd (cc (sym (ap not again) ∙ (and_parts (not (has_number xs x)) (are_distinct xs) d).0))
 index-later chpid x xs p false h d e f =
-    ap (λ (b : Bool). if b then Some 0 else index_after (path_index chpid xs)) h ∙ ap index_after f ∙ ap Some (omega arith)
+    ap (λ (b : Bool). if b then Some 0 else one_later (path_index chpid xs)) h ∙ ap one_later f ∙ ap Some (omega arith)
 
 index-found : (chpid : ℕ) (xs : List ℕ) (p : ℕ) → are_distinct xs ≡ true → slice_get xs p ≡ Some chpid → path_index chpid xs ≡ Some p
 index-found chpid [] p d e = absurd (cc e)
 index-found chpid (x ∷ xs) zero d e =
-    let same : x ≡ chpid = cc e in ap (λ (b : Bool). if b then Some 0 else index_after (path_index chpid xs)) (eq-eqb x chpid same)
+    let same : x ≡ chpid = cc e in ap (λ (b : Bool). if b then Some 0 else one_later (path_index chpid xs)) (eq-eqb x chpid same)
 index-found chpid (x ∷ xs) (suc p) d e =
     index-later chpid x xs p (x == chpid) refl d e (index-found chpid xs p (and_parts (not (has_number xs x)) (are_distinct xs) d).1 e)
 

@@ -39,17 +39,18 @@ use Rattle.subchannel_model.specs.declared.state.SubchannelState.{SubchannelStat
 use Rattle.subchannel_model.specs.declared.state.UpStep.{UpStep}
 use Rattle.machine_model.specs.Bounds.{IsMovedWithin}
 use Rattle.subchannel_model.specs.Start.{started}
-use Rattle.subchannel_model.specs.Causes.{row_of, with_status, without_begun, without_waiting, programs_after_end, with_cause}
-use Rattle.subchannel_model.specs.Parts.{scsw_joined, clear_scsw, without_intermediate, cleared_scsw, has_any, scsw_reset, suspended_alone, standing_still, chain_with, end_shown_at}
+use Rattle.subchannel_model.specs.Causes.{row_of, with_status, without_begun, without_waiting, programs_after_end, with_cause, scsw_joined, clear_function_alone, without_intermediate}
+use Rattle.subchannel_model.specs.Parts.{suspended_alone, standing_still, chain_with, end_shown_at}
+use Rattle.subchannel_model.specs.Clear.{cleared_scsw}
 use Rattle.subchannel_model.specs.Choosing.{reset_sent, halt_sent, offered}
 use Rattle.subchannel_model.specs.Halt.{halt_begun, status_dropped, drops_status}
-use Rattle.subchannel_model.specs.Programs.{without_programs}
+use Rattle.subchannel_model.specs.Programs.{without_programs, has_any}
 use Rattle.subchannel_model.specs.Ends.{has_status_modifier, chains_command, has_shown}
 use Rattle.subchannel_model.specs.Losing.{is_offered_or_held, reset_drawn, reset_with, reset_for, path_lost}
-use Rattle.subchannel_model.specs.SystemReset.{state_reset}
+use Rattle.subchannel_model.specs.SystemReset.{state_reset, scsw_reset}
 use Rattle.chan_model.specs.ResetCauses.{rests_on}
-use Rattle.subchannel_model.proofs.Named.{with_known, with_pci_of, give_next}
-use Rattle.subchannel_model.specs.Taking.{Met, meets, ignoring, quietly, without_pci, standing, goes_ahead, taking_over, suspending, beginning, begin_standing, halt_done, accepted_by, accept_by, with_transfer, moving_on, take_in, move_bytes, move_data, take_data, with_end, end_taken, chaining, goes_on, stops_at, command_ended, end_of, end_command, reset_taken, may_attend, takes_up, path_used, let_go}
+use Rattle.subchannel_model.proofs.Named.{with_pci_of, give_next}
+use Rattle.subchannel_model.specs.Taking.{Met, meets, ignoring, quietly, without_pci, standing, goes_ahead, taking_over, suspending, beginning, begin_standing, halt_done, accepted_by, accept_by, with_transfer, moving_on, take_in, move_bytes, move_data, take_data, with_end, end_taken, chaining, goes_on, stops_at, command_ended, end_of, end_command, reset_taken, may_attend, takes_up, path_used, let_go, with_known}
 use Rattle.subchannel_model.proofs.Cleared.{none-uncleared, tested-pending}
 use Rattle.step_laws.specs.Walks.{Function, Resumes, Halts, Clears, Cancels, effect_of}
 
@@ -147,7 +148,7 @@ cause-sound floor n s cause.NoPath m k = without_waiting-sound floor n s s.waiti
 cause-sound floor n s cause.InterfaceControlCheck m k =
     left-sound floor n s None None None s.scsw (row_of s cause.InterfaceControlCheck).shown tt k
 cause-sound floor n s cause.ClearDone m k =
-    left-sound floor n s s.waiting s.begun s.suspended clear_scsw (row_of s cause.ClearDone).shown k.3 k
+    left-sound floor n s s.waiting s.begun s.suspended clear_function_alone (row_of s cause.ClearDone).shown k.3 k
 cause-sound floor n s cause.HaltDone m k =
     left-sound floor n s None None None (without_intermediate s.scsw) (row_of s cause.HaltDone).shown tt k
 cause-sound floor n s other m k =

@@ -13,8 +13,8 @@ use Rattle.agreement_laws.specs.Moving.{Loses, still, reset_again}
 use Rattle.channel_config.specs.declared.names.SubchannelId.{SubchannelId}
 use Rattle.subchannel_model.specs.declared.state.Subchannel.{Subchannel}
 use Rattle.subchannel_model.specs.declared.state.SubchannelState.{SubchannelState}
-use Rattle.subchannel_model.specs.Losing.{is_offered_or_held, reset_with, path_lost, path_index, loses_at, loses, shows_at}
-use Rattle.subchannel_model.specs.Parts.{has_any, available_pmcw}
+use Rattle.subchannel_model.specs.Losing.{is_offered_or_held, reset_with, path_lost, path_index, loses_at, loses, shows_at, available_pmcw}
+use Rattle.subchannel_model.specs.Programs.{has_any}
 use Rattle.subchannel_model.specs.SystemReset.{state_reset}
 use Rattle.machine_model.specs.declared.state.Sweep.{Sweep}
 use Rattle.machine_model.specs.declared.state.Sweep.TheVariants as sweep

@@ -49,8 +49,7 @@ use Rattle.machine_model.specs.ChooseSteps.{choose_sub}
 use Rattle.subchannel_model.specs.Sending.{carried_by, finds_full}
 use Rattle.machine_model.specs.UpSteps.{up_front, up_sub}
 use Rattle.subchannel_model.specs.Taking.{takes_up}
-use Rattle.machine_laws.proofs.Named.{starts_with_sent, with_start, starts_with_answer}
-use Rattle.machine_laws.specs.Beginnings.{StartCounts, with_offer, with_taken}
+use Rattle.machine_laws.specs.Beginnings.{StartCounts, with_offer, with_taken, with_start, starts_with_answer}
 use Rattle.machine_laws.proofs.Moves.{if-ok}
 use Rattle.machine_laws.proofs.Tales.{IsAccepted, AreSpent, AreSpentBut, IsTold, told-wider, told-same, told-turned, told-start, told-offer, told-resume, busy-spent, begun-of}
 use Rattle.machine_laws.proofs.Waits.{IsBegunHeld, Waits, Turned, IsCalm, kept, none, cause-calm, without_waiting-begun, none-held, held-on, moved-as, calm-turned}
@@ -138,7 +137,7 @@ answer-told k s v w side t p (up.Notice b) h e told = wide-told k s v w side _ h
 answer-told k s v w side t p (up.Attn a status) h e told = wide-told k s v w side _ h told
 
 sent-told : (k : StartCounts) (s : SubchannelState) (v w : Links) (side : Side) (t : ℕ) (one : Option (OnPath Up)) → Wide v w side one → IsOfSelect t one → IsTold k s v side →
-    IsTold (starts_with_sent t one k) s w side
+    IsTold (with_taken (reply.Down (down.Select t) true one) k) s w side
 sent-told k s v w side t None h e told = wide-told k s v w side None h told
 sent-told k s v w side t (Some x) h e told = answer-told k s v w side t x.path x.signal h e told
 

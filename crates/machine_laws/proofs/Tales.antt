@@ -16,8 +16,7 @@ use Rattle.subchannel_model.specs.declared.state.SubchannelState.{SubchannelStat
 use Rattle.subchannel_model.specs.Opening.{opening_subchannel}
 use Rattle.subchannel_model.specs.Choosing.{offered}
 use Rattle.subchannel_model.specs.Start.{started}
-use Rattle.machine_laws.proofs.Named.{no_starts}
-use Rattle.machine_laws.specs.Beginnings.{Offer, StartCounts, with_begun}
+use Rattle.machine_laws.specs.Beginnings.{Offer, StartCounts, with_begun, no_starts}
 use Rattle.machine_laws.proofs.Pairs.{contains-more, all-rest, pairs-weaker, pair-of, before-last}
 use Rattle.machine_laws.proofs.Waits.{IsWaiting, WaitsAs, IsBegunHeld, Waits, Turned, not-begun, none-held, waits-wider}
 

@@ -33,8 +33,7 @@ use Rattle.machine_model.specs.InstructionSteps.{function_sub, test_with}
 use Rattle.machine_model.specs.PathSteps.{swept}
 use Rattle.machine_model.specs.State.{State, place_of}
 use Rattle.machine_model.specs.Turns.{with_state}
-use Rattle.machine_model.proofs.Named.{returns_by}
-use Rattle.machine_model.specs.UpSteps.{may_return, returns_at}
+use Rattle.machine_model.specs.UpSteps.{may_return, returns_at, returns_by}
 use Rattle.step_laws.specs.Walks as walked
 use Rattle.step_laws.specs.Walks.{Walked, IsQuiet, OneSub, OneUnit, Suits, Function, Resumes, Halts, Clears, Cancels, effect_of, up_after}
 use Rattle.machine_laws.specs.Returns.{accepted_by, accepted_after}

@@ -35,8 +35,7 @@ use Rattle.machine_model.specs.Turns.{DownTurn}
 use Rattle.subchannel_model.specs.Sending.{carried_by, with_any_sent, finds_full}
 use Rattle.machine_model.specs.DownSteps.{down_front, down_sub}
 use Rattle.machine_model.specs.ReportSteps.{report_taken, report_sub}
-use Rattle.machine_model.specs.ActSteps.{has_path_of_act, acts, act_sub}
-use Rattle.machine_model.proofs.Named.{owner_side}
+use Rattle.machine_model.specs.ActSteps.{has_path_of_act, acts, act_sub, owner_side}
 use Rattle.machine_model.specs.Sharing.{owing}
 use Rattle.machine_laws.proofs.Growth.{one-wider, one-within, Covers, covers-taken, covers-sent, carried-if, covers-wider, covers-first, IsLink, IsWider, told, told-step, AreLaws, IsReached, links_of}
 use Rattle.machine_laws.specs.Beginnings.{StartCounts, with_taken}

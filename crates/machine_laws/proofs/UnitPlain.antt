@@ -18,10 +18,8 @@ use Rattle.chan_model.specs.declared.unit_state.Progress.TheVariants as progress
 use Rattle.chan_model.specs.declared.unit_state.SideState.{SideState}
 use Rattle.chan_model.specs.declared.unit_state.UnitState.{UnitState}
 use Rattle.chan_model.specs.Sides.{same_side}
-use Rattle.chan_model.proofs.Named.{without_side, report_absorbed, sent_again}
-use Rattle.chan_model.specs.UnitTable.{UnitStep, side_of, with_side, owns, freed, raised, unit_takes, unit_after, is_idle, marked_again, leaving_from, leaving, asking_from, asking, restarted}
-use Rattle.chan_model.specs.UnitReports.{is_outward, is_to_supply, most_of, may_end, shown_end, end_sent, command_begun, with_supplied, report_supplied, answer_taken, report_on, report_of, unit_reports}
-use Rattle.chan_model.specs.Parts.{reset_side}
+use Rattle.chan_model.specs.UnitTable.{UnitStep, side_of, with_side, owns, freed, raised, unit_takes, unit_after, is_idle, marked_again, leaving_from, leaving, asking_from, asking, restarted, reset_side, without_side}
+use Rattle.chan_model.specs.UnitReports.{is_outward, is_to_supply, most_of, may_end, shown_end, end_sent, command_begun, with_supplied, report_supplied, answer_taken, report_on, report_of, unit_reports, report_absorbed, sent_again}
 use Rattle.chan_model.proofs.TakenSignals.{Takes, Ignores, Notices, Accepts, Denies, Begins, Joins, Leaves, Parts, Answers, Gives, Halts, Frees, Resets, Forgets, takes-by}
 use Rattle.chan_events.specs.declared.event.UnitAct.{UnitAct}
 use Rattle.chan_events.specs.declared.event.UnitAct.TheVariants as act

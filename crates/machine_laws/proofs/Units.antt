@@ -16,8 +16,7 @@ use Rattle.chan_model.specs.declared.unit_state.Progress.{Progress}
 use Rattle.chan_model.specs.declared.unit_state.Progress.TheVariants as progress
 use Rattle.chan_model.specs.declared.unit_state.UnitState.{UnitState}
 use Rattle.chan_model.specs.Sides.{same_side}
-use Rattle.chan_model.specs.UnitReports.{is_outward, may_end, most_of, is_to_supply, command_begun, answer_taken, report_on, report_of, unit_reports}
-use Rattle.chan_model.proofs.Named.{report_absorbed, sent_again}
+use Rattle.chan_model.specs.UnitReports.{is_outward, may_end, most_of, is_to_supply, command_begun, answer_taken, report_on, report_of, unit_reports, report_absorbed, sent_again}
 use Rattle.chan_model.specs.UnitTable.{UnitStep, came_of, side_of, telling, unit_takes, leaving_from, leaving, asking_from, asking, is_idle}
 use Rattle.chan_model.proofs.TakenSignals.{Takes, Ignores, Notices, Accepts, Denies, Begins, Joins, Leaves, Parts, Answers, Gives, Halts, Frees, Resets, Forgets, takes-by}
 use Rattle.chan_events.specs.declared.event.UnitAct.{UnitAct}

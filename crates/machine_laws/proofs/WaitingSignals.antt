@@ -3,8 +3,7 @@ use Rattle.std.proofs.Common.{◌≡◌, refl, subst, ℕ, zero, suc, Bool, true
 use Rattle.chan_model.specs.PathSets.{is_member}
 use Rattle.chan_model.specs.declared.signal.OnPath.{OnPath}
 use Rattle.wires.specs.Queues.{queue, taken, lost}
-use Rattle.subchannel_model.proofs.Named.{carried_where}
-use Rattle.subchannel_model.specs.Sending.{carried, with_any_sent}
+use Rattle.subchannel_model.specs.Sending.{carried, with_any_sent, carried_where}
 
 abbrev pub Each : {A : Type 0} → (A → Type 0) → List A → Type 0
 Each P [] = Unit {0}

@@ -30,8 +30,8 @@ use Rattle.subchannel_model.specs.declared.state.UpStep.{UpStep}
 use Rattle.scsw_irb.specs.declared.scsw.Scsw.{Scsw}
 use Rattle.subchannel_model.specs.Causes.{with_cause}
 use Rattle.subchannel_model.specs.Ends.{has_status_modifier, chains_command}
-use Rattle.subchannel_model.proofs.Named.{with_attention, with_pci_of, give_next}
-use Rattle.subchannel_model.specs.Taking.{back, may_attend, Met, meets, ignoring, quietly, let_go, by_hold, without_pci, from_start, suspended_as, standing_as, standing, goes_ahead, path_used, taking_over, suspending, beginning, begin_standing, halt_done, accept, with_transfer, moving_on, take_in, move_bytes, move_data, with_end, end_taken, chaining, goes_on, stops_at, command_ended, end_of, reset_taken, takes_up}
+use Rattle.subchannel_model.proofs.Named.{with_pci_of, give_next}
+use Rattle.subchannel_model.specs.Taking.{back, may_attend, Met, meets, ignoring, quietly, let_go, by_hold, without_pci, from_start, suspended_as, standing_as, standing, goes_ahead, path_used, taking_over, suspending, beginning, begin_standing, halt_done, accept, with_transfer, moving_on, take_in, move_bytes, move_data, with_end, end_taken, chaining, goes_on, stops_at, command_ended, end_of, reset_taken, takes_up, with_attention}
 use Rattle.subchannel_model.specs.Parts.{suspended_alone, standing_still, chain_with, end_shown_at}
 use Rattle.machine_laws.proofs.Resetting.{notice-turned}
 use Rattle.machine_laws.proofs.Waits.{no-less, WaitsAs, IsBegunHeld, Waits, Turned, IsCalm, kept, cause-calm, fault-begun, fault-waiting, end-held, end-begun, not-begun, none-held, held-by, held-on, let-offer, moved-as, calm-as, calm-turned, same-turned, if-turned}

@@ -8,6 +8,7 @@ use Rattle.chan_events.specs.Replies.{Reply}
 use Rattle.chan_events.specs.declared.reply.Reply.TheVariants as reply
 use Rattle.chan_events.specs.declared.reply.Entry.{Entry}
 use Rattle.chan_model.specs.declared.signal.Down.TheVariants as down
+use Rattle.chan_model.specs.Signals.{Up}
 use Rattle.chan_model.specs.declared.signal.Up.TheVariants as up
 use Rattle.channel_config.specs.declared.names.SubchannelId.{SubchannelId}
 use Rattle.channel_config.specs.SubchannelWords.{subchannel_named}
@@ -36,16 +37,26 @@ with_begun t [] k = k
 with_begun t (x ∷ xs) k = if x.number == t then record k { begun = k.begun ++ x.start ∷ [] } else with_begun t xs k
 
 -- the unit takes a Select by an Accept
+abbrev pub starts_with_answer : ℕ → Up → StartCounts → StartCounts
+starts_with_answer t signal k = elim signal [ up.Accept u ↦ with_begun t k.offers k | other ↦ k ]
+
 abbrev pub with_taken : Reply → StartCounts → StartCounts
-with_taken (reply.Down (down.Select t) true (Some sent)) k = elim sent.signal [ up.Accept u ↦ with_begun t k.offers k | other ↦ k ]
+with_taken (reply.Down (down.Select t) true (Some sent)) k = starts_with_answer t sent.signal k
 with_taken r k = k
+
+-- START with code 0 is accepted
+abbrev pub with_start : Reply → StartCounts → StartCounts
+with_start r k = elim r [ reply.Code (answer.Zero serials) ↦ record k { accepted = k.accepted + 1 } | other ↦ k ]
 
 abbrev pub starts_after : ℕ → SubchannelId → Event → Reply → StartCounts → StartCounts
 starts_after sets id (event.Execute cpu (instruction.Ssch word address)) r k =
-    if is_id (subchannel_named sets word) id then elim r [ reply.Code (answer.Zero serials) ↦ record k { accepted = k.accepted + 1 } | other ↦ k ] else k
+    if is_id (subchannel_named sets word) id then with_start r k else k
 starts_after sets id (event.Choose word) r k = if is_id (subchannel_named sets word) id then with_offer r k else k
 starts_after sets id (event.Down word path) r k = if is_id (subchannel_named sets word) id then with_taken r k else k
 starts_after sets id e r k = k
+
+abbrev pub no_starts : StartCounts
+no_starts = record { accepted = 0; offers = []; begun = [] }
 
 -- the starts of a subchannel after these entries
 abbrev pub starts_by : ℕ → SubchannelId → StartCounts → List Entry → StartCounts
@@ -53,7 +64,7 @@ starts_by sets id k [] = k
 starts_by sets id k (entry ∷ entries) = starts_by sets id (starts_after sets id entry.event entry.reply k) entries
 
 abbrev pub starts : ℕ → SubchannelId → List Entry → StartCounts
-starts sets id h = starts_by sets id (record { accepted = 0; offers = []; begun = [] }) h
+starts sets id h = starts_by sets id no_starts h
 
 -- each start begins at most one program: those that did, of each subchannel, rise
 abbrev pub IsBegunOnce : ℕ → List Entry → Type 0

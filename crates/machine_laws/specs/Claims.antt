@@ -24,21 +24,31 @@ pub record IsLaterSubchannel (old new : Subchannel) : Type 0 where
   pub cleared : old.state.serials.cleared ≤ new.state.serials.cleared
   pub made : old.state.serials.made ≤ new.state.serials.made
 
+-- the names are of one subchannel
+abbrev pub is_same_id : SubchannelId → SubchannelId → Bool
+is_same_id a b = (a.set == b.set) && (a.number == b.number)
+
 -- a subsystem-identification word names this subchannel
 abbrev pub is_id : Option SubchannelId → SubchannelId → Bool
 is_id None id = false
-is_id (Some named) id = (named.set == id.set) && (named.number == id.number)
+is_id (Some named) id = is_same_id named id
 
 -- TEST SUBCHANNEL clears status where it answers 0 (SA22-7832, chapter 14): how many statuses were made by then
+abbrev pub serial_shown : Reply → List ℕ
+serial_shown r = elim r [ reply.Status (answer.Zero serials) scsw ↦ serials.made ∷ [] | other ↦ [] ]
+
 -- the serial that an event so cleared of a subchannel, where there are so many sets
 abbrev pub serial_of : ℕ → SubchannelId → Event → Reply → List ℕ
 serial_of sets id (event.Execute cpu (instruction.Tsch word address)) r =
-    if is_id (subchannel_named sets word) id then elim r [ reply.Status (answer.Zero serials) scsw ↦ serials.made ∷ [] | other ↦ [] ] else []
+    if is_id (subchannel_named sets word) id then serial_shown r else []
 serial_of sets id e r = []
+
+abbrev pub serial_at : ℕ → SubchannelId → Entry → List ℕ
+serial_at sets id entry = serial_of sets id entry.event entry.reply
 
 -- the serials that were cleared of a subchannel, in their order
 abbrev pub serials : ℕ → SubchannelId → List Entry → List ℕ
-serials sets id h = flat_map (λ entry. serial_of sets id entry.event entry.reply) h
+serials sets id h = flat_map (serial_at sets id) h
 
 -- each status is cleared by at most one TEST SUBCHANNEL: what they cleared of a subchannel rises
 abbrev pub IsClearedOnce : ℕ → List Entry → Type 0

@@ -12,6 +12,7 @@ use Rattle.chan_events.specs.declared.event.OtherInstruction.TheVariants as othe
 use Rattle.chan_events.specs.Replies.{Reply}
 use Rattle.chan_events.specs.declared.reply.Reply.TheVariants as reply
 use Rattle.subchannel_model.specs.declared.state.Subchannel.{Subchannel}
+use Rattle.subchannel_model.specs.declared.state.SubchannelState.{SubchannelState}
 use Rattle.subchannel_model.specs.Conditions.{condition_of}
 use Rattle.machine_model.specs.InstructionSteps.{subchannel_word}
 use Rattle.machine_model.specs.OtherSteps.{is_up}
@@ -21,6 +22,9 @@ use Rattle.step_laws.specs.Codes.{code_by}
 abbrev pub serials_of : Option Subchannel → Serials
 serials_of None = record { made = 0; cleared = 0 }
 serials_of (Some sub) = sub.state.serials
+
+abbrev pub state_of : Option Subchannel → Option SubchannelState
+state_of found = option_map (λ sub. sub.state) found
 
 -- the answer in a reply
 abbrev pub answer_in : Reply → Option Answer
@@ -33,7 +37,7 @@ answer_in r = None
 -- it, and RESET CHANNEL PATH by the state of its path and the resets that are asked for
 abbrev pub IsByTable : State → Event → Reply → State → Type 0
 IsByTable s (event.Execute cpu i) r new =
-    let found = condition_of (option_map (λ sub. sub.state) (sub_of s (subchannel_word i))) in
+    let found = condition_of (state_of (sub_of s (subchannel_word i))) in
     answer_in r ≡ Some (answer_of_code (code_by i found) (serials_of (sub_of new (subchannel_word i))))
 IsByTable s (event.ExecuteOther cpu (other.Tpi mask address)) r new = r ≡ reply.Interruption (requests.answer s.requests mask)
 IsByTable s (event.ExecuteOther cpu (other.Rchp path)) r new =

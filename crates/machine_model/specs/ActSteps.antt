@@ -4,22 +4,26 @@ use Rattle.chan_model.specs.declared.fault.Fault.{Fault}
 use Rattle.chan_model.specs.declared.fault.Fault.TheVariants as fault
 use Rattle.chan_model.specs.declared.names.Side.{Side}
 use Rattle.chan_model.specs.declared.names.Side.TheVariants.{First, Second}
+use Rattle.chan_model.specs.declared.unit_state.Own.{Own}
 use Rattle.chan_model.specs.declared.unit_state.Own.TheVariants.{Idle, Owned}
 use Rattle.chan_model.specs.declared.unit_state.UnitState.{UnitState}
 use Rattle.chan_events.specs.declared.event.UnitAct.{UnitAct}
 use Rattle.chan_events.specs.declared.event.UnitAct.TheVariants as act
 use Rattle.chan_model.specs.UnitTable.{UnitStep, leaving, asking, attending, noticing}
 use Rattle.subchannel_model.specs.declared.state.Subchannel.{Subchannel}
-use Rattle.subchannel_model.specs.Places.{found_at, reached_in, reached_sub}
+use Rattle.subchannel_model.specs.Places.{Found, found_at, reached_in, reached_sub}
 use Rattle.machine_model.specs.State.{State}
 use Rattle.machine_model.specs.Turns.{Outcome, DownTurn, at_unit}
 use Rattle.machine_model.specs.ReportSteps.{report_taken}
 
 -- the program that holds the device leaves its path or asks for one; the unit asks a side for attention, or tells it of a restart
+abbrev pub owner_side : Own → Option Side
+owner_side own = elim own [ Idle ↦ None | Owned side t place ↦ Some side ]
+
 abbrev pub side_of_act : UnitState → UnitAct → Option Side
 side_of_act u (act.Attention path side) = Some side
 side_of_act u (act.Notice path side) = Some side
-side_of_act u act = elim u.own [ Idle ↦ None | Owned side t place ↦ Some side ]
+side_of_act u act = owner_side u.own
 
 -- the path that an act names is one of the subchannel
 abbrev pub has_path : Subchannel → ℕ → Bool
@@ -54,10 +58,12 @@ not_held subs place (act.Ask path) = if is_path_of subs place path then fault.No
 not_held subs place other = fault.NotNow
 
 -- nor where no subchannel reaches that side, whatever path is named
+abbrev pub act_to : State → ℕ → UnitState → UnitAct → Option Found → Outcome
+act_to s place u act found = elim found [ None ↦ Err fault.NotNow | Some f ↦ at_unit s f.place place (act_sub f.sub u act) ]
+
 abbrev pub act_on : State → ℕ → UnitState → UnitAct → Option Side → Outcome
 act_on s place u act None = Err (not_held s.subs place act)
-act_on s place u act (Some side) =
-    elim (found_at s.subs (reached_in place side s.subs)) [ None ↦ Err fault.NotNow | Some f ↦ at_unit s f.place place (act_sub f.sub u act) ]
+act_on s place u act (Some side) = act_to s place u act (found_at s.subs (reached_in place side s.subs))
 
 abbrev pub act_at : State → ℕ → Option UnitState → UnitAct → Outcome
 act_at s place None act = Err fault.NoSuchUnit

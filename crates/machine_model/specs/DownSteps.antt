@@ -3,6 +3,7 @@ use Rattle.std.specs.Prelude.{ℕ, Bool, false, nat_lt, if◌then◌else◌, Lis
 use Rattle.chan_model.specs.declared.fault.Fault.{Fault}
 use Rattle.chan_model.specs.declared.fault.Fault.TheVariants as fault
 use Rattle.chan_model.specs.Signals.{Down}
+use Rattle.chan_model.specs.declared.names.Side.{Side}
 use Rattle.chan_model.specs.declared.signal.OnPath.{OnPath}
 use Rattle.chan_model.specs.Signals.{Up}
 use Rattle.chan_model.specs.declared.unit_state.UnitState.{UnitState}
@@ -38,8 +39,11 @@ down_sub may sub path u =
     else Err fault.NoSuchPath
 
 -- the control unit is asked where it must be, and what it keeps and owes is left as the rules of sharing say
+abbrev pub asks_front : UnitState → Side → Option Down → Bool
+asks_front u side front = elim front [ None ↦ false | Some signal ↦ is_asked_for u side signal ]
+
 abbrev pub asks_at : Subchannel → ℕ → UnitState → Bool
-asks_at sub path u = elim (slice_get (queue sub.wires.down path) 0) [ None ↦ false | Some signal ↦ is_asked_for u sub.setup.side signal ]
+asks_at sub path u = asks_front u sub.setup.side (slice_get (queue sub.wires.down path) 0)
 
 abbrev pub share_with : List Member → ℕ → Bool → UnitState → Result DownTurn Fault → Result SharedTurn Fault
 share_with members place asks u (Ok t) =
@@ -55,8 +59,10 @@ abbrev pub at_shared : State → ℕ → ℕ → Result SharedTurn Fault → Out
 at_shared s place «unit» (Err f) = Err f
 at_shared s place «unit» (Ok t) = at_unit (record s { members = t.members }) place «unit» (Ok t.turn)
 
+abbrev pub down_unit : State → Found → ℕ → Option UnitState → Outcome
+down_unit s f path found =
+    elim found [ None ↦ Err fault.NoSuchUnit | Some u ↦ at_shared s f.place f.sub.setup.unit (down_shared s.members f.sub path u) ]
+
 abbrev pub down_at : State → Option Found → ℕ → Outcome
 down_at s None path = Err fault.NoSuchSubchannel
-down_at s (Some f) path =
-    let place = f.sub.setup.unit in
-    elim (slice_get s.units place) [ None ↦ Err fault.NoSuchUnit | Some u ↦ at_shared s f.place place (down_shared s.members f.sub path u) ]
+down_at s (Some f) path = down_unit s f path (slice_get s.units f.sub.setup.unit)

@@ -15,7 +15,7 @@ use Rattle.chan_events.specs.declared.reply.Reply.TheVariants as reply
 use Rattle.interruptions.specs.Requests as requests
 use Rattle.subchannel_model.specs.declared.state.Subchannel.{Subchannel}
 use Rattle.machine_model.specs.State.{State, sub_of}
-use Rattle.machine_model.specs.Turns.{Outcome}
+use Rattle.machine_model.specs.Turns.{Turn, Outcome}
 use Rattle.machine_model.specs.InstructionSteps.{subchannel_word}
 
 -- the condition code that an instruction with this reply set; STORE CHANNEL PATH STATUS sets none
@@ -55,8 +55,11 @@ request_of sub = record {
   subclass_fits = sub.state.pmcw.subclass_fits;
 }
 
+abbrev pub makes_status : Subchannel → Subchannel → Bool
+makes_status old new = nat_lt old.state.serials.made new.state.serials.made
+
 abbrev pub posted_for : Subchannel → Subchannel → requests.WaitingRequests → requests.WaitingRequests
-posted_for old new waiting = if nat_lt old.state.serials.made new.state.serials.made then requests.posted waiting (request_of new) else waiting
+posted_for old new waiting = if makes_status old new then requests.posted waiting (request_of new) else waiting
 
 -- in the order of the subchannels' configuration (own)
 abbrev pub posted_all : List Subchannel → List Subchannel → requests.WaitingRequests → requests.WaitingRequests
@@ -64,8 +67,10 @@ posted_all [] news waiting = waiting
 posted_all (old ∷ olds) [] waiting = waiting
 posted_all (old ∷ olds) (new ∷ news) waiting = posted_all olds news (posted_for old new waiting)
 
--- what an event came to, with the requests that are left of it
+-- what an event came to, with the requests that are left of it: one may be dropped, and others are posted
+abbrev pub requests_settled : State → Event → Turn → requests.WaitingRequests
+requests_settled s e t = posted_all s.subs t.state.subs (requests_dropped s e t.reply t.state.requests)
+
 abbrev pub settled : State → Event → Outcome → Outcome
-settled s e (Ok t) =
-    Ok (record t { state = record t.state { requests = posted_all s.subs t.state.subs (requests_dropped s e t.reply t.state.requests) } })
+settled s e (Ok t) = Ok (record t { state = record t.state { requests = requests_settled s e t } })
 settled s e (Err f) = Err f

@@ -8,8 +8,10 @@ use Rattle.machine_model.specs.State.{State, state_with_unit}
 use Rattle.machine_model.specs.Sharing.{members_over, is_let_go, owing_after}
 use Rattle.machine_model.specs.Turns.{Outcome, does}
 
+abbrev pub restart_with : State → ℕ → UnitState → UnitState → Outcome
+restart_with s place u v =
+    does reply.Done (state_with_unit (record s { members = members_over s.members place (is_let_go u v) }) place (owing_after s.members place u v))
+
 abbrev pub restart_at : State → ℕ → Option UnitState → Outcome
 restart_at s place None = Err fault.NoSuchUnit
-restart_at s place (Some u) =
-    let v = restarted u in
-    does reply.Done (state_with_unit (record s { members = members_over s.members place (is_let_go u v) }) place (owing_after s.members place u v))
+restart_at s place (Some u) = restart_with s place u (restarted u)

@@ -32,8 +32,11 @@ members_after members place asks old new =
     if asks then members_asked members place (may_serve members place) else members_over members place (is_let_go old new)
 
 -- as it is over, a control-unit end may be owed, which the unit's next attention says
+abbrev pub is_owed_after : List Member → ℕ → UnitState → UnitState → Bool
+is_owed_after members place old new = is_let_go old new && is_owed members place
+
 abbrev pub owing : Bool → UnitState → UnitState
 owing owed u = record u { end_owed = u.end_owed || owed }
 
 abbrev pub owing_after : List Member → ℕ → UnitState → UnitState → UnitState
-owing_after members place old new = owing (is_let_go old new && is_owed members place) new
+owing_after members place old new = owing (is_owed_after members place old new) new

@@ -26,5 +26,8 @@ abbrev pub prefix_turn : State → ℕ → ℕ → Outcome
 prefix_turn s cpu address = storage_turn s (prefix_set s.storage cpu address)
 
 -- Show: bytes of storage
+abbrev pub show_turn_of : State → Result (List ℕ) StorageFault → Outcome
+show_turn_of s r = elim r [ Ok bytes ↦ does (reply.Shown bytes) s | Err f ↦ Err (fault.Storage f) ]
+
 abbrev pub show_turn : State → ℕ → ℕ → Outcome
-show_turn s address count = elim (shown s.storage address count) [ Ok bytes ↦ does (reply.Shown bytes) s | Err f ↦ Err (fault.Storage f) ]
+show_turn s address count = show_turn_of s (shown s.storage address count)

@@ -37,8 +37,11 @@ up_sub returns storage sub path =
 abbrev pub may_return : List Subchannel → Subchannel → ℕ → Bool
 may_return subs sub path = is_member (return_paths sub) path && not (is_member (engaged_paths subs sub) path)
 
+abbrev pub returns_by : List Subchannel → Subchannel → ℕ → Option Up → Bool
+returns_by subs sub path front = elim front [ Some (up.Back t c) ↦ may_return subs sub path | other ↦ false ]
+
 abbrev pub returns_at : List Subchannel → Subchannel → ℕ → Bool
-returns_at subs sub path = elim (slice_get (queue sub.wires.up path) 0) [ Some (up.Back t c) ↦ may_return subs sub path | other ↦ false ]
+returns_at subs sub path = returns_by subs sub path (slice_get (queue sub.wires.up path) 0)
 
 abbrev pub up_at : State → Option Found → ℕ → Outcome
 up_at s None path = Err fault.NoSuchSubchannel

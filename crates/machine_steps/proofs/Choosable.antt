@@ -22,10 +22,8 @@ use Rattle.subchannel_model.specs.declared.state.Chosen.{Chosen}
 use Rattle.subchannel_model.specs.declared.state.Chosen.TheVariants.{Idle, Resets, PerformsClear, Halts, PerformsHalt, FindsNoPath, Offers}
 use Rattle.subchannel_model.specs.declared.state.Subchannel.{Subchannel}
 use Rattle.subchannel_model.specs.declared.state.SubchannelState.{SubchannelState}
-use Rattle.subchannel_model.proofs.Named.{chosen_of, found_with}
-use Rattle.subchannel_model.specs.Choosing.{candidate, chosen, clear_chosen, halt_sent, marked_sub, offered, path_use, paths_to_choose, reset_chosen, reset_sent, unsent_reset}
-use Rattle.subchannel_model.specs.Parts.{halt_chosen, offer_chosen}
-use Rattle.subchannel_model.specs.Places.{Found, found_at, sub_at}
+use Rattle.subchannel_model.specs.Choosing.{candidate, chosen, clear_chosen, halt_sent, marked_sub, offered, path_use, paths_to_choose, reset_chosen, reset_sent, unsent_reset, halt_chosen, offer_chosen, chosen_of}
+use Rattle.subchannel_model.specs.Places.{Found, found_at, sub_at, found_with}
 use Rattle.subchannel_model.specs.Sending.{carried_by, finds_full, with_any_sent}
 use Rattle.subchannel_model.specs.Losing.{path_index}
 use Rattle.machine_model.specs.ChooseSteps.{choose_sub, send_sub}

@@ -30,11 +30,9 @@ use Rattle.subchannel_model.specs.declared.state.Subchannel.{Subchannel}
 use Rattle.subchannel_model.specs.declared.state.SubchannelState.{SubchannelState}
 use Rattle.wires.specs.Queues.{queue}
 use Rattle.machine_model.specs.State.{State, place_of, found_of, sub_of, with_sub, state_with_unit}
-use Rattle.subchannel_model.proofs.Named.{found_with}
-use Rattle.subchannel_model.specs.Places.{Found, found_at, place_in, reached_in, sub_at, place_of_id}
+use Rattle.subchannel_model.specs.Places.{Found, found_at, place_in, reached_in, sub_at, place_of_id, found_with}
 use Rattle.subchannel_model.specs.Choosing.{chosen, marked_sub, paths_to_choose}
 use Rattle.machine_model.specs.Ruled.{RulesAt, GoesByRule}
-use Rattle.machine_model.proofs.Named.{outcome_of}
 use Rattle.machine_model.specs.Turns.{Outcome, SubTurn, UpTurn, DownTurn, SharedTurn, does, at_sub, at_storage, at_unit}
 use Rattle.machine_model.specs.Requests.{posted_all, requests_after, requests_dropped, settled}
 use Rattle.machine_model.specs.Sharing.{is_let_go, members_over, owing_after}
@@ -44,18 +42,14 @@ use Rattle.machine_steps.proofs.Posted.{none-made, posted-still, posted-at}
 use Rattle.machine_steps.specs.Postable.{IsPostable}
 use Rattle.machine_model.specs.ChooseSteps.{Chooses, choose_sub}
 use Rattle.machine_model.specs.UpSteps.{up_at, up_sub, up_front, returns_at}
-use Rattle.machine_model.specs.DownSteps.{at_shared, down_at, down_shared}
-use Rattle.machine_model.proofs.Named.{down_unit}
+use Rattle.machine_model.specs.DownSteps.{at_shared, down_at, down_shared, down_unit}
 use Rattle.machine_model.specs.ReportSteps.{report_at, report_to, report_sub}
-use Rattle.machine_model.specs.ActSteps.{act_at, act_on, act_sub, side_of_act}
-use Rattle.machine_model.proofs.Named.{act_to}
+use Rattle.machine_model.specs.ActSteps.{act_at, act_on, act_sub, side_of_act, act_to}
 use Rattle.machine_model.proofs.Others.{other-turned}
 use Rattle.machine_model.specs.OtherTurns.{LentWhole, OtherTurn, lent_whole, with_lent, other_done, other_turn}
 use Rattle.machine_model.specs.OtherSteps.{engaged_chpids}
-use Rattle.machine_model.proofs.Named.{restart_with}
-use Rattle.machine_model.specs.RestartSteps.{restart_at}
-use Rattle.machine_model.specs.InstructionSteps.{Executes_at, subchannel_word}
-use Rattle.machine_model.proofs.Named.{Executes_on}
+use Rattle.machine_model.specs.RestartSteps.{restart_at, restart_with}
+use Rattle.machine_model.specs.InstructionSteps.{Executes_at, subchannel_word, Executes_on}
 use Rattle.io_step.specs.Executing.{Executed_absent}
 use Rattle.io_step.specs.Performing.{Lent, Performed, Comes, lent}
 
@@ -96,6 +90,9 @@ named s word place sub T at stands t =
 abbrev Waits : State → Event → Result Reply Fault → State → WaitingRequests → Type 0
 Waits s e (Ok x) mid waiting = waiting ≡ posted_all s.subs mid.subs (requests_dropped s e x mid.requests)
 Waits s e (Err f) mid waiting = waiting ≡ s.requests
+
+abbrev outcome_of : Result Reply Fault → State → Outcome
+outcome_of r new = elim r [ Ok reply ↦ does reply new | Err f ↦ Err f ]
 
 -- an event came to its outcome, and its requests were settled beside it
 settled-is : (s : State) (e : Event) (outcome : Outcome) (r : Result Reply Fault) (mid : State) (waiting : WaitingRequests) →

@@ -10,9 +10,8 @@ use Rattle.chan_model.specs.declared.fault.Fault.{Fault}
 use Rattle.chan_model.specs.ResetCauses.{is_path}
 use Rattle.channel_config.specs.declared.parts.SubchannelSetup.{SubchannelSetup}
 use Rattle.subchannel_model.specs.declared.state.Subchannel.{Subchannel}
-use Rattle.subchannel_model.specs.Choosing.{engages}
+use Rattle.subchannel_model.specs.Choosing.{engages, engages_at}
 use Rattle.subchannel_model.specs.Opening.{opened}
-use Rattle.subchannel_model.proofs.Named.{engages_at}
 use Rattle.machine_model.specs.declared.state.Sweep.{Sweep}
 use Rattle.machine_model.specs.PathSteps.{swept}
 use Rattle.machine_model.specs.State.{State}

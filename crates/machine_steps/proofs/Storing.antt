@@ -11,8 +11,7 @@ use Rattle.interruptions.specs.Requests.{WaitingRequests}
 use Rattle.subchannel_model.specs.declared.state.Subchannel.{Subchannel}
 use Rattle.machine_model.specs.Requests.{requests_dropped}
 use Rattle.machine_model.specs.State.{State}
-use Rattle.machine_model.proofs.Named.{show_turn_of}
-use Rattle.machine_model.specs.StorageSteps.{storage_turn, put_turn, key_turn, prefix_turn, show_turn}
+use Rattle.machine_model.specs.StorageSteps.{storage_turn, put_turn, key_turn, prefix_turn, show_turn, show_turn_of}
 use Rattle.machine_model.specs.Steps.{Does, Performs}
 use Rattle.machine_model.specs.Turns.{Outcome}
 use Rattle.subchannel_steps.specs.Giving.{Gives}

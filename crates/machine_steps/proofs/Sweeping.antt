@@ -10,8 +10,7 @@ use Rattle.subchannel_model.specs.Losing.{loses, loses_at, path_index, shows_at}
 use Rattle.machine_model.specs.declared.state.Sweep.{Sweep}
 use Rattle.machine_model.specs.declared.state.Sweep.TheVariants as sweep
 use Rattle.machine_model.specs.PathSteps.{swept}
-use Rattle.machine_model.proofs.Named.{makes_status}
-use Rattle.machine_model.specs.Requests.{posted_all, posted_for, request_of}
+use Rattle.machine_model.specs.Requests.{posted_all, posted_for, request_of, makes_status}
 
 -- a sweep leaves each subchannel set up as it was
 loses-setup : (path : Option ℕ) (sub : Subchannel) → (loses_at path sub).setup ≡ sub.setup

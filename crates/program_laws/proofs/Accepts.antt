@@ -27,7 +27,7 @@ use Rattle.program_laws.specs.Traces.{ProgramTrace}
 use Rattle.program_laws.specs.Interrupts.{asked, Interrupts, OnlyInterrupts}
 use Rattle.program_laws.specs.Tells.{command_sent, IsOver, Begins, Accepted, Meets}
 use Rattle.program_laws.specs.Claims.{IsSuspended, has_check, EndsAtCheck}
-use Rattle.program_laws.proofs.Named.{IsRest}
+use Rattle.program_laws.specs.Shows.{IsRest}
 use Rattle.program_laws.proofs.MachineActs.{with_acts, room_acts, first_acts}
 use Rattle.program_laws.proofs.MachineTraces as stories
 use Rattle.program_laws.proofs.Ties.{AreLaws}

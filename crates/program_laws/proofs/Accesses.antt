@@ -8,8 +8,7 @@ use Rattle.std.proofs.lemmas.List.FromFn.{map-range_with_len_more, length-range_
 use Rattle.std.proofs.lemmas.Option.{slice_get-get_or, slice_get_past, get_or_from_slice_get, slice_get_within}
 use Rattle.storage_keys.specs.declared.StorageFault.{StorageFault}
 use Rattle.storage_keys.specs.Storage as keys
-use Rattle.storage_keys.specs.Storage.{Contents, is_inside, where_permitted, fetched, put_at}
-use Rattle.storage_keys.proofs.Named.{permits_store, check_by}
+use Rattle.storage_keys.specs.Storage.{Contents, is_inside, where_permitted, fetched, put_at, keys_permit, key_permits_store, check_by}
 use Rattle.idaw.specs.Places.{each_below}
 use Rattle.data_move.specs.Moving.{Moving, room, next_place}
 use Rattle.data_move.specs.Accesses as access
@@ -199,7 +198,7 @@ module _ (laws : AreAccesses) where
   stored-by storage after key m bytes false s e =
       let got : keys.stored_bytes storage key m.piece bytes ≡ Ok after = was-checked (keys.stored_bytes storage key m.piece bytes) after e in
       let did : (_ : is_inside storage m.piece (length bytes) ≡ true) × (put_at storage m.piece bytes ≡ after) =
-      was-permitted (is_inside storage m.piece (length bytes)) (permits_store storage key m.piece (length bytes)) (put_at storage m.piece bytes) after got in
+      was-permitted (is_inside storage m.piece (length bytes)) (keys_permit (key_permits_store key) storage m.piece (length bytes)) (put_at storage m.piece bytes) after got in
       subst (λ (x : Contents). IsStore storage x m bytes) did.1
       (record {
         stands = λ i place h.

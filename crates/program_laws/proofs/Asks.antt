@@ -37,8 +37,7 @@ use Rattle.subchannel_model.specs.declared.state.SubchannelState.{SubchannelStat
 use Rattle.subchannel_model.specs.declared.status.Shown.{Shown}
 use Rattle.subchannel_model.specs.declared.cause.StatusCause.TheVariants as cause
 use Rattle.subchannel_model.specs.Status.{no_device_status, no_subchannel_status, scsw_made, serials_made, with_joined}
-use Rattle.subchannel_model.specs.Causes.{pci_shown, with_cause}
-use Rattle.subchannel_model.specs.Parts.{scsw_joined}
+use Rattle.subchannel_model.specs.Causes.{pci_shown, with_cause, scsw_joined}
 use Rattle.subchannel_model.specs.Taking.{without_pci}
 use Rattle.program_laws.specs.Interrupts.{asks_by, asked}
 use Rattle.program_laws.specs.Traces.{CommandTrace}

@@ -13,8 +13,7 @@ use Rattle.subchannel_model.specs.Causes.{row_of, with_cause, without_begun, wit
 use Rattle.subchannel_model.specs.Programs.{without_programs}
 use Rattle.subchannel_model.specs.Halt.{halt_begun, drops_status, status_dropped, halted}
 use Rattle.subchannel_model.specs.Test.{ends_suspended, tested_wholly, tested}
-use Rattle.subchannel_model.proofs.Named.{with_attention}
-use Rattle.subchannel_model.specs.Taking.{without_pci, interrupted, suspending, halt_done, clear_done}
+use Rattle.subchannel_model.specs.Taking.{without_pci, interrupted, suspending, halt_done, clear_done, with_attention}
 use Rattle.subchannel_model.specs.Parts.{standing_still, suspended_alone}
 
 -- the hold, and the numbers that were drawn

@@ -17,13 +17,12 @@ use Rattle.ccw_walk.specs.Walks.{WalkPlace, walk_place, after_acts, advance_acts
 use Rattle.idaw.specs.Lists.{block, kind_of}
 use Rattle.idaw.specs.Places.{Reach, place_of_byte, each_below, places_of_bytes}
 use Rattle.data_move.specs.Moving as movement
-use Rattle.data_move.specs.Moving.{Moving, moved, next_place, residual, IsAt}
+use Rattle.data_move.specs.Moving.{Moving, next_place, residual, IsAt}
 use Rattle.transfer.specs.declared.Transfer.{Transfer}
 use Rattle.transfer.specs.Commands.{data_of}
 use Rattle.transfer.specs.Chunks.{chains_data, chained_to, chained_from, chained, with_moved, moved_on}
-use Rattle.program_laws.proofs.Named.{chained_reach, reaches_with}
 use Rattle.program_laws.specs.Claims.{has_check, EndsAtCheck}
-use Rattle.program_laws.specs.DataAreas.{reach, data_areas, reaches_after}
+use Rattle.program_laws.specs.DataAreas.{reach, data_areas, reaches_after, reaches_with}
 use Rattle.program_laws.proofs.MachineActs as doing
 use Rattle.program_laws.specs.Traces.{CommandTrace}
 use Rattle.program_laws.proofs.MachineActs.{chained_acts, with_acts, with_places}
@@ -53,7 +52,7 @@ module _ (laws : AreLaws) where
   joined-length (x ∷ xs) ccw = refl
 
   joined-spot : (orb : Orb) (cs : List Command) (rs : List Reach) (t : Transfer) (walk : WalkPlace) (ps : List (Option ℕ)) (ccw : Ccw) → walk.orb ≡ orb → HasCode cs t.code →
-      ps ≡ places_of_bytes (block (kind_of orb)) rs → IsMovedTo orb (chained_reach cs rs ccw) (record t { walk = walk; moving = data_of walk t.code ccw; pci_pending = ccw.program_controlled }) ps
+      ps ≡ places_of_bytes (block (kind_of orb)) rs → IsMovedTo orb (reaches_with true cs rs ccw) (record t { walk = walk; moving = data_of walk t.code ccw; pci_pending = ccw.program_controlled }) ps
   joined-spot orb [] rs t walk ps ccw e h w = absurd h
   joined-spot orb (x ∷ xs) rs t walk ps ccw e h w =
       (subst (λ (c : ℕ). IsAt (reach c ccw) (data_of walk t.code ccw)) (sym h) (data-begins laws (kind_of walk.orb) t.code ccw), w ∙ sym (append-nil (places_of_bytes (block (kind_of orb)) rs)))
@@ -70,7 +69,7 @@ module _ (laws : AreLaws) where
     joins orb before acts t walk ps ccw w p c h m l s z f g n i en hc =
         let cs : List Command = commands orb before in
         let commanded : commands orb acts ≡ join_last cs ccw = f ∙ ap (λ (x : Bool). if x then join_last cs ccw else record { first = ccw; more = [] } ∷ cs) c in
-        let reached : data_areas orb acts ≡ chained_reach cs (data_areas orb before) ccw =
+        let reached : data_areas orb acts ≡ reaches_with true cs (data_areas orb before) ccw =
         g ∙ ap (λ (x : Bool). reaches_with x cs (data_areas orb before) ccw) c in
         record {
           walk = w;

@@ -44,12 +44,11 @@ use Rattle.subchannel_model.specs.Halt.{halt_begun, drops_status, status_dropped
 use Rattle.subchannel_model.specs.Clear.{cleared}
 use Rattle.subchannel_model.specs.Cancel.{cancelled}
 use Rattle.subchannel_model.specs.Test.{ends_suspended, tested_wholly, tested}
-use Rattle.subchannel_model.specs.Programs.{without_programs}
+use Rattle.subchannel_model.specs.Programs.{without_programs, has_any}
 use Rattle.subchannel_model.specs.Start.{started}
 use Rattle.machine_model.specs.State.{State, opening_of}
 use Rattle.subchannel_model.specs.Opening.{opened}
 use Rattle.subchannel_model.specs.Taking as taking
-use Rattle.subchannel_model.proofs.Named as pieces
 use Rattle.subchannel_model.specs.Taking.{takes_up, goes_ahead, by_hold, reset_taken}
 use Rattle.machine_model.specs.Turns.{SubTurn, UpTurn, DownTurn}
 use Rattle.subchannel_model.specs.Sending.{carried_by, finds_full}
@@ -59,15 +58,14 @@ use Rattle.machine_model.specs.DownSteps.{down_front, down_sub}
 use Rattle.machine_model.specs.ReportSteps.{report_taken, report_sub}
 use Rattle.machine_model.specs.Steps.{Run, Opened, Stepped}
 use Rattle.subchannel_model.specs.Losing.{is_offered_or_held, reset_with, reset_for}
-use Rattle.subchannel_model.specs.Parts.{has_any}
 use Rattle.subchannel_model.specs.SystemReset.{state_reset}
 use Rattle.machine_model.specs.declared.state.Sweep.{Sweep}
 use Rattle.machine_model.specs.PathSteps.{swept}
 use Rattle.step_laws.specs.Walks.{IsFound, Suits}
 use Rattle.machine_laws.proofs.TaleEvents.{reset-phase}
 use Rattle.program_laws.specs.Traces as traced
-use Rattle.program_laws.proofs.Named.{offered_for, resumed_for, IsCopied, takes, reported}
-use Rattle.program_laws.specs.Traces.{ProgramTrace, chosen_at, taken_at, absorbs, reported_at}
+use Rattle.program_laws.specs.Claims.{IsCopied}
+use Rattle.program_laws.specs.Traces.{ProgramTrace, chosen_at, taken_at, absorbs, reported_at, offered_for, resumed_for, takes, reported}
 use Rattle.program_laws.proofs.MachineTraces.{met_with, met_at, trace, trace_after}
 use Rattle.program_laws.proofs.Turns.{PlaceStep, Stays, Starts_with_orb, Is_tested, Is_resumed, Is_halted, Is_cleared, Is_cancelled, Is_modified, Is_chosen, Meets, Sinks, Is_reported, Other_sinks, Other_reported, Unit_acts, Is_swept, step-happens}
 use Rattle.program_laws.proofs.Accesses.{AreAccesses}
@@ -290,9 +288,9 @@ reset-untold : (s : SubchannelState) (shows : Bool) → IsUntold s → IsUntold 
 reset-untold s true u = record { phase = omega arith; begun = refl; suspended = refl }
 reset-untold s false u = record { phase = omega arith; begun = u.begun; suspended = u.suspended }
 
-noticed-untold : (s : SubchannelState) (c : ℕ) (b : Bool) → IsUntold s → IsUntold (if b then taking.quietly (reset_for (pieces.with_known s c)) else taking.ignoring s).state
+noticed-untold : (s : SubchannelState) (c : ℕ) (b : Bool) → IsUntold s → IsUntold (if b then taking.quietly (reset_for (taking.with_known s c)) else taking.ignoring s).state
 noticed-untold s c true u =
-    reset-untold (pieces.with_known s c) (is_offered_or_held s.hold.phase && has_any s.waiting s.begun s.suspended) (record { phase = u.phase; begun = u.begun; suspended = u.suspended })
+    reset-untold (taking.with_known s c) (is_offered_or_held s.hold.phase && has_any s.waiting s.begun s.suspended) (record { phase = u.phase; begun = u.begun; suspended = u.suspended })
 noticed-untold s c false u = u
 
 pub unheld-by : (P : HoldPhase → Type 0) (phase : HoldPhase) (drawn : ℕ) → IsUnheld phase drawn → P hold.Free → ((r : ℕ) → P (hold.Reset r)) → P phase
@@ -311,7 +309,7 @@ cleared-if s true u =
     (record { phase = tt; begun = u.begun; suspended = u.suspended })
 cleared-if s false u = u
 
-attention-untold : (s : SubchannelState) (shows : Bool) → IsUntold s → IsUntold (pieces.with_attention s shows)
+attention-untold : (s : SubchannelState) (shows : Bool) → IsUntold s → IsUntold (taking.with_attention s shows)
 attention-untold s true u = record { phase = u.phase; begun = u.begun; suspended = u.suspended }
 attention-untold s false u = u
 

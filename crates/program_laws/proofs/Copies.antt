@@ -33,8 +33,7 @@ use Rattle.program_laws.specs.Traces.{CommandTrace, no_trace, ProgramTrace, past
 use Rattle.program_laws.proofs.MachineActs.{with_acts, with_places, with_copy, located_acts, chunk_of, chained_acts, trace_answered, gives, with_arrival, storing, takes_in, first_acts, next_acts}
 use Rattle.program_laws.proofs.MachineTraces as stories
 use Rattle.program_laws.proofs.MachineTraces.{trace_meets}
-use Rattle.program_laws.proofs.Named.{IsCopied}
-use Rattle.program_laws.specs.Claims.{part_of}
+use Rattle.program_laws.specs.Claims.{part_of, IsCopied}
 use Rattle.program_laws.proofs.Accesses.{AreAccesses, copied-bytes}
 
 abbrev pub AllCopied : CommandTrace → Type 0

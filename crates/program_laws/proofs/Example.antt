@@ -15,7 +15,7 @@ use Rattle.subchannel_model.specs.Opening.{opening_subchannel}
 use Rattle.subchannel_model.specs.Taking.{takes_up}
 use Rattle.program_laws.specs.Traces.{ProgramTrace, trace_offered, trace_resumed}
 use Rattle.program_laws.proofs.MachineTraces.{trace_meets}
-use Rattle.program_laws.proofs.Named.{codes}
+use Rattle.program_laws.specs.Claims.{codes_after}
 
 -- at 8 a block of format 1: code 1, count 2, address 16
 storage : Contents
@@ -75,7 +75,7 @@ example_sent : sent_story.sent ≡ 1
 unfolding storage
 example_sent = refl
 
-example_codes : codes moved_story.earlier moved_story.orb moved_story.now.acts ≡ 1 ∷ []
+example_codes : codes_after moved_story.earlier moved_story.orb moved_story.now.acts ≡ 1 ∷ []
 unfolding storage
 example_codes = refl
 
@@ -133,10 +133,10 @@ example_suspended : is_some suspended_state.suspended ≡ true
 unfolding stored
 example_suspended = refl
 
-example_suspended_codes : codes 0 suspended_story.orb suspended_story.now.acts ≡ 1 ∷ []
+example_suspended_codes : codes_after 0 suspended_story.orb suspended_story.now.acts ≡ 1 ∷ []
 unfolding stored
 example_suspended_codes = refl
 
-example_resumed_codes : codes resumed_story.earlier resumed_story.orb resumed_story.now.acts ≡ 5 ∷ []
+example_resumed_codes : codes_after resumed_story.earlier resumed_story.orb resumed_story.now.acts ≡ 5 ∷ []
 unfolding stored
 example_resumed_codes = refl

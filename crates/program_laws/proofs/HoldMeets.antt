@@ -40,20 +40,20 @@ use Rattle.subchannel_model.specs.declared.state.ProgramPosition.{ProgramPositio
 use Rattle.subchannel_model.specs.declared.cause.StatusCause.TheVariants as cause
 use Rattle.subchannel_model.specs.Ends.{has_status_modifier, chains_command, breaks_chain, shows_length, has_unit_exception, has_shown, end_shown}
 use Rattle.subchannel_model.specs.Causes as causes
-use Rattle.subchannel_model.proofs.Named.{with_row}
-use Rattle.subchannel_model.specs.Causes.{with_cause, without_begun, fetch_fault_shown}
+use Rattle.subchannel_model.specs.Causes.{with_cause, without_begun, fetch_fault_shown, with_row}
 use Rattle.subchannel_model.specs.Taking as taking
 use Rattle.subchannel_model.specs.Parts as taking_parts
 use Rattle.subchannel_model.proofs.Named as pieces
 use Rattle.subchannel_model.specs.Taking.{takes_up, goes_ahead, path_used, let_go, with_end, without_pci, interrupted, taking_over, from_start, suspended_as, standing_as, suspending}
-use Rattle.subchannel_model.specs.Parts.{standing_still, suspended_alone, has_any}
+use Rattle.subchannel_model.specs.Parts.{standing_still, suspended_alone}
+use Rattle.subchannel_model.specs.Programs.{has_any}
 use Rattle.program_laws.specs.Traces.{CommandTrace, no_trace, ProgramTrace, past_part}
 use Rattle.program_laws.proofs.MachineActs.{with_acts, goes_acts, first_acts, next_acts, gives, takes_in}
 use Rattle.program_laws.proofs.MachineTraces as stories
 use Rattle.program_laws.proofs.MachineTraces.{trace_meets}
-use Rattle.program_laws.specs.Claims.{IsBeginning, places_of, places_arrived, IsSuspended, EndsAtCheck}
+use Rattle.program_laws.specs.Claims.{IsBeginning, places_of, places_arrived, IsSuspended, EndsAtCheck, IsWhole}
 use Rattle.program_laws.specs.DataAreas.{data_areas, counts}
-use Rattle.program_laws.proofs.Named.{IsRest, IsWhole}
+use Rattle.program_laws.specs.Shows.{IsRest}
 use Rattle.program_laws.proofs.Accesses.{AreAccesses}
 use Rattle.program_laws.proofs.Ties.{AreLaws, Tied, changed, spot-counts}
 use Rattle.program_laws.proofs.Parts.{IsDone, IsAtWork, HasArrived, done-of, arrived-none, gives-work, takes_in-work, WentOn, goes-on, IsSame, absorbed-same, next_given-same, located-same, brought-same, room-same}
@@ -464,9 +464,9 @@ module _ (laws : AreLaws) (accesses : AreAccesses) where
         standing = h.standing;
       }
 
-  notice-held : (s : SubchannelState) (k : ProgramTrace) (b : ℕ) (more : Bool) → IsHeld s k → IsHeld (if more then taking.quietly (reset_for (pieces.with_known s b)) else taking.ignoring s).state k
+  notice-held : (s : SubchannelState) (k : ProgramTrace) (b : ℕ) (more : Bool) → IsHeld s k → IsHeld (if more then taking.quietly (reset_for (taking.with_known s b)) else taking.ignoring s).state k
   notice-held s k b true h =
-      reset-held (pieces.with_known s b) k (is_offered_or_held s.hold.phase && has_any s.waiting s.begun s.suspended) refl
+      reset-held (taking.with_known s b) k (is_offered_or_held s.hold.phase && has_any s.waiting s.begun s.suspended) refl
       (record { number = h.number; phase = h.phase; drawn = h.drawn; work = h.work; standing = h.standing })
   notice-held s k b false h = h
 

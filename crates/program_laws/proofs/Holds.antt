@@ -21,10 +21,9 @@ use Rattle.subchannel_model.specs.declared.state.ProgramPosition.{ProgramPositio
 use Rattle.subchannel_model.specs.declared.cause.StatusCause.TheVariants as cause
 use Rattle.subchannel_model.specs.Causes.{with_cause}
 use Rattle.subchannel_model.specs.Programs.{without_programs}
-use Rattle.subchannel_model.proofs.Named.{with_attention}
-use Rattle.subchannel_model.specs.Taking.{let_go, by_hold, back, halt_done, clear_done, reset_taken}
+use Rattle.subchannel_model.specs.Taking.{let_go, by_hold, back, halt_done, clear_done, reset_taken, with_attention}
 use Rattle.program_laws.specs.Traces.{CommandTrace, no_trace, ProgramTrace, past_part}
-use Rattle.program_laws.proofs.Named.{IsRest}
+use Rattle.program_laws.specs.Shows.{IsRest}
 use Rattle.program_laws.specs.Claims.{IsStored, places_of, IsSuspended}
 use Rattle.program_laws.proofs.Lists.{begins-all}
 use Rattle.program_laws.proofs.Ties.{IsFresh}

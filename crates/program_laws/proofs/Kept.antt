@@ -21,7 +21,7 @@ use Rattle.idaw.specs.declared.WordFault.{WordFault}
 use Rattle.idaw.specs.Lists.{block, kind_of, width, address_of_word, word_fault}
 use Rattle.idaw.specs.Places.{Reach, covered, each_below, place_of_byte, places_of_bytes}
 use Rattle.data_move.specs.Accesses as access
-use Rattle.data_move.specs.Accesses.{checked, list_word_of}
+use Rattle.data_move.specs.Accesses.{checked, list_word_of, where_right}
 use Rattle.data_move.specs.Moving.{Moving, with_piece, next_place, needs_word, residual, uses_list, room, IsAt}
 use Rattle.transfer.specs.declared.Transfer.{Transfer}
 use Rattle.transfer.specs.Commands.{located_transfer, with_located}
@@ -32,7 +32,6 @@ use Rattle.program_laws.specs.DataAreas.{data_areas, counts}
 use Rattle.program_laws.specs.Fetches.{IsNextWord}
 use Rattle.program_laws.specs.Reached.{reached, left_of, room_of, is_short, skips, CantReach, CantFetch}
 use Rattle.program_laws.specs.Traces.{CommandTrace}
-use Rattle.program_laws.proofs.Named.{where_right}
 use Rattle.program_laws.proofs.MachineActs as doing
 use Rattle.program_laws.proofs.MachineActs.{act_of_right, act_of_word, located_acts, chained_acts, with_acts, with_places, trace_moved_on}
 use Rattle.program_laws.proofs.Lists.{length-places, length-each_below}

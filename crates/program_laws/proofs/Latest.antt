@@ -11,8 +11,7 @@ use Rattle.ccw_walk.specs.Blocks.{reads}
 use Rattle.ccw_walk.specs.Programs.{Command, code, role_of, latest, latest_after, next_ended, commands, commands_after}
 use Rattle.idaw.specs.Places.{Reach, reach_with_word}
 use Rattle.transfer.specs.declared.Transfer.{Transfer}
-use Rattle.program_laws.proofs.Named.{word_after}
-use Rattle.program_laws.specs.DataAreas.{reach, data_areas, reaches_after}
+use Rattle.program_laws.specs.DataAreas.{reach, data_areas, reaches_after, word_after}
 use Rattle.program_laws.proofs.Ties.{HasCode, IsMovedTo, Tied, ccw-of}
 
 -- some command began

@@ -1,4 +1,3 @@
-mod Named
 mod MachineActs
 mod MachineTraces
 mod Vanishing

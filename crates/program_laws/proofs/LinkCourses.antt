@@ -26,9 +26,8 @@ use Rattle.scsw_irb.specs.declared.status.DeviceStatus.{DeviceStatus}
 use Rattle.subchannel_model.specs.declared.state.ActiveProgram.{ActiveProgram}
 use Rattle.subchannel_model.specs.declared.state.SubchannelState.{SubchannelState}
 use Rattle.subchannel_model.specs.Sending.{carried, with_any_sent}
-use Rattle.program_laws.specs.Traces.{CommandTrace, ProgramTrace, taken_at, absorbs}
+use Rattle.program_laws.specs.Traces.{CommandTrace, ProgramTrace, taken_at, absorbs, takes, reported}
 use Rattle.program_laws.specs.DataAreas.{data_areas}
-use Rattle.program_laws.proofs.Named.{takes, reported}
 use Rattle.program_laws.proofs.MachineTraces.{ends_alone, with_ended}
 use Rattle.program_laws.specs.Claims.{AbsorbsInOrder, IsBeginning, IsFirstOf, places_of}
 use Rattle.program_laws.proofs.Ties.{AreLaws, Tied, spot-begins, with_moved-tied}

@@ -26,9 +26,8 @@ use Rattle.subchannel_model.specs.declared.state.UpStep.{UpStep}
 use Rattle.subchannel_model.specs.Ends.{has_status_modifier, chains_command}
 use Rattle.subchannel_model.specs.Taking.{Met, goes_ahead, standing, path_used, taking_over, with_transfer, moving_on, reset_taken, beginning, begin_standing, accepted_by, accept, move_bytes, move_data, with_end, end_taken, chaining, goes_on, stops_at, end_of, takes_up}
 use Rattle.subchannel_model.specs.Losing.{is_offered_or_held, reset_with, reset_for}
-use Rattle.subchannel_model.specs.Parts.{has_any}
+use Rattle.subchannel_model.specs.Programs.{has_any}
 use Rattle.subchannel_model.specs.Taking as taking
-use Rattle.subchannel_model.proofs.Named as pieces
 use Rattle.program_laws.proofs.Caused.{cause-kept, interrupted-work, suspending-workless, halt-kept, clear-kept}
 
 module _ (storage : Contents) where
@@ -105,11 +104,11 @@ module _ (storage : Contents) where
   reset-less s true = omega arith
   reset-less s false = omega arith
 
-  notice-less : (s : SubchannelState) (b : ℕ) (more : Bool) → s.drawn ≤ (if more then taking.quietly (reset_for (pieces.with_known s b)) else taking.ignoring s).state.drawn
-  notice-less s b true = reset-less (pieces.with_known s b) (is_offered_or_held s.hold.phase && has_any s.waiting s.begun s.suspended)
+  notice-less : (s : SubchannelState) (b : ℕ) (more : Bool) → s.drawn ≤ (if more then taking.quietly (reset_for (taking.with_known s b)) else taking.ignoring s).state.drawn
+  notice-less s b true = reset-less (taking.with_known s b) (is_offered_or_held s.hold.phase && has_any s.waiting s.begun s.suspended)
   notice-less s b false = omega arith
 
-  attention-drawn : (s : SubchannelState) (shows : Bool) → (pieces.with_attention s shows).drawn ≡ s.drawn
+  attention-drawn : (s : SubchannelState) (shows : Bool) → (taking.with_attention s shows).drawn ≡ s.drawn
   attention-drawn s true = refl
   attention-drawn s false = refl
 

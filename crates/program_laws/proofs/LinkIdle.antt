@@ -15,10 +15,9 @@ use Rattle.subchannel_model.specs.declared.state.ActiveProgram.{ActiveProgram}
 use Rattle.subchannel_model.specs.declared.state.SubchannelState.{SubchannelState}
 use Rattle.subchannel_model.specs.declared.state.UpStep.{UpStep}
 use Rattle.subchannel_model.specs.Taking as taking
-use Rattle.subchannel_model.proofs.Named as pieces
 use Rattle.subchannel_model.specs.Taking.{goes_ahead, takes_up}
 use Rattle.subchannel_model.specs.Losing.{is_offered_or_held, reset_with, reset_for}
-use Rattle.subchannel_model.specs.Parts.{has_any}
+use Rattle.subchannel_model.specs.Programs.{has_any}
 use Rattle.program_laws.proofs.MachineTraces as stories
 use Rattle.program_laws.specs.Traces.{ProgramTrace}
 use Rattle.program_laws.proofs.MachineTraces.{trace_meets}
@@ -63,8 +62,8 @@ module _ (storage : Contents) (s : SubchannelState) (none : s.begun ≡ None) wh
   reset-begun c true e = sym e
   reset-begun c false e = refl
 
-  notice-idle : (b : ℕ) (more : Bool) → IsIdle s (if more then taking.quietly (reset_for (pieces.with_known s b)) else taking.ignoring s) (λ k. k)
-  notice-idle b true = record { begun = reset-begun (pieces.with_known s b) (is_offered_or_held s.hold.phase && has_any s.waiting s.begun s.suspended) none; sends = tt; same = λ k. refl }
+  notice-idle : (b : ℕ) (more : Bool) → IsIdle s (if more then taking.quietly (reset_for (taking.with_known s b)) else taking.ignoring s) (λ k. k)
+  notice-idle b true = record { begun = reset-begun (taking.with_known s b) (is_offered_or_held s.hold.phase && has_any s.waiting s.begun s.suspended) none; sends = tt; same = λ k. refl }
   notice-idle b false = record { begun = refl; sends = tt; same = λ k. refl }
 
   back-idle : (p : ℕ) (step : Option HoldStep) → SendsHoldSignal step → IsIdle s (taking.back s p step) (λ k. k)

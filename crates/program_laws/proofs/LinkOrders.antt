@@ -36,8 +36,7 @@ use Rattle.machine_model.specs.DownSteps.{down_front, down_sub}
 use Rattle.machine_model.specs.ReportSteps.{report_taken}
 use Rattle.step_laws.specs.Walks.{IsFound, Suits}
 use Rattle.program_laws.proofs.MachineTraces.{silent_by, trace_meets, met_with, met_at}
-use Rattle.program_laws.proofs.Named.{offered_for, reported}
-use Rattle.program_laws.specs.Traces.{ProgramTrace, trace_offered, chosen_at, taken_at, absorbs, reported_at}
+use Rattle.program_laws.specs.Traces.{ProgramTrace, trace_offered, chosen_at, taken_at, absorbs, reported_at, offered_for, reported}
 use Rattle.ccw_walk.specs.Programs.{Command, commands, code}
 use Rattle.program_laws.proofs.Caused.{cause-kept}
 use Rattle.program_laws.proofs.Holds.{IsUnheld, IsUntold}

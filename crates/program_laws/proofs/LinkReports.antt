@@ -24,8 +24,7 @@ use Rattle.chan_model.specs.UnitTable.{UnitStep, is_owner}
 use Rattle.chan_model.specs.UnitReports.{is_outward, is_last_end, progress_after_end, with_absorbed}
 use Rattle.subchannel_model.specs.declared.state.ActiveProgram.{ActiveProgram}
 use Rattle.subchannel_model.specs.Sending.{with_any_sent}
-use Rattle.program_laws.specs.Traces.{ProgramTrace, absorbs}
-use Rattle.program_laws.proofs.Named.{reported}
+use Rattle.program_laws.specs.Traces.{ProgramTrace, absorbs, reported}
 use Rattle.program_laws.proofs.UnitOrders.{IsNumbered, one-number}
 use Rattle.program_laws.proofs.UnitFlows.{View, Hand, Level, Pending, Ahead, Flow, IsGive, IsData, IsStarted, absorbs-flow, none-flow, none-data}
 use Rattle.program_laws.proofs.LinkViews.{view_of}

@@ -27,7 +27,6 @@ use Rattle.subchannel_model.specs.declared.state.SubchannelState.{SubchannelStat
 use Rattle.subchannel_model.specs.declared.state.UpStep.{UpStep}
 use Rattle.subchannel_model.specs.Ends.{has_status_modifier, chains_command}
 use Rattle.subchannel_model.specs.Taking as taking
-use Rattle.subchannel_model.proofs.Named as pieces
 use Rattle.subchannel_model.specs.Losing.{reset_for}
 use Rattle.subchannel_model.specs.Taking.{Met, ignoring, by_hold, let_go, goes_ahead, standing, path_used, taking_over, with_transfer, moving_on, reset_taken, halt_done, clear_done, beginning, begin_standing, accepted_by, accept, move_bytes, move_data, take_data, with_end, chaining, goes_on, stops_at, command_ended, end_of, end_command, takes_up}
 use Rattle.program_laws.proofs.Caused.{IsInterrupted, interrupted-work}
@@ -228,7 +227,7 @@ reset-sends : (s : SubchannelState) (step : Option HoldStep) → SendsHoldSignal
 reset-sends s None m = tt
 reset-sends s (Some step) m = muttered (clear_done (record s { hold = step.state })) (came_of (Some step)).sent m
 
-notice-sends : (s : SubchannelState) (b : ℕ) (more : Bool) → Sends (if more then taking.quietly (reset_for (pieces.with_known s b)) else taking.ignoring s)
+notice-sends : (s : SubchannelState) (b : ℕ) (more : Bool) → Sends (if more then taking.quietly (reset_for (taking.with_known s b)) else taking.ignoring s)
 notice-sends s b true = tt
 notice-sends s b false = tt
 

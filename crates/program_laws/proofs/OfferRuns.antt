@@ -39,8 +39,7 @@ use Rattle.subchannel_model.specs.Clear.{cleared}
 use Rattle.subchannel_model.specs.Halt.{halt_begun, drops_status, status_dropped, halted}
 use Rattle.subchannel_model.specs.Losing.{is_offered_or_held, reset_with, shows_at}
 use Rattle.subchannel_model.specs.Opening.{opened}
-use Rattle.subchannel_model.specs.Parts.{has_any}
-use Rattle.subchannel_model.specs.Programs.{without_programs}
+use Rattle.subchannel_model.specs.Programs.{without_programs, has_any}
 use Rattle.subchannel_model.specs.Resume.{resumed}
 use Rattle.subchannel_model.specs.Sending.{carried_by, finds_full}
 use Rattle.subchannel_model.specs.Start.{started}
@@ -64,8 +63,7 @@ use Rattle.seen_laws.proofs.Meets.{takes-meets}
 use Rattle.seen_laws.proofs.Overs.{with_hold, offer_begun, meets-offer, meets-accept, begin-taken, same-in}
 use Rattle.seen_laws.proofs.Starts.{Within, IsChosenBy, cause-within, takes-within, start-within, test-within, halt-within, reset-within, chosen-by}
 use Rattle.program_laws.specs.Traces as traced
-use Rattle.program_laws.specs.Traces.{ProgramTrace, chosen_at, taken_at, absorbs, reported_at}
-use Rattle.program_laws.proofs.Named.{offered_for, takes, reported}
+use Rattle.program_laws.specs.Traces.{ProgramTrace, chosen_at, taken_at, absorbs, reported_at, offered_for, takes, reported}
 use Rattle.program_laws.proofs.MachineTraces.{trace_meets, trace_accepted, met_with, met_at, trace, trace_after}
 use Rattle.program_laws.proofs.Turns.{PlaceStep, Stays, Starts_with_orb, Is_tested, Is_resumed, Is_halted, Is_cleared, Is_cancelled, Is_modified, Is_chosen, Meets, Sinks, Is_reported, Other_sinks, Other_reported, Unit_acts, Is_swept, step-happens}
 use Rattle.program_laws.proofs.Accesses.{AreAccesses}

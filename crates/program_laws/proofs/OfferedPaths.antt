@@ -33,9 +33,9 @@ use Rattle.subchannel_model.specs.Modify.{msch_code}
 use Rattle.subchannel_model.specs.Resume.{rsch_code}
 use Rattle.subchannel_model.specs.Store.{pmcw_of, stsch_code}
 use Rattle.subchannel_model.specs.Test.{tsch_code}
-use Rattle.subchannel_model.specs.Choosing.{first_some, path_use, paths_to_choose, engaged_paths, chosen, marked_sub}
+use Rattle.subchannel_model.specs.Choosing.{first_some, path_use, paths_to_choose, engaged_paths, chosen, marked_sub, starting, resuming}
 use Rattle.subchannel_model.specs.Losing.{is_offered_or_held}
-use Rattle.subchannel_model.specs.Parts.{has_any, starting, resuming}
+use Rattle.subchannel_model.specs.Programs.{has_any}
 use Rattle.subchannel_model.specs.Places.{is_named, place_in, place_of_id}
 use Rattle.subchannel_model.specs.Start.{started}
 use Rattle.machine_model.specs.ChooseSteps.{choose_sub}

@@ -24,12 +24,11 @@ use Rattle.subchannel_model.specs.declared.state.Subchannel.{Subchannel}
 use Rattle.subchannel_model.specs.declared.state.SubchannelState.{SubchannelState}
 use Rattle.subchannel_model.specs.Cancel.{cancelled, xsch_code}
 use Rattle.subchannel_model.specs.Causes.{with_cause}
-use Rattle.subchannel_model.specs.Choosing.{first_some, candidate, path_use, reset_chosen, clear_chosen, halt_at, offer_at, over_unless, chosen, unsent_reset, marked_sub, reset_sent, halt_sent, offered}
+use Rattle.subchannel_model.specs.Choosing.{first_some, candidate, path_use, reset_chosen, clear_chosen, halt_at, offer_at, over_unless, chosen, unsent_reset, marked_sub, reset_sent, halt_sent, offered, halt_chosen, offer_chosen, starting, resuming}
 use Rattle.subchannel_model.specs.Conditions.{condition_of}
 use Rattle.subchannel_model.specs.Halt.{halted, hsch_code, shows_end}
 use Rattle.subchannel_model.specs.Losing.{is_offered_or_held, reset_with, shows_at}
-use Rattle.subchannel_model.specs.Parts.{has_any, halt_chosen, offer_chosen, starting, resuming}
-use Rattle.subchannel_model.specs.Programs.{without_programs}
+use Rattle.subchannel_model.specs.Programs.{without_programs, has_any}
 use Rattle.subchannel_model.specs.Resume.{resumed}
 use Rattle.subchannel_model.specs.Sending.{carried_by, finds_full}
 use Rattle.subchannel_model.specs.Start.{started}

@@ -31,8 +31,7 @@ use Rattle.program_laws.specs.DataAreas.{data_areas}
 use Rattle.program_laws.proofs.MachineActs as doing
 use Rattle.program_laws.specs.Traces.{CommandTrace, Arrival}
 use Rattle.program_laws.proofs.MachineActs.{with_acts, with_places, with_copy, located_acts, room_acts, goes_acts, chunk_of, chained_acts, trace_answered, trace_giving, gives, with_arrival, storing, arriving, takes_in}
-use Rattle.program_laws.proofs.Named.{IsWhole}
-use Rattle.program_laws.specs.Claims.{IsSuspended, IsStored, places_arrived, IsBeginning, places_of, has_check, EndsAtCheck}
+use Rattle.program_laws.specs.Claims.{IsSuspended, IsStored, places_arrived, IsBeginning, places_of, has_check, EndsAtCheck, IsWhole}
 use Rattle.program_laws.proofs.Lists.{length-each_below}
 use Rattle.program_laws.proofs.Accesses.{AreAccesses, IsStore, stored-bytes}
 use Rattle.program_laws.proofs.Ties.{AreLaws, IsFresh, Tied, changed, spot-begins, Begins, goes-begins, located-tied, room-tied}

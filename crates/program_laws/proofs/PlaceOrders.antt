@@ -35,7 +35,7 @@ use Rattle.program_laws.proofs.UnitActs.{owing-gentle}
 use Rattle.program_laws.proofs.Vanishing.{Fewer, lost-fewer}
 use Rattle.program_laws.proofs.Sweeps.{swept-kept}
 use Rattle.subchannel_model.specs.Losing.{is_offered_or_held, reset_with}
-use Rattle.subchannel_model.specs.Parts.{has_any}
+use Rattle.subchannel_model.specs.Programs.{has_any}
 use Rattle.machine_model.specs.declared.state.Sweep.{Sweep}
 use Rattle.machine_model.specs.PathSteps.{swept}
 use Rattle.program_laws.proofs.LinkOrders.{number_of, sent_of, all_codes, took_of, IsLinked, AtUnit, AreAbove, fewer-linked, choose-linked, IsMet, up-linked, down-linked, gentle-linked, report-linked, other-down, other-report}

@@ -21,7 +21,7 @@ use Rattle.subchannel_model.specs.Opening.{opened}
 use Rattle.machine_model.specs.Steps.{Run, Opened, Stepped}
 use Rattle.program_laws.specs.Traces.{ProgramTrace}
 use Rattle.program_laws.proofs.MachineTraces.{trace, trace_after}
-use Rattle.program_laws.proofs.Named.{codes, TakesInOrder}
+use Rattle.program_laws.specs.Claims.{codes_after, TakesInOrder}
 use Rattle.step_laws.specs.Walks.{AreWalks}
 use Rattle.machine_laws.specs.Agreeing.{AreAbove}
 use Rattle.program_laws.proofs.Turns.{step-happens}
@@ -104,7 +104,7 @@ run-linked walks setup lawful above needs _ _ (Stepped h old e r new run step) p
 linked-takes : (side : Side) (drawn : ℕ) (wires : List (List Down)) (k : ProgramTrace) (u : Option UnitState) → AtUnit (IsLinked side drawn wires (Some k)) u → TakesInOrder k
 linked-takes side drawn wires k None l = absurd l
 linked-takes side drawn wires k (Some u) l =
-    (reverse l.later, sym (reverse-append l.later k.taken) ∙ ap reverse (sym l.order) ∙ reverse-reverse (codes k.earlier k.orb k.now.acts))
+    (reverse l.later, sym (reverse-append l.later k.taken) ∙ ap reverse (sym l.order) ∙ reverse-reverse (codes_after k.earlier k.orb k.now.acts))
 
 pub run-takes : AreWalks → (setup : Setup) → IsLawful setup → AllAbove setup → AllNeeds setup → (h : List Entry) (s : State) (run : Run (opening_of setup) h s) (place : ℕ) (sub : Subchannel) (k : ProgramTrace) →
     slice_get s.subs place ≡ Some sub → trace place (opening_of setup) h s run ≡ Some k → TakesInOrder k

@@ -27,17 +27,15 @@ use Rattle.subchannel_model.specs.declared.state.SubchannelState.{SubchannelStat
 use Rattle.subchannel_model.specs.declared.status.Shown.{Shown}
 use Rattle.subchannel_model.specs.declared.cause.StatusCause.TheVariants as cause
 use Rattle.subchannel_model.specs.Status.{no_device_status, no_subchannel_status, with_joined, scsw_made, serials_made}
-use Rattle.subchannel_model.specs.Ends.{has_status_modifier, chains_command, last_shown, end_shown}
-use Rattle.subchannel_model.specs.Parts.{chain_with, channel_end_shown, scsw_joined, standing_still, suspended_alone}
-use Rattle.subchannel_model.proofs.Named.{with_row}
-use Rattle.subchannel_model.specs.Causes.{without_begun, fetch_fault_shown, pci_shown, suspension_shown, with_cause}
+use Rattle.subchannel_model.specs.Ends.{has_status_modifier, chains_command, last_shown, end_shown, channel_end_shown}
+use Rattle.subchannel_model.specs.Parts.{chain_with, standing_still, suspended_alone}
+use Rattle.subchannel_model.specs.Causes.{without_begun, fetch_fault_shown, pci_shown, suspension_shown, with_cause, scsw_joined, with_row}
 use Rattle.subchannel_model.specs.Taking as taking
 use Rattle.subchannel_model.proofs.Named as pieces
 use Rattle.subchannel_model.specs.Taking.{let_go, with_end, without_pci}
 use Rattle.program_laws.proofs.MachineActs.{with_acts, next_acts}
 use Rattle.program_laws.specs.DataAreas.{data_areas, counts}
-use Rattle.program_laws.proofs.Named.{IsRest, IsRestAt}
-use Rattle.program_laws.specs.Shows.{IsShownBy}
+use Rattle.program_laws.specs.Shows.{IsShownBy, IsRest, IsRestAt}
 use Rattle.program_laws.proofs.MachineTraces as stories
 use Rattle.program_laws.specs.Traces.{ProgramTrace}
 use Rattle.program_laws.proofs.Accesses.{AreAccesses}

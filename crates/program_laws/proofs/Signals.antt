@@ -30,7 +30,8 @@ use Rattle.subchannel_model.specs.declared.state.UpStep.{UpStep}
 use Rattle.subchannel_model.specs.Causes.{with_cause}
 use Rattle.subchannel_model.specs.Ends.{has_status_modifier, chains_command}
 use Rattle.subchannel_model.specs.Losing.{is_offered_or_held, reset_drawn, reset_with, reset_for}
-use Rattle.subchannel_model.specs.Parts.{has_any, suspended_alone, standing_still, end_shown_at}
+use Rattle.subchannel_model.specs.Parts.{suspended_alone, standing_still, end_shown_at}
+use Rattle.subchannel_model.specs.Programs.{has_any}
 use Rattle.subchannel_model.specs.Taking.{Met, meets, ignoring, quietly, let_go, without_pci, interrupted, standing, goes_ahead, path_used, taking_over, suspending, beginning, begin_standing, halt_done, accepted_by, accept, with_transfer, moving_on, giving, take_in, move_bytes, move_data, with_end, end_taken, chaining, goes_on, stops_at, command_ended, end_of, clear_done, reset_taken, may_attend, takes_up}
 
 -- what the claim may be of: the program that waits, the status word and the logical-path mask; a status is made; a program takes the device, or

@@ -18,12 +18,11 @@ use Rattle.channel_config.specs.SubchannelWords.{subchannel_named}
 use Rattle.subchannel_model.specs.declared.state.Subchannel.{Subchannel}
 use Rattle.subchannel_model.specs.Places.{Found, place_in, place_of_id, found_at}
 use Rattle.subchannel_model.specs.Start.{started, ssch_code}
-use Rattle.machine_model.specs.InstructionSteps.{WhereFetched, Starts_with, function_at, function_sub, code_at}
+use Rattle.machine_model.specs.InstructionSteps.{WhereFetched, Starts_with, function_at, function_sub, code_at, Executes_on}
 use Rattle.machine_model.specs.State.{State, place_of}
 use Rattle.machine_model.specs.Requests.{settled, posted_all, requests_dropped}
 use Rattle.machine_model.specs.Steps.{Step}
 use Rattle.machine_model.specs.Turns.{Turn, Outcome, does, with_state}
-use Rattle.machine_model.proofs.Named.{Executes_on}
 use Rattle.seen_laws.specs.BeginsItsOwn.{is_code_zero}
 use Rattle.step_laws.proofs.Places.{found-there}
 use Rattle.program_laws.specs.ProgramTold.{IsOrbAt}

@@ -24,20 +24,18 @@ use Rattle.subchannel_model.specs.declared.state.Program.{Program}
 use Rattle.subchannel_model.specs.declared.state.ProgramPosition.{ProgramPosition}
 use Rattle.subchannel_model.specs.declared.state.Subchannel.{Subchannel}
 use Rattle.subchannel_model.specs.declared.state.SubchannelState.{SubchannelState}
-use Rattle.subchannel_model.proofs.Named.{count_by, with_row, with_attention, with_known}
-use Rattle.subchannel_model.specs.Causes.{attention_shown, address_shown, count_shown, of_program, interface_shown, no_path_shown, plain_shown, program_shown, with_cause, without_waiting}
-use Rattle.subchannel_model.specs.Parts.{clear_scsw, scsw_joined, without_intermediate, halt_chosen, offer_chosen, has_any}
-use Rattle.subchannel_model.specs.Choosing.{candidate, chosen, clear_chosen, first_some, halt_sent, marked_sub, offered, over_unless, path_use, reset_chosen, reset_sent, unsent_reset}
+use Rattle.subchannel_model.specs.Causes.{attention_shown, address_shown, count_shown, of_program, interface_shown, no_path_shown, plain_shown, program_shown, with_cause, without_waiting, clear_function_alone, scsw_joined, without_intermediate, program_count, with_row}
+use Rattle.subchannel_model.specs.Programs.{has_any}
+use Rattle.subchannel_model.specs.Choosing.{candidate, chosen, clear_chosen, first_some, halt_sent, marked_sub, offered, over_unless, path_use, reset_chosen, reset_sent, unsent_reset, halt_chosen, offer_chosen}
 use Rattle.subchannel_model.specs.Losing.{is_offered_or_held, reset_drawn, reset_with, reset_for}
 use Rattle.subchannel_model.specs.Taking as taking
-use Rattle.subchannel_model.specs.Taking.{halt_done, reset_taken}
+use Rattle.subchannel_model.specs.Taking.{halt_done, reset_taken, with_attention, with_known}
 use Rattle.subchannel_model.specs.SystemReset.{state_reset}
 use Rattle.machine_model.specs.ChooseSteps.{choose_sub}
 use Rattle.machine_model.specs.Turns.{SubTurn}
 use Rattle.machine_model.specs.declared.state.Sweep.{Sweep}
 use Rattle.machine_model.specs.PathSteps.{swept}
-use Rattle.program_laws.proofs.Named.{is_of_program}
-use Rattle.program_laws.specs.Shows.{IsStandingShown, IsZeroShown, IsShownBy, IsShownOf}
+use Rattle.program_laws.specs.Shows.{IsStandingShown, IsZeroShown, IsShownBy, IsShownOf, is_of_program}
 use Rattle.program_laws.specs.Traces.{ProgramTrace}
 use Rattle.program_laws.proofs.Holds.{HasWork, IsStanding, HeldBy}
 use Rattle.program_laws.proofs.Shows.{HasPlace, status-count, counted, rest-of}
@@ -65,7 +63,7 @@ address_by stands waiting begun suspended = of_program stands (λ b. b.transfer.
 
 abbrev HasPlaceBy : Scsw → Scsw → Option Program → Option ActiveProgram → Option ProgramPosition → Type 0
 HasPlaceBy next scsw waiting begun suspended =
-    HasPlace next (address_by scsw.command_address waiting begun suspended) (count_by scsw.count waiting begun suspended)
+    HasPlace next (address_by scsw.command_address waiting begun suspended) (program_count scsw.count waiting begun suspended)
 
 pub none-made : (s next : SubchannelState) → next.serials.made ≡ s.serials.made → ShowsItsProgram s next
 none-made s next e = λ l. absurd (omega (arith, e, l))
@@ -102,7 +100,7 @@ halt-shows s = by s.scsw.activity.halt_pending
 
 -- a clear that is performed
 clear-count : (s : SubchannelState) → IsZeroShown s (with_cause s cause.ClearDone)
-clear-count s l = status-count s.pmcw.enabled (scsw_joined s.pmcw.enabled s.scsw clear_scsw) s.serials (plain_shown 0 0) l
+clear-count s l = status-count s.pmcw.enabled (scsw_joined s.pmcw.enabled s.scsw clear_function_alone) s.serials (plain_shown 0 0) l
 
 clear-zero : (s : SubchannelState) (b : Bool) → IsZeroShown s (if b then with_cause s cause.ClearDone else s)
 clear-zero s true = clear-count s

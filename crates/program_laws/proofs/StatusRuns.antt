@@ -33,7 +33,7 @@ use Rattle.program_laws.specs.Traces.{ProgramTrace}
 use Rattle.shown_laws.specs.Behind.{behind_met, behind_after}
 use Rattle.shown_laws.specs.Shown.{is_about as is_about_id, StoredStatus, names, stored_in}
 use Rattle.shown_laws.proofs.Behind.{IsBehind, IsEnd, turned-behind, turned-begun}
-use Rattle.shown_laws.proofs.Named.{named-is, same-id}
+use Rattle.machine_laws.proofs.Names.{named-is, same-id}
 use Rattle.shown_laws.proofs.Runs.{AreLaws, IsStored, status_of, place-stays, step-stored}
 use Rattle.shown_laws.proofs.Showing.{IsWhole, whole, both-same, whole-tells}
 use Rattle.shown_laws.proofs.Turned.{Turned, step-turns}

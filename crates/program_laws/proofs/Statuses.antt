@@ -19,11 +19,10 @@ use Rattle.subchannel_model.specs.declared.state.SubchannelState.{SubchannelStat
 use Rattle.subchannel_model.specs.Choosing.{unsent_reset, clear_chosen}
 use Rattle.machine_model.specs.State.{State, place_of}
 use Rattle.seen_laws.proofs.Overs.{over-stops}
-use Rattle.program_laws.proofs.Named.{IsShownOfChoice}
 use Rattle.program_laws.proofs.Offers.{ahead-over}
 use Rattle.program_laws.specs.Shows.{ShowsStanding, ShowsIf, ShowsZero, IsShownOf}
 use Rattle.program_laws.specs.Tells as tells
-use Rattle.program_laws.specs.Tells.{SentCommand, command_sent, GoesTo, GoesOn, Accepted, ended, IsChained, Chains, Meets, MeetsNone, OfBoth, GoesBy}
+use Rattle.program_laws.specs.Tells.{SentCommand, command_sent, GoesTo, GoesOn, Accepted, ended, IsChained, Chains, Meets, MeetsNone, OfBoth, GoesBy, IsShownOfChoice}
 use Rattle.program_laws.specs.Traces.{ProgramTrace, chosen_at}
 use Rattle.shown_laws.proofs.Behind.{IsBehind}
 use Rattle.shown_laws.proofs.Showing.{TellsPrograms}

@@ -24,8 +24,7 @@ use Rattle.step_laws.specs.Walks as walked
 use Rattle.step_laws.specs.Walks.{Walked, Function, IsQuiet, effect_of}
 use Rattle.step_laws.proofs.Places.{set-get, map-get}
 use Rattle.program_laws.specs.Shows.{IsZeroShown, IsShownOf}
-use Rattle.program_laws.proofs.Named.{IsShownOfChoice}
-use Rattle.program_laws.specs.Tells.{ShowsBy, AtPlace}
+use Rattle.program_laws.specs.Tells.{ShowsBy, AtPlace, IsShownOfChoice}
 use Rattle.program_laws.specs.Traces.{ProgramTrace}
 use Rattle.program_laws.proofs.Holds.{HeldBy}
 use Rattle.program_laws.proofs.StatusCounts.{none-left, none-counted, clear_of, ChooseShows, chosen-shows, of-program, swept-shows}

@@ -45,9 +45,8 @@ use Rattle.seen_laws.proofs.Overs.{IsOver, over-stops, takes-right}
 use Rattle.program_laws.proofs.Accepts.{over as over-stands}
 use Rattle.program_laws.proofs.Offers.{ahead-over}
 use Rattle.program_laws.specs.Tells as tells
-use Rattle.program_laws.specs.Tells.{SentCommand, command_sent, Accepted, IsChained, Meets, MeetsNone, OfBoth, GoesBy}
-use Rattle.program_laws.specs.Traces.{ProgramTrace, chosen_at, absorbs, reported_at}
-use Rattle.program_laws.proofs.Named.{offered_for, reported}
+use Rattle.program_laws.specs.Tells.{SentCommand, command_sent, Accepted, Meets, MeetsNone, OfBoth}
+use Rattle.program_laws.specs.Traces.{ProgramTrace, chosen_at, absorbs, reported_at, offered_for, reported}
 use Rattle.program_laws.proofs.UnitActs.{if-ok}
 use Rattle.program_laws.proofs.Vanishing.{send-ok}
 use Rattle.program_laws.specs.ProgramTold.{Standing, Told, OffersBy, Accepts, Ends, MeetsBy, UpBy, HasAbsorbed}

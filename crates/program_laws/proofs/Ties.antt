@@ -18,7 +18,7 @@ use Rattle.ccw_walk.specs.Walks.{WalkPlace, walk_place, after_acts, advance_acts
 use Rattle.idaw.specs.declared.ListKind.{ListKind}
 use Rattle.idaw.specs.declared.WordFault.{WordFault}
 use Rattle.idaw.specs.declared.WordFault.TheVariants.{LeftmostBit, OffBlock, OutsideStorage}
-use Rattle.idaw.specs.Lists.{block, kind_of, word_fault}
+use Rattle.idaw.specs.Lists.{block, kind_of, word_fault, has_leftmost_bit, is_outside}
 use Rattle.idaw.specs.Places.{Reach, place_of_byte, each_below, places_of_bytes, reach_with_word, covered}
 use Rattle.data_move.specs.Moving as movement
 use Rattle.data_move.specs.Moving.{Moving, moving_begun, with_piece, moved, next_place, needs_word, residual, uses_list, room, IsAt, MayFetch}
@@ -36,8 +36,8 @@ use Rattle.channel_config.specs.Lawful.{IsLawful}
 use Rattle.channel_config.specs.Setup.{Setup}
 use Rattle.machine_model.specs.State.{State, opening_of}
 use Rattle.machine_model.specs.Steps.{Run}
-use Rattle.program_laws.proofs.Named.{word_after, has_leftmost_bit, is_outside, where_right, reaches_with}
-use Rattle.program_laws.specs.DataAreas.{reach, brings_in, data_areas, reaches_after, counts}
+use Rattle.data_move.specs.Accesses.{where_right}
+use Rattle.program_laws.specs.DataAreas.{reach, brings_in, data_areas, reaches_after, counts, word_after, reaches_with}
 use Rattle.program_laws.proofs.MachineActs.{act_of_right, act_of_word, word_acts, located_acts, room_acts}
 use Rattle.program_laws.specs.Claims.{IsBeginning, IsSuspended, has_check, EndsAtCheck}
 use Rattle.program_laws.proofs.Lists.{some-begin, length-places, length-each_below}

@@ -35,15 +35,16 @@ use Rattle.subchannel_model.specs.declared.state.Chosen.TheVariants.{Idle, Reset
 use Rattle.subchannel_model.specs.declared.state.ProgramPosition.{ProgramPosition}
 use Rattle.subchannel_model.specs.declared.state.Subchannel.{Subchannel}
 use Rattle.subchannel_model.specs.declared.state.SubchannelState.{SubchannelState}
-use Rattle.subchannel_model.proofs.Named.{give_next, with_known}
+use Rattle.subchannel_model.proofs.Named.{give_next}
 use Rattle.subchannel_model.specs.Causes.{programs_after_end, with_cause, without_begun}
 use Rattle.subchannel_model.specs.Choosing.{chosen, halt_sent, marked_sub, offered, reset_sent}
 use Rattle.subchannel_model.specs.Ends.{chains_command, has_status_modifier}
 use Rattle.subchannel_model.specs.Losing.{is_offered_or_held, reset_for, reset_with}
-use Rattle.subchannel_model.specs.Parts.{chain_with, has_any}
+use Rattle.subchannel_model.specs.Parts.{chain_with}
+use Rattle.subchannel_model.specs.Programs.{has_any}
 use Rattle.subchannel_model.specs.Sending.{carried_by, finds_full}
 use Rattle.subchannel_model.specs.Taking as taking
-use Rattle.subchannel_model.specs.Taking.{interrupted, let_go, takes_up, with_end, without_pci}
+use Rattle.subchannel_model.specs.Taking.{let_go, takes_up, with_end, without_pci, with_known}
 use Rattle.machine_model.specs.ChooseSteps.{choose_sub}
 use Rattle.machine_model.specs.declared.state.Sweep.{Sweep}
 use Rattle.machine_model.specs.PathSteps.{swept}

@@ -11,12 +11,10 @@ use Rattle.chan_model.specs.declared.unit_state.AtHand.{AtHand}
 use Rattle.chan_model.specs.declared.unit_state.Progress.{Progress}
 use Rattle.chan_model.specs.declared.unit_state.Progress.TheVariants as progress
 use Rattle.chan_model.specs.Loads.{load_length}
-use Rattle.chan_model.specs.UnitTable.{with_given, at_hand_answered, new_command}
-use Rattle.chan_model.specs.Parts.{kept_bytes}
+use Rattle.chan_model.specs.UnitTable.{with_given, at_hand_answered, new_command, kept_bytes}
 use Rattle.ccw_walk.specs.Acts.{PlacedBytes}
 use Rattle.idaw.specs.Places.{each_below}
-use Rattle.program_laws.proofs.Named.{first_bytes}
-use Rattle.program_laws.specs.Claims.{IsFirstOf}
+use Rattle.program_laws.specs.Claims.{IsFirstOf, first_bytes}
 use Rattle.data_move.proofs.ListLemmas.{each_below_add}
 use Rattle.program_laws.proofs.Lists.{length-each_below}
 

@@ -15,9 +15,7 @@ use Rattle.chan_model.specs.declared.unit_state.Place.TheVariants.{On, Ask, Away
 use Rattle.chan_model.specs.declared.unit_state.SideState.{SideState}
 use Rattle.chan_model.specs.declared.unit_state.UnitState.{UnitState}
 use Rattle.chan_model.specs.Sides.{same_side}
-use Rattle.chan_model.proofs.Named.{without_side}
-use Rattle.chan_model.specs.UnitTable.{UnitStep, came_of, changes, with_given, at_hand_answered, new_command, side_of, with_side, owns, is_owner, is_owner_on, freed, raised, selected, given_next, answered_load, answered_last, unit_takes, unit_after, telling}
-use Rattle.chan_model.specs.Parts.{is_place_on, reset_side}
+use Rattle.chan_model.specs.UnitTable.{UnitStep, came_of, changes, with_given, at_hand_answered, new_command, side_of, with_side, owns, is_owner, is_owner_on, freed, raised, selected, given_next, answered_load, answered_last, unit_takes, unit_after, telling, is_place_on, reset_side, without_side}
 use Rattle.chan_model.proofs.TakenSignals.{IsAt, Takes, Ignores, Notices, Accepts, Denies, Begins, Joins, Leaves, Parts, Answers, Gives, Halts, Frees, Resets, Forgets, takes-by}
 use Rattle.program_laws.proofs.MachineTraces.{silent}
 use Rattle.program_laws.proofs.UnitSides.{side-own, other-owner}

@@ -19,9 +19,7 @@ use Rattle.chan_model.specs.declared.unit_state.Place.TheVariants.{On}
 use Rattle.chan_model.specs.declared.unit_state.SideState.{SideState}
 use Rattle.chan_model.specs.declared.unit_state.UnitState.{UnitState}
 use Rattle.chan_model.specs.Sides.{same_side}
-use Rattle.chan_model.proofs.Named.{without_side}
-use Rattle.chan_model.specs.UnitTable.{resets, UnitStep, came_of, changes, sends, new_command, side_of, with_side, owns, is_owner, freed, raised, selected, telling, unit_works, unit_takes, unit_after}
-use Rattle.chan_model.specs.Parts.{held, reset_side}
+use Rattle.chan_model.specs.UnitTable.{resets, UnitStep, came_of, changes, sends, new_command, side_of, with_side, owns, is_owner, freed, raised, selected, telling, unit_works, unit_takes, unit_after, held, reset_side, without_side}
 use Rattle.wires.specs.Queues.{queue, taken}
 use Rattle.subchannel_model.specs.Sending.{with_any_sent}
 use Rattle.program_laws.proofs.MachineTraces.{silent}

@@ -19,11 +19,9 @@ use Rattle.chan_model.specs.declared.unit_state.Progress.TheVariants as progress
 use Rattle.chan_model.specs.declared.unit_state.SideState.{SideState}
 use Rattle.chan_model.specs.declared.unit_state.UnitState.{UnitState}
 use Rattle.chan_model.specs.Sides.{same_side}
-use Rattle.chan_model.proofs.Named.{without_side, report_absorbed, sent_again}
-use Rattle.chan_model.specs.UnitTable.{UnitStep, at_hand_answered, with_given, side_of, with_side, owns, is_owner, freed, raised, unit_takes, unit_after}
-use Rattle.chan_model.specs.Parts.{held, reset_side}
+use Rattle.chan_model.specs.UnitTable.{UnitStep, at_hand_answered, with_given, side_of, with_side, owns, is_owner, freed, raised, unit_takes, unit_after, held, reset_side, without_side}
 use Rattle.chan_model.proofs.TakenSignals.{IsAt, Takes, Ignores, Notices, Accepts, Denies, Begins, Joins, Leaves, Parts, Answers, Gives, Halts, Frees, Resets, Forgets, takes-by}
-use Rattle.chan_model.specs.UnitReports.{is_outward, is_to_supply, most_of, may_end, shown_end, end_sent, command_begun, report_supplied, answer_taken, report_on, report_of, unit_reports}
+use Rattle.chan_model.specs.UnitReports.{is_outward, is_to_supply, most_of, may_end, shown_end, end_sent, command_begun, report_supplied, answer_taken, report_on, report_of, unit_reports, report_absorbed, sent_again}
 
 -- what is kept of a side is as it was, and a program of it that holds the device held it before, with the same last command
 pub record IsStill (side : Side) (u v : UnitState) : Type 0 where

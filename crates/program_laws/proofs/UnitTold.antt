@@ -19,8 +19,7 @@ use Rattle.chan_model.specs.declared.unit_state.Progress.TheVariants as progress
 use Rattle.chan_model.specs.declared.unit_state.UnitState.{UnitState}
 use Rattle.chan_model.specs.Sides.{same_side}
 use Rattle.chan_model.specs.UnitTable.{UnitStep}
-use Rattle.chan_model.specs.UnitReports.{is_outward, is_over, is_settled, is_to_supply, most_of, may_end, shown_end, end_sent, with_absorbed, with_supplied, answer_taken, progress_after_end, report_on, report_of, unit_reports}
-use Rattle.chan_model.proofs.Named.{report_absorbed, sent_again}
+use Rattle.chan_model.specs.UnitReports.{is_outward, is_over, is_settled, is_to_supply, most_of, may_end, shown_end, end_sent, with_absorbed, with_supplied, answer_taken, progress_after_end, report_on, report_of, unit_reports, report_absorbed, sent_again}
 
 -- with another command at hand, and a signal sent
 abbrev pub with_hand : UnitState → AtHand → UnitState

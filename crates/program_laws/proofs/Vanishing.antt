@@ -9,8 +9,7 @@ use Rattle.chan_events.specs.Replies.{Reply}
 use Rattle.wires.specs.Queues.{lost, sent}
 use Rattle.subchannel_model.specs.declared.state.Subchannel.{Subchannel}
 use Rattle.subchannel_model.specs.declared.state.SubchannelState.{SubchannelState}
-use Rattle.subchannel_model.proofs.Named.{carried_where}
-use Rattle.subchannel_model.specs.Sending.{carried, carried_by, finds_full, with_any_sent}
+use Rattle.subchannel_model.specs.Sending.{carried, carried_by, finds_full, with_any_sent, carried_where}
 use Rattle.machine_model.specs.Turns.{SubTurn, leaves}
 use Rattle.machine_model.specs.ChooseSteps.{send_sub}
 use Rattle.program_laws.proofs.UnitOrders.{AreOn, queue-set}

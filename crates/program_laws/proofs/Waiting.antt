@@ -24,7 +24,7 @@ use Rattle.subchannel_model.specs.declared.state.SubchannelState.{SubchannelStat
 use Rattle.subchannel_model.specs.Choosing.{chosen, marked_sub}
 use Rattle.subchannel_model.specs.Losing.{is_offered_or_held}
 use Rattle.subchannel_model.specs.Modify.{modified_state}
-use Rattle.subchannel_model.specs.Parts.{has_any}
+use Rattle.subchannel_model.specs.Programs.{has_any}
 use Rattle.subchannel_model.specs.Sending.{carried_by, finds_full}
 use Rattle.subchannel_model.specs.Taking.{takes_up}
 use Rattle.machine_model.specs.ChooseSteps.{choose_sub}

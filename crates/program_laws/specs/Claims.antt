@@ -32,10 +32,15 @@ places_arrived [] = []
 places_arrived (a ∷ before) = places_arrived before ++ a.chunk.places
 
 -- the first bytes of a chunk
+abbrev pub first_bytes : PlacedBytes → ℕ → PlacedBytes
+first_bytes c n = record { storage = c.storage; places = take n c.places; bytes = take n c.bytes }
+
 abbrev pub IsFirstOf : List PlacedBytes → PlacedBytes → Type 0
-IsFirstOf copied c =
-    (whole : PlacedBytes) × (n : ℕ) × Contains copied whole
-    × (c ≡ record { storage = whole.storage; places = take n whole.places; bytes = take n whole.bytes })
+IsFirstOf copied c = (whole : PlacedBytes) × (n : ℕ) × Contains copied whole × (c ≡ first_bytes whole n)
+
+-- a chunk has the bytes at its places, as storage stood when it was copied
+abbrev pub IsCopied : PlacedBytes → Type 0
+IsCopied c = c.bytes ≡ bytes_at c.storage c.places
 
 -- what the device absorbed for a command are the first bytes of chunks that were copied for it, and these lie side by side
 -- from the first place of the command on
@@ -72,20 +77,32 @@ EndsAtCheck orb (Unfetched address check ∷ before) = (has_check orb before ≡
 EndsAtCheck orb (Word word ∷ before) = (has_check orb before ≡ false) × EndsAtCheck orb before
 EndsAtCheck orb (act ∷ before) = EndsAtCheck orb before
 
+-- each block that is next was fetched, but of a program that did not begin, or that was suspended before the block took control
+abbrev pub IsWhole : Orb → List Act → Type 0
+IsWhole orb acts = (acts ≡ []) ⊎ ((next orb acts ≡ None) ⊎ IsSuspended orb acts)
+
+-- the codes of its commands in order, without those that were sent earlier, before it was suspended
+abbrev pub codes_after : ℕ → Orb → List Act → List ℕ
+codes_after earlier orb acts = drop earlier (reverse (map code (commands orb acts)))
+
+-- the commands that the device took under this number are consecutive commands of the program, each once, from the first on,
+-- or from the first after those that were sent earlier
+abbrev pub TakesInOrder : ProgramTrace → Type 0
+TakesInOrder k = IsBeginning (reverse k.taken) (codes_after k.earlier k.orb k.now.acts)
+
 pub record TraceCorrect (k : ProgramTrace) : Type 0 where
   -- each block is where the blocks before it say
   pub program : IsProgram k.orb k.now.acts
   -- none was fetched after a check
   pub ends : EndsAtCheck k.orb k.now.acts
-  -- and each that is next was fetched, but of a program that did not begin, or that was suspended before the block took control
-  pub whole : (k.now.acts ≡ []) ⊎ ((next k.orb k.now.acts ≡ None) ⊎ IsSuspended k.orb k.now.acts)
-  -- the commands that the device took under this number are consecutive commands of the program, each once, from the first on,
-  -- or from the first after those that were sent before it was suspended
-  pub takes : IsBeginning (reverse k.taken) (drop k.earlier (reverse (map code (commands k.orb k.now.acts))))
+  -- and each that is next was
+  pub whole : IsWhole k.orb k.now.acts
+  -- the device took its commands in order
+  pub takes : TakesInOrder k
   -- the bytes that were moved are those at the first places of the command
   pub moves : IsBeginning k.now.moved (places_of k.orb k.now.acts)
-  -- each chunk has the bytes at its places, as storage stood when it was copied
-  pub copied : All (λ c. c.bytes ≡ bytes_at c.storage c.places) (part_of k).copied
+  -- what was copied for it is what storage held
+  pub copied : All IsCopied (part_of k).copied
   pub absorbs : AbsorbsInOrder k.orb (part_of k) k.absorbed
   pub arrived : All IsStored k.now.arrived
   pub arrives : IsBeginning (places_arrived k.now.arrived) (places_of k.orb k.now.acts)

@@ -19,17 +19,23 @@ abbrev pub reach : ℕ → Ccw → Reach
 reach code ccw = record { ccw = ccw; skipped = ccw.skip && brings_in code; words = [] }
 
 -- data that is chained is of the command at work, whose code it has; otherwise a command begins
+abbrev pub reaches_with : Bool → List Command → List Reach → Ccw → List Reach
+reaches_with chained cs rs ccw = if chained then elim cs [ [] ↦ rs | command ∷ before ↦ reach (code command) ccw ∷ rs ] else reach ccw.command ccw ∷ []
+
 abbrev pub reaches_after : Bool → List Command → List Reach → Reading → List Reach
-reaches_after chained cs rs (Takes ccw) =
-    if chained then elim cs [ [] ↦ rs | command ∷ before ↦ reach (code command) ccw ∷ rs ] else reach ccw.command ccw ∷ []
+reaches_after chained cs rs (Takes ccw) = reaches_with chained cs rs ccw
 reaches_after chained cs rs reading = rs
+
+-- an indirect word is one of the list of the latest block
+abbrev pub word_after : List Reach → ℕ → List Reach
+word_after areas word = elim areas [ [] ↦ [] | r ∷ rs ↦ reach_with_word r word ∷ rs ]
 
 -- the blocks of the command at work that took control, with the words fetched for them, the latest first
 abbrev pub data_areas : Orb → List Act → List Reach
 data_areas orb [] = []
 data_areas orb (Block address bytes ∷ before) =
     reaches_after (role_of orb before).chained (commands orb before) (data_areas orb before) (reads orb (role_of orb before) bytes)
-data_areas orb (Word word ∷ before) = elim (data_areas orb before) [ [] ↦ [] | r ∷ rs ↦ reach_with_word r word ∷ rs ]
+data_areas orb (Word word ∷ before) = word_after (data_areas orb before) word
 data_areas orb (act ∷ before) = data_areas orb before
 
 -- the sum of their counts

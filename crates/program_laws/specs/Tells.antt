@@ -23,6 +23,7 @@ use Rattle.ccw_walk.specs.Programs.{latest, next, next_used_up, commands, code}
 use Rattle.subchannel_model.specs.declared.state.Program.{Program}
 use Rattle.subchannel_model.specs.declared.state.ProgramPosition.{ProgramPosition}
 use Rattle.subchannel_model.specs.declared.state.Subchannel.{Subchannel}
+use Rattle.subchannel_model.specs.declared.state.Chosen.{Chosen}
 use Rattle.subchannel_model.specs.declared.state.SubchannelState.{SubchannelState}
 use Rattle.subchannel_model.specs.Choosing.{unsent_reset, clear_chosen}
 use Rattle.subchannel_model.specs.Ends.{has_status_modifier, has_unit_exception, is_unit_check_alone, is_channel_end_alone}
@@ -240,9 +241,11 @@ OfBoth N P (Some k) (Some after) = P k after
 OfBoth N P k after = ⊥
 
 -- the address and the count of the status that another event makes: of a clear that is pending where a Reset is due, Choose shows zero
+abbrev pub IsShownOfChoice : Option Chosen → SubchannelState → SubchannelState → Option ProgramTrace → Type 0
+IsShownOfChoice clear s next k = elim clear [ None ↦ IsShownOf s next k | Some act ↦ IsZeroShown s next ]
+
 abbrev pub ShowsBy : Event → SubchannelState → SubchannelState → Option ProgramTrace → Type 0
-ShowsBy (event.Choose word) s next k =
-    elim (clear_chosen (unsent_reset s.hold) s.scsw.activity.clear_pending) [ None ↦ IsShownOf s next k | Some clear ↦ IsZeroShown s next ]
+ShowsBy (event.Choose word) s next k = IsShownOfChoice (clear_chosen (unsent_reset s.hold) s.scsw.activity.clear_pending) s next k
 ShowsBy e s next k = IsShownOf s next k
 
 -- of the subchannel at a place, before a step and after it

@@ -4,7 +4,8 @@ use Rattle.std.specs.Prelude.{ℕ, ◌==◌, Bool, true, false, if◌then◌else
 use Rattle.orb_block.specs.declared.Orb.{Orb}
 use Rattle.chan_model.specs.declared.signal.Down.TheVariants as down
 use Rattle.chan_model.specs.declared.report.DeviceAnswer.TheVariants.{Absorbed}
-use Rattle.chan_model.specs.Reports.{Report}
+use Rattle.chan_model.specs.Signals.{Down}
+use Rattle.chan_model.specs.Reports.{Report, DeviceAnswer}
 use Rattle.chan_model.specs.declared.unit_state.AtHand.{AtHand}
 use Rattle.chan_model.specs.declared.unit_state.UnitState.{UnitState}
 use Rattle.chan_model.specs.ResetCauses.{is_path}
@@ -14,6 +15,7 @@ use Rattle.chan_events.specs.Replies.{Reply}
 use Rattle.chan_events.specs.declared.reply.Reply.TheVariants as reply
 use Rattle.ccw_walk.specs.Acts.{Act, PlacedBytes}
 use Rattle.ccw_walk.specs.Programs.{commands}
+use Rattle.subchannel_model.specs.declared.state.Program.{Program}
 use Rattle.subchannel_model.specs.declared.state.Subchannel.{Subchannel}
 use Rattle.subchannel_model.specs.Places.{reached_in}
 use Rattle.machine_model.specs.State.{State, place_of}
@@ -81,15 +83,24 @@ past_part p = record no_trace { acts = p.acts; moved = p.moved }
 abbrev pub trace_resumed : ℕ → ProgramTrace → ProgramTrace
 trace_resumed t k = record (trace_offered t k.orb) { earlier = length (commands k.orb k.now.acts); now = past_part k.now }
 
+abbrev pub offered_for : Option Program → ℕ → Option ProgramTrace → Option ProgramTrace
+offered_for waiting t k = elim waiting [ None ↦ k | Some program ↦ Some (trace_offered t program.orb) ]
+
+abbrev pub resumed_for : ℕ → Option ProgramTrace → Option ProgramTrace
+resumed_for t k = option_map (trace_resumed t) k
+
 abbrev pub chosen_at : Option Subchannel → Reply → Option ProgramTrace → Option ProgramTrace
-chosen_at (Some sub) (reply.Offered t p false) k = elim sub.state.waiting [ None ↦ k | Some program ↦ Some (trace_offered t program.orb) ]
-chosen_at (Some sub) (reply.Offered t p true) k = option_map (trace_resumed t) k
+chosen_at (Some sub) (reply.Offered t p false) k = offered_for sub.state.waiting t k
+chosen_at (Some sub) (reply.Offered t p true) k = resumed_for t k
 chosen_at sub r k = k
 
 -- the device takes a command of the program: one that is answered, as where its side is fresh, was not taken
+abbrev pub takes : Down → ProgramTrace → ProgramTrace
+takes signal k =
+    elim signal [ down.Command t n code room ↦ if t == k.number then record k { taken = code ∷ k.taken; absorbed = [] } else k | other ↦ k ]
+
 abbrev pub taken_at : Reply → Option ProgramTrace → Option ProgramTrace
-taken_at (reply.Down signal true None) (Some k) =
-    Some (elim signal [ down.Command t n code room ↦ if t == k.number then record k { taken = code ∷ k.taken; absorbed = [] } else k | other ↦ k ])
+taken_at (reply.Down signal true None) (Some k) = Some (takes signal k)
 taken_at r k = k
 
 -- the device absorbs bytes that it was given
@@ -97,9 +108,12 @@ abbrev pub absorbs : ℕ → Option AtHand → ProgramTrace → ProgramTrace
 absorbs count None k = k
 absorbs count (Some x) k = elim x.given [ None ↦ k | Some bytes ↦ record k { absorbed = k.absorbed ++ take count bytes } ]
 
+abbrev pub reported : UnitState → Report → DeviceAnswer → ProgramTrace → ProgramTrace
+reported u report told k =
+    elim told [ Absorbed count ↦ if report.number == k.number then absorbs count u.at_hand k else k | answer ↦ k ]
+
 abbrev pub reported_at : Option UnitState → Report → Option ProgramTrace → Option ProgramTrace
-reported_at (Some u) report (Some k) =
-    Some (elim report.answer [ Absorbed count ↦ if report.number == k.number then absorbs count u.at_hand k else k | answer ↦ k ])
+reported_at (Some u) report (Some k) = Some (reported u report report.answer k)
 reported_at u report k = k
 
 -- what an offer, a command that the device takes, and a report tell, where the subchannel is that of the place

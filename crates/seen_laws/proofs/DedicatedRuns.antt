@@ -51,7 +51,8 @@ use Rattle.seen_laws.specs.Dedicated.{dedicated_met, dedicated_cleared, dedicate
 use Rattle.seen_laws.proofs.Dedicating.{IsStill, IsByCheck, IsLeft, tested-still, halted-still, loses-still, shows-still, choose-still, takes-left}
 use Rattle.seen_laws.proofs.OwnSteps.{IsApart, down-apart, step-apart, act-apart, up-setup, choose-setup}
 use Rattle.seen_laws.proofs.OwnRuns.{sets-stay}
-use Rattle.seen_laws.proofs.RunPaths.{named-is, named-place, place-map}
+use Rattle.seen_laws.proofs.RunPaths.{place-map}
+use Rattle.machine_laws.proofs.Names.{named-is, named-place}
 
 -- an allegiance that is seen is that of the subchannel
 abbrev Dedicates : Option ℕ → Option ℕ → Type 0

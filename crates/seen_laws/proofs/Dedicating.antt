@@ -35,11 +35,12 @@ use Rattle.subchannel_model.specs.Causes.{with_cause}
 use Rattle.subchannel_model.specs.Ends.{has_status_modifier, breaks_chain, chains_command, has_unit_exception, shows_length}
 use Rattle.subchannel_model.specs.Halt.{status_dropped, halt_begun, halted, drops_status}
 use Rattle.subchannel_model.specs.Losing.{is_offered_or_held, reset_with, reset_for, loses_at, shows_at}
-use Rattle.subchannel_model.specs.Parts.{chain_with, end_shown_at, has_any}
+use Rattle.subchannel_model.specs.Parts.{chain_with, end_shown_at}
+use Rattle.subchannel_model.specs.Programs.{has_any}
 use Rattle.subchannel_model.specs.Sending.{carried_by, finds_full}
 use Rattle.subchannel_model.specs.Test.{tested_wholly}
-use Rattle.subchannel_model.proofs.Named.{with_known, give_next, with_attention}
-use Rattle.subchannel_model.specs.Taking.{Met, meets, ignoring, quietly, let_go, by_hold, interrupted, standing, goes_ahead, path_used, taking_over, suspending, beginning, begin_standing, halt_done, clear_done, accept, take_in, move_bytes, move_data, with_end, end_taken, dedicated_by_end, chaining, goes_on, stops_at, command_ended, end_of, reset_taken, may_attend, takes_up}
+use Rattle.subchannel_model.proofs.Named.{give_next}
+use Rattle.subchannel_model.specs.Taking.{Met, meets, ignoring, quietly, let_go, by_hold, interrupted, standing, goes_ahead, path_used, taking_over, suspending, beginning, begin_standing, halt_done, clear_done, accept, take_in, move_bytes, move_data, with_end, end_taken, dedicated_by_end, chaining, goes_on, stops_at, command_ended, end_of, reset_taken, may_attend, takes_up, with_known, with_attention}
 use Rattle.machine_model.specs.ChooseSteps.{choose_sub}
 use Rattle.machine_model.specs.Turns.{SubTurn}
 use Rattle.chan_model.specs.ResetCauses.{rests_on}

@@ -39,8 +39,7 @@ use Rattle.machine_model.specs.OtherSteps.{engaged_byte, engaged_bytes, engaged_
 use Rattle.machine_model.specs.State.{State, opening_of}
 use Rattle.machine_model.specs.Steps.{Run, Opened, Stepped, Step}
 use Rattle.machine_model.specs.Turns.{SubTurn, UpTurn}
-use Rattle.machine_model.specs.UpSteps.{may_return, returns_at, up_front, up_sub}
-use Rattle.machine_model.proofs.Named.{returns_by}
+use Rattle.machine_model.specs.UpSteps.{may_return, returns_at, up_front, up_sub, returns_by}
 use Rattle.subchannel_model.specs.Taking.{takes_up}
 use Rattle.machine_laws.specs.Engines.{IsOnePath}
 use Rattle.machine_laws.proofs.Moving.{IsFree, usable-free, return-parts}

@@ -19,13 +19,12 @@ use Rattle.chan_model.specs.declared.unit_state.Progress.{Progress}
 use Rattle.chan_model.specs.declared.unit_state.Progress.TheVariants as progress
 use Rattle.chan_model.specs.declared.unit_state.UnitState.{UnitState}
 use Rattle.chan_model.specs.Sides.{same_side}
-use Rattle.chan_model.specs.UnitReports.{is_outward, may_end, most_of, is_to_supply, data_sent, with_absorbed, with_supplied, shown_end, progress_after_end, answer_taken, report_on, report_of, unit_reports}
+use Rattle.chan_model.specs.UnitReports.{is_outward, may_end, most_of, is_to_supply, data_sent, with_absorbed, with_supplied, shown_end, progress_after_end, answer_taken, report_on, report_of, unit_reports, report_absorbed, sent_again}
 use Rattle.chan_model.specs.UnitTable.{UnitStep, changes, marked_again, side_of, telling, leaving_from, leaving, asking_from, asking, is_idle}
-use Rattle.chan_model.proofs.Named.{report_absorbed, sent_again}
 use Rattle.machine_model.specs.ActSteps.{acts}
 use Rattle.step_laws.specs.Walks.{IsOfSide}
 use Rattle.seen_laws.specs.Devices as seen
-use Rattle.seen_laws.specs.Devices.{Apart, Transfer, Held, Holding, side_seen, with_holder, with_transfer, reported, parted, moved, acted_after}
+use Rattle.seen_laws.specs.Devices.{Apart, Transfer, Held, side_seen, with_holder, with_transfer, reported, parted, moved, acted_after}
 use Rattle.seen_laws.specs.OneHolder.{holds_and, is_connected, IsReportRight, is_held_and, IsActRight}
 use Rattle.seen_laws.proofs.Holdings.{place_of, transfer_of, transfer_in, holder_in, held_with, holding_of, changed-next, hand-next}
 

@@ -30,9 +30,10 @@ use Rattle.subchannel_model.specs.declared.state.UpStep.{UpStep}
 use Rattle.subchannel_model.specs.Causes.{with_cause}
 use Rattle.subchannel_model.specs.Ends.{has_status_modifier, chains_command}
 use Rattle.subchannel_model.specs.Losing.{is_offered_or_held, reset_with, reset_for}
-use Rattle.subchannel_model.specs.Parts.{chain_with, end_shown_at, has_any}
-use Rattle.subchannel_model.proofs.Named.{with_known, give_next, with_attention}
-use Rattle.subchannel_model.specs.Taking.{Met, meets, ignoring, quietly, let_go, by_hold, interrupted, standing, goes_ahead, path_used, taking_over, suspending, beginning, begin_standing, halt_done, clear_done, accept, moving_on, take_in, move_bytes, move_data, with_end, end_taken, chaining, goes_on, stops_at, command_ended, end_of, reset_taken, may_attend, takes_up}
+use Rattle.subchannel_model.specs.Parts.{chain_with, end_shown_at}
+use Rattle.subchannel_model.specs.Programs.{has_any}
+use Rattle.subchannel_model.proofs.Named.{give_next}
+use Rattle.subchannel_model.specs.Taking.{Met, meets, ignoring, quietly, let_go, by_hold, interrupted, standing, goes_ahead, path_used, taking_over, suspending, beginning, begin_standing, halt_done, clear_done, accept, moving_on, take_in, move_bytes, move_data, with_end, end_taken, chaining, goes_on, stops_at, command_ended, end_of, reset_taken, may_attend, takes_up, with_known, with_attention}
 use Rattle.machine_laws.proofs.SameState.{IsSame, is-same, same-then, cause-same, interrupted-same, moving-same, suspending-same, halt_done-same, clear_done-same, attention-same}
 use Rattle.seen_laws.specs.Links.{Link, Offered, accepted, engaged_by, link_sent, SubSeen, sub_met, program_of, mover_of, IsSilent, IsTaken}
 use Rattle.seen_laws.proofs.LinkHolds.{Stands, IsHeldAs, phased, is_offer_of, same-offered, certain, IsSentAs, AreSentAs, Turned, TurnedBy, ignored, busy-turned, left-turned, released-turned, cleared-turned, back-turned, attended-turned}

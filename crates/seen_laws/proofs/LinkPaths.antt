@@ -11,7 +11,7 @@ use Rattle.channel_config.specs.declared.parts.SubchannelSetup.{SubchannelSetup}
 use Rattle.channel_config.specs.Setup.{has_number, are_distinct}
 use Rattle.subchannel_model.specs.declared.state.Subchannel.{Subchannel}
 use Rattle.subchannel_model.specs.Losing.{path_index}
-use Rattle.subchannel_model.proofs.Named.{index_after}
+use Rattle.subchannel_model.specs.Places.{one_later}
 use Rattle.subchannel_model.specs.Store.{installed_paths, available_paths}
 use Rattle.machine_laws.proofs.PathSets.{each-true, each-from, both-parts}
 use Rattle.machine_laws.proofs.SweptPaths.{set-here, set-other}
@@ -40,7 +40,7 @@ at-once (x ∷ xs) zero (suc q) c d e f = absurd (not-again x c xs q d (cc e) f)
 at-once (x ∷ xs) (suc p) zero c d e f = absurd (not-again x c xs p d (cc f) e)
 at-once (x ∷ xs) (suc p) (suc q) c d e f = ap suc (at-once xs p q c (and_parts (not (has_number xs x)) (are_distinct xs) d).1 e f)
 
-first-cases : (b : Bool) (o : Option ℕ) (p : ℕ) → (if b then Some 0 else index_after o) ≡ Some p → ((b ≡ true) × (p ≡ zero)) ⊎ ((i : ℕ) × (o ≡ Some i) × (p ≡ suc i))
+first-cases : (b : Bool) (o : Option ℕ) (p : ℕ) → (if b then Some 0 else one_later o) ≡ Some p → ((b ≡ true) × (p ≡ zero)) ⊎ ((i : ℕ) × (o ≡ Some i) × (p ≡ suc i))
 first-cases true o p e = let z : 0 ≡ p = cc e in inl (refl, omega (arith, z))
 first-cases false None p e = absurd (cc e)
 first-cases false (Some i) p e = let z : i + 1 ≡ p = cc e in inr (i, refl, omega (arith, z))
@@ -53,7 +53,7 @@ index-is chpid (x ∷ xs) p e =
       | inr h ↦ ap (slice_get (x ∷ xs)) h.2 ∙ index-is chpid xs h.0 h.1
     ]
 
-none-cases : (b : Bool) (o : Option ℕ) → (if b then Some 0 else index_after o) ≡ None → (b ≡ false) × (o ≡ None)
+none-cases : (b : Bool) (o : Option ℕ) → (if b then Some 0 else one_later o) ≡ None → (b ≡ false) × (o ≡ None)
 none-cases true o e = absurd (cc e)
 none-cases false None e = (refl, refl)
 none-cases false (Some i) e = absurd (cc e)

@@ -18,7 +18,7 @@ use Rattle.subchannel_model.specs.Conditions.{found_operational}
 use Rattle.subchannel_model.specs.Halt.{halted}
 use Rattle.subchannel_model.specs.Losing.{is_offered_or_held, reset_with, reset_for, path_lost, path_index, loses_at, loses, shows_at, goes_down}
 use Rattle.subchannel_model.specs.Modify.{modified_state}
-use Rattle.subchannel_model.specs.Parts.{has_any}
+use Rattle.subchannel_model.specs.Programs.{has_any}
 use Rattle.subchannel_model.specs.Resume.{resumed}
 use Rattle.subchannel_model.specs.Start.{started}
 use Rattle.subchannel_model.specs.SystemReset.{reset_by_system}

@@ -36,13 +36,11 @@ use Rattle.subchannel_model.specs.Causes.{with_cause}
 use Rattle.subchannel_model.specs.Conditions.{condition_of}
 use Rattle.subchannel_model.specs.Halt.{hsch_code, shows_end, halted, drops_status, status_dropped, halt_begun}
 use Rattle.subchannel_model.specs.Losing.{reset_for}
-use Rattle.subchannel_model.specs.Parts.{has_any}
-use Rattle.subchannel_model.specs.Programs.{without_programs}
+use Rattle.subchannel_model.specs.Programs.{without_programs, has_any}
 use Rattle.subchannel_model.specs.Start.{started}
 use Rattle.subchannel_model.specs.Status.{intermediate_alone, without_status, serials_cleared}
 use Rattle.subchannel_model.specs.Test.{ended_scsw, suspended_scsw, ends_suspended, tested, tested_wholly}
-use Rattle.subchannel_model.specs.Taking.{quietly, ignoring, let_go, standing, goes_ahead, from_start, path_used, suspending, beginning, begin_standing, accept, takes_up}
-use Rattle.subchannel_model.proofs.Named.{with_known}
+use Rattle.subchannel_model.specs.Taking.{quietly, ignoring, let_go, standing, goes_ahead, from_start, path_used, suspending, beginning, begin_standing, accept, takes_up, with_known}
 use Rattle.machine_laws.proofs.SameHold.{suspending-same, cause-same}
 use Rattle.seen_laws.specs.BeginsItsOwn.{IsAnswered, IsAcceptRight}
 use Rattle.seen_laws.proofs.Meets.{Meets, Ignored, Turns, IsGone, IsPlainUp, releases, phase-of, reset-gone, takes-meets}

@@ -28,12 +28,12 @@ use Rattle.subchannel_model.specs.declared.state.Subchannel.{Subchannel}
 use Rattle.subchannel_model.specs.declared.state.SubchannelState.{SubchannelState}
 use Rattle.subchannel_model.specs.declared.state.UpStep.{UpStep}
 use Rattle.subchannel_model.specs.Causes.{with_cause}
-use Rattle.subchannel_model.specs.Choosing.{first_some, candidate, path_use, chosen, marked_sub, reset_sent, halt_sent}
+use Rattle.subchannel_model.specs.Choosing.{first_some, candidate, path_use, chosen, marked_sub, reset_sent, halt_sent, halt_chosen, offer_chosen}
 use Rattle.subchannel_model.specs.Clear.{cleared}
 use Rattle.subchannel_model.specs.Halt.{halted}
 use Rattle.subchannel_model.specs.Losing.{is_offered_or_held, reset_for, path_index, loses_at, loses, shows_at}
 use Rattle.subchannel_model.specs.Modify.{modified_state}
-use Rattle.subchannel_model.specs.Parts.{has_any, halt_chosen, offer_chosen}
+use Rattle.subchannel_model.specs.Programs.{has_any}
 use Rattle.subchannel_model.specs.Sending.{carried_by, finds_full}
 use Rattle.subchannel_model.specs.SystemReset.{state_reset}
 use Rattle.subchannel_model.specs.Taking.{takes_up}

@@ -15,8 +15,7 @@ use Rattle.chan_model.specs.declared.unit_state.UnitState.{UnitState}
 use Rattle.chan_model.specs.UnitTable.{UnitStep, unit_after, side_of, raised, selected, telling, noticing, resets, forgetting, unit_takes, is_idle, restarted}
 use Rattle.chan_model.specs.Sides.{same_side}
 use Rattle.control_units.specs.declared.Member.{Member}
-use Rattle.control_units.specs.Units.{any_other, is_begun_in, member_told, may_serve}
-use Rattle.control_units.specs.Parts.{may_serve_at, begun_at, over_at}
+use Rattle.control_units.specs.Units.{any_other, is_begun_in, member_told, may_serve, may_serve_at, begun_at, over_at}
 use Rattle.machine_model.specs.Setups.{group_of}
 use Rattle.machine_model.specs.Sharing.{is_asked_for, members_asked, is_let_go, members_over, members_after}
 use Rattle.step_laws.proofs.Places.{set-get, map-get, same-or-not}

@@ -9,7 +9,7 @@ use Rattle.chan_model.specs.Signals.{Down, Up}
 use Rattle.chan_model.specs.declared.signal.OnPath.{OnPath}
 use Rattle.chan_model.specs.declared.unit_state.UnitState.{UnitState}
 use Rattle.chan_model.specs.UnitTable as unit_table
-use Rattle.chan_model.specs.UnitTable.{UnitStep, unit_takes, unit_after, restarted, is_idle}
+use Rattle.chan_model.specs.UnitTable.{UnitStep, unit_takes, unit_after, is_idle}
 use Rattle.channel_config.specs.declared.names.SubchannelId.{SubchannelId}
 use Rattle.channel_config.specs.declared.parts.SubchannelSetup.{SubchannelSetup}
 use Rattle.control_units.specs.declared.Member.{Member}
@@ -17,9 +17,8 @@ use Rattle.control_units.specs.Units.{may_serve}
 use Rattle.wires.specs.Queues.{queue}
 use Rattle.subchannel_model.specs.declared.state.Subchannel.{Subchannel}
 use Rattle.subchannel_model.specs.Opening.{opened}
-use Rattle.subchannel_model.specs.Places.{is_named, place_in, place_of_id}
+use Rattle.subchannel_model.specs.Places.{is_named, place_in, place_of_id, one_later}
 use Rattle.subchannel_model.specs.Sending.{carried_by, finds_full}
-use Rattle.subchannel_model.proofs.Named.{one_later}
 use Rattle.machine_model.specs.DownSteps.{with_answer, asks_at, down_front, down_sub}
 use Rattle.machine_model.specs.Sharing.{is_asked_for, may_take}
 use Rattle.machine_model.specs.State.{State}

@@ -23,9 +23,8 @@ use Rattle.chan_model.specs.declared.unit_state.Progress.{Progress}
 use Rattle.chan_model.specs.declared.unit_state.Progress.TheVariants as progress
 use Rattle.chan_model.specs.declared.unit_state.UnitState.{UnitState}
 use Rattle.chan_model.specs.Sides.{same_side}
-use Rattle.chan_model.specs.UnitReports.{is_outward, may_end, most_of, is_to_supply, answer_taken, report_on, report_of, unit_reports}
+use Rattle.chan_model.specs.UnitReports.{is_outward, may_end, most_of, is_to_supply, answer_taken, report_on, report_of, unit_reports, report_absorbed, sent_again}
 use Rattle.chan_model.specs.UnitTable.{UnitStep, came_of, side_of, leaving_from, leaving, asking_from, asking, is_idle, telling}
-use Rattle.chan_model.proofs.Named.{report_absorbed, sent_again}
 use Rattle.machine_model.specs.ActSteps.{acts}
 use Rattle.chan_model.proofs.OneSide.{same-side}
 use Rattle.step_laws.specs.Walks.{IsOfSide}

@@ -19,15 +19,14 @@ use Rattle.machine_laws.specs.Claims.{is_id}
 use Rattle.machine_model.specs.InstructionSteps.{subchannel_word}
 use Rattle.machine_model.specs.State.{State, opening_of}
 use Rattle.machine_model.specs.Steps.{Run, Opened, Stepped, Step}
-use Rattle.subchannel_model.proofs.Named.{one_later}
 use Rattle.subchannel_model.specs.Conditions.{condition_of}
 use Rattle.subchannel_model.specs.Opening.{opened}
-use Rattle.subchannel_model.specs.Places.{Found, found_at, first_place, place_in}
+use Rattle.subchannel_model.specs.Places.{Found, found_at, first_place, place_in, one_later}
 use Rattle.shown_laws.specs.Codes.{code_in, IsThree, AreThree}
 use Rattle.shown_laws.specs.Shown.{names}
 use Rattle.step_laws.proofs.Executed.{IsDone}
 use Rattle.shown_laws.proofs.Executed.{IsExecuted, executed}
-use Rattle.shown_laws.proofs.Named.{same-id}
+use Rattle.machine_laws.proofs.Names.{same-id}
 use Rattle.shown_laws.proofs.Runs.{AreLaws, IsPassed, passed, place-by, sets-stay}
 
 none-first : (test : SubchannelSetup → Bool) (xs : List SubchannelSetup) → list_any test xs ≡ false → first_place test xs ≡ None

@@ -49,8 +49,8 @@ use Rattle.subchannel_model.specs.Conditions.{left_by}
 use Rattle.subchannel_model.specs.Ends.{has_status_modifier, chains_command}
 use Rattle.subchannel_model.specs.Halt.{drops_status, status_dropped, halt_begun}
 use Rattle.subchannel_model.specs.Losing.{is_offered_or_held, reset_with, reset_for, path_index, loses_at, loses, shows_at}
-use Rattle.subchannel_model.specs.Parts.{has_any, suspended_alone, standing_still, end_shown_at}
-use Rattle.subchannel_model.specs.Programs.{without_programs}
+use Rattle.subchannel_model.specs.Parts.{suspended_alone, standing_still, end_shown_at}
+use Rattle.subchannel_model.specs.Programs.{without_programs, has_any}
 use Rattle.subchannel_model.specs.Taking.{Met, meets, ignoring, quietly, let_go, without_pci, standing, goes_ahead, path_used, taking_over, beginning, begin_standing, accept, with_transfer, moving_on, giving, take_in, move_bytes, move_data, with_end, end_taken, chaining, goes_on, stops_at, command_ended, end_of, reset_taken, attend, may_attend, takes_up}
 use Rattle.subchannel_model.specs.Test.{tested, ends_suspended, tested_wholly}
 use Rattle.shown_laws.specs.Behind.{behind_met, behind_after}

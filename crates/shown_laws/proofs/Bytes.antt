@@ -37,13 +37,13 @@ use Rattle.subchannel_model.specs.declared.state.Subchannel.{Subchannel}
 use Rattle.subchannel_model.specs.declared.state.SubchannelState.{SubchannelState}
 use Rattle.subchannel_model.specs.declared.state.UpStep.{UpStep}
 use Rattle.subchannel_model.specs.declared.status.Shown.{Shown}
-use Rattle.subchannel_model.specs.Causes.{row_of, scsw_before, with_cause}
+use Rattle.subchannel_model.specs.Causes.{row_of, scsw_before, with_cause, scsw_joined}
 use Rattle.subchannel_model.specs.Ends.{has_status_modifier, chains_command, shows_length, last_shown, work_shown}
 use Rattle.subchannel_model.specs.Losing.{is_offered_or_held, reset_drawn, reset_with, reset_for, loses_at}
-use Rattle.subchannel_model.specs.Parts.{suspended_alone, standing_still, chain_with, end_shown_at, has_any, scsw_joined}
+use Rattle.subchannel_model.specs.Parts.{suspended_alone, standing_still, chain_with, end_shown_at}
+use Rattle.subchannel_model.specs.Programs.{has_any}
 use Rattle.subchannel_model.specs.Status.{check_bits, scsw_made, serials_made, with_joined, no_device_status, no_subchannel_status}
-use Rattle.subchannel_model.specs.Taking.{Met, meets, ignoring, quietly, let_go, by_hold, without_pci, interrupted, standing, goes_ahead, path_used, taking_over, suspending, beginning, begin_standing, halt_done, accept, giving, take_in, move_bytes, move_data, with_end, with_transfer, end_taken, chaining, goes_on, stops_at, command_ended, end_of, reset_taken, may_attend, takes_up}
-use Rattle.subchannel_model.proofs.Named.{with_known, with_attention}
+use Rattle.subchannel_model.specs.Taking.{Met, meets, ignoring, quietly, let_go, by_hold, without_pci, interrupted, standing, goes_ahead, path_used, taking_over, suspending, beginning, begin_standing, halt_done, accept, giving, take_in, move_bytes, move_data, with_end, with_transfer, end_taken, chaining, goes_on, stops_at, command_ended, end_of, reset_taken, may_attend, takes_up, with_known, with_attention}
 use Rattle.shown_laws.specs.StatusBytes.{joined_byte, Brings, is_command, BringsStop, BringsEnd, BringsChain, BringsAnswered, IsSignalBrought}
 use Rattle.shown_laws.proofs.Counted.{IsKept, cause-kept}
 use Rattle.shown_laws.proofs.Fitting.{cause-activity}

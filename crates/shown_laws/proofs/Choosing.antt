@@ -17,8 +17,7 @@ use Rattle.subchannel_model.specs.declared.state.Program.{Program}
 use Rattle.subchannel_model.specs.declared.state.ProgramPosition.{ProgramPosition}
 use Rattle.subchannel_model.specs.declared.state.Subchannel.{Subchannel}
 use Rattle.subchannel_model.specs.declared.state.SubchannelState.{SubchannelState}
-use Rattle.subchannel_model.specs.Choosing.{chosen, marked_sub}
-use Rattle.subchannel_model.specs.Parts.{starting, resuming}
+use Rattle.subchannel_model.specs.Choosing.{chosen, marked_sub, starting, resuming}
 use Rattle.shown_laws.specs.Choices.{waits, IsReason, LeavesChosen, IsChoiceRight, AreChoicesRight}
 use Rattle.shown_laws.specs.Shown.{StoredStatus, is_about}
 use Rattle.shown_laws.proofs.Chosen.{IsCandidate, IsWhy, why-chosen}

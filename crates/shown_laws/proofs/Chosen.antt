@@ -1,5 +1,5 @@
 -- What is chosen, and why.
-use Rattle.std.proofs.Common.{◌≡◌, refl, sym, ◌∙◌, ap, subst, ℕ, Bool, true, false, Option, None, Some, List, [], ◌∷◌}
+use Rattle.std.proofs.Common.{◌≡◌, refl, ap, subst, ℕ, Bool, true, false, Option, None, Some, List, [], ◌∷◌}
 use Rattle.std.specs.Prelude.{◌⊎◌, unwrap_or}
 use Rattle.allegiance.specs.PathUse.{reachable_paths}
 use Rattle.chan_model.specs.PathSets.{is_any}
@@ -11,8 +11,7 @@ use Rattle.subchannel_model.specs.declared.state.Chosen.{Chosen}
 use Rattle.subchannel_model.specs.declared.state.Chosen.TheVariants.{Idle, Resets, PerformsClear, Halts, PerformsHalt, FindsNoPath, Offers}
 use Rattle.subchannel_model.specs.declared.state.Subchannel.{Subchannel}
 use Rattle.subchannel_model.specs.declared.state.SubchannelState.{SubchannelState}
-use Rattle.subchannel_model.specs.Choosing.{unsent_reset, first_some, candidate, path_use, reset_chosen, clear_chosen, halt_at, over_unless, offer_at, chosen}
-use Rattle.subchannel_model.specs.Parts.{starting, resuming, halt_chosen, offer_chosen}
+use Rattle.subchannel_model.specs.Choosing.{unsent_reset, first_some, candidate, path_use, reset_chosen, clear_chosen, halt_at, over_unless, offer_at, chosen, starting, resuming, halt_chosen, offer_chosen}
 
 -- a program that is to be offered
 abbrev pub IsCandidate : SubchannelState → Candidate → Type 0

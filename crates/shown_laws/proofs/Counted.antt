@@ -10,8 +10,7 @@ use Rattle.subchannel_model.specs.declared.state.ActiveProgram.{ActiveProgram}
 use Rattle.subchannel_model.specs.declared.state.Program.{Program}
 use Rattle.subchannel_model.specs.declared.state.SubchannelState.{SubchannelState}
 use Rattle.subchannel_model.specs.declared.status.Shown.{Shown}
-use Rattle.subchannel_model.specs.Causes.{row_of, scsw_before, without_begun, without_waiting, programs_after_end, with_cause}
-use Rattle.subchannel_model.specs.Parts.{scsw_joined}
+use Rattle.subchannel_model.specs.Causes.{row_of, scsw_before, without_begun, without_waiting, programs_after_end, with_cause, scsw_joined}
 use Rattle.subchannel_model.specs.Status.{scsw_made, serials_made}
 use Rattle.shown_laws.specs.Serials.{beside}
 use Rattle.shown_laws.proofs.Effects.{Seen, seen, of_seen, Effect, Nothing, Causes, TakesAsking, MovesAsking, SuspendsShowing, taken_over, moved, still}

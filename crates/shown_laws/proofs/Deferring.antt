@@ -32,11 +32,10 @@ use Rattle.subchannel_model.specs.declared.state.ProgramPosition.{ProgramPositio
 use Rattle.subchannel_model.specs.declared.state.Subchannel.{Subchannel}
 use Rattle.subchannel_model.specs.declared.state.SubchannelState.{SubchannelState}
 use Rattle.subchannel_model.specs.Causes.{with_cause}
-use Rattle.subchannel_model.specs.Choosing.{chosen, marked_sub}
+use Rattle.subchannel_model.specs.Choosing.{chosen, marked_sub, starting, resuming}
 use Rattle.subchannel_model.specs.Conditions.{left_by}
 use Rattle.subchannel_model.specs.Halt.{drops_status, halt_begun, status_dropped}
 use Rattle.subchannel_model.specs.Losing.{loses, path_index, shows_at}
-use Rattle.subchannel_model.specs.Parts.{starting, resuming}
 use Rattle.subchannel_model.specs.Programs.{without_programs}
 use Rattle.subchannel_model.specs.Status.{intermediate_alone, without_status}
 use Rattle.subchannel_model.specs.Test.{ends_suspended, ended_scsw, suspended_scsw, tested, tested_scsw}

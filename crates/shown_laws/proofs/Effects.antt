@@ -16,11 +16,11 @@ use Rattle.subchannel_model.specs.declared.state.Program.{Program}
 use Rattle.subchannel_model.specs.declared.state.ProgramPosition.{ProgramPosition}
 use Rattle.subchannel_model.specs.declared.state.SubchannelState.{SubchannelState}
 use Rattle.subchannel_model.specs.declared.status.Shown.{Shown}
-use Rattle.subchannel_model.specs.Causes.{row_of, with_status, without_begun, without_waiting, programs_after_end, with_cause}
+use Rattle.subchannel_model.specs.Causes.{row_of, with_status, without_begun, without_waiting, programs_after_end, with_cause, scsw_joined}
 use Rattle.subchannel_model.specs.Choosing.{halt_sent}
 use Rattle.subchannel_model.specs.Ends.{end_shown}
 use Rattle.subchannel_model.specs.Opening.{opening_subchannel}
-use Rattle.subchannel_model.specs.Parts.{scsw_joined, standing_still, suspended_alone}
+use Rattle.subchannel_model.specs.Parts.{standing_still, suspended_alone}
 use Rattle.subchannel_model.specs.Status.{scsw_made}
 use Rattle.subchannel_model.specs.Taking.{with_transfer, taking_over, is_open}
 

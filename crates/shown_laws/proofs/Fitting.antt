@@ -33,7 +33,7 @@ use Rattle.subchannel_model.specs.declared.state.Chosen.TheVariants.{PerformsCle
 use Rattle.subchannel_model.specs.declared.state.Program.{Program}
 use Rattle.subchannel_model.specs.declared.state.Subchannel.{Subchannel}
 use Rattle.subchannel_model.specs.declared.state.SubchannelState.{SubchannelState}
-use Rattle.subchannel_model.specs.Causes.{row_of, scsw_before, with_cause}
+use Rattle.subchannel_model.specs.Causes.{row_of, scsw_before, with_cause, scsw_joined}
 use Rattle.subchannel_model.specs.Choosing.{chosen, marked_sub}
 use Rattle.subchannel_model.specs.Conditions.{start_alone, left_by}
 use Rattle.subchannel_model.specs.Ends.{last_shown, work_shown}
@@ -44,7 +44,6 @@ use Rattle.subchannel_model.specs.Places.{place_in}
 use Rattle.subchannel_model.specs.Programs.{without_programs}
 use Rattle.subchannel_model.specs.Status.{intermediate_alone, without_status}
 use Rattle.subchannel_model.specs.Test.{tested, ended_scsw, suspended_scsw, tested_wholly}
-use Rattle.subchannel_model.specs.Parts.{scsw_joined}
 use Rattle.shown_laws.proofs.Chosen.{clear-chosen, nopath-chosen}
 use Rattle.shown_laws.proofs.Effects.{Seen, seen, of_seen, IsTimely, Effect, Nothing, Causes, Takes, TakesAsking, Moves, MovesAsking, Suspends, SuspendsShowing, SendsHalt, causes, made-activity, made-functions, joined-functions}
 use Rattle.step_laws.proofs.Executed.{IsEffect, code_for}

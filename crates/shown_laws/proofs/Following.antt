@@ -34,12 +34,11 @@ use Rattle.subchannel_model.specs.declared.state.Chosen.{Chosen}
 use Rattle.subchannel_model.specs.declared.state.Chosen.TheVariants.{PerformsClear, PerformsHalt, FindsNoPath}
 use Rattle.subchannel_model.specs.declared.state.Subchannel.{Subchannel}
 use Rattle.subchannel_model.specs.declared.state.SubchannelState.{SubchannelState}
-use Rattle.subchannel_model.specs.Causes.{row_of, scsw_before, with_cause}
+use Rattle.subchannel_model.specs.Causes.{row_of, scsw_before, with_cause, scsw_joined}
 use Rattle.subchannel_model.specs.Choosing.{chosen, marked_sub}
 use Rattle.subchannel_model.specs.Conditions.{left_by}
 use Rattle.subchannel_model.specs.Halt.{drops_status, status_dropped, halt_begun}
 use Rattle.subchannel_model.specs.Losing.{path_lost, path_index, loses_at, loses, shows_at}
-use Rattle.subchannel_model.specs.Parts.{scsw_joined}
 use Rattle.subchannel_model.specs.Programs.{without_programs}
 use Rattle.subchannel_model.specs.Status.{intermediate_alone, without_status}
 use Rattle.subchannel_model.specs.Test.{tested, tested_scsw, ended_scsw, suspended_scsw, ends_suspended}

@@ -18,7 +18,7 @@ use Rattle.channel_config.specs.declared.names.SubchannelId.{SubchannelId}
 use Rattle.channel_config.specs.declared.parts.SubchannelSetup.{SubchannelSetup}
 use Rattle.channel_config.specs.Setup.{Setup}
 use Rattle.interruptions.specs.Requests as requests
-use Rattle.interruptions.specs.Requests.{WaitingRequests, is_of, request_dropped}
+use Rattle.interruptions.specs.Requests.{WaitingRequests, request_dropped}
 use Rattle.machine_laws.specs.Codes.{IsByTable}
 use Rattle.machine_laws.specs.Claims.{is_id}
 use Rattle.machine_model.specs.InstructionSteps.{subchannel_word}
@@ -34,7 +34,7 @@ use Rattle.shown_laws.specs.Shown.{names, is_accepted}
 use Rattle.shown_laws.proofs.Asking.{asked_by, step-asked}
 use Rattle.step_laws.proofs.Executed.{IsDone, IsLeft, reply_of, code_for, state_left}
 use Rattle.shown_laws.proofs.Executed.{IsExecuted, executed}
-use Rattle.shown_laws.proofs.Named.{same-id}
+use Rattle.machine_laws.proofs.Names.{same-id}
 use Rattle.shown_laws.proofs.Waiting.{is_for, asks, all-keep, all-own, all-why, dropped-own, dropped-other, dropped-was}
 
 -- what an instruction takes away

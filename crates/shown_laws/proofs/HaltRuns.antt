@@ -21,8 +21,7 @@ use Rattle.subchannel_model.specs.declared.state.Chosen.TheVariants.{Idle}
 use Rattle.subchannel_model.specs.declared.state.Subchannel.{Subchannel}
 use Rattle.subchannel_model.specs.declared.state.SubchannelState.{SubchannelState}
 use Rattle.path_select.specs.Choice.{IsChoice}
-use Rattle.subchannel_model.specs.Choosing.{return_paths, is_away, unsent_reset, first_some, candidate, path_use, reset_chosen, clear_chosen, chosen, marked_sub}
-use Rattle.subchannel_model.specs.Parts.{halt_chosen, offer_chosen}
+use Rattle.subchannel_model.specs.Choosing.{return_paths, is_away, unsent_at, unsent_reset, first_some, candidate, path_use, reset_chosen, clear_chosen, chosen, marked_sub, halt_chosen, offer_chosen}
 use Rattle.seen_laws.specs.Links.{Link, Apart, Offered, Resetting, SubSeen, Seen, OfSub, first_seen, nothing_seen, seen_through}
 use Rattle.seen_laws.proofs.LinkHolds.{link_at, Stands}
 use Rattle.seen_laws.proofs.LinkLists.{of-first}
@@ -34,11 +33,6 @@ use Rattle.shown_laws.specs.Halts.{IsFirstDown, IsHaltDone, IsHaltDoneFor, IsHal
 use Rattle.shown_laws.specs.Shown.{StoredStatus, is_about}
 use Rattle.shown_laws.proofs.Runs.{AreLaws, status_of, run-between}
 use Rattle.shown_laws.proofs.Turned.{Turned, IsAwayChoice, Chooses, Sweeps, Rests, reply_chosen}
-
--- the number of a Reset that is due, by the phase
-abbrev unsent_at : HoldPhase → Option ℕ → Option ℕ
-unsent_at (hold.Reset r) None = Some r
-unsent_at phase sent = None
 
 -- what is chosen where a halt is pending
 abbrev chosen_at : HoldPhase → Option ℕ → Bool → Option Candidate → Bool → Option ℕ → Chosen
@@ -100,11 +94,6 @@ module _ (is_up : ℕ → Bool) (k : SubSeen) (m : SubchannelState) (clear : Boo
             (reset-done d.reset)),
       )
 
-same-unsent : (phase : HoldPhase) (sent : Option ℕ) → (elim phase [ hold.Reset r ↦ elim sent [ None ↦ Some r | Some path ↦ None ] | other ↦ None ]) ≡ unsent_at phase sent
-same-unsent (hold.Reset r) None = refl
-same-unsent (hold.Reset r) (Some path) = refl
-same-unsent other sent = refl
-
 first-down : (is_up : ℕ → Bool) (k : SubSeen) (sub : Subchannel) (choice : Option ℕ) → IsTied is_up k sub → IsChoice (return_paths sub) choice → choice ≡ None → IsFirstDown is_up k
 first-down is_up k sub choice tie is none path first up =
     let free : IsAvailable sub path = up-available is_up k sub path tie up in
@@ -124,10 +113,8 @@ halt-done is_up k sub choice tie away pending =
     ∷ halt_chosen b s.hold.phase choice
     ∷ offer_chosen s.hold.phase found reachable choice
     ∷ [])) Idle)) k) (sym pending)
-    (subst (λ (o : Option ℕ). IsHaltDoneFor is_up (reply_chosen m (chosen_at s.hold.phase o s.scsw.activity.clear_pending found reachable choice)) k)
-    (sym (same-unsent s.hold.phase s.hold.reset_path))
     (done-for is_up k m s.scsw.activity.clear_pending found reachable choice s.hold.phase s.hold.reset_path tie.held.stands
-    (λ e none. first-down is_up k sub choice tie (away pending e) none)))
+    (λ e none. first-down is_up k sub choice tie (away pending e) none))
 
 module _ (setup : Setup) (id : SubchannelId) (before : List Entry) where
   abbrev was : Seen

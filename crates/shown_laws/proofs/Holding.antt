@@ -46,8 +46,8 @@ use Rattle.subchannel_model.specs.Conditions.{left_by}
 use Rattle.subchannel_model.specs.Ends.{has_status_modifier, chains_command}
 use Rattle.subchannel_model.specs.Halt.{drops_status, status_dropped, halt_begun}
 use Rattle.subchannel_model.specs.Losing.{is_offered_or_held, reset_drawn, reset_with, reset_for, path_lost, path_index, loses_at, loses, shows_at}
-use Rattle.subchannel_model.specs.Parts.{has_any, suspended_alone, standing_still, end_shown_at}
-use Rattle.subchannel_model.specs.Programs.{without_programs}
+use Rattle.subchannel_model.specs.Parts.{suspended_alone, standing_still, end_shown_at}
+use Rattle.subchannel_model.specs.Programs.{without_programs, has_any}
 use Rattle.subchannel_model.specs.Taking.{Met, meets, ignoring, quietly, let_go, without_pci, interrupted, standing, goes_ahead, path_used, taking_over, suspending, beginning, begin_standing, halt_done, accept, with_transfer, moving_on, giving, take_in, move_bytes, move_data, with_end, end_taken, chaining, goes_on, stops_at, command_ended, end_of, clear_done, reset_taken, back, attend, may_attend, takes_up}
 use Rattle.subchannel_model.specs.Test.{tested, ends_suspended}
 use Rattle.shown_laws.proofs.Chosen.{why-chosen, IsWhy}

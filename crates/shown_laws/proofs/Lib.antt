@@ -1,5 +1,4 @@
 mod CodeTable
-pub mod Named
 pub mod Executed
 pub mod Turned
 pub mod Runs

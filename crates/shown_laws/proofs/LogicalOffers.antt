@@ -34,7 +34,7 @@ use Rattle.step_laws.specs.Walks as walked
 use Rattle.step_laws.specs.Walks.{Walked, IsQuiet, Suits}
 use Rattle.shown_laws.specs.Paths.{IsOfferLogical, IsEntryLogical, AreOffersLogical}
 use Rattle.shown_laws.specs.Shown.{names}
-use Rattle.shown_laws.proofs.Named.{same-id}
+use Rattle.machine_laws.proofs.Names.{same-id}
 use Rattle.shown_laws.proofs.Runs.{AreLaws, IsPassed, passed, passed-next, sets-stay}
 use Rattle.shown_laws.proofs.WordRuns.{HasMasks, steps-shown}
 use Rattle.shown_laws.proofs.Words.{member-masked}

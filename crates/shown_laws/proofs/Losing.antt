@@ -10,10 +10,9 @@ use Rattle.channel_config.specs.Setup.{are_distinct}
 use Rattle.subchannel_model.specs.declared.state.Subchannel.{Subchannel}
 use Rattle.subchannel_model.specs.declared.state.SubchannelState.{SubchannelState}
 use Rattle.subchannel_model.specs.Losing.{is_offered_or_held, reset_with, reset_for, path_index, loses_at}
-use Rattle.subchannel_model.specs.Parts.{has_any}
+use Rattle.subchannel_model.specs.Programs.{has_any}
 use Rattle.subchannel_model.specs.Status.{serials_made}
-use Rattle.subchannel_model.specs.Taking.{quietly, ignoring}
-use Rattle.subchannel_model.proofs.Named.{with_known}
+use Rattle.subchannel_model.specs.Taking.{quietly, ignoring, with_known}
 use Rattle.shown_laws.proofs.Effects.{seen}
 use Rattle.shown_laws.proofs.Fitting.{Fits}
 use Rattle.shown_laws.proofs.Showing.{TellsPrograms}

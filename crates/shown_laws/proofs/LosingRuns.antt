@@ -19,8 +19,7 @@ use Rattle.subchannel_model.specs.declared.state.Subchannel.{Subchannel}
 use Rattle.subchannel_model.specs.declared.state.SubchannelState.{SubchannelState}
 use Rattle.subchannel_model.specs.declared.state.UpStep.{UpStep}
 use Rattle.subchannel_model.specs.Losing.{reset_for, loses, path_index}
-use Rattle.subchannel_model.specs.Taking.{quietly, ignoring}
-use Rattle.subchannel_model.proofs.Named.{with_known}
+use Rattle.subchannel_model.specs.Taking.{quietly, ignoring, with_known}
 use Rattle.seen_laws.specs.Links.{SubSeen, OfSub, first_seen, nothing_seen, seen_through}
 use Rattle.seen_laws.proofs.LinkLists.{of-first}
 use Rattle.seen_laws.proofs.LinkRuns.{AreOnePath, IsRunSeen, run-seen}

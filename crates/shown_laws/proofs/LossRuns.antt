@@ -22,10 +22,9 @@ use Rattle.step_laws.specs.Walks.{sweep_event}
 use Rattle.subchannel_model.specs.declared.state.Subchannel.{Subchannel}
 use Rattle.subchannel_model.specs.declared.state.SubchannelState.{SubchannelState}
 use Rattle.subchannel_model.specs.Losing.{is_offered_or_held, reset_with, reset_for, loses, path_index, loses_at, shows_at}
-use Rattle.subchannel_model.specs.Parts.{has_any}
+use Rattle.subchannel_model.specs.Programs.{has_any}
 use Rattle.subchannel_model.specs.Status.{serials_made}
-use Rattle.subchannel_model.specs.Taking.{quietly, ignoring}
-use Rattle.subchannel_model.proofs.Named.{with_known}
+use Rattle.subchannel_model.specs.Taking.{quietly, ignoring, with_known}
 use Rattle.shown_laws.specs.Codes.{enabled_in, MayBe}
 use Rattle.shown_laws.specs.Losses.{StaysUnmade, IsLossShown, AreLossesShown}
 use Rattle.shown_laws.specs.Shown.{StoredStatus}

@@ -39,7 +39,7 @@ use Rattle.subchannel_model.specs.Choosing.{chosen, marked_sub, reset_sent, halt
 use Rattle.subchannel_model.specs.Conditions.{left_by}
 use Rattle.subchannel_model.specs.Halt.{shows_end, drops_status, status_dropped, halt_begun}
 use Rattle.subchannel_model.specs.Losing.{path_lost, path_index, loses_at, loses, shows_at}
-use Rattle.subchannel_model.specs.Programs.{without_programs}
+use Rattle.subchannel_model.specs.Programs.{without_programs, has_any}
 use Rattle.subchannel_model.specs.Status.{intermediate_alone, without_status}
 use Rattle.subchannel_model.specs.Taking.{is_open}
 use Rattle.subchannel_model.specs.Test.{tested, tested_scsw, ended_scsw, suspended_scsw, ends_suspended}
@@ -56,7 +56,6 @@ use Rattle.shown_laws.proofs.Runs.{AreLaws, status_of, run-between}
 use Rattle.shown_laws.proofs.Signals.{IsReleased, Due, Comes, Ignored, Taken, lost-goes, takes-comes}
 use Rattle.shown_laws.proofs.Standing.{Stands}
 use Rattle.shown_laws.proofs.StandingRuns.{run-stands, at-work}
-use Rattle.subchannel_model.specs.Parts.{has_any}
 use Rattle.shown_laws.proofs.Turned.{Turned, Executes, Chooses, Meets, Sweeps, Rests, met, reply_met, reply_chosen, state_chosen}
 
 -- instructions

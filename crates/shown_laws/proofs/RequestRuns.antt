@@ -27,7 +27,7 @@ use Rattle.shown_laws.specs.Shown.{StoredStatus, names, stored_in, stored_by, is
 use Rattle.shown_laws.proofs.Absent.{setups-stay}
 use Rattle.shown_laws.proofs.Given.{step-keeps, step-why}
 use Rattle.shown_laws.proofs.Made.{turned-made}
-use Rattle.shown_laws.proofs.Named.{same-id}
+use Rattle.machine_laws.proofs.Names.{same-id}
 use Rattle.shown_laws.proofs.Runs.{AreLaws, Leads, Here, Then, uncons, leads-split, onward, IsPassed, passed, passed-next, placed, place-stays, sets-stay, status_of, IsStored, step-stored}
 use Rattle.shown_laws.proofs.StandingRuns.{run-stands}
 use Rattle.shown_laws.proofs.Turned.{Turned, step-turns}

@@ -15,17 +15,16 @@ use Rattle.channel_config.specs.Setup.{Setup, set_count}
 use Rattle.machine_laws.specs.Claims.{is_id}
 use Rattle.machine_model.specs.State.{State, opening_of}
 use Rattle.machine_model.specs.Steps.{Run, Opened, Stepped, Step}
-use Rattle.subchannel_model.proofs.Named.{one_later}
 use Rattle.subchannel_model.specs.declared.state.Subchannel.{Subchannel}
 use Rattle.subchannel_model.specs.declared.state.SubchannelState.{SubchannelState}
-use Rattle.subchannel_model.specs.Places.{Found, found_at, first_place, is_named, place_in}
+use Rattle.subchannel_model.specs.Places.{Found, found_at, first_place, is_named, place_in, one_later}
 use Rattle.step_laws.proofs.Places.{map-get, found-there}
 use Rattle.step_laws.specs.Walks.{AreWalks}
 use Rattle.subchannel_model.specs.Opening.{opening_subchannel, opened}
 use Rattle.shown_laws.specs.Shown.{StoredStatus, names, stored_in, stored_by, Between}
 use Rattle.step_laws.proofs.Executed.{IsDone, set-same}
 use Rattle.shown_laws.proofs.Executed.{IsExecuted, executed}
-use Rattle.shown_laws.proofs.Named.{same-id}
+use Rattle.machine_laws.proofs.Names.{same-id}
 use Rattle.shown_laws.proofs.Turned.{Turned, step-turns}
 
 -- what is shown of a subchannel

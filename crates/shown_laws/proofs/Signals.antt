@@ -31,7 +31,8 @@ use Rattle.subchannel_model.specs.declared.state.UpStep.{UpStep}
 use Rattle.subchannel_model.specs.Causes.{with_cause}
 use Rattle.subchannel_model.specs.Ends.{has_status_modifier, breaks_chain, chains_command}
 use Rattle.subchannel_model.specs.Losing.{is_offered_or_held, reset_drawn, reset_with, reset_for}
-use Rattle.subchannel_model.specs.Parts.{has_any, suspended_alone, standing_still, end_shown_at}
+use Rattle.subchannel_model.specs.Parts.{suspended_alone, standing_still, end_shown_at}
+use Rattle.subchannel_model.specs.Programs.{has_any}
 use Rattle.subchannel_model.specs.Taking.{Met, meets, ignoring, quietly, let_go, without_pci, standing, standing_as, goes_ahead, path_used, taking_over, beginning, begin_standing, accept, with_transfer, moving_on, giving, take_in, move_bytes, move_data, with_end, end_taken, chaining, goes_on, stops_at, command_ended, end_of, reset_taken, back, attend, may_attend, is_open, takes_up}
 use Rattle.seen_laws.specs.BeginsItsOwn.{is_release}
 use Rattle.shown_laws.proofs.Effects.{Seen, seen, IsStanding, IsGoing, Effect, Nothing, Takes, TakesAsking, Moves, MovesAsking, Suspends, SuspendsShowing, causes}

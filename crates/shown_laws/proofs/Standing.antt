@@ -16,10 +16,9 @@ use Rattle.subchannel_model.specs.declared.state.Program.{Program}
 use Rattle.subchannel_model.specs.declared.state.ProgramPosition.{ProgramPosition}
 use Rattle.subchannel_model.specs.declared.state.SubchannelState.{SubchannelState}
 use Rattle.subchannel_model.specs.declared.status.Shown.{Shown}
-use Rattle.subchannel_model.specs.Causes.{intermediate, row_of, with_status, without_begun, without_waiting, programs_after_end, with_cause}
+use Rattle.subchannel_model.specs.Causes.{intermediate, row_of, with_status, without_begun, without_waiting, programs_after_end, with_cause, scsw_joined}
 use Rattle.subchannel_model.specs.Ends.{end_shown, last_shown, work_shown}
 use Rattle.subchannel_model.specs.Halt.{shows_end}
-use Rattle.subchannel_model.specs.Parts.{scsw_joined}
 use Rattle.subchannel_model.specs.Status.{scsw_made, scsw_with_status}
 use Rattle.subchannel_model.specs.Taking.{is_open}
 use Rattle.shown_laws.proofs.Effects.{Seen, seen, of_seen, IsStanding, IsGoing, IsTimely, Effect, Nothing, Causes, Takes, TakesAsking, Moves, MovesAsking, Suspends, SuspendsShowing, SendsHalt, taken_over, moved, still, made-functions, joined-functions}

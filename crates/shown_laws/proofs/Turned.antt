@@ -38,7 +38,6 @@ use Rattle.machine_model.specs.Turns.{SubTurn, UpTurn, DownTurn, with_state}
 use Rattle.machine_model.specs.UpSteps.{up_front, up_sub, returns_at}
 use Rattle.step_laws.proofs.Places.{set-get, map-get, found-there}
 use Rattle.step_laws.specs.Walks.{sweep_event}
-use Rattle.subchannel_model.proofs.Named.{found_with}
 use Rattle.subchannel_model.specs.declared.cause.StatusCause.TheVariants as cause
 use Rattle.subchannel_model.specs.declared.state.Chosen.{Chosen}
 use Rattle.subchannel_model.specs.declared.state.Chosen.TheVariants.{Idle, Resets, PerformsClear, Halts, PerformsHalt, FindsNoPath, Offers}
@@ -46,7 +45,7 @@ use Rattle.subchannel_model.specs.declared.state.Subchannel.{Subchannel}
 use Rattle.subchannel_model.specs.declared.state.SubchannelState.{SubchannelState}
 use Rattle.subchannel_model.specs.Causes.{with_cause}
 use Rattle.subchannel_model.specs.Choosing.{path_use, engaged_paths, return_paths, is_away, unsent_reset, paths_unreset, paths_to_choose, chosen, marked_sub, reset_sent, halt_sent, offered}
-use Rattle.subchannel_model.specs.Places.{Found, found_at, place_in, place_of_id}
+use Rattle.subchannel_model.specs.Places.{Found, found_at, place_in, place_of_id, found_with}
 use Rattle.subchannel_model.specs.Sending.{carried_by, finds_full}
 use Rattle.subchannel_model.specs.Store.{available_paths}
 use Rattle.subchannel_model.specs.Taking.{Met, takes_up}
@@ -54,7 +53,7 @@ use Rattle.wires.specs.Queues.{queue}
 use Rattle.shown_laws.specs.Shown.{names, is_about}
 use Rattle.step_laws.proofs.Executed.{IsEffect, reply_of, code_for, state_left, IsDone}
 use Rattle.shown_laws.proofs.Executed.{IsExecuted, as-executed}
-use Rattle.shown_laws.proofs.Named.{same-id, named-is, named-place}
+use Rattle.machine_laws.proofs.Names.{same-id, named-is, named-place}
 use Rattle.machine_model.specs.Sharing.{may_take}
 use Rattle.step_laws.proofs.Turns as turn
 use Rattle.step_laws.proofs.Turns.{TurnOf, HasTurn, step-turn}

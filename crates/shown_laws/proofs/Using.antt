@@ -35,9 +35,9 @@ use Rattle.subchannel_model.specs.declared.state.UpStep.{UpStep}
 use Rattle.subchannel_model.specs.Causes.{without_begun, with_cause}
 use Rattle.subchannel_model.specs.Ends.{has_status_modifier, chains_command}
 use Rattle.subchannel_model.specs.Losing.{is_offered_or_held, reset_with, reset_for, loses_at, shows_at}
-use Rattle.subchannel_model.specs.Parts.{suspended_alone, standing_still, chain_with, end_shown_at, has_any}
-use Rattle.subchannel_model.proofs.Named.{with_known, with_attention}
-use Rattle.subchannel_model.specs.Taking.{Met, meets, ignoring, quietly, let_go, by_hold, interrupted, standing, goes_ahead, path_used, taking_over, suspending, beginning, begin_standing, halt_done, clear_done, accept, back, giving, take_in, move_bytes, move_data, with_end, with_transfer, end_taken, chaining, goes_on, stops_at, command_ended, end_of, reset_taken, may_attend, takes_up}
+use Rattle.subchannel_model.specs.Parts.{suspended_alone, standing_still, chain_with, end_shown_at}
+use Rattle.subchannel_model.specs.Programs.{has_any}
+use Rattle.subchannel_model.specs.Taking.{Met, meets, ignoring, quietly, let_go, by_hold, interrupted, standing, goes_ahead, path_used, taking_over, suspending, beginning, begin_standing, halt_done, clear_done, accept, back, giving, take_in, move_bytes, move_data, with_end, with_transfer, end_taken, chaining, goes_on, stops_at, command_ended, end_of, reset_taken, may_attend, takes_up, with_known, with_attention}
 use Rattle.shown_laws.specs.Paths.{used_met}
 use Rattle.shown_laws.proofs.Turned.{state_chosen}
 use Rattle.subchannel_model.specs.declared.state.PmcwState.{PmcwState}

@@ -23,7 +23,7 @@ use Rattle.machine_model.specs.Steps.{Step}
 use Rattle.shown_laws.specs.Paths.{IsWordShown}
 use Rattle.shown_laws.specs.Shown.{names, is_accepted}
 use Rattle.step_laws.proofs.Places.{found-there}
-use Rattle.shown_laws.proofs.Named.{same-id}
+use Rattle.machine_laws.proofs.Names.{same-id}
 use Rattle.shown_laws.proofs.Words.{shows-masks}
 use Rattle.chan_events.specs.declared.event.Instruction.{Instruction}
 use Rattle.interruptions.specs.Requests.{WaitingRequests}

@@ -6,7 +6,6 @@ ghost use Rattle.subchannel_model.specs.Ends as end_spec;
 ghost use Rattle.subchannel_model.specs.declared.cause.StatusCause.TheVariants as cause_spec;
 ghost use Rattle.subchannel_model.specs.Status as joined_spec;
 ghost use Rattle.subchannel_model.specs.Causes as spec;
-ghost use Rattle.subchannel_model.specs.Parts as parts;
 ghost use Rattle.subchannel_words.specs.Unwired.{with_state};
 ghost use Rattle.status.specs.Ended.{rest_after_end};
 
@@ -97,7 +96,7 @@ fn fetch_fault_shown(tried: u32, check: Check, count: u16) -> Shown
 }
 
 fn attention_deferred(waiting: Option<Program>) -> Option<DeferredCode>
-    ensures { result ≡ parts.attention_deferred waiting }
+    ensures { result ≡ spec.attention_deferred waiting }
 {
     match waiting {
         None => None,
@@ -253,7 +252,7 @@ fn leave_programs(state: &mut PackedState, cause: &StatusCause)
 
 /// The clear function alone.
 fn clear_scsw() -> ScswWords
-    ensures { result ≡ parts.clear_scsw }
+    ensures { result ≡ spec.clear_function_alone }
 {
     let mut scsw = ScswWords::zero();
     scsw.change(0, CLEAR_FUNCTION);
@@ -262,14 +261,14 @@ fn clear_scsw() -> ScswWords
 
 /// Intermediate status is turned off.
 fn turn_off_intermediate(scsw: &mut ScswWords)
-    ensures { scsw.new ≡ parts.without_intermediate scsw.old }
+    ensures { scsw.new ≡ spec.without_intermediate scsw.old }
 {
     scsw.change(INTERMEDIATE, 0);
 }
 
 /// The status word becomes the one that the status of a cause joins; that of a subchannel that is not enabled stays as it is.
 fn prepare_scsw(enabled: bool, scsw: &mut ScswWords, cause: &StatusCause)
-    ensures { scsw.new ≡ parts.scsw_joined enabled scsw.old (spec.scsw_before scsw.old cause.now) }
+    ensures { scsw.new ≡ spec.scsw_joined enabled scsw.old (spec.scsw_before scsw.old cause.now) }
 {
     match cause {
         StatusCause::ClearDone if enabled => *scsw = clear_scsw(),

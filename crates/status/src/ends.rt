@@ -3,7 +3,6 @@
 ghost use Rattle.std.specs.Prelude.{◌≡◌};
 ghost use Rattle.chan_model.specs.UnitReports as report_spec;
 ghost use Rattle.subchannel_model.specs.Ends as spec;
-ghost use Rattle.subchannel_model.specs.Parts as parts;
 
 use crate::shown::{check_status, conditions, shows_primary};
 use crate::testing::is_halted;
@@ -22,7 +21,7 @@ pub fn is_last_end(status: DeviceStatus) -> bool
 }
 
 fn length_status(shows: bool) -> SubchannelStatus
-    ensures { result.0 ≡ parts.length_bits shows }
+    ensures { result.0 ≡ spec.length_bits shows }
 {
     if shows {
         SubchannelStatus::INCORRECT_LENGTH
@@ -52,7 +51,7 @@ fn shows_immediate(begun: &ActiveProgram, status: DeviceStatus) -> bool
 }
 
 fn suppresses_length(begun: &ActiveProgram) -> bool
-    ensures { result ≡ parts.suppresses_length begun.now }
+    ensures { result ≡ spec.suppresses_length begun.now }
 {
     let ccw = begun.transfer.moving.ccw();
     ccw.suppress_length && !ccw.chain_data
@@ -75,7 +74,7 @@ fn end_status(
     status: DeviceStatus,
     more: bool,
 ) -> SubchannelStatus
-    ensures { result ≡ parts.end_bits scsw.now begun.now status more }
+    ensures { result ≡ spec.end_bits scsw.now begun.now status more }
 {
     length_status(shows_length(scsw, begun, status, more)).joined(check_status(
         begun.transfer.fault,
@@ -109,7 +108,7 @@ pub fn chains_command(
 }
 
 fn is_alert(begun: &ActiveProgram, status: DeviceStatus) -> bool
-    ensures { result ≡ parts.is_alert begun.now status }
+    ensures { result ≡ spec.is_alert begun.now status }
 {
     status.has_check() || begun.transfer.fault.is_some()
 }
@@ -121,7 +120,7 @@ fn channel_end_shown(
     status: DeviceStatus,
     more: bool,
 ) -> Shown
-    ensures { result ≡ parts.channel_end_shown scsw.now begun.now status more }
+    ensures { result ≡ spec.channel_end_shown scsw.now begun.now status more }
 {
     Shown {
         conditions: conditions(
@@ -148,7 +147,7 @@ fn last_end_shown(
     status: DeviceStatus,
     more: bool,
 ) -> Shown
-    ensures { result ≡ parts.last_end_shown scsw.now begun.now status more }
+    ensures { result ≡ spec.last_end_shown scsw.now begun.now status more }
 {
     Shown {
         conditions: conditions(
@@ -172,7 +171,7 @@ fn earlier_end_shown(
     status: DeviceStatus,
     more: bool,
 ) -> Shown
-    ensures { result ≡ parts.earlier_end_shown scsw.now begun.now status more }
+    ensures { result ≡ spec.earlier_end_shown scsw.now begun.now status more }
 {
     let before = scsw.scsw();
     Shown {

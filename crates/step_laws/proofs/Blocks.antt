@@ -32,9 +32,7 @@ use Rattle.subchannel_model.specs.Sending.{carried_by, finds_full}
 use Rattle.subchannel_model.specs.Taking.{Met, meets, ignoring, move_data, takes_up}
 use Rattle.wires.specs.Queues.{queue}
 use Rattle.control_units.specs.declared.Member.{Member}
-use Rattle.control_units.proofs.Named.{refused_at}
-use Rattle.control_units.specs.Units.{may_serve, member_told}
-use Rattle.control_units.specs.Parts.{begun_at, over_at}
+use Rattle.control_units.specs.Units.{may_serve, member_told, begun_at, over_at, refused_at}
 use Rattle.interruptions.specs.Requests as requests
 use Rattle.interruptions.specs.Requests.{WaitingRequests}
 use Rattle.scsw_irb.specs.declared.code.IntCode.{IntCode}
@@ -43,8 +41,7 @@ use Rattle.machine_model.specs.Turns.{UpTurn}
 use Rattle.machine_model.specs.InstructionSteps.{subchannel_word}
 use Rattle.machine_model.specs.UpSteps.{returns_at, up_front, up_sub}
 use Rattle.machine_model.specs.DownSteps.{asks_at}
-use Rattle.machine_model.proofs.Named.{makes_status}
-use Rattle.machine_model.specs.Requests.{reply_code, drops, requests_after, requests_dropped, posted_all, posted_for, request_of}
+use Rattle.machine_model.specs.Requests.{reply_code, drops, requests_after, requests_dropped, posted_all, posted_for, request_of, makes_status}
 use Rattle.machine_model.specs.Steps.{Step}
 use Rattle.machine_model.specs.Sharing.{is_let_go, members_asked, members_over, members_after}
 use Rattle.machine_model.specs.Setups.{group_of}

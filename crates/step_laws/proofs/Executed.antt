@@ -27,8 +27,7 @@ use Rattle.subchannel_model.specs.Store.{pmcw_of, schib_of}
 use Rattle.subchannel_model.specs.Test.{tsch_code, tested_wholly}
 use Rattle.machine_model.specs.State.{State}
 use Rattle.machine_model.specs.Turns.{Outcome, with_state}
-use Rattle.machine_model.proofs.Named.{PerformsStart, tests, stores, Modifies, Enables}
-use Rattle.machine_model.specs.InstructionSteps.{code_at, function_at, stores_irb, with_irb, with_schib, with_enabling, test_sub, Modifies_by, Enables_with, Executes_at}
+use Rattle.machine_model.specs.InstructionSteps.{code_at, function_at, stores_irb, with_irb, with_schib, with_enabling, test_sub, Modifies_by, Enables_with, Executes_at, PerformsStart, performs_test, performs_store, PerformsModify, PerformsEnable}
 use Rattle.interruptions.specs.Requests.{WaitingRequests}
 use Rattle.step_laws.specs.Codes.{code_by}
 use Rattle.step_laws.proofs.Places.{found-there}
@@ -76,7 +75,7 @@ abbrev pub IsDone : State → Instruction → Option Found → Reply → State �
 IsDone s i None r new = IsAbsent s i r new
 IsDone s i (Some f) r new = IsLeft s i r new f
 
--- what storage is left: TEST stores the IRB with codes 0 and 1, STORE the SCHIB; enabling, what MODIFY fetches
+-- what storage is left: TEST performs_store the IRB with codes 0 and 1, STORE the SCHIB; enabling, what MODIFY fetches
 abbrev pub IsStorageLeft : State → ℕ → Instruction → Option Found → Contents → Type 0
 IsStorageLeft s cpu (instruction.Tsch word address) (Some f) x = x ≡ (with_irb s cpu address f.sub (stores_irb (code_for (instruction.Tsch word address) f.sub))).storage
 IsStorageLeft s cpu (instruction.Stsch word address) (Some f) x = x ≡ (with_schib s cpu address (schib_of f.sub)).storage
@@ -153,13 +152,13 @@ module _ (s : State) where
   test-done cpu word address f c e =
       record { own = refl; blocks = refl; storage = test-stored cpu word address f c e; done = test-left word address f c _ e refl }
 
-  tests-done : (cpu word address : ℕ) (q : Option Found) (r : Result (Unit {0}) StorageFault) → OkDone cpu (instruction.Tsch word address) q (tests s cpu address q r)
+  tests-done : (cpu word address : ℕ) (q : Option Found) (r : Result (Unit {0}) StorageFault) → OkDone cpu (instruction.Tsch word address) q (performs_test s cpu address q r)
   tests-done cpu word address q (Err x) = tt
   tests-done cpu word address None (Ok u) = record { own = refl; blocks = refl; storage = refl; done = record { replies = refl; subs = refl } }
   tests-done cpu word address (Some f) (Ok u) = test-done cpu word address f (code_at tsch_code f.sub) refl
 
   stores-done : (cpu word address : ℕ) (p : Option ℕ) (q : Option Found) (r : Result (Unit {0}) StorageFault) → found_at s.subs p ≡ q →
-      OkDone cpu (instruction.Stsch word address) q (stores s cpu address q r)
+      OkDone cpu (instruction.Stsch word address) q (performs_store s cpu address q r)
   stores-done cpu word address p q (Err x) e = tt
   stores-done cpu word address p None (Ok u) e = record { own = refl; blocks = refl; storage = refl; done = record { replies = refl; subs = refl } }
   stores-done cpu word address p (Some f) (Ok u) e = record {
@@ -178,7 +177,7 @@ module _ (s : State) where
         | inr x ↦ subst (OkDone cpu i q) (sym x.1) (k w.0)
       ]
 
-  modifies-done : (cpu word address : ℕ) (q : Option Found) (r : Result (List ℕ) StorageFault) (o : Outcome) → Modifies s q r o →
+  modifies-done : (cpu word address : ℕ) (q : Option Found) (r : Result (List ℕ) StorageFault) (o : Outcome) → PerformsModify s q r o →
       OkDone cpu (instruction.Msch word address) q o
   modifies-done cpu word address q (Err x) o w = subst (OkDone cpu (instruction.Msch word address) q) (sym w) tt
   modifies-done cpu word address q (Ok image) o w =
@@ -196,7 +195,7 @@ module _ (s : State) where
       (λ sub. modified_state sub (enabling (pmcw_of sub) subclass multipath)) (λ c b a. refl) (λ f. refl) refl refl)
 
   enables-done : (cpu word subclass : ℕ) (multipath : Bool) (q : Option Found) (r : Result (List ℕ) StorageFault) (o : Outcome) →
-      Enables s cpu q subclass multipath r o → OkDone cpu (instruction.Enable word subclass multipath) q o
+      PerformsEnable s cpu q subclass multipath r o → OkDone cpu (instruction.Enable word subclass multipath) q o
   enables-done cpu word subclass multipath q (Err x) o w = subst (OkDone cpu (instruction.Enable word subclass multipath) q) (sym w) tt
   enables-done cpu word subclass multipath q (Ok image) o w = enabled-done cpu word subclass multipath q image o w
 

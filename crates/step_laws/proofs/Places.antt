@@ -12,8 +12,7 @@ use Rattle.chan_model.specs.Sides.{same_side}
 use Rattle.channel_config.specs.declared.parts.SubchannelSetup.{SubchannelSetup}
 use Rattle.channel_config.specs.Lawful.{IsShared, uses_by}
 use Rattle.subchannel_model.specs.declared.state.Subchannel.{Subchannel}
-use Rattle.subchannel_model.proofs.Named.{found_with, one_later}
-use Rattle.subchannel_model.specs.Places.{Found, found_at, first_place, reaches}
+use Rattle.subchannel_model.specs.Places.{Found, found_at, first_place, reaches, found_with, one_later}
 
 -- an element of a list in which one was set
 pub set-get : {A : Type 0} (xs : List A) (k : ℕ) (y : A) (i : ℕ) (x : A) → slice_get (slice_set xs k y) i ≡ Some x →

@@ -12,9 +12,7 @@ use Rattle.subchannel_model.specs.declared.state.Program.{Program}
 use Rattle.subchannel_model.specs.declared.state.ProgramPosition.{ProgramPosition}
 use Rattle.subchannel_model.specs.declared.state.Subchannel.{Subchannel}
 use Rattle.subchannel_model.specs.declared.state.SubchannelState.{SubchannelState}
-use Rattle.subchannel_model.specs.Choosing.{IsHeldBy, unsent_reset, first_some, candidate, path_use, reset_chosen, clear_chosen, halt_at, over_unless, offer_at, chosen}
-use Rattle.subchannel_model.proofs.Named.{unsent_at}
-use Rattle.subchannel_model.specs.Parts.{starting, resuming, halt_chosen, offer_chosen}
+use Rattle.subchannel_model.specs.Choosing.{IsHeldBy, unsent_reset, first_some, candidate, path_use, reset_chosen, clear_chosen, halt_at, over_unless, offer_at, chosen, starting, resuming, halt_chosen, offer_chosen, unsent_at}
 use Rattle.step_laws.specs.Walks.{IsFound, Suits}
 
 -- what holds of the thing that is there

@@ -33,20 +33,19 @@ use Rattle.subchannel_model.specs.Places.{Found, found_at, place_in, reached_in}
 use Rattle.subchannel_model.specs.Choosing.{chosen, marked_sub, paths_to_choose}
 use Rattle.machine_model.specs.State.{State, place_of, found_of, with_sub, state_with_unit}
 use Rattle.machine_model.specs.Turns.{Outcome, Turn, SubTurn, UpTurn, DownTurn, at_sub, at_storage, at_unit, does, where_tested}
-use Rattle.machine_model.proofs.Named.{requests_settled, show_turn_of, Executes_on, down_unit, act_to}
-use Rattle.machine_model.specs.InstructionSteps.{subchannel_word}
+use Rattle.machine_model.specs.InstructionSteps.{subchannel_word, Executes_on}
 use Rattle.machine_model.specs.ChooseSteps.{choose_sub, Chooses}
 use Rattle.machine_model.specs.UpSteps.{returns_at, up_sub, up_at}
-use Rattle.machine_model.specs.DownSteps.{asks_at, share_with, at_shared, down_sub, down_at}
+use Rattle.machine_model.specs.DownSteps.{asks_at, share_with, at_shared, down_sub, down_at, down_unit}
 use Rattle.machine_model.specs.ReportSteps.{report_sub, report_to, report_at}
 use Rattle.machine_model.specs.RestartSteps.{restart_at}
-use Rattle.machine_model.specs.Requests.{settled}
-use Rattle.machine_model.specs.StorageSteps.{storage_turn}
+use Rattle.machine_model.specs.Requests.{settled, requests_settled}
+use Rattle.machine_model.specs.StorageSteps.{storage_turn, show_turn_of}
 use Rattle.machine_model.specs.Steps.{Does, Step}
 use Rattle.machine_model.specs.Sharing.{may_take, is_let_go, members_over, owing_after, members_after}
 use Rattle.machine_model.specs.OtherSteps.{code_check, code_stored, engaged_bytes, engaged_chpids, is_up, other_at}
 use Rattle.machine_model.specs.PathSteps.{down_path, up_path, reset_path, reset_system}
-use Rattle.machine_model.specs.ActSteps.{side_of_act, act_sub, act_on, act_at}
+use Rattle.machine_model.specs.ActSteps.{side_of_act, act_sub, act_on, act_at, act_to}
 use Rattle.step_laws.proofs.Places.{found-there}
 use Rattle.step_laws.proofs.Executed.{IsDone, IsDoneBy, IsStorageLeft, executes-done}
 

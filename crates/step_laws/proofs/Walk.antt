@@ -9,10 +9,9 @@ use Rattle.subchannel_model.specs.Places.{reaches, Found, found_at, place_in, pl
 use Rattle.machine_model.specs.State.{State, place_of}
 use Rattle.machine_model.specs.UpSteps.{returns_at}
 use Rattle.machine_model.specs.DownSteps.{asks_at}
-use Rattle.machine_model.specs.Sharing.{may_take}
+use Rattle.machine_model.specs.Sharing.{may_take, is_owed_after}
 use Rattle.machine_model.specs.Steps.{Step}
 use Rattle.machine_model.specs.declared.state.Sweep.TheVariants as sweep
-use Rattle.machine_model.proofs.Named.{is_owed_after}
 use Rattle.step_laws.specs.Walks as walked
 use Rattle.step_laws.specs.Walks.{Walked, OneSub, IsExecuted, IsQuiet, is_start, Resumes, Halts, Clears, Cancels}
 use Rattle.step_laws.proofs.Turns as turn

@@ -5,8 +5,7 @@ use Rattle.std.specs.List.{range_with_len}
 use Rattle.std.proofs.lemmas.Bool.Decides.{nat_tests}
 use Rattle.std.proofs.lemmas.Grind.{common_steps}
 use Rattle.std.proofs.lemmas.List.{take-append-drop, get_or-set_other, get_or-set_same, length-set}
-use Rattle.storage_keys.specs.Storage.{Contents, IsStorage, absolute_under, absolute, absolute_places, is_inside, where_permitted, fetched, with_values, operand_stored, put_at}
-use Rattle.storage_keys.proofs.Named.{check_by, permits_fetch}
+use Rattle.storage_keys.specs.Storage.{Contents, IsStorage, absolute_under, absolute, absolute_places, is_inside, where_permitted, fetched, with_values, operand_stored, put_at, check_by, keys_permit, key_permits_fetch}
 use Rattle.storage_keys.proofs.OperandLemmas.{map-slice_index-range}
 
 -- what is_inside tells of some bytes
@@ -23,7 +22,7 @@ bytes_found bytes found address count false permitted h e = absurd (cc)
 
 pub fetched_bytes : (s : Contents) (key address count : ℕ) (bytes : List ℕ) → fetched s key address count ≡ Ok bytes → bytes ≡ map (slice_index s.bytes) (range_with_len address count)
 fetched_bytes s key address count bytes e =
-    bytes_found s.bytes bytes address count (is_inside s address count) (permits_fetch s key address count) (inside_le address count (length s.bytes)) e
+    bytes_found s.bytes bytes address count (is_inside s address count) (keys_permit (key_permits_fetch key) s address count) (inside_le address count (length s.bytes)) e
 
 bytes_past : (bytes new : List ℕ) (a place : ℕ) → a + length new ≤ length bytes → a + length new ≤ place → get_or (take a bytes ++ (new ++ drop (a + length new) bytes)) place 0 ≡ get_or bytes place 0
 bytes_past bytes new a place h above = grind (arith, common_steps)

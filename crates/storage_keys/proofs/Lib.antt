@@ -1,4 +1,3 @@
-pub mod Named
 pub mod KeyLemmas
 pub mod OperandLemmas
 pub mod ByteLemmas

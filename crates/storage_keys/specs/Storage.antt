@@ -75,11 +75,16 @@ is_inside storage address count = count == 0 || nat_le (address + count) (length
 abbrev pub keys_of : Contents → ℕ → ℕ → List Key
 keys_of storage address count = if count == 0 then [] else slice_range storage.keys (address / 4096) ((address + (count - 1)) / 4096 + 1)
 
--- whether an access is permitted by the keys of all its blocks, or why not: addressing comes before protection
+-- whether the keys of all those blocks permit the access
+abbrev pub keys_permit : (Key → Bool) → Contents → ℕ → ℕ → Bool
+keys_permit permits storage address count = list_all permits (keys_of storage address count)
+
+-- an access inside storage that is permitted may be made, or why not: addressing comes before protection
+abbrev pub check_by : Bool → Bool → Result (Unit {0}) StorageFault
+check_by inside permitted = if not inside then Err Addressing else (if permitted then Ok tt else Err Protection)
+
 abbrev pub access_check : (Key → Bool) → Contents → ℕ → ℕ → Result (Unit {0}) StorageFault
-access_check permits storage address count =
-    if not (is_inside storage address count) then Err Addressing
-    else (if list_all permits (keys_of storage address count) then Ok tt else Err Protection)
+access_check permits storage address count = check_by (is_inside storage address count) (keys_permit permits storage address count)
 
 -- the value where a check permits, otherwise the check's fault
 abbrev pub where_permitted : {X : Type 0} → Result (Unit {0}) StorageFault → X → Result X StorageFault

@@ -2,7 +2,6 @@
 #![tactic(auto)]
 
 ghost use Rattle.std.specs.Prelude.{◌≡◌, ℕ, ◌+◌, ◌-◌, ◌%◌, ◌^◌, ◌<◌, ◌≤◌, length, IsTrue, IfOk, IfErr, OnOk, OnErr, Ok, Err, min, map, replicate, slice_index, slice_range, true};
-ghost use Rattle.std.specs.List.{list_all};
 ghost use Rattle.storage_keys.specs.Storage as spec;
 ghost use Rattle.supply.specs.Requests.{IsModest};
 
@@ -358,7 +357,7 @@ impl Storage {
 
     fn permits_fetch(&self, key: u8, address: u32, count: usize) -> bool
         requires { IsTrue (spec.is_inside self.now address count) }
-        ensures { result ≡ list_all (spec.key_permits_fetch key) (spec.keys_of self.now address count) }
+        ensures { result ≡ spec.keys_permit (spec.key_permits_fetch key) self.now address count }
     {
         self.keys_of(address, count)
             .iter()
@@ -367,7 +366,7 @@ impl Storage {
 
     fn permits_store(&self, key: u8, address: u32, count: usize) -> bool
         requires { IsTrue (spec.is_inside self.now address count) }
-        ensures { result ≡ list_all (spec.key_permits_store key) (spec.keys_of self.now address count) }
+        ensures { result ≡ spec.keys_permit (spec.key_permits_store key) self.now address count }
     {
         self.keys_of(address, count)
             .iter()

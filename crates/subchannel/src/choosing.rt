@@ -7,7 +7,6 @@ ghost use Rattle.chan_model.specs.Signals.{map_sent};
 ghost use Rattle.chan_model.specs.HoldTable.{came_of, offering, sending_reset};
 ghost use Rattle.allegiance.specs.PathUse.{reachable_paths};
 ghost use Rattle.subchannel_model.specs.Choosing as spec;
-ghost use Rattle.subchannel_model.specs.Parts as parts;
 ghost use Rattle.subchannel_words.specs.Unwired.{with_state};
 ghost use Rattle.chan_model.specs.declared.hold_state.HoldPhase.TheVariants as phase;
 
@@ -66,7 +65,7 @@ pub fn paths_to_choose(subs: &Served<'_>, sub: &Subchannel) -> PathSet
 }
 
 fn starting(start: bool, waiting: Option<Program>) -> Option<Candidate>
-    ensures { result ≡ parts.starting start waiting }
+    ensures { result ≡ spec.starting start waiting }
 {
     match waiting {
         Some(program) if start => Some(Candidate {
@@ -78,7 +77,7 @@ fn starting(start: bool, waiting: Option<Program>) -> Option<Candidate>
 }
 
 fn resuming(resume: bool, suspended: Option<ProgramPosition>) -> Option<Candidate>
-    ensures { result ≡ parts.resuming resume suspended }
+    ensures { result ≡ spec.resuming resume suspended }
 {
     match suspended {
         Some(standing) if resume => Some(Candidate {
@@ -125,7 +124,7 @@ fn clear_chosen(hold: &HoldState, pending: bool) -> Option<Chosen>
 
 /// A halt that is pending.
 fn halt_chosen(pending: bool, hold: &HoldState, choice: &Option<Path>) -> Option<Chosen>
-    ensures chosen { result ≡ parts.halt_chosen pending hold.now.phase choice.now }
+    ensures chosen { result ≡ spec.halt_chosen pending hold.now.phase choice.now }
     ensures fits { IfSome result (λ c. spec.IsFitFor c hold.now) }
 {
     if !pending {
@@ -150,7 +149,7 @@ fn offer_chosen(
     candidate: Option<Candidate>,
     choice: &Option<Path>,
 ) -> Option<Chosen>
-    ensures chosen { result ≡ parts.offer_chosen sub.now.state.hold.phase candidate (is_any (reachable_paths (spec.path_use sub.now))) choice.now }
+    ensures chosen { result ≡ spec.offer_chosen sub.now.state.hold.phase candidate (is_any (reachable_paths (spec.path_use sub.now))) choice.now }
     ensures fits { IfSome result (λ c. spec.IsFitFor c sub.now.state.hold) }
 {
     let candidate = candidate?;
@@ -263,7 +262,7 @@ pub fn send_reset(state: &mut PackedState, path: Path) -> Option<OnPath<PlainDow
 
 /// Halt pending is cleared.
 fn tell_halt(scsw: &mut ScswWords)
-    ensures { scsw.new ≡ parts.halt_sent_scsw scsw.old }
+    ensures { scsw.new ≡ spec.halt_sent_scsw scsw.old }
 {
     scsw.change(HALT_PENDING, 0);
 }

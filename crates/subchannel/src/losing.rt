@@ -3,7 +3,7 @@
 ghost use Rattle.std.specs.Prelude.{◌≡◌, ◌<◌, ◌≤◌, ◌^◌, length};
 ghost use Rattle.wires.specs.Queues.{lost};
 ghost use Rattle.subchannel_model.specs.Losing as spec;
-ghost use Rattle.subchannel_model.specs.Parts as parts;
+ghost use Rattle.subchannel_model.specs.Programs.{has_any};
 ghost use Rattle.subchannel_words.specs.Unwired.{with_state};
 
 use chan_model::hold_state::HoldPhase;
@@ -26,7 +26,7 @@ fn is_offered_or_held(phase: HoldPhase) -> bool
 
 /// Whether some program of the subchannel is not over.
 fn has_program(rest: &Rest) -> bool
-    ensures { result ≡ parts.has_any rest.now.waiting rest.now.begun rest.now.suspended }
+    ensures { result ≡ has_any rest.now.waiting rest.now.begun rest.now.suspended }
 {
     rest.waiting.is_some() || rest.begun.is_some() || rest.suspended.is_some()
 }

@@ -2,7 +2,6 @@
 
 ghost use Rattle.std.specs.Prelude.{◌≡◌, ◌<◌, ◌^◌};
 ghost use Rattle.subchannel_model.specs.SystemReset as spec;
-ghost use Rattle.subchannel_model.specs.Parts as parts;
 ghost use Rattle.subchannel_words.specs.Unwired.{with_state};
 
 use allegiance::allegiances::{AllegianceCause, dedicated};
@@ -13,7 +12,7 @@ use subchannel_words::{PackedState, Subchannel};
 
 /// Function, activity and status control are cleared.
 fn reset_scsw(scsw: &mut ScswWords)
-    ensures { scsw.new ≡ parts.scsw_reset scsw.old }
+    ensures { scsw.new ≡ spec.scsw_reset scsw.old }
 {
     scsw.change(CONTROLS, 0);
 }

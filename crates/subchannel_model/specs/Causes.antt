@@ -1,6 +1,8 @@
 -- The causes of status as one table: what each shows, which programs it leaves, and which status word its status joins
 -- (SA22-7832, chapter 16; the bits are this project's own choice). What an End shows is in `Ends`.
 use Rattle.std.specs.Prelude.{ℕ, Bool, true, false, if◌then◌else◌, Option, None, Some, option_map}
+use Rattle.scsw_irb.specs.Status as bit
+use Rattle.scsw_irb.specs.declared.scsw.DeferredCode.{DeferredCode}
 use Rattle.scsw_irb.specs.declared.scsw.DeferredCode.TheVariants as deferred
 use Rattle.scsw_irb.specs.declared.scsw.Scsw.{Scsw}
 use Rattle.scsw_irb.specs.declared.scsw.StatusControl.{StatusControl}
@@ -49,8 +51,11 @@ of_program stands at_work left waiting begun suspended = stands
 abbrev pub address_shown : SubchannelState → ℕ
 address_shown s = of_program s.scsw.command_address (λ b. b.transfer.walk.tried) (λ st. st.walk.tried) s.waiting s.begun s.suspended
 
+abbrev pub program_count : ℕ → Option Program → Option ActiveProgram → Option ProgramPosition → ℕ
+program_count stands waiting begun suspended = of_program stands (λ b. residual b.transfer.moving) (λ st. st.count) waiting begun suspended
+
 abbrev pub count_shown : SubchannelState → ℕ
-count_shown s = of_program s.scsw.count (λ b. residual b.transfer.moving) (λ st. st.count) s.waiting s.begun s.suspended
+count_shown s = program_count s.scsw.count s.waiting s.begun s.suspended
 
 -- nothing but the address and the count of the program of which a status speaks is shown
 abbrev pub program_shown : SubchannelState → Shown
@@ -69,11 +74,14 @@ fetch_fault_shown tried check count = record (plain_shown tried count) {
 }
 
 -- attention: deferred condition code 1 where a start waits
+abbrev pub attention_deferred : Option Program → Option DeferredCode
+attention_deferred waiting = option_map (λ program. deferred.One) waiting
+
 abbrev pub attention_shown : SubchannelState → Shown
 attention_shown s = record (plain_shown s.scsw.command_address s.scsw.count) {
   conditions = conditions true false false;
-  device = record { 0 = 0x80 };
-  deferred = option_map (λ program. deferred.One) s.waiting;
+  device = record { 0 = bit.attention };
+  deferred = attention_deferred s.waiting;
 }
 
 -- a program that is to be offered found no path: deferred condition code 3
@@ -84,7 +92,7 @@ no_path_shown s = record (program_shown s) { conditions = conditions true true t
 abbrev pub interface_shown : SubchannelState → Shown
 interface_shown s = record (program_shown s) {
   conditions = conditions true (shows_primary s.scsw.functions (was_shown s.waiting s.begun)) true;
-  subchannel = record { 0 = 0x02 };
+  subchannel = record { 0 = bit.interface_control_check };
 }
 
 abbrev pub intermediate : StatusControl
@@ -92,7 +100,7 @@ intermediate = record no_status { intermediate = true }
 
 -- an interruption by the program: the activity is as before
 abbrev pub pci_shown : SubchannelState → ℕ → ℕ → Shown
-pci_shown s tried count = record (plain_shown tried count) { conditions = intermediate; activity = s.scsw.activity; subchannel = record { 0 = 0x80 } }
+pci_shown s tried count = record (plain_shown tried count) { conditions = intermediate; activity = s.scsw.activity; subchannel = record { 0 = bit.program_controlled } }
 
 -- a program is suspended: no activity but that is left
 abbrev pub suspension_shown : ℕ → ℕ → Shown
@@ -131,18 +139,30 @@ row_of s cause.HaltDone = record { shown = program_shown s; left = without_progr
 
 -- the status word that the status of a cause joins: with a clear nothing but the clear function is left of it; with a halt an
 -- intermediate status that stands is turned off
+abbrev pub clear_function_alone : Scsw
+clear_function_alone = record zero_scsw { functions = record no_functions { clear = true } }
+
+abbrev pub without_intermediate : Scsw → Scsw
+without_intermediate scsw = record scsw { status = record scsw.status { intermediate = false } }
+
 abbrev pub scsw_before : Scsw → StatusCause → Scsw
-scsw_before scsw cause.ClearDone = record zero_scsw { functions = record no_functions { clear = true } }
-scsw_before scsw cause.HaltDone = record scsw { status = record scsw.status { intermediate = false } }
+scsw_before scsw cause.ClearDone = clear_function_alone
+scsw_before scsw cause.HaltDone = without_intermediate scsw
 scsw_before scsw c = scsw
 
 -- a status is made pending, and counted
 abbrev pub with_status : SubchannelState → Shown → SubchannelState
 with_status s shown = record s { scsw = scsw_made s.pmcw.enabled s.scsw shown; serials = serials_made s.pmcw.enabled s.serials }
 
--- the subchannel after the cause; one that is not enabled gets no status, and joins none to its status word: its programs and its
--- activity change as if it were enabled (own)
+-- a subchannel that is not enabled joins no status to its status word, which stays
+abbrev pub scsw_joined : Bool → Scsw → Scsw → Scsw
+scsw_joined enabled scsw joins = if enabled then joins else scsw
+
+-- the subchannel after a row of the table, the status of which joins this status word
+abbrev pub with_row : SubchannelState → CauseRow → Scsw → SubchannelState
+with_row s row joins = with_status (record row.left { scsw = scsw_joined s.pmcw.enabled s.scsw joins }) row.shown
+
+-- the subchannel after the cause; one that is not enabled gets no status: its programs and its activity change as if it were enabled
+-- (own)
 abbrev pub with_cause : SubchannelState → StatusCause → SubchannelState
-with_cause s c =
-    let row = row_of s c in
-    with_status (record row.left { scsw = if s.pmcw.enabled then scsw_before s.scsw c else s.scsw }) row.shown
+with_cause s c = with_row s (row_of s c) (scsw_before s.scsw c)

@@ -1,6 +1,7 @@
 -- What the subsystem does of itself for a subchannel (own).
 use Rattle.std.specs.Prelude.{◌≡◌, ℕ, ◌+◌, Bool, true, false, not, ◌&&◌, if◌then◌else◌, Option, None, Some, is_some, option_and_then, option_map, unwrap_or, List, [], ◌∷◌, slice_get}
 use Rattle.std.specs.List.{list_any}
+use Rattle.scsw_irb.specs.declared.scsw.Scsw.{Scsw}
 use Rattle.chan_model.specs.declared.hold_state.HoldPhase.{HoldPhase}
 use Rattle.chan_model.specs.declared.hold_state.HoldPhase.TheVariants as hold
 use Rattle.chan_model.specs.declared.hold_state.HoldState.{HoldState}
@@ -20,8 +21,11 @@ use Rattle.subchannel_model.specs.declared.state.Subchannel.{Subchannel}
 use Rattle.subchannel_model.specs.Store.{installed_paths, available_paths}
 
 -- the engine of a channel path serves one subchannel: the one whose hold is offered, connected or letting go there
+abbrev pub engages_at : Subchannel → Option ℕ → ℕ → Bool
+engages_at sub path chpid = elim path [ None ↦ false | Some p ↦ is_path (slice_get sub.setup.paths p) chpid ]
+
 abbrev pub engages : ℕ → Subchannel → Bool
-engages chpid sub = elim (engaged_path sub.state.hold.phase) [ None ↦ false | Some path ↦ is_path (slice_get sub.setup.paths path) chpid ]
+engages chpid sub = engages_at sub (engaged_path sub.state.hold.phase) chpid
 
 abbrev pub any_engages : List Subchannel → ℕ → Bool
 any_engages subs chpid = list_any (engages chpid) subs
@@ -50,8 +54,11 @@ abbrev pub return_paths : Subchannel → List Bool
 return_paths sub = each_path (λ p. is_member (available_paths sub) p && may_reconnect sub.state.hold (available_paths sub) p)
 
 -- a Reset that was not sent yet, by its number
+abbrev pub unsent_at : HoldPhase → Option ℕ → Option ℕ
+unsent_at phase path = elim phase [ hold.Reset r ↦ elim path [ None ↦ Some r | Some p ↦ None ] | other ↦ None ]
+
 abbrev pub unsent_reset : HoldState → Option ℕ
-unsent_reset h = elim h.phase [ hold.Reset r ↦ elim h.reset_path [ None ↦ Some r | Some path ↦ None ] | other ↦ None ]
+unsent_reset h = unsent_at h.phase h.reset_path
 
 abbrev pub is_away : HoldPhase → Bool
 is_away (hold.Away t) = true
@@ -64,8 +71,11 @@ paths_unreset subs sub =
     if sub.state.scsw.activity.halt_pending && is_away sub.state.hold.phase then return_paths sub
     else usable_paths (path_use sub) (engaged_paths subs sub)
 
+abbrev pub paths_by : Option ℕ → List Subchannel → Subchannel → List Bool
+paths_by unsent subs sub = elim unsent [ None ↦ paths_unreset subs sub | Some r ↦ available_paths sub ]
+
 abbrev pub paths_to_choose : List Subchannel → Subchannel → List Bool
-paths_to_choose subs sub = elim (unsent_reset sub.state.hold) [ None ↦ paths_unreset subs sub | Some r ↦ available_paths sub ]
+paths_to_choose subs sub = paths_by (unsent_reset sub.state.hold) subs sub
 
 -- the first that there is
 abbrev pub first_some : {A : Type 0} → List (Option A) → Option A
@@ -74,11 +84,15 @@ first_some (None ∷ later) = first_some later
 first_some (Some x ∷ later) = Some x
 
 -- the program that is to be offered: with start pending the one that waits, or else with resume pending the suspended one
+abbrev pub starting : Bool → Option Program → Option Candidate
+starting pending waiting = if pending then option_map (λ program. record { program = program; resumes = false }) waiting else None
+
+abbrev pub resuming : Bool → Option ProgramPosition → Option Candidate
+resuming pending suspended =
+    if pending then option_map (λ (st : ProgramPosition). record { program = st.program; resumes = true }) suspended else None
+
 abbrev pub candidate : SubchannelState → Option Candidate
-candidate s = first_some (
-    (if s.scsw.activity.start_pending then option_map (λ program. record { program = program; resumes = false }) s.waiting else None)
-    ∷ (if s.scsw.activity.resume_pending then option_map (λ (st : ProgramPosition). record { program = st.program; resumes = true }) s.suspended else None)
-    ∷ [])
+candidate s = first_some (starting s.scsw.activity.start_pending s.waiting ∷ resuming s.scsw.activity.resume_pending s.suspended ∷ [])
 
 -- 1. a Reset is due, and there is a path for it: it is sent
 abbrev pub reset_chosen : Option ℕ → Option ℕ → Option Chosen
@@ -97,6 +111,9 @@ halt_at (hold.Away t) choice = option_map (λ path. Halts t path) choice
 halt_at (hold.Offer t p) choice = None
 halt_at phase choice = Some PerformsHalt
 
+abbrev pub halt_chosen : Bool → HoldPhase → Option ℕ → Option Chosen
+halt_chosen pending phase choice = if pending then halt_at phase choice else None
+
 -- 4. a program is to be offered: it is, on the chosen path, where the hold is free; where the hold is free or to be reset and
 -- no path is within reach, the program is over
 abbrev pub over_unless : Bool → Option Chosen
@@ -107,14 +124,20 @@ offer_at hold.Free c reachable choice = elim choice [ None ↦ over_unless reach
 offer_at (hold.Reset r) c reachable choice = over_unless reachable
 offer_at phase c reachable choice = None
 
+abbrev pub offer_chosen : HoldPhase → Option Candidate → Bool → Option ℕ → Option Chosen
+offer_chosen phase found reachable choice = option_and_then (λ c. offer_at phase c reachable choice) found
+
 -- the first that applies, otherwise nothing
+abbrev pub chosen_of : List (Option Chosen) → Chosen
+chosen_of acts = unwrap_or (first_some acts) Idle
+
 abbrev pub chosen : Subchannel → Option ℕ → Chosen
-chosen sub choice = unwrap_or (first_some (
+chosen sub choice = chosen_of (
     reset_chosen (unsent_reset sub.state.hold) choice
     ∷ clear_chosen (unsent_reset sub.state.hold) sub.state.scsw.activity.clear_pending
-    ∷ (if sub.state.scsw.activity.halt_pending then halt_at sub.state.hold.phase choice else None)
-    ∷ option_and_then (λ c. offer_at sub.state.hold.phase c (is_any (reachable_paths (path_use sub))) choice) (candidate sub.state)
-    ∷ [])) Idle
+    ∷ halt_chosen sub.state.scsw.activity.halt_pending sub.state.hold.phase choice
+    ∷ offer_chosen sub.state.hold.phase (candidate sub.state) (is_any (reachable_paths (path_use sub))) choice
+    ∷ [])
 
 -- The fourth rule is reached where neither of the first two applies, no halt is pending and a program is to be offered. Then each
 -- path that is found not operational is marked so, whatever comes of it: it leaves the path-operational mask for the
@@ -157,8 +180,11 @@ abbrev pub reset_sent : SubchannelState → ℕ → SubchannelState
 reset_sent s path = record s { hold = hold_after s.hold (sending_reset s.hold s.hold.phase path); last_path = Some path }
 
 -- the Halt is sent, and no longer pending
+abbrev pub halt_sent_scsw : Scsw → Scsw
+halt_sent_scsw scsw = record scsw { activity = record scsw.activity { halt_pending = false } }
+
 abbrev pub halt_sent : SubchannelState → SubchannelState
-halt_sent s = record s { scsw = record s.scsw { activity = record s.scsw.activity { halt_pending = false } } }
+halt_sent s = record s { scsw = halt_sent_scsw s.scsw }
 
 -- the program is offered under a fresh number
 abbrev pub offered : SubchannelState → Program → ℕ → SubchannelState

@@ -1,15 +1,17 @@
 -- What a subchannel loses as a path of it goes down or is reset, and how its path-available mask follows (own).
-use Rattle.std.specs.Prelude.{ℕ, ◌+◌, ◌==◌, ◌&&◌, ◌||◌, Bool, true, false, if◌then◌else◌, Option, None, Some, is_some, List, slice_set}
+use Rattle.std.specs.Prelude.{ℕ, ◌+◌, ◌==◌, ◌&&◌, Bool, true, false, if◌then◌else◌, Option, None, Some, List, slice_set}
 use Rattle.chan_model.specs.declared.hold_state.HoldPhase.{HoldPhase}
 use Rattle.chan_model.specs.declared.hold_state.HoldPhase.TheVariants as hold
 use Rattle.chan_model.specs.HoldTable.{resetting}
 use Rattle.chan_model.specs.ResetCauses.{rests_on}
 use Rattle.wires.specs.Queues.{lost}
 use Rattle.subchannel_model.specs.declared.cause.StatusCause.TheVariants as cause
+use Rattle.subchannel_model.specs.declared.state.PmcwState.{PmcwState}
 use Rattle.subchannel_model.specs.declared.state.Subchannel.{Subchannel}
 use Rattle.subchannel_model.specs.declared.state.SubchannelState.{SubchannelState}
 use Rattle.subchannel_model.specs.Causes.{with_cause}
 use Rattle.subchannel_model.specs.Places.{first_place}
+use Rattle.subchannel_model.specs.Programs.{has_any}
 
 abbrev pub is_offered_or_held : HoldPhase → Bool
 is_offered_or_held (hold.Offer t p) = true
@@ -25,7 +27,7 @@ abbrev pub reset_with : SubchannelState → Bool → SubchannelState
 reset_with s shows = if shows then with_cause (reset_drawn s) cause.InterfaceControlCheck else reset_drawn s
 
 abbrev pub reset_for : SubchannelState → SubchannelState
-reset_for s = reset_with s (is_offered_or_held s.hold.phase && (is_some s.waiting || (is_some s.begun || is_some s.suspended)))
+reset_for s = reset_with s (is_offered_or_held s.hold.phase && has_any s.waiting s.begun s.suspended)
 
 abbrev pub path_lost : SubchannelState → ℕ → SubchannelState
 path_lost s p = if rests_on s.hold p then reset_for s else s
@@ -42,9 +44,12 @@ abbrev pub loses : ℕ → Subchannel → Subchannel
 loses chpid sub = loses_at (path_index chpid sub.setup.paths) sub
 
 -- the path-available mask shows whether a channel path is up
+abbrev pub available_pmcw : PmcwState → ℕ → Bool → PmcwState
+available_pmcw pmcw p up = record pmcw { available = slice_set pmcw.available p up }
+
 abbrev pub shows_at : Option ℕ → Bool → Subchannel → Subchannel
 shows_at None up sub = sub
-shows_at (Some p) up sub = record sub { state = record sub.state { pmcw = record sub.state.pmcw { available = slice_set sub.state.pmcw.available p up } } }
+shows_at (Some p) up sub = record sub { state = record sub.state { pmcw = available_pmcw sub.state.pmcw p up } }
 
 abbrev pub shows_path : ℕ → Bool → Subchannel → Subchannel
 shows_path chpid up sub = shows_at (path_index chpid sub.setup.paths) up sub

@@ -9,10 +9,13 @@ use Rattle.subchannel_model.specs.declared.state.Subchannel.{Subchannel}
 abbrev pub is_named : SubchannelId → Subchannel → Bool
 is_named id sub = (sub.setup.id.set == id.set) && (sub.setup.id.number == id.number)
 
+abbrev pub one_later : Option ℕ → Option ℕ
+one_later place = option_map (λ p. p + 1) place
+
 -- the place of the first that passes a test
 abbrev pub first_place : {A : Type 0} → (A → Bool) → List A → Option ℕ
 first_place test [] = None
-first_place test (x ∷ xs) = if test x then Some 0 else option_map (λ place. place + 1) (first_place test xs)
+first_place test (x ∷ xs) = if test x then Some 0 else one_later (first_place test xs)
 
 abbrev pub place_in : SubchannelId → List Subchannel → Option ℕ
 place_in id subs = first_place (is_named id) subs
@@ -39,6 +42,9 @@ pub record Found : Type 0 where
   pub sub : Subchannel
 
 -- the subchannel of a place, where there is one
+abbrev pub found_with : ℕ → Option Subchannel → Option Found
+found_with place sub = option_map (λ x. record { place = place; sub = x }) sub
+
 abbrev pub found_at : List Subchannel → Option ℕ → Option Found
 found_at subs None = None
-found_at subs (Some place) = option_map (λ sub. record { place = place; sub = sub }) (slice_get subs place)
+found_at subs (Some place) = found_with place (slice_get subs place)

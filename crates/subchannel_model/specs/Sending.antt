@@ -6,9 +6,12 @@ use Rattle.wires.specs.Queues.{queue, sent}
 use Rattle.subchannel_model.specs.declared.state.Subchannel.{Subchannel}
 
 -- a signal that is sent on a path that is down vanishes
+abbrev pub carried_where : {A : Type 0} → Bool → OnPath A → Option (OnPath A)
+carried_where available s = if available then Some s else None
+
 abbrev pub carried : {A : Type 0} → List Bool → Option (OnPath A) → Option (OnPath A)
 carried available None = None
-carried available (Some s) = if is_member available s.path then Some s else None
+carried available (Some s) = carried_where (is_member available s.path) s
 
 abbrev pub carried_by : {A : Type 0} → Subchannel → Option (OnPath A) → Option (OnPath A)
 carried_by sub one = carried sub.state.pmcw.available one

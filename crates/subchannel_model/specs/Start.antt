@@ -9,6 +9,7 @@ use Rattle.chan_model.specs.declared.answer.ConditionCode.{ConditionCode}
 use Rattle.chan_model.specs.ConditionCodes.{in_order}
 use Rattle.chan_model.specs.PathSets.{paths_of_mask, no_paths}
 use Rattle.subchannel_model.specs.declared.status.Condition.{Condition}
+use Rattle.subchannel_model.specs.declared.state.PmcwState.{PmcwState}
 use Rattle.subchannel_model.specs.declared.state.SubchannelState.{SubchannelState}
 use Rattle.subchannel_model.specs.Conditions.{is_operational, any_function}
 use Rattle.subchannel_model.specs.Status.{no_device_status, no_subchannel_status}
@@ -39,10 +40,14 @@ started_scsw scsw orb = record scsw {
   count = 0;
 }
 
+-- the path-management-control word takes the ORB's parameter and its logical paths; no path was found not operational
+abbrev pub started_pmcw : PmcwState → Orb → PmcwState
+started_pmcw pmcw orb = record pmcw { parameter = orb.parameter; logical = paths_of_mask orb.paths; not_operational = no_paths }
+
 -- the program waits; none is suspended beside it, as the start function is in progress as long as one is
 abbrev pub started : SubchannelState → Orb → SubchannelState
 started s orb = record s {
-  pmcw = record s.pmcw { parameter = orb.parameter; logical = paths_of_mask orb.paths; not_operational = no_paths };
+  pmcw = started_pmcw s.pmcw orb;
   scsw = started_scsw s.scsw orb;
   starts = s.starts + 1;
   waiting = Some (record { start = s.starts + 1; orb = orb; single_path = not s.pmcw.multipath });

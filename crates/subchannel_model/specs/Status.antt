@@ -1,6 +1,7 @@
 -- Status: how it joins what is pending, and how it is counted (SA22-7832, chapter 16).
 use Rattle.std.specs.Prelude.{ℕ, ◌+◌, Bool, true, not, ◌&&◌, ◌||◌, nat_lt, if◌then◌else◌, Option, None, Some, unwrap_or, bit_or}
 use Rattle.scsw_irb.specs.Empty.{no_status}
+use Rattle.scsw_irb.specs.Status as bit
 use Rattle.scsw_irb.specs.declared.scsw.FunctionControl.{FunctionControl}
 use Rattle.scsw_irb.specs.declared.scsw.StatusControl.{StatusControl}
 use Rattle.scsw_irb.specs.declared.scsw.Scsw.{Scsw}
@@ -20,8 +21,8 @@ no_subchannel_status = record { 0 = 0 }
 -- the subchannel status of a check
 abbrev pub check_bits : Option Check → ℕ
 check_bits None = 0
-check_bits (Some Program) = 0x20
-check_bits (Some Protection) = 0x10
+check_bits (Some Program) = bit.program_check
+check_bits (Some Protection) = bit.protection_check
 
 -- status joins the status that is pending, and begins from nothing where none is
 abbrev pub joined_conditions : StatusControl → StatusControl → StatusControl

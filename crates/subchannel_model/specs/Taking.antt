@@ -2,6 +2,7 @@
 use Rattle.std.specs.Prelude.{ℕ, nat_lt, ◌+◌, ◌<◌, ◌^◌, Bool, true, false, not, ◌==◌, ◌&&◌, ◌||◌, if◌then◌else◌, Option, None, Some, is_some, [], slice_set}
 use Rattle.allegiance.specs.Allegiances.{dedicated_after}
 use Rattle.allegiance.specs.declared.allegiances.AllegianceCause.TheVariants as allegiance
+use Rattle.scsw_irb.specs.Status as bit
 use Rattle.scsw_irb.specs.declared.scsw.ActivityControl.{ActivityControl}
 use Rattle.scsw_irb.specs.declared.status.DeviceStatus.{DeviceStatus}
 use Rattle.storage_keys.specs.Storage.{Contents}
@@ -251,8 +252,11 @@ reset_taken s None = ignoring s
 reset_taken s (Some step) = record { state = clear_done (record s { hold = step.state }); came = came_of (Some step) }
 
 -- Notice: where it counts more restarts than are known, its count becomes known, and the hold is to be reset
+abbrev pub with_known : SubchannelState → ℕ → SubchannelState
+with_known s b = record s { hold = record s.hold { known = b } }
+
 abbrev pub notice : SubchannelState → ℕ → UpStep
-notice s b = if nat_lt s.hold.known b then quietly (reset_for (record s { hold = record s.hold { known = b } })) else ignoring s
+notice s b = if nat_lt s.hold.known b then quietly (reset_for (with_known s b)) else ignoring s
 
 -- Back: the path of a Grant is the one that was used last, and the one that was chosen last
 abbrev pub is_grant : Down → Bool
@@ -282,10 +286,13 @@ is_open a =
 abbrev pub may_attend : SubchannelState → Bool
 may_attend s = not s.scsw.status.pending && is_open s.scsw.activity
 
+abbrev pub with_attention : SubchannelState → Bool → SubchannelState
+with_attention s shows = if shows then with_cause s cause.Attention else s
+
 abbrev pub attend : SubchannelState → DeviceStatus → Option HoldStep → UpStep
 attend s status step =
     let next = record s { hold = hold_after s.hold step } in
-    record { state = if (came_of step).taken && not (status.0 == 0x20) then with_cause next cause.Attention else next; came = came_of step }
+    record { state = with_attention next ((came_of step).taken && not (status.0 == bit.control_unit_end)); came = came_of step }
 
 -- what a subchannel does with a signal; returns: a program that is away may come back by the path
 abbrev pub takes_up : Bool → Contents → SubchannelState → ℕ → Up → Met

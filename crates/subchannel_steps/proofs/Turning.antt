@@ -15,8 +15,7 @@ use Rattle.control_units.specs.declared.Member.{Member}
 use Rattle.wires.specs.Queues.{queue}
 use Rattle.subchannel_model.specs.declared.state.Subchannel.{Subchannel}
 use Rattle.subchannel_model.specs.Sending.{carried_by, finds_full}
-use Rattle.machine_model.proofs.Named.{asks_front}
-use Rattle.machine_model.specs.DownSteps.{down_front, down_shared, down_with, share_with, with_answer}
+use Rattle.machine_model.specs.DownSteps.{down_front, down_shared, down_with, share_with, with_answer, asks_front}
 use Rattle.machine_model.specs.ReportSteps.{report_taken, with_any_up}
 use Rattle.machine_model.specs.Sharing.{may_take, members_after, owing_after}
 use Rattle.machine_model.specs.Turns.{DownTurn, SharedTurn}

@@ -2,15 +2,13 @@
 use Rattle.std.specs.Prelude.{◌≡◌, ◌<◌, ◌+◌, ℕ, Bool, true, false, not, nat_lt, is_some, if◌then◌else◌, Option, None, Some, List, length, Result, Ok, Err}
 use Rattle.storage_keys.specs.Storage.{Contents}
 use Rattle.chan_model.specs.declared.fault.Fault.{Fault}
-use Rattle.chan_model.specs.UnitTable.{UnitStep, unit_takes}
+use Rattle.chan_model.specs.UnitTable.{UnitStep, path_of_place, unit_takes}
 use Rattle.chan_model.specs.declared.names.Side.{Side}
 use Rattle.chan_model.specs.Signals.{Down}
 use Rattle.chan_model.specs.declared.signal.Down.TheVariants as down
 use Rattle.chan_model.specs.declared.signal.OnPath.{OnPath}
 use Rattle.chan_model.specs.declared.unit_state.Own.{Own}
 use Rattle.chan_model.specs.declared.unit_state.Own.TheVariants.{Idle, Owned}
-use Rattle.chan_model.specs.declared.unit_state.Place.{Place}
-use Rattle.chan_model.specs.declared.unit_state.Place.TheVariants.{On, Ask, Away}
 use Rattle.chan_model.specs.declared.unit_state.UnitState.{UnitState}
 use Rattle.chan_events.specs.Replies.{Reply}
 use Rattle.channel_config.specs.Setup.{has_number}
@@ -103,11 +101,6 @@ abbrev pub shared_step : List Member → ℕ → UnitState → Side → ℕ → 
 shared_step members place u side path d = unit_takes u side path d (may_take members place (is_asked_for u side d))
 
 -- the path of a program that is connected
-abbrev pub path_of_place : Place → Option ℕ
-path_of_place (On p c) = Some p
-path_of_place (Ask p c) = None
-path_of_place (Away c) = None
-
 abbrev pub connected_path : Own → Option ℕ
 connected_path Idle = None
 connected_path (Owned side t place) = path_of_place place

@@ -26,7 +26,7 @@ use unit::Unit;
 
 /// The path of a place that has one: of a program that is connected.
 fn path_of_place(place: Place) -> Option<Path>
-    ensures { result ≡ giving_spec.path_of_place place }
+    ensures { result ≡ unit_spec.path_of_place place }
 {
     match place {
         Place::On { path, .. } => Some(path),

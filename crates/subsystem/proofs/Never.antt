@@ -43,7 +43,6 @@ use Rattle.subchannel_model.specs.Cancel.{xsch_code, cancelled}
 use Rattle.subchannel_model.specs.Places.{Found, found_at, place_in, reached_in}
 use Rattle.subchannel_model.specs.Choosing.{chosen, marked_sub, reset_sent, halt_sent, offered}
 use Rattle.machine_model.specs.StorageSteps as storage_spec
-use Rattle.machine_model.proofs.Named as named
 use Rattle.machine_model.specs.InstructionSteps as instruction_steps
 use Rattle.machine_model.specs.ChooseSteps as choose_spec
 use Rattle.subchannel_model.specs.Sending as sending_spec
@@ -81,7 +80,7 @@ stored : (s : State) (x : Result Contents StorageFault) → Sound (storage_spec.
 stored s (Ok storage) = tt
 stored s (Err f) = λ g. cc g
 
-told : (s : State) (x : Result (List ℕ) StorageFault) → Sound (named.show_turn_of s x)
+told : (s : State) (x : Result (List ℕ) StorageFault) → Sound (storage_spec.show_turn_of s x)
 told s (Ok bytes) = tt
 told s (Err f) = λ g. cc g
 
@@ -90,22 +89,22 @@ function_at : (s : State) (found : Option Found) (code : Condition → Condition
 function_at s None code effect = tt
 function_at s (Some f) code effect = tt
 
-started_at : (s : State) (found : Option Found) (orb : Orb) → Sound (named.start_at s found orb)
+started_at : (s : State) (found : Option Found) (orb : Orb) → Sound (instruction_steps.start_at s found orb)
 started_at s None orb = tt
 started_at s (Some f) orb = tt
 
-starts : (s : State) (found : Option Found) (image : Result (List ℕ) StorageFault) (r : Outcome) → named.PerformsStart s found image r → Sound r
+starts : (s : State) (found : Option Found) (image : Result (List ℕ) StorageFault) (r : Outcome) → instruction_steps.PerformsStart s found image r → Sound r
 starts s found (Err f) r e = is r (Err (Storage f)) (λ g. cc g) e
 starts s found (Ok image) r e = elim e [
   | inl x ↦ is r (Err Operand) (λ g. cc g) x.1
-  | inr x ↦ is r (named.start_at s found x.0) (started_at s found x.0) x.2
+  | inr x ↦ is r (instruction_steps.start_at s found x.0) (started_at s found x.0) x.2
 ]
 
 tested_at : (s : State) (cpu address : ℕ) (found : Option Found) → Sound (instruction_steps.test_at s cpu address found)
 tested_at s cpu address None = tt
 tested_at s cpu address (Some f) = tt
 
-tested : (s : State) (cpu address : ℕ) (found : Option Found) (x : Result (Unit {0}) StorageFault) → Sound (named.tests s cpu address found x)
+tested : (s : State) (cpu address : ℕ) (found : Option Found) (x : Result (Unit {0}) StorageFault) → Sound (instruction_steps.performs_test s cpu address found x)
 tested s cpu address found (Err f) = λ g. cc g
 tested s cpu address found (Ok u) = tested_at s cpu address found
 
@@ -113,21 +112,21 @@ stored_at : (s : State) (cpu address : ℕ) (found : Option Found) → Sound (in
 stored_at s cpu address None = tt
 stored_at s cpu address (Some f) = tt
 
-stores : (s : State) (cpu address : ℕ) (found : Option Found) (x : Result (Unit {0}) StorageFault) → Sound (named.stores s cpu address found x)
+stores : (s : State) (cpu address : ℕ) (found : Option Found) (x : Result (Unit {0}) StorageFault) → Sound (instruction_steps.performs_store s cpu address found x)
 stores s cpu address found (Err f) = λ g. cc g
 stores s cpu address found (Ok u) = stored_at s cpu address found
 
-modified_at : (s : State) (found : Option Found) (given : block.Pmcw) → Sound (named.modify_at s found given)
+modified_at : (s : State) (found : Option Found) (given : block.Pmcw) → Sound (instruction_steps.modify_at s found given)
 modified_at s None given = tt
 modified_at s (Some f) given = tt
 
 modifies_by : (s : State) (found : Option Found) (image : List ℕ) (r : Outcome) → instruction_steps.Modifies_by s found image r → Sound r
 modifies_by s found image r e = elim e.2 [
   | inl x ↦ is r (Err Operand) (λ g. cc g) x.1
-  | inr x ↦ is r (named.modify_at s found e.0) (modified_at s found e.0) x.1
+  | inr x ↦ is r (instruction_steps.modify_at s found e.0) (modified_at s found e.0) x.1
 ]
 
-modifies : (s : State) (found : Option Found) (image : Result (List ℕ) StorageFault) (r : Outcome) → named.Modifies s found image r → Sound r
+modifies : (s : State) (found : Option Found) (image : Result (List ℕ) StorageFault) (r : Outcome) → instruction_steps.PerformsModify s found image r → Sound r
 modifies s found (Err f) r e = is r (Err (Storage f)) (λ g. cc g) e
 modifies s found (Ok image) r e = modifies_by s found image r e
 
@@ -137,16 +136,16 @@ enables_with s cpu None subclass multipath image r e = modifies_by (instruction_
 enables_with s cpu (Some f) subclass multipath image r e = is r (instruction_steps.enable_sub s cpu f subclass multipath) tt e
 
 enables : (s : State) (cpu : ℕ) (found : Option Found) (subclass : ℕ) (multipath : Bool) (image : Result (List ℕ) StorageFault) (r : Outcome) →
-    named.Enables s cpu found subclass multipath image r → Sound r
+    instruction_steps.PerformsEnable s cpu found subclass multipath image r → Sound r
 enables s cpu found subclass multipath (Err f) r e = is r (Err (Storage f)) (λ g. cc g) e
 enables s cpu found subclass multipath (Ok image) r e = enables_with s cpu found subclass multipath image r e
 
 executes_at : (s : State) (cpu : ℕ) (i : Instruction) (found : Option Found) (r : Outcome) → instruction_steps.Executes_at s cpu i found r → Sound r
 executes_at s cpu (instruction.Ssch word address) found r e = starts s found (operand_at s.storage cpu address 12 4) r e
 executes_at s cpu (instruction.Tsch word address) found r e =
-    is r (named.tests s cpu address found (operand_check s.storage cpu address 64 4)) (tested s cpu address found (operand_check s.storage cpu address 64 4)) e
+    is r (instruction_steps.performs_test s cpu address found (operand_check s.storage cpu address 64 4)) (tested s cpu address found (operand_check s.storage cpu address 64 4)) e
 executes_at s cpu (instruction.Stsch word address) found r e =
-    is r (named.stores s cpu address found (operand_check s.storage cpu address 52 4)) (stores s cpu address found (operand_check s.storage cpu address 52 4)) e
+    is r (instruction_steps.performs_store s cpu address found (operand_check s.storage cpu address 52 4)) (stores s cpu address found (operand_check s.storage cpu address 52 4)) e
 executes_at s cpu (instruction.Msch word address) found r e = modifies s found (operand_at s.storage cpu address 52 4) r e
 executes_at s cpu (instruction.Enable word subclass multipath) found r e = enables s cpu found subclass multipath (operand_at s.storage cpu 0xF00 52 4) r e
 executes_at s cpu (instruction.Rsch word) found r e = is r _ (function_at s found rsch_code (λ sub. resumed sub.state)) e
@@ -154,7 +153,7 @@ executes_at s cpu (instruction.Hsch word) found r e = is r _ (function_at s foun
 executes_at s cpu (instruction.Csch word) found r e = is r _ (function_at s found csch_code (λ sub. cleared sub.state)) e
 executes_at s cpu (instruction.Xsch word) found r e = is r _ (function_at s found xsch_code (λ sub. cancelled sub.state)) e
 
-executes_on : (s : State) (cpu : ℕ) (i : Instruction) (id : Option SubchannelId) (r : Outcome) → named.Executes_on s cpu i id r → Sound r
+executes_on : (s : State) (cpu : ℕ) (i : Instruction) (id : Option SubchannelId) (r : Outcome) → instruction_steps.Executes_on s cpu i id r → Sound r
 executes_on s cpu i None r e = is r (Err Operand) (λ g. cc g) e
 executes_on s cpu i (Some id) r e = executes_at s cpu i (found_at s.subs (place_in id s.subs)) r e
 
@@ -244,7 +243,7 @@ at_shared : (s : State) (place k : ℕ) (x : Result SharedTurn Fault) → Sound 
 at_shared s place k (Ok t) sound = tt
 at_shared s place k (Err f) sound = sound
 
-down_unit : (s : State) (f : Found) (path : ℕ) (u : Option UnitState) → Sound (named.down_unit s f path u)
+down_unit : (s : State) (f : Found) (path : ℕ) (u : Option UnitState) → Sound (down_spec.down_unit s f path u)
 down_unit s f path None = λ g. cc g
 down_unit s f path (Some u) =
     at_shared s f.place f.sub.setup.«unit» (down_spec.down_shared s.members f.sub path u) (down_shared s.members f.sub path u)
@@ -278,7 +277,7 @@ act_sub sub u act =
     let step = act_spec.acts u sub.setup.side act in
     cond_both (act_spec.has_path_of_act sub act) (report_spec.report_taken sub step) (Err NoSuchPath) (λ r. Sound r) (λ e. report_taken sub step) (λ e g. cc g)
 
-act_to : (s : State) (place : ℕ) (u : UnitState) (act : UnitAct) (found : Option Found) → Sound (named.act_to s place u act found)
+act_to : (s : State) (place : ℕ) (u : UnitState) (act : UnitAct) (found : Option Found) → Sound (act_spec.act_to s place u act found)
 act_to s place u act None = λ g. cc g
 act_to s place u act (Some f) = at_unit s f.place place (act_spec.act_sub f.sub u act) (act_sub f.sub u act)
 

@@ -22,8 +22,7 @@ use Rattle.machine_model.specs.InstructionSteps.{subchannel_word}
 use Rattle.machine_model.specs.State.{State, opening_of, place_of, sub_of}
 use Rattle.machine_model.specs.Steps.{HasRun, Performs, Run, Step, Stepped}
 use Rattle.machine_laws.specs.Claims.{IsLaterSubchannel, IsPendingUncleared}
-use Rattle.machine_laws.proofs.NamedAnswers.{state_of}
-use Rattle.machine_laws.specs.Codes.{IsByTable, serials_of}
+use Rattle.machine_laws.specs.Codes.{IsByTable, serials_of, state_of}
 use Rattle.step_laws.specs.Codes.{code_by}
 use Rattle.subsystem.specs.Keeping.{BringsOrdered, IsOrdered, Rises, all_serials, serials_brought}
 

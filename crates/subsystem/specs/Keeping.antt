@@ -11,12 +11,16 @@ use Rattle.chan_events.specs.declared.reply.Entry.{Entry}
 use Rattle.chan_events.specs.Replies.{Reply}
 use Rattle.channel_config.specs.Setup.{Setup}
 use Rattle.machine_laws.specs.Codes.{answer_in}
-use Rattle.event_log.specs.Logs.{last_reply}
+use Rattle.event_log.specs.Logs.{Logged, last_reply}
 use Rattle.machine_model.specs.Ruled.{GoesByRule}
 use Rattle.machine_model.specs.State.{IsAsBefore, LacksRoom, Past, State}
 use Rattle.machine_model.specs.Setups.{IsSetUp}
 use Rattle.machine_model.specs.Steps.{IsRefused, Step}
 use Rattle.path_select.specs.Choice.{Rule}
+
+-- what a subsystem is seen as: a state, and the log of what led there
+abbrev pub past_of : State → Logged → Past
+past_of state log = record { state = state; history = log.entries; room = log.room }
 
 -- it stays as it was set up
 abbrev pub StaysSetUp : State → State → Type 0

@@ -5,8 +5,7 @@ ghost use Rattle.chan_events.specs.declared.reply.Reply.TheVariants as reply_spe
 ghost use Rattle.chan_model.specs.declared.fault.Fault.TheVariants as fault_spec;
 ghost use Rattle.machine_model.specs.Steps.{HasRun};
 ghost use Rattle.finding.specs.Tables.{Fits};
-ghost use Rattle.subsystem.specs.Keeping.{IsStep, answer_of};
-ghost use Rattle.subsystem.specs.Parts.{past_of};
+ghost use Rattle.subsystem.specs.Keeping.{IsStep, answer_of, past_of};
 
 use chan_events::event::Event;
 use chan_model::fault::Fault;

@@ -11,9 +11,7 @@ use Rattle.chan_model.specs.declared.unit_state.Own.TheVariants.{Idle, Owned}
 use Rattle.chan_model.specs.declared.unit_state.SideState.{SideState}
 use Rattle.chan_model.specs.declared.unit_state.UnitState.{UnitState}
 use Rattle.chan_model.specs.Sides.{same_side}
-use Rattle.chan_model.proofs.Named.{without_side}
-use Rattle.chan_model.specs.UnitTable.{UnitStep, unit_after, with_side, owns, freed, raised, unit_takes}
-use Rattle.chan_model.specs.Parts.{held, reset_side}
+use Rattle.chan_model.specs.UnitTable.{UnitStep, unit_after, with_side, owns, freed, raised, unit_takes, held, reset_side, without_side}
 use Rattle.chan_model.proofs.OneSide.{same-side}
 use Rattle.chan_model.proofs.TakenSignals.{IsAt, Takes, Ignores, Notices, Accepts, Denies, Begins, Joins, Parts, Answers, Gives, Halts, Frees, Resets, Forgets, takes-by}
 use Rattle.chan_model.proofs.TakenSignals as taken

@@ -2,7 +2,6 @@
 
 ghost use Rattle.std.specs.Prelude.{◌≡◌, ◌<◌, ◌+◌, ◌^◌};
 ghost use Rattle.chan_model.specs.UnitTable as table;
-ghost use Rattle.chan_model.specs.Parts as table_parts;
 ghost use Rattle.chan_model.specs.Lent.{plain_up};
 ghost use Rattle.chan_model.specs.Signals.{map_sent};
 ghost use Rattle.unit.specs.UnitWords as words;
@@ -119,7 +118,7 @@ fn is_idle(own: Own) -> bool
 
 /// The status of an attention: control unit end where it is owed.
 fn attention_status(end_owed: bool) -> DeviceStatus
-    ensures { result ≡ table_parts.attention_status end_owed }
+    ensures { result ≡ table.attention_status end_owed }
 {
     if end_owed {
         DeviceStatus::CONTROL_UNIT_END

@@ -2,7 +2,6 @@
 
 ghost use Rattle.std.specs.Prelude.{◌≡◌, ◌≤◌, IfSome, None, length};
 ghost use Rattle.chan_model.specs.UnitTable as table;
-ghost use Rattle.chan_model.specs.Parts as table_parts;
 ghost use Rattle.chan_model.specs.Lent.{lent_down, plain_up};
 ghost use Rattle.chan_model.specs.Signals.{map_taken};
 ghost use Rattle.unit.specs.UnitWords as words;
@@ -105,7 +104,7 @@ fn give(command: &mut AtHand, sequence: u64, bytes: &[u8])
 /// The bytes are kept, where there are any.
 fn keep(kept: &mut Option<Chunk>, bytes: &[u8])
     requires { length bytes.now ≤ 256 }
-    ensures { kept.new ≡ table_parts.kept_bytes bytes.now }
+    ensures { kept.new ≡ table.kept_bytes bytes.now }
 {
     match bytes {
         [] => forget(kept),

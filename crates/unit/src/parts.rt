@@ -2,7 +2,6 @@
 
 ghost use Rattle.std.specs.Prelude.{◌≡◌, ◌==◌, ◌+◌};
 ghost use Rattle.chan_model.specs.UnitTable as table;
-ghost use Rattle.chan_model.specs.Parts as table_parts;
 
 use chan_model::lent::PlainUp;
 use chan_model::names::{Path, Side};
@@ -65,7 +64,7 @@ pub fn is_owner_on(unit: &UnitState, side: Side, number: u64, connection: u64) -
 
 /// Whether a place is on a path by this connection.
 fn is_place_on(place: Place, connection: u64) -> bool
-    ensures { result ≡ table_parts.is_place_on place connection }
+    ensures { result ≡ table.is_place_on place connection }
 {
     match place {
         Place::On {

@@ -2,7 +2,6 @@
 
 ghost use Rattle.std.specs.Prelude.{◌≡◌, ◌<◌, ◌≤◌, ◌==◌, ◌&&◌, ◌^◌, ℕ, None, Some, IfSome, MatchOption, is_some, length, true};
 ghost use Rattle.chan_model.specs.UnitReports as reports;
-ghost use Rattle.chan_model.specs.Parts as parts;
 ghost use Rattle.chan_model.specs.Sides.{same_side};
 ghost use Rattle.chan_model.specs.Lent.{lent_up};
 ghost use Rattle.chan_model.specs.Signals.{kept_length, load_bytes, load_in, map_taken};
@@ -47,7 +46,7 @@ fn is_last_end(status: DeviceStatus) -> bool
 
 /// Whether a device may give this status at first.
 fn is_initial(status: DeviceStatus) -> bool
-    ensures { result ≡ parts.is_initial status }
+    ensures { result ≡ reports.is_initial status }
 {
     status == DeviceStatus::CHANNEL_END || status == DeviceStatus::UNIT_CHECK
 }

@@ -2,7 +2,6 @@
 
 ghost use Rattle.std.specs.Prelude.{◌≡◌, None, Some, false, if◌then◌else◌, is_some, nat_lt, true};
 ghost use Rattle.chan_model.specs.UnitTable as table;
-ghost use Rattle.chan_model.specs.Parts as table_parts;
 ghost use Rattle.chan_model.specs.declared.signal.Down.TheVariants as down;
 ghost use Rattle.chan_model.specs.declared.signal.Up.TheVariants as up;
 ghost use Rattle.chan_model.specs.Lent.{lent_down, plain_up};
@@ -115,7 +114,7 @@ fn selected(unit: &mut UnitState, own: Own, side: Side, path: Path, number: u64,
 
 /// The device is held by the program of this number, which is connected on this path.
 fn hold(unit: &mut UnitState, side: Side, path: Path, number: u64)
-    ensures { unit.new ≡ table_parts.held unit.old side number path }
+    ensures { unit.new ≡ table.held unit.old side number path }
 {
     free(unit);
     unit.own = Own::Owned {
@@ -225,8 +224,8 @@ fn refused(unit: &mut UnitState, side: Side, number: u64, connection: u64) -> Ca
 
 /// Halt: once for a program.
 fn halting(unit: &mut UnitState, side: Side, number: u64) -> Came
-    ensures state { unit.new ≡ table.unit_after unit.old (table_parts.unit_halting unit.old side number) }
-    ensures came { map_taken plain_up result ≡ table.came_of (table_parts.unit_halting unit.old side number) }
+    ensures state { unit.new ≡ table.unit_after unit.old (table.unit_halting unit.old side number) }
+    ensures came { map_taken plain_up result ≡ table.came_of (table.unit_halting unit.old side number) }
 {
     if is_owner(unit, side, number) && !unit.halted {
         unit.halted = true;
@@ -238,8 +237,8 @@ fn halting(unit: &mut UnitState, side: Side, number: u64) -> Came
 
 /// Release: by the program that holds the device.
 fn releasing(unit: &mut UnitState, side: Side, path: Path, number: u64) -> Came
-    ensures state { unit.new ≡ table.unit_after unit.old (table_parts.releasing unit.old side path number) }
-    ensures came { map_taken plain_up result ≡ table.came_of (table_parts.releasing unit.old side path number) }
+    ensures state { unit.new ≡ table.unit_after unit.old (table.releasing unit.old side path number) }
+    ensures came { map_taken plain_up result ≡ table.came_of (table.releasing unit.old side path number) }
 {
     if is_owner(unit, side, number) {
         free(unit);
@@ -274,7 +273,7 @@ pub fn resets(unit: &UnitState, side: Side, number: u64, restarts: u64) -> bool
 
 /// A side is reset under this number; a program of the other side stays.
 fn reset_side(unit: &mut UnitState, side: Side, number: u64)
-    ensures { unit.new ≡ table_parts.reset_side unit.old side number }
+    ensures { unit.new ≡ table.reset_side unit.old side number }
 {
     if owns(unit, side) {
         free(unit);

@@ -6,7 +6,7 @@ use Rattle.chan_model.specs.declared.fault.Fault.TheVariants as fault
 use Rattle.chan_model.specs.declared.answer.Answer.TheVariants as answer
 use Rattle.chan_events.specs.declared.reply.Reply.TheVariants as reply
 use Rattle.machine_model.specs.Turns.{does}
-use Rattle.machine_model.proofs.Named.{Enables}
+use Rattle.machine_model.specs.InstructionSteps.{PerformsEnable}
 use Rattle.io_step.specs.Executing.{state_with_storage}
 use Rattle.io_step.proofs.Executions.{enables-none, not-allowed, permitted}
 use Rattle.io_step.proofs.Reading.{second}
@@ -15,7 +15,7 @@ use Rattle.io_step.proofs.absent.enable.Goals as goal
 pub returns-then-not-is_allowed : goal.returns-then-not-is_allowed
 returns-then-not-is_allowed c = λ word.
     let fetched = permitted (operand_at c.args.storage.now c.args.cpu 0xF00 52 4) c.in_ok-image.image c.in_ok-image.ensures in (
-      λ s. subst (λ (x : Result (List ℕ) StorageFault). Enables (state_with_storage s c.args.storage.now) c.args.cpu None c.args.subclass c.args.multipath x (Err fault.Operand)) (sym fetched)
+      λ s. subst (λ (x : Result (List ℕ) StorageFault). PerformsEnable (state_with_storage s c.args.storage.now) c.args.cpu None c.args.subclass c.args.multipath x (Err fault.Operand)) (sym fetched)
           (pmcw_of_words c.word_in-words.result, c.word_in-words.ensures.shown, inl (not-allowed (pmcw_of_words c.word_in-words.result) c.is_allowed.result c.if-not-is_allowed.true c.is_allowed.ensures.1, refl)),
       refl,
     )
@@ -25,6 +25,6 @@ returns c = λ word s.
     let fetched = permitted (operand_at c.args.storage.now c.args.cpu 0xF00 52 4) c.in_ok-image.image c.in_ok-image.ensures in
     let left = enables-none s c.args.storage.now c.store_operand.new.self c.args.cpu c.number.result c.args.subclass c.args.multipath c.in_ok-image.image c.be_bytes-placed.result _ c.enabling_word.result
     (second c.in_ok-image.image c.word_in-words.result c.word_in-words.ensures.words) c.enabling_word.ensures c.be_bytes-placed.ensures c.number.ensures.value c.store_operand.ensures in
-    subst (λ (x : Result (List ℕ) StorageFault). Enables (state_with_storage s c.args.storage.now) c.args.cpu None c.args.subclass c.args.multipath x
+    subst (λ (x : Result (List ℕ) StorageFault). PerformsEnable (state_with_storage s c.args.storage.now) c.args.cpu None c.args.subclass c.args.multipath x
     (does (reply.Code answer.Three) (state_with_storage s c.store_operand.new.self))) (sym fetched)
     (pmcw_of_words c.word_in-words.result, c.word_in-words.ensures.shown, inr (c.is_allowed.ensures.0 c.if-not-is_allowed.false, ap (does (reply.Code answer.Three)) left))

@@ -12,8 +12,7 @@ use Rattle.subchannel_model.specs.declared.cause.StatusCause.TheVariants as caus
 use Rattle.subchannel_model.specs.declared.state.ActiveProgram.{ActiveProgram}
 use Rattle.subchannel_model.specs.declared.state.Program.{Program}
 use Rattle.subchannel_model.specs.declared.state.SubchannelState.{SubchannelState}
-use Rattle.subchannel_model.specs.Causes.{CauseRow, row_of, scsw_before, without_begun, without_waiting}
-use Rattle.subchannel_model.specs.Parts.{scsw_joined}
+use Rattle.subchannel_model.specs.Causes.{CauseRow, row_of, scsw_before, without_begun, without_waiting, scsw_joined}
 use Rattle.subchannel_model.specs.Programs.{without_programs}
 use Rattle.subchannel_model.specs.Ends.{has_shown}
 use Rattle.subchannel_model.proofs.Cleared.{tested-pending}

@@ -2,11 +2,10 @@ use Rattle.std.proofs.Common.{◌≡◌, refl, sym, ◌∙◌, ap, subst, Err, �
 use Rattle.chan_model.specs.declared.signal.Up.TheVariants as up
 use Rattle.chan_model.specs.declared.unit_state.SideState.{SideState}
 use Rattle.chan_model.specs.declared.unit_state.UnitState.{UnitState}
-use Rattle.chan_model.specs.UnitTable.{attending, is_idle, side_of}
+use Rattle.chan_model.specs.UnitTable.{attending, is_idle, side_of, attention_status}
 use Rattle.chan_model.specs.declared.fault.Fault.TheVariants as fault
 use Rattle.chan_model.specs.declared.names.Side.{Side}
 use Rattle.machine_model.specs.ReportSteps.{report_taken}
-use Rattle.chan_model.specs.Parts.{attention_status}
 use Rattle.subchannel_steps.proofs.Acting.{sends-full}
 use Rattle.subchannel_steps.proofs.acts.attend.Goals as goal
 

@@ -2,7 +2,7 @@ use Rattle.std.proofs.Common.{◌≡◌, ◌∙◌, ap, subst, sym, ℕ, List, B
 use Rattle.schib_block.specs.declared.pmcw.Pmcw.{Pmcw}
 use Rattle.chan_model.specs.PathSets.{mask_of_paths, paths_of_mask}
 use Rattle.chan_model.specs.PathSets.{in_both}
-use Rattle.subchannel_model.specs.Parts.{available_pmcw}
+use Rattle.subchannel_model.specs.Losing.{available_pmcw}
 use Rattle.subchannel_model.specs.Store.{pmcw_of}
 use Rattle.subchannel_words.proofs.Tied.{shown-tied}
 use Rattle.subchannel_words.specs.Unwired.{Unwired, bare, unwired_of, with_pmcw}

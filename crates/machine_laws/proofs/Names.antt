@@ -1,25 +1,21 @@
 -- Subchannels by their places and names.
-use Rattle.std.proofs.Common.{◌≡◌, sym, ◌∙◌, ap, subst, ℕ, ◌==◌, ◌&&◌, Bool, true, Option, None, Some, List}
+use Rattle.std.proofs.Common.{◌≡◌, sym, ◌∙◌, ap, subst, ℕ, ◌==◌, true, Option, None, Some, List}
 use Rattle.std.specs.Prelude.{slice_get}
 use Rattle.std.proofs.lemmas.Bool.{eqb-true, eq-eqb, and_parts}
 use Rattle.channel_config.specs.declared.names.SubchannelId.{SubchannelId}
-use Rattle.machine_laws.specs.Claims.{is_id}
+use Rattle.machine_laws.specs.Claims.{is_same_id, is_id}
 use Rattle.step_laws.proofs.Places.{both-true, first-passes}
 use Rattle.subchannel_model.specs.declared.state.Subchannel.{Subchannel}
 use Rattle.subchannel_model.specs.Places.{is_named, place_in, place_of_id}
 
--- the subchannel that a word names
-abbrev is_same : SubchannelId → SubchannelId → Bool
-is_same a b = (a.set == b.set) && (a.number == b.number)
-
-pub same-id : (a b : SubchannelId) → is_same a b ≡ true → a ≡ b
+pub same-id : (a b : SubchannelId) → is_same_id a b ≡ true → a ≡ b
 same-id a b e =
     let both = and_parts (a.set == b.set) (a.number == b.number) e in
     let set : a.set ≡ b.set = eqb-true a.set b.set both.0 in
     let number : a.number ≡ b.number = eqb-true a.number b.number both.1 in
     ap (λ (n : ℕ). record a { set = n }) set ∙ ap (λ (n : ℕ). record b { number = n }) number
 
-named-both : (id named : SubchannelId) (sub : Subchannel) → is_named id sub ≡ true → is_named named sub ≡ true → is_same named id ≡ true
+pub named-both : (id named : SubchannelId) (sub : Subchannel) → is_named id sub ≡ true → is_named named sub ≡ true → is_same_id named id ≡ true
 named-both id named sub e f =
     let a : (sub.setup.id.set ≡ id.set) × (sub.setup.id.number ≡ id.number) = parts id e in
     let b : (sub.setup.id.set ≡ named.set) × (sub.setup.id.number ≡ named.number) = parts named f in
