@@ -1,14 +1,11 @@
 -- Parts of the definitions of this crate, by names that proofs speak of.
 use Rattle.std.specs.Prelude.{ℕ, ◌+◌, Bool, false, if◌then◌else◌, Option, None, Some, option_map, unwrap_or, List, slice_get}
-use Rattle.storage_keys.specs.Storage.{Contents}
 use Rattle.scsw_irb.specs.declared.scsw.Scsw.{Scsw}
 use Rattle.chan_model.specs.declared.hold_state.HoldPhase.{HoldPhase}
 use Rattle.chan_model.specs.declared.hold_state.HoldPhase.TheVariants as hold
 use Rattle.chan_model.specs.declared.signal.OnPath.{OnPath}
 use Rattle.chan_model.specs.ResetCauses.{is_path}
 use Rattle.data_move.specs.Moving.{residual}
-use Rattle.transfer.specs.Chunks.{taken_by_device, next_given}
-use Rattle.subchannel_model.specs.declared.signals.DataSignal.{DataSignal}
 use Rattle.subchannel_model.specs.declared.state.ActiveProgram.{ActiveProgram}
 use Rattle.subchannel_model.specs.declared.state.Chosen.{Chosen}
 use Rattle.subchannel_model.specs.declared.state.Chosen.TheVariants.{Idle}
@@ -16,14 +13,12 @@ use Rattle.subchannel_model.specs.declared.state.Program.{Program}
 use Rattle.subchannel_model.specs.declared.state.ProgramPosition.{ProgramPosition}
 use Rattle.subchannel_model.specs.declared.state.Subchannel.{Subchannel}
 use Rattle.subchannel_model.specs.declared.state.SubchannelState.{SubchannelState}
-use Rattle.subchannel_model.specs.declared.state.UpStep.{UpStep}
 use Rattle.subchannel_model.specs.declared.cause.StatusCause.TheVariants as cause
 use Rattle.subchannel_model.specs.Causes.{CauseRow, of_program, with_status, with_cause}
 use Rattle.subchannel_model.specs.Parts.{scsw_joined}
 use Rattle.subchannel_model.specs.Choosing.{first_some, paths_unreset}
 use Rattle.subchannel_model.specs.Places.{Found}
 use Rattle.subchannel_model.specs.Store.{available_paths}
-use Rattle.subchannel_model.specs.Taking.{giving, interrupted}
 
 abbrev pub count_by : ℕ → Option Program → Option ActiveProgram → Option ProgramPosition → ℕ
 count_by stands waiting begun suspended = of_program stands (λ b. residual b.transfer.moving) (λ st. st.count) waiting begun suspended
@@ -45,12 +40,6 @@ paths_by unsent subs sub = elim unsent [ None ↦ paths_unreset subs sub | Some 
 
 abbrev pub chosen_of : List (Option Chosen) → Chosen
 chosen_of acts = unwrap_or (first_some acts) Idle
-
-abbrev pub with_pci_of : SubchannelState → ActiveProgram → SubchannelState
-with_pci_of s b = interrupted s (Some b)
-
-abbrev pub give_next : Contents → SubchannelState → ActiveProgram → DataSignal → ℕ → UpStep
-give_next storage s b signal count = giving s b signal (next_given storage (taken_by_device storage b.transfer signal.sequence count))
 
 abbrev pub with_known : SubchannelState → ℕ → SubchannelState
 with_known s b = record s { hold = record s.hold { known = b } }

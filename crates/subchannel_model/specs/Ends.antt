@@ -1,12 +1,12 @@
 -- What an End of a command shows, and whether the next command is chained to (SA22-7832, chapter 16; the bits are this
 -- project's own choice).
-use Rattle.std.specs.Prelude.{Bool, true, false, not, ◌&&◌, ◌||◌, if◌then◌else◌, Option, None, Some, is_some, bit_or}
+use Rattle.std.specs.Prelude.{Bool, true, false, not, ◌==◌, ◌&&◌, ◌||◌, if◌then◌else◌, Option, None, Some, is_some, bit_or}
 use Rattle.scsw_irb.specs.declared.scsw.DeferredCode.TheVariants as deferred
 use Rattle.scsw_irb.specs.declared.scsw.Scsw.{Scsw}
 use Rattle.scsw_irb.specs.declared.status.DeviceStatus.{DeviceStatus}
 use Rattle.scsw_irb.specs.Empty.{no_activity}
 use Rattle.subchannel_model.specs.declared.status.Shown.{Shown}
-use Rattle.subchannel_model.specs.Status.{check_bits, conditions, shows_primary}
+use Rattle.subchannel_model.specs.Status.{status_modifier, control_unit_end, unit_exception, incorrect_length, check_bits, conditions, shows_primary}
 use Rattle.scsw_irb.specs.Status.{has}
 use Rattle.chan_model.specs.UnitReports.{has_channel_end, has_device_end, has_unit_check, is_last_end}
 use Rattle.data_move.specs.Moving.{residual, is_incorrect}
@@ -14,12 +14,15 @@ use Rattle.subchannel_model.specs.declared.state.ActiveProgram.{ActiveProgram}
 use Rattle.subchannel_model.specs.declared.state.Program.{Program}
 use Rattle.subchannel_model.specs.declared.state.SubchannelState.{SubchannelState}
 
--- two more bits of a device status (SA22-7832, chapter 16)
+-- more bits of a device status (SA22-7832, chapter 16)
 abbrev pub has_status_modifier : DeviceStatus → Bool
-has_status_modifier status = has status.0 0x40
+has_status_modifier status = has status.0 status_modifier
 
 abbrev pub has_unit_exception : DeviceStatus → Bool
-has_unit_exception status = has status.0 0x01
+has_unit_exception status = has status.0 unit_exception
+
+abbrev pub is_control_unit_end_alone : DeviceStatus → Bool
+is_control_unit_end_alone status = status.0 == control_unit_end
 
 -- an incorrect length is shown at the first End of a command, where bytes are left on one side; not with unit check alone
 -- (own), nor where a halt is specified (own), nor where SLI is one and CD zero; for a command that ended at once only in
@@ -59,7 +62,7 @@ work_shown scsw b status more last = record {
   conditions = conditions (has_unit_check status || is_some b.transfer.fault) (shows_primary scsw.functions b.primary_shown) last;
   activity = record no_activity { device_active = not last };
   device = status;
-  subchannel = record { 0 = bit_or (if shows_length scsw b status more then 0x40 else 0) (check_bits b.transfer.fault) };
+  subchannel = record { 0 = bit_or (if shows_length scsw b status more then incorrect_length else 0) (check_bits b.transfer.fault) };
   deferred = None;
   command_address = b.transfer.walk.tried;
   count = residual b.transfer.moving;

@@ -1,7 +1,5 @@
 -- Parts of the definitions of this crate, by names that contracts speak of.
 use Rattle.std.specs.Prelude.{ℕ, Bool, true, false, not, ◌&&◌, ◌||◌, if◌then◌else◌, Option, None, Some, is_some, option_and_then, option_map, bit_or, slice_set}
-use Rattle.allegiance.specs.Allegiances.{dedicated_after}
-use Rattle.allegiance.specs.declared.allegiances.AllegianceCause.TheVariants as allegiance
 use Rattle.orb_block.specs.declared.Orb.{Orb}
 use Rattle.scsw_irb.specs.Empty.{no_functions, no_activity, no_status, zero_scsw}
 use Rattle.scsw_irb.specs.declared.scsw.ActivityControl.{ActivityControl}
@@ -10,38 +8,20 @@ use Rattle.scsw_irb.specs.declared.scsw.DeferredCode.TheVariants as deferred
 use Rattle.scsw_irb.specs.declared.scsw.Scsw.{Scsw}
 use Rattle.scsw_irb.specs.declared.status.DeviceStatus.{DeviceStatus}
 use Rattle.scsw_irb.specs.declared.status.SubchannelStatus.{SubchannelStatus}
-use Rattle.storage_keys.specs.Storage.{Contents}
 use Rattle.chan_model.specs.PathSets.{paths_of_mask, all_paths, no_paths}
 use Rattle.chan_model.specs.UnitReports.{has_unit_check}
 use Rattle.chan_model.specs.declared.hold_state.HoldPhase.{HoldPhase}
-use Rattle.ccw_walk.specs.Walks.{WalkPlace}
-use Rattle.transfer.specs.declared.Beginning.{Beginning}
-use Rattle.transfer.specs.declared.WithRoom.{WithRoom}
-use Rattle.subchannel_model.specs.declared.cause.StatusCause.TheVariants as cause
-use Rattle.subchannel_model.specs.declared.signals.EndSignal.{EndSignal}
 use Rattle.subchannel_model.specs.declared.state.ActiveProgram.{ActiveProgram}
 use Rattle.subchannel_model.specs.declared.state.Candidate.{Candidate}
 use Rattle.subchannel_model.specs.declared.state.Chosen.{Chosen}
 use Rattle.subchannel_model.specs.declared.state.PmcwState.{PmcwState}
 use Rattle.subchannel_model.specs.declared.state.Program.{Program}
 use Rattle.subchannel_model.specs.declared.state.ProgramPosition.{ProgramPosition}
-use Rattle.subchannel_model.specs.declared.state.SubchannelState.{SubchannelState}
-use Rattle.subchannel_model.specs.declared.state.UpStep.{UpStep}
 use Rattle.subchannel_model.specs.declared.status.Shown.{Shown}
 use Rattle.subchannel_model.specs.Status.{check_bits, conditions}
 use Rattle.subchannel_model.specs.Opening.{opening_pmcw}
 use Rattle.subchannel_model.specs.Ends.{shows_length, work_shown}
-use Rattle.subchannel_model.specs.Causes.{with_cause}
 use Rattle.subchannel_model.specs.Choosing.{halt_at, offer_at}
-use Rattle.subchannel_model.specs.Taking.{
-  beginning,
-  chaining,
-  dedicated_by_end,
-  sends_command,
-  taking_over,
-  with_transfer,
-  working,
-}
 
 abbrev pub started_pmcw : PmcwState → Orb → PmcwState
 started_pmcw pmcw orb = record pmcw { parameter = orb.parameter; logical = paths_of_mask orb.paths; not_operational = no_paths }
@@ -123,31 +103,3 @@ offer_chosen phase found reachable choice = option_and_then (λ c. offer_at phas
 
 abbrev pub halt_sent_scsw : Scsw → Scsw
 halt_sent_scsw scsw = record scsw { activity = record scsw.activity { halt_pending = false } }
-
-abbrev pub working_scsw : Scsw → Scsw
-working_scsw scsw = record scsw { activity = working scsw.activity }
-
-abbrev pub suspended_alone : Scsw → Scsw
-suspended_alone scsw = record scsw { activity = record no_activity { suspended = true } }
-
-abbrev pub standing_still : SubchannelState → Program → WalkPlace → ℕ → SubchannelState
-standing_still s program walk count = record s { waiting = None; begun = None; suspended = Some (record { program = program; walk = walk; count = count }) }
-
-abbrev pub sends_first : SubchannelState → ℕ → ℕ → Program → WithRoom → UpStep
-sends_first s p t program x = sends_command (taking_over s program x.transfer) p t x
-
-abbrev pub begin_with : Contents → SubchannelState → ℕ → ℕ → ProgramPosition → Beginning → UpStep
-begin_with storage s p t st first = beginning storage s p t st first.walk first.came
-
-abbrev pub dedicated_by_data : Option ℕ → Option ℕ
-dedicated_by_data dedicated = dedicated_after dedicated (allegiance.Data true)
-
-abbrev pub sends_next : SubchannelState → ActiveProgram → EndSignal → WithRoom → UpStep
-sends_next s b signal x = sends_command (with_transfer s b x.transfer) signal.path signal.number x
-
-abbrev pub chain_with : Contents → SubchannelState → ActiveProgram → EndSignal → Beginning → UpStep
-chain_with storage s b signal next = chaining storage s b signal next.walk next.came
-
-abbrev pub end_shown_at : SubchannelState → ActiveProgram → EndSignal → SubchannelState
-end_shown_at s b signal =
-    record (with_cause s (cause.End b signal.status signal.more)) { dedicated = dedicated_by_end s.dedicated signal }

@@ -17,11 +17,31 @@ no_device_status = record { 0 = 0 }
 abbrev pub no_subchannel_status : SubchannelStatus
 no_subchannel_status = record { 0 = 0 }
 
+-- bits of the device status
+abbrev pub status_modifier : ℕ
+status_modifier = 0x40
+
+abbrev pub control_unit_end : ℕ
+control_unit_end = 0x20
+
+abbrev pub unit_exception : ℕ
+unit_exception = 0x01
+
+-- bits of the subchannel status
+abbrev pub incorrect_length : ℕ
+incorrect_length = 0x40
+
+abbrev pub program_check : ℕ
+program_check = 0x20
+
+abbrev pub protection_check : ℕ
+protection_check = 0x10
+
 -- the subchannel status of a check
 abbrev pub check_bits : Option Check → ℕ
 check_bits None = 0
-check_bits (Some Program) = 0x20
-check_bits (Some Protection) = 0x10
+check_bits (Some Program) = program_check
+check_bits (Some Protection) = protection_check
 
 -- status joins the status that is pending, and begins from nothing where none is
 abbrev pub joined_conditions : StatusControl → StatusControl → StatusControl
