@@ -13,7 +13,13 @@ use Rattle.subchannel_model.specs.declared.state.SubchannelState.{SubchannelStat
 use Rattle.subchannel_model.specs.declared.state.UpStep.{UpStep}
 use Rattle.subchannel_model.specs.declared.signals.EndSignal.{EndSignal}
 use Rattle.subchannel_model.specs.declared.signals.DataSignal.{DataSignal}
-use Rattle.subchannel_model.specs.Taking.{Met, meets, ignoring, quietly, accepted_by, move_data, end_of, reset_taken, goes_ahead, may_attend, takes_up}
+use Rattle.subchannel_model.specs.Outcomes.{SignalOutcome, with_storage, signal_ignored, signal_taken}
+use Rattle.subchannel_model.specs.Accept.{accepted_in_phase, takes_device}
+use Rattle.subchannel_model.specs.Data.{moves_data}
+use Rattle.subchannel_model.specs.End.{ends_at_work}
+use Rattle.subchannel_model.specs.Cleared.{takes_cleared}
+use Rattle.subchannel_model.specs.Attention.{may_take_attention}
+use Rattle.subchannel_model.specs.Taking.{takes_up}
 use Rattle.agree.specs.Replies.{is_taken}
 
 -- the first of two is what was done, where the second takes nothing
@@ -21,7 +27,7 @@ if-step : (b : Bool) (x y : UpStep) → y.came.taken ≡ false → (if b then x 
 if-step true x y n e = cc
 if-step false x y n e = absurd (cc (n, e))
 
-if-met : (b : Bool) (x y : Met) → y.step.came.taken ≡ false → (if b then x else y).step.came.taken ≡ true → b ≡ true
+if-met : (b : Bool) (x y : SignalOutcome) → y.step.came.taken ≡ false → (if b then x else y).step.came.taken ≡ true → b ≡ true
 if-met true x y n e = cc
 if-met false x y n e = absurd (cc (n, e))
 
@@ -62,7 +68,7 @@ attn-taken h (hold.Away u) p a may e = e
 attn-taken h (hold.Letting u q) p a may e = e
 attn-taken h (hold.Reset r) p a may e = e
 
-reset-taken : (s : SubchannelState) (step : Option HoldStep) → (reset_taken s step).came.taken ≡ true → (came_of step).taken ≡ true
+reset-taken : (s : SubchannelState) (step : Option HoldStep) → (takes_cleared s step).came.taken ≡ true → (came_of step).taken ≡ true
 reset-taken s None e = e
 reset-taken s (Some step) e = e
 
@@ -72,18 +78,18 @@ notice-taken h b false e = absurd (cc e)
 
 pub machine-takes : (returns : Bool) (storage : Contents) (s : SubchannelState) (p : ℕ) (x : Up) → (takes_up returns storage s p x).step.came.taken ≡ true → is_taken s.hold p x true ≡ true
 machine-takes returns storage s p (up.Accept t) e =
-    let step : Option HoldStep = offer_accepted s.hold s.hold.phase t (goes_ahead s) in
-    accept-taken s.hold s.hold.phase t (goes_ahead s) (if-step (came_of step).taken (accepted_by storage (record s { hold = hold_after s.hold step }) (hold_after s.hold step).phase (came_of step)) (ignoring s) refl e)
+    let step : Option HoldStep = offer_accepted s.hold s.hold.phase t (takes_device s) in
+    accept-taken s.hold s.hold.phase t (takes_device s) (if-step (came_of step).taken (accepted_in_phase storage (record s { hold = hold_after s.hold step }) (hold_after s.hold step).phase (came_of step)) (signal_ignored s) refl e)
 machine-takes returns storage s p (up.Data load t c n m) e =
     let signal : DataSignal = record { path = p; number = t; connection = c; command = n; sequence = m } in
-    with-true (is_connected s.hold.phase p t c) (if-met (is_connected s.hold.phase p t c) (move_data storage s s.begun signal load) (meets storage (ignoring s)) refl e)
+    with-true (is_connected s.hold.phase p t c) (if-met (is_connected s.hold.phase p t c) (moves_data storage s s.begun signal load) (with_storage storage (signal_ignored s)) refl e)
 machine-takes returns storage s p (up.End t n status more) e =
     let signal : EndSignal = record { path = p; number = t; command = n; status = status; more = more } in
-    with-true (is_on s.hold.phase t) (if-step (is_on s.hold.phase t) (end_of storage s s.begun signal) (ignoring s) refl e)
+    with-true (is_on s.hold.phase t) (if-step (is_on s.hold.phase t) (ends_at_work storage s s.begun signal) (signal_ignored s) refl e)
 machine-takes returns storage s p (up.Cleared r) e = reset-taken s (reset_cleared s.hold s.hold.phase r) e
 machine-takes returns storage s p (up.Back t c) e = back-taken s.hold s.hold.phase p t c returns e
-machine-takes returns storage s p (up.Notice b) e = notice-taken s.hold b (nat_lt s.hold.known b) (if-step (nat_lt s.hold.known b) (quietly (reset_for (record s { hold = record s.hold { known = b } }))) (ignoring s) refl e)
-machine-takes returns storage s p (up.Attn a status) e = attn-taken s.hold s.hold.phase p a (may_attend s) e
+machine-takes returns storage s p (up.Notice b) e = notice-taken s.hold b (nat_lt s.hold.known b) (if-step (nat_lt s.hold.known b) (signal_taken (reset_for (record s { hold = record s.hold { known = b } }))) (signal_ignored s) refl e)
+machine-takes returns storage s p (up.Attn a status) e = attn-taken s.hold s.hold.phase p a (may_take_attention s) e
 machine-takes returns storage s p (up.Busy t) e = e
 machine-takes returns storage s p (up.Leave t c) e = e
 machine-takes returns storage s p (up.Released t) e = e

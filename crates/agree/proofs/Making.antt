@@ -233,13 +233,13 @@ chosen-made w e side (hold.On t q c) p single its = tt
 chosen-made w e side (hold.Away t) p single its = tt
 chosen-made w e side (hold.Letting t q) p single its = tt
 
-let_go-made : (w : WorldState) (e : WorldEvent) (side : Side) (phase : HoldPhase) → Hold_acts side Lets_go ≡ cause_of w e → OnDone (λ l. Made w e (with_line w side l)) (line_let_go (line_of w side) phase)
-let_go-made w e side hold.Free its = tt
-let_go-made w e side (hold.Reset r) its = tt
-let_go-made w e side (hold.Offer t q) its = tt
-let_go-made w e side (hold.On t q c) its = act-made w e side Lets_go its tt
-let_go-made w e side (hold.Away t) its = tt
-let_go-made w e side (hold.Letting t q) its = tt
+device_released-made : (w : WorldState) (e : WorldEvent) (side : Side) (phase : HoldPhase) → Hold_acts side Lets_go ≡ cause_of w e → OnDone (λ l. Made w e (with_line w side l)) (line_let_go (line_of w side) phase)
+device_released-made w e side hold.Free its = tt
+device_released-made w e side (hold.Reset r) its = tt
+device_released-made w e side (hold.Offer t q) its = tt
+device_released-made w e side (hold.On t q c) its = act-made w e side Lets_go its tt
+device_released-made w e side (hold.Away t) its = tt
+device_released-made w e side (hold.Letting t q) its = tt
 
 sends-made : (w : WorldState) (e : WorldEvent) (side : Side) (p : ℕ) (d : Down) → Hold_acts side (Sends (record { path = p; signal = d })) ≡ cause_of w e →
     OnDone (λ l. (may_send (line_of w side).link.hold.phase p d ≡ true) × Made w e (with_line w side l)) (line_sends (line_of w side) p d)
@@ -403,7 +403,7 @@ turn-made w (event.PathReset side p) =
     (side-made w (event.PathReset side p) side (is_cut (line_of w side) p) (reset-made w (event.PathReset side p) side p refl))
 turn-made w (event.LetGo side) =
     side-made w (event.LetGo side) side (line_let_go (line_of w side) (line_of w side).link.hold.phase)
-    (let_go-made w (event.LetGo side) side (line_of w side).link.hold.phase refl)
+    (device_released-made w (event.LetGo side) side (line_of w side).link.hold.phase refl)
 turn-made w (event.Send side p signal) =
     done-on_one (MadeOf w (event.Send side p signal)) p (λ q. at_side w side (line_sends (line_of w side) q signal))
     (done-at_side (MadeOf w (event.Send side p signal)) w side (line_sends (line_of w side) p signal) (sends-made w (event.Send side p signal) side p signal refl))

@@ -107,13 +107,13 @@ chosen-draws l (hold.On t q c) p single = tt
 chosen-draws l (hold.Away t) p single = tt
 chosen-draws l (hold.Letting t q) p single = tt
 
-let_go-draws : (l : LineState) (phase : HoldPhase) → OnDone (Draws l) (line_let_go l phase)
-let_go-draws l hold.Free = tt
-let_go-draws l (hold.Reset r) = tt
-let_go-draws l (hold.Offer t q) = tt
-let_go-draws l (hold.On t q c) = acts-drawn l.link.drawn l.link.hold Lets_go
-let_go-draws l (hold.Away t) = tt
-let_go-draws l (hold.Letting t q) = tt
+device_released-draws : (l : LineState) (phase : HoldPhase) → OnDone (Draws l) (line_let_go l phase)
+device_released-draws l hold.Free = tt
+device_released-draws l (hold.Reset r) = tt
+device_released-draws l (hold.Offer t q) = tt
+device_released-draws l (hold.On t q c) = acts-drawn l.link.drawn l.link.hold Lets_go
+device_released-draws l (hold.Away t) = tt
+device_released-draws l (hold.Letting t q) = tt
 
 heard-draws : (l : LineState) (x : Option (OnPath Up)) (place : ℕ) (keep may : Bool) → OnDone (Draws l) (heard l x place keep may)
 heard-draws l None place keep may = tt
@@ -161,7 +161,7 @@ event-within n w (event.PathReset side p) h =
     (λ q. turn-within n w side (is_cut l q) h (done-if (Draws l) (is_up l.up q) NotNow (cut l q) (acts-drawn l.link.drawn l.link.hold (Loses q))))
 event-within n w (event.LetGo side) h =
     let l : LineState = line_of w side in
-    turn-within n w side (line_let_go l l.link.hold.phase) h (let_go-draws l l.link.hold.phase)
+    turn-within n w side (line_let_go l l.link.hold.phase) h (device_released-draws l l.link.hold.phase)
 event-within n w (event.Send side p signal) h =
     let l : LineState = line_of w side in
     path-within n (path_named p) (λ q. at_side w side (line_sends l q signal))

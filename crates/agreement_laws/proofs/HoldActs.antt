@@ -46,13 +46,13 @@ reset_sent-moves n h b f o (hold.Away t) p = still-moves n (at h (hold.Away t)) 
 reset_sent-moves n h b f o (hold.Letting t q) p = still-moves n (at h (hold.Letting t q)) b f o
 reset_sent-moves n h b f o (hold.Reset r) p = keeps.Sends_reset n r h.seen h.known b f o p
 
-let_go-moves : (n : ℕ) (h : HoldState) (b f : ℕ) (o : SideSeen) (phase : HoldPhase) → IsMoved n (at h phase) b f o (hold_stepped n (at h phase) (letting_go (at h phase) phase))
-let_go-moves n h b f o hold.Free = still-moves n (at h hold.Free) b f o
-let_go-moves n h b f o (hold.Offer t q) = still-moves n (at h (hold.Offer t q)) b f o
-let_go-moves n h b f o (hold.On t q c) = keeps.Lets_go n t q c h.seen h.known b f o
-let_go-moves n h b f o (hold.Away t) = still-moves n (at h (hold.Away t)) b f o
-let_go-moves n h b f o (hold.Letting t q) = still-moves n (at h (hold.Letting t q)) b f o
-let_go-moves n h b f o (hold.Reset r) = still-moves n (at h (hold.Reset r)) b f o
+device_released-moves : (n : ℕ) (h : HoldState) (b f : ℕ) (o : SideSeen) (phase : HoldPhase) → IsMoved n (at h phase) b f o (hold_stepped n (at h phase) (letting_go (at h phase) phase))
+device_released-moves n h b f o hold.Free = still-moves n (at h hold.Free) b f o
+device_released-moves n h b f o (hold.Offer t q) = still-moves n (at h (hold.Offer t q)) b f o
+device_released-moves n h b f o (hold.On t q c) = keeps.Lets_go n t q c h.seen h.known b f o
+device_released-moves n h b f o (hold.Away t) = still-moves n (at h (hold.Away t)) b f o
+device_released-moves n h b f o (hold.Letting t q) = still-moves n (at h (hold.Letting t q)) b f o
+device_released-moves n h b f o (hold.Reset r) = still-moves n (at h (hold.Reset r)) b f o
 
 reset-moves : (n : ℕ) (h : HoldState) (b f : ℕ) (o : SideSeen) → h.known ≤ b → IsMoved n h b f o (reset_again n h)
 reset-moves n h b f o kb = Resets n h.phase h.seen h.known h.known b f o (omega arith) kb
@@ -221,7 +221,7 @@ pub act-moves : (n : ℕ) (h : HoldState) (b f : ℕ) (o : SideSeen) (ts : List 
 act-moves n h b f o ts Nothing kb g = still-moves n h b f o
 act-moves n h b f o ts (Offers p single) kb g = offered-moves n h b f o h.phase p single
 act-moves n h b f o ts (Sends_reset p) kb g = reset_sent-moves n h b f o h.phase p
-act-moves n h b f o ts Lets_go kb g = let_go-moves n h b f o h.phase
+act-moves n h b f o ts Lets_go kb g = device_released-moves n h b f o h.phase
 act-moves n h b f o ts Is_reset kb g = reset-moves n h b f o kb
 act-moves n h b f o ts (Loses p) kb g = lost-moves n h b f o (rests_on h p) kb
 act-moves n h b f o ts (Takes x may) kb g = taken-moves n h b f o ts x.path x.signal may g

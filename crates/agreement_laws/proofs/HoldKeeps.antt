@@ -126,9 +126,9 @@ on-matched n t p s k b f Idle a m = a refl
 on-matched n t p s k b f Fresh a m = λ e. tt
 on-matched n t p s k b f (Owns v place) a m = m
 
-goes_on-kept : (n t p s k b f : ℕ) (o : SideSeen) → t ≤ f → IsAcceptGood (hold.Offer t p) o t → AreEndsGood (ends_seen n (hold.Offer t p) s k b f o) →
+chains_at_device_end-kept : (n t p s k b f : ℕ) (o : SideSeen) → t ≤ f → IsAcceptGood (hold.Offer t p) o t → AreEndsGood (ends_seen n (hold.Offer t p) s k b f o) →
     IsHoldKept (ends_seen n (hold.Offer t p) s k b f o) (ends_seen n (hold.On t p 0) 0 k b f o) None
-goes_on-kept n t p s k b f o tf a g =
+chains_at_device_end-kept n t p s k b f o tf a g =
     record {
       ends = record { floor = g.floor; number = g.number; known = g.known; owned = g.owned; matched = on-matched n t p s k b f o a g.matched };
       downs = downs-by (ends_seen n (hold.Offer t p) s k b f o) (ends_seen n (hold.On t p 0) 0 k b f o) (omega arith) (omega arith)
@@ -321,7 +321,7 @@ hold-kept _ _ _ g (Offered n s k b f o p) = offered-kept n s k b f p o g
 hold-kept _ _ _ g (Resets n h s k j b f o kj jb) = resets-kept n h s k j b f o kj jb g
 hold-kept _ _ _ g (Sends_reset n r s k b f o p) = stays-kept _ _ g (g.number, g.known, sent-reset n r s k b f o g)
 hold-kept _ _ _ g (Lets_go n t p c s k b f o) = lets_go-kept n t p c s k b f o g
-hold-kept _ _ _ g (Goes_on n t p s k b f o tf a) = goes_on-kept n t p s k b f o tf a g
+hold-kept _ _ _ g (Goes_on n t p s k b f o tf a) = chains_at_device_end-kept n t p s k b f o tf a g
 hold-kept _ _ _ g (Is_over n t p s k b f o tf) = is_over-kept n t p s k b f o tf g
 hold-kept _ _ _ g (Is_busy n t p s k b f o tf a) = is_busy-kept n t p s k b f o tf a g
 hold-kept _ _ _ g (Is_left n t p c s k b f o) = is_left-kept n t p c s k b f o g

@@ -17,9 +17,9 @@ use Rattle.ccw_walk.specs.declared.program.Reading.TheVariants.{Transfers, Takes
 use Rattle.ccw_walk.specs.Acts.{Act, Block, Unfetched, Used_up, End, Word}
 use Rattle.ccw_walk.specs.Blocks.{reads, block_reads, command_reads, transfer_reads, is_misplaced_command, format_of}
 use Rattle.ccw_walk.specs.Programs.{next as next_of, next_after, role_of, role_after, IsProgram}
-use Rattle.ccw_walk.proofs.Named.{acts_at}
-use Rattle.ccw_walk.specs.Walks.{WalkPlace, walk_place, after_act, after_acts, is_program_misplaced, fetch_act, acts_from, act_advance, advance_of}
-use Rattle.ccw_walk.proofs.Named.{after_block, act_of_fetch, with_target, block_advance}
+use Rattle.ccw_walk.specs.Advancing.{acts_from_next, acts_from_fetch, advance_of_act, advance_of_acts, with_tic_target, advance_of_ccw}
+use Rattle.ccw_walk.specs.Places.{WalkPlace, walk_place, after_act, after_acts, after_block}
+use Rattle.ccw_walk.specs.Fetching.{is_program_misplaced, fetch_act, act_of_fetch}
 
 -- the place some acts further
 pub after-place : (orb : Orb) (before : List Act) (act : Act) → after_act (walk_place orb before) act ≡ walk_place orb (act ∷ before)
@@ -44,8 +44,8 @@ fetch_cases : (P : Act → Type 0) (storage : Contents) (orb : Orb) (role : Role
 fetch_cases P storage orb role address b u = fetch_or_check P (role.first && is_program_misplaced orb address) address (fetched storage orb.key address 8) b u
 
 -- a transfer in channel is followed by the block at its target
-follows_block : (storage : Contents) (now : WalkPlace) (acts : List Act) (address target : ℕ) (reading : Reading) → block_advance reading ≡ None → next_after address reading ≡ Some target
-    → with_target storage now reading acts ≡ fetch_act storage now.orb now.role target ∷ acts
+follows_block : (storage : Contents) (now : WalkPlace) (acts : List Act) (address target : ℕ) (reading : Reading) → advance_of_ccw reading ≡ None → next_after address reading ≡ Some target
+    → with_tic_target storage now reading acts ≡ fetch_act storage now.orb now.role target ∷ acts
 follows_block storage now acts address target (Transfers other) h n =
     let same : other ≡ target = cc n in
     ap (λ (t : ℕ). fetch_act storage now.orb now.role t ∷ acts) same
@@ -54,75 +54,75 @@ follows_block storage now acts address target Suspends h n = absurd (cc h)
 follows_block storage now acts address target Shows h n = absurd (cc h)
 
 pub follows : (storage : Contents) (old : WalkPlace) (address target : ℕ) → let act = fetch_act storage old.orb old.role address in
-    act_advance old act ≡ None → (after_act old act).next ≡ Some target → acts_from storage old act ≡ fetch_act storage (after_act old act).orb (after_act old act).role target ∷ act ∷ []
+    advance_of_act old act ≡ None → (after_act old act).next ≡ Some target → acts_from_fetch storage old act ≡ fetch_act storage (after_act old act).orb (after_act old act).role target ∷ act ∷ []
 follows storage old address target =
-    fetch_cases (λ act. act_advance old act ≡ None → (after_act old act).next ≡ Some target → acts_from storage old act ≡ fetch_act storage (after_act old act).orb (after_act old act).role target ∷ act ∷ []) storage old.orb old.role address
+    fetch_cases (λ act. advance_of_act old act ≡ None → (after_act old act).next ≡ Some target → acts_from_fetch storage old act ≡ fetch_act storage (after_act old act).orb (after_act old act).role target ∷ act ∷ []) storage old.orb old.role address
     (λ bytes h n. follows_block storage (after_block old address bytes) (Block address bytes ∷ []) address target (reads old.orb old.role bytes) h n)
     (λ check h n. absurd (cc h))
 
 -- a transfer in channel says of the block at its target that it is one
-role_moves : (reading : Reading) (role : Role) → block_advance reading ≡ None → (role_after role reading).after_transfer ≡ true
+role_moves : (reading : Reading) (role : Role) → advance_of_ccw reading ≡ None → (role_after role reading).after_transfer ≡ true
 role_moves (Transfers target) role h = refl
 role_moves (Takes ccw) role h = absurd (cc h)
 role_moves Suspends role h = absurd (cc h)
 role_moves Shows role h = absurd (cc h)
 
 -- and there the program stands still, since that one is no transfer in channel
-pick : (test : Bool) (left right : Reading) → IsSome (block_advance left) → IsSome (block_advance right) → IsSome (block_advance (if test then left else right))
+pick : (test : Bool) (left right : Reading) → IsSome (advance_of_ccw left) → IsSome (advance_of_ccw right) → IsSome (advance_of_ccw (if test then left else right))
 pick true left right l r = l
 pick false left right l r = r
 
-transfer_stands : (first moved : Bool) (target : ℕ) → moved ≡ true → IsSome (block_advance (if first || moved then Shows else Transfers target))
+transfer_stands : (first moved : Bool) (target : ℕ) → moved ≡ true → IsSome (advance_of_ccw (if first || moved then Shows else Transfers target))
 transfer_stands true moved target h = refl
 transfer_stands false true target h = refl
 transfer_stands false false target h = absurd (cc h)
 
-block_stands : (orb : Orb) (role : Role) (fault : Option CcwFault) (ccw : Ccw) → role.after_transfer ≡ true → IsSome (block_advance (block_reads orb role fault ccw))
+block_stands : (orb : Orb) (role : Role) (fault : Option CcwFault) (ccw : Ccw) → role.after_transfer ≡ true → IsSome (advance_of_ccw (block_reads orb role fault ccw))
 block_stands orb role (Some fault) ccw h = refl
 block_stands orb role None ccw h =
     pick (is_transfer (format_of orb) ccw.command) (transfer_reads role ccw) (command_reads orb role ccw) (transfer_stands role.first role.after_transfer ccw.address h)
     (pick (is_misplaced_command orb role ccw) Shows (if ccw.suspend then Suspends else Takes ccw) refl (pick ccw.suspend Suspends (Takes ccw) refl refl))
 
-reading_stands : (orb : Orb) (role : Role) (bytes : List ℕ) → role.after_transfer ≡ true → IsSome (block_advance (reads orb role bytes))
+reading_stands : (orb : Orb) (role : Role) (bytes : List ℕ) → role.after_transfer ≡ true → IsSome (advance_of_ccw (reads orb role bytes))
 reading_stands orb role bytes h =
     pick (role.first && orb.modified_words) Shows (block_reads orb role (fault_of (format_of orb) bytes) (ccw_of (format_of orb) bytes)) refl (block_stands orb role (fault_of (format_of orb) bytes) (ccw_of (format_of orb) bytes) h)
 
-act_stands : (storage : Contents) (old : WalkPlace) (address : ℕ) → old.role.after_transfer ≡ true → IsSome (act_advance old (fetch_act storage old.orb old.role address))
+act_stands : (storage : Contents) (old : WalkPlace) (address : ℕ) → old.role.after_transfer ≡ true → IsSome (advance_of_act old (fetch_act storage old.orb old.role address))
 act_stands storage old address h =
-    fetch_cases (λ act. IsSome (act_advance old act)) storage old.orb old.role address (λ bytes. reading_stands old.orb old.role bytes h) (λ check. refl)
+    fetch_cases (λ act. IsSome (advance_of_act old act)) storage old.orb old.role address (λ bytes. reading_stands old.orb old.role bytes h) (λ check. refl)
 
-target_stands : (storage : Contents) (old now : WalkPlace) (acts : List Act) (reading : Reading) → now ≡ after_acts old acts → advance_of old acts ≡ block_advance reading → (block_advance reading ≡ None → now.role.after_transfer ≡ true)
-    → IsSome (advance_of old (with_target storage now reading acts))
+target_stands : (storage : Contents) (old now : WalkPlace) (acts : List Act) (reading : Reading) → now ≡ after_acts old acts → advance_of_acts old acts ≡ advance_of_ccw reading → (advance_of_ccw reading ≡ None → now.role.after_transfer ≡ true)
+    → IsSome (advance_of_acts old (with_tic_target storage now reading acts))
 target_stands storage old now acts (Transfers target) n a t =
-    subst (λ (p : WalkPlace). IsSome (act_advance p (fetch_act storage now.orb now.role target))) n (act_stands storage now target (t refl))
+    subst (λ (p : WalkPlace). IsSome (advance_of_act p (fetch_act storage now.orb now.role target))) n (act_stands storage now target (t refl))
 target_stands storage old now acts (Takes ccw) n a t = subst (λ (x : Option Advance). IsSome x) (sym a) refl
 target_stands storage old now acts Suspends n a t = subst (λ (x : Option Advance). IsSome x) (sym a) refl
 target_stands storage old now acts Shows n a t = subst (λ (x : Option Advance). IsSome x) (sym a) refl
 
-pub advance_stands : (storage : Contents) (old : WalkPlace) (next : Option ℕ) → IsSome next → IsSome (advance_of old (acts_at storage old next))
+pub advance_stands : (storage : Contents) (old : WalkPlace) (next : Option ℕ) → IsSome next → IsSome (advance_of_acts old (acts_from_next storage old next))
 advance_stands storage old None s = absurd (cc s)
 advance_stands storage old (Some address) s =
-    fetch_cases (λ act. IsSome (advance_of old (acts_from storage old act))) storage old.orb old.role address
+    fetch_cases (λ act. IsSome (advance_of_acts old (acts_from_fetch storage old act))) storage old.orb old.role address
     (λ bytes. target_stands storage old (after_block old address bytes) (Block address bytes ∷ []) (reads old.orb old.role bytes) refl refl (λ h. role_moves (reads old.orb old.role bytes) old.role h))
     (λ check. refl)
 
-pub rests : (storage : Contents) (old : WalkPlace) (next : Option ℕ) → IsSome (advance_of old (acts_at storage old next)) → IsSome next
+pub rests : (storage : Contents) (old : WalkPlace) (next : Option ℕ) → IsSome (advance_of_acts old (acts_from_next storage old next)) → IsSome next
 rests storage old None s = s
 rests storage old (Some address) s = refl
 
 -- each block is where what was done before says
 program_target : (storage : Contents) (orb : Orb) (now : WalkPlace) (acts before : List Act) (reading : Reading) → IsProgram orb (acts ++ before)
-    → ((target : ℕ) → reading ≡ Transfers target → next_of orb (acts ++ before) ≡ Some target) → IsProgram orb (with_target storage now reading acts ++ before)
+    → ((target : ℕ) → reading ≡ Transfers target → next_of orb (acts ++ before) ≡ Some target) → IsProgram orb (with_tic_target storage now reading acts ++ before)
 program_target storage orb now acts before (Transfers target) p n =
     fetch_cases (λ act. IsProgram orb (act ∷ (acts ++ before))) storage now.orb now.role target (λ bytes. (n target refl, p)) (λ check. (n target refl, p))
 program_target storage orb now acts before (Takes ccw) p n = p
 program_target storage orb now acts before Suspends p n = p
 program_target storage orb now acts before Shows p n = p
 
-pub program_advance : (storage : Contents) (orb : Orb) (before : List Act) (next : Option ℕ) → next_of orb before ≡ next → IsProgram orb before → IsProgram orb (acts_at storage (walk_place orb before) next ++ before)
+pub program_advance : (storage : Contents) (orb : Orb) (before : List Act) (next : Option ℕ) → next_of orb before ≡ next → IsProgram orb before → IsProgram orb (acts_from_next storage (walk_place orb before) next ++ before)
 program_advance storage orb before None e p = p
 program_advance storage orb before (Some address) e p =
-    fetch_cases (λ act. IsProgram orb (acts_from storage (walk_place orb before) act ++ before)) storage orb (role_of orb before) address
+    fetch_cases (λ act. IsProgram orb (acts_from_fetch storage (walk_place orb before) act ++ before)) storage orb (role_of orb before) address
     (λ bytes.
     program_target storage orb (after_block (walk_place orb before) address bytes) (Block address bytes ∷ []) before (reads orb (role_of orb before) bytes) (e, p)
     (λ target h. ap (next_after address) h))

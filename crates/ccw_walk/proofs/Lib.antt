@@ -1,2 +1,1 @@
 pub mod Advances
-pub mod Named

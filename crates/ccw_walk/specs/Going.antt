@@ -4,7 +4,7 @@ use Rattle.orb_block.specs.declared.Orb.{Orb}
 use Rattle.ccw_walk.specs.declared.program.Reading.{Reading}
 use Rattle.ccw_walk.specs.declared.program.Reading.TheVariants.{Transfers}
 use Rattle.ccw_walk.specs.Acts.{Act}
-use Rattle.ccw_walk.specs.Walks.{WalkPlace, walk_place}
+use Rattle.ccw_walk.specs.Places.{WalkPlace, walk_place}
 
 -- wherever what was done before led to the old place, some acts more lead to the new one
 abbrev pub GoesOn : WalkPlace → List Act → WalkPlace → Type 0

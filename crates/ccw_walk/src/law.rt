@@ -5,7 +5,9 @@ ghost use Rattle.orb_block.specs.declared.Orb.{Orb};
 ghost use Rattle.storage_keys.specs.Storage.{Contents};
 ghost use Rattle.ccw_walk.specs.Acts.{Act};
 ghost use Rattle.ccw_walk.specs.Programs.{IsProgram};
-ghost use Rattle.ccw_walk.specs.Walks.{WalkPlace, walk_place, after_act, after_acts, fetch_act, act_advance, advance_acts, advance_of};
+ghost use Rattle.ccw_walk.specs.Places.{WalkPlace, walk_place, after_act, after_acts};
+ghost use Rattle.ccw_walk.specs.Fetching.{fetch_act};
+ghost use Rattle.ccw_walk.specs.Advancing.{advance_of_act, advance_acts, advance_of_acts};
 
 /// Where a program stands some acts further is where it stands after all that was done.
 pub fn places()
@@ -16,12 +18,12 @@ pub fn places()
 /// transfer in channel, and otherwise by one more.
 pub fn advances()
     ensures one { (storage : Contents) (old : WalkPlace) (address : ℕ) → old.next ≡ Some address → let act = fetch_act storage old.orb old.role address in
-        IsSome (act_advance old act) → advance_acts storage old ≡ act ∷ [] }
+        IsSome (advance_of_act old act) → advance_acts storage old ≡ act ∷ [] }
     ensures two { (storage : Contents) (old : WalkPlace) (address target : ℕ) → old.next ≡ Some address → let act = fetch_act storage old.orb old.role address in
-        let middle = after_act old act in act_advance old act ≡ None → middle.next ≡ Some target → advance_acts storage old ≡ fetch_act storage middle.orb middle.role target ∷ act ∷ [] }
+        let middle = after_act old act in advance_of_act old act ≡ None → middle.next ≡ Some target → advance_acts storage old ≡ fetch_act storage middle.orb middle.role target ∷ act ∷ [] }
     ensures moves { (storage : Contents) (old : WalkPlace) (address : ℕ) → old.next ≡ Some address → let act = fetch_act storage old.orb old.role address in
-        act_advance old act ≡ None → IsSome (after_act old act).next }
-    ensures stands { (storage : Contents) (old : WalkPlace) → IsSome (advance_of old (advance_acts storage old)) ↔ IsSome old.next }
+        advance_of_act old act ≡ None → IsSome (after_act old act).next }
+    ensures stands { (storage : Contents) (old : WalkPlace) → IsSome (advance_of_acts old (advance_acts storage old)) ↔ IsSome old.next }
 {}
 
 /// As a program goes on, each block is where what was done before says.

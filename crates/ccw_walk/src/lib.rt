@@ -4,8 +4,10 @@
 ghost use Rattle.std.specs.Prelude.{◌≡◌, ◌+◌, ◌<◌, ◌^◌, ◌↔◌, [], ◌∷◌, Some, IsSome, IfOk, IfErr, OnOk};
 ghost use Rattle.ccw_walk.specs.Acts.{Block, Unfetched, Used_up, End};
 ghost use Rattle.ccw_walk.specs.Blocks.{reads};
-ghost use Rattle.ccw_walk.specs.Walks.{walk_place, after_act, after_acts, fetch_act, advance_acts, act_advance, advance_of};
-ghost use Rattle.ccw_walk.specs.Walks as spec;
+ghost use Rattle.ccw_walk.specs.Places.{walk_place, after_act, after_acts};
+ghost use Rattle.ccw_walk.specs.Fetching.{fetch_act};
+ghost use Rattle.ccw_walk.specs.Advancing.{advance_acts, advance_of_act, advance_of_acts};
+ghost use Rattle.ccw_walk.specs.Fetching as fetching;
 ghost use Rattle.storage_keys.specs.Storage.{fetched as storage_fetched};
 ghost use Rattle.ccw_walk.specs.Going.{GoesOn};
 
@@ -37,7 +39,7 @@ pub struct Walk {
 
 impl Model for Walk {
     ghost use Rattle.std.specs.Prelude.{◌+◌, ◌<◌, ◌^◌, IfSome};
-    ghost use Rattle.ccw_walk.specs.Walks.{WalkPlace};
+    ghost use Rattle.ccw_walk.specs.Places.{WalkPlace};
 
     ghost Value = { WalkPlace };
 
@@ -177,7 +179,7 @@ impl Walk {
     /// A fetch that the key refuses is a protection check. A block outside storage is a program
     /// check, and so is a first one off a doubleword boundary, or past 24 bits in format 0.
     pub fn advance(&mut self, storage: &Storage) -> Option<Advance>
-        ensures answer { result ≡ advance_of self.old (advance_acts storage.now self.old) }
+        ensures answer { result ≡ advance_of_acts self.old (advance_acts storage.now self.old) }
         ensures answered { IsSome result ↔ IsSome self.old.next }
         ensures after { self.new ≡ after_acts self.old (advance_acts storage.now self.old) }
         ensures goes_on { GoesOn self.old (advance_acts storage.now self.old) self.new }
@@ -195,7 +197,7 @@ impl Walk {
     /// Fetches the next block. None where it is a transfer in channel.
     fn step(&mut self, storage: &Storage, address: u32) -> Option<Advance>
         requires { self.old.next ≡ Some address }
-        ensures answer { result ≡ act_advance self.old (fetch_act storage.now self.old.orb self.old.role address) }
+        ensures answer { result ≡ advance_of_act self.old (fetch_act storage.now self.old.orb self.old.role address) }
         ensures after { self.new ≡ after_act self.old (fetch_act storage.now self.old.orb self.old.role address) }
     {
         match self.block_at(storage, address) {
@@ -228,7 +230,7 @@ impl Walk {
 }
 
 fn is_program_misplaced(orb: Orb, address: u32) -> bool
-    ensures { result ≡ spec.is_program_misplaced orb address }
+    ensures { result ≡ fetching.is_program_misplaced orb address }
 {
     address % BLOCK != 0 || !orb.format_one && address >= 1 << 24
 }

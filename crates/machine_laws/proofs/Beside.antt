@@ -2,7 +2,7 @@
 -- a dedicated allegiance.
 use Rattle.std.proofs.Common.{◌≡◌, refl, ℕ, Bool, true, false, Option, None, Some}
 use Rattle.std.specs.Prelude.{if◌then◌else◌}
-use Rattle.ccw_walk.specs.Walks.{WalkPlace}
+use Rattle.ccw_walk.specs.Places.{WalkPlace}
 use Rattle.chan_model.specs.UnitReports.{is_last_end}
 use Rattle.data_move.specs.Moving.{residual}
 use Rattle.transfer.specs.declared.Transfer.{Transfer}
@@ -14,9 +14,13 @@ use Rattle.subchannel_model.specs.declared.state.SubchannelState.{SubchannelStat
 use Rattle.subchannel_model.specs.Causes.{without_begun, without_waiting, programs_after_end, row_of, with_cause}
 use Rattle.subchannel_model.specs.Programs.{without_programs}
 use Rattle.subchannel_model.specs.Test.{tested_wholly, ends_suspended, tested}
-use Rattle.subchannel_model.proofs.Named.{with_pci_of}
-use Rattle.subchannel_model.specs.Taking.{without_pci, interrupted, with_transfer, moving_on, suspending, halt_done, clear_done, with_attention}
-use Rattle.subchannel_model.specs.Parts.{suspended_alone, standing_still}
+use Rattle.subchannel_model.specs.Attention.{with_attention}
+use Rattle.subchannel_model.specs.Pci.{with_pci_of, without_pci, with_pci}
+use Rattle.subchannel_model.specs.Command.{with_transfer}
+use Rattle.subchannel_model.specs.Data.{after_chunk}
+use Rattle.subchannel_model.specs.Suspension.{program_suspended, suspended_alone, with_suspended_program}
+use Rattle.subchannel_model.specs.Accept.{halt_performed}
+use Rattle.subchannel_model.specs.Cleared.{clear_performed}
 
 pub record IsBeside (s x : SubchannelState) : Type 0 where
   pub drawn : x.drawn ≡ s.drawn
@@ -58,24 +62,24 @@ interrupted_by-beside s b =
     (with_cause (record s { begun = Some (without_pci b) }) (cause.Pci b.transfer.walk.tried (residual b.transfer.moving))) s
     (beside s _ refl refl refl refl) (beside s s refl refl refl refl)
 
-pub interrupted-beside : (s : SubchannelState) (b : Option ActiveProgram) → IsBeside s (interrupted s b)
+pub interrupted-beside : (s : SubchannelState) (b : Option ActiveProgram) → IsBeside s (with_pci s b)
 interrupted-beside s None = beside s s refl refl refl refl
 interrupted-beside s (Some b) = interrupted_by-beside s b
 
-pub moving-beside : (s : SubchannelState) (b : ActiveProgram) (t : Transfer) → IsBeside (with_transfer s b t) (moving_on s b t)
+pub moving-beside : (s : SubchannelState) (b : ActiveProgram) (t : Transfer) → IsBeside (with_transfer s b t) (after_chunk s b t)
 moving-beside s b t = interrupted_by-beside (with_transfer s b t) (record b { transfer = t })
 
-pub suspending-beside : (s : SubchannelState) (program : Program) (walk : WalkPlace) (count : ℕ) → IsBeside s (suspending s program walk count)
+pub suspending-beside : (s : SubchannelState) (program : Program) (walk : WalkPlace) (count : ℕ) → IsBeside s (program_suspended s program walk count)
 suspending-beside s program walk count =
     if-both (IsBeside s) program.orb.suppress_suspended
-    (record (standing_still s program walk count) { scsw = suspended_alone s.scsw }) (with_cause (standing_still s program walk count) (cause.Suspension walk.tried count))
+    (record (with_suspended_program s program walk count) { scsw = suspended_alone s.scsw }) (with_cause (with_suspended_program s program walk count) (cause.Suspension walk.tried count))
     (beside s _ refl refl refl refl) (beside s _ refl refl refl refl)
 
-pub halt_done-beside : (s : SubchannelState) → IsBeside s (halt_done s)
-halt_done-beside s = if-both (IsBeside s) s.scsw.activity.halt_pending (with_cause s cause.HaltDone) s (cause-beside s cause.HaltDone) (beside s s refl refl refl refl)
+pub halt_performed-beside : (s : SubchannelState) → IsBeside s (halt_performed s)
+halt_performed-beside s = if-both (IsBeside s) s.scsw.activity.halt_pending (with_cause s cause.HaltDone) s (cause-beside s cause.HaltDone) (beside s s refl refl refl refl)
 
-pub clear_done-beside : (s : SubchannelState) → IsBeside s (clear_done s)
-clear_done-beside s = if-both (IsBeside s) s.scsw.activity.clear_pending (with_cause s cause.ClearDone) s (cause-beside s cause.ClearDone) (beside s s refl refl refl refl)
+pub clear_performed-beside : (s : SubchannelState) → IsBeside s (clear_performed s)
+clear_performed-beside s = if-both (IsBeside s) s.scsw.activity.clear_pending (with_cause s cause.ClearDone) s (cause-beside s cause.ClearDone) (beside s s refl refl refl refl)
 
 pub attention-beside : (s : SubchannelState) (shows : Bool) → IsBeside s (with_attention s shows)
 attention-beside s shows = if-both (IsBeside s) shows (with_cause s cause.Attention) s (cause-beside s cause.Attention) (beside s s refl refl refl refl)

@@ -15,8 +15,11 @@ use Rattle.subchannel_model.specs.declared.state.UpStep.{UpStep}
 use Rattle.subchannel_model.specs.Causes.{with_cause}
 use Rattle.subchannel_model.specs.Losing.{is_offered_or_held, reset_drawn, reset_with}
 use Rattle.subchannel_model.specs.Programs.{has_any}
-use Rattle.subchannel_model.specs.Taking.{ignoring, quietly, let_go, by_hold, clear_done, reset_taken, notice, with_known, with_attention}
-use Rattle.machine_laws.proofs.SameState.{IsSame, cause-same, clear_done-same, attention-same}
+use Rattle.subchannel_model.specs.Notice.{with_known, takes_notice}
+use Rattle.subchannel_model.specs.Attention.{with_attention}
+use Rattle.machine_laws.proofs.SameState.{IsSame, cause-same, attention-same, clear_performed-same}
+use Rattle.subchannel_model.specs.Outcomes.{signal_ignored, signal_taken, device_released, hold_outcome}
+use Rattle.subchannel_model.specs.Cleared.{clear_performed, takes_cleared}
 use Rattle.machine_laws.proofs.Told.{Remembers}
 
 pub record IsCalmHold (h next : HoldState) : Type 0 where
@@ -53,7 +56,7 @@ same-calm s x came same plain =
       sent = plain;
     }
 
-pub ignored-calm : (s : SubchannelState) → IsCalm s (ignoring s)
+pub ignored-calm : (s : SubchannelState) → IsCalm s (signal_ignored s)
 ignored-calm s = record { drawn = omega arith; available = refl; hold = still-hold s.hold; sent = tt }
 
 -- the steps of the hold
@@ -116,12 +119,12 @@ step-calm s x step k same =
       sent = k.sent;
     }
 
-pub by_hold-calm : (s : SubchannelState) (step : Option HoldStep) → IsCalmStep s.hold step → IsCalm s (by_hold s step)
-by_hold-calm s step k = step-calm s (record s { hold = hold_after s.hold step }) step k (record { drawn = refl; hold = refl; available = refl })
+pub hold_outcome-calm : (s : SubchannelState) (step : Option HoldStep) → IsCalmStep s.hold step → IsCalm s (hold_outcome s step)
+hold_outcome-calm s step k = step-calm s (record s { hold = hold_after s.hold step }) step k (record { drawn = refl; hold = refl; available = refl })
 
-pub cleared-calm : (s : SubchannelState) (step : Option HoldStep) → IsCalmStep s.hold step → IsCalm s (reset_taken s step)
+pub cleared-calm : (s : SubchannelState) (step : Option HoldStep) → IsCalmStep s.hold step → IsCalm s (takes_cleared s step)
 cleared-calm s None k = ignored-calm s
-cleared-calm s (Some step) k = step-calm s (clear_done (record s { hold = step.state })) (Some step) k (clear_done-same (record s { hold = step.state }))
+cleared-calm s (Some step) k = step-calm s (clear_performed (record s { hold = step.state })) (Some step) k (clear_performed-same (record s { hold = step.state }))
 
 pub attention-calm : (s : SubchannelState) (shows : Bool) (step : Option HoldStep) → IsCalmStep s.hold step →
     IsCalm s (record { state = with_attention (record s { hold = hold_after s.hold step }) shows; came = came_of step })
@@ -129,7 +132,7 @@ attention-calm s shows step k =
     step-calm s (with_attention (record s { hold = hold_after s.hold step }) shows) step k (attention-same (record s { hold = hold_after s.hold step }) shows)
 
 -- the device is let go
-pub let-calm : (s x : SubchannelState) → IsSame s x → IsCalm s (let_go x)
+pub let-calm : (s x : SubchannelState) → IsSame s x → IsCalm s (device_released x)
 let-calm s x same =
     let k : IsCalmStep x.hold (letting_go x.hold x.hold.phase) = let-step x.hold x.hold.phase in
     record {
@@ -167,11 +170,11 @@ known-hold : (h x : HoldState) (b : ℕ) → IsCalmHold (record h { known = b })
 known-hold h x b k = record { engaged = λ q e. k.engaged q e; offered = λ t q e. k.offered t q e; remembers = λ accepted m. k.remembers accepted m }
 
 notice-by : (s : SubchannelState) (b : ℕ) (more : Bool) →
-    IsCalm s (if more then quietly (reset_with (with_known s b) (is_offered_or_held s.hold.phase && has_any s.waiting s.begun s.suspended)) else ignoring s)
+    IsCalm s (if more then signal_taken (reset_with (with_known s b) (is_offered_or_held s.hold.phase && has_any s.waiting s.begun s.suspended)) else signal_ignored s)
 notice-by s b false = ignored-calm s
 notice-by s b true =
     let k : IsReset (with_known s b) _ = reset-is (with_known s b) in
     record { drawn = k.drawn; available = k.available; hold = known-hold s.hold _ b k.hold; sent = tt }
 
-pub notice-calm : (s : SubchannelState) (b : ℕ) → IsCalm s (notice s b)
+pub notice-calm : (s : SubchannelState) (b : ℕ) → IsCalm s (takes_notice s b)
 notice-calm s b = notice-by s b (nat_lt s.hold.known b)

@@ -6,7 +6,7 @@ use Rattle.chan_model.specs.declared.hold_state.HoldPhase.TheVariants as hold
 use Rattle.chan_model.specs.declared.hold_state.HoldState.{HoldState}
 use Rattle.chan_model.specs.HoldTable.{letting_go, hold_after}
 use Rattle.chan_model.specs.UnitReports.{is_last_end}
-use Rattle.ccw_walk.specs.Walks.{WalkPlace}
+use Rattle.ccw_walk.specs.Places.{WalkPlace}
 use Rattle.data_move.specs.Moving.{residual}
 use Rattle.scsw_irb.specs.declared.serials.Serials.{Serials}
 use Rattle.transfer.specs.declared.Transfer.{Transfer}
@@ -15,13 +15,18 @@ use Rattle.subchannel_model.specs.declared.cause.StatusCause.TheVariants as caus
 use Rattle.subchannel_model.specs.declared.state.ActiveProgram.{ActiveProgram}
 use Rattle.subchannel_model.specs.declared.state.Program.{Program}
 use Rattle.subchannel_model.specs.declared.state.SubchannelState.{SubchannelState}
-use Rattle.subchannel_model.proofs.Named.{with_pci_of}
+use Rattle.subchannel_model.specs.Pci.{with_pci_of, without_pci, with_pci}
 use Rattle.scsw_irb.specs.declared.scsw.Scsw.{Scsw}
 use Rattle.subchannel_model.specs.Causes.{without_begun, without_waiting, programs_after_end, CauseRow, row_of, scsw_before, with_cause, scsw_joined, with_row}
-use Rattle.subchannel_model.specs.Parts.{suspended_alone, standing_still}
+use Rattle.subchannel_model.specs.Suspension.{suspended_alone, with_suspended_program, program_suspended}
 use Rattle.subchannel_model.specs.Losing.{reset_drawn, reset_with}
 use Rattle.subchannel_model.specs.Status.{scsw_made, serials_made}
-use Rattle.subchannel_model.specs.Taking.{let_go, without_pci, interrupted, with_transfer, moving_on, suspending, halt_done, clear_done, with_attention}
+use Rattle.subchannel_model.specs.Attention.{with_attention}
+use Rattle.subchannel_model.specs.Outcomes.{device_released}
+use Rattle.subchannel_model.specs.Command.{with_transfer}
+use Rattle.subchannel_model.specs.Data.{after_chunk}
+use Rattle.subchannel_model.specs.Accept.{halt_performed}
+use Rattle.subchannel_model.specs.Cleared.{clear_performed}
 use Rattle.subchannel_model.specs.declared.state.PmcwState.{PmcwState}
 use Rattle.machine_laws.proofs.Beside.{left-beside}
 
@@ -135,27 +140,27 @@ pci-calm s b =
     if-calm s b.transfer.pci_pending (with_cause x c) s (calm-then s x (with_cause x c) (calm-same s x refl refl refl refl) (cause-calm x c))
     (calm-same s s refl refl refl refl)
 
-pub interrupted-calm : (s : SubchannelState) (b : Option ActiveProgram) → IsCalm s (interrupted s b)
+pub interrupted-calm : (s : SubchannelState) (b : Option ActiveProgram) → IsCalm s (with_pci s b)
 interrupted-calm s None = calm-same s s refl refl refl refl
 interrupted-calm s (Some b) = pci-calm s b
 
-pub moving-calm : (s : SubchannelState) (b : ActiveProgram) (t : Transfer) → IsCalm s (moving_on s b t)
+pub moving-calm : (s : SubchannelState) (b : ActiveProgram) (t : Transfer) → IsCalm s (after_chunk s b t)
 moving-calm s b t =
-    let x : SubchannelState = with_transfer s b t in calm-then s x (moving_on s b t) (calm-same s x refl refl refl refl) (interrupted-calm x x.begun)
+    let x : SubchannelState = with_transfer s b t in calm-then s x (after_chunk s b t) (calm-same s x refl refl refl refl) (interrupted-calm x x.begun)
 
-pub suspending-calm : (s : SubchannelState) (program : Program) (walk : WalkPlace) (count : ℕ) → IsCalm s (suspending s program walk count)
+pub suspending-calm : (s : SubchannelState) (program : Program) (walk : WalkPlace) (count : ℕ) → IsCalm s (program_suspended s program walk count)
 suspending-calm s program walk count =
-    let x : SubchannelState = standing_still s program walk count in
+    let x : SubchannelState = with_suspended_program s program walk count in
     let c : StatusCause = cause.Suspension walk.tried count in
     if-calm s program.orb.suppress_suspended (record x { scsw = suspended_alone s.scsw }) (with_cause x c) (calm-same s _ refl refl refl refl)
     (calm-then s x (with_cause x c) (calm-same s x refl refl refl refl) (cause-calm x c))
 
 -- a halt or a clear that is performed, and an attention
-pub halt_done-calm : (s : SubchannelState) → IsCalm s (halt_done s)
-halt_done-calm s = if-calm s s.scsw.activity.halt_pending (with_cause s cause.HaltDone) s (cause-calm s cause.HaltDone) (calm-same s s refl refl refl refl)
+pub halt_performed-calm : (s : SubchannelState) → IsCalm s (halt_performed s)
+halt_performed-calm s = if-calm s s.scsw.activity.halt_pending (with_cause s cause.HaltDone) s (cause-calm s cause.HaltDone) (calm-same s s refl refl refl refl)
 
-pub clear_done-calm : (s : SubchannelState) → IsCalm s (clear_done s)
-clear_done-calm s = if-calm s s.scsw.activity.clear_pending (with_cause s cause.ClearDone) s (cause-calm s cause.ClearDone) (calm-same s s refl refl refl refl)
+pub clear_performed-calm : (s : SubchannelState) → IsCalm s (clear_performed s)
+clear_performed-calm s = if-calm s s.scsw.activity.clear_pending (with_cause s cause.ClearDone) s (cause-calm s cause.ClearDone) (calm-same s s refl refl refl refl)
 
 pub attention-calm : (s : SubchannelState) (shows : Bool) → IsCalm s (with_attention s shows)
 attention-calm s shows = if-calm s shows (with_cause s cause.Attention) s (cause-calm s cause.Attention) (calm-same s s refl refl refl refl)
@@ -165,8 +170,8 @@ letting-as : (h : HoldState) (phase : HoldPhase) → h.phase ≡ phase → IsAsR
 letting-as h (hold.On t p c) e = record { still = λ n k. absurd (cc k); was = λ n k. absurd (cc k) }
 letting-as h other e = as-same other h.phase e
 
-pub let_go-calm : (s x : SubchannelState) → IsCalm s x → IsCalm s (let_go x).state
-let_go-calm s x k = calm-then s x (let_go x).state k (record { cleared = refl; reset = letting-as x.hold x.hold.phase refl; counts = counts-same x (let_go x).state refl refl })
+pub device_released-calm : (s x : SubchannelState) → IsCalm s x → IsCalm s (device_released x).state
+device_released-calm s x k = calm-then s x (device_released x).state k (record { cleared = refl; reset = letting-as x.hold x.hold.phase refl; counts = counts-same x (device_released x).state refl refl })
 
 -- the hold is to be reset under a fresh number: nothing is cleared
 pub reset-phase : (s : SubchannelState) (shows : Bool) → (reset_with s shows).hold.phase ≡ hold.Reset (s.drawn + 1)
@@ -186,5 +191,5 @@ clear-phase : (s : SubchannelState) (pending : Bool) → (if pending then with_c
 clear-phase s true = refl
 clear-phase s false = refl
 
-pub clear_done-phase : (s : SubchannelState) → (clear_done s).hold.phase ≡ s.hold.phase
-clear_done-phase s = clear-phase s s.scsw.activity.clear_pending
+pub clear_performed-phase : (s : SubchannelState) → (clear_performed s).hold.phase ≡ s.hold.phase
+clear_performed-phase s = clear-phase s s.scsw.activity.clear_pending

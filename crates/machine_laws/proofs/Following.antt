@@ -43,7 +43,10 @@ use Rattle.subchannel_model.specs.Programs.{without_programs, has_any}
 use Rattle.subchannel_model.specs.Sending.{carried_by, finds_full}
 use Rattle.subchannel_model.specs.Start.{started}
 use Rattle.subchannel_model.specs.Places.{one_later}
-use Rattle.subchannel_model.specs.Taking.{ignoring, quietly, reset_taken, takes_up, with_known}
+use Rattle.subchannel_model.specs.Taking.{takes_up}
+use Rattle.subchannel_model.specs.Notice.{with_known}
+use Rattle.subchannel_model.specs.Outcomes.{signal_ignored, signal_taken}
+use Rattle.subchannel_model.specs.Cleared.{takes_cleared}
 use Rattle.subchannel_model.specs.Status.{intermediate_alone, without_status}
 use Rattle.subchannel_model.specs.SystemReset.{state_reset}
 use Rattle.subchannel_model.specs.Test.{ended_scsw, suspended_scsw, intermediate_cleared, ends_suspended, tested, tested_wholly}
@@ -64,7 +67,7 @@ use Rattle.step_laws.proofs.Places.{set-get, map-get}
 use Rattle.machine_laws.specs.Clearing.{IsClearing}
 use Rattle.machine_laws.specs.Resets.{RestsOn, IsResetCause, IsCleared}
 use Rattle.machine_laws.proofs.Moves.{if-ok}
-use Rattle.machine_laws.proofs.CalmStatus.{IsAsReset, as-same, Counts, counts-same, counts-zero, IsCalm, calm-same, cause-calm, clear_done-calm, reset-phase, reset-cleared, reset-counts, clear_done-phase}
+use Rattle.machine_laws.proofs.CalmStatus.{IsAsReset, as-same, Counts, counts-same, counts-zero, IsCalm, calm-same, cause-calm, clear_performed-calm, reset-phase, reset-cleared, reset-counts, clear_performed-phase}
 use Rattle.machine_laws.proofs.CalmSignals.{takes-calm}
 
 -- a hold that is to be reset is so still and no other is, or is reset for a cause under a fresh number, or its reset ends
@@ -260,24 +263,24 @@ module _ (s : State) where
   clearing-follows : (word path place : ℕ) (sub : Subchannel) (r n : ℕ) (same : Bool) → place_of s word ≡ Some place →
       sub.state.hold.phase ≡ hold.Reset n → (r == n) ≡ same →
       FollowsUp word path place sub (up.Cleared r)
-      (reset_taken sub.state
+      (takes_cleared sub.state
       (if same then Some (record { state = record sub.state.hold { phase = hold.Free; reset_path = None }; sent = None }) else None))
   clearing-follows word path place sub r n true at h e =
       let x : SubchannelState = record sub.state { hold = record sub.state.hold { phase = hold.Free; reset_path = None } } in
-      record { clears = inl (clear_done-calm x).cleared; change = Ends n (at, eqb-true r n e) h (clear_done-phase x); counts = (clear_done-calm x).counts }
+      record { clears = inl (clear_performed-calm x).cleared; change = Ends n (at, eqb-true r n e) h (clear_performed-phase x); counts = (clear_performed-calm x).counts }
   clearing-follows word path place sub r n false at h e =
       same-follows (event.Up word path) (reply.Up (up.Cleared r) false None) place sub sub.state refl
 
   cleared-follows : (word path place : ℕ) (sub : Subchannel) (phase : HoldPhase) (r : ℕ) → place_of s word ≡ Some place →
       sub.state.hold.phase ≡ phase →
-      FollowsUp word path place sub (up.Cleared r) (reset_taken sub.state (reset_cleared sub.state.hold phase r))
+      FollowsUp word path place sub (up.Cleared r) (takes_cleared sub.state (reset_cleared sub.state.hold phase r))
   cleared-follows word path place sub (hold.Reset n) r at h = clearing-follows word path place sub r n (r == n) at h refl
   cleared-follows word path place sub other r at h =
       same-follows (event.Up word path) (reply.Up (up.Cleared r) false None) place sub sub.state refl
 
   notice-follows : (word path place : ℕ) (sub : Subchannel) (b : ℕ) (more : Bool) → place_of s word ≡ Some place →
       nat_lt sub.state.hold.known b ≡ more →
-      FollowsUp word path place sub (up.Notice b) (if more then quietly (reset_for (with_known sub.state b)) else ignoring sub.state)
+      FollowsUp word path place sub (up.Notice b) (if more then signal_taken (reset_for (with_known sub.state b)) else signal_ignored sub.state)
   notice-follows word path place sub b true at e =
       let shows : Bool = is_offered_or_held sub.state.hold.phase && has_any sub.state.waiting sub.state.begun sub.state.suspended in
       record {

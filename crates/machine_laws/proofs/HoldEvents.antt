@@ -18,7 +18,7 @@ use Rattle.agreement_laws.specs.Moving.{reset_again, Offers, Sends_reset, Lets_g
 use Rattle.subchannel_model.specs.declared.signals.DataSignal.{DataSignal}
 use Rattle.subchannel_model.specs.declared.signals.EndSignal.{EndSignal}
 use Rattle.subchannel_model.specs.declared.state.ActiveProgram.{ActiveProgram}
-use Rattle.ccw_walk.specs.Walks.{WalkPlace}
+use Rattle.ccw_walk.specs.Places.{WalkPlace}
 use Rattle.subchannel_model.specs.declared.state.Chosen.{Chosen}
 use Rattle.subchannel_model.specs.declared.state.Chosen.TheVariants as chosen
 use Rattle.subchannel_model.specs.declared.state.Subchannel.{Subchannel}
@@ -30,7 +30,9 @@ use Rattle.chan_model.specs.Loads.{load_length}
 use Rattle.transfer.specs.declared.NextChunk.{NextChunk}
 use Rattle.transfer.specs.declared.WithRoom.{WithRoom}
 use Rattle.transfer.specs.Commands.{first_command, next_command, begun_with_room, with_room}
-use Rattle.transfer.specs.Chunks.{taken_by_device, next_given, brought, is_answered}
+use Rattle.transfer.specs.ToDevice.{chunk_absorbed, next_chunk}
+use Rattle.transfer.specs.FromDevice.{chunk_stored}
+use Rattle.transfer.specs.ChunkNumbers.{is_answered}
 use Rattle.subchannel_model.specs.Clear.{cleared}
 use Rattle.subchannel_model.specs.declared.state.UpStep.{UpStep}
 use Rattle.subchannel_model.specs.declared.cause.StatusCause.TheVariants as cause
@@ -43,13 +45,20 @@ use Rattle.machine_model.specs.Turns.{SubTurn, UpTurn}
 use Rattle.machine_model.specs.ChooseSteps.{choose_sub}
 use Rattle.subchannel_model.specs.Sending.{carried_by, finds_full}
 use Rattle.machine_model.specs.UpSteps.{up_front, up_sub}
-use Rattle.subchannel_model.proofs.Named.{give_next}
-use Rattle.subchannel_model.specs.Taking.{Met, meets, ignoring, quietly, sending, let_go, by_hold, moving_on, giving, answering, take_in, standing, goes_ahead, path_used, taking_over, interrupted, suspending, beginning, begin_standing, halt_done, accept, move_bytes, move_data, with_end, end_taken, chaining, goes_on, stops_at, command_ended, end_of, reset_taken, may_attend, takes_up, with_known, with_attention}
-use Rattle.subchannel_model.specs.Parts.{chain_with, end_shown_at}
+use Rattle.subchannel_model.specs.Taking.{takes_up}
+use Rattle.subchannel_model.specs.Notice.{with_known}
+use Rattle.subchannel_model.specs.Attention.{with_attention, may_take_attention}
 use Rattle.subchannel_model.specs.Programs.{has_any}
+use Rattle.subchannel_model.specs.Data.{gives_next_chunk, after_chunk, gives_chunk, tells_room, tells_room_after, moves_bytes, moves_data}
+use Rattle.subchannel_model.specs.Outcomes.{SignalOutcome, with_storage, signal_ignored, signal_taken, signal_answered, device_released, hold_outcome}
+use Rattle.subchannel_model.specs.Accept.{offered_position, takes_device, with_path_used, with_program_at_work, first_ccw_outcome, begins_at, halt_performed, takes_accept}
+use Rattle.subchannel_model.specs.Pci.{with_pci}
+use Rattle.subchannel_model.specs.Suspension.{program_suspended}
+use Rattle.subchannel_model.specs.End.{with_first_end, with_allegiance_after_end, next_ccw_outcome, chains_at_device_end, concludes, ends_command, ends_at_work, chains_with, with_end_status}
+use Rattle.subchannel_model.specs.Cleared.{takes_cleared}
 use Rattle.subchannel_model.specs.Losing.{is_offered_or_held, reset_for}
 use Rattle.machine_laws.proofs.Resetting.{reset-acted}
-use Rattle.machine_laws.proofs.SameHold.{IsSameHold, same-hold, same-then, cause-same, interrupted-same, moving-same, suspending-same, halt_done-same, clear_done-same, attention-same}
+use Rattle.machine_laws.proofs.SameHold.{IsSameHold, same-hold, same-then, cause-same, interrupted-same, moving-same, suspending-same, halt_performed-same, clear_performed-same, attention-same}
 use Rattle.machine_laws.proofs.Growth.{covers-taken, covers-first, IsLink, Keeps, IsAt, Reaches, stays, acts, chain, IsReached, reached}
 
 -- what a subchannel does is acts of its hold, and left it so set up
@@ -70,11 +79,11 @@ if-leaves : (l : Link) (b : Bool) (x y : UpStep) → Leaves l x → Leaves l y �
 if-leaves l true x y e f = e
 if-leaves l false x y e f = f
 
-if-meets : (l : Link) (b : Bool) (x y : Met) → Leaves l x.step → Leaves l y.step → Leaves l (if b then x else y).step
+if-meets : (l : Link) (b : Bool) (x y : SignalOutcome) → Leaves l x.step → Leaves l y.step → Leaves l (if b then x else y).step
 if-meets l true x y e f = e
 if-meets l false x y e f = f
 
-ignored : (l : Link) (s : SubchannelState) → IsOf l s → Leaves l (ignoring s)
+ignored : (l : Link) (s : SubchannelState) → IsOf l s → Leaves l (signal_ignored s)
 ignored l s at = stays l s.drawn s.hold at
 
 stepped-is : (n : ℕ) (h : HoldState) (step : Option HoldStep) → hold_stepped n h step ≡ record { drawn = n; hold = hold_after h step; sent = (came_of step).sent }
@@ -110,73 +119,73 @@ reaches-same : (l : Link) (s x : SubchannelState) (one : Option (OnPath Down)) �
     Reaches l (record { drawn = x.drawn; hold = x.hold; sent = one })
 reaches-same l s x one h r = record { link = r.link; leads = r.leads; at = still-of r.link s x h r.at; downs = r.downs; sent = r.sent; ups = r.ups; accepted = r.accepted }
 
-quiet-leaves : (l : Link) (s x : SubchannelState) → IsSameHold s x → IsOf l s → Leaves l (quietly x)
+quiet-leaves : (l : Link) (s x : SubchannelState) → IsSameHold s x → IsOf l s → Leaves l (signal_taken x)
 quiet-leaves l s x h at = stays l x.drawn x.hold (still-of l s x h at)
 
-reset-leaves : (l : Link) (s : SubchannelState) (step : Option HoldStep) → Leaves l (by_hold s step) → Leaves l (reset_taken s step)
+reset-leaves : (l : Link) (s : SubchannelState) (step : Option HoldStep) → Leaves l (hold_outcome s step) → Leaves l (takes_cleared s step)
 reset-leaves l s None r = r
-reset-leaves l s (Some step) r = reaches-same l (record s { hold = step.state }) _ step.sent (clear_done-same (record s { hold = step.state })) r
+reset-leaves l s (Some step) r = reaches-same l (record s { hold = step.state }) _ step.sent (clear_performed-same (record s { hold = step.state })) r
 
 module _ (keeps : Keeps) where
-  let_go-leaves : (l : Link) (n : ℕ) (h : HoldState) → IsAt l n h →
+  device_released-leaves : (l : Link) (n : ℕ) (h : HoldState) → IsAt l n h →
       Reaches l (record { drawn = n; hold = hold_after h (letting_go h h.phase); sent = (came_of (letting_go h h.phase)).sent })
-  let_go-leaves l n h at = acts keeps l n h Lets_go _ tt at (stepped-is n h (letting_go h h.phase))
+  device_released-leaves l n h at = acts keeps l n h Lets_go _ tt at (stepped-is n h (letting_go h h.phase))
 
-  by_hold-leaves : (returns : Bool) → (l : Link) (s : SubchannelState) (p : ℕ) (x : Up) → Contains l.ups (record { path = p; signal = x }) → IsOf l s →
+  hold_outcome-leaves : (returns : Bool) → (l : Link) (s : SubchannelState) (p : ℕ) (x : Up) → Contains l.ups (record { path = p; signal = x }) → IsOf l s →
       hold_acts s.drawn s.hold (Takes (record { path = p; signal = x }) returns) ≡ hold_stepped s.drawn s.hold (hold_takes s.hold p x returns) →
-      Leaves l (by_hold s (hold_takes s.hold p x returns))
-  by_hold-leaves returns l s p x c at e =
+      Leaves l (hold_outcome s (hold_takes s.hold p x returns))
+  hold_outcome-leaves returns l s p x c at e =
       acts keeps l s.drawn s.hold (Takes (record { path = p; signal = x }) returns) _ c at (e ∙ stepped-is s.drawn s.hold (hold_takes s.hold p x returns))
 
   -- Notice
   notice-leaves : (l : Link) (s : SubchannelState) (p b : ℕ) (more : Bool) → Contains l.ups (record { path = p; signal = up.Notice b }) → IsOf l s → nat_lt s.hold.known b ≡ more →
-      Leaves l (if more then quietly (reset_for (with_known s b)) else ignoring s)
+      Leaves l (if more then signal_taken (reset_for (with_known s b)) else signal_ignored s)
   notice-leaves l s p b true c at e =
       acts keeps l s.drawn s.hold (Takes (record { path = p; signal = up.Notice b }) false) _ c at
       (ap (λ (m : Bool). if m then reset_again s.drawn (record s.hold { known = b }) else still s.drawn s.hold) e
       ∙ reset-acted (with_known s b) (is_offered_or_held s.hold.phase && has_any s.waiting s.begun s.suspended))
   notice-leaves l s p b false c at e = ignored l s at
 
-  let-leaves : (l : Link) (s x : SubchannelState) → IsSameHold s x → IsOf l s → Leaves l (let_go x)
-  let-leaves l s x h at = let_go-leaves l x.drawn x.hold (still-of l s x h at)
+  let-leaves : (l : Link) (s x : SubchannelState) → IsSameHold s x → IsOf l s → Leaves l (device_released x)
+  let-leaves l s x h at = device_released-leaves l x.drawn x.hold (still-of l s x h at)
 
   -- a signal of its program is sent
-  command-leaves : (l : Link) (s x : SubchannelState) (p t n code room : ℕ) → IsSameHold s x → IsOf l s → Leaves l (sending x p (down.Command t n code room))
+  command-leaves : (l : Link) (s x : SubchannelState) (p t n code room : ℕ) → IsSameHold s x → IsOf l s → Leaves l (signal_answered x p (down.Command t n code room))
   command-leaves l s x p t n code room h at = acts keeps l x.drawn x.hold (Sends _) _ tt (still-of l s x h at) refl
 
   -- Accept: the program that was offered begins or goes on, or lets the device go
   beginning-leaves : (storage : Contents) (l : Link) (s : SubchannelState) (p t : ℕ) (st : ProgramPosition) (walk : WalkPlace) (r : CommandStart) → IsOf l s →
-      Leaves l (beginning storage s p t st walk r)
+      Leaves l (first_ccw_outcome storage s p t st walk r)
   beginning-leaves storage l s p t st walk (came.Begins transfer) at =
-      let next = taking_over s st.program (begun_with_room storage transfer).transfer in
-      command-leaves l s (interrupted next next.begun) p t _ _ _ (same-then s next (interrupted next next.begun) (same-hold s next refl refl) (interrupted-same next next.begun)) at
-  beginning-leaves storage l s p t st walk came.Suspends at = let-leaves l s (suspending s st.program walk st.count) (suspending-same s st.program walk st.count) at
+      let next = with_program_at_work s st.program (begun_with_room storage transfer).transfer in
+      command-leaves l s (with_pci next next.begun) p t _ _ _ (same-then s next (with_pci next next.begun) (same-hold s next refl refl) (interrupted-same next next.begun)) at
+  beginning-leaves storage l s p t st walk came.Suspends at = let-leaves l s (program_suspended s st.program walk st.count) (suspending-same s st.program walk st.count) at
   beginning-leaves storage l s p t st walk (came.Stops check) at =
       let-leaves l s (with_cause s (cause.FetchFault walk.tried check st.count)) (cause-same s (cause.FetchFault walk.tried check st.count)) at
 
-  begin-leaves : (storage : Contents) (l : Link) (s : SubchannelState) (p t : ℕ) (st : Option ProgramPosition) → IsOf l s → Leaves l (begin_standing storage s p t st)
+  begin-leaves : (storage : Contents) (l : Link) (s : SubchannelState) (p t : ℕ) (st : Option ProgramPosition) → IsOf l s → Leaves l (begins_at storage s p t st)
   begin-leaves storage l s p t None at = ignored l s at
   begin-leaves storage l s p t (Some st) at = beginning-leaves storage l s p t st (first_command storage st.walk).walk (first_command storage st.walk).came at
 
   -- the hold offers the number u, or another
   begun-leaves : (storage : Contents) (l : Link) (s : SubchannelState) (h : HoldState) (p t q u : ℕ) (may same : Bool) →
       Contains l.ups (record { path = p; signal = up.Accept u }) → IsAt l s.drawn (record h { phase = hold.Offer t q }) → (u == t) ≡ same →
-      Leaves l (accept storage (record s { hold = record h { phase = hold.Offer t q } }) (if same then Some (program_begun (record h { phase = hold.Offer t q }) t q may) else None))
+      Leaves l (takes_accept storage (record s { hold = record h { phase = hold.Offer t q } }) (if same then Some (program_begun (record h { phase = hold.Offer t q }) t q may) else None))
   begun-leaves storage l s h p t q u true true c at e =
       chain l (still s.drawn (record h { phase = hold.On t q 0; seen = 0; first_path = Some q })) _
       (acts keeps l s.drawn (record h { phase = hold.Offer t q }) (Takes (record { path = p; signal = up.Accept u }) true) _ c at
       (ap (λ (b : Bool). hold_stepped s.drawn (record h { phase = hold.Offer t q }) (if b then Some (program_begun (record h { phase = hold.Offer t q }) t q true) else None)) e))
-      (λ m on. begin-leaves storage m (record s { hold = record h { phase = hold.On t q 0; seen = 0; first_path = Some q }; pmcw = path_used s.pmcw q }) q t (standing s) on)
+      (λ m on. begin-leaves storage m (record s { hold = record h { phase = hold.On t q 0; seen = 0; first_path = Some q }; pmcw = with_path_used s.pmcw q }) q t (offered_position s) on)
   begun-leaves storage l s h p t q u false true c at e =
-      let next = record s { hold = record h { phase = hold.Letting t q; seen = 0; first_path = Some q }; pmcw = path_used s.pmcw q } in
-      reaches-same l next (halt_done next) (Some (record { path = q; signal = down.Release t })) (halt_done-same next)
+      let next = record s { hold = record h { phase = hold.Letting t q; seen = 0; first_path = Some q }; pmcw = with_path_used s.pmcw q } in
+      reaches-same l next (halt_performed next) (Some (record { path = q; signal = down.Release t })) (halt_performed-same next)
       (acts keeps l s.drawn (record h { phase = hold.Offer t q }) (Takes (record { path = p; signal = up.Accept u }) false) _ c at
       (ap (λ (b : Bool). hold_stepped s.drawn (record h { phase = hold.Offer t q }) (if b then Some (program_begun (record h { phase = hold.Offer t q }) t q false) else None)) e))
   begun-leaves storage l s h p t q u may false c at e = stays l s.drawn (record h { phase = hold.Offer t q }) at
 
   accept-leaves : (storage : Contents) (l : Link) (s : SubchannelState) (h : HoldState) (phase : HoldPhase) (p u : ℕ) (may : Bool) →
       Contains l.ups (record { path = p; signal = up.Accept u }) → IsAt l s.drawn (record h { phase = phase }) →
-      Leaves l (accept storage (record s { hold = record h { phase = phase } }) (hold_takes (record h { phase = phase }) p (up.Accept u) may))
+      Leaves l (takes_accept storage (record s { hold = record h { phase = phase } }) (hold_takes (record h { phase = phase }) p (up.Accept u) may))
   accept-leaves storage l s h hold.Free p u may c at = stays l s.drawn (record h { phase = hold.Free }) at
   accept-leaves storage l s h (hold.Offer t q) p u may c at = begun-leaves storage l s h p t q u may (u == t) c at refl
   accept-leaves storage l s h (hold.On t q d) p u may c at = stays l s.drawn (record h { phase = hold.On t q d }) at
@@ -185,74 +194,74 @@ module _ (keeps : Keeps) where
   accept-leaves storage l s h (hold.Reset r) p u may c at = stays l s.drawn (record h { phase = hold.Reset r }) at
 
   -- Data
-  given-leaves : (l : Link) (s : SubchannelState) (b : ActiveProgram) (signal : DataSignal) (given : NextChunk) → IsOf l s → Leaves l (giving s b signal given)
+  given-leaves : (l : Link) (s : SubchannelState) (b : ActiveProgram) (signal : DataSignal) (given : NextChunk) → IsOf l s → Leaves l (gives_chunk s b signal given)
   given-leaves l s b signal given at =
-      let x = moving_on s b given.transfer in acts keeps l x.drawn x.hold (Sends _) _ tt (still-of l s x (moving-same s b given.transfer) at) refl
+      let x = after_chunk s b given.transfer in acts keeps l x.drawn x.hold (Sends _) _ tt (still-of l s x (moving-same s b given.transfer) at) refl
 
-  answer-leaves : (l : Link) (s : SubchannelState) (b : ActiveProgram) (signal : DataSignal) (roomy : WithRoom) → IsOf l s → Leaves l (answering s b signal roomy)
+  answer-leaves : (l : Link) (s : SubchannelState) (b : ActiveProgram) (signal : DataSignal) (roomy : WithRoom) → IsOf l s → Leaves l (tells_room s b signal roomy)
   answer-leaves l s b signal roomy at =
-      let x = moving_on s b roomy.transfer in acts keeps l x.drawn x.hold (Sends _) _ tt (still-of l s x (moving-same s b roomy.transfer) at) refl
+      let x = after_chunk s b roomy.transfer in acts keeps l x.drawn x.hold (Sends _) _ tt (still-of l s x (moving-same s b roomy.transfer) at) refl
 
   move-leaves : (storage : Contents) (l : Link) (s : SubchannelState) (b : Option ActiveProgram) (signal : DataSignal) (load : Load) → IsOf l s →
-      Leaves l (move_data storage s b signal load).step
+      Leaves l (moves_data storage s b signal load).step
   move-leaves storage l s None signal load at = ignored l s at
   move-leaves storage l s (Some b) signal load at =
-      if-meets l (is_answered b.transfer signal.command signal.sequence) (move_bytes storage s b signal load) (meets storage (ignoring s))
-      (if-meets l (is_outward b.transfer.code) (meets storage (give_next storage s b signal (load_length load))) (take_in s b signal (brought storage b.transfer signal.sequence (load_bytes load)))
-      (given-leaves l s b signal (next_given storage (taken_by_device storage b.transfer signal.sequence (load_length load))) at)
-      (answer-leaves l s b signal (with_room (brought storage b.transfer signal.sequence (load_bytes load)).storage (brought storage b.transfer signal.sequence (load_bytes load)).transfer) at))
+      if-meets l (is_answered b.transfer signal.command signal.sequence) (moves_bytes storage s b signal load) (with_storage storage (signal_ignored s))
+      (if-meets l (is_outward b.transfer.code) (with_storage storage (gives_next_chunk storage s b signal (load_length load))) (tells_room_after s b signal (chunk_stored storage b.transfer signal.sequence (load_bytes load)))
+      (given-leaves l s b signal (next_chunk storage (chunk_absorbed storage b.transfer signal.sequence (load_length load))) at)
+      (answer-leaves l s b signal (with_room (chunk_stored storage b.transfer signal.sequence (load_bytes load)).storage (chunk_stored storage b.transfer signal.sequence (load_bytes load)).transfer) at))
       (ignored l s at)
 
   -- End
   chaining-leaves : (storage : Contents) (l : Link) (s : SubchannelState) (b : ActiveProgram) (signal : EndSignal) (walk : WalkPlace) (r : CommandStart) → IsOf l s →
-      Leaves l (chaining storage s b signal walk r)
+      Leaves l (next_ccw_outcome storage s b signal walk r)
   chaining-leaves storage l s b signal walk (came.Begins transfer) at =
-      let x = moving_on s b (begun_with_room storage transfer).transfer in
+      let x = after_chunk s b (begun_with_room storage transfer).transfer in
       command-leaves l s x signal.path signal.number _ _ _ (moving-same s b (begun_with_room storage transfer).transfer) at
   chaining-leaves storage l s b signal walk came.Suspends at =
-      let x = suspending (end_taken s signal) b.program walk (residual b.transfer.moving) in
-      let-leaves l (end_taken s signal) x (suspending-same (end_taken s signal) b.program walk (residual b.transfer.moving)) at
+      let x = program_suspended (with_allegiance_after_end s signal) b.program walk (residual b.transfer.moving) in
+      let-leaves l (with_allegiance_after_end s signal) x (suspending-same (with_allegiance_after_end s signal) b.program walk (residual b.transfer.moving)) at
   chaining-leaves storage l s b signal walk (came.Stops check) at =
-      let x = with_cause (end_taken s signal) (cause.FetchFault walk.tried check (residual b.transfer.moving)) in
-      let-leaves l (end_taken s signal) x (cause-same (end_taken s signal) (cause.FetchFault walk.tried check (residual b.transfer.moving))) at
+      let x = with_cause (with_allegiance_after_end s signal) (cause.FetchFault walk.tried check (residual b.transfer.moving)) in
+      let-leaves l (with_allegiance_after_end s signal) x (cause-same (with_allegiance_after_end s signal) (cause.FetchFault walk.tried check (residual b.transfer.moving))) at
 
-  stops-leaves : (l : Link) (s : SubchannelState) (b : ActiveProgram) (signal : EndSignal) → IsOf l s → Leaves l (stops_at s b signal)
+  stops-leaves : (l : Link) (s : SubchannelState) (b : ActiveProgram) (signal : EndSignal) → IsOf l s → Leaves l (concludes s b signal)
   stops-leaves l s b signal at =
       let e : IsSameHold s (with_cause s (cause.End b signal.status signal.more)) = cause-same s (cause.End b signal.status signal.more) in
-      let x = end_shown_at s b signal in
+      let x = with_end_status s b signal in
       let same : IsSameHold s x = same-hold s x e.drawn e.hold in
-      if-leaves l (is_last_end signal.status) (let_go x) (quietly x) (let-leaves l s x same at) (quiet-leaves l s x same at)
+      if-leaves l (is_last_end signal.status) (device_released x) (signal_taken x) (let-leaves l s x same at) (quiet-leaves l s x same at)
 
-  end_of-leaves : (storage : Contents) (l : Link) (s : SubchannelState) (b : Option ActiveProgram) (signal : EndSignal) → IsOf l s →
-      Leaves l (end_of storage s b signal)
-  end_of-leaves storage l s None signal at = ignored l s at
-  end_of-leaves storage l s (Some b) signal at =
-      if-leaves l (signal.command == b.transfer.command) (command_ended storage s b signal) (ignoring s)
-      (if-leaves l (chains_command s.scsw b signal.status signal.more) (goes_on storage s (with_end b) signal) (stops_at s b signal)
-      (if-leaves l (has_device_end signal.status) (chain_with storage s (with_end b) signal (next_command storage (with_end b).transfer (has_status_modifier signal.status))) _
-      (chaining-leaves storage l s (with_end b) signal _ _ at) (stays l s.drawn s.hold at))
+  ends_at_work-leaves : (storage : Contents) (l : Link) (s : SubchannelState) (b : Option ActiveProgram) (signal : EndSignal) → IsOf l s →
+      Leaves l (ends_at_work storage s b signal)
+  ends_at_work-leaves storage l s None signal at = ignored l s at
+  ends_at_work-leaves storage l s (Some b) signal at =
+      if-leaves l (signal.command == b.transfer.command) (ends_command storage s b signal) (signal_ignored s)
+      (if-leaves l (chains_command s.scsw b signal.status signal.more) (chains_at_device_end storage s (with_first_end b) signal) (concludes s b signal)
+      (if-leaves l (has_device_end signal.status) (chains_with storage s (with_first_end b) signal (next_command storage (with_first_end b).transfer (has_status_modifier signal.status))) _
+      (chaining-leaves storage l s (with_first_end b) signal _ _ at) (stays l s.drawn s.hold at))
       (stops-leaves l s b signal at))
       (ignored l s at)
 
   takes-leaves : (returns : Bool) → (storage : Contents) (l : Link) (s : SubchannelState) (p : ℕ) (x : Up) → Contains l.ups (record { path = p; signal = x }) → IsOf l s →
       Leaves l (takes_up returns storage s p x).step
-  takes-leaves returns storage l s p (up.Accept t) c at = accept-leaves storage l s s.hold s.hold.phase p t (goes_ahead s) c at
-  takes-leaves returns storage l s p (up.Busy t) c at = by_hold-leaves false l s p (up.Busy t) c at refl
-  takes-leaves returns storage l s p (up.Leave t d) c at = by_hold-leaves false l s p (up.Leave t d) c at refl
-  takes-leaves returns storage l s p (up.Back t d) c at = by_hold-leaves returns l s p (up.Back t d) c at refl
+  takes-leaves returns storage l s p (up.Accept t) c at = accept-leaves storage l s s.hold s.hold.phase p t (takes_device s) c at
+  takes-leaves returns storage l s p (up.Busy t) c at = hold_outcome-leaves false l s p (up.Busy t) c at refl
+  takes-leaves returns storage l s p (up.Leave t d) c at = hold_outcome-leaves false l s p (up.Leave t d) c at refl
+  takes-leaves returns storage l s p (up.Back t d) c at = hold_outcome-leaves returns l s p (up.Back t d) c at refl
   takes-leaves returns storage l s p (up.Data load t d n seq) c at =
-      if-meets l (is_connected s.hold.phase p t d) (move_data storage s s.begun (record { path = p; number = t; connection = d; command = n; sequence = seq }) load) (meets storage (ignoring s))
+      if-meets l (is_connected s.hold.phase p t d) (moves_data storage s s.begun (record { path = p; number = t; connection = d; command = n; sequence = seq }) load) (with_storage storage (signal_ignored s))
       (move-leaves storage l s s.begun (record { path = p; number = t; connection = d; command = n; sequence = seq }) load at) (ignored l s at)
   takes-leaves returns storage l s p (up.End t n status more) c at =
-      if-leaves l (is_on s.hold.phase t) _ (ignoring s) (end_of-leaves storage l s s.begun (record { path = p; number = t; command = n; status = status; more = more }) at) (ignored l s at)
-  takes-leaves returns storage l s p (up.Released t) c at = by_hold-leaves false l s p (up.Released t) c at refl
-  takes-leaves returns storage l s p (up.Cleared r) c at = reset-leaves l s (hold_takes s.hold p (up.Cleared r) false) (by_hold-leaves false l s p (up.Cleared r) c at refl)
+      if-leaves l (is_on s.hold.phase t) _ (signal_ignored s) (ends_at_work-leaves storage l s s.begun (record { path = p; number = t; command = n; status = status; more = more }) at) (ignored l s at)
+  takes-leaves returns storage l s p (up.Released t) c at = hold_outcome-leaves false l s p (up.Released t) c at refl
+  takes-leaves returns storage l s p (up.Cleared r) c at = reset-leaves l s (hold_takes s.hold p (up.Cleared r) false) (hold_outcome-leaves false l s p (up.Cleared r) c at refl)
   takes-leaves returns storage l s p (up.Notice b) c at = notice-leaves l s p b (nat_lt s.hold.known b) c at refl
   takes-leaves returns storage l s p (up.Attn a status) c at =
-      let step : Option HoldStep = hold_takes s.hold p (up.Attn a status) (may_attend s) in
+      let step : Option HoldStep = hold_takes s.hold p (up.Attn a status) (may_take_attention s) in
       let shows : Bool = (came_of step).taken && not (status.0 == 0x20) in
-      reaches-same l (by_hold s step).state (with_attention (by_hold s step).state shows) (came_of step).sent (attention-same (by_hold s step).state shows)
-      (by_hold-leaves (may_attend s) l s p (up.Attn a status) c at refl)
+      reaches-same l (hold_outcome s step).state (with_attention (hold_outcome s step).state shows) (came_of step).sent (attention-same (hold_outcome s step).state shows)
+      (hold_outcome-leaves (may_take_attention s) l s p (up.Attn a status) c at refl)
 
   up_front-turns : (returns : Bool) → (storage : Contents) (sub : Subchannel) (path : ℕ) (front : Option Up) → slice_get (queue sub.wires.up path) 0 ≡ front →
       IsUpTurn sub (up_front returns storage sub path front)

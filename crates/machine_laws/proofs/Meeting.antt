@@ -3,7 +3,7 @@
 use Rattle.std.proofs.Common.{◌≡◌, refl, sym, ◌∙◌, ap, subst, ℕ, ◌≤◌, ◌==◌, ◌&&◌, nat_lt, Bool, true, false, not, Option, None, Some, if◌then◌else◌, inl, inr, arith}
 use Rattle.std.specs.Prelude.{◌⊎◌, unwrap_or}
 use Rattle.std.proofs.lemmas.Bool.{eqb-true}
-use Rattle.ccw_walk.specs.Walks.{WalkPlace}
+use Rattle.ccw_walk.specs.Places.{WalkPlace}
 use Rattle.chan_events.specs.declared.reply.Reply.TheVariants as reply
 use Rattle.chan_model.specs.declared.hold_state.HoldPhase.{HoldPhase}
 use Rattle.chan_model.specs.declared.hold_state.HoldPhase.TheVariants as hold
@@ -24,7 +24,9 @@ use Rattle.transfer.specs.declared.CommandStart.TheVariants as came
 use Rattle.transfer.specs.declared.NextChunk.{NextChunk}
 use Rattle.transfer.specs.declared.WithRoom.{WithRoom}
 use Rattle.transfer.specs.Commands.{first_command, next_command, begun_with_room, with_room}
-use Rattle.transfer.specs.Chunks.{taken_by_device, next_given, brought, is_answered}
+use Rattle.transfer.specs.ToDevice.{chunk_absorbed, next_chunk}
+use Rattle.transfer.specs.FromDevice.{chunk_stored}
+use Rattle.transfer.specs.ChunkNumbers.{is_answered}
 use Rattle.subchannel_model.specs.declared.cause.StatusCause.TheVariants as cause
 use Rattle.subchannel_model.specs.declared.signals.DataSignal.{DataSignal}
 use Rattle.subchannel_model.specs.declared.signals.EndSignal.{EndSignal}
@@ -34,13 +36,19 @@ use Rattle.subchannel_model.specs.declared.state.SubchannelState.{SubchannelStat
 use Rattle.subchannel_model.specs.declared.state.UpStep.{UpStep}
 use Rattle.subchannel_model.specs.Causes.{with_cause}
 use Rattle.subchannel_model.specs.Ends.{has_status_modifier, chains_command}
-use Rattle.subchannel_model.proofs.Named.{give_next}
-use Rattle.subchannel_model.specs.Taking.{Met, meets, ignoring, quietly, let_go, interrupted, standing, goes_ahead, path_used, taking_over, suspending, beginning, begin_standing, halt_done, accept, moving_on, giving, answering, take_in, move_bytes, move_data, with_end, end_taken, chaining, goes_on, stops_at, command_ended, end_of, back, may_attend, takes_up}
-use Rattle.subchannel_model.specs.Parts.{chain_with, end_shown_at}
+use Rattle.subchannel_model.specs.Taking.{takes_up}
 use Rattle.machine_laws.specs.Returns.{accepted_by, granted_path}
-use Rattle.machine_laws.proofs.SameState.{IsSame, is-same, same-then, cause-same, interrupted-same, moving-same, suspending-same, halt_done-same}
+use Rattle.machine_laws.proofs.SameState.{IsSame, is-same, same-then, cause-same, interrupted-same, moving-same, suspending-same, halt_performed-same}
+use Rattle.subchannel_model.specs.Data.{gives_next_chunk, after_chunk, gives_chunk, tells_room, tells_room_after, moves_bytes, moves_data}
+use Rattle.subchannel_model.specs.Outcomes.{SignalOutcome, with_storage, signal_ignored, signal_taken, device_released}
+use Rattle.subchannel_model.specs.Pci.{with_pci}
+use Rattle.subchannel_model.specs.Accept.{offered_position, takes_device, with_path_used, with_program_at_work, first_ccw_outcome, begins_at, halt_performed, takes_accept}
+use Rattle.subchannel_model.specs.Suspension.{program_suspended}
+use Rattle.subchannel_model.specs.End.{with_first_end, with_allegiance_after_end, next_ccw_outcome, chains_at_device_end, concludes, ends_command, ends_at_work, chains_with, with_end_status}
+use Rattle.subchannel_model.specs.Back.{takes_back}
+use Rattle.subchannel_model.specs.Attention.{may_take_attention}
 use Rattle.machine_laws.proofs.Told.{Remembers, IsTiedUp}
-use Rattle.machine_laws.proofs.CalmPaths.{IsPlain, ArePlain, IsCalm, same-calm, ignored-calm, with_phase, busy-step, left-step, released-step, cleared-step, attended-step, by_hold-calm, cleared-calm, attention-calm, let-calm, notice-calm}
+use Rattle.machine_laws.proofs.CalmPaths.{IsPlain, ArePlain, IsCalm, same-calm, ignored-calm, with_phase, busy-step, left-step, released-step, cleared-step, attended-step, hold_outcome-calm, cleared-calm, attention-calm, let-calm, notice-calm}
 
 -- the path of the first of two Accepts, and that of a Grant
 abbrev first_of_both : Option ℕ → ℕ → Option ℕ
@@ -102,7 +110,7 @@ if-calm : (s : SubchannelState) (b : Bool) (x y : UpStep) → IsCalm s x → IsC
 if-calm s true x y k l = k
 if-calm s false x y k l = l
 
-if-met : (s : SubchannelState) (b : Bool) (x y : Met) → IsCalm s x.step → IsCalm s y.step → IsCalm s (if b then x else y).step
+if-met : (s : SubchannelState) (b : Bool) (x y : SignalOutcome) → IsCalm s x.step → IsCalm s y.step → IsCalm s (if b then x else y).step
 if-met s true x y k l = k
 if-met s false x y k l = l
 
@@ -112,23 +120,23 @@ record IsTaken (s : SubchannelState) (step : UpStep) : Type 0 where
   taken : step.came.taken ≡ true
 
 beginning-taken : (storage : Contents) (s : SubchannelState) (p t : ℕ) (st : ProgramPosition) (walk : WalkPlace) (r : CommandStart) →
-    IsTaken s (beginning storage s p t st walk r)
+    IsTaken s (first_ccw_outcome storage s p t st walk r)
 beginning-taken storage s p t st walk (came.Begins transfer) =
-    let next : SubchannelState = taking_over s st.program (begun_with_room storage transfer).transfer in
+    let next : SubchannelState = with_program_at_work s st.program (begun_with_room storage transfer).transfer in
     record {
-      calm = same-calm s (interrupted next next.begun) _
-          (same-then s next (interrupted next next.begun) (is-same s next refl refl refl) (interrupted-same next next.begun)) tt;
+      calm = same-calm s (with_pci next next.begun) _
+          (same-then s next (with_pci next next.begun) (is-same s next refl refl refl) (interrupted-same next next.begun)) tt;
       taken = refl;
     }
 beginning-taken storage s p t st walk came.Suspends =
-    record { calm = let-calm s (suspending s st.program walk st.count) (suspending-same s st.program walk st.count); taken = refl }
+    record { calm = let-calm s (program_suspended s st.program walk st.count) (suspending-same s st.program walk st.count); taken = refl }
 beginning-taken storage s p t st walk (came.Stops check) =
     record {
       calm = let-calm s (with_cause s (cause.FetchFault walk.tried check st.count)) (cause-same s (cause.FetchFault walk.tried check st.count));
       taken = refl;
     }
 
-standing-taken : (storage : Contents) (s : SubchannelState) (p t : ℕ) (st : Option ProgramPosition) → IsTaken s (begin_standing storage s p t st)
+standing-taken : (storage : Contents) (s : SubchannelState) (p t : ℕ) (st : Option ProgramPosition) → IsTaken s (begins_at storage s p t st)
 standing-taken storage s p t None = record { calm = same-calm s s _ (is-same s s refl refl refl) tt; taken = refl }
 standing-taken storage s p t (Some st) = beginning-taken storage s p t st (first_command storage st.walk).walk (first_command storage st.walk).came
 
@@ -163,27 +171,27 @@ begun-met returns p u t q s x step e b same k =
 
 accept-begun : (returns : Bool) (storage : Contents) (s : SubchannelState) (h : HoldState) (p t q u : ℕ) (may same : Bool) → (u == t) ≡ same →
     IsMet returns p (up.Accept u) (record s { hold = with_phase h (hold.Offer t q) })
-    (accept storage (record s { hold = with_phase h (hold.Offer t q) }) (if same then Some (program_begun (with_phase h (hold.Offer t q)) t q may) else None))
+    (takes_accept storage (record s { hold = with_phase h (hold.Offer t q) }) (if same then Some (program_begun (with_phase h (hold.Offer t q)) t q may) else None))
 accept-begun returns storage s h p t q u true true e =
-    let x : SubchannelState = record s { hold = record h { phase = hold.On t q 0; seen = 0; first_path = Some q }; pmcw = path_used s.pmcw q } in
+    let x : SubchannelState = record s { hold = record h { phase = hold.On t q 0; seen = 0; first_path = Some q }; pmcw = with_path_used s.pmcw q } in
     begun-met returns p u t q (record s { hold = with_phase h (hold.Offer t q) }) x _ refl
     (record { drawn = refl; available = refl; engaged = refl; offered = λ v r f. absurd (cc f); remembers = refl }) (eqb-true u t e)
-    (standing-taken storage x q t (standing s))
+    (standing-taken storage x q t (offered_position s))
 accept-begun returns storage s h p t q u false true e =
-    let x : SubchannelState = record s { hold = record h { phase = hold.Letting t q; seen = 0; first_path = Some q }; pmcw = path_used s.pmcw q } in
+    let x : SubchannelState = record s { hold = record h { phase = hold.Letting t q; seen = 0; first_path = Some q }; pmcw = with_path_used s.pmcw q } in
     begun-met returns p u t q (record s { hold = with_phase h (hold.Offer t q) }) x _ refl
     (record { drawn = refl; available = refl; engaged = refl; offered = λ v r f. absurd (cc f); remembers = tt }) (eqb-true u t e)
-    (record { calm = same-calm x (halt_done x) _ (halt_done-same x) tt; taken = refl })
+    (record { calm = same-calm x (halt_performed x) _ (halt_performed-same x) tt; taken = refl })
 accept-begun returns storage s h p t q u may false e =
     calm-met returns p (up.Accept u) (record s { hold = with_phase h (hold.Offer t q) }) _ (λ accepted. refl)
     (ignored-calm (record s { hold = with_phase h (hold.Offer t q) }))
 
-accept-ignored : (returns : Bool) (s : SubchannelState) (p u : ℕ) → IsMet returns p (up.Accept u) s (ignoring s)
-accept-ignored returns s p u = calm-met returns p (up.Accept u) s (ignoring s) (λ accepted. refl) (ignored-calm s)
+accept-ignored : (returns : Bool) (s : SubchannelState) (p u : ℕ) → IsMet returns p (up.Accept u) s (signal_ignored s)
+accept-ignored returns s p u = calm-met returns p (up.Accept u) s (signal_ignored s) (λ accepted. refl) (ignored-calm s)
 
 accept-met : (returns : Bool) (storage : Contents) (s : SubchannelState) (h : HoldState) (phase : HoldPhase) (p u : ℕ) (may : Bool) →
     IsMet returns p (up.Accept u) (record s { hold = with_phase h phase })
-    (accept storage (record s { hold = with_phase h phase }) (hold_takes (with_phase h phase) p (up.Accept u) may))
+    (takes_accept storage (record s { hold = with_phase h phase }) (hold_takes (with_phase h phase) p (up.Accept u) may))
 accept-met returns storage s h (hold.Offer t q) p u may = accept-begun returns storage s h p t q u may (u == t) refl
 accept-met returns storage s h other p u may = accept-ignored returns (record s { hold = with_phase h other }) p u
 
@@ -219,7 +227,7 @@ back-step returns h (hold.Away t) p u c =
     if-back returns p (with_phase h (hold.Away t)) ((u == t) && nat_lt h.seen c) _ (away-back returns p h t c)
 back-step returns h other p u c = no-back returns p (with_phase h other)
 
-back-met : (returns : Bool) (s : SubchannelState) (p t c : ℕ) → IsMet returns p (up.Back t c) s (back s p (hold_takes s.hold p (up.Back t c) returns))
+back-met : (returns : Bool) (s : SubchannelState) (p t c : ℕ) → IsMet returns p (up.Back t c) s (takes_back s p (hold_takes s.hold p (up.Back t c) returns))
 back-met returns s p t c =
     let k : IsBack returns p s.hold (hold_takes s.hold p (up.Back t c) returns) = back-step returns s.hold s.hold.phase p t c in
     record {
@@ -232,85 +240,85 @@ back-met returns s p t c =
     }
 
 -- Data
-given-calm : (s : SubchannelState) (b : ActiveProgram) (signal : DataSignal) (given : NextChunk) → IsCalm s (giving s b signal given)
-given-calm s b signal given = same-calm s (moving_on s b given.transfer) _ (moving-same s b given.transfer) tt
+given-calm : (s : SubchannelState) (b : ActiveProgram) (signal : DataSignal) (given : NextChunk) → IsCalm s (gives_chunk s b signal given)
+given-calm s b signal given = same-calm s (after_chunk s b given.transfer) _ (moving-same s b given.transfer) tt
 
-answer-calm : (s : SubchannelState) (b : ActiveProgram) (signal : DataSignal) (roomy : WithRoom) → IsCalm s (answering s b signal roomy)
-answer-calm s b signal roomy = same-calm s (moving_on s b roomy.transfer) _ (moving-same s b roomy.transfer) tt
+answer-calm : (s : SubchannelState) (b : ActiveProgram) (signal : DataSignal) (roomy : WithRoom) → IsCalm s (tells_room s b signal roomy)
+answer-calm s b signal roomy = same-calm s (after_chunk s b roomy.transfer) _ (moving-same s b roomy.transfer) tt
 
 data-calm : (storage : Contents) (s : SubchannelState) (b : Option ActiveProgram) (signal : DataSignal) (load : Load) →
-    IsCalm s (move_data storage s b signal load).step
+    IsCalm s (moves_data storage s b signal load).step
 data-calm storage s None signal load = ignored-calm s
 data-calm storage s (Some b) signal load =
-    if-met s (is_answered b.transfer signal.command signal.sequence) (move_bytes storage s b signal load) (meets storage (ignoring s))
-    (if-met s (is_outward b.transfer.code) (meets storage (give_next storage s b signal (load_length load)))
-    (take_in s b signal (brought storage b.transfer signal.sequence (load_bytes load)))
-    (given-calm s b signal (next_given storage (taken_by_device storage b.transfer signal.sequence (load_length load))))
+    if-met s (is_answered b.transfer signal.command signal.sequence) (moves_bytes storage s b signal load) (with_storage storage (signal_ignored s))
+    (if-met s (is_outward b.transfer.code) (with_storage storage (gives_next_chunk storage s b signal (load_length load)))
+    (tells_room_after s b signal (chunk_stored storage b.transfer signal.sequence (load_bytes load)))
+    (given-calm s b signal (next_chunk storage (chunk_absorbed storage b.transfer signal.sequence (load_length load))))
     (answer-calm s b signal
-    (with_room (brought storage b.transfer signal.sequence (load_bytes load)).storage (brought storage b.transfer signal.sequence (load_bytes load)).transfer)))
+    (with_room (chunk_stored storage b.transfer signal.sequence (load_bytes load)).storage (chunk_stored storage b.transfer signal.sequence (load_bytes load)).transfer)))
     (ignored-calm s)
 
 -- End
-ended-same : (s x : SubchannelState) (signal : EndSignal) → IsSame (end_taken s signal) x → IsSame s x
+ended-same : (s x : SubchannelState) (signal : EndSignal) → IsSame (with_allegiance_after_end s signal) x → IsSame s x
 ended-same s x signal same = is-same s x same.drawn same.hold same.available
 
 chaining-calm : (storage : Contents) (s : SubchannelState) (b : ActiveProgram) (signal : EndSignal) (walk : WalkPlace) (r : CommandStart) →
-    IsCalm s (chaining storage s b signal walk r)
+    IsCalm s (next_ccw_outcome storage s b signal walk r)
 chaining-calm storage s b signal walk (came.Begins transfer) =
-    same-calm s (moving_on s b (begun_with_room storage transfer).transfer) _ (moving-same s b (begun_with_room storage transfer).transfer) tt
+    same-calm s (after_chunk s b (begun_with_room storage transfer).transfer) _ (moving-same s b (begun_with_room storage transfer).transfer) tt
 chaining-calm storage s b signal walk came.Suspends =
-    let x : SubchannelState = suspending (end_taken s signal) b.program walk (residual b.transfer.moving) in
-    let-calm s x (ended-same s x signal (suspending-same (end_taken s signal) b.program walk (residual b.transfer.moving)))
+    let x : SubchannelState = program_suspended (with_allegiance_after_end s signal) b.program walk (residual b.transfer.moving) in
+    let-calm s x (ended-same s x signal (suspending-same (with_allegiance_after_end s signal) b.program walk (residual b.transfer.moving)))
 chaining-calm storage s b signal walk (came.Stops check) =
-    let x : SubchannelState = with_cause (end_taken s signal) (cause.FetchFault walk.tried check (residual b.transfer.moving)) in
-    let-calm s x (ended-same s x signal (cause-same (end_taken s signal) (cause.FetchFault walk.tried check (residual b.transfer.moving))))
+    let x : SubchannelState = with_cause (with_allegiance_after_end s signal) (cause.FetchFault walk.tried check (residual b.transfer.moving)) in
+    let-calm s x (ended-same s x signal (cause-same (with_allegiance_after_end s signal) (cause.FetchFault walk.tried check (residual b.transfer.moving))))
 
-stops-calm : (s : SubchannelState) (b : ActiveProgram) (signal : EndSignal) → IsCalm s (stops_at s b signal)
+stops-calm : (s : SubchannelState) (b : ActiveProgram) (signal : EndSignal) → IsCalm s (concludes s b signal)
 stops-calm s b signal =
     let e : IsSame s (with_cause s (cause.End b signal.status signal.more)) = cause-same s (cause.End b signal.status signal.more) in
-    let x : SubchannelState = end_shown_at s b signal in
+    let x : SubchannelState = with_end_status s b signal in
     let same : IsSame s x = is-same s x e.drawn e.hold e.available in
-    if-calm s (is_last_end signal.status) (let_go x) (quietly x) (let-calm s x same) (same-calm s x _ same tt)
+    if-calm s (is_last_end signal.status) (device_released x) (signal_taken x) (let-calm s x same) (same-calm s x _ same tt)
 
-end-calm : (storage : Contents) (s : SubchannelState) (b : Option ActiveProgram) (signal : EndSignal) → IsCalm s (end_of storage s b signal)
+end-calm : (storage : Contents) (s : SubchannelState) (b : Option ActiveProgram) (signal : EndSignal) → IsCalm s (ends_at_work storage s b signal)
 end-calm storage s None signal = ignored-calm s
 end-calm storage s (Some b) signal =
-    let next : Beginning = next_command storage (with_end b).transfer (has_status_modifier signal.status) in
-    if-calm s (signal.command == b.transfer.command) (command_ended storage s b signal) (ignoring s)
-    (if-calm s (chains_command s.scsw b signal.status signal.more) (goes_on storage s (with_end b) signal) (stops_at s b signal)
-    (if-calm s (has_device_end signal.status) (chain_with storage s (with_end b) signal next) _
-    (chaining-calm storage s (with_end b) signal next.walk next.came)
-    (same-calm s (record (end_taken s signal) { begun = Some (with_end b) }) _ (is-same s _ refl refl refl) tt))
+    let next : Beginning = next_command storage (with_first_end b).transfer (has_status_modifier signal.status) in
+    if-calm s (signal.command == b.transfer.command) (ends_command storage s b signal) (signal_ignored s)
+    (if-calm s (chains_command s.scsw b signal.status signal.more) (chains_at_device_end storage s (with_first_end b) signal) (concludes s b signal)
+    (if-calm s (has_device_end signal.status) (chains_with storage s (with_first_end b) signal next) _
+    (chaining-calm storage s (with_first_end b) signal next.walk next.came)
+    (same-calm s (record (with_allegiance_after_end s signal) { begun = Some (with_first_end b) }) _ (is-same s _ refl refl refl) tt))
     (stops-calm s b signal))
     (ignored-calm s)
 
 pub takes-met : (returns : Bool) (storage : Contents) (s : SubchannelState) (p : ℕ) (x : Up) → IsMet returns p x s (takes_up returns storage s p x).step
-takes-met returns storage s p (up.Accept t) = accept-met returns storage s s.hold s.hold.phase p t (goes_ahead s)
+takes-met returns storage s p (up.Accept t) = accept-met returns storage s s.hold s.hold.phase p t (takes_device s)
 takes-met returns storage s p (up.Busy t) =
-    calm-met returns p (up.Busy t) s _ (λ accepted. refl) (by_hold-calm s (hold_takes s.hold p (up.Busy t) false) (busy-step s.hold s.hold.phase t))
+    calm-met returns p (up.Busy t) s _ (λ accepted. refl) (hold_outcome-calm s (hold_takes s.hold p (up.Busy t) false) (busy-step s.hold s.hold.phase t))
 takes-met returns storage s p (up.Leave t c) =
-    calm-met returns p (up.Leave t c) s _ (λ accepted. refl) (by_hold-calm s (hold_takes s.hold p (up.Leave t c) false) (left-step s.hold s.hold.phase t c))
+    calm-met returns p (up.Leave t c) s _ (λ accepted. refl) (hold_outcome-calm s (hold_takes s.hold p (up.Leave t c) false) (left-step s.hold s.hold.phase t c))
 takes-met returns storage s p (up.Back t c) = back-met returns s p t c
 takes-met returns storage s p (up.Data load t c n seq) =
     let signal : DataSignal = record { path = p; number = t; connection = c; command = n; sequence = seq } in
     calm-met returns p (up.Data load t c n seq) s _ (λ accepted. refl)
-    (if-met s (is_connected s.hold.phase p t c) (move_data storage s s.begun signal load) (meets storage (ignoring s)) (data-calm storage s s.begun signal load)
+    (if-met s (is_connected s.hold.phase p t c) (moves_data storage s s.begun signal load) (with_storage storage (signal_ignored s)) (data-calm storage s s.begun signal load)
     (ignored-calm s))
 takes-met returns storage s p (up.End t n status more) =
     let signal : EndSignal = record { path = p; number = t; command = n; status = status; more = more } in
     calm-met returns p (up.End t n status more) s _ (λ accepted. refl)
-    (if-calm s (is_on s.hold.phase t) (end_of storage s s.begun signal) (ignoring s) (end-calm storage s s.begun signal) (ignored-calm s))
+    (if-calm s (is_on s.hold.phase t) (ends_at_work storage s s.begun signal) (signal_ignored s) (end-calm storage s s.begun signal) (ignored-calm s))
 takes-met returns storage s p (up.Released t) =
     calm-met returns p (up.Released t) s _ (λ accepted. refl)
-    (by_hold-calm s (hold_takes s.hold p (up.Released t) false) (released-step s.hold s.hold.phase t))
+    (hold_outcome-calm s (hold_takes s.hold p (up.Released t) false) (released-step s.hold s.hold.phase t))
 takes-met returns storage s p (up.Cleared r) =
     calm-met returns p (up.Cleared r) s _ (λ accepted. refl)
     (cleared-calm s (hold_takes s.hold p (up.Cleared r) false) (cleared-step s.hold s.hold.phase r))
 takes-met returns storage s p (up.Notice b) = calm-met returns p (up.Notice b) s _ (λ accepted. refl) (notice-calm s b)
 takes-met returns storage s p (up.Attn a status) =
-    let step : Option HoldStep = hold_takes s.hold p (up.Attn a status) (may_attend s) in
+    let step : Option HoldStep = hold_takes s.hold p (up.Attn a status) (may_take_attention s) in
     calm-met returns p (up.Attn a status) s _ (λ accepted. refl)
-    (attention-calm s ((came_of step).taken && not (status.0 == 0x20)) step (attended-step s.hold s.hold.phase p a (may_attend s)))
+    (attention-calm s ((came_of step).taken && not (status.0 == 0x20)) step (attended-step s.hold s.hold.phase p a (may_take_attention s)))
 
 -- a Grant goes by the path of the Back, to a program that may come back
 answer-granted : (returns : Bool) (p : ℕ) (phase : HoldPhase) (q r : ℕ) (d : Down) → IsAnswer returns p phase q d →

@@ -10,7 +10,8 @@ use Rattle.subchannel_model.specs.declared.state.ProgramPosition.{ProgramPositio
 use Rattle.subchannel_model.specs.declared.state.SubchannelState.{SubchannelState}
 use Rattle.subchannel_model.specs.Losing.{is_offered_or_held, reset_drawn, reset_with, reset_for}
 use Rattle.subchannel_model.specs.Programs.{has_any}
-use Rattle.subchannel_model.specs.Taking.{quietly, ignoring, with_known}
+use Rattle.subchannel_model.specs.Notice.{with_known}
+use Rattle.subchannel_model.specs.Outcomes.{signal_taken, signal_ignored}
 use Rattle.machine_laws.proofs.Waits.{WaitsAs, IsBegunHeld, Waits, Turned, moved-as}
 
 -- what waits: a program that was offered or held the device is over
@@ -61,7 +62,7 @@ reset-starts s false = refl
 
 -- Notice
 pub notice-turned : (A : Type 0) (B : ℕ → Type 0) (s : SubchannelState) (b : ℕ) (more : Bool) → Waits A B s →
-    Turned A B s (if more then quietly (reset_for (with_known s b)) else ignoring s).state
+    Turned A B s (if more then signal_taken (reset_for (with_known s b)) else signal_ignored s).state
 notice-turned A B s b true k =
     let x : SubchannelState = with_known s b in
     let shows : Bool = is_offered_or_held s.hold.phase && has_any s.waiting s.begun s.suspended in

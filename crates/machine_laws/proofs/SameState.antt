@@ -1,6 +1,6 @@
 -- A status that is made leaves the hold, the counter of numbers and the path-available mask as they are.
 use Rattle.std.proofs.Common.{refl, ap, ◌≡◌, ◌∙◌, ℕ, Bool, Option}
-use Rattle.ccw_walk.specs.Walks.{WalkPlace}
+use Rattle.ccw_walk.specs.Places.{WalkPlace}
 use Rattle.transfer.specs.declared.Transfer.{Transfer}
 use Rattle.subchannel_model.specs.declared.cause.StatusCause.{StatusCause}
 use Rattle.subchannel_model.specs.declared.state.ActiveProgram.{ActiveProgram}
@@ -9,9 +9,15 @@ use Rattle.subchannel_model.specs.declared.state.SubchannelState.{SubchannelStat
 use Rattle.subchannel_model.specs.Causes.{with_cause}
 use Rattle.subchannel_model.specs.Test.{tested_wholly}
 use Rattle.subchannel_model.specs.Halt.{status_dropped, halt_begun, halted, drops_status}
-use Rattle.subchannel_model.specs.Taking.{interrupted, moving_on, suspending, halt_done, clear_done, with_transfer, with_attention}
+use Rattle.subchannel_model.specs.Attention.{with_attention}
+use Rattle.subchannel_model.specs.Pci.{with_pci}
+use Rattle.subchannel_model.specs.Data.{after_chunk}
+use Rattle.subchannel_model.specs.Suspension.{program_suspended}
+use Rattle.subchannel_model.specs.Accept.{halt_performed}
+use Rattle.subchannel_model.specs.Cleared.{clear_performed}
+use Rattle.subchannel_model.specs.Command.{with_transfer}
 use Rattle.subchannel_model.specs.declared.state.PmcwState.{PmcwState}
-use Rattle.machine_laws.proofs.Beside.{IsBeside, cause-beside, interrupted-beside, moving-beside, suspending-beside, halt_done-beside, clear_done-beside, attention-beside, tested-beside, if-both}
+use Rattle.machine_laws.proofs.Beside.{IsBeside, cause-beside, interrupted-beside, moving-beside, suspending-beside, halt_performed-beside, clear_performed-beside, attention-beside, tested-beside, if-both}
 
 pub record IsSame (s x : SubchannelState) : Type 0 where
   pub drawn : x.drawn ≡ s.drawn
@@ -31,20 +37,20 @@ same-of s x k = record { drawn = k.drawn; hold = k.hold; available = ap (λ (p :
 pub cause-same : (s : SubchannelState) (c : StatusCause) → IsSame s (with_cause s c)
 cause-same s c = same-of s (with_cause s c) (cause-beside s c)
 
-pub interrupted-same : (s : SubchannelState) (b : Option ActiveProgram) → IsSame s (interrupted s b)
-interrupted-same s b = same-of s (interrupted s b) (interrupted-beside s b)
+pub interrupted-same : (s : SubchannelState) (b : Option ActiveProgram) → IsSame s (with_pci s b)
+interrupted-same s b = same-of s (with_pci s b) (interrupted-beside s b)
 
-pub moving-same : (s : SubchannelState) (b : ActiveProgram) (t : Transfer) → IsSame s (moving_on s b t)
-moving-same s b t = let k : IsBeside (with_transfer s b t) (moving_on s b t) = moving-beside s b t in is-same s (moving_on s b t) k.drawn k.hold (ap (λ (p : PmcwState). p.available) k.pmcw)
+pub moving-same : (s : SubchannelState) (b : ActiveProgram) (t : Transfer) → IsSame s (after_chunk s b t)
+moving-same s b t = let k : IsBeside (with_transfer s b t) (after_chunk s b t) = moving-beside s b t in is-same s (after_chunk s b t) k.drawn k.hold (ap (λ (p : PmcwState). p.available) k.pmcw)
 
-pub suspending-same : (s : SubchannelState) (program : Program) (walk : WalkPlace) (count : ℕ) → IsSame s (suspending s program walk count)
-suspending-same s program walk count = same-of s (suspending s program walk count) (suspending-beside s program walk count)
+pub suspending-same : (s : SubchannelState) (program : Program) (walk : WalkPlace) (count : ℕ) → IsSame s (program_suspended s program walk count)
+suspending-same s program walk count = same-of s (program_suspended s program walk count) (suspending-beside s program walk count)
 
-pub halt_done-same : (s : SubchannelState) → IsSame s (halt_done s)
-halt_done-same s = same-of s (halt_done s) (halt_done-beside s)
+pub halt_performed-same : (s : SubchannelState) → IsSame s (halt_performed s)
+halt_performed-same s = same-of s (halt_performed s) (halt_performed-beside s)
 
-pub clear_done-same : (s : SubchannelState) → IsSame s (clear_done s)
-clear_done-same s = same-of s (clear_done s) (clear_done-beside s)
+pub clear_performed-same : (s : SubchannelState) → IsSame s (clear_performed s)
+clear_performed-same s = same-of s (clear_performed s) (clear_performed-beside s)
 
 pub attention-same : (s : SubchannelState) (shows : Bool) → IsSame s (with_attention s shows)
 attention-same s shows = same-of s (with_attention s shows) (attention-beside s shows)

@@ -7,7 +7,7 @@ use Rattle.orb_block.specs.declared.Orb.{Orb}
 use Rattle.scsw_irb.specs.declared.scsw.Scsw.{Scsw}
 use Rattle.scsw_irb.specs.declared.serials.Serials.{Serials}
 use Rattle.storage_keys.specs.Storage.{Contents}
-use Rattle.ccw_walk.specs.Walks.{WalkPlace}
+use Rattle.ccw_walk.specs.Places.{WalkPlace}
 use Rattle.chan_model.specs.declared.hold_state.HoldPhase.{HoldPhase}
 use Rattle.chan_model.specs.declared.hold_state.HoldPhase.TheVariants as hold
 use Rattle.chan_model.specs.declared.hold_state.HoldState.{HoldState}
@@ -23,7 +23,9 @@ use Rattle.chan_model.specs.UnitReports.{is_last_end, is_outward, has_device_end
 use Rattle.data_move.specs.Moving.{residual}
 use Rattle.transfer.specs.declared.Transfer.{Transfer}
 use Rattle.transfer.specs.Commands.{first_command, next_command, with_room, begun_with_room}
-use Rattle.transfer.specs.Chunks.{taken_by_device, next_given, brought, is_answered}
+use Rattle.transfer.specs.ToDevice.{chunk_absorbed, next_chunk}
+use Rattle.transfer.specs.FromDevice.{chunk_stored}
+use Rattle.transfer.specs.ChunkNumbers.{is_answered}
 use Rattle.transfer.specs.declared.CommandStart.{CommandStart}
 use Rattle.transfer.specs.declared.CommandStart.TheVariants as came
 use Rattle.transfer.specs.Numbers.{IsSame, IsLaterTransfer, IsNew, IfBegins}
@@ -40,8 +42,9 @@ use Rattle.subchannel_model.specs.declared.state.UpStep.{UpStep}
 use Rattle.machine_model.specs.Bounds.{IsMovedWithin}
 use Rattle.subchannel_model.specs.Start.{started}
 use Rattle.subchannel_model.specs.Causes.{row_of, with_status, without_begun, without_waiting, programs_after_end, with_cause, scsw_joined, clear_function_alone, without_intermediate}
-use Rattle.subchannel_model.specs.Parts.{suspended_alone, standing_still, chain_with, end_shown_at}
 use Rattle.subchannel_model.specs.Clear.{cleared_scsw}
+use Rattle.subchannel_model.specs.Suspension.{suspended_alone, with_suspended_program, program_suspended}
+use Rattle.subchannel_model.specs.End.{chains_with, with_end_status, with_first_end, with_allegiance_after_end, next_ccw_outcome, chains_at_device_end, concludes, ends_command, ends_at_work, takes_end}
 use Rattle.subchannel_model.specs.Choosing.{reset_sent, halt_sent, offered}
 use Rattle.subchannel_model.specs.Halt.{halt_begun, status_dropped, drops_status}
 use Rattle.subchannel_model.specs.Programs.{without_programs, has_any}
@@ -49,8 +52,15 @@ use Rattle.subchannel_model.specs.Ends.{has_status_modifier, chains_command, has
 use Rattle.subchannel_model.specs.Losing.{is_offered_or_held, reset_drawn, reset_with, reset_for, path_lost}
 use Rattle.subchannel_model.specs.SystemReset.{state_reset, scsw_reset}
 use Rattle.chan_model.specs.ResetCauses.{rests_on}
-use Rattle.subchannel_model.proofs.Named.{with_pci_of, give_next}
-use Rattle.subchannel_model.specs.Taking.{Met, meets, ignoring, quietly, without_pci, standing, goes_ahead, taking_over, suspending, beginning, begin_standing, halt_done, accepted_by, accept_by, with_transfer, moving_on, take_in, move_bytes, move_data, take_data, with_end, end_taken, chaining, goes_on, stops_at, command_ended, end_of, end_command, reset_taken, may_attend, takes_up, path_used, let_go, with_known}
+use Rattle.subchannel_model.specs.Taking.{takes_up}
+use Rattle.subchannel_model.specs.Notice.{with_known}
+use Rattle.subchannel_model.specs.Pci.{with_pci_of, without_pci}
+use Rattle.subchannel_model.specs.Data.{gives_next_chunk, after_chunk, tells_room_after, moves_bytes, moves_data, takes_data}
+use Rattle.subchannel_model.specs.Outcomes.{SignalOutcome, with_storage, signal_ignored, signal_taken, device_released}
+use Rattle.subchannel_model.specs.Accept.{offered_position, takes_device, with_program_at_work, first_ccw_outcome, begins_at, halt_performed, accepted_in_phase, accepted_by, with_path_used}
+use Rattle.subchannel_model.specs.Command.{with_transfer}
+use Rattle.subchannel_model.specs.Cleared.{takes_cleared}
+use Rattle.subchannel_model.specs.Attention.{may_take_attention}
 use Rattle.subchannel_model.proofs.Cleared.{none-uncleared, tested-pending}
 use Rattle.step_laws.specs.Walks.{Function, Resumes, Halts, Clears, Cancels, effect_of}
 
@@ -215,7 +225,7 @@ pick : (floor : Serials) (n : ℕ) (b : Bool) (x y : UpStep) → Sound floor n x
 pick floor n true x y k l = k
 pick floor n false x y k l = l
 
-pick-met : (floor : Serials) (n : ℕ) (b : Bool) (x y : Met) → Sound floor n x.step.state → Sound floor n y.step.state → Sound floor n (if b then x else y).step.state
+pick-met : (floor : Serials) (n : ℕ) (b : Bool) (x y : SignalOutcome) → Sound floor n x.step.state → Sound floor n y.step.state → Sound floor n (if b then x else y).step.state
 pick-met floor n true x y k l = k
 pick-met floor n false x y k l = l
 
@@ -229,18 +239,18 @@ interrupted-sound floor n s b m k =
     (ready-sound floor n s k)
 
 transferred : (floor : Serials) (n : ℕ) (s : SubchannelState) (b : ActiveProgram) (t : Transfer) → t.sequence ≤ n + 1 → t.command ≤ n + 1 → Ready floor n s →
-    Sound floor (n + 1) (moving_on s b t)
+    Sound floor (n + 1) (after_chunk s b t)
 transferred floor n s b t q m k =
     interrupted-sound floor n (with_transfer s b t) (record b { transfer = t }) (q, m) (k.0, k.1, k.2, (q, m), k.4, k.5, k.6, k.7)
 
 -- a program is suspended
 suspending-sound : (floor : Serials) (n : ℕ) (s : SubchannelState) (program : Program) (walk : WalkPlace) (count : ℕ) → Ready floor n s →
-    Sound floor (n + 1) (suspending s program walk count)
+    Sound floor (n + 1) (program_suspended s program walk count)
 suspending-sound floor n s program walk count k =
     pick-state floor (n + 1) program.orb.suppress_suspended
-    (record (standing_still s program walk count) { scsw = suspended_alone s.scsw }) (with_cause (standing_still s program walk count) (cause.Suspension walk.tried count))
+    (record (with_suspended_program s program walk count) { scsw = suspended_alone s.scsw }) (with_cause (with_suspended_program s program walk count) (cause.Suspension walk.tried count))
     (k.0, k.1, omega (arith, k.2), tt, k.4, k.5, k.6, k.7)
-    (cause-sound floor n (standing_still s program walk count) (cause.Suspension walk.tried count) tt (k.0, k.1, k.2, tt, k.4, k.5, k.6, k.7))
+    (cause-sound floor n (with_suspended_program s program walk count) (cause.Suspension walk.tried count) tt (k.0, k.1, k.2, tt, k.4, k.5, k.6, k.7))
 
 -- how commands and their chunks are numbered
 pub record AreNumbered : Type 0 where
@@ -248,17 +258,17 @@ pub record AreNumbered : Type 0 where
   pub next : (storage : Contents) (t : Transfer) (modifier : Bool) → IfBegins (next_command storage t modifier).came (IsNew (t.command + 1))
   pub begun : (storage : Contents) (t : Transfer) → IsSame t (begun_with_room storage t).transfer
   pub room : (storage : Contents) (t : Transfer) → IsSame t (with_room storage t).transfer
-  pub given : (storage : Contents) (t : Transfer) → IsSame t (next_given storage t).transfer
-  pub absorbed : (storage : Contents) (t : Transfer) (s count : ℕ) → IsLaterTransfer t (taken_by_device storage t s count)
-  pub brought : (storage : Contents) (t : Transfer) (s : ℕ) (bytes : List ℕ) → IsLaterTransfer t (brought storage t s bytes).transfer
+  pub given : (storage : Contents) (t : Transfer) → IsSame t (next_chunk storage t).transfer
+  pub absorbed : (storage : Contents) (t : Transfer) (s count : ℕ) → IsLaterTransfer t (chunk_absorbed storage t s count)
+  pub brought : (storage : Contents) (t : Transfer) (s : ℕ) (bytes : List ℕ) → IsLaterTransfer t (chunk_stored storage t s bytes).transfer
 
 pub numbered-of : ((storage : Contents) (walk : WalkPlace) → IfBegins (first_command storage walk).came (IsNew 1)) →
     ((storage : Contents) (t : Transfer) (modifier : Bool) → IfBegins (next_command storage t modifier).came (IsNew (t.command + 1))) →
     ((storage : Contents) (t : Transfer) → IsSame t (begun_with_room storage t).transfer) →
     ((storage : Contents) (t : Transfer) → IsSame t (with_room storage t).transfer) →
-    ((storage : Contents) (t : Transfer) → IsSame t (next_given storage t).transfer) →
-    ((storage : Contents) (t : Transfer) (s count : ℕ) → IsLaterTransfer t (taken_by_device storage t s count)) →
-    ((storage : Contents) (t : Transfer) (s : ℕ) (bytes : List ℕ) → IsLaterTransfer t (brought storage t s bytes).transfer) → AreNumbered
+    ((storage : Contents) (t : Transfer) → IsSame t (next_chunk storage t).transfer) →
+    ((storage : Contents) (t : Transfer) (s count : ℕ) → IsLaterTransfer t (chunk_absorbed storage t s count)) →
+    ((storage : Contents) (t : Transfer) (s : ℕ) (bytes : List ℕ) → IsLaterTransfer t (chunk_stored storage t s bytes).transfer) → AreNumbered
 numbered-of first next begun room given absorbed brought = record {
   first = first;
   next = next;
@@ -271,113 +281,113 @@ numbered-of first next begun room given absorbed brought = record {
 
 module _ (numbered : AreNumbered) where
   beginning-sound : (floor : Serials) (n : ℕ) (storage : Contents) (s : SubchannelState) (p t : ℕ) (st : ProgramPosition) (walk : WalkPlace) (r : CommandStart) →
-      IfBegins r (IsNew 1) → Ready floor n s → Sound floor (n + 1) (beginning storage s p t st walk r).state
+      IfBegins r (IsNew 1) → Ready floor n s → Sound floor (n + 1) (first_ccw_outcome storage s p t st walk r).state
   beginning-sound floor n storage s p t st walk (came.Begins transfer) f k =
       let b : IsSame transfer (begun_with_room storage transfer).transfer = numbered.begun storage transfer in
       let q : (begun_with_room storage transfer).transfer.sequence ≤ n + 1 = omega (arith, b.sequence, f.sequence) in
       let m : (begun_with_room storage transfer).transfer.command ≤ n + 1 = omega (arith, b.command, f.command) in
       let new : ActiveProgram = record { program = st.program; primary_shown = false; transfer = (begun_with_room storage transfer).transfer } in
-      interrupted-sound floor n (taking_over s st.program (begun_with_room storage transfer).transfer) new (q, m) (k.0, k.1, k.2, (q, m), k.4, k.5, k.6, k.7)
+      interrupted-sound floor n (with_program_at_work s st.program (begun_with_room storage transfer).transfer) new (q, m) (k.0, k.1, k.2, (q, m), k.4, k.5, k.6, k.7)
   beginning-sound floor n storage s p t st walk came.Suspends f k = suspending-sound floor n s st.program walk st.count k
   beginning-sound floor n storage s p t st walk (came.Stops check) f k = cause-sound floor n s (cause.FetchFault walk.tried check st.count) tt k
 
-  begin_standing-sound : (floor : Serials) (n : ℕ) (storage : Contents) (s : SubchannelState) (p t : ℕ) (st : Option ProgramPosition) → Ready floor n s →
-      Sound floor (n + 1) (begin_standing storage s p t st).state
-  begin_standing-sound floor n storage s p t None k = ready-sound floor n s k
-  begin_standing-sound floor n storage s p t (Some st) k =
+  begins_at-sound : (floor : Serials) (n : ℕ) (storage : Contents) (s : SubchannelState) (p t : ℕ) (st : Option ProgramPosition) → Ready floor n s →
+      Sound floor (n + 1) (begins_at storage s p t st).state
+  begins_at-sound floor n storage s p t None k = ready-sound floor n s k
+  begins_at-sound floor n storage s p t (Some st) k =
       beginning-sound floor n storage s p t st (first_command storage st.walk).walk (first_command storage st.walk).came (numbered.first storage st.walk) k
 
-  halt_done-sound : (floor : Serials) (n : ℕ) (s : SubchannelState) → Ready floor n s → Sound floor (n + 1) (halt_done s)
-  halt_done-sound floor n s k =
+  halt_performed-sound : (floor : Serials) (n : ℕ) (s : SubchannelState) → Ready floor n s → Sound floor (n + 1) (halt_performed s)
+  halt_performed-sound floor n s k =
       pick-state floor (n + 1) s.scsw.activity.halt_pending (with_cause s cause.HaltDone) s (cause-sound floor n s cause.HaltDone tt k) (ready-sound floor n s k)
 
-  accepted_by-sound : (floor : Serials) (n : ℕ) (storage : Contents) (s : SubchannelState) (phase : HoldPhase) (taken : Taken Down) → Sound floor n s →
-      Sound floor (n + 1) (accepted_by storage s phase taken).state
-  accepted_by-sound floor n storage s (hold.On t p c) taken k =
-      begin_standing-sound floor n storage (record s { pmcw = path_used s.pmcw p }) p t (standing s) (to-ready floor n s k)
-  accepted_by-sound floor n storage s (hold.Letting t p) taken k = halt_done-sound floor n (record s { pmcw = path_used s.pmcw p }) (to-ready floor n s k)
-  accepted_by-sound floor n storage s other taken k = later floor n s k
+  accepted_in_phase-sound : (floor : Serials) (n : ℕ) (storage : Contents) (s : SubchannelState) (phase : HoldPhase) (taken : Taken Down) → Sound floor n s →
+      Sound floor (n + 1) (accepted_in_phase storage s phase taken).state
+  accepted_in_phase-sound floor n storage s (hold.On t p c) taken k =
+      begins_at-sound floor n storage (record s { pmcw = with_path_used s.pmcw p }) p t (offered_position s) (to-ready floor n s k)
+  accepted_in_phase-sound floor n storage s (hold.Letting t p) taken k = halt_performed-sound floor n (record s { pmcw = with_path_used s.pmcw p }) (to-ready floor n s k)
+  accepted_in_phase-sound floor n storage s other taken k = later floor n s k
 
   accept-sound : (floor : Serials) (n : ℕ) (storage : Contents) (s : SubchannelState) (h : HoldState) (taken : Taken Down) → Sound floor n s →
-      Sound floor (n + 1) (accept_by storage s h taken).state
+      Sound floor (n + 1) (accepted_by storage s h taken).state
   accept-sound floor n storage s h taken k =
-      pick floor (n + 1) taken.taken (accepted_by storage (record s { hold = h }) h.phase taken) (ignoring s)
-      (accepted_by-sound floor n storage (record s { hold = h }) h.phase taken k) (later floor n s k)
+      pick floor (n + 1) taken.taken (accepted_in_phase storage (record s { hold = h }) h.phase taken) (signal_ignored s)
+      (accepted_in_phase-sound floor n storage (record s { hold = h }) h.phase taken k) (later floor n s k)
 
   -- Data
   given-sound : (floor : Serials) (n : ℕ) (storage : Contents) (s : SubchannelState) (b : ActiveProgram) (signal : DataSignal) (count : ℕ) → IsMovedWithin n (Some b) → Sound floor n s →
-      Sound floor (n + 1) (give_next storage s b signal count).state
+      Sound floor (n + 1) (gives_next_chunk storage s b signal count).state
   given-sound floor n storage s b signal count w k =
-      let a : IsLaterTransfer b.transfer (taken_by_device storage b.transfer signal.sequence count) = numbered.absorbed storage b.transfer signal.sequence count in
-      let g : IsSame (taken_by_device storage b.transfer signal.sequence count) (next_given storage (taken_by_device storage b.transfer signal.sequence count)).transfer =
-      numbered.given storage (taken_by_device storage b.transfer signal.sequence count) in
-      transferred floor n s b (next_given storage (taken_by_device storage b.transfer signal.sequence count)).transfer (omega (arith, w.0, a.sequence, g.sequence)) (omega (arith, w.1, a.command, g.command))
+      let a : IsLaterTransfer b.transfer (chunk_absorbed storage b.transfer signal.sequence count) = numbered.absorbed storage b.transfer signal.sequence count in
+      let g : IsSame (chunk_absorbed storage b.transfer signal.sequence count) (next_chunk storage (chunk_absorbed storage b.transfer signal.sequence count)).transfer =
+      numbered.given storage (chunk_absorbed storage b.transfer signal.sequence count) in
+      transferred floor n s b (next_chunk storage (chunk_absorbed storage b.transfer signal.sequence count)).transfer (omega (arith, w.0, a.sequence, g.sequence)) (omega (arith, w.1, a.command, g.command))
       (to-ready floor n s k)
 
   taken-sound : (floor : Serials) (n : ℕ) (storage : Contents) (s : SubchannelState) (b : ActiveProgram) (signal : DataSignal) (bytes : List ℕ) → IsMovedWithin n (Some b) → Sound floor n s →
-      Sound floor (n + 1) (take_in s b signal (brought storage b.transfer signal.sequence bytes)).step.state
+      Sound floor (n + 1) (tells_room_after s b signal (chunk_stored storage b.transfer signal.sequence bytes)).step.state
   taken-sound floor n storage s b signal bytes w k =
-      let x = brought storage b.transfer signal.sequence bytes in
+      let x = chunk_stored storage b.transfer signal.sequence bytes in
       let a : IsLaterTransfer b.transfer x.transfer = numbered.brought storage b.transfer signal.sequence bytes in
       let r : IsSame x.transfer (with_room x.storage x.transfer).transfer = numbered.room x.storage x.transfer in
       transferred floor n s b (with_room x.storage x.transfer).transfer (omega (arith, w.0, a.sequence, r.sequence)) (omega (arith, w.1, a.command, r.command))
       (to-ready floor n s k)
 
   move-sound : (floor : Serials) (n : ℕ) (storage : Contents) (s : SubchannelState) (b : Option ActiveProgram) (signal : DataSignal) (load : Load) → IsMovedWithin n b → Sound floor n s →
-      Sound floor (n + 1) (move_data storage s b signal load).step.state
+      Sound floor (n + 1) (moves_data storage s b signal load).step.state
   move-sound floor n storage s None signal load w k = later floor n s k
   move-sound floor n storage s (Some b) signal load w k =
-      pick-met floor (n + 1) (is_answered b.transfer signal.command signal.sequence) (move_bytes storage s b signal load) (meets storage (ignoring s))
-      (pick-met floor (n + 1) (is_outward b.transfer.code) (meets storage (give_next storage s b signal (load_length load))) _
+      pick-met floor (n + 1) (is_answered b.transfer signal.command signal.sequence) (moves_bytes storage s b signal load) (with_storage storage (signal_ignored s))
+      (pick-met floor (n + 1) (is_outward b.transfer.code) (with_storage storage (gives_next_chunk storage s b signal (load_length load))) _
       (given-sound floor n storage s b signal (load_length load) w k) (taken-sound floor n storage s b signal (load_bytes load) w k))
       (later floor n s k)
 
   data-sound : (floor : Serials) (n : ℕ) (storage : Contents) (s : SubchannelState) (signal : DataSignal) (load : Load) → Sound floor n s →
-      Sound floor (n + 1) (take_data storage s signal load).step.state
+      Sound floor (n + 1) (takes_data storage s signal load).step.state
   data-sound floor n storage s signal load k =
-      pick-met floor (n + 1) (is_connected s.hold.phase signal.path signal.number signal.connection) (move_data storage s s.begun signal load) (meets storage (ignoring s))
+      pick-met floor (n + 1) (is_connected s.hold.phase signal.path signal.number signal.connection) (moves_data storage s s.begun signal load) (with_storage storage (signal_ignored s))
       (move-sound floor n storage s s.begun signal load k.3 k) (later floor n s k)
 
   -- End
   chaining-sound : (floor : Serials) (n : ℕ) (storage : Contents) (s : SubchannelState) (b : ActiveProgram) (signal : EndSignal) (walk : WalkPlace) (r : CommandStart) → b.transfer.command ≤ n →
-      IfBegins r (IsNew (b.transfer.command + 1)) → Ready floor n s → Sound floor (n + 1) (chaining storage s b signal walk r).state
+      IfBegins r (IsNew (b.transfer.command + 1)) → Ready floor n s → Sound floor (n + 1) (next_ccw_outcome storage s b signal walk r).state
   chaining-sound floor n storage s b signal walk (came.Begins transfer) w f k =
       let g : IsSame transfer (begun_with_room storage transfer).transfer = numbered.begun storage transfer in
       transferred floor n s b (begun_with_room storage transfer).transfer (omega (arith, f.sequence, g.sequence)) (omega (arith, w, f.command, g.command)) k
   chaining-sound floor n storage s b signal walk came.Suspends w f k =
-      suspending-sound floor n (end_taken s signal) b.program walk (residual b.transfer.moving) k
+      suspending-sound floor n (with_allegiance_after_end s signal) b.program walk (residual b.transfer.moving) k
   chaining-sound floor n storage s b signal walk (came.Stops check) w f k =
-      cause-sound floor n (end_taken s signal) (cause.FetchFault walk.tried check (residual b.transfer.moving)) tt k
+      cause-sound floor n (with_allegiance_after_end s signal) (cause.FetchFault walk.tried check (residual b.transfer.moving)) tt k
 
-  goes_on-sound : (floor : Serials) (n : ℕ) (storage : Contents) (s : SubchannelState) (b : ActiveProgram) (signal : EndSignal) → IsMovedWithin n (Some b) → Sound floor n s →
-      Sound floor (n + 1) (goes_on storage s b signal).state
-  goes_on-sound floor n storage s b signal w k =
-      pick floor (n + 1) (has_device_end signal.status) (chain_with storage s b signal (next_command storage b.transfer (has_status_modifier signal.status)))
-      (quietly (record (end_taken s signal) { begun = Some b }))
+  chains_at_device_end-sound : (floor : Serials) (n : ℕ) (storage : Contents) (s : SubchannelState) (b : ActiveProgram) (signal : EndSignal) → IsMovedWithin n (Some b) → Sound floor n s →
+      Sound floor (n + 1) (chains_at_device_end storage s b signal).state
+  chains_at_device_end-sound floor n storage s b signal w k =
+      pick floor (n + 1) (has_device_end signal.status) (chains_with storage s b signal (next_command storage b.transfer (has_status_modifier signal.status)))
+      (signal_taken (record (with_allegiance_after_end s signal) { begun = Some b }))
       (chaining-sound floor n storage s b signal _ _ w.1 (numbered.next storage b.transfer (has_status_modifier signal.status)) (to-ready floor n s k))
       (omega (arith, k.0), omega (arith, k.1), omega (arith, k.2), moved-later n (Some b) w, k.4, k.5, k.6, k.7)
 
   stops-sound : (floor : Serials) (n : ℕ) (s : SubchannelState) (b : ActiveProgram) (signal : EndSignal) → IsMovedWithin n (Some b) → Sound floor n s →
-      Sound floor (n + 1) (stops_at s b signal).state
+      Sound floor (n + 1) (concludes s b signal).state
   stops-sound floor n s b signal w k =
       let e : Sound floor (n + 1) (with_cause s (cause.End b signal.status signal.more)) = made-sound floor n s (cause.End b signal.status signal.more) (moved-later n (Some b) w) k in
-      pick floor (n + 1) (is_last_end signal.status) (let_go (end_shown_at s b signal)) (quietly (end_shown_at s b signal)) e e
+      pick floor (n + 1) (is_last_end signal.status) (device_released (with_end_status s b signal)) (signal_taken (with_end_status s b signal)) e e
 
-  end_of-sound : (floor : Serials) (n : ℕ) (storage : Contents) (s : SubchannelState) (b : Option ActiveProgram) (signal : EndSignal) → IsMovedWithin n b → Sound floor n s →
-      Sound floor (n + 1) (end_of storage s b signal).state
-  end_of-sound floor n storage s None signal w k = later floor n s k
-  end_of-sound floor n storage s (Some b) signal w k =
-      pick floor (n + 1) (signal.command == b.transfer.command) (command_ended storage s b signal) (ignoring s)
-      (pick floor (n + 1) (chains_command s.scsw b signal.status signal.more) (goes_on storage s (with_end b) signal) (stops_at s b signal)
-      (goes_on-sound floor n storage s (with_end b) signal w k) (stops-sound floor n s b signal w k))
+  ends_at_work-sound : (floor : Serials) (n : ℕ) (storage : Contents) (s : SubchannelState) (b : Option ActiveProgram) (signal : EndSignal) → IsMovedWithin n b → Sound floor n s →
+      Sound floor (n + 1) (ends_at_work storage s b signal).state
+  ends_at_work-sound floor n storage s None signal w k = later floor n s k
+  ends_at_work-sound floor n storage s (Some b) signal w k =
+      pick floor (n + 1) (signal.command == b.transfer.command) (ends_command storage s b signal) (signal_ignored s)
+      (pick floor (n + 1) (chains_command s.scsw b signal.status signal.more) (chains_at_device_end storage s (with_first_end b) signal) (concludes s b signal)
+      (chains_at_device_end-sound floor n storage s (with_first_end b) signal w k) (stops-sound floor n s b signal w k))
       (later floor n s k)
 
   end-sound : (floor : Serials) (n : ℕ) (storage : Contents) (s : SubchannelState) (signal : EndSignal) → Sound floor n s →
-      Sound floor (n + 1) (end_command storage s signal).state
+      Sound floor (n + 1) (takes_end storage s signal).state
   end-sound floor n storage s signal k =
-      pick floor (n + 1) (is_on s.hold.phase signal.number) (end_of storage s s.begun signal) (ignoring s) (end_of-sound floor n storage s s.begun signal k.3 k) (later floor n s k)
+      pick floor (n + 1) (is_on s.hold.phase signal.number) (ends_at_work storage s s.begun signal) (signal_ignored s) (ends_at_work-sound floor n storage s s.begun signal k.3 k) (later floor n s k)
 
-  reset-sound : (floor : Serials) (n : ℕ) (s : SubchannelState) (step : Option HoldStep) → Sound floor n s → Sound floor (n + 1) (reset_taken s step).state
+  reset-sound : (floor : Serials) (n : ℕ) (s : SubchannelState) (step : Option HoldStep) → Sound floor n s → Sound floor (n + 1) (takes_cleared s step).state
   reset-sound floor n s None k = later floor n s k
   reset-sound floor n s (Some step) k =
       pick-state floor (n + 1) s.scsw.activity.clear_pending (with_cause (record s { hold = step.state }) cause.ClearDone) (record s { hold = step.state })
@@ -398,7 +408,7 @@ module _ (numbered : AreNumbered) where
   pub up-sound : (returns : Bool) → (floor : Serials) (n : ℕ) (storage : Contents) (s : SubchannelState) (p : ℕ) (signal : Up) → Sound floor n s →
       Sound floor (n + 1) (takes_up returns storage s p signal).step.state
   up-sound returns floor n storage s p (up.Accept t) k =
-      let step = hold_takes s.hold p (up.Accept t) (goes_ahead s) in accept-sound floor n storage s (hold_after s.hold step) (came_of step) k
+      let step = hold_takes s.hold p (up.Accept t) (takes_device s) in accept-sound floor n storage s (hold_after s.hold step) (came_of step) k
   up-sound returns floor n storage s p (up.Busy t) k = later floor n s k
   up-sound returns floor n storage s p (up.Leave t c) k = later floor n s k
   up-sound returns floor n storage s p (up.Back t c) k = later floor n s k
@@ -407,10 +417,10 @@ module _ (numbered : AreNumbered) where
   up-sound returns floor n storage s p (up.Released t) k = later floor n s k
   up-sound returns floor n storage s p (up.Cleared r) k = reset-sound floor n s (hold_takes s.hold p (up.Cleared r) false) k
   up-sound returns floor n storage s p (up.Notice b) k =
-      pick floor (n + 1) (nat_lt s.hold.known b) (quietly (reset_for (with_known s b))) (ignoring s)
+      pick floor (n + 1) (nat_lt s.hold.known b) (signal_taken (reset_for (with_known s b))) (signal_ignored s)
       (reset_with-sound floor n (with_known s b) (is_offered_or_held s.hold.phase && has_any s.waiting s.begun s.suspended) k) (later floor n s k)
   up-sound returns floor n storage s p (up.Attn a st) k =
-      let step : Option HoldStep = hold_takes s.hold p (up.Attn a st) (may_attend s) in
+      let step : Option HoldStep = hold_takes s.hold p (up.Attn a st) (may_take_attention s) in
       let next : SubchannelState = record s { hold = hold_after s.hold step } in
       pick-state floor (n + 1) ((came_of step).taken && not (st.0 == 0x20)) (with_cause next cause.Attention) next
       (made-sound floor n next cause.Attention tt k) (later floor n s k)

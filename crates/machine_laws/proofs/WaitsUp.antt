@@ -12,13 +12,15 @@ use Rattle.chan_model.specs.HoldTable.{came_of, HoldStep, program_begun, found_b
 use Rattle.chan_model.specs.Loads.{load_length}
 use Rattle.chan_model.specs.ResetCauses.{is_held}
 use Rattle.chan_model.specs.UnitReports.{is_last_end, is_outward, has_device_end}
-use Rattle.ccw_walk.specs.Walks.{WalkPlace}
+use Rattle.ccw_walk.specs.Places.{WalkPlace}
 use Rattle.data_move.specs.Moving.{residual}
 use Rattle.transfer.specs.declared.CommandStart.{CommandStart}
 use Rattle.transfer.specs.declared.CommandStart.TheVariants as came
 use Rattle.transfer.specs.declared.Transfer.{Transfer}
 use Rattle.transfer.specs.Commands.{first_command, next_command, begun_with_room, with_room}
-use Rattle.transfer.specs.Chunks.{taken_by_device, next_given, brought, is_answered}
+use Rattle.transfer.specs.ToDevice.{chunk_absorbed, next_chunk}
+use Rattle.transfer.specs.FromDevice.{chunk_stored}
+use Rattle.transfer.specs.ChunkNumbers.{is_answered}
 use Rattle.subchannel_model.specs.declared.cause.StatusCause.TheVariants as cause
 use Rattle.subchannel_model.specs.declared.signals.DataSignal.{DataSignal}
 use Rattle.subchannel_model.specs.declared.signals.EndSignal.{EndSignal}
@@ -30,9 +32,17 @@ use Rattle.subchannel_model.specs.declared.state.UpStep.{UpStep}
 use Rattle.scsw_irb.specs.declared.scsw.Scsw.{Scsw}
 use Rattle.subchannel_model.specs.Causes.{with_cause}
 use Rattle.subchannel_model.specs.Ends.{has_status_modifier, chains_command}
-use Rattle.subchannel_model.proofs.Named.{with_pci_of, give_next}
-use Rattle.subchannel_model.specs.Taking.{back, may_attend, Met, meets, ignoring, quietly, let_go, by_hold, without_pci, from_start, suspended_as, standing_as, standing, goes_ahead, path_used, taking_over, suspending, beginning, begin_standing, halt_done, accept, with_transfer, moving_on, take_in, move_bytes, move_data, with_end, end_taken, chaining, goes_on, stops_at, command_ended, end_of, reset_taken, takes_up, with_attention}
-use Rattle.subchannel_model.specs.Parts.{suspended_alone, standing_still, chain_with, end_shown_at}
+use Rattle.subchannel_model.specs.Taking.{takes_up}
+use Rattle.subchannel_model.specs.Attention.{with_attention, may_take_attention}
+use Rattle.subchannel_model.specs.Pci.{with_pci_of, without_pci}
+use Rattle.subchannel_model.specs.Data.{gives_next_chunk, after_chunk, tells_room_after, moves_bytes, moves_data}
+use Rattle.subchannel_model.specs.Back.{takes_back}
+use Rattle.subchannel_model.specs.Outcomes.{SignalOutcome, with_storage, signal_ignored, signal_taken, device_released, hold_outcome}
+use Rattle.subchannel_model.specs.Accept.{position_at_start, suspended_position, position_of_start, offered_position, takes_device, with_path_used, with_program_at_work, first_ccw_outcome, begins_at, halt_performed, takes_accept}
+use Rattle.subchannel_model.specs.Suspension.{program_suspended, suspended_alone, with_suspended_program}
+use Rattle.subchannel_model.specs.Command.{with_transfer}
+use Rattle.subchannel_model.specs.End.{with_first_end, with_allegiance_after_end, next_ccw_outcome, chains_at_device_end, concludes, ends_command, ends_at_work, chains_with, with_end_status}
+use Rattle.subchannel_model.specs.Cleared.{takes_cleared}
 use Rattle.machine_laws.proofs.Resetting.{notice-turned}
 use Rattle.machine_laws.proofs.Waits.{no-less, WaitsAs, IsBegunHeld, Waits, Turned, IsCalm, kept, cause-calm, fault-begun, fault-waiting, end-held, end-begun, not-begun, none-held, held-by, held-on, let-offer, moved-as, calm-as, calm-turned, same-turned, if-turned}
 
@@ -87,10 +97,10 @@ if-bare : (b : Bool) (x y : SubchannelState) → IsBare x → IsBare y → IsBar
 if-bare true x y e f = e
 if-bare false x y e f = f
 
-suspending-bare : (s : SubchannelState) (program : Program) (walk : WalkPlace) (count : ℕ) → IsBare (suspending s program walk count)
+suspending-bare : (s : SubchannelState) (program : Program) (walk : WalkPlace) (count : ℕ) → IsBare (program_suspended s program walk count)
 suspending-bare s program walk count =
     if-bare program.orb.suppress_suspended
-    (record (standing_still s program walk count) { scsw = suspended_alone s.scsw }) (with_cause (standing_still s program walk count) (cause.Suspension walk.tried count))
+    (record (with_suspended_program s program walk count) { scsw = suspended_alone s.scsw }) (with_cause (with_suspended_program s program walk count) (cause.Suspension walk.tried count))
     (refl, refl) (refl, refl)
 
 -- numbers that stay
@@ -102,18 +112,18 @@ if-numbered : (s : SubchannelState) (b : Bool) (x y : SubchannelState) → IsNum
 if-numbered s true x y e f = e
 if-numbered s false x y e f = f
 
-suspending-numbered : (s : SubchannelState) (program : Program) (walk : WalkPlace) (count : ℕ) → IsNumbered s (suspending s program walk count)
+suspending-numbered : (s : SubchannelState) (program : Program) (walk : WalkPlace) (count : ℕ) → IsNumbered s (program_suspended s program walk count)
 suspending-numbered s program walk count =
     if-numbered s program.orb.suppress_suspended
-    (record (standing_still s program walk count) { scsw = suspended_alone s.scsw }) (with_cause (standing_still s program walk count) (cause.Suspension walk.tried count))
+    (record (with_suspended_program s program walk count) { scsw = suspended_alone s.scsw }) (with_cause (with_suspended_program s program walk count) (cause.Suspension walk.tried count))
     (record { starts = refl; drawn = refl }) (record { starts = refl; drawn = refl })
 
 -- the program that was offered goes ahead where no halt is pending
 goes-on : (program : Program) (suspended : Option ProgramPosition) (start : ℕ) (halt : Bool) → program.start ≡ start → halt ≡ false →
-    (is_some (standing_as (Some program) suspended start) && not halt) ≡ true
+    (is_some (position_of_start (Some program) suspended start) && not halt) ≡ true
 goes-on program suspended start halt e f =
-    ap (λ (h : Bool). is_some (standing_as (Some program) suspended start) && not h) f
-    ∙ ap (λ (same : Bool). is_some (if same then Some (from_start program) else suspended_as suspended start) && not false) (eq-eqb program.start start e)
+    ap (λ (h : Bool). is_some (position_of_start (Some program) suspended start) && not h) f
+    ∙ ap (λ (same : Bool). is_some (if same then Some (position_at_start program) else suspended_position suspended start) && not false) (eq-eqb program.start start e)
 
 module _ (A : Type 0) (B : ℕ → Type 0) where
   -- neither begun nor waiting, whatever the hold is
@@ -128,17 +138,17 @@ module _ (A : Type 0) (B : ℕ → Type 0) where
         };
       }
 
-  let-bare : (s x : SubchannelState) → IsBare x → IsNumbered s x → Turned A B s (let_go x).state
-  let-bare s x b n = bare-turned s x (let_go x).state b n refl refl refl refl
+  let-bare : (s x : SubchannelState) → IsBare x → IsNumbered s x → Turned A B s (device_released x).state
+  let-bare s x b n = bare-turned s x (device_released x).state b n refl refl refl refl
 
-  let-turned : (s x : SubchannelState) → IsCalm s x → x.begun ≡ None → WaitsAs A B s s.waiting → Turned A B s (let_go x).state
+  let-turned : (s x : SubchannelState) → IsCalm s x → x.begun ≡ None → WaitsAs A B s s.waiting → Turned A B s (device_released x).state
   let-turned s x c n k =
       record {
         starts = c.starts;
-        drawn = no-less s.drawn (let_go x).state.drawn c.drawn;
+        drawn = no-less s.drawn (device_released x).state.drawn c.drawn;
         waits = record {
-          waiting = moved-as A B x (let_go x).state refl refl (λ t p e. let-offer x.hold x.hold.phase t p refl e) x.waiting (calm-as A B s x c k);
-          begun = none-held x.begun (let_go x).state.hold.phase n;
+          waiting = moved-as A B x (device_released x).state refl refl (λ t p e. let-offer x.hold x.hold.phase t p refl e) x.waiting (calm-as A B s x c k);
+          begun = none-held x.begun (device_released x).state.hold.phase n;
         };
       }
 
@@ -147,18 +157,18 @@ module _ (A : Type 0) (B : ℕ → Type 0) where
   if-step s true x y e f = e refl
   if-step s false x y e f = f refl
 
-  if-met : (s : SubchannelState) (b : Bool) (x y : Met) → Turned A B s x.step.state → Turned A B s y.step.state → Turned A B s (if b then x else y).step.state
+  if-met : (s : SubchannelState) (b : Bool) (x y : SignalOutcome) → Turned A B s x.step.state → Turned A B s y.step.state → Turned A B s (if b then x else y).step.state
   if-met s true x y e f = e
   if-met s false x y e f = f
 
   -- the hold alone takes it
-  still-turned : (s : SubchannelState) (step : Option HoldStep) → IsStill s.hold step → Waits A B s → Turned A B s (by_hold s step).state
+  still-turned : (s : SubchannelState) (step : Option HoldStep) → IsStill s.hold step → Waits A B s → Turned A B s (hold_outcome s step).state
   still-turned s step h k =
       record {
         starts = refl;
         drawn = omega arith;
         waits = record {
-          waiting = moved-as A B s (by_hold s step).state refl refl h.offer s.waiting k.waiting;
+          waiting = moved-as A B s (hold_outcome s step).state refl refl h.offer s.waiting k.waiting;
           begun = held-on s.begun s.hold.phase (hold_after s.hold step).phase h.held k.begun;
         };
       }
@@ -173,7 +183,7 @@ module _ (A : Type 0) (B : ℕ → Type 0) where
   attention-turned s y true k = calm-then s y (with_cause y cause.Attention) (cause-calm y cause.Attention) k.waits.begun k
   attention-turned s y false k = k
 
-  reset-turned : (s : SubchannelState) (step : Option HoldStep) → Turned A B s (by_hold s step).state → Turned A B s (reset_taken s step).state
+  reset-turned : (s : SubchannelState) (step : Option HoldStep) → Turned A B s (hold_outcome s step).state → Turned A B s (takes_cleared s step).state
   reset-turned s None k = k
   reset-turned s (Some step) k =
       if-turned A B s s.scsw.activity.clear_pending (with_cause (record s { hold = step.state }) cause.ClearDone) (record s { hold = step.state })
@@ -192,33 +202,33 @@ module _ (A : Type 0) (B : ℕ → Type 0) where
       (λ i. calm-turned A B s _ (record { starts = c.starts; drawn = c.drawn; offered = c.offered; waiting = c.waiting; hold = c.hold }) k h)
       (λ i. calm-turned A B s t c k (subst (λ (x : Option ActiveProgram). IsBegunHeld x t.hold.phase) (sym e) h))
 
-  moving-turned : (s : SubchannelState) (b : ActiveProgram) (t : Transfer) → WaitsAs A B s s.waiting → is_held s.hold.phase ≡ true → Turned A B s (moving_on s b t)
+  moving-turned : (s : SubchannelState) (b : ActiveProgram) (t : Transfer) → WaitsAs A B s s.waiting → is_held s.hold.phase ≡ true → Turned A B s (after_chunk s b t)
   moving-turned s b t k h =
       interrupted-turned s (with_transfer s b t) (record b { transfer = t }) (kept s (with_transfer s b t) refl refl refl refl refl) k h refl
 
   -- Accept
   begins-turned : (storage : Contents) (s : SubchannelState) (p t : ℕ) (st : ProgramPosition) (walk : WalkPlace) (r : CommandStart) → s.begun ≡ None → is_held s.hold.phase ≡ true →
-      Turned A B s (beginning storage s p t st walk r).state
+      Turned A B s (first_ccw_outcome storage s p t st walk r).state
   begins-turned storage s p t st walk (came.Begins transfer) n h =
-      let next = taking_over s st.program (begun_with_room storage transfer).transfer in
+      let next = with_program_at_work s st.program (begun_with_room storage transfer).transfer in
       let over : Turned A B next (with_pci_of next _) =
       interrupted-turned next next (record { program = st.program; primary_shown = false; transfer = (begun_with_room storage transfer).transfer })
       (kept next next refl refl refl refl refl) tt h refl in
       record { starts = over.starts; drawn = over.drawn; waits = over.waits }
   begins-turned storage s p t st walk came.Suspends n h =
-      let-bare s (suspending s st.program walk st.count) (suspending-bare s st.program walk st.count) (suspending-numbered s st.program walk st.count)
+      let-bare s (program_suspended s st.program walk st.count) (suspending-bare s st.program walk st.count) (suspending-numbered s st.program walk st.count)
   begins-turned storage s p t st walk (came.Stops check) n h =
       let x = with_cause s (cause.FetchFault walk.tried check st.count) in
       let c : IsCalm s x = cause-calm s (cause.FetchFault walk.tried check st.count) in
       let-bare s x (fault-waiting s s.begun n, fault-begun s s.begun refl) (record { starts = c.starts; drawn = c.drawn })
 
   standing-turned : (storage : Contents) (s : SubchannelState) (p t : ℕ) (st : Option ProgramPosition) → is_some st ≡ true → s.begun ≡ None → is_held s.hold.phase ≡ true →
-      Turned A B s (begin_standing storage s p t st).state
+      Turned A B s (begins_at storage s p t st).state
   standing-turned storage s p t None e n h = absurd (cc e)
   standing-turned storage s p t (Some st) e n h = begins-turned storage s p t st (first_command storage st.walk).walk (first_command storage st.walk).came n h
 
   -- the program is let go as it is accepted: it is not that of the latest start, or a halt is pending
-  refused-as : (s x : SubchannelState) (w : Option Program) → x.starts ≡ s.starts → s.waiting ≡ w → s.scsw.activity.halt_pending ≡ false → goes_ahead s ≡ false →
+  refused-as : (s x : SubchannelState) (w : Option Program) → x.starts ≡ s.starts → s.waiting ≡ w → s.scsw.activity.halt_pending ≡ false → takes_device s ≡ false →
       WaitsAs A B s w → WaitsAs A B x w
   refused-as s x None a e f g k = tt
   refused-as s x (Some program) a e f g k =
@@ -227,15 +237,15 @@ module _ (A : Type 0) (B : ℕ → Type 0) where
         spent = elim k.spent [
           | inl b ↦ inl b
           | inr b ↦
-              let ahead : goes_ahead s ≡ true =
-              ap (λ (q : Option Program). is_some (standing_as q s.suspended s.offered) && not s.scsw.activity.halt_pending) e
+              let ahead : takes_device s ≡ true =
+              ap (λ (q : Option Program). is_some (position_of_start q s.suspended s.offered) && not s.scsw.activity.halt_pending) e
               ∙ goes-on program s.suspended s.offered s.scsw.activity.halt_pending (k.start ∙ sym b.offered) f in
               absurd (cc (sym ahead ∙ g))
         ];
       }
 
-  letting-turned : (s x : SubchannelState) → x.starts ≡ s.starts → x.drawn ≡ s.drawn → x.waiting ≡ s.waiting → x.begun ≡ None → x.scsw ≡ s.scsw → goes_ahead s ≡ false → WaitsAs A B s s.waiting →
-      Turned A B s (halt_done x)
+  letting-turned : (s x : SubchannelState) → x.starts ≡ s.starts → x.drawn ≡ s.drawn → x.waiting ≡ s.waiting → x.begun ≡ None → x.scsw ≡ s.scsw → takes_device s ≡ false → WaitsAs A B s s.waiting →
+      Turned A B s (halt_performed x)
   letting-turned s x a d w n same g k =
       if-turned A B s x.scsw.activity.halt_pending (with_cause x cause.HaltDone) x
       (λ e. record { starts = a; drawn = no-less s.drawn x.drawn d; waits = record { waiting = tt; begun = tt } })
@@ -249,26 +259,26 @@ module _ (A : Type 0) (B : ℕ → Type 0) where
         };
       })
 
-  offered-turned : (storage : Contents) (s : SubchannelState) (h : HoldState) (t q u : ℕ) (may same : Bool) → goes_ahead s ≡ may →
+  offered-turned : (storage : Contents) (s : SubchannelState) (h : HoldState) (t q u : ℕ) (may same : Bool) → takes_device s ≡ may →
       Waits A B (record s { hold = record h { phase = hold.Offer t q } }) →
       Turned A B (record s { hold = record h { phase = hold.Offer t q } })
-      (accept storage (record s { hold = record h { phase = hold.Offer t q } }) (if same then Some (program_begun (record h { phase = hold.Offer t q }) t q may) else None)).state
+      (takes_accept storage (record s { hold = record h { phase = hold.Offer t q } }) (if same then Some (program_begun (record h { phase = hold.Offer t q }) t q may) else None)).state
   offered-turned storage s h t q u may false g k = same-turned A B _ k
   offered-turned storage s h t q u true true g k =
-      let both : (is_some (standing s) ≡ true) × (not s.scsw.activity.halt_pending ≡ true) = and_parts (is_some (standing s)) (not s.scsw.activity.halt_pending) g in
+      let both : (is_some (offered_position s) ≡ true) × (not s.scsw.activity.halt_pending ≡ true) = and_parts (is_some (offered_position s)) (not s.scsw.activity.halt_pending) g in
       let x : Turned A B _ _ =
-      standing-turned storage (record s { hold = record h { phase = hold.On t q 0; seen = 0; first_path = Some q }; pmcw = path_used s.pmcw q }) q t (standing s) both.0
+      standing-turned storage (record s { hold = record h { phase = hold.On t q 0; seen = 0; first_path = Some q }; pmcw = with_path_used s.pmcw q }) q t (offered_position s) both.0
       (not-begun s.begun (hold.Offer t q) refl k.begun) refl in
       record { starts = x.starts; drawn = x.drawn; waits = x.waits }
   offered-turned storage s h t q u false true g k =
       letting-turned (record s { hold = record h { phase = hold.Offer t q } })
-      (record s { hold = record h { phase = hold.Letting t q; seen = 0; first_path = Some q }; pmcw = path_used s.pmcw q })
+      (record s { hold = record h { phase = hold.Letting t q; seen = 0; first_path = Some q }; pmcw = with_path_used s.pmcw q })
       refl refl refl (not-begun s.begun (hold.Offer t q) refl k.begun) refl g k.waiting
 
-  accept-turned : (storage : Contents) (s : SubchannelState) (h : HoldState) (phase : HoldPhase) (p u : ℕ) (may : Bool) → goes_ahead s ≡ may →
+  accept-turned : (storage : Contents) (s : SubchannelState) (h : HoldState) (phase : HoldPhase) (p u : ℕ) (may : Bool) → takes_device s ≡ may →
       Waits A B (record s { hold = record h { phase = phase } }) →
       Turned A B (record s { hold = record h { phase = phase } })
-      (accept storage (record s { hold = record h { phase = phase } }) (hold_takes (record h { phase = phase }) p (up.Accept u) may)).state
+      (takes_accept storage (record s { hold = record h { phase = phase } }) (hold_takes (record h { phase = phase }) p (up.Accept u) may)).state
   accept-turned storage s h (hold.Offer t q) p u may g k = offered-turned storage s h t q u may (u == t) g k
   accept-turned storage s h other p u may g k = same-turned A B _ k
 
@@ -290,7 +300,7 @@ module _ (A : Type 0) (B : ℕ → Type 0) where
 
   busy-if : (s : SubchannelState) (h : HoldState) (t q u : ℕ) (same : Bool) → (u == t) ≡ same → (B u → A) → Waits A B (record s { hold = record h { phase = hold.Offer t q } }) →
       Turned A B (record s { hold = record h { phase = hold.Offer t q } })
-      (by_hold (record s { hold = record h { phase = hold.Offer t q } }) (if same then Some (record { state = record h { phase = hold.Free }; sent = None }) else None)).state
+      (hold_outcome (record s { hold = record h { phase = hold.Offer t q } }) (if same then Some (record { state = record h { phase = hold.Free }; sent = None }) else None)).state
   busy-if s h t q u false e f k = same-turned A B _ k
   busy-if s h t q u true e f k =
       record {
@@ -305,82 +315,82 @@ module _ (A : Type 0) (B : ℕ → Type 0) where
 
   busy-turned : (s : SubchannelState) (h : HoldState) (phase : HoldPhase) (u : ℕ) → (B u → A) → Waits A B (record s { hold = record h { phase = phase } }) →
       Turned A B (record s { hold = record h { phase = phase } })
-      (by_hold (record s { hold = record h { phase = phase } }) (found_busy (record h { phase = phase }) phase u)).state
+      (hold_outcome (record s { hold = record h { phase = phase } }) (found_busy (record h { phase = phase }) phase u)).state
   busy-turned s h (hold.Offer t q) u f k = busy-if s h t q u (u == t) refl f k
   busy-turned s h other u f k = same-turned A B _ k
 
   -- Data
   move-turned : (storage : Contents) (s : SubchannelState) (b : Option ActiveProgram) (signal : DataSignal) (load : Load) → s.begun ≡ b → Waits A B s →
-      Turned A B s (move_data storage s b signal load).step.state
+      Turned A B s (moves_data storage s b signal load).step.state
   move-turned storage s None signal load e k = same-turned A B s k
   move-turned storage s (Some b) signal load e k =
       let held : is_held s.hold.phase ≡ true = held-by s.begun b s.hold.phase e k.begun in
-      if-met s (is_answered b.transfer signal.command signal.sequence) (move_bytes storage s b signal load) (meets storage (ignoring s))
-      (if-met s (is_outward b.transfer.code) (meets storage (give_next storage s b signal (load_length load))) (take_in s b signal (brought storage b.transfer signal.sequence (load_bytes load)))
-      (moving-turned s b (next_given storage (taken_by_device storage b.transfer signal.sequence (load_length load))).transfer k.waiting held)
-      (moving-turned s b (with_room (brought storage b.transfer signal.sequence (load_bytes load)).storage (brought storage b.transfer signal.sequence (load_bytes load)).transfer).transfer k.waiting held))
+      if-met s (is_answered b.transfer signal.command signal.sequence) (moves_bytes storage s b signal load) (with_storage storage (signal_ignored s))
+      (if-met s (is_outward b.transfer.code) (with_storage storage (gives_next_chunk storage s b signal (load_length load))) (tells_room_after s b signal (chunk_stored storage b.transfer signal.sequence (load_bytes load)))
+      (moving-turned s b (next_chunk storage (chunk_absorbed storage b.transfer signal.sequence (load_length load))).transfer k.waiting held)
+      (moving-turned s b (with_room (chunk_stored storage b.transfer signal.sequence (load_bytes load)).storage (chunk_stored storage b.transfer signal.sequence (load_bytes load)).transfer).transfer k.waiting held))
       (same-turned A B s k)
 
   -- End
   chaining-turned : (storage : Contents) (s : SubchannelState) (b : ActiveProgram) (signal : EndSignal) (walk : WalkPlace) (r : CommandStart) → is_held s.hold.phase ≡ true →
-      WaitsAs A B s s.waiting → Turned A B s (chaining storage s b signal walk r).state
+      WaitsAs A B s s.waiting → Turned A B s (next_ccw_outcome storage s b signal walk r).state
   chaining-turned storage s b signal walk (came.Begins transfer) h k = moving-turned s b (begun_with_room storage transfer).transfer k h
   chaining-turned storage s b signal walk came.Suspends h k =
-      let x = suspending (end_taken s signal) b.program walk (residual b.transfer.moving) in
-      let n : IsNumbered (end_taken s signal) x = suspending-numbered (end_taken s signal) b.program walk (residual b.transfer.moving) in
-      let-bare s x (suspending-bare (end_taken s signal) b.program walk (residual b.transfer.moving)) (record { starts = n.starts; drawn = n.drawn })
+      let x = program_suspended (with_allegiance_after_end s signal) b.program walk (residual b.transfer.moving) in
+      let n : IsNumbered (with_allegiance_after_end s signal) x = suspending-numbered (with_allegiance_after_end s signal) b.program walk (residual b.transfer.moving) in
+      let-bare s x (suspending-bare (with_allegiance_after_end s signal) b.program walk (residual b.transfer.moving)) (record { starts = n.starts; drawn = n.drawn })
   chaining-turned storage s b signal walk (came.Stops check) h k =
-      let x = with_cause (end_taken s signal) (cause.FetchFault walk.tried check (residual b.transfer.moving)) in
-      let c : IsCalm (end_taken s signal) x = cause-calm (end_taken s signal) (cause.FetchFault walk.tried check (residual b.transfer.moving)) in
+      let x = with_cause (with_allegiance_after_end s signal) (cause.FetchFault walk.tried check (residual b.transfer.moving)) in
+      let c : IsCalm (with_allegiance_after_end s signal) x = cause-calm (with_allegiance_after_end s signal) (cause.FetchFault walk.tried check (residual b.transfer.moving)) in
       let-turned s x (record { starts = c.starts; drawn = c.drawn; offered = c.offered; waiting = c.waiting; hold = c.hold })
-      (fault-begun (end_taken s signal) s.begun refl) k
+      (fault-begun (with_allegiance_after_end s signal) s.begun refl) k
 
   stops-turned : (s : SubchannelState) (b : ActiveProgram) (signal : EndSignal) → is_held s.hold.phase ≡ true → WaitsAs A B s s.waiting →
-      Turned A B s (stops_at s b signal).state
+      Turned A B s (concludes s b signal).state
   stops-turned s b signal h k =
-      let x = end_shown_at s b signal in
+      let x = with_end_status s b signal in
       let c : IsCalm s (with_cause s (cause.End b signal.status signal.more)) = cause-calm s (cause.End b signal.status signal.more) in
       let calm : IsCalm s x = record { starts = c.starts; drawn = c.drawn; offered = c.offered; waiting = c.waiting; hold = c.hold } in
-      if-step s (is_last_end signal.status) (let_go x) (quietly x)
+      if-step s (is_last_end signal.status) (device_released x) (signal_taken x)
       (λ e. let-turned s x calm (end-begun s b (is_last_end signal.status) e) k)
       (λ e. calm-turned A B s x calm k
       (subst (λ (g : HoldState). IsBegunHeld x.begun g.phase) (sym c.hold) (end-held s b (is_last_end signal.status) s.hold.phase h)))
 
-  end_of-turned : (storage : Contents) (s : SubchannelState) (b : Option ActiveProgram) (signal : EndSignal) → s.begun ≡ b → Waits A B s →
-      Turned A B s (end_of storage s b signal).state
-  end_of-turned storage s None signal e k = same-turned A B s k
-  end_of-turned storage s (Some b) signal e k =
+  ends_at_work-turned : (storage : Contents) (s : SubchannelState) (b : Option ActiveProgram) (signal : EndSignal) → s.begun ≡ b → Waits A B s →
+      Turned A B s (ends_at_work storage s b signal).state
+  ends_at_work-turned storage s None signal e k = same-turned A B s k
+  ends_at_work-turned storage s (Some b) signal e k =
       let held : is_held s.hold.phase ≡ true = held-by s.begun b s.hold.phase e k.begun in
-      if-step s (signal.command == b.transfer.command) (command_ended storage s b signal) (ignoring s)
-      (λ c. if-step s (chains_command s.scsw b signal.status signal.more) (goes_on storage s (with_end b) signal) (stops_at s b signal)
-      (λ d. if-step s (has_device_end signal.status) (chain_with storage s (with_end b) signal (next_command storage (with_end b).transfer (has_status_modifier signal.status)))
-      (quietly (record (end_taken s signal) { begun = Some (with_end b) }))
-      (λ f. chaining-turned storage s (with_end b) signal (next_command storage (with_end b).transfer (has_status_modifier signal.status)).walk
-      (next_command storage (with_end b).transfer (has_status_modifier signal.status)).came held k.waiting)
+      if-step s (signal.command == b.transfer.command) (ends_command storage s b signal) (signal_ignored s)
+      (λ c. if-step s (chains_command s.scsw b signal.status signal.more) (chains_at_device_end storage s (with_first_end b) signal) (concludes s b signal)
+      (λ d. if-step s (has_device_end signal.status) (chains_with storage s (with_first_end b) signal (next_command storage (with_first_end b).transfer (has_status_modifier signal.status)))
+      (signal_taken (record (with_allegiance_after_end s signal) { begun = Some (with_first_end b) }))
+      (λ f. chaining-turned storage s (with_first_end b) signal (next_command storage (with_first_end b).transfer (has_status_modifier signal.status)).walk
+      (next_command storage (with_first_end b).transfer (has_status_modifier signal.status)).came held k.waiting)
       (λ f. calm-turned A B s _ (kept s _ refl refl refl refl refl) k.waiting held))
       (λ d. stops-turned s b signal held k.waiting))
       (λ c. same-turned A B s k)
 
   pub takes-turned : (returns : Bool) → (storage : Contents) (s : SubchannelState) (p : ℕ) (x : Up) → ((u : ℕ) → x ≡ up.Busy u → B u → A) → Waits A B s → Turned A B s (takes_up returns storage s p x).step.state
-  takes-turned returns storage s p (up.Accept t) f k = accept-turned storage s s.hold s.hold.phase p t (goes_ahead s) refl k
+  takes-turned returns storage s p (up.Accept t) f k = accept-turned storage s s.hold s.hold.phase p t (takes_device s) refl k
   takes-turned returns storage s p (up.Busy t) f k = busy-turned s s.hold s.hold.phase t (f t refl) k
   takes-turned returns storage s p (up.Leave t c) f k = still-turned s (left s.hold s.hold.phase t c) (left-still s.hold s.hold.phase t c refl) k
   takes-turned returns storage s p (up.Back t c) f k =
       let step : Option HoldStep = asked_back s.hold s.hold.phase p t c returns in
-      let turned : Turned A B s (by_hold s step).state = still-turned s step (back-still s.hold s.hold.phase p t c returns refl) k in
-      calm-then s (by_hold s step).state (back s p step).state (kept (by_hold s step).state (back s p step).state refl refl refl refl refl)
+      let turned : Turned A B s (hold_outcome s step).state = still-turned s step (back-still s.hold s.hold.phase p t c returns refl) k in
+      calm-then s (hold_outcome s step).state (takes_back s p step).state (kept (hold_outcome s step).state (takes_back s p step).state refl refl refl refl refl)
       turned.waits.begun turned
   takes-turned returns storage s p (up.Data load t c n seq) f k =
-      if-met s (is_connected s.hold.phase p t c) (move_data storage s s.begun (record { path = p; number = t; connection = c; command = n; sequence = seq }) load) (meets storage (ignoring s))
+      if-met s (is_connected s.hold.phase p t c) (moves_data storage s s.begun (record { path = p; number = t; connection = c; command = n; sequence = seq }) load) (with_storage storage (signal_ignored s))
       (move-turned storage s s.begun (record { path = p; number = t; connection = c; command = n; sequence = seq }) load refl k) (same-turned A B s k)
   takes-turned returns storage s p (up.End t n status more) f k =
-      if-step s (is_on s.hold.phase t) (end_of storage s s.begun (record { path = p; number = t; command = n; status = status; more = more })) (ignoring s)
-      (λ e. end_of-turned storage s s.begun (record { path = p; number = t; command = n; status = status; more = more }) refl k) (λ e. same-turned A B s k)
+      if-step s (is_on s.hold.phase t) (ends_at_work storage s s.begun (record { path = p; number = t; command = n; status = status; more = more })) (signal_ignored s)
+      (λ e. ends_at_work-turned storage s s.begun (record { path = p; number = t; command = n; status = status; more = more }) refl k) (λ e. same-turned A B s k)
   takes-turned returns storage s p (up.Released t) f k = still-turned s (released s.hold s.hold.phase t) (released-still s.hold s.hold.phase t refl) k
   takes-turned returns storage s p (up.Cleared r) f k =
       reset-turned s (reset_cleared s.hold s.hold.phase r) (still-turned s (reset_cleared s.hold s.hold.phase r) (cleared-still s.hold s.hold.phase r refl) k)
   takes-turned returns storage s p (up.Notice b) f k = notice-turned A B s b (nat_lt s.hold.known b) k
   takes-turned returns storage s p (up.Attn a status) f k =
-      let step : Option HoldStep = attended s.hold s.hold.phase p a (may_attend s) in
-      attention-turned s (by_hold s step).state ((came_of step).taken && not (status.0 == 0x20))
-      (still-turned s step (attended-still s.hold s.hold.phase p a (may_attend s) refl) k)
+      let step : Option HoldStep = attended s.hold s.hold.phase p a (may_take_attention s) in
+      attention-turned s (hold_outcome s step).state ((came_of step).taken && not (status.0 == 0x20))
+      (still-turned s step (attended-still s.hold s.hold.phase p a (may_take_attention s) refl) k)

@@ -8,7 +8,7 @@ use Rattle.chan_events.specs.declared.reply.Entry.{Entry}
 use Rattle.chan_events.specs.Replies.{Reply}
 use Rattle.chan_events.specs.declared.reply.Reply.TheVariants as reply
 use Rattle.subchannel_model.specs.declared.state.Subchannel.{Subchannel}
-use Rattle.subchannel_model.specs.Taking.{is_grant}
+use Rattle.subchannel_model.specs.Back.{is_grant}
 use Rattle.machine_model.specs.State.{State, place_of, sub_of}
 use Rattle.machine_model.specs.Steps.{Run, Opened, Stepped}
 

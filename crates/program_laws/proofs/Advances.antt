@@ -15,8 +15,9 @@ use Rattle.ccw_walk.specs.declared.program.Reading.TheVariants.{Transfers, Takes
 use Rattle.ccw_walk.specs.Acts.{Act, Block, Unfetched, Used_up, End, Word}
 use Rattle.ccw_walk.specs.Blocks.{reads}
 use Rattle.ccw_walk.specs.Programs.{Command, next, next_after, role_of, role_after, commands, commands_after}
-use Rattle.ccw_walk.proofs.Named.{acts_at, after_block, act_of_fetch, with_target, block_advance}
-use Rattle.ccw_walk.specs.Walks.{WalkPlace, walk_place, is_program_misplaced, fetch_act, acts_from, advance_acts, advance_of}
+use Rattle.ccw_walk.specs.Advancing.{acts_from_next, with_tic_target, advance_of_ccw, acts_from_fetch, advance_acts, advance_of_acts}
+use Rattle.ccw_walk.specs.Places.{after_block, WalkPlace, walk_place}
+use Rattle.ccw_walk.specs.Fetching.{act_of_fetch, is_program_misplaced, fetch_act}
 use Rattle.idaw.specs.Places.{Reach}
 use Rattle.program_laws.specs.Claims.{shows_check, has_check, EndsAtCheck}
 use Rattle.program_laws.specs.DataAreas.{data_areas, reaches_after}
@@ -42,7 +43,7 @@ Went c cs ds rs qs n role (Some (advance.Stops check)) = (ds ≡ cs) × (qs ≡ 
 Went c cs ds rs qs n role None = (ds ≡ cs) × (qs ≡ rs)
 
 block-went : (cs : List Command) (rs : List Reach) (address : ℕ) (role : Role) (r : Reading) →
-    Went role.chained cs (commands_after role.chained cs r) rs (reaches_after role.chained cs rs r) (next_after address r) (role_after role r) (block_advance r)
+    Went role.chained cs (commands_after role.chained cs r) rs (reaches_after role.chained cs rs r) (next_after address r) (role_after role r) (advance_of_ccw r)
 block-went cs rs address role (Transfers target) = (refl, refl)
 block-went cs rs address role (Takes ccw) = (refl, refl, refl, refl)
 block-went cs rs address role Suspends = (refl, refl, refl)
@@ -53,7 +54,7 @@ abbrev pub UnlessStops : Option Advance → Bool → Type 0
 UnlessStops (Some (advance.Stops check)) b = b ≡ true
 UnlessStops a b = b ≡ false
 
-block-checks : (r : Reading) (b : Bool) → b ≡ false → UnlessStops (block_advance r) (shows_check r || b)
+block-checks : (r : Reading) (b : Bool) → b ≡ false → UnlessStops (advance_of_ccw r) (shows_check r || b)
 block-checks Shows b e = refl
 block-checks other b e = e
 
@@ -61,7 +62,7 @@ block-checks other b e = e
 abbrev pub WentTo : Orb → List Act → List Act → Type 0
 WentTo orb before acts =
     Went (role_of orb before).chained (commands orb before) (commands orb (acts ++ before)) (data_areas orb before) (data_areas orb (acts ++ before))
-    (next orb (acts ++ before)) (role_of orb (acts ++ before)) (advance_of (walk_place orb before) acts)
+    (next orb (acts ++ before)) (role_of orb (acts ++ before)) (advance_of_acts (walk_place orb before) acts)
 
 went-from : (c d : Bool) (cs ds es : List Command) (rs qs ps : List Reach) (n : Option ℕ) (role : Role) (a : Option Advance) → d ≡ c → ds ≡ cs → qs ≡ rs →
     Went d ds es qs ps n role a → Went c cs es rs ps n role a
@@ -70,7 +71,7 @@ went-from c d cs ds es rs qs ps n role a e f g w =
     (subst (λ (x : List Command). Went d x es rs ps n role a) f (subst (λ (x : List Reach). Went d ds es x ps n role a) g w))
 
 target-went : (storage : Contents) (orb : Orb) (before : List Act) (address : ℕ) (bytes : List ℕ) (r : Reading) → reads orb (role_of orb before) bytes ≡ r →
-    WentTo orb before (with_target storage (after_block (walk_place orb before) address bytes) r (Block address bytes ∷ []))
+    WentTo orb before (with_tic_target storage (after_block (walk_place orb before) address bytes) r (Block address bytes ∷ []))
 target-went storage orb before address bytes (Transfers target) e =
     let role : Role = role_of orb before in
     let cs : List Command = commands orb before in
@@ -85,10 +86,10 @@ target-went storage orb before address bytes (Transfers target) e =
     (λ check. (commanded, reached))
 target-went storage orb before address bytes other e = block-went (commands orb before) (data_areas orb before) address (role_of orb before) (reads orb (role_of orb before) bytes)
 
-at-went : (storage : Contents) (orb : Orb) (before : List Act) (n : Option ℕ) → WentTo orb before (acts_at storage (walk_place orb before) n)
+at-went : (storage : Contents) (orb : Orb) (before : List Act) (n : Option ℕ) → WentTo orb before (acts_from_next storage (walk_place orb before) n)
 at-went storage orb before None = (refl, refl)
 at-went storage orb before (Some address) =
-    fetch_cases (λ act. WentTo orb before (acts_from storage (walk_place orb before) act)) storage orb (role_of orb before) address
+    fetch_cases (λ act. WentTo orb before (acts_from_fetch storage (walk_place orb before) act)) storage orb (role_of orb before) address
     (λ bytes. target-went storage orb before address bytes (reads orb (role_of orb before) bytes) refl)
     (λ check. (refl, refl))
 
@@ -97,11 +98,11 @@ advance-went storage orb before = at-went storage orb before (next orb before)
 
 -- none is fetched after a check
 abbrev EndsTo : Orb → List Act → List Act → Type 0
-EndsTo orb before acts = EndsAtCheck orb (acts ++ before) × UnlessStops (advance_of (walk_place orb before) acts) (has_check orb (acts ++ before))
+EndsTo orb before acts = EndsAtCheck orb (acts ++ before) × UnlessStops (advance_of_acts (walk_place orb before) acts) (has_check orb (acts ++ before))
 
 target-ends : (storage : Contents) (orb : Orb) (before : List Act) (address : ℕ) (bytes : List ℕ) (r : Reading) → reads orb (role_of orb before) bytes ≡ r →
     has_check orb before ≡ false → EndsAtCheck orb before →
-    EndsTo orb before (with_target storage (after_block (walk_place orb before) address bytes) r (Block address bytes ∷ []))
+    EndsTo orb before (with_tic_target storage (after_block (walk_place orb before) address bytes) r (Block address bytes ∷ []))
 target-ends storage orb before address bytes (Transfers target) e h k =
     let mid : List Act = Block address bytes ∷ before in
     let unchecked : has_check orb mid ≡ false = ap (λ (r : Reading). shows_check r || has_check orb before) e ∙ h in
@@ -111,10 +112,10 @@ target-ends storage orb before address bytes (Transfers target) e h k =
 target-ends storage orb before address bytes other e h k = ((h, k), block-checks (reads orb (role_of orb before) bytes) (has_check orb before) h)
 
 at-ends : (storage : Contents) (orb : Orb) (before : List Act) (n : Option ℕ) → has_check orb before ≡ false → EndsAtCheck orb before →
-    EndsTo orb before (acts_at storage (walk_place orb before) n)
+    EndsTo orb before (acts_from_next storage (walk_place orb before) n)
 at-ends storage orb before None h k = (k, h)
 at-ends storage orb before (Some address) h k =
-    fetch_cases (λ act. EndsTo orb before (acts_from storage (walk_place orb before) act)) storage orb (role_of orb before) address
+    fetch_cases (λ act. EndsTo orb before (acts_from_fetch storage (walk_place orb before) act)) storage orb (role_of orb before) address
     (λ bytes. target-ends storage orb before address bytes (reads orb (role_of orb before) bytes) refl h k)
     (λ check. ((h, k), refl))
 
@@ -123,10 +124,10 @@ pub advance-ends : (storage : Contents) (orb : Orb) (before : List Act) → has_
 advance-ends storage orb before h k = at-ends storage orb before (next orb before) h k
 
 -- where a block is next, one is fetched
-from-some : (storage : Contents) (old : WalkPlace) (act : Act) → 1 ≤ length (acts_from storage old act)
+from-some : (storage : Contents) (old : WalkPlace) (act : Act) → 1 ≤ length (acts_from_fetch storage old act)
 from-some storage old (Block address bytes) = by (reads old.orb old.role bytes)
   where
-    by : (r : Reading) → 1 ≤ length (with_target storage (after_block old address bytes) r (Block address bytes ∷ []))
+    by : (r : Reading) → 1 ≤ length (with_tic_target storage (after_block old address bytes) r (Block address bytes ∷ []))
     by (Transfers target) = omega arith
     by (Takes ccw) = omega arith
     by Suspends = omega arith
@@ -140,4 +141,4 @@ pub advance-some : (storage : Contents) (orb : Orb) (before : List Act) (address
     1 ≤ length (advance_acts storage (walk_place orb before))
 advance-some storage orb before address e =
     let old : WalkPlace = walk_place orb before in
-    subst (λ (n : Option ℕ). 1 ≤ length (acts_at storage old n)) (sym e) (from-some storage old (fetch_act storage orb old.role address))
+    subst (λ (n : Option ℕ). 1 ≤ length (acts_from_next storage old n)) (sym e) (from-some storage old (fetch_act storage orb old.role address))

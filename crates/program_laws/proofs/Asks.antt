@@ -20,8 +20,8 @@ use Rattle.ccw_walk.specs.declared.program.Ended.{Ended}
 use Rattle.ccw_walk.specs.Acts.{Act, Block, End, Used_up}
 use Rattle.ccw_walk.specs.Blocks.{reads}
 use Rattle.ccw_walk.specs.Programs.{next, role_of}
-use Rattle.ccw_walk.proofs.Named.{acts_at, after_block, after_used_up, block_advance, walk_after_end, with_target}
-use Rattle.ccw_walk.specs.Walks.{WalkPlace, walk_place, acts_from, after_acts, advance_acts, advance_of}
+use Rattle.ccw_walk.specs.Advancing.{acts_from_next, advance_of_ccw, with_tic_target, acts_from_fetch, advance_acts, advance_of_acts}
+use Rattle.ccw_walk.specs.Places.{after_block, after_count_used_up, after_command_end, WalkPlace, walk_place, after_acts}
 use Rattle.data_move.specs.Accesses as access
 use Rattle.data_move.specs.Moving.{Moving, needs_word, residual, room}
 use Rattle.idaw.specs.declared.WordFault.{WordFault}
@@ -30,15 +30,16 @@ use Rattle.transfer.specs.declared.Transfer.{Transfer}
 use Rattle.transfer.specs.declared.CommandStart.{CommandStart}
 use Rattle.transfer.specs.declared.CommandStart.TheVariants as came
 use Rattle.transfer.specs.Commands.{begun_with_room, brings, command_begins, goes_to, has_stopped, located_transfer, next_command, transfer_of, with_located, with_room}
-use Rattle.transfer.specs.Chunks.{brought, brought_by, brought_in, chained, chained_from, chained_to, chains_data, fitting, given_bytes, moved_on, next_given, taken_by_device, with_answer, with_moved}
-use Rattle.transfer.proofs.Named.{next_chunk_of}
+use Rattle.transfer.specs.FromDevice.{chunk_stored, after_store, bytes_brought_in, fitting_bytes}
+use Rattle.transfer.specs.DataChaining.{data_chained, chained_from, with_next_ccw, chains_data, after_bytes_moved, with_bytes_moved}
+use Rattle.transfer.specs.ToDevice.{with_bytes_offered, next_chunk, chunk_absorbed, with_chunk_counted, with_bytes_fetched}
 use Rattle.subchannel_model.specs.declared.state.ActiveProgram.{ActiveProgram}
 use Rattle.subchannel_model.specs.declared.state.SubchannelState.{SubchannelState}
 use Rattle.subchannel_model.specs.declared.status.Shown.{Shown}
 use Rattle.subchannel_model.specs.declared.cause.StatusCause.TheVariants as cause
 use Rattle.subchannel_model.specs.Status.{no_device_status, no_subchannel_status, scsw_made, serials_made, with_joined}
 use Rattle.subchannel_model.specs.Causes.{pci_shown, with_cause, scsw_joined}
-use Rattle.subchannel_model.specs.Taking.{without_pci}
+use Rattle.subchannel_model.specs.Pci.{without_pci}
 use Rattle.program_laws.specs.Interrupts.{asks_by, asked}
 use Rattle.program_laws.specs.Traces.{CommandTrace}
 use Rattle.program_laws.proofs.Advances.{fetch_cases}
@@ -51,28 +52,28 @@ abbrev pub asks_of : Option Advance → ℕ
 asks_of (Some (advance.Takes ccw)) = if ccw.program_controlled then 1 else 0
 asks_of other = 0
 
-block-asks : (n : ℕ) (r : Reading) → n + asks_by r ≡ n + asks_of (block_advance r)
+block-asks : (n : ℕ) (r : Reading) → n + asks_by r ≡ n + asks_of (advance_of_ccw r)
 block-asks n (Transfers target) = refl
 block-asks n other = refl
 
 abbrev AsksTo : Orb → List Act → List Act → Type 0
-AsksTo orb before acts = asked orb (acts ++ before) ≡ asked orb before + asks_of (advance_of (walk_place orb before) acts)
+AsksTo orb before acts = asked orb (acts ++ before) ≡ asked orb before + asks_of (advance_of_acts (walk_place orb before) acts)
 
 target-asks : (storage : Contents) (orb : Orb) (before : List Act) (address : ℕ) (bytes : List ℕ) (r : Reading) → reads orb (role_of orb before) bytes ≡ r →
-    AsksTo orb before (with_target storage (after_block (walk_place orb before) address bytes) r (Block address bytes ∷ []))
+    AsksTo orb before (with_tic_target storage (after_block (walk_place orb before) address bytes) r (Block address bytes ∷ []))
 target-asks storage orb before address bytes (Transfers target) e =
     let mid : List Act = Block address bytes ∷ before in
     let none : asked orb mid ≡ asked orb before = ap (λ (r : Reading). asked orb before + asks_by r) e ∙ omega arith in
     fetch_cases (λ act. AsksTo orb before (act ∷ Block address bytes ∷ [])) storage orb (role_of orb mid) target
     (λ more. block-asks (asked orb mid) (reads orb (role_of orb mid) more)
-    ∙ ap (λ (n : ℕ). n + asks_of (block_advance (reads orb (role_of orb mid) more))) none)
+    ∙ ap (λ (n : ℕ). n + asks_of (advance_of_ccw (reads orb (role_of orb mid) more))) none)
     (λ check. none ∙ omega arith)
 target-asks storage orb before address bytes other e = block-asks (asked orb before) (reads orb (role_of orb before) bytes)
 
-at-asks : (storage : Contents) (orb : Orb) (before : List Act) (n : Option ℕ) → AsksTo orb before (acts_at storage (walk_place orb before) n)
+at-asks : (storage : Contents) (orb : Orb) (before : List Act) (n : Option ℕ) → AsksTo orb before (acts_from_next storage (walk_place orb before) n)
 at-asks storage orb before None = omega arith
 at-asks storage orb before (Some address) =
-    fetch_cases (λ act. AsksTo orb before (acts_from storage (walk_place orb before) act)) storage orb (role_of orb before) address
+    fetch_cases (λ act. AsksTo orb before (acts_from_fetch storage (walk_place orb before) act)) storage orb (role_of orb before) address
     (λ bytes. target-asks storage orb before address bytes (reads orb (role_of orb before) bytes) refl)
     (λ check. omega arith)
 
@@ -121,15 +122,15 @@ located-if-pci t r false = located-by-pci t r
 located-pci : (storage : Contents) (t : Transfer) → (located_transfer storage t).pci_pending ≡ t.pci_pending
 located-pci storage t = located-if-pci t (access.located storage t.walk.orb.key t.moving) (is_some t.fault)
 
-given-by-pci : (t : Transfer) (r : Result (List ℕ) Check) → (next_chunk_of t r).transfer.pci_pending ≡ t.pci_pending
+given-by-pci : (t : Transfer) (r : Result (List ℕ) Check) → (with_bytes_fetched t r).transfer.pci_pending ≡ t.pci_pending
 given-by-pci t (Ok bytes) = refl
 given-by-pci t (Err check) = refl
 
-given-if-pci : (t : Transfer) (r : Result (List ℕ) Check) (b : Bool) → (if b then given_bytes t [] else next_chunk_of t r).transfer.pci_pending ≡ t.pci_pending
+given-if-pci : (t : Transfer) (r : Result (List ℕ) Check) (b : Bool) → (if b then with_bytes_offered t [] else with_bytes_fetched t r).transfer.pci_pending ≡ t.pci_pending
 given-if-pci t r true = refl
 given-if-pci t r false = given-by-pci t r
 
-given-pci : (storage : Contents) (t : Transfer) → (next_given storage t).transfer.pci_pending ≡ t.pci_pending
+given-pci : (storage : Contents) (t : Transfer) → (next_chunk storage t).transfer.pci_pending ≡ t.pci_pending
 given-pci storage t =
     let u : Transfer = located_transfer storage t in
     given-if-pci u (access.copied storage u.walk.orb.key u.moving) (has_stopped u) ∙ located-pci storage t
@@ -160,7 +161,7 @@ goes-asking storage orb before i =
     let acts : List Act = advance_acts storage old in
     let c : CommandStart = (goes_to storage i old).came in
     subst (λ (xs : List Act). BeginsAsking storage (asked orb before) (asked orb xs) c) (sym (append_assoc (room_acts storage c) acts before))
-    (begins-asking storage orb (asked orb before) (acts ++ before) (after_acts old acts) i (advance_of old acts) (advance-asks storage orb before))
+    (begins-asking storage orb (asked orb before) (acts ++ before) (after_acts old acts) i (advance_of_acts old acts) (advance-asks storage orb before))
 
 -- one is chained to
 pub next-asking : (storage : Contents) (orb : Orb) (before : List Act) (t : Transfer) (modifier : Bool) → t.walk ≡ walk_place orb before →
@@ -170,28 +171,28 @@ next-asking storage orb before t modifier e =
     let i : ℕ = t.command + 1 in
     let old : WalkPlace = walk_place orb (End ended ∷ before) in
     subst
-    (λ (w : WalkPlace). BeginsAsking storage (asked orb before) (asked orb ((goes_acts storage i (walk_after_end w ended) ++ End ended ∷ []) ++ before)) (goes_to storage i (walk_after_end w ended)).came)
+    (λ (w : WalkPlace). BeginsAsking storage (asked orb before) (asked orb ((goes_acts storage i (after_command_end w ended) ++ End ended ∷ []) ++ before)) (goes_to storage i (after_command_end w ended)).came)
     (sym e)
     (subst (λ (xs : List Act). BeginsAsking storage (asked orb before) (asked orb xs) (goes_to storage i old).came) (sym (append_assoc (goes_acts storage i old) (End ended ∷ []) before))
     (goes-asking storage orb (End ended ∷ before) i))
 
 -- data is chained
-chained-by-asking : (n m : ℕ) (t : Transfer) (walk : WalkPlace) (a : Option Advance) → m ≡ n + asks_of a → t.pci_pending ≡ false → IsAsking n m (chained_to t walk a)
+chained-by-asking : (n m : ℕ) (t : Transfer) (walk : WalkPlace) (a : Option Advance) → m ≡ n + asks_of a → t.pci_pending ≡ false → IsAsking n m (with_next_ccw t walk a)
 chained-by-asking n m t walk (Some (advance.Takes ccw)) e f = taken-asking n m ccw.program_controlled e
-chained-by-asking n m t walk (Some advance.Suspends) e f = none-asking n m (chained_to t walk (Some advance.Suspends)) (omega (arith, e)) f
-chained-by-asking n m t walk (Some (advance.Stops check)) e f = none-asking n m (chained_to t walk (Some (advance.Stops check))) (omega (arith, e)) f
+chained-by-asking n m t walk (Some advance.Suspends) e f = none-asking n m (with_next_ccw t walk (Some advance.Suspends)) (omega (arith, e)) f
+chained-by-asking n m t walk (Some (advance.Stops check)) e f = none-asking n m (with_next_ccw t walk (Some (advance.Stops check))) (omega (arith, e)) f
 chained-by-asking n m t walk None e f = none-asking n m t (omega (arith, e)) f
 
 chained-asking : (storage : Contents) (orb : Orb) (before : List Act) (t : Transfer) → t.walk ≡ walk_place orb before → t.pci_pending ≡ false →
-    IsAsking (asked orb before) (asked orb (chained_acts storage t ++ before)) (chained storage t)
+    IsAsking (asked orb before) (asked orb (chained_acts storage t ++ before)) (data_chained storage t)
 chained-asking storage orb before t e f =
     let used : List Act = Used_up ∷ before in
     let old : WalkPlace = walk_place orb used in
     let news : List Act = advance_acts storage old in
     let by : IsAsking (asked orb before) (asked orb (news ++ used)) (chained_from storage t old) =
-    chained-by-asking (asked orb before) (asked orb (news ++ used)) t (after_acts old news) (advance_of old news) (advance-asks storage orb used) f in
+    chained-by-asking (asked orb before) (asked orb (news ++ used)) t (after_acts old news) (advance_of_acts old news) (advance-asks storage orb used) f in
     subst
-    (λ (w : WalkPlace). IsAsking (asked orb before) (asked orb ((advance_acts storage (after_used_up w) ++ Used_up ∷ []) ++ before)) (chained_from storage t (after_used_up w)))
+    (λ (w : WalkPlace). IsAsking (asked orb before) (asked orb ((advance_acts storage (after_count_used_up w) ++ Used_up ∷ []) ++ before)) (chained_from storage t (after_count_used_up w)))
     (sym e)
     (subst (λ (xs : List Act). IsAsking (asked orb before) (asked orb xs) (chained_from storage t old)) (sym (append_assoc news (Used_up ∷ []) before)) by)
 
@@ -199,56 +200,56 @@ chained-asking storage orb before t e f =
 abbrev LeavesAsking : Orb → CommandTrace → CommandTrace → Transfer → Type 0
 LeavesAsking orb p q t = IsAsking (asked orb p.acts) (asked orb q.acts) t
 
-moved_on-asking : (storage : Contents) (orb : Orb) (p : CommandTrace) (t : Transfer) (n : ℕ) (b : Bool) → t.walk ≡ walk_place orb p.acts → t.pci_pending ≡ false →
-    LeavesAsking orb p (if b then with_acts (with_places p t.moving n) (chained_acts storage (with_moved t n)) else with_places p t.moving n)
-    (if b then chained storage (with_moved t n) else with_moved t n)
-moved_on-asking storage orb p t n true e f = chained-asking storage orb p.acts (with_moved t n) e f
-moved_on-asking storage orb p t n false e f = none-asking (asked orb p.acts) (asked orb p.acts) (with_moved t n) refl f
+after_bytes_moved-asking : (storage : Contents) (orb : Orb) (p : CommandTrace) (t : Transfer) (n : ℕ) (b : Bool) → t.walk ≡ walk_place orb p.acts → t.pci_pending ≡ false →
+    LeavesAsking orb p (if b then with_acts (with_places p t.moving n) (chained_acts storage (with_bytes_moved t n)) else with_places p t.moving n)
+    (if b then data_chained storage (with_bytes_moved t n) else with_bytes_moved t n)
+after_bytes_moved-asking storage orb p t n true e f = chained-asking storage orb p.acts (with_bytes_moved t n) e f
+after_bytes_moved-asking storage orb p t n false e f = none-asking (asked orb p.acts) (asked orb p.acts) (with_bytes_moved t n) refl f
 
 -- a Data of a command that takes bytes to the device
 answered-asking : (storage : Contents) (orb : Orb) (p : CommandTrace) (t : Transfer) (s count : ℕ) (b : Bool) → t.walk ≡ walk_place orb p.acts → t.pci_pending ≡ false →
-    LeavesAsking orb p (if b then trace_moved_on storage (with_answer t s count) (min count (room t.moving)) p else p)
-    (if b then moved_on storage (with_answer t s count) (min count (room t.moving)) else t)
+    LeavesAsking orb p (if b then trace_moved_on storage (with_chunk_counted t s count) (min count (room t.moving)) p else p)
+    (if b then after_bytes_moved storage (with_chunk_counted t s count) (min count (room t.moving)) else t)
 answered-asking storage orb p t s count true e f =
-    let u : Transfer = with_answer t s count in
+    let u : Transfer = with_chunk_counted t s count in
     let n : ℕ = min count (room t.moving) in
-    moved_on-asking storage orb p u n (chains_data (with_moved u n) n) e f
+    after_bytes_moved-asking storage orb p u n (chains_data (with_bytes_moved u n) n) e f
 answered-asking storage orb p t s count false e f = none-asking (asked orb p.acts) (asked orb p.acts) t refl f
 
 pub gives-asking : (storage : Contents) (orb : Orb) (p : CommandTrace) (t : Transfer) (s count : ℕ) → t.walk ≡ walk_place orb p.acts → t.pci_pending ≡ false →
-    LeavesAsking orb p (doing.gives storage t s count p) (next_given storage (taken_by_device storage t s count)).transfer
+    LeavesAsking orb p (doing.gives storage t s count p) (next_chunk storage (chunk_absorbed storage t s count)).transfer
 gives-asking storage orb p t s count e f =
-    let u : Transfer = taken_by_device storage t s count in
+    let u : Transfer = chunk_absorbed storage t s count in
     let q : CommandTrace = trace_answered storage t s count p in
     let same = copy-same storage (located_transfer storage u) (with_acts q (located_acts storage u)) in
-    asking-same (asked orb p.acts) (asked orb q.acts) (asked orb (doing.gives storage t s count p).acts) u (next_given storage u).transfer
+    asking-same (asked orb p.acts) (asked orb q.acts) (asked orb (doing.gives storage t s count p).acts) u (next_chunk storage u).transfer
     (ap (λ (xs : List Act). asked orb xs) same.0 ∙ located-asked storage orb q.acts u) (given-pci storage u)
     (answered-asking storage orb p t s count (s == t.sequence + 1) e f)
 
 -- a Data of a command that brings bytes in
 arrived-asking : (storage : Contents) (orb : Orb) (p : CommandTrace) (t : Transfer) (bytes : List ℕ) (r : Result Contents Check) → t.walk ≡ walk_place orb p.acts → t.pci_pending ≡ false →
-    LeavesAsking orb p (with_arrival storage t bytes r p) (brought_by storage t (length bytes) r).transfer
+    LeavesAsking orb p (with_arrival storage t bytes r p) (after_store storage t (length bytes) r).transfer
 arrived-asking storage orb p t bytes (Ok after) e f =
     let q : CommandTrace = record p { arrived = record { former = storage.bytes; chunk = doing.chunk_of after t.moving bytes } ∷ p.arrived } in
-    moved_on-asking after orb q t (length bytes) (chains_data (with_moved t (length bytes)) (length bytes)) e f
+    after_bytes_moved-asking after orb q t (length bytes) (chains_data (with_bytes_moved t (length bytes)) (length bytes)) e f
 arrived-asking storage orb p t bytes (Err check) e f = none-asking (asked orb p.acts) (asked orb p.acts) (record t { fault = Some check }) refl f
 
 stored-asking : (storage : Contents) (orb : Orb) (p : CommandTrace) (t : Transfer) (bytes : List ℕ) (r : Result Contents Check) (b : Bool) → t.walk ≡ walk_place orb p.acts → t.pci_pending ≡ false →
-    LeavesAsking orb p (if b then p else with_arrival storage t bytes r p) (if b then record { transfer = t; storage = storage } else brought_by storage t (length bytes) r).transfer
+    LeavesAsking orb p (if b then p else with_arrival storage t bytes r p) (if b then record { transfer = t; storage = storage } else after_store storage t (length bytes) r).transfer
 stored-asking storage orb p t bytes r true e f = none-asking (asked orb p.acts) (asked orb p.acts) t refl f
 stored-asking storage orb p t bytes r false e f = arrived-asking storage orb p t bytes r e f
 
 brought-asking : (storage : Contents) (orb : Orb) (p : CommandTrace) (t : Transfer) (s : ℕ) (bytes : List ℕ) (b : Bool) → t.walk ≡ walk_place orb p.acts → t.pci_pending ≡ false →
-    LeavesAsking orb p (if b then storing storage (record t { sequence = s }) (fitting t bytes) p else p)
-    (if b then brought_in storage (record t { sequence = s }) (fitting t bytes) else record { transfer = t; storage = storage }).transfer
+    LeavesAsking orb p (if b then storing storage (record t { sequence = s }) (fitting_bytes t bytes) p else p)
+    (if b then bytes_brought_in storage (record t { sequence = s }) (fitting_bytes t bytes) else record { transfer = t; storage = storage }).transfer
 brought-asking storage orb p t s bytes true e f =
-    stored-asking storage orb p (record t { sequence = s }) (fitting t bytes) (access.stored_or_skipped storage t.walk.orb.key t.moving (fitting t bytes)) (is_some t.fault) e f
+    stored-asking storage orb p (record t { sequence = s }) (fitting_bytes t bytes) (access.stored_or_skipped storage t.walk.orb.key t.moving (fitting_bytes t bytes)) (is_some t.fault) e f
 brought-asking storage orb p t s bytes false e f = none-asking (asked orb p.acts) (asked orb p.acts) t refl f
 
 pub takes_in-asking : (storage : Contents) (orb : Orb) (p : CommandTrace) (t : Transfer) (s : ℕ) (bytes : List ℕ) → t.walk ≡ walk_place orb p.acts → t.pci_pending ≡ false →
-    LeavesAsking orb p (doing.takes_in storage t s bytes p) (located_transfer (brought storage t s bytes).storage (brought storage t s bytes).transfer)
+    LeavesAsking orb p (doing.takes_in storage t s bytes p) (located_transfer (chunk_stored storage t s bytes).storage (chunk_stored storage t s bytes).transfer)
 takes_in-asking storage orb p t s bytes e f =
-    let x = brought storage t s bytes in
+    let x = chunk_stored storage t s bytes in
     let q : CommandTrace = arriving storage t s bytes p in
     asking-same (asked orb p.acts) (asked orb q.acts) (asked orb (located_acts x.storage x.transfer ++ q.acts)) x.transfer (located_transfer x.storage x.transfer)
     (located-asked x.storage orb q.acts x.transfer) (located-pci x.storage x.transfer)

@@ -2,7 +2,7 @@
 use Rattle.std.proofs.Common.{◌≡◌, refl, ℕ, Bool, true, false, Option, None, Some, inl, inr}
 use Rattle.std.specs.Prelude.{◌⊎◌, if◌then◌else◌}
 use Rattle.chan_model.specs.UnitReports.{is_last_end}
-use Rattle.ccw_walk.specs.Walks.{WalkPlace}
+use Rattle.ccw_walk.specs.Places.{WalkPlace}
 use Rattle.data_move.specs.Moving.{residual}
 use Rattle.subchannel_model.specs.declared.cause.StatusCause.{StatusCause}
 use Rattle.subchannel_model.specs.declared.cause.StatusCause.TheVariants as cause
@@ -13,8 +13,11 @@ use Rattle.subchannel_model.specs.Causes.{row_of, with_cause, without_begun, wit
 use Rattle.subchannel_model.specs.Programs.{without_programs}
 use Rattle.subchannel_model.specs.Halt.{halt_begun, drops_status, status_dropped, halted}
 use Rattle.subchannel_model.specs.Test.{ends_suspended, tested_wholly, tested}
-use Rattle.subchannel_model.specs.Taking.{without_pci, interrupted, suspending, halt_done, clear_done, with_attention}
-use Rattle.subchannel_model.specs.Parts.{standing_still, suspended_alone}
+use Rattle.subchannel_model.specs.Attention.{with_attention}
+use Rattle.subchannel_model.specs.Pci.{without_pci, with_pci}
+use Rattle.subchannel_model.specs.Suspension.{program_suspended, with_suspended_program, suspended_alone}
+use Rattle.subchannel_model.specs.Accept.{halt_performed}
+use Rattle.subchannel_model.specs.Cleared.{clear_performed}
 
 -- the hold, and the numbers that were drawn
 pub record IsHoldKept (s x : SubchannelState) : Type 0 where
@@ -71,7 +74,7 @@ pub record IsInterrupted (s x : SubchannelState) (b : ActiveProgram) : Type 0 wh
   pub same : IsUninterrupted b begun
   pub kept : IsHoldKept s x
 
-pub interrupted-work : (s : SubchannelState) (b : ActiveProgram) → s.begun ≡ Some b → IsInterrupted s (interrupted s (Some b)) b
+pub interrupted-work : (s : SubchannelState) (b : ActiveProgram) → s.begun ≡ Some b → IsInterrupted s (with_pci s (Some b)) b
 interrupted-work s b e = by b.transfer.pci_pending
   where
     by : (c : Bool) → IsInterrupted s (if c then with_cause (record s { begun = Some (without_pci b) }) (cause.Pci b.transfer.walk.tried (residual b.transfer.moving)) else s) b
@@ -83,36 +86,36 @@ pub record IsWorkless (s x : SubchannelState) : Type 0 where
   pub begun : x.begun ≡ None
   pub kept : IsHoldKept s x
 
-pub suspending-workless : (s : SubchannelState) (program : Program) (walk : WalkPlace) (count : ℕ) → IsWorkless s (suspending s program walk count)
+pub suspending-workless : (s : SubchannelState) (program : Program) (walk : WalkPlace) (count : ℕ) → IsWorkless s (program_suspended s program walk count)
 suspending-workless s program walk count = by program.orb.suppress_suspended
   where
-    by : (c : Bool) → IsWorkless s (if c then record (standing_still s program walk count) { scsw = suspended_alone s.scsw } else with_cause (standing_still s program walk count) (cause.Suspension walk.tried count))
+    by : (c : Bool) → IsWorkless s (if c then record (with_suspended_program s program walk count) { scsw = suspended_alone s.scsw } else with_cause (with_suspended_program s program walk count) (cause.Suspension walk.tried count))
     by true = record { begun = refl; kept = record { hold = refl; drawn = refl } }
     by false = record { begun = refl; kept = record { hold = refl; drawn = refl } }
 
 -- a halt that is performed ends all programs, and a clear that is performed leaves what there is
-pub halt-kept : (s : SubchannelState) → IsHoldKept s (halt_done s)
+pub halt-kept : (s : SubchannelState) → IsHoldKept s (halt_performed s)
 halt-kept s = by s.scsw.activity.halt_pending
   where
     by : (c : Bool) → IsHoldKept s (if c then with_cause s cause.HaltDone else s)
     by true = cause-kept s cause.HaltDone
     by false = same-kept s
 
-pub halt-begun : (s : SubchannelState) → s.begun ≡ None → (halt_done s).begun ≡ None
+pub halt-begun : (s : SubchannelState) → s.begun ≡ None → (halt_performed s).begun ≡ None
 halt-begun s e = by s.scsw.activity.halt_pending
   where
     by : (c : Bool) → (if c then with_cause s cause.HaltDone else s).begun ≡ None
     by true = refl
     by false = e
 
-pub clear-kept : (s : SubchannelState) → IsHoldKept s (clear_done s)
+pub clear-kept : (s : SubchannelState) → IsHoldKept s (clear_performed s)
 clear-kept s = by s.scsw.activity.clear_pending
   where
     by : (c : Bool) → IsHoldKept s (if c then with_cause s cause.ClearDone else s)
     by true = cause-kept s cause.ClearDone
     by false = same-kept s
 
-pub clear-begun : (s : SubchannelState) → (clear_done s).begun ≡ s.begun
+pub clear-begun : (s : SubchannelState) → (clear_performed s).begun ≡ s.begun
 clear-begun s = by s.scsw.activity.clear_pending
   where
     by : (c : Bool) → (if c then with_cause s cause.ClearDone else s).begun ≡ s.begun

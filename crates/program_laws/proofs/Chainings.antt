@@ -12,15 +12,15 @@ use Rattle.ccw_walk.specs.declared.program.Advance.TheVariants as advance
 use Rattle.ccw_walk.specs.declared.program.Reading.TheVariants.{Takes}
 use Rattle.ccw_walk.specs.Acts.{Act, Used_up}
 use Rattle.ccw_walk.specs.Programs.{IsProgram, Command, role_of, latest, next, tried, commands, commands_after, join_last}
-use Rattle.ccw_walk.proofs.Named.{acts_at, after_used_up}
-use Rattle.ccw_walk.specs.Walks.{WalkPlace, walk_place, after_acts, advance_acts, advance_of}
+use Rattle.ccw_walk.specs.Advancing.{acts_from_next, advance_acts, advance_of_acts}
+use Rattle.ccw_walk.specs.Places.{after_count_used_up, WalkPlace, walk_place, after_acts}
 use Rattle.idaw.specs.Lists.{block, kind_of}
 use Rattle.idaw.specs.Places.{Reach, place_of_byte, each_below, places_of_bytes}
 use Rattle.data_move.specs.Moving as movement
 use Rattle.data_move.specs.Moving.{Moving, next_place, residual, IsAt}
 use Rattle.transfer.specs.declared.Transfer.{Transfer}
 use Rattle.transfer.specs.Commands.{data_of}
-use Rattle.transfer.specs.Chunks.{chains_data, chained_to, chained_from, chained, with_moved, moved_on}
+use Rattle.transfer.specs.DataChaining.{chains_data, with_next_ccw, chained_from, data_chained, with_bytes_moved, after_bytes_moved}
 use Rattle.program_laws.specs.Claims.{has_check, EndsAtCheck}
 use Rattle.program_laws.specs.DataAreas.{reach, data_areas, reaches_after, reaches_with}
 use Rattle.program_laws.proofs.MachineActs as doing
@@ -29,7 +29,7 @@ use Rattle.program_laws.proofs.MachineActs.{chained_acts, with_acts, with_places
 use Rattle.program_laws.proofs.Lists.{none-some}
 use Rattle.program_laws.proofs.Advances.{Went, UnlessStops, advance-went, advance-ends}
 use Rattle.program_laws.proofs.Standing.{Stands, acts-stand, suspended-unchained}
-use Rattle.program_laws.proofs.Ties.{AreLaws, data-begins, HasCode, IsMovedTo, Tied, none-next, spot-changed, ccw-of, done-within, with_moved-tied}
+use Rattle.program_laws.proofs.Ties.{AreLaws, data-begins, HasCode, IsMovedTo, Tied, none-next, spot-changed, ccw-of, done-within, with_bytes_moved-tied}
 
 module _ (laws : AreLaws) where
   -- where the count is used up, the places are all of them
@@ -127,7 +127,7 @@ module _ (laws : AreLaws) where
         IsProgram orb acts → (role_of orb before).chained ≡ true → residual t.moving ≡ 0 → Tied earlier orb before ps t →
         Went (role_of orb before).chained (commands orb before) (commands orb acts) (data_areas orb before) (data_areas orb acts) (next orb acts) (role_of orb acts) a →
         ((x : Advance) → a ≡ Some x → Stands orb acts x) → (a ≡ None → Tied earlier orb acts ps t) → EndsAtCheck orb acts × UnlessStops a (has_check orb acts) →
-        Tied earlier orb acts ps (chained_to t walk a)
+        Tied earlier orb acts ps (with_next_ccw t walk a)
     chained-by storage orb before acts t walk ps (Some (advance.Takes ccw)) w p c z k g e o x =
         joins orb before acts t walk ps ccw w p c k.coded k.kind k.number k.spot z g.0 g.1 g.2 g.3 x.0 x.1
     chained-by storage orb before acts t walk ps (Some advance.Suspends) w p c z k g e o x =
@@ -137,38 +137,38 @@ module _ (laws : AreLaws) where
     chained-by storage orb before acts t walk ps None w p c z k g e o x = o refl
 
     chained-tied : (storage : Contents) (orb : Orb) (acts : List Act) (ps : List (Option ℕ)) (t : Transfer) → is_some t.fault ≡ false → t.moving.ccw.chain_data ≡ true →
-        residual t.moving ≡ 0 → Tied earlier orb acts ps t → Tied earlier orb (chained_acts storage t ++ acts) ps (chained storage t)
+        residual t.moving ≡ 0 → Tied earlier orb acts ps t → Tied earlier orb (chained_acts storage t ++ acts) ps (data_chained storage t)
     chained-tied storage orb acts ps t f d z k =
         let used : List Act = Used_up ∷ acts in
         let old : WalkPlace = walk_place orb used in
         let news : List Act = advance_acts storage old in
         let by : Tied earlier orb (news ++ used) ps (chained_from storage t old) =
-        chained-by storage orb acts (news ++ used) t (after_acts old news) ps (advance_of old news) (laws.leads orb used news) (laws.goes storage orb used (k.stands, k.program)) (k.chained f ∙ d) z
+        chained-by storage orb acts (news ++ used) t (after_acts old news) ps (advance_of_acts old news) (laws.leads orb used news) (laws.goes storage orb used (k.stands, k.program)) (k.chained f ∙ d) z
         k
         (advance-went storage orb used)
         (λ x. acts-stand orb used news x (laws.leads orb used))
         (λ e.
         let n : next orb used ≡ None = none-next earlier laws storage orb used e in
-        let none : news ≡ [] = ap (λ (x : Option ℕ). acts_at storage old x) n in
+        let none : news ≡ [] = ap (λ (x : Option ℕ). acts_from_next storage old x) n in
         subst (λ (xs : List Act). Tied earlier orb (xs ++ used) ps t) (sym none) (stays-tied orb acts t ps n k))
         (advance-ends storage orb used (k.checked f) k.ends) in
-        subst (λ (w : WalkPlace). Tied earlier orb ((advance_acts storage (after_used_up w) ++ Used_up ∷ []) ++ acts) ps (chained_from storage t (after_used_up w))) (sym k.walk)
+        subst (λ (w : WalkPlace). Tied earlier orb ((advance_acts storage (after_count_used_up w) ++ Used_up ∷ []) ++ acts) ps (chained_from storage t (after_count_used_up w))) (sym k.walk)
         (subst (λ (xs : List Act). Tied earlier orb xs ps (chained_from storage t old)) (sym (append_assoc news (Used_up ∷ []) acts)) by)
 
-    moved_on-by : (storage : Contents) (orb : Orb) (p : CommandTrace) (t : Transfer) (n : ℕ) (b : Bool) → chains_data (with_moved t n) n ≡ b → n ≤ t.moving.left →
+    after_bytes_moved-by : (storage : Contents) (orb : Orb) (p : CommandTrace) (t : Transfer) (n : ℕ) (b : Bool) → chains_data (with_bytes_moved t n) n ≡ b → n ≤ t.moving.left →
         Tied earlier orb p.acts p.moved t →
-        let q : CommandTrace = if b then with_acts (with_places p t.moving n) (chained_acts storage (with_moved t n)) else with_places p t.moving n in
-        Tied earlier orb q.acts q.moved (if b then chained storage (with_moved t n) else with_moved t n)
-    moved_on-by storage orb p t n true e l k =
+        let q : CommandTrace = if b then with_acts (with_places p t.moving n) (chained_acts storage (with_bytes_moved t n)) else with_places p t.moving n in
+        Tied earlier orb q.acts q.moved (if b then data_chained storage (with_bytes_moved t n) else with_bytes_moved t n)
+    after_bytes_moved-by storage orb p t n true e l k =
         let m : Moving = movement.moved t.moving n in
         let a : (_ : not (n == 0) ≡ true) × (((residual m == 0) && (m.ccw.chain_data && is_none t.fault)) ≡ true) =
         and_parts (not (n == 0)) ((residual m == 0) && (m.ccw.chain_data && is_none t.fault)) e in
         let b : (_ : (residual m == 0) ≡ true) × ((m.ccw.chain_data && is_none t.fault) ≡ true) = and_parts (residual m == 0) (m.ccw.chain_data && is_none t.fault) a.1 in
         let c : (_ : m.ccw.chain_data ≡ true) × (is_none t.fault ≡ true) = and_parts m.ccw.chain_data (is_none t.fault) b.1 in
-        chained-tied storage orb p.acts (p.moved ++ each_below (next_place t.moving) n) (with_moved t n) (none-some t.fault c.1) c.0 (eqb-true (residual m) 0 b.0)
-        (with_moved-tied earlier laws orb p.acts p.moved t n l k)
-    moved_on-by storage orb p t n false e l k = with_moved-tied earlier laws orb p.acts p.moved t n l k
+        chained-tied storage orb p.acts (p.moved ++ each_below (next_place t.moving) n) (with_bytes_moved t n) (none-some t.fault c.1) c.0 (eqb-true (residual m) 0 b.0)
+        (with_bytes_moved-tied earlier laws orb p.acts p.moved t n l k)
+    after_bytes_moved-by storage orb p t n false e l k = with_bytes_moved-tied earlier laws orb p.acts p.moved t n l k
 
-    pub moved_on-tied : (storage : Contents) (orb : Orb) (p : CommandTrace) (t : Transfer) (n : ℕ) → n ≤ t.moving.left → Tied earlier orb p.acts p.moved t →
-        Tied earlier orb (doing.trace_moved_on storage t n p).acts (doing.trace_moved_on storage t n p).moved (moved_on storage t n)
-    moved_on-tied storage orb p t n l k = moved_on-by storage orb p t n (chains_data (with_moved t n) n) refl l k
+    pub after_bytes_moved-tied : (storage : Contents) (orb : Orb) (p : CommandTrace) (t : Transfer) (n : ℕ) → n ≤ t.moving.left → Tied earlier orb p.acts p.moved t →
+        Tied earlier orb (doing.trace_moved_on storage t n p).acts (doing.trace_moved_on storage t n p).moved (after_bytes_moved storage t n)
+    after_bytes_moved-tied storage orb p t n l k = after_bytes_moved-by storage orb p t n (chains_data (with_bytes_moved t n) n) refl l k

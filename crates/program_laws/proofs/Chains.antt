@@ -11,7 +11,7 @@ use Rattle.chan_model.specs.HoldTable.{is_on}
 use Rattle.chan_model.specs.UnitReports.{has_device_end, has_unit_check, is_last_end}
 use Rattle.ccw_walk.specs.Programs.{latest, next}
 use Rattle.ccw_walk.specs.Acts.{Act, End}
-use Rattle.ccw_walk.specs.Walks.{WalkPlace}
+use Rattle.ccw_walk.specs.Places.{WalkPlace}
 use Rattle.transfer.specs.declared.Beginning.{Beginning}
 use Rattle.transfer.specs.declared.CommandStart.{CommandStart}
 use Rattle.transfer.specs.declared.CommandStart.TheVariants as came
@@ -31,9 +31,12 @@ use Rattle.data_move.specs.Moving.{residual}
 use Rattle.subchannel_model.specs.Status.{serials_made}
 use Rattle.subchannel_model.specs.declared.cause.StatusCause.TheVariants as cause
 use Rattle.subchannel_model.specs.Causes.{with_cause}
-use Rattle.subchannel_model.specs.Taking as taking
-use Rattle.subchannel_model.specs.Parts as taking_parts
-use Rattle.subchannel_model.specs.Taking.{let_go, with_end}
+use Rattle.subchannel_model.specs.End as on_end
+use Rattle.subchannel_model.specs.Command as command_spec
+use Rattle.subchannel_model.specs.Suspension as suspension
+use Rattle.subchannel_model.specs.Outcomes as outcomes
+use Rattle.subchannel_model.specs.Outcomes.{device_released}
+use Rattle.subchannel_model.specs.End.{with_first_end}
 use Rattle.program_laws.specs.Traces.{CommandTrace, ProgramTrace}
 use Rattle.program_laws.specs.Shows.{IsShownBy}
 use Rattle.program_laws.specs.Interrupts.{asked, Interrupts, OnlyInterrupts}
@@ -51,11 +54,11 @@ use Rattle.program_laws.proofs.HoldMeets.{chains-facts, next-went, end-left}
 use Rattle.program_laws.proofs.Fetches.{next-adds}
 use Rattle.program_laws.proofs.Shows.{unmade, stops-shows, next-shows}
 use Rattle.program_laws.proofs.StatusCounts.{none-counted}
-use Rattle.program_laws.proofs.Goings.{let_go-silent, chains-goes}
+use Rattle.program_laws.proofs.Goings.{device_released-silent, chains-goes}
 
 -- the signal is taken
 chaining-taken : (storage : Contents) (s : SubchannelState) (b : ActiveProgram) (signal : EndSignal) (walk : WalkPlace) (c : CommandStart) →
-    (taking.chaining storage s b signal walk c).came.taken ≡ true
+    (on_end.next_ccw_outcome storage s b signal walk c).came.taken ≡ true
 chaining-taken storage s b signal walk (came.Begins transfer) = refl
 chaining-taken storage s b signal walk came.Suspends = refl
 chaining-taken storage s b signal walk (came.Stops check) = refl
@@ -115,7 +118,7 @@ module _ (laws : AreLaws) (accesses : AreAccesses) where
       has_device_end signal.status ≡ true → HasWork (Some b) k → signal.number ≡ k.number →
       let next : Beginning = next_command storage b.transfer (has_status_modifier signal.status) in
       let acts : List Act = next_acts storage b.transfer (has_status_modifier signal.status) in
-      Chains storage signal.status (taking_parts.chain_with storage s (with_end b) signal next).came.sent k (stories.trace_goes_on storage next.came acts k)
+      Chains storage signal.status (on_end.chains_with storage s (with_first_end b) signal next).came.sent k (stories.trace_goes_on storage next.came acts k)
   chains-on storage s b k signal c d w m =
       let modifier : Bool = has_status_modifier signal.status in
       let f = chains-facts laws accesses s.scsw b signal.status signal.more c in
@@ -127,7 +130,7 @@ module _ (laws : AreLaws) (accesses : AreAccesses) where
         (
           acts ++ k.now.acts,
           adds,
-          chains-goes laws storage s (with_end b) signal next.walk k next.came acts
+          chains-goes laws storage s (with_first_end b) signal next.walk k next.came acts
               (End (record { goes_on = true; modifier = modifier }) ∷ k.now.acts) (b.transfer.command + 1)
               (next-went laws accesses k.earlier storage k.orb k.now b.transfer modifier w.0.tied f.0 f.1) refl m (ap (λ (n : ℕ). n + 1) w.1),
         ),
@@ -136,70 +139,70 @@ module _ (laws : AreLaws) (accesses : AreAccesses) where
   -- whose block may ask for an interruption
   chains-asks : (storage : Contents) (s : SubchannelState) (b : ActiveProgram) (k : ProgramTrace) (signal : EndSignal) (walk : WalkPlace) (c : CommandStart) (acts : List Act) →
       BeginsAsking storage (asked k.orb k.now.acts) (asked k.orb (acts ++ k.now.acts)) c →
-      Interrupts s (taking.chaining storage s b signal walk c).state k (stories.trace_goes_on storage c acts k)
+      Interrupts s (on_end.next_ccw_outcome storage s b signal walk c).state k (stories.trace_goes_on storage c acts k)
   chains-asks storage s b k signal walk (came.Begins transfer) acts a =
       let u = (begun_with_room storage transfer).transfer in
-      asked-interrupts (taking.with_transfer s b u) (record b { transfer = u }) (asked k.orb k.now.acts) (asked k.orb (acts ++ k.now.acts)) u.pci_pending a.0
+      asked-interrupts (command_spec.with_transfer s b u) (record b { transfer = u }) (asked k.orb k.now.acts) (asked k.orb (acts ++ k.now.acts)) u.pci_pending a.0
   chains-asks storage s b k signal walk came.Suspends acts a = λ l on. absurd (omega (arith, a, l))
   chains-asks storage s b k signal walk (came.Stops check) acts a = λ l on. absurd (omega (arith, a, l))
 
   next-asks : (storage : Contents) (s : SubchannelState) (b : ActiveProgram) (k : ProgramTrace) (signal : EndSignal) → HasWork (Some b) k →
       let next : Beginning = next_command storage b.transfer (has_status_modifier signal.status) in
-      Interrupts s (taking_parts.chain_with storage s (with_end b) signal next).state k
+      Interrupts s (on_end.chains_with storage s (with_first_end b) signal next).state k
       (stories.trace_goes_on storage next.came (next_acts storage b.transfer (has_status_modifier signal.status)) k)
   next-asks storage s b k signal w =
       let modifier : Bool = has_status_modifier signal.status in
       let next : Beginning = next_command storage b.transfer modifier in
-      chains-asks storage s (with_end b) k signal next.walk next.came (next_acts storage b.transfer modifier)
+      chains-asks storage s (with_first_end b) k signal next.walk next.came (next_acts storage b.transfer modifier)
       (next-asking storage k.orb k.now.acts b.transfer modifier w.0.tied.walk)
 
   chains-only : (storage : Contents) (s : SubchannelState) (b : ActiveProgram) (k : ProgramTrace) (signal : EndSignal) (walk : WalkPlace) (c : CommandStart) (acts : List Act) →
       BeginsAsking storage (asked k.orb k.now.acts) (asked k.orb (acts ++ k.now.acts)) c →
-      is_some (command_sent (taking.chaining storage s b signal walk c).came.sent) ≡ true →
-      OnlyInterrupts s (taking.chaining storage s b signal walk c).state k (stories.trace_goes_on storage c acts k)
+      is_some (command_sent (on_end.next_ccw_outcome storage s b signal walk c).came.sent) ≡ true →
+      OnlyInterrupts s (on_end.next_ccw_outcome storage s b signal walk c).state k (stories.trace_goes_on storage c acts k)
   chains-only storage s b k signal walk (came.Begins transfer) acts a e =
       let u = (begun_with_room storage transfer).transfer in
-      only-asked (taking.with_transfer s b u) (record b { transfer = u }) (asked k.orb k.now.acts) (asked k.orb (acts ++ k.now.acts)) u.pci_pending a.1
+      only-asked (command_spec.with_transfer s b u) (record b { transfer = u }) (asked k.orb k.now.acts) (asked k.orb (acts ++ k.now.acts)) u.pci_pending a.1
   chains-only storage s b k signal walk came.Suspends acts a e =
-      none-sent (let_go-silent (taking.suspending (taking.end_taken s signal) b.program walk (residual b.transfer.moving))) e
+      none-sent (device_released-silent (suspension.program_suspended (on_end.with_allegiance_after_end s signal) b.program walk (residual b.transfer.moving))) e
   chains-only storage s b k signal walk (came.Stops check) acts a e =
-      none-sent (let_go-silent (with_cause (taking.end_taken s signal) (cause.FetchFault walk.tried check (residual b.transfer.moving)))) e
+      none-sent (device_released-silent (with_cause (on_end.with_allegiance_after_end s signal) (cause.FetchFault walk.tried check (residual b.transfer.moving)))) e
 
   next-only : (storage : Contents) (s : SubchannelState) (b : ActiveProgram) (k : ProgramTrace) (signal : EndSignal) → HasWork (Some b) k →
       let next : Beginning = next_command storage b.transfer (has_status_modifier signal.status) in
-      let x : UpStep = taking_parts.chain_with storage s (with_end b) signal next in
+      let x : UpStep = on_end.chains_with storage s (with_first_end b) signal next in
       is_some (command_sent x.came.sent) ≡ true →
       OnlyInterrupts s x.state k (stories.trace_goes_on storage next.came (next_acts storage b.transfer (has_status_modifier signal.status)) k)
   next-only storage s b k signal w e =
       let modifier : Bool = has_status_modifier signal.status in
       let next : Beginning = next_command storage b.transfer modifier in
-      chains-only storage s (with_end b) k signal next.walk next.came (next_acts storage b.transfer modifier)
+      chains-only storage s (with_first_end b) k signal next.walk next.came (next_acts storage b.transfer modifier)
       (next-asking storage k.orb k.now.acts b.transfer modifier w.0.tied.walk) e
 
   -- none
   stops-meets : (storage : Contents) (s : SubchannelState) (b : ActiveProgram) (k : ProgramTrace) (signal : EndSignal) (shown : Shown) (last : Bool) →
       IsChained false s.scsw.functions.halt signal.status signal.more k → signal.number ≡ k.number → signal.command ≡ k.sent →
-      let x : UpStep = if last then let_go (end-left laws accesses s b signal shown last) else taking.quietly (end-left laws accesses s b signal shown last) in
+      let x : UpStep = if last then device_released (end-left laws accesses s b signal shown last) else outcomes.signal_taken (end-left laws accesses s b signal shown last) in
       let after : ProgramTrace = stories.ends_alone signal.status k in
       IsShownBy (is_none s.waiting || not (is_last_end signal.status)) s x.state after →
       Meets storage storage s x.state (up.End signal.number signal.command signal.status signal.more) x.came.taken x.came.sent k after
-  stops-meets storage s b k signal shown true c m n r = (m, n, refl, inl (c, refl, let_go-silent (end-left laws accesses s b signal shown true), made-more s.pmcw.enabled s.serials, r))
+  stops-meets storage s b k signal shown true c m n r = (m, n, refl, inl (c, refl, device_released-silent (end-left laws accesses s b signal shown true), made-more s.pmcw.enabled s.serials, r))
   stops-meets storage s b k signal shown false c m n r = (m, n, refl, inl (c, refl, refl, made-more s.pmcw.enabled s.serials, r))
 
   goes-meets : (storage : Contents) (s : SubchannelState) (b : ActiveProgram) (k : ProgramTrace) (signal : EndSignal) (x y : Bool) → chains_command s.scsw b signal.status signal.more ≡ x →
       has_device_end signal.status ≡ y → s.begun ≡ Some b → HasWork (Some b) k → signal.number ≡ k.number → signal.command ≡ k.sent →
       EndBy storage s signal
-      (if x then (if y then taking_parts.chain_with storage s (with_end b) signal (next_command storage (with_end b).transfer (has_status_modifier signal.status))
-      else taking.quietly (record (taking.end_taken s signal) { begun = Some (with_end b) }))
-      else taking.stops_at s b signal) k
+      (if x then (if y then on_end.chains_with storage s (with_first_end b) signal (next_command storage (with_first_end b).transfer (has_status_modifier signal.status))
+      else outcomes.signal_taken (record (on_end.with_allegiance_after_end s signal) { begun = Some (with_first_end b) }))
+      else on_end.concludes s b signal) k
       (if x then (if y then stories.trace_goes_on storage (next_command storage b.transfer (has_status_modifier signal.status)).came (next_acts storage b.transfer (has_status_modifier signal.status)) k else stories.with_ended k)
       else stories.ends_alone signal.status k)
   goes-meets storage s b k signal true true c d e w m n r =
       let next : Beginning = next_command storage b.transfer (has_status_modifier signal.status) in
-      let x : UpStep = taking_parts.chain_with storage s (with_end b) signal next in
+      let x : UpStep = on_end.chains_with storage s (with_first_end b) signal next in
       let after : ProgramTrace = stories.trace_goes_on storage next.came (next_acts storage b.transfer (has_status_modifier signal.status)) k in
       subst (λ (t : Bool). Meets storage storage s x.state (up.End signal.number signal.command signal.status signal.more) t x.came.sent k after)
-      (sym (chaining-taken storage s (with_end b) signal next.walk next.came)) (
+      (sym (chaining-taken storage s (with_first_end b) signal next.walk next.came)) (
         m,
         n,
         refl,
@@ -212,20 +215,20 @@ module _ (laws : AreLaws) (accesses : AreAccesses) where
         ),
       )
   goes-meets storage s b k signal true false c d e w m n r =
-      (m, n, refl, inr (is-chained s b k signal.status signal.more true w c, inr (d, refl, refl), unmade s.serials.made (record (taking.end_taken s signal) { begun = Some (with_end b) }) (stories.with_ended k) refl, λ l on. absurd (omega (arith, l)), λ c l. absurd (omega (arith, l))))
+      (m, n, refl, inr (is-chained s b k signal.status signal.more true w c, inr (d, refl, refl), unmade s.serials.made (record (on_end.with_allegiance_after_end s signal) { begun = Some (with_first_end b) }) (stories.with_ended k) refl, λ l on. absurd (omega (arith, l)), λ c l. absurd (omega (arith, l))))
   goes-meets storage s b k signal false y c d e w m n r =
       stops-meets storage s b k signal (end_shown s b signal.status signal.more) (is_last_end signal.status) (is-chained s b k signal.status signal.more false w c) m n
       (stops-shows laws accesses s b k signal w)
 
   command-meets : (storage : Contents) (s : SubchannelState) (b : ActiveProgram) (k : ProgramTrace) (signal : EndSignal) (x : Bool) → (signal.command == b.transfer.command) ≡ x → s.begun ≡ Some b → HasWork (Some b) k → signal.number ≡ k.number →
-      EndBy storage s signal (if x then taking.command_ended storage s b signal else taking.ignoring s) k (if x then stories.chains storage s b signal.status signal.more k else k)
+      EndBy storage s signal (if x then on_end.ends_command storage s b signal else outcomes.signal_ignored s) k (if x then stories.chains storage s b signal.status signal.more k else k)
   command-meets storage s b k signal true i e w m r =
       goes-meets storage s b k signal (chains_command s.scsw b signal.status signal.more) (has_device_end signal.status) refl refl e w m
       (eqb-true signal.command b.transfer.command i ∙ w.1) r
   command-meets storage s b k signal false i e w m r = (refl, refl, none-counted s s k refl)
 
   work-ends : (storage : Contents) (s : SubchannelState) (b : Option ActiveProgram) (k : ProgramTrace) (signal : EndSignal) → s.begun ≡ b → HasWork b k → signal.number ≡ k.number →
-      EndBy storage s signal (taking.end_of storage s b signal) k (stories.trace_ends storage s b signal.command signal.status signal.more k)
+      EndBy storage s signal (on_end.ends_at_work storage s b signal) k (stories.trace_ends storage s b signal.command signal.status signal.more k)
   work-ends storage s None k signal e w m r = (refl, refl, none-counted s s k refl)
   work-ends storage s (Some b) k signal e w m r = command-meets storage s b k signal (signal.command == b.transfer.command) refl e w m r
 
@@ -235,13 +238,13 @@ module _ (laws : AreLaws) (accesses : AreAccesses) where
   on-number other u n sent b e k = absurd (cc e)
 
   end-by : (storage : Contents) (s : SubchannelState) (k : ProgramTrace) (signal : EndSignal) (x : Bool) → is_on s.hold.phase signal.number ≡ x → IsHeld s k →
-      EndBy storage s signal (if x then taking.end_of storage s s.begun signal else taking.ignoring s) k
+      EndBy storage s signal (if x then on_end.ends_at_work storage s s.begun signal else outcomes.signal_ignored s) k
       (if x then stories.trace_ends storage s s.begun signal.command signal.status signal.more k else k)
   end-by storage s k signal true e h r = work-ends storage s s.begun k signal refl h.work (on-number s.hold.phase signal.number k.number k.sent s.begun e h.phase) r
   end-by storage s k signal false e h r = (refl, refl, none-counted s s k refl)
 
   pub end-meets : (storage : Contents) (s : SubchannelState) (k : ProgramTrace) (signal : EndSignal) (x : Bool) → is_on s.hold.phase signal.number ≡ x → IsHeld s k →
-      let met : UpStep = if x then taking.end_of storage s s.begun signal else taking.ignoring s in
+      let met : UpStep = if x then on_end.ends_at_work storage s s.begun signal else outcomes.signal_ignored s in
       let after : ProgramTrace = if x then stories.trace_ends storage s s.begun signal.command signal.status signal.more k else k in
       IsHeld met.state after →
       Meets storage storage s met.state (up.End signal.number signal.command signal.status signal.more) met.came.taken met.came.sent k after

@@ -29,6 +29,7 @@ use Rattle.chan_model.specs.HoldTable as hold_table
 use Rattle.scsw_irb.specs.declared.status.DeviceStatus.{DeviceStatus}
 use Rattle.chan_model.specs.HoldTable.{is_connected, is_on}
 use Rattle.wires.specs.Queues.{queue}
+use Rattle.subchannel_model.specs.Notice as on_notice
 use Rattle.subchannel_model.specs.declared.state.ActiveProgram.{ActiveProgram}
 use Rattle.subchannel_model.specs.declared.state.Chosen.{Chosen}
 use Rattle.subchannel_model.specs.declared.state.Chosen.TheVariants.{Idle, Resets, PerformsClear, Halts, PerformsHalt, FindsNoPath, Offers}
@@ -48,8 +49,16 @@ use Rattle.subchannel_model.specs.Programs.{without_programs, has_any}
 use Rattle.subchannel_model.specs.Start.{started}
 use Rattle.machine_model.specs.State.{State, opening_of}
 use Rattle.subchannel_model.specs.Opening.{opened}
-use Rattle.subchannel_model.specs.Taking as taking
-use Rattle.subchannel_model.specs.Taking.{takes_up, goes_ahead, by_hold, reset_taken}
+use Rattle.subchannel_model.specs.Taking.{takes_up}
+use Rattle.subchannel_model.specs.Outcomes.{hold_outcome}
+use Rattle.subchannel_model.specs.Outcomes as outcomes
+use Rattle.subchannel_model.specs.Attention as on_attention
+use Rattle.subchannel_model.specs.Accept.{takes_device}
+use Rattle.subchannel_model.specs.Accept as on_accept
+use Rattle.subchannel_model.specs.Back as on_back
+use Rattle.subchannel_model.specs.Data as on_data
+use Rattle.subchannel_model.specs.End as on_end
+use Rattle.subchannel_model.specs.Cleared.{takes_cleared}
 use Rattle.machine_model.specs.Turns.{SubTurn, UpTurn, DownTurn}
 use Rattle.subchannel_model.specs.Sending.{carried_by, finds_full}
 use Rattle.machine_model.specs.ChooseSteps.{choose_sub}
@@ -288,9 +297,9 @@ reset-untold : (s : SubchannelState) (shows : Bool) → IsUntold s → IsUntold 
 reset-untold s true u = record { phase = omega arith; begun = refl; suspended = refl }
 reset-untold s false u = record { phase = omega arith; begun = u.begun; suspended = u.suspended }
 
-noticed-untold : (s : SubchannelState) (c : ℕ) (b : Bool) → IsUntold s → IsUntold (if b then taking.quietly (reset_for (taking.with_known s c)) else taking.ignoring s).state
+noticed-untold : (s : SubchannelState) (c : ℕ) (b : Bool) → IsUntold s → IsUntold (if b then outcomes.signal_taken (reset_for (on_notice.with_known s c)) else outcomes.signal_ignored s).state
 noticed-untold s c true u =
-    reset-untold (taking.with_known s c) (is_offered_or_held s.hold.phase && has_any s.waiting s.begun s.suspended) (record { phase = u.phase; begun = u.begun; suspended = u.suspended })
+    reset-untold (on_notice.with_known s c) (is_offered_or_held s.hold.phase && has_any s.waiting s.begun s.suspended) (record { phase = u.phase; begun = u.begun; suspended = u.suspended })
 noticed-untold s c false u = u
 
 pub unheld-by : (P : HoldPhase → Type 0) (phase : HoldPhase) (drawn : ℕ) → IsUnheld phase drawn → P hold.Free → ((r : ℕ) → P (hold.Reset r)) → P phase
@@ -303,18 +312,18 @@ freed-if s true u = record { phase = u.phase; begun = u.begun; suspended = u.sus
 freed-if s false u = u
 
 cleared-if : (s : SubchannelState) (b : Bool) → IsUntold s →
-    IsUntold (reset_taken s (if b then Some (hold_table.hold_quietly (record s.hold { phase = hold.Free; reset_path = None })) else None)).state
+    IsUntold (takes_cleared s (if b then Some (hold_table.hold_quietly (record s.hold { phase = hold.Free; reset_path = None })) else None)).state
 cleared-if s true u =
     freed-if (record s { hold = record s.hold { phase = hold.Free; reset_path = None } }) s.scsw.activity.clear_pending
     (record { phase = tt; begun = u.begun; suspended = u.suspended })
 cleared-if s false u = u
 
-attention-untold : (s : SubchannelState) (shows : Bool) → IsUntold s → IsUntold (taking.with_attention s shows)
+attention-untold : (s : SubchannelState) (shows : Bool) → IsUntold s → IsUntold (on_attention.with_attention s shows)
 attention-untold s true u = record { phase = u.phase; begun = u.begun; suspended = u.suspended }
 attention-untold s false u = u
 
 attended-untold : (s : SubchannelState) (p a : ℕ) (status : DeviceStatus) (may : Bool) → IsUntold s →
-    IsUntold (taking.attend s status (hold_table.attended s.hold hold.Free p a may)).state
+    IsUntold (on_attention.takes_attention s status (hold_table.attended s.hold hold.Free p a may)).state
 attended-untold s p a status true u = attention-untold s (not (status.0 == 0x20)) u
 attended-untold s p a status false u = u
 
@@ -324,20 +333,20 @@ module _ (laws : AreLaws) (accesses : AreAccesses) where
   unmet s f u x y = unheld-by (λ phase. IsUntold (f phase)) s.hold.phase s.drawn u.phase x y
 
   pub untold-met : (returns : Bool) → (storage : Contents) (s : SubchannelState) (p : ℕ) (signal : Up) → IsUntold s → IsUntold (takes_up returns storage s p signal).step.state
-  untold-met returns storage s p (up.Accept t) u = unmet s (λ x. (taking.accept storage s (hold_table.offer_accepted s.hold x t (goes_ahead s))).state) u u (λ r. u)
-  untold-met returns storage s p (up.Busy t) u = unmet s (λ x. (by_hold s (hold_table.found_busy s.hold x t)).state) u u (λ r. u)
-  untold-met returns storage s p (up.Leave t c) u = unmet s (λ x. (by_hold s (hold_table.left s.hold x t c)).state) u u (λ r. u)
-  untold-met returns storage s p (up.Back t c) u = unmet s (λ x. (taking.back s p (hold_table.asked_back s.hold x p t c returns)).state) u u (λ r. u)
+  untold-met returns storage s p (up.Accept t) u = unmet s (λ x. (on_accept.takes_accept storage s (hold_table.offer_accepted s.hold x t (takes_device s))).state) u u (λ r. u)
+  untold-met returns storage s p (up.Busy t) u = unmet s (λ x. (hold_outcome s (hold_table.found_busy s.hold x t)).state) u u (λ r. u)
+  untold-met returns storage s p (up.Leave t c) u = unmet s (λ x. (hold_outcome s (hold_table.left s.hold x t c)).state) u u (λ r. u)
+  untold-met returns storage s p (up.Back t c) u = unmet s (λ x. (on_back.takes_back s p (hold_table.asked_back s.hold x p t c returns)).state) u u (λ r. u)
   untold-met returns storage s p (up.Data load t c n seq) u =
-      unmet s (λ x. (if is_connected x p t c then taking.move_data storage s s.begun (record { path = p; number = t; connection = c; command = n; sequence = seq }) load else taking.meets storage (taking.ignoring s)).step.state) u u (λ r. u)
+      unmet s (λ x. (if is_connected x p t c then on_data.moves_data storage s s.begun (record { path = p; number = t; connection = c; command = n; sequence = seq }) load else outcomes.with_storage storage (outcomes.signal_ignored s)).step.state) u u (λ r. u)
   untold-met returns storage s p (up.End t n status more) u =
-      unmet s (λ x. (if is_on x t then taking.end_of storage s s.begun (record { path = p; number = t; command = n; status = status; more = more }) else taking.ignoring s).state) u u (λ r. u)
-  untold-met returns storage s p (up.Released t) u = unmet s (λ x. (by_hold s (hold_table.released s.hold x t)).state) u u (λ r. u)
-  untold-met returns storage s p (up.Cleared r) u = unmet s (λ x. (reset_taken s (hold_table.reset_cleared s.hold x r)).state) u u (λ q. cleared-if s (r == q) u)
+      unmet s (λ x. (if is_on x t then on_end.ends_at_work storage s s.begun (record { path = p; number = t; command = n; status = status; more = more }) else outcomes.signal_ignored s).state) u u (λ r. u)
+  untold-met returns storage s p (up.Released t) u = unmet s (λ x. (hold_outcome s (hold_table.released s.hold x t)).state) u u (λ r. u)
+  untold-met returns storage s p (up.Cleared r) u = unmet s (λ x. (takes_cleared s (hold_table.reset_cleared s.hold x r)).state) u u (λ q. cleared-if s (r == q) u)
   untold-met returns storage s p (up.Notice b) u = noticed-untold s b (nat_lt s.hold.known b) u
   untold-met returns storage s p (up.Attn a status) u =
-      unmet s (λ x. (taking.attend s status (hold_table.attended s.hold x p a (taking.may_attend s))).state) u
-      (attended-untold s p a status (taking.may_attend s) u) (λ r. u)
+      unmet s (λ x. (on_attention.takes_attention s status (hold_table.attended s.hold x p a (on_attention.may_take_attention s))).state) u
+      (attended-untold s p a status (on_attention.may_take_attention s) u) (λ r. u)
 
   any-met : (returns : Bool) → (storage : Contents) (s : SubchannelState) (p : ℕ) (signal : Up) (k : Option ProgramTrace) → KeptBy s k → KeptBy (takes_up returns storage s p signal).step.state (met_with storage s p (Some signal) k)
   any-met returns storage s p signal None h = untold-met returns storage s p signal h

@@ -14,20 +14,23 @@ use Rattle.chan_model.specs.UnitReports.{is_outward, has_device_end}
 use Rattle.ccw_walk.specs.declared.check.Check.{Check}
 use Rattle.ccw_walk.specs.Acts.{Act}
 use Rattle.ccw_walk.specs.Programs.{commands}
-use Rattle.ccw_walk.specs.Walks.{WalkPlace, walk_place}
+use Rattle.ccw_walk.specs.Places.{WalkPlace, walk_place}
 use Rattle.data_move.specs.Moving.{room}
 use Rattle.data_move.specs.Accesses as access
 use Rattle.transfer.specs.declared.Transfer.{Transfer}
 use Rattle.transfer.specs.declared.CommandStart.{CommandStart}
 use Rattle.transfer.specs.declared.CommandStart.TheVariants as came
 use Rattle.transfer.specs.Commands.{first_command, next_command, located_transfer, has_stopped}
-use Rattle.transfer.specs.Chunks.{chains_data, with_moved, with_answer, taken_by_device, fitting, is_answered}
+use Rattle.transfer.specs.DataChaining.{chains_data, with_bytes_moved}
+use Rattle.transfer.specs.ToDevice.{with_chunk_counted, chunk_absorbed}
+use Rattle.transfer.specs.FromDevice.{fitting_bytes}
+use Rattle.transfer.specs.ChunkNumbers.{is_answered}
 use Rattle.subchannel_model.specs.declared.state.ActiveProgram.{ActiveProgram}
 use Rattle.subchannel_model.specs.declared.state.Program.{Program}
 use Rattle.subchannel_model.specs.declared.state.ProgramPosition.{ProgramPosition}
 use Rattle.subchannel_model.specs.declared.state.SubchannelState.{SubchannelState}
 use Rattle.subchannel_model.specs.Ends.{has_status_modifier, chains_command}
-use Rattle.subchannel_model.specs.Taking.{goes_ahead}
+use Rattle.subchannel_model.specs.Accept.{takes_device}
 use Rattle.program_laws.proofs.MachineActs as doing
 use Rattle.program_laws.specs.Traces.{CommandTrace, no_trace, ProgramTrace, past_part}
 use Rattle.program_laws.proofs.MachineActs.{with_acts, with_places, with_copy, located_acts, chunk_of, chained_acts, trace_answered, gives, with_arrival, storing, takes_in, first_acts, next_acts}
@@ -51,16 +54,16 @@ copied-part k c = by (length k.taken == k.sent)
     by false = c.1
 
 moved-if : (storage : Contents) (t : Transfer) (n : ℕ) (p : CommandTrace) (b : Bool) → AllCopied p →
-    AllCopied (if b then with_acts (with_places p t.moving n) (chained_acts storage (with_moved t n)) else with_places p t.moving n)
+    AllCopied (if b then with_acts (with_places p t.moving n) (chained_acts storage (with_bytes_moved t n)) else with_places p t.moving n)
 moved-if storage t n p true c = c
 moved-if storage t n p false c = c
 
 moved-copied : (storage : Contents) (t : Transfer) (n : ℕ) (p : CommandTrace) → AllCopied p → AllCopied (doing.trace_moved_on storage t n p)
-moved-copied storage t n p c = moved-if storage t n p (chains_data (with_moved t n) n) c
+moved-copied storage t n p c = moved-if storage t n p (chains_data (with_bytes_moved t n) n) c
 
 answer-if : (storage : Contents) (t : Transfer) (s count : ℕ) (p : CommandTrace) (b : Bool) → AllCopied p →
-    AllCopied (if b then doing.trace_moved_on storage (with_answer t s count) (min count (room t.moving)) p else p)
-answer-if storage t s count p true c = moved-copied storage (with_answer t s count) (min count (room t.moving)) p c
+    AllCopied (if b then doing.trace_moved_on storage (with_chunk_counted t s count) (min count (room t.moving)) p else p)
+answer-if storage t s count p true c = moved-copied storage (with_chunk_counted t s count) (min count (room t.moving)) p c
 answer-if storage t s count p false c = c
 
 arrival-copied : (storage : Contents) (t : Transfer) (bytes : List ℕ) (r : Result Contents Check) (p : CommandTrace) → AllCopied p → AllCopied (with_arrival storage t bytes r p)
@@ -74,9 +77,9 @@ store-if storage t bytes r p true c = c
 store-if storage t bytes r p false c = arrival-copied storage t bytes r p c
 
 arrive-if : (storage : Contents) (t : Transfer) (s : ℕ) (bytes : List ℕ) (p : CommandTrace) (b : Bool) → AllCopied p →
-    AllCopied (if b then storing storage (record t { sequence = s }) (fitting t bytes) p else p)
+    AllCopied (if b then storing storage (record t { sequence = s }) (fitting_bytes t bytes) p else p)
 arrive-if storage t s bytes p true c =
-    store-if storage (record t { sequence = s }) (fitting t bytes) (access.stored_or_skipped storage t.walk.orb.key t.moving (fitting t bytes)) p (is_some t.fault) c
+    store-if storage (record t { sequence = s }) (fitting_bytes t bytes) (access.stored_or_skipped storage t.walk.orb.key t.moving (fitting_bytes t bytes)) p (is_some t.fault) c
 arrive-if storage t s bytes p false c = c
 
 takes_in-copied : (storage : Contents) (t : Transfer) (s : ℕ) (bytes : List ℕ) (p : CommandTrace) → AllCopied p → AllCopied (takes_in storage t s bytes p)
@@ -96,7 +99,7 @@ module _ (accesses : AreAccesses) where
 
   gives-copied : (storage : Contents) (t : Transfer) (s count : ℕ) (p : CommandTrace) → AllCopied p → AllCopied (gives storage t s count p)
   gives-copied storage t s count p c =
-      let a : Transfer = taken_by_device storage t s count in
+      let a : Transfer = chunk_absorbed storage t s count in
       let u : Transfer = located_transfer storage a in
       copy-if storage u (with_acts (trace_answered storage t s count p) (located_acts storage a)) (has_stopped u) (answer-if storage t s count p (s == t.sequence + 1) c)
 
@@ -179,7 +182,7 @@ module _ (accesses : AreAccesses) where
 
   pub meets-copied : (storage : Contents) (s : SubchannelState) (p : ℕ) (signal : Up) (k : ProgramTrace) → AreCopied k → AreCopied (trace_meets storage s p signal k)
   meets-copied storage s p (up.Accept t) k c =
-      let step : Option HoldStep = hold_takes s.hold p (up.Accept t) (goes_ahead s) in
+      let step : Option HoldStep = hold_takes s.hold p (up.Accept t) (takes_device s) in
       accept-if storage s step k (came_of step).taken c
   meets-copied storage s p (up.Data load t d n seq) k c = data-if storage s n seq load k (is_connected s.hold.phase p t d) c
   meets-copied storage s p (up.End t n status more) k c = on-if storage s n status more k (is_on s.hold.phase t) c

@@ -5,7 +5,7 @@ use Rattle.scsw_irb.specs.declared.status.DeviceStatus.{DeviceStatus}
 use Rattle.ccw_walk.specs.declared.program.Latest.{Latest}
 use Rattle.ccw_walk.specs.Acts.{Act, End}
 use Rattle.ccw_walk.specs.Programs.{role_of, latest, next_ended, tried}
-use Rattle.ccw_walk.specs.Walks.{WalkPlace}
+use Rattle.ccw_walk.specs.Places.{WalkPlace}
 use Rattle.transfer.specs.declared.Transfer.{Transfer}
 use Rattle.subchannel_model.specs.Ends.{has_status_modifier}
 use Rattle.program_laws.specs.Traces.{ProgramTrace}

@@ -15,8 +15,9 @@ use Rattle.ccw_walk.specs.declared.program.Reading.TheVariants.{Transfers}
 use Rattle.ccw_walk.specs.Acts.{Act, Block, Unfetched, Used_up, End}
 use Rattle.ccw_walk.specs.Blocks.{reads}
 use Rattle.ccw_walk.specs.Programs.{IsProgram, role_of, next, commands}
-use Rattle.ccw_walk.proofs.Named.{acts_at, after_block, after_used_up, walk_after_end, act_of_fetch, with_target}
-use Rattle.ccw_walk.specs.Walks.{WalkPlace, walk_place, is_program_misplaced, fetch_act, acts_from, advance_acts}
+use Rattle.ccw_walk.specs.Advancing.{acts_from_next, with_tic_target, acts_from_fetch, advance_acts}
+use Rattle.ccw_walk.specs.Places.{after_block, after_count_used_up, after_command_end, WalkPlace, walk_place}
+use Rattle.ccw_walk.specs.Fetching.{act_of_fetch, is_program_misplaced, fetch_act}
 use Rattle.idaw.specs.declared.ListKind.{ListKind}
 use Rattle.idaw.specs.Lists.{kind_of, width, address_of_word, word_fault}
 use Rattle.idaw.specs.declared.WordFault.{WordFault}
@@ -28,7 +29,9 @@ use Rattle.transfer.specs.declared.Transfer.{Transfer}
 use Rattle.transfer.specs.declared.CommandStart.{CommandStart}
 use Rattle.transfer.specs.declared.CommandStart.TheVariants as came
 use Rattle.transfer.specs.Commands.{goes_to, located_transfer, has_stopped, brings}
-use Rattle.transfer.specs.Chunks.{chains_data, with_moved, with_answer, taken_by_device, brought_by, brought_in, brought, fitting}
+use Rattle.transfer.specs.DataChaining.{chains_data, with_bytes_moved}
+use Rattle.transfer.specs.ToDevice.{with_chunk_counted, chunk_absorbed}
+use Rattle.transfer.specs.FromDevice.{after_store, bytes_brought_in, chunk_stored, fitting_bytes}
 use Rattle.program_laws.specs.DataAreas.{data_areas}
 use Rattle.program_laws.proofs.MachineActs as doing
 use Rattle.program_laws.specs.Traces.{Arrival, CommandTrace}
@@ -37,7 +40,7 @@ use Rattle.program_laws.specs.Claims.{has_check, EndsAtCheck}
 use Rattle.program_laws.specs.Fetches.{IsNextWord, IsFetched, AreFetched, AddsFetched}
 use Rattle.program_laws.proofs.Accesses.{AreAccesses}
 use Rattle.program_laws.proofs.Ties.{AreLaws, IsMovedTo, Tied, changed, Begins, goes-begins}
-use Rattle.program_laws.proofs.Parts.{IsAtWork, moved_on-parts, room-left, answer-tied, answer-by, fitting-left, bring-by}
+use Rattle.program_laws.proofs.Parts.{IsAtWork, after_bytes_moved-parts, room-left, answer-tied, answer-by, fitting-left, bring-by}
 use Rattle.program_laws.proofs.Used.{used-same, none-used, used-by}
 use Rattle.program_laws.specs.Tells.{is_used_up, acts_used}
 
@@ -71,19 +74,19 @@ fetch-fetched storage orb before address =
     fetch-by storage orb before address ((role_of orb before).first && is_program_misplaced orb address) (fetched storage orb.key address 8) refl refl
 
 target-fetched : (storage : Contents) (orb : Orb) (before : List Act) (address : ℕ) (bytes : List ℕ) (r : Reading) → fetched storage orb.key address 8 ≡ Ok bytes →
-    AreFetched storage orb before (with_target storage (after_block (walk_place orb before) address bytes) r (Block address bytes ∷ []))
+    AreFetched storage orb before (with_tic_target storage (after_block (walk_place orb before) address bytes) r (Block address bytes ∷ []))
 target-fetched storage orb before address bytes (Transfers target) e =
     (fetch-fetched storage orb (Block address bytes ∷ before) target, (e, tt))
 target-fetched storage orb before address bytes other e = (e, tt)
 
 from-by : (storage : Contents) (orb : Orb) (before : List Act) (address : ℕ) (test : Bool) (answer : Result (List ℕ) StorageFault) →
     ((role_of orb before).first && is_program_misplaced orb address) ≡ test → fetched storage orb.key address 8 ≡ answer →
-    AreFetched storage orb before (acts_from storage (walk_place orb before) (if test then Unfetched address Program else act_of_fetch address answer))
+    AreFetched storage orb before (acts_from_fetch storage (walk_place orb before) (if test then Unfetched address Program else act_of_fetch address answer))
 from-by storage orb before address true answer d e = (inr (d, refl), tt)
 from-by storage orb before address false (Ok bytes) d e = target-fetched storage orb before address bytes (reads orb (role_of orb before) bytes) e
 from-by storage orb before address false (Err fault) d e = (inl (ap checked e), tt)
 
-at-fetched : (storage : Contents) (orb : Orb) (before : List Act) (n : Option ℕ) → AreFetched storage orb before (acts_at storage (walk_place orb before) n)
+at-fetched : (storage : Contents) (orb : Orb) (before : List Act) (n : Option ℕ) → AreFetched storage orb before (acts_from_next storage (walk_place orb before) n)
 at-fetched storage orb before None = tt
 at-fetched storage orb before (Some address) =
     from-by storage orb before address ((role_of orb before).first && is_program_misplaced orb address) (fetched storage orb.key address 8) refl refl
@@ -95,16 +98,16 @@ advance-fetched storage orb before = at-fetched storage orb before (next orb bef
 chained-adds : (storage : Contents) (orb : Orb) (acts : List Act) (t : Transfer) → t.walk ≡ walk_place orb acts →
     AddsFetched storage orb (Used_up ∷ acts) (chained_acts storage t ++ acts)
 chained-adds storage orb acts t e =
-    let more : WalkPlace → List Act = λ w. advance_acts storage (after_used_up w) in (
+    let more : WalkPlace → List Act = λ w. advance_acts storage (after_count_used_up w) in (
       more t.walk,
       append_assoc (more t.walk) (Used_up ∷ []) acts,
       subst (λ (w : WalkPlace). AreFetched storage orb (Used_up ∷ acts) (more w)) (sym e) (advance-fetched storage orb (Used_up ∷ acts)),
     )
 
-moved_on-if : (storage : Contents) (orb : Orb) (p : CommandTrace) (t : Transfer) (n : ℕ) (b : Bool) → t.walk ≡ walk_place orb p.acts →
-    AddsFetched storage orb (acts_used b p.acts) (if b then with_acts (with_places p t.moving n) (chained_acts storage (with_moved t n)) else with_places p t.moving n).acts
-moved_on-if storage orb p t n true e = chained-adds storage orb p.acts (with_moved t n) e
-moved_on-if storage orb p t n false e = adds-none storage orb p.acts
+after_bytes_moved-if : (storage : Contents) (orb : Orb) (p : CommandTrace) (t : Transfer) (n : ℕ) (b : Bool) → t.walk ≡ walk_place orb p.acts →
+    AddsFetched storage orb (acts_used b p.acts) (if b then with_acts (with_places p t.moving n) (chained_acts storage (with_bytes_moved t n)) else with_places p t.moving n).acts
+after_bytes_moved-if storage orb p t n true e = chained-adds storage orb p.acts (with_bytes_moved t n) e
+after_bytes_moved-if storage orb p t n false e = adds-none storage orb p.acts
 
 -- a word of an indirect list
 aligned-word : (b : Bool) (x : Result ℕ Check) (word : ℕ) → (if not b then Err Program else x) ≡ Ok word → (_ : b ≡ true) × (x ≡ Ok word)
@@ -202,7 +205,7 @@ module _ (earlier : ℕ) where
     next-adds storage orb acts ps t modifier d f k =
         let before : List Act = End (ending modifier) ∷ acts in
         let m : length (commands orb before) ≡ earlier + t.command = k.number in
-        let more : WalkPlace → List Act = λ w. goes_acts storage (t.command + 1) (walk_after_end w (ending modifier)) in (
+        let more : WalkPlace → List Act = λ w. goes_acts storage (t.command + 1) (after_command_end w (ending modifier)) in (
           more t.walk,
           append_assoc (more t.walk) (End (ending modifier) ∷ []) acts,
           subst (λ (w : WalkPlace). AreFetched storage orb before (more w)) (sym k.walk)
@@ -219,19 +222,19 @@ module _ (earlier : ℕ) where
         subst (λ (b : Bool). AddsFetched storage orb (acts_used b p.acts) q.acts) (sym (none-used orb kept p q e))
         (subst (λ (acts : List Act). AddsFetched storage orb p.acts acts) (sym f) (adds-none storage orb p.acts))
 
-    moved_on-adds : (storage : Contents) (orb : Orb) (p : CommandTrace) (t : Transfer) (n : ℕ) (arrived : List Arrival) → n ≤ t.moving.left → Tied earlier orb p.acts p.moved t →
+    after_bytes_moved-adds : (storage : Contents) (orb : Orb) (p : CommandTrace) (t : Transfer) (n : ℕ) (arrived : List Arrival) → n ≤ t.moving.left → Tied earlier orb p.acts p.moved t →
         UsedAdds storage orb (is_some t.fault) p (doing.trace_moved_on storage t n (record p { arrived = arrived }))
-    moved_on-adds storage orb p t n arrived l k =
+    after_bytes_moved-adds storage orb p t n arrived l k =
         let r : CommandTrace = record p { arrived = arrived } in
         let q : CommandTrace = doing.trace_moved_on storage t n r in
         subst (λ (b : Bool). AddsFetched storage orb (acts_used b p.acts) q.acts)
-        (sym (used-same laws earlier orb p q t n l k (moved_on-parts storage t n r (chains_data (with_moved t n) n)).0))
-        (moved_on-if storage orb r t n (chains_data (with_moved t n) n) k.walk)
+        (sym (used-same laws earlier orb p q t n l k (after_bytes_moved-parts storage t n r (chains_data (with_bytes_moved t n) n)).0))
+        (after_bytes_moved-if storage orb r t n (chains_data (with_bytes_moved t n) n) k.walk)
 
     answer-if : (storage : Contents) (orb : Orb) (p : CommandTrace) (t : Transfer) (s count : ℕ) (b : Bool) → IsAtWork earlier orb p t true →
-        UsedAdds storage orb (is_some t.fault) p (if b then doing.trace_moved_on storage (with_answer t s count) (min count (room t.moving)) p else p)
+        UsedAdds storage orb (is_some t.fault) p (if b then doing.trace_moved_on storage (with_chunk_counted t s count) (min count (room t.moving)) p else p)
     answer-if storage orb p t s count true k =
-        moved_on-adds storage orb p (with_answer t s count) (min count (room t.moving)) p.arrived (room-left t count) (answer-tied earlier laws orb p t s count k).tied
+        after_bytes_moved-adds storage orb p (with_chunk_counted t s count) (min count (room t.moving)) p.arrived (room-left t count) (answer-tied earlier laws orb p t s count k).tied
     answer-if storage orb p t s count false k = unused-adds storage orb (is_some t.fault) p p refl refl
 
     later-adds : (storage : Contents) (orb : Orb) (kept : Bool) (p q r : CommandTrace) (acts : List Act) → r.moved ≡ q.moved → r.acts ≡ acts ++ q.acts → UsedAdds storage orb kept p q →
@@ -245,7 +248,7 @@ module _ (earlier : ℕ) where
         UsedAdds storage orb (is_some t.fault) p (gives storage t s count p)
     gives-adds storage orb p t s count k =
         let q : CommandTrace = trace_answered storage t s count p in
-        let u : Transfer = taken_by_device storage t s count in
+        let u : Transfer = chunk_absorbed storage t s count in
         let w : IsAtWork earlier orb q u true = answer-by earlier laws storage orb p t s count (s == t.sequence + 1) k in
         let same = copy-same storage (located_transfer storage u) (with_acts q (located_acts storage u)) in
         later-adds storage orb (is_some t.fault) p q (gives storage t s count p) (located_acts storage u) same.1 same.0
@@ -253,31 +256,31 @@ module _ (earlier : ℕ) where
 
     -- a Data of a command that brings bytes in: they are stored first
     arrival-adds : (storage : Contents) (orb : Orb) (p : CommandTrace) (t : Transfer) (bytes : List ℕ) (r : Result Contents Check) → length bytes ≤ t.moving.left → Tied earlier orb p.acts p.moved t →
-        UsedAdds (brought_by storage t (length bytes) r).storage orb (is_some t.fault) p (with_arrival storage t bytes r p)
+        UsedAdds (after_store storage t (length bytes) r).storage orb (is_some t.fault) p (with_arrival storage t bytes r p)
     arrival-adds storage orb p t bytes (Ok after) l k =
-        moved_on-adds after orb p t (length bytes) (record { former = storage.bytes; chunk = doing.chunk_of after t.moving bytes } ∷ p.arrived) l k
+        after_bytes_moved-adds after orb p t (length bytes) (record { former = storage.bytes; chunk = doing.chunk_of after t.moving bytes } ∷ p.arrived) l k
     arrival-adds storage orb p t bytes (Err check) l k = unused-adds storage orb (is_some t.fault) p p refl refl
 
     store-if : (storage : Contents) (orb : Orb) (p : CommandTrace) (t : Transfer) (bytes : List ℕ) (r : Result Contents Check) (b : Bool) → length bytes ≤ t.moving.left →
         Tied earlier orb p.acts p.moved t →
-        UsedAdds (if b then record { transfer = t; storage = storage } else brought_by storage t (length bytes) r).storage orb (is_some t.fault) p (if b then p else with_arrival storage t bytes r p)
+        UsedAdds (if b then record { transfer = t; storage = storage } else after_store storage t (length bytes) r).storage orb (is_some t.fault) p (if b then p else with_arrival storage t bytes r p)
     store-if storage orb p t bytes r true l k = unused-adds storage orb (is_some t.fault) p p refl refl
     store-if storage orb p t bytes r false l k = arrival-adds storage orb p t bytes r l k
 
     bring-if : (storage : Contents) (orb : Orb) (p : CommandTrace) (t : Transfer) (s : ℕ) (bytes : List ℕ) (b : Bool) → Tied earlier orb p.acts p.moved t →
-        UsedAdds (if b then brought_in storage (record t { sequence = s }) (fitting t bytes) else record { transfer = t; storage = storage }).storage orb (is_some t.fault) p
-        (if b then storing storage (record t { sequence = s }) (fitting t bytes) p else p)
+        UsedAdds (if b then bytes_brought_in storage (record t { sequence = s }) (fitting_bytes t bytes) else record { transfer = t; storage = storage }).storage orb (is_some t.fault) p
+        (if b then storing storage (record t { sequence = s }) (fitting_bytes t bytes) p else p)
     bring-if storage orb p t s bytes true k =
         let u : Transfer = record t { sequence = s } in
-        store-if storage orb p u (fitting t bytes) (access.stored_or_skipped storage t.walk.orb.key t.moving (fitting t bytes)) (is_some t.fault) (fitting-left t bytes)
+        store-if storage orb p u (fitting_bytes t bytes) (access.stored_or_skipped storage t.walk.orb.key t.moving (fitting_bytes t bytes)) (is_some t.fault) (fitting-left t bytes)
         (changed earlier orb p.acts p.moved t u refl refl refl refl (λ e. e) (λ e. e) k)
     bring-if storage orb p t s bytes false k = unused-adds storage orb (is_some t.fault) p p refl refl
 
     pub takes_in-adds : (accesses : AreAccesses) (storage : Contents) (orb : Orb) (p : CommandTrace) (t : Transfer) (s : ℕ) (bytes : List ℕ) → IsAtWork earlier orb p t false →
-        UsedAdds (brought storage t s bytes).storage orb (is_some t.fault) p (takes_in storage t s bytes p)
+        UsedAdds (chunk_stored storage t s bytes).storage orb (is_some t.fault) p (takes_in storage t s bytes p)
     takes_in-adds accesses storage orb p t s bytes k =
         let q : CommandTrace = arriving storage t s bytes p in
-        let x = brought storage t s bytes in
+        let x = chunk_stored storage t s bytes in
         let w : IsAtWork earlier orb q x.transfer false = bring-by earlier laws accesses storage orb p t s bytes (s == t.sequence + 1) refl k in
         later-adds x.storage orb (is_some t.fault) p q (takes_in storage t s bytes p) (located_acts x.storage x.transfer) refl refl
         (bring-if storage orb p t s bytes (s == t.sequence + 1) k.tied) (located-fetched x.storage orb q.acts q.moved x.transfer w.tied)

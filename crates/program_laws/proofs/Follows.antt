@@ -17,7 +17,11 @@ use Rattle.wires.specs.Queues.{queue}
 use Rattle.subchannel_model.specs.declared.state.Subchannel.{Subchannel}
 use Rattle.subchannel_model.specs.declared.state.SubchannelState.{SubchannelState}
 use Rattle.subchannel_model.specs.Sending.{carried_by, finds_full}
-use Rattle.subchannel_model.specs.Taking.{Met, meets, ignoring, goes_ahead, accept, move_data, end_of, takes_up}
+use Rattle.subchannel_model.specs.Outcomes.{SignalOutcome, with_storage, signal_ignored}
+use Rattle.subchannel_model.specs.Accept.{takes_device, takes_accept}
+use Rattle.subchannel_model.specs.Data.{moves_data}
+use Rattle.subchannel_model.specs.End.{ends_at_work}
+use Rattle.subchannel_model.specs.Taking.{takes_up}
 use Rattle.machine_model.specs.State.{State, place_of, with_sub}
 use Rattle.machine_model.specs.Steps.{Step}
 use Rattle.machine_model.specs.Turns.{Turn, UpTurn}
@@ -48,7 +52,7 @@ use Rattle.step_laws.proofs.Turns.{TurnOf, HasTurn, step-turn}
 
 module _ (laws : AreLaws) (accesses : AreAccesses) where
   -- a signal
-  abbrev MeetsBy : Contents → SubchannelState → Up → Met → ProgramTrace → ProgramTrace → Type 0
+  abbrev MeetsBy : Contents → SubchannelState → Up → SignalOutcome → ProgramTrace → ProgramTrace → Type 0
   MeetsBy storage s signal x k after = Meets storage x.storage s x.step.state signal x.step.came.taken x.step.came.sent k after
 
   signal-meets : (returns : Bool) (storage : Contents) (s : SubchannelState) (p : ℕ) (signal : Up) (k : ProgramTrace) → IsHeld s k → IsOffered s k × IsUnasked s.begun →
@@ -71,20 +75,20 @@ module _ (laws : AreLaws) (accesses : AreAccesses) where
   unoffered : (returns : Bool) (storage : Contents) (s : SubchannelState) (p : ℕ) (signal : Up) → IsUntold s → MeetsNone storage (takes_up returns storage s p signal).storage s (takes_up returns storage s p signal).step.state signal
   unoffered returns storage s p (up.Accept t) u = (
     refl,
-    unheld-by (λ x. IsStandingShown s (accept storage s (offer_accepted s.hold x t (goes_ahead s))).state) s.hold.phase s.drawn u.phase (none-left s s refl) (λ r. none-left s s refl),
+    unheld-by (λ x. IsStandingShown s (takes_accept storage s (offer_accepted s.hold x t (takes_device s))).state) s.hold.phase s.drawn u.phase (none-left s s refl) (λ r. none-left s s refl),
   )
   unoffered returns storage s p (up.Data load t c n seq) u = (
     unheld-by
-        (λ x. (if is_connected x p t c then move_data storage s s.begun (record { path = p; number = t; connection = c; command = n; sequence = seq }) load
-        else meets storage (ignoring s)).storage ≡ storage) s.hold.phase s.drawn u.phase refl (λ r. refl),
+        (λ x. (if is_connected x p t c then moves_data storage s s.begun (record { path = p; number = t; connection = c; command = n; sequence = seq }) load
+        else with_storage storage (signal_ignored s)).storage ≡ storage) s.hold.phase s.drawn u.phase refl (λ r. refl),
     unheld-by
-        (λ x. IsStandingShown s (if is_connected x p t c then move_data storage s s.begun (record { path = p; number = t; connection = c; command = n; sequence = seq }) load
-        else meets storage (ignoring s)).step.state) s.hold.phase s.drawn u.phase (none-left s s refl) (λ r. none-left s s refl),
+        (λ x. IsStandingShown s (if is_connected x p t c then moves_data storage s s.begun (record { path = p; number = t; connection = c; command = n; sequence = seq }) load
+        else with_storage storage (signal_ignored s)).step.state) s.hold.phase s.drawn u.phase (none-left s s refl) (λ r. none-left s s refl),
   )
   unoffered returns storage s p (up.End t n status more) u = (
     refl,
     unheld-by
-        (λ x. IsStandingShown s (if is_on x t then end_of storage s s.begun (record { path = p; number = t; command = n; status = status; more = more }) else ignoring s).state)
+        (λ x. IsStandingShown s (if is_on x t then ends_at_work storage s s.begun (record { path = p; number = t; command = n; status = status; more = more }) else signal_ignored s).state)
         s.hold.phase s.drawn u.phase (none-left s s refl) (λ r. none-left s s refl),
   )
   unoffered returns storage s p (up.Cleared r) u = (
@@ -111,7 +115,7 @@ module _ (laws : AreLaws) (accesses : AreAccesses) where
       × (HeldBy sub.state k → OfferedBy sub.state k × IsUnasked sub.state.begun → OfBoth (MeetsNone storage t.storage sub.state t.sub.state signal) (Meets storage t.storage sub.state t.sub.state signal taken sent) k after)
 
   any-meets : (returns : Bool) (storage : Contents) (s : SubchannelState) (p : ℕ) (signal : Up) (k : Option ProgramTrace) → HeldBy s k → OfferedBy s k × IsUnasked s.begun →
-      let x : Met = takes_up returns storage s p signal in
+      let x : SignalOutcome = takes_up returns storage s p signal in
       OfBoth (MeetsNone storage x.storage s x.step.state signal) (Meets storage x.storage s x.step.state signal x.step.came.taken x.step.came.sent) k (met_with storage s p (Some signal) k)
   any-meets returns storage s p signal None h o = unoffered returns storage s p signal h
   any-meets returns storage s p signal (Some k) h o = signal-meets returns storage s p signal k h o
@@ -120,7 +124,7 @@ module _ (laws : AreLaws) (accesses : AreAccesses) where
       IfOk (up_front returns storage sub path front) (λ t. TurnMeets storage sub t k (met_with storage sub.state path front k))
   front-meets returns storage sub path None k = tt
   front-meets returns storage sub path (Some signal) k =
-      let x : Met = takes_up returns storage sub.state path signal in
+      let x : SignalOutcome = takes_up returns storage sub.state path signal in
       if-ok (λ t. TurnMeets storage sub t k (met_with storage sub.state path (Some signal) k)) (finds_full sub.wires.down (carried_by sub x.step.came.sent)) (Err fault.WireFull) _ tt
       (signal, x.step.came.taken, x.step.came.sent, refl, any-meets returns storage sub.state path signal k)
 

@@ -11,7 +11,7 @@ use Rattle.chan_model.specs.declared.signal.OnPath.{OnPath}
 use Rattle.chan_model.specs.HoldTable.{came_of, letting_go}
 use Rattle.ccw_walk.specs.Acts.{Act}
 use Rattle.ccw_walk.specs.Programs.{Command, commands, code}
-use Rattle.ccw_walk.specs.Walks.{WalkPlace}
+use Rattle.ccw_walk.specs.Places.{WalkPlace}
 use Rattle.data_move.specs.Moving.{residual}
 use Rattle.transfer.specs.declared.Transfer.{Transfer}
 use Rattle.transfer.specs.declared.CommandStart.{CommandStart}
@@ -23,8 +23,10 @@ use Rattle.subchannel_model.specs.declared.state.ProgramPosition.{ProgramPositio
 use Rattle.subchannel_model.specs.declared.state.SubchannelState.{SubchannelState}
 use Rattle.subchannel_model.specs.declared.cause.StatusCause.TheVariants as cause
 use Rattle.subchannel_model.specs.Causes.{with_cause}
-use Rattle.subchannel_model.specs.Taking as taking
-use Rattle.subchannel_model.specs.Taking.{let_go}
+use Rattle.subchannel_model.specs.Accept as on_accept
+use Rattle.subchannel_model.specs.Suspension as suspension
+use Rattle.subchannel_model.specs.End as on_end
+use Rattle.subchannel_model.specs.Outcomes.{device_released}
 use Rattle.program_laws.specs.Traces.{ProgramTrace}
 use Rattle.program_laws.specs.Tells.{SentCommand, command_sent, GoesTo}
 use Rattle.program_laws.specs.Reached.{BeginsData}
@@ -39,8 +41,8 @@ phase-silent : (h : HoldState) (phase : HoldPhase) → command_sent (came_of (le
 phase-silent h hold.Free = refl
 phase-silent h other = refl
 
-pub let_go-silent : (s : SubchannelState) → command_sent (let_go s).came.sent ≡ None
-let_go-silent s = phase-silent s.hold s.hold.phase
+pub device_released-silent : (s : SubchannelState) → command_sent (device_released s).came.sent ≡ None
+device_released-silent s = phase-silent s.hold s.hold.phase
 
 -- as many commands are the same commands
 no-more : (more xs ys : List ℕ) → ys ≡ more ++ xs → length ys ≡ length xs → ys ≡ xs
@@ -83,23 +85,23 @@ module _ (laws : AreLaws) where
   -- at an Accept
   pub begins-goes : (storage : Contents) (s : SubchannelState) (p t : ℕ) (st : ProgramPosition) (walk : WalkPlace) (k : ProgramTrace) (c : CommandStart) (acts : List Act) (n : ℕ) →
       WentOn k.earlier laws storage k.orb k.now.acts (acts ++ k.now.acts) n walk c → t ≡ k.number → n ≡ k.sent + 1 →
-      GoesTo storage (command_sent (taking.beginning storage s p t st walk c).came.sent) (acts ++ k.now.acts) k (stories.trace_goes_on storage c acts k)
+      GoesTo storage (command_sent (on_accept.first_ccw_outcome storage s p t st walk c).came.sent) (acts ++ k.now.acts) k (stories.trace_goes_on storage c acts k)
   begins-goes storage s p t st walk k (came.Begins transfer) acts n w f g = sent-goes storage acts k.now.acts n t walk transfer k w refl f g
   begins-goes storage s p t st walk k came.Suspends acts n w f g =
-      let x : SubchannelState = taking.suspending s st.program walk st.count in
-      unsent-goes storage (let_go x).came.sent acts k.now.acts k (let_go-silent x) w.2 refl
+      let x : SubchannelState = suspension.program_suspended s st.program walk st.count in
+      unsent-goes storage (device_released x).came.sent acts k.now.acts k (device_released-silent x) w.2 refl
   begins-goes storage s p t st walk k (came.Stops check) acts n w f g =
       let x : SubchannelState = with_cause s (cause.FetchFault walk.tried check st.count) in
-      unsent-goes storage (let_go x).came.sent acts k.now.acts k (let_go-silent x) w.2 refl
+      unsent-goes storage (device_released x).came.sent acts k.now.acts k (device_released-silent x) w.2 refl
 
   -- and at an End
   pub chains-goes : (storage : Contents) (s : SubchannelState) (b : ActiveProgram) (signal : EndSignal) (walk : WalkPlace) (k : ProgramTrace) (c : CommandStart) (acts before : List Act) (n : ℕ) →
       WentOn k.earlier laws storage k.orb before (acts ++ k.now.acts) n walk c → commands k.orb before ≡ commands k.orb k.now.acts → signal.number ≡ k.number → n ≡ k.sent + 1 →
-      GoesTo storage (command_sent (taking.chaining storage s b signal walk c).came.sent) (acts ++ k.now.acts) k (stories.trace_goes_on storage c acts k)
+      GoesTo storage (command_sent (on_end.next_ccw_outcome storage s b signal walk c).came.sent) (acts ++ k.now.acts) k (stories.trace_goes_on storage c acts k)
   chains-goes storage s b signal walk k (came.Begins transfer) acts before n w e f g = sent-goes storage acts before n signal.number walk transfer k w e f g
   chains-goes storage s b signal walk k came.Suspends acts before n w e f g =
-      let x : SubchannelState = taking.suspending (taking.end_taken s signal) b.program walk (residual b.transfer.moving) in
-      unsent-goes storage (let_go x).came.sent acts before k (let_go-silent x) w.2 e
+      let x : SubchannelState = suspension.program_suspended (on_end.with_allegiance_after_end s signal) b.program walk (residual b.transfer.moving) in
+      unsent-goes storage (device_released x).came.sent acts before k (device_released-silent x) w.2 e
   chains-goes storage s b signal walk k (came.Stops check) acts before n w e f g =
-      let x : SubchannelState = with_cause (taking.end_taken s signal) (cause.FetchFault walk.tried check (residual b.transfer.moving)) in
-      unsent-goes storage (let_go x).came.sent acts before k (let_go-silent x) w.2 e
+      let x : SubchannelState = with_cause (on_end.with_allegiance_after_end s signal) (cause.FetchFault walk.tried check (residual b.transfer.moving)) in
+      unsent-goes storage (device_released x).came.sent acts before k (device_released-silent x) w.2 e

@@ -10,7 +10,7 @@ use Rattle.chan_model.specs.HoldTable as hold_table
 use Rattle.chan_model.specs.HoldTable.{HoldStep, hold_after, letting_go}
 use Rattle.chan_model.specs.UnitReports.{is_outward}
 use Rattle.ccw_walk.specs.Programs.{role_of}
-use Rattle.ccw_walk.specs.Walks.{walk_place}
+use Rattle.ccw_walk.specs.Places.{walk_place}
 use Rattle.transfer.specs.declared.Transfer.{Transfer}
 use Rattle.scsw_irb.specs.declared.scsw.Scsw.{Scsw}
 use Rattle.subchannel_model.specs.declared.state.ActiveProgram.{ActiveProgram}
@@ -21,7 +21,11 @@ use Rattle.subchannel_model.specs.declared.state.ProgramPosition.{ProgramPositio
 use Rattle.subchannel_model.specs.declared.cause.StatusCause.TheVariants as cause
 use Rattle.subchannel_model.specs.Causes.{with_cause}
 use Rattle.subchannel_model.specs.Programs.{without_programs}
-use Rattle.subchannel_model.specs.Taking.{let_go, by_hold, back, halt_done, clear_done, reset_taken, with_attention}
+use Rattle.subchannel_model.specs.Attention.{with_attention}
+use Rattle.subchannel_model.specs.Outcomes.{device_released, hold_outcome}
+use Rattle.subchannel_model.specs.Back.{takes_back}
+use Rattle.subchannel_model.specs.Accept.{halt_performed}
+use Rattle.subchannel_model.specs.Cleared.{clear_performed, takes_cleared}
 use Rattle.program_laws.specs.Traces.{CommandTrace, no_trace, ProgramTrace, past_part}
 use Rattle.program_laws.specs.Shows.{IsRest}
 use Rattle.program_laws.specs.Claims.{IsStored, places_of, IsSuspended}
@@ -173,22 +177,22 @@ module _ (drawn n : ℕ) (b : Option ActiveProgram) (sent : ℕ) where
   attended-phase h other p a may = same-phase h other
 
   -- the device is let go
-  let_go-phase : (h : HoldState) (phase : HoldPhase) → b ≡ None → Keeps h phase (letting_go h phase)
-  let_go-phase h (hold.On t p c) z = λ e k. ((k.0, z), tt)
-  let_go-phase h other z = same-phase h other
+  device_released-phase : (h : HoldState) (phase : HoldPhase) → b ≡ None → Keeps h phase (letting_go h phase)
+  device_released-phase h (hold.On t p c) z = λ e k. ((k.0, z), tt)
+  device_released-phase h other z = same-phase h other
 
-pub by_hold-held : (s : SubchannelState) (k : ProgramTrace) (step : Option HoldStep) → IsHeld s k → IsHold s.drawn k.number s.begun k.sent (hold_after s.hold step).phase →
-    IsHeld (by_hold s step).state k
-by_hold-held s k step h p = record { number = h.number; phase = p.0; drawn = p.1; work = h.work; standing = h.standing }
+pub hold_outcome-held : (s : SubchannelState) (k : ProgramTrace) (step : Option HoldStep) → IsHeld s k → IsHold s.drawn k.number s.begun k.sent (hold_after s.hold step).phase →
+    IsHeld (hold_outcome s step).state k
+hold_outcome-held s k step h p = record { number = h.number; phase = p.0; drawn = p.1; work = h.work; standing = h.standing }
 
 pub back-held : (s : SubchannelState) (k : ProgramTrace) (p : ℕ) (step : Option HoldStep) → IsHeld s k →
-    IsHold s.drawn k.number s.begun k.sent (hold_after s.hold step).phase → IsHeld (back s p step).state k
+    IsHold s.drawn k.number s.begun k.sent (hold_after s.hold step).phase → IsHeld (takes_back s p step).state k
 back-held s k p step h i = record { number = h.number; phase = i.0; drawn = i.1; work = h.work; standing = h.standing }
 
-pub let_go-held : (s : SubchannelState) (k : ProgramTrace) → k.number ≤ s.drawn → IsHold s.drawn k.number s.begun k.sent s.hold.phase → s.begun ≡ None → IsDone k.orb k.now →
-    IsStanding s.waiting s.begun s.suspended k → IsHeld (let_go s).state k
-let_go-held s k n p z d st =
-    let next : IsHold s.drawn k.number s.begun k.sent (let_go s).state.hold.phase = let_go-phase s.drawn k.number s.begun k.sent s.hold s.hold.phase z refl p in
+pub device_released-held : (s : SubchannelState) (k : ProgramTrace) → k.number ≤ s.drawn → IsHold s.drawn k.number s.begun k.sent s.hold.phase → s.begun ≡ None → IsDone k.orb k.now →
+    IsStanding s.waiting s.begun s.suspended k → IsHeld (device_released s).state k
+device_released-held s k n p z d st =
+    let next : IsHold s.drawn k.number s.begun k.sent (device_released s).state.hold.phase = device_released-phase s.drawn k.number s.begun k.sent s.hold s.hold.phase z refl p in
     record {
       number = n;
       phase = next.0;
@@ -218,8 +222,8 @@ without-held s k h = record {
 pub halted-held : (s : SubchannelState) (k : ProgramTrace) → IsHeld s k → IsHeld (with_cause s cause.HaltDone) k
 halted-held s k h = let x : IsHeld (without_programs s) k = without-held s k h in record { number = x.number; phase = x.phase; drawn = x.drawn; work = x.work; standing = x.standing }
 
-pub halt_done-held : (s : SubchannelState) (k : ProgramTrace) → IsHeld s k → IsHeld (halt_done s) k
-halt_done-held s k h = by s.scsw.activity.halt_pending
+pub halt_performed-held : (s : SubchannelState) (k : ProgramTrace) → IsHeld s k → IsHeld (halt_performed s) k
+halt_performed-held s k h = by s.scsw.activity.halt_pending
   where
     by : (b : Bool) → IsHeld (if b then with_cause s cause.HaltDone else s) k
     by true = halted-held s k h
@@ -238,26 +242,26 @@ attention-held s k false h = h
 pub cleared-held : (s : SubchannelState) (k : ProgramTrace) → IsHeld s k → IsHeld (with_cause s cause.ClearDone) k
 cleared-held s k h = record { number = h.number; phase = h.phase; drawn = h.drawn; work = h.work; standing = h.standing }
 
-pub clear_done-held : (s : SubchannelState) (k : ProgramTrace) → IsHeld s k → IsHeld (clear_done s) k
-clear_done-held s k h = by s.scsw.activity.clear_pending
+pub clear_performed-held : (s : SubchannelState) (k : ProgramTrace) → IsHeld s k → IsHeld (clear_performed s) k
+clear_performed-held s k h = by s.scsw.activity.clear_pending
   where
     by : (b : Bool) → IsHeld (if b then with_cause s cause.ClearDone else s) k
     by true = cleared-held s k h
     by false = h
 
-pub reset_taken-held : (s : SubchannelState) (k : ProgramTrace) (u : ℕ) (phase : HoldPhase) → s.hold.phase ≡ phase → IsHeld s k →
-    IsHeld (reset_taken s (hold_table.reset_cleared s.hold phase u)).state k
-reset_taken-held s k u hold.Free e h = h
-reset_taken-held s k u (hold.Offer t p) e h = h
-reset_taken-held s k u (hold.On t p c) e h = h
-reset_taken-held s k u (hold.Away t) e h = h
-reset_taken-held s k u (hold.Letting t p) e h = h
-reset_taken-held s k u (hold.Reset r) e h = by (u == r)
+pub takes_cleared-held : (s : SubchannelState) (k : ProgramTrace) (u : ℕ) (phase : HoldPhase) → s.hold.phase ≡ phase → IsHeld s k →
+    IsHeld (takes_cleared s (hold_table.reset_cleared s.hold phase u)).state k
+takes_cleared-held s k u hold.Free e h = h
+takes_cleared-held s k u (hold.Offer t p) e h = h
+takes_cleared-held s k u (hold.On t p c) e h = h
+takes_cleared-held s k u (hold.Away t) e h = h
+takes_cleared-held s k u (hold.Letting t p) e h = h
+takes_cleared-held s k u (hold.Reset r) e h = by (u == r)
   where
-    by : (x : Bool) → IsHeld (reset_taken s (if x then Some (hold_table.hold_quietly (record s.hold { phase = hold.Free; reset_path = None })) else None)).state k
+    by : (x : Bool) → IsHeld (takes_cleared s (if x then Some (hold_table.hold_quietly (record s.hold { phase = hold.Free; reset_path = None })) else None)).state k
     by true =
         let f : IsPhase (hold.Reset r) k.number s.begun k.sent = subst (λ (x : HoldPhase). IsPhase x k.number s.begun k.sent) e h.phase in
-        clear_done-held (record s { hold = record s.hold { phase = hold.Free; reset_path = None } }) k
+        clear_performed-held (record s { hold = record s.hold { phase = hold.Free; reset_path = None } }) k
         (record { number = h.number; phase = f.0; drawn = tt; work = h.work; standing = h.standing })
     by false = h
 

@@ -13,8 +13,8 @@ use Rattle.ccw_walk.specs.declared.program.Advance.{Advance}
 use Rattle.ccw_walk.specs.declared.program.Advance.TheVariants as advance
 use Rattle.ccw_walk.specs.Acts.{Act, Used_up}
 use Rattle.ccw_walk.specs.Programs.{role_of, commands, next}
-use Rattle.ccw_walk.specs.Walks.{WalkPlace, walk_place, after_acts, advance_acts, advance_of}
-use Rattle.ccw_walk.proofs.Named.{after_used_up}
+use Rattle.ccw_walk.specs.Places.{WalkPlace, walk_place, after_acts, after_count_used_up}
+use Rattle.ccw_walk.specs.Advancing.{advance_acts, advance_of_acts}
 use Rattle.idaw.specs.declared.ListKind.{ListKind}
 use Rattle.idaw.specs.declared.ListKind.TheVariants.{Short, LongByFourK, LongByTwoK}
 use Rattle.idaw.specs.declared.WordFault.{WordFault}
@@ -25,8 +25,8 @@ use Rattle.data_move.specs.Accesses.{checked, list_word_of, where_right}
 use Rattle.data_move.specs.Moving.{Moving, with_piece, next_place, needs_word, residual, uses_list, room, IsAt}
 use Rattle.transfer.specs.declared.Transfer.{Transfer}
 use Rattle.transfer.specs.Commands.{located_transfer, with_located}
-use Rattle.transfer.specs.Chunks.{chains_data, chained_to, chained, with_moved, moved_on, given_bytes}
-use Rattle.transfer.proofs.Named.{next_chunk_of}
+use Rattle.transfer.specs.DataChaining.{chains_data, with_next_ccw, data_chained, with_bytes_moved, after_bytes_moved}
+use Rattle.transfer.specs.ToDevice.{with_bytes_offered, with_bytes_fetched}
 use Rattle.program_laws.specs.Claims.{IsBeginning, places_of, has_check}
 use Rattle.program_laws.specs.DataAreas.{data_areas, counts}
 use Rattle.program_laws.specs.Fetches.{IsNextWord}
@@ -37,7 +37,7 @@ use Rattle.program_laws.proofs.MachineActs.{act_of_right, act_of_word, located_a
 use Rattle.program_laws.proofs.Lists.{length-places, length-each_below}
 use Rattle.program_laws.proofs.Advances.{Went, UnlessStops, advance-went, advance-ends}
 use Rattle.program_laws.proofs.Standing.{acts-stand, suspended-unchained}
-use Rattle.program_laws.proofs.Ties.{AreLaws, IsMovedTo, Tied, spot-begins, spot-counts, done-within, ccw-of, with_moved-tied}
+use Rattle.program_laws.proofs.Ties.{AreLaws, IsMovedTo, Tied, spot-begins, spot-counts, done-within, ccw-of, with_bytes_moved-tied}
 
 -- how many bytes are reached
 bound-by : (u : Bool) (r : Reach) (m : Moving) → uses_list m ≡ u → IsAt r m → m.done + m.left ≡ (if u then min (covered (block m.kind) r.words) m.ccw.count else m.ccw.count)
@@ -221,31 +221,31 @@ module _ (earlier : ℕ) where
   located-checks storage orb acts t = located-by-checks storage orb acts t (is_some t.fault) (needs_word t.moving) (access.word_fetched storage t.walk.orb.key t.moving)
 
   -- data is chained to a block, which may show a check
-  chained_to-kept : (orb : Orb) (acts : List Act) (t : Transfer) (walk : WalkPlace) (a : Option Advance) → UnlessStops a (has_check orb acts) → (a ≡ Some advance.Suspends → ⊥) →
-      is_some (chained_to t walk a).fault ≡ true → (is_some t.fault ≡ true) ⊎ (has_check orb acts ≡ true)
-  chained_to-kept orb acts t walk (Some (advance.Takes ccw)) u n e = inl e
-  chained_to-kept orb acts t walk (Some advance.Suspends) u n e = absurd (n refl)
-  chained_to-kept orb acts t walk (Some (advance.Stops check)) u n e = inr u
-  chained_to-kept orb acts t walk None u n e = inl e
+  with_next_ccw-kept : (orb : Orb) (acts : List Act) (t : Transfer) (walk : WalkPlace) (a : Option Advance) → UnlessStops a (has_check orb acts) → (a ≡ Some advance.Suspends → ⊥) →
+      is_some (with_next_ccw t walk a).fault ≡ true → (is_some t.fault ≡ true) ⊎ (has_check orb acts ≡ true)
+  with_next_ccw-kept orb acts t walk (Some (advance.Takes ccw)) u n e = inl e
+  with_next_ccw-kept orb acts t walk (Some advance.Suspends) u n e = absurd (n refl)
+  with_next_ccw-kept orb acts t walk (Some (advance.Stops check)) u n e = inr u
+  with_next_ccw-kept orb acts t walk None u n e = inl e
 
   module _ (laws : AreLaws) where
     chained-kept : (storage : Contents) (orb : Orb) (acts : List Act) (ps : List (Option ℕ)) (t : Transfer) → is_some t.fault ≡ false → t.moving.ccw.chain_data ≡ true →
-        Tied earlier orb acts ps t → is_some (chained storage t).fault ≡ true → (is_some t.fault ≡ true) ⊎ (has_check orb (chained_acts storage t ++ acts) ≡ true)
+        Tied earlier orb acts ps t → is_some (data_chained storage t).fault ≡ true → (is_some t.fault ≡ true) ⊎ (has_check orb (chained_acts storage t ++ acts) ≡ true)
     chained-kept storage orb acts ps t f d k =
         let used : List Act = Used_up ∷ acts in
         let old : WalkPlace = walk_place orb used in
         let news : List Act = advance_acts storage old in
         let ends = advance-ends storage orb used (k.checked f) k.ends in
-        let by : is_some (chained_to t (after_acts old news) (advance_of old news)).fault ≡ true → (is_some t.fault ≡ true) ⊎ (has_check orb (news ++ used) ≡ true) =
-        chained_to-kept orb (news ++ used) t (after_acts old news) (advance_of old news) ends.1
+        let by : is_some (with_next_ccw t (after_acts old news) (advance_of_acts old news)).fault ≡ true → (is_some t.fault ≡ true) ⊎ (has_check orb (news ++ used) ≡ true) =
+        with_next_ccw-kept orb (news ++ used) t (after_acts old news) (advance_of_acts old news) ends.1
         (λ s. not-suspended storage orb acts (k.chained f ∙ d) s) in
         subst
-        (λ (w : WalkPlace). is_some (chained_to t (after_acts (after_used_up w) (advance_acts storage (after_used_up w))) (advance_of (after_used_up w) (advance_acts storage (after_used_up w)))).fault ≡ true →
-        (is_some t.fault ≡ true) ⊎ (has_check orb ((advance_acts storage (after_used_up w) ++ Used_up ∷ []) ++ acts) ≡ true)) (sym k.walk)
+        (λ (w : WalkPlace). is_some (with_next_ccw t (after_acts (after_count_used_up w) (advance_acts storage (after_count_used_up w))) (advance_of_acts (after_count_used_up w) (advance_acts storage (after_count_used_up w)))).fault ≡ true →
+        (is_some t.fault ≡ true) ⊎ (has_check orb ((advance_acts storage (after_count_used_up w) ++ Used_up ∷ []) ++ acts) ≡ true)) (sym k.walk)
         (λ e. elim (by e) [ inl x ↦ inl x | inr x ↦ inr (ap (has_check orb) (append_assoc news (Used_up ∷ []) acts) ∙ x) ])
       where
         not-suspended : (storage : Contents) (orb : Orb) (acts : List Act) → (role_of orb acts).chained ≡ true →
-            advance_of (walk_place orb (Used_up ∷ acts)) (advance_acts storage (walk_place orb (Used_up ∷ acts))) ≡ Some advance.Suspends → ⊥
+            advance_of_acts (walk_place orb (Used_up ∷ acts)) (advance_acts storage (walk_place orb (Used_up ∷ acts))) ≡ Some advance.Suspends → ⊥
         not-suspended storage orb acts c s =
             let used : List Act = Used_up ∷ acts in
             let news : List Act = advance_acts storage (walk_place orb used) in
@@ -253,25 +253,25 @@ module _ (earlier : ℕ) where
             (role_of orb (news ++ used)) a) s (advance-went storage orb used) in
             cc (sym (went.2 ∙ c) ∙ suspended-unchained orb (news ++ used) (acts-stand orb used news advance.Suspends (laws.leads orb used) s))
 
-    moved_on-by : (storage : Contents) (orb : Orb) (p : CommandTrace) (t : Transfer) (n : ℕ) (b : Bool) → chains_data (with_moved t n) n ≡ b → n ≤ t.moving.left → Tied earlier orb p.acts p.moved t →
-        is_some (if b then chained storage (with_moved t n) else with_moved t n).fault ≡ true →
-        (is_some t.fault ≡ true) ⊎ (has_check orb (if b then with_acts (with_places p t.moving n) (chained_acts storage (with_moved t n)) else with_places p t.moving n).acts ≡ true)
-    moved_on-by storage orb p t n true e l k =
-        let m : Moving = (with_moved t n).moving in
+    after_bytes_moved-by : (storage : Contents) (orb : Orb) (p : CommandTrace) (t : Transfer) (n : ℕ) (b : Bool) → chains_data (with_bytes_moved t n) n ≡ b → n ≤ t.moving.left → Tied earlier orb p.acts p.moved t →
+        is_some (if b then data_chained storage (with_bytes_moved t n) else with_bytes_moved t n).fault ≡ true →
+        (is_some t.fault ≡ true) ⊎ (has_check orb (if b then with_acts (with_places p t.moving n) (chained_acts storage (with_bytes_moved t n)) else with_places p t.moving n).acts ≡ true)
+    after_bytes_moved-by storage orb p t n true e l k =
+        let m : Moving = (with_bytes_moved t n).moving in
         let a = and_parts (not (n == 0)) ((residual m == 0) && (m.ccw.chain_data && is_none t.fault)) e in
         let b = and_parts (residual m == 0) (m.ccw.chain_data && is_none t.fault) a.1 in
         let c = and_parts m.ccw.chain_data (is_none t.fault) b.1 in
-        chained-kept storage orb p.acts (p.moved ++ each_below (next_place t.moving) n) (with_moved t n) (none-fault t.fault c.1) c.0
-        (with_moved-tied earlier laws orb p.acts p.moved t n l k)
+        chained-kept storage orb p.acts (p.moved ++ each_below (next_place t.moving) n) (with_bytes_moved t n) (none-fault t.fault c.1) c.0
+        (with_bytes_moved-tied earlier laws orb p.acts p.moved t n l k)
       where
         none-fault : (o : Option Check) → is_none o ≡ true → is_some o ≡ false
         none-fault None e = refl
         none-fault (Some x) e = absurd (cc e)
-    moved_on-by storage orb p t n false e l k = λ x. inl x
+    after_bytes_moved-by storage orb p t n false e l k = λ x. inl x
 
-    pub moved_on-kept : (storage : Contents) (orb : Orb) (p : CommandTrace) (t : Transfer) (n : ℕ) → n ≤ t.moving.left → Tied earlier orb p.acts p.moved t →
-        is_some (moved_on storage t n).fault ≡ true → (is_some t.fault ≡ true) ⊎ (has_check orb (trace_moved_on storage t n p).acts ≡ true)
-    moved_on-kept storage orb p t n l k = moved_on-by storage orb p t n (chains_data (with_moved t n) n) refl l k
+    pub after_bytes_moved-kept : (storage : Contents) (orb : Orb) (p : CommandTrace) (t : Transfer) (n : ℕ) → n ≤ t.moving.left → Tied earlier orb p.acts p.moved t →
+        is_some (after_bytes_moved storage t n).fault ≡ true → (is_some t.fault ≡ true) ⊎ (has_check orb (trace_moved_on storage t n p).acts ≡ true)
+    after_bytes_moved-kept storage orb p t n l k = after_bytes_moved-by storage orb p t n (chains_data (with_bytes_moved t n) n) refl l k
 
     -- storage refuses the next bytes
     fetch-some : (storage : Contents) (key place count : ℕ) (check : Check) → checked (fetched storage key place count) ≡ Err check → 1 ≤ count
@@ -285,7 +285,7 @@ module _ (earlier : ℕ) where
         let place : next_place m 0 ≡ Some m.piece =
         ap (λ (b : Bool). if b then None else Some (m.piece + 0)) s ∙ ap (λ (n : ℕ). Some n) (let z : m.piece + 0 ≡ m.piece = omega arith in z) in
         subst (λ (x : Option ℕ). IsBeginning (ps ++ x ∷ []) (places_of orb acts)) place
-        (spot-begins orb (data_areas orb acts) (with_moved t 1) (ps ++ each_below (next_place m) 1) (with_moved-tied earlier laws orb acts ps t 1 l k).spot)
+        (spot-begins orb (data_areas orb acts) (with_bytes_moved t 1) (ps ++ each_below (next_place m) 1) (with_bytes_moved-tied earlier laws orb acts ps t 1 l k).spot)
 
     copy-by : (storage : Contents) (orb : Orb) (acts : List Act) (ps : List (Option ℕ)) (t : Transfer) (check : Check) (b : Bool) → t.moving.skipped ≡ b →
         (if b then Ok [] else checked (fetched storage t.walk.orb.key t.moving.piece (room t.moving))) ≡ Err check → Tied earlier orb acts ps t → CantFetch storage orb acts ps
@@ -302,7 +302,7 @@ module _ (earlier : ℕ) where
         )
 
     pub copy-kept : (storage : Contents) (orb : Orb) (acts : List Act) (ps : List (Option ℕ)) (t : Transfer) (b : Bool) (r : Result (List ℕ) Check) → access.copied storage t.walk.orb.key t.moving ≡ r →
-        Tied earlier orb acts ps t → is_some (if b then given_bytes t [] else next_chunk_of t r).transfer.fault ≡ true → (is_some t.fault ≡ true) ⊎ CantFetch storage orb acts ps
+        Tied earlier orb acts ps t → is_some (if b then with_bytes_offered t [] else with_bytes_fetched t r).transfer.fault ≡ true → (is_some t.fault ≡ true) ⊎ CantFetch storage orb acts ps
     copy-kept storage orb acts ps t true r e k f = inl f
     copy-kept storage orb acts ps t false (Ok bytes) e k f = inl f
     copy-kept storage orb acts ps t false (Err check) e k f = inr (copy-by storage orb acts ps t check t.moving.skipped refl e k)

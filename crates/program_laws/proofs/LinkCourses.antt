@@ -20,7 +20,7 @@ use Rattle.idaw.specs.Lists.{kind_of, block}
 use Rattle.idaw.specs.Places.{Reach, places_of_bytes, each_below}
 use Rattle.data_move.specs.Moving.{Moving, room, next_place}
 use Rattle.transfer.specs.declared.Transfer.{Transfer}
-use Rattle.transfer.specs.Chunks.{with_moved}
+use Rattle.transfer.specs.DataChaining.{with_bytes_moved}
 use Rattle.wires.specs.Queues.{queue, taken}
 use Rattle.scsw_irb.specs.declared.status.DeviceStatus.{DeviceStatus}
 use Rattle.subchannel_model.specs.declared.state.ActiveProgram.{ActiveProgram}
@@ -30,10 +30,10 @@ use Rattle.program_laws.specs.Traces.{CommandTrace, ProgramTrace, taken_at, abso
 use Rattle.program_laws.specs.DataAreas.{data_areas}
 use Rattle.program_laws.proofs.MachineTraces.{ends_alone, with_ended}
 use Rattle.program_laws.specs.Claims.{AbsorbsInOrder, IsBeginning, IsFirstOf, places_of}
-use Rattle.program_laws.proofs.Ties.{AreLaws, Tied, spot-begins, with_moved-tied}
+use Rattle.program_laws.proofs.Ties.{AreLaws, Tied, spot-begins, with_bytes_moved-tied}
 use Rattle.program_laws.proofs.Holds.{HasWork, HeldBy}
 use Rattle.program_laws.proofs.Caused.{IsUninterrupted, IsInterrupted, interrupted-work}
-use Rattle.subchannel_model.specs.Taking.{interrupted}
+use Rattle.subchannel_model.specs.Pci.{with_pci}
 use Rattle.program_laws.proofs.UnitOrders.{IsDown, IsNumbered, IsOrdered}
 use Rattle.program_laws.proofs.UnitFlows.{View, Flow, IsGive, IsData, IsLead, lead_places}
 use Rattle.program_laws.proofs.UnitGrowth.{codes_of}
@@ -183,9 +183,9 @@ mode-marked side b c k downs ups u i (Writes d e g o lead f w) =
     (subst (λ (x : View). P x c.transfer.code) views (subst (λ (y : ℕ). P (view_of d.transfer k.now) y) codes w))
 
 pub interrupted-mode : (side : Side) (x : SubchannelState) (b : ActiveProgram) (k : ProgramTrace) (downs : List (List Down)) (ups : List (List Up)) (u : UnitState) → x.begun ≡ Some b →
-    Mode side (Some b) k downs ups u → Mode side (interrupted x (Some b)).begun k downs ups u
+    Mode side (Some b) k downs ups u → Mode side (with_pci x (Some b)).begun k downs ups u
 interrupted-mode side x b k downs ups u e m =
-    let i : IsInterrupted x (interrupted x (Some b)) b = interrupted-work x b e in
+    let i : IsInterrupted x (with_pci x (Some b)) b = interrupted-work x b e in
     subst (λ (c : Option ActiveProgram). Mode side c k downs ups u) (sym i.is) (mode-marked side b i.begun k downs ups u i.same m)
 
 -- a command ends, and none is chained to it
@@ -209,8 +209,8 @@ module _ (laws : AreLaws) (k : ProgramTrace) where
   flow-begins t None i l = spot-begins k.orb (data_areas k.orb k.now.acts) t k.now.moved i.spot
   flow-begins t (Some j) i l =
       let within : room t.moving ≤ t.moving.left = min-le_left t.moving.left 256 in
-      spot-begins k.orb (data_areas k.orb k.now.acts) (with_moved t j) (k.now.moved ++ each_below (next_place t.moving) j)
-      (with_moved-tied k.earlier laws k.orb k.now.acts k.now.moved t j (let h : j ≤ room t.moving = l in omega (arith, h, within)) i).spot
+      spot-begins k.orb (data_areas k.orb k.now.acts) (with_bytes_moved t j) (k.now.moved ++ each_below (next_place t.moving) j)
+      (with_bytes_moved-tied k.earlier laws k.orb k.now.acts k.now.moved t j (let h : j ≤ room t.moving = l in omega (arith, h, within)) i).spot
 
   pub flow-absorbs : (t : Transfer) (lead : Option ℕ) → Tied k.earlier k.orb k.now.acts k.now.moved t → Flow (view_of t k.now) k.absorbed lead → AbsorbsInOrder k.orb k.now k.absorbed
   flow-absorbs t lead i f =

@@ -20,6 +20,7 @@ use Rattle.chan_model.specs.Sides.{same_side}
 use Rattle.chan_model.specs.UnitTable.{UnitStep, came_of, is_owner, unit_takes, unit_after}
 use Rattle.chan_model.specs.UnitReports.{unit_reports}
 use Rattle.wires.specs.Queues.{queue, taken}
+use Rattle.subchannel_model.specs.Notice as on_notice
 use Rattle.subchannel_model.specs.declared.state.ActiveProgram.{ActiveProgram}
 use Rattle.subchannel_model.specs.declared.state.Chosen.{Chosen}
 use Rattle.subchannel_model.specs.declared.state.Chosen.TheVariants.{Idle, Resets, PerformsClear, Halts, PerformsHalt, FindsNoPath, Offers}
@@ -36,7 +37,7 @@ use Rattle.machine_model.specs.DownSteps.{down_front, down_sub}
 use Rattle.machine_model.specs.ReportSteps.{with_any_up, report_taken}
 use Rattle.subchannel_model.specs.Losing.{is_offered_or_held, reset_with, reset_for}
 use Rattle.subchannel_model.specs.Programs.{has_any}
-use Rattle.subchannel_model.specs.Taking as taking
+use Rattle.subchannel_model.specs.Outcomes as outcomes
 use Rattle.step_laws.specs.Walks.{IsFound, Suits}
 use Rattle.program_laws.specs.Traces.{ProgramTrace, trace_offered, trace_resumed, chosen_at, taken_at, reported_at, offered_for}
 use Rattle.program_laws.proofs.MachineTraces.{trace_meets, met_with, met_at}
@@ -184,9 +185,9 @@ module _ (laws : AreLaws) (accesses : AreAccesses) where
   reset-course s false side k downs ups u h c = c
 
   notice-course : (s : SubchannelState) (b : ℕ) (more : Bool) (side : Side) (k : ProgramTrace) (downs : List (List Down)) (ups : List (List Up)) (u : UnitState) → IsHeld s k →
-      Course side s.begun k downs ups u → Course side (if more then taking.quietly (reset_for (taking.with_known s b)) else taking.ignoring s).state.begun k (with_any_sent downs (if more then taking.quietly (reset_for (taking.with_known s b)) else taking.ignoring s).came.sent) ups u
+      Course side s.begun k downs ups u → Course side (if more then outcomes.signal_taken (reset_for (on_notice.with_known s b)) else outcomes.signal_ignored s).state.begun k (with_any_sent downs (if more then outcomes.signal_taken (reset_for (on_notice.with_known s b)) else outcomes.signal_ignored s).came.sent) ups u
   notice-course s b true side k downs ups u h c =
-      reset-course (taking.with_known s b) (is_offered_or_held s.hold.phase && has_any s.waiting s.begun s.suspended) side k downs ups u
+      reset-course (on_notice.with_known s b) (is_offered_or_held s.hold.phase && has_any s.waiting s.begun s.suspended) side k downs ups u
       (record { number = h.number; phase = h.phase; drawn = h.drawn; work = h.work; standing = h.standing }) c
   notice-course s b false side k downs ups u h c = c
 

@@ -22,8 +22,7 @@ use Rattle.chan_model.specs.Loads.{load_length}
 use Rattle.chan_model.specs.UnitReports.{is_outward, is_last_end, has_device_end}
 use Rattle.ccw_walk.specs.Acts.{Act, End}
 use Rattle.ccw_walk.specs.Programs.{commands}
-use Rattle.ccw_walk.specs.Walks.{WalkPlace}
-use Rattle.ccw_walk.proofs.Named.{walk_after_end}
+use Rattle.ccw_walk.specs.Places.{WalkPlace, after_command_end}
 use Rattle.idaw.specs.Places.{each_below}
 use Rattle.data_move.specs.Moving.{residual, room}
 use Rattle.transfer.specs.declared.Transfer.{Transfer}
@@ -31,7 +30,9 @@ use Rattle.transfer.specs.declared.CommandStart.{CommandStart}
 use Rattle.transfer.specs.declared.CommandStart.TheVariants as came
 use Rattle.transfer.specs.declared.NextChunk.{NextChunk}
 use Rattle.transfer.specs.Commands.{first_command, next_command, begun_with_room, with_room}
-use Rattle.transfer.specs.Chunks.{Brought, taken_by_device, next_given, brought, is_answered}
+use Rattle.transfer.specs.FromDevice.{StoredChunk, chunk_stored}
+use Rattle.transfer.specs.ToDevice.{chunk_absorbed, next_chunk}
+use Rattle.transfer.specs.ChunkNumbers.{is_answered}
 use Rattle.subchannel_model.specs.declared.signals.DataSignal.{DataSignal}
 use Rattle.subchannel_model.specs.declared.signals.EndSignal.{EndSignal}
 use Rattle.subchannel_model.specs.declared.state.ActiveProgram.{ActiveProgram}
@@ -43,10 +44,17 @@ use Rattle.subchannel_model.specs.Ends.{has_status_modifier, has_shown, chains_c
 use Rattle.subchannel_model.specs.Causes as causes
 use Rattle.subchannel_model.specs.Causes.{with_cause}
 use Rattle.subchannel_model.specs.declared.cause.StatusCause.TheVariants as cause
-use Rattle.subchannel_model.specs.Taking as taking
-use Rattle.subchannel_model.specs.Parts as taking_parts
-use Rattle.subchannel_model.proofs.Named as pieces
-use Rattle.subchannel_model.specs.Taking.{goes_ahead, from_start, takes_up, with_end}
+use Rattle.subchannel_model.specs.Outcomes as outcomes
+use Rattle.subchannel_model.specs.Accept as on_accept
+use Rattle.subchannel_model.specs.Suspension as suspension
+use Rattle.subchannel_model.specs.Data as on_data
+use Rattle.subchannel_model.specs.Command as command_spec
+use Rattle.subchannel_model.specs.End as on_end
+use Rattle.subchannel_model.specs.Cleared as on_cleared
+use Rattle.subchannel_model.specs.Attention as on_attention
+use Rattle.subchannel_model.specs.Accept.{takes_device, position_at_start}
+use Rattle.subchannel_model.specs.Taking.{takes_up}
+use Rattle.subchannel_model.specs.End.{with_first_end}
 use Rattle.subchannel_model.specs.Sending.{with_any_sent}
 use Rattle.wires.specs.Queues.{taken}
 use Rattle.program_laws.specs.DataAreas.{data_areas}
@@ -58,7 +66,7 @@ use Rattle.program_laws.proofs.MachineTraces.{trace_meets}
 use Rattle.program_laws.specs.Claims.{AbsorbsInOrder}
 use Rattle.program_laws.proofs.Ties.{AreLaws}
 use Rattle.program_laws.proofs.Accesses.{AreAccesses}
-use Rattle.program_laws.proofs.Parts.{IsSame, absorbed-same, next_given-same, located-same, brought-same, room-seq, WentOn}
+use Rattle.program_laws.proofs.Parts.{IsSame, absorbed-same, next_chunk-same, located-same, brought-same, room-seq, WentOn}
 use Rattle.program_laws.proofs.Holds.{IsPhase, IsHeld, HasWork}
 use Rattle.program_laws.proofs.HoldMeets.{chains-facts, next-went}
 use Rattle.program_laws.proofs.Caused.{IsUninterrupted, suspending-workless, fault-begun, halt-begun, clear-begun, attention-begun}
@@ -92,8 +100,8 @@ module _ (laws : AreLaws) (accesses : AreAccesses) (storage : Contents) (side : 
       (mode-carried side s.begun k downs (with_any_sent downs one) ups (taken ups path) u u
       (λ P Q R f w. wired-holds side k.number m P P Q Q R R downs ups u one path (λ x y. y) (λ i bytes y. y) (λ i l y. y) (sent-hold k.number m Q one h) w) mode)
 
-  by_hold-goes : (step : Option HoldStep) → SendsHoldSignal step → Goes (taking.by_hold s step) k
-  by_hold-goes step h = quiet s.begun (came_of step).sent refl h
+  hold_outcome-goes : (step : Option HoldStep) → SendsHoldSignal step → Goes (outcomes.hold_outcome s step) k
+  hold_outcome-goes step h = quiet s.begun (came_of step).sent refl h
 
   -- wires, where the device's command is over
   abbrev Closed : List (List Down) → List (List Up) → Type 0
@@ -118,9 +126,9 @@ module _ (laws : AreLaws) (accesses : AreAccesses) (storage : Contents) (side : 
   abbrev from : Orb → ℕ → CommandTrace → ProgramTrace
   from orb earlier part = record k { orb = orb; earlier = earlier; now = part }
 
-  let_go-goes : (x : SubchannelState) (orb : Orb) (earlier : ℕ) (part : CommandTrace) (acts : List Act) → x.begun ≡ None → s.begun ≡ None → k.sent ≡ 0 →
-      Goes (taking.let_go x) (record (from orb earlier part) { now = with_acts part acts })
-  let_go-goes x orb earlier part acts e n z =
+  device_released-goes : (x : SubchannelState) (orb : Orb) (earlier : ℕ) (part : CommandTrace) (acts : List Act) → x.begun ≡ None → s.begun ≡ None → k.sent ≡ 0 →
+      Goes (outcomes.device_released x) (record (from orb earlier part) { now = with_acts part acts })
+  device_released-goes x orb earlier part acts e n z =
       let f = over-facts s.begun mode n in
       let one : Option (OnPath Down) = (came_of (letting_go x.hold x.hold.phase)).sent in
       Over e f.0 f.1 (absorbs-none orb (with_acts part acts) k.absorbed (f.1 z))
@@ -129,7 +137,7 @@ module _ (laws : AreLaws) (accesses : AreAccesses) (storage : Contents) (side : 
 
   begins-goes : (r : SubchannelState) (p t : ℕ) (st : ProgramPosition) (walk : WalkPlace) (c : CommandStart) (orb : Orb) (earlier : ℕ) (part : CommandTrace) → (first_command storage st.walk).came ≡ c → r.begun ≡ s.begun →
       s.begun ≡ None → k.sent ≡ 0 →
-      Goes (taking.beginning storage r p t st walk c) (stories.trace_goes_on storage c (first_acts storage st.walk) (from orb earlier part))
+      Goes (on_accept.first_ccw_outcome storage r p t st walk c) (stories.trace_goes_on storage c (first_acts storage st.walk) (from orb earlier part))
   begins-goes r p t st walk (came.Begins tr) orb earlier part c e n z =
       let f = over-facts s.begun mode n in
       let x : Transfer = (begun_with_room storage tr).transfer in
@@ -139,48 +147,48 @@ module _ (laws : AreLaws) (accesses : AreAccesses) (storage : Contents) (side : 
       let made : Mode side (Some b) new (with_any_sent downs one) (taken ups path) u =
       Waits b refl (ap (λ (i : ℕ). i + 1) f.0) (room-seq storage tr ∙ goes-new storage 1 st.walk tr c) refl (absorbs-none orb part k.absorbed (f.1 z))
       (wired-holds side k.number m HandClosed HandClosed AnyGive AnyGive AnyData AnyData downs ups u one path (λ x y. y) (λ i bytes y. y) (λ i l y. y) tt f.2) in
-      interrupted-mode side (taking.taking_over r st.program x) b new (with_any_sent downs one) (taken ups path) u refl made
+      interrupted-mode side (on_accept.with_program_at_work r st.program x) b new (with_any_sent downs one) (taken ups path) u refl made
   begins-goes r p t st walk came.Suspends orb earlier part c e n z =
-      let_go-goes (taking.suspending r st.program walk st.count) orb earlier part (first_acts storage st.walk) (suspending-workless r st.program walk st.count).begun n z
+      device_released-goes (suspension.program_suspended r st.program walk st.count) orb earlier part (first_acts storage st.walk) (suspending-workless r st.program walk st.count).begun n z
   begins-goes r p t st walk (came.Stops check) orb earlier part c e n z =
-      let_go-goes (with_cause r (cause.FetchFault walk.tried check st.count)) orb earlier part (first_acts storage st.walk) (fault-begun r r.begun refl) n z
+      device_released-goes (with_cause r (cause.FetchFault walk.tried check st.count)) orb earlier part (first_acts storage st.walk) (fault-begun r r.begun refl) n z
 
   again-goes : (r : SubchannelState) (p t start : ℕ) (suspended : Option ProgramPosition) → r.begun ≡ s.begun → s.begun ≡ None → k.sent ≡ 0 →
-      Goes (taking.begin_standing storage r p t (taking.suspended_as suspended start)) (stories.again_as storage suspended start k)
+      Goes (on_accept.begins_at storage r p t (on_accept.suspended_position suspended start)) (stories.again_as storage suspended start k)
   again-goes r p t start None e n z = quiet r.begun None e tt
   again-goes r p t start (Some st) e n z = by (st.program.start == start)
     where
-      by : (b : Bool) → Goes (taking.begin_standing storage r p t (if b then Some st else None)) (if b then stories.begins_again storage st k else k)
+      by : (b : Bool) → Goes (on_accept.begins_at storage r p t (if b then Some st else None)) (if b then stories.begins_again storage st k else k)
       by true =
           begins-goes r p t st (first_command storage st.walk).walk (first_command storage st.walk).came k.orb (length (commands k.orb k.now.acts)) (traced.past_part k.now) refl e n z
       by false = quiet r.begun None e tt
 
   standing-goes : (r : SubchannelState) (p t start : ℕ) (waiting : Option Program) (suspended : Option ProgramPosition) → r.begun ≡ s.begun → s.begun ≡ None → k.sent ≡ 0 →
-      Goes (taking.begin_standing storage r p t (taking.standing_as waiting suspended start)) (stories.begins_as storage waiting suspended start k)
+      Goes (on_accept.begins_at storage r p t (on_accept.position_of_start waiting suspended start)) (stories.begins_as storage waiting suspended start k)
   standing-goes r p t start None suspended e n z = again-goes r p t start suspended e n z
   standing-goes r p t start (Some program) suspended e n z = by (program.start == start)
     where
-      by : (b : Bool) → Goes (taking.begin_standing storage r p t (if b then Some (from_start program) else taking.suspended_as suspended start))
+      by : (b : Bool) → Goes (on_accept.begins_at storage r p t (if b then Some (position_at_start program) else on_accept.suspended_position suspended start))
           (if b then stories.begins_anew storage program k else stories.again_as storage suspended start k)
       by true =
-          let st : ProgramPosition = from_start program in
+          let st : ProgramPosition = position_at_start program in
           begins-goes r p t st (first_command storage st.walk).walk (first_command storage st.walk).came program.orb 0 no_trace refl e n z
       by false = again-goes r p t start suspended e n z
 
   begun-goes : (h : HoldState) (t p : ℕ) (may : Bool) → s.begun ≡ None → k.sent ≡ 0 →
-      Goes (taking.accept storage s (Some (hold_table.program_begun h t p may))) (stories.trace_accepted storage s (Some (hold_table.program_begun h t p may)) k)
+      Goes (on_accept.takes_accept storage s (Some (hold_table.program_begun h t p may))) (stories.trace_accepted storage s (Some (hold_table.program_begun h t p may)) k)
   begun-goes h t p true n z =
-      standing-goes (record s { hold = record h { phase = hold.On t p 0; seen = 0; first_path = Some p }; pmcw = taking.path_used s.pmcw p }) p t s.offered s.waiting s.suspended refl n z
+      standing-goes (record s { hold = record h { phase = hold.On t p 0; seen = 0; first_path = Some p }; pmcw = on_accept.with_path_used s.pmcw p }) p t s.offered s.waiting s.suspended refl n z
   begun-goes h t p false n z =
-      let x : SubchannelState = record s { hold = record h { phase = hold.Letting t p; seen = 0; first_path = Some p }; pmcw = taking.path_used s.pmcw p } in
-      quiet (taking.halt_done x).begun (Some (record { path = p; signal = down.Release t })) (halt-begun x n ∙ sym n) tt
+      let x : SubchannelState = record s { hold = record h { phase = hold.Letting t p; seen = 0; first_path = Some p }; pmcw = on_accept.with_path_used s.pmcw p } in
+      quiet (on_accept.halt_performed x).begun (Some (record { path = p; signal = down.Release t })) (halt-begun x n ∙ sym n) tt
 
   accepts-goes : (h : HoldState) (phase : HoldPhase) (t : ℕ) (may : Bool) → IsPhase phase k.number s.begun k.sent →
-      Goes (taking.accept storage s (hold_table.offer_accepted h phase t may)) (stories.trace_accepted storage s (hold_table.offer_accepted h phase t may) k)
+      Goes (on_accept.takes_accept storage s (hold_table.offer_accepted h phase t may)) (stories.trace_accepted storage s (hold_table.offer_accepted h phase t may) k)
   accepts-goes h hold.Free t may i = quiet s.begun None refl tt
   accepts-goes h (hold.Offer v p) t may i = by (t == v)
     where
-      by : (b : Bool) → Goes (taking.accept storage s (if b then Some (hold_table.program_begun h v p may) else None)) (stories.trace_accepted storage s (if b then Some (hold_table.program_begun h v p may) else None) k)
+      by : (b : Bool) → Goes (on_accept.takes_accept storage s (if b then Some (hold_table.program_begun h v p may) else None)) (stories.trace_accepted storage s (if b then Some (hold_table.program_begun h v p may) else None) k)
       by true = begun-goes h v p may i.1 i.2
       by false = quiet s.begun None refl tt
   accepts-goes h (hold.On v p c) t may i = quiet s.begun None refl tt
@@ -209,8 +217,8 @@ module _ (laws : AreLaws) (accesses : AreAccesses) (storage : Contents) (side : 
   now-wires P W Q X R Y one f g h d w = wired-holds side k.number m P W Q X R Y downs ups u one path f g h d w
 
   -- a read
-  reads-goes : (b : ActiveProgram) (signal : DataSignal) (x : Brought) (now : CommandTrace) → IsSame b.transfer x.transfer → length k.taken ≡ k.sent → is_outward b.transfer.code ≡ false → k.absorbed ≡ [] →
-      IsWired side k.number m HandPlain NoGive AnyData downs ups u → Goes (taking.take_in s b signal x).step (record k { now = now })
+  reads-goes : (b : ActiveProgram) (signal : DataSignal) (x : StoredChunk) (now : CommandTrace) → IsSame b.transfer x.transfer → length k.taken ≡ k.sent → is_outward b.transfer.code ≡ false → k.absorbed ≡ [] →
+      IsWired side k.number m HandPlain NoGive AnyData downs ups u → Goes (on_data.tells_room_after s b signal x).step (record k { now = now })
   reads-goes b signal x now same l out z w =
       let y : Transfer = (with_room x.storage x.transfer).transfer in
       let code : y.code ≡ b.transfer.code = (located-same x.storage x.transfer).0 ∙ same.0 in
@@ -218,7 +226,7 @@ module _ (laws : AreLaws) (accesses : AreAccesses) (storage : Contents) (side : 
       let one : Option (OnPath Down) = Some (record { path = signal.path; signal = down.Took signal.number signal.command signal.sequence (with_room x.storage x.transfer).room }) in
       let made : Mode side (Some c) (record k { now = now }) (with_any_sent downs one) (taken ups path) u =
       Reads c refl l (ap is_outward code ∙ out) z (now-wires HandPlain HandPlain NoGive NoGive AnyData AnyData one (λ h r. r) (λ i bytes r. r) (λ i r q. q) tt w) in
-      interrupted-mode side (taking.with_transfer s b y) c (record k { now = now }) (with_any_sent downs one) (taken ups path) u refl made
+      interrupted-mode side (command_spec.with_transfer s b y) c (record k { now = now }) (with_any_sent downs one) (taken ups path) u refl made
 
   -- a write
   given-signal : (w : View) (t c n seq : ℕ) (bytes : List ℕ) → t ≡ k.number → n ≤ m → seq ≡ w.seq → (bytes ≡ []) ⊎ IsGood w bytes →
@@ -234,7 +242,7 @@ module _ (laws : AreLaws) (accesses : AreAccesses) (storage : Contents) (side : 
     v = view_of b.transfer k.now
 
     abbrev x : NextChunk
-    x = next_given storage (taken_by_device storage b.transfer signal.sequence (load_length l))
+    x = next_chunk storage (chunk_absorbed storage b.transfer signal.sequence (load_length l))
 
     abbrev now : CommandTrace
     now = gives storage b.transfer signal.sequence (load_length l) k.now
@@ -243,25 +251,25 @@ module _ (laws : AreLaws) (accesses : AreAccesses) (storage : Contents) (side : 
     w = view_of x.transfer now
 
     code : x.transfer.code ≡ b.transfer.code
-    code = (next_given-same storage (taken_by_device storage b.transfer signal.sequence (load_length l))).0 ∙ (absorbed-same storage b.transfer signal.sequence (load_length l)).0
+    code = (next_chunk-same storage (chunk_absorbed storage b.transfer signal.sequence (load_length l))).0 ∙ (absorbed-same storage b.transfer signal.sequence (load_length l)).0
 
     given :
         Mode side (Some (record b { transfer = x.transfer })) (with_now now) (with_any_sent downs (Some (record { path = signal.path; signal = down.Give x.bytes signal.number signal.connection signal.command (signal.sequence + 1) }))) (taken ups path) u →
-        Goes (pieces.give_next storage s b signal (load_length l)) (with_now now)
+        Goes (on_data.gives_next_chunk storage s b signal (load_length l)) (with_now now)
     given g =
-        interrupted-mode side (taking.with_transfer s b x.transfer) (record b { transfer = x.transfer }) (with_now now) (with_any_sent downs (Some (record { path = signal.path; signal = down.Give x.bytes signal.number signal.connection signal.command (signal.sequence + 1) })))
+        interrupted-mode side (command_spec.with_transfer s b x.transfer) (record b { transfer = x.transfer }) (with_now now) (with_any_sent downs (Some (record { path = signal.path; signal = down.Give x.bytes signal.number signal.connection signal.command (signal.sequence + 1) })))
         (taken ups path) u refl g
 
     writes-goes : (lead : Option ℕ) → s.begun ≡ Some b → signal.number ≡ k.number → signal.command ≤ m → length k.taken ≡ k.sent → is_outward b.transfer.code ≡ true →
         (signal.sequence ≡ b.transfer.sequence) ⊎ (signal.sequence ≡ b.transfer.sequence + 1) → IsData (view_of b.transfer k.now) lead signal.sequence l → Flow (view_of b.transfer k.now) k.absorbed lead →
         IsWired side k.number m (HandFlow b.transfer.code (view_of b.transfer k.now) lead) (IsGive (view_of b.transfer k.now)) (IsData (view_of b.transfer k.now) lead) downs ups u →
-        Goes (pieces.give_next storage s b signal (load_length l)) (with_now (gives storage b.transfer signal.sequence (load_length l) k.now))
+        Goes (on_data.gives_next_chunk storage s b signal (load_length l)) (with_now (gives storage b.transfer signal.sequence (load_length l) k.now))
     writes-goes lead e z le taken-all out at d f wired = by (signal.sequence == b.transfer.sequence + 1) refl
       where
         outward : is_outward x.transfer.code ≡ true
         outward = ap is_outward code ∙ out
 
-        by : (y : Bool) → (signal.sequence == b.transfer.sequence + 1) ≡ y → Goes (pieces.give_next storage s b signal (load_length l)) (with_now now)
+        by : (y : Bool) → (signal.sequence == b.transfer.sequence + 1) ≡ y → Goes (on_data.gives_next_chunk storage s b signal (load_length l)) (with_now now)
         by true y =
             let is : signal.sequence ≡ b.transfer.sequence + 1 = eqb-true signal.sequence (b.transfer.sequence + 1) y in
             let a = answers-view accesses storage b.transfer signal.sequence (load_length l) k.now y in
@@ -286,10 +294,10 @@ module _ (laws : AreLaws) (accesses : AreAccesses) (storage : Contents) (side : 
   -- by the direction
   moves-goes : (b : ActiveProgram) (signal : DataSignal) (l : Load) → s.begun ≡ Some b → signal.number ≡ k.number → signal.command ≡ b.transfer.command → (signal.sequence ≡ b.transfer.sequence) ⊎ (signal.sequence ≡ b.transfer.sequence + 1) →
       ((P : Option AtHand → Type 0) (Q : ℕ → List ℕ → Type 0) (R : ℕ → Load → Type 0) → IsWired side k.number m P Q R downs ups u → Front R (up.Data l signal.number signal.connection signal.command signal.sequence)) →
-      Goes (taking.move_bytes storage s b signal l).step (stories.moves storage b.transfer signal.sequence l k)
+      Goes (on_data.moves_bytes storage s b signal l).step (stories.moves storage b.transfer signal.sequence l k)
   moves-goes b signal l e z i at f = by mode
     where
-      by : Mode side s.begun k downs ups u → Goes (taking.move_bytes storage s b signal l).step (stories.moves storage b.transfer signal.sequence l k)
+      by : Mode side s.begun k downs ups u → Goes (on_data.moves_bytes storage s b signal l).step (stories.moves storage b.transfer signal.sequence l k)
       by (Waits d h g q y a w) =
           let r = data-front AnyData b signal.number signal.connection signal.command signal.sequence l e z i (f HandClosed AnyGive AnyData w) in
           absurd (omega (arith, r.0, r.2, g))
@@ -297,9 +305,9 @@ module _ (laws : AreLaws) (accesses : AreAccesses) (storage : Contents) (side : 
       by (Reads d h g o q w) =
           let same : d ≡ b = cc (sym h ∙ e) in
           let out : is_outward b.transfer.code ≡ false = subst (λ (x : ActiveProgram). is_outward x.transfer.code ≡ false) same o in
-          subst (λ (x : Bool). Goes (if x then taking.meets storage (pieces.give_next storage s b signal (load_length l)) else taking.take_in s b signal (brought storage b.transfer signal.sequence (load_bytes l))).step
+          subst (λ (x : Bool). Goes (if x then outcomes.with_storage storage (on_data.gives_next_chunk storage s b signal (load_length l)) else on_data.tells_room_after s b signal (chunk_stored storage b.transfer signal.sequence (load_bytes l))).step
           (if x then with_now (gives storage b.transfer signal.sequence (load_length l) k.now) else with_now (takes_in storage b.transfer signal.sequence (load_bytes l) k.now))) (sym out)
-          (reads-goes b signal (brought storage b.transfer signal.sequence (load_bytes l)) (takes_in storage b.transfer signal.sequence (load_bytes l) k.now) (brought-same storage b.transfer signal.sequence (load_bytes l)) g out q w)
+          (reads-goes b signal (chunk_stored storage b.transfer signal.sequence (load_bytes l)) (takes_in storage b.transfer signal.sequence (load_bytes l) k.now) (brought-same storage b.transfer signal.sequence (load_bytes l)) g out q w)
       by (Writes d h g o lead y w) =
           let same : d ≡ b = cc (sym h ∙ e) in
           let out : is_outward b.transfer.code ≡ true = subst (λ (x : ActiveProgram). is_outward x.transfer.code ≡ true) same o in
@@ -308,27 +316,27 @@ module _ (laws : AreLaws) (accesses : AreAccesses) (storage : Contents) (side : 
           subst (λ (x : ActiveProgram). IsWired side k.number m (HandFlow x.transfer.code (view_of x.transfer k.now) lead) (IsGive (view_of x.transfer k.now)) (IsData (view_of x.transfer k.now) lead) downs ups u) same w in
           let r = data-front (IsData (view_of b.transfer k.now) lead) b signal.number signal.connection signal.command signal.sequence l e z i
           (f (HandFlow b.transfer.code (view_of b.transfer k.now) lead) (IsGive (view_of b.transfer k.now)) (IsData (view_of b.transfer k.now) lead) w') in
-          subst (λ (x : Bool). Goes (if x then taking.meets storage (pieces.give_next storage s b signal (load_length l)) else taking.take_in s b signal (brought storage b.transfer signal.sequence (load_bytes l))).step
+          subst (λ (x : Bool). Goes (if x then outcomes.with_storage storage (on_data.gives_next_chunk storage s b signal (load_length l)) else on_data.tells_room_after s b signal (chunk_stored storage b.transfer signal.sequence (load_bytes l))).step
           (if x then with_now (gives storage b.transfer signal.sequence (load_length l) k.now) else with_now (takes_in storage b.transfer signal.sequence (load_bytes l) k.now))) (sym out)
           (writes-goes b signal l lead e z r.0 g out at (r.1 (r.2 ∙ sym g)) y' w')
 
   module _ (signal : DataSignal) (l : Load) (front : (P : Option AtHand → Type 0) (Q : ℕ → List ℕ → Type 0) (R : ℕ → Load → Type 0) → IsWired side k.number m P Q R downs ups u → Front R (up.Data l signal.number signal.connection signal.command signal.sequence)) where
-    answers-goes : (begun : Option ActiveProgram) → s.begun ≡ begun → signal.number ≡ k.number → Goes (taking.move_data storage s begun signal l).step (stories.answers storage begun signal.command signal.sequence l k)
+    answers-goes : (begun : Option ActiveProgram) → s.begun ≡ begun → signal.number ≡ k.number → Goes (on_data.moves_data storage s begun signal l).step (stories.answers storage begun signal.command signal.sequence l k)
     answers-goes None e z = quiet s.begun None refl tt
     answers-goes (Some b) e z = by (is_answered b.transfer signal.command signal.sequence) refl
       where
         by : (x : Bool) → is_answered b.transfer signal.command signal.sequence ≡ x →
-            Goes (if x then taking.move_bytes storage s b signal l else taking.meets storage (taking.ignoring s)).step (if x then stories.moves storage b.transfer signal.sequence l k else k)
+            Goes (if x then on_data.moves_bytes storage s b signal l else outcomes.with_storage storage (outcomes.signal_ignored s)).step (if x then stories.moves storage b.transfer signal.sequence l k else k)
         by true x =
             let f = current-facts b.transfer signal.command signal.sequence (is_outward b.transfer.code || not (signal.sequence == 0)) x in
             moves-goes b signal l e z f.0 f.1 front
         by false x = quiet s.begun None refl tt
 
-    data-goes : Goes (taking.take_data storage s signal l).step (if is_connected s.hold.phase signal.path signal.number signal.connection then stories.answers storage s.begun signal.command signal.sequence l k else k)
+    data-goes : Goes (on_data.takes_data storage s signal l).step (if is_connected s.hold.phase signal.path signal.number signal.connection then stories.answers storage s.begun signal.command signal.sequence l k else k)
     data-goes = by (is_connected s.hold.phase signal.path signal.number signal.connection) refl
       where
         by : (x : Bool) → is_connected s.hold.phase signal.path signal.number signal.connection ≡ x →
-            Goes (if x then taking.move_data storage s s.begun signal l else taking.meets storage (taking.ignoring s)).step (if x then stories.answers storage s.begun signal.command signal.sequence l k else k)
+            Goes (if x then on_data.moves_data storage s s.begun signal l else outcomes.with_storage storage (outcomes.signal_ignored s)).step (if x then stories.answers storage s.begun signal.command signal.sequence l k else k)
         by true x = answers-goes s.begun refl (connected-number s.hold.phase k.number s.begun k.sent signal.path signal.number signal.connection held.phase x)
         by false x = quiet s.begun None refl tt
 
@@ -385,7 +393,7 @@ module _ (laws : AreLaws) (accesses : AreAccesses) (storage : Contents) (side : 
 
   -- the next command, or the program is suspended or over
   next-over : (b : ActiveProgram) (x : SubchannelState) (now : CommandTrace) → x.begun ≡ None → IsOver b → now.copied ≡ k.now.copied → data_areas k.orb now.acts ≡ data_areas k.orb k.now.acts →
-      Goes (taking.let_go x) (record k { now = now })
+      Goes (outcomes.device_released x) (record k { now = now })
   next-over b x now e o c r =
       let one : Option (OnPath Down) = (came_of (letting_go x.hold x.hold.phase)).sent in
       Over e o.taken_all o.some (absorbs-on laws k now c r o.absorbs) (o.wires one (sent-hold k.number m AnyGive one (letting-mutters x.hold x.hold.phase)))
@@ -393,7 +401,7 @@ module _ (laws : AreLaws) (accesses : AreAccesses) (storage : Contents) (side : 
   chains-goes : (b : ActiveProgram) (signal : EndSignal) (walk : WalkPlace) (c : CommandStart) → (next_command storage b.transfer (has_status_modifier signal.status)).walk ≡ walk →
       (next_command storage b.transfer (has_status_modifier signal.status)).came ≡ c → s.begun ≡ Some b → IsOver b →
       b.transfer.moving.ccw.chain_data ≡ false → is_some b.transfer.fault ≡ false →
-      Goes (taking.chaining storage s (with_end b) signal walk c) (stories.trace_goes_on storage c (next_acts storage b.transfer (has_status_modifier signal.status)) k)
+      Goes (on_end.next_ccw_outcome storage s (with_first_end b) signal walk c) (stories.trace_goes_on storage c (next_acts storage b.transfer (has_status_modifier signal.status)) k)
   chains-goes b signal walk c at is e o d f = by c is
     where
       acts : List Act
@@ -408,25 +416,25 @@ module _ (laws : AreLaws) (accesses : AreAccesses) (storage : Contents) (side : 
           WentOn k.earlier laws storage k.orb (End (record { goes_on = true; modifier = has_status_modifier signal.status }) ∷ k.now.acts) (acts ++ k.now.acts) (b.transfer.command + 1)
           (next_command storage b.transfer (has_status_modifier signal.status)).walk c
 
-      by : (c : CommandStart) → (next_command storage b.transfer (has_status_modifier signal.status)).came ≡ c → Goes (taking.chaining storage s (with_end b) signal walk c) (stories.trace_goes_on storage c acts k)
+      by : (c : CommandStart) → (next_command storage b.transfer (has_status_modifier signal.status)).came ≡ c → Goes (on_end.next_ccw_outcome storage s (with_first_end b) signal walk c) (stories.trace_goes_on storage c acts k)
       by (came.Begins tr) c =
           let x : Transfer = (begun_with_room storage tr).transfer in
-          let n : ActiveProgram = record (with_end b) { transfer = x } in
+          let n : ActiveProgram = record (with_first_end b) { transfer = x } in
           let one : Option (OnPath Down) = Some (record { path = signal.path; signal = down.Command signal.number x.command x.code (begun_with_room storage tr).room }) in
           let new : ProgramTrace = stories.trace_goes_on storage (came.Begins tr) acts k in
           let made : Mode side (Some n) new (with_any_sent downs one) (taken ups path) u =
           Waits n refl (ap (λ (i : ℕ). i + 1) o.taken_all)
-          (room-seq storage tr ∙ goes-new storage (b.transfer.command + 1) (walk_after_end b.transfer.walk (record { goes_on = true; modifier = has_status_modifier signal.status })) tr c) refl o.absorbs (o.wires one tt) in
-          interrupted-mode side (taking.with_transfer s (with_end b) x) n new (with_any_sent downs one) (taken ups path) u refl made
+          (room-seq storage tr ∙ goes-new storage (b.transfer.command + 1) (after_command_end b.transfer.walk (record { goes_on = true; modifier = has_status_modifier signal.status })) tr c) refl o.absorbs (o.wires one tt) in
+          interrupted-mode side (command_spec.with_transfer s (with_first_end b) x) n new (with_any_sent downs one) (taken ups path) u refl made
       by came.Suspends c =
-          next-over b (taking.suspending (taking.end_taken s signal) (with_end b).program walk (residual (with_end b).transfer.moving)) (with_acts k.now acts)
-          (suspending-workless (taking.end_taken s signal) (with_end b).program walk (residual (with_end b).transfer.moving)).begun o refl (subst Went c went).1
+          next-over b (suspension.program_suspended (on_end.with_allegiance_after_end s signal) (with_first_end b).program walk (residual (with_first_end b).transfer.moving)) (with_acts k.now acts)
+          (suspending-workless (on_end.with_allegiance_after_end s signal) (with_first_end b).program walk (residual (with_first_end b).transfer.moving)).begun o refl (subst Went c went).1
       by (came.Stops check) c =
-          next-over b (with_cause (taking.end_taken s signal) (cause.FetchFault walk.tried check (residual (with_end b).transfer.moving))) (with_acts k.now acts)
-          (fault-begun (taking.end_taken s signal) s.begun refl) o refl (subst Went c went).1
+          next-over b (with_cause (on_end.with_allegiance_after_end s signal) (cause.FetchFault walk.tried check (residual (with_first_end b).transfer.moving))) (with_acts k.now acts)
+          (fault-begun (on_end.with_allegiance_after_end s signal) s.begun refl) o refl (subst Went c went).1
 
   end-begun : (b : ActiveProgram) (signal : EndSignal) (last : Bool) → is_last_end signal.status ≡ last →
-      (taking_parts.end_shown_at s b signal).begun ≡ (if last then None else Some (has_shown b))
+      (on_end.with_end_status s b signal).begun ≡ (if last then None else Some (has_shown b))
   end-begun b signal last e = ap (λ (x : Bool). (causes.programs_after_end s b x).begun) e ∙ by last
     where
       by : (x : Bool) → (causes.programs_after_end s b x).begun ≡ (if x then None else Some (has_shown b))
@@ -435,20 +443,20 @@ module _ (laws : AreLaws) (accesses : AreAccesses) (storage : Contents) (side : 
 
   ends-by : (b : ActiveProgram) (signal : EndSignal) (x y : Bool) → chains_command s.scsw b signal.status signal.more ≡ x → s.begun ≡ Some b → IsOver b →
       Goes
-      (if x then (if y then taking_parts.chain_with storage s (with_end b) signal (next_command storage (with_end b).transfer (has_status_modifier signal.status))
-      else taking.quietly (record (taking.end_taken s signal) { begun = Some (with_end b) }))
-      else taking.stops_at s b signal)
+      (if x then (if y then on_end.chains_with storage s (with_first_end b) signal (next_command storage (with_first_end b).transfer (has_status_modifier signal.status))
+      else outcomes.signal_taken (record (on_end.with_allegiance_after_end s signal) { begun = Some (with_first_end b) }))
+      else on_end.concludes s b signal)
       (if x then (if y then stories.trace_goes_on storage (next_command storage b.transfer (has_status_modifier signal.status)).came (next_acts storage b.transfer (has_status_modifier signal.status)) k else stories.with_ended k) else stories.ends_alone signal.status k)
   ends-by b signal true true c e o =
       let f = chains-facts laws accesses s.scsw b signal.status signal.more c in
       chains-goes b signal (next_command storage b.transfer (has_status_modifier signal.status)).walk (next_command storage b.transfer (has_status_modifier signal.status)).came refl refl e o f.0 f.1
-  ends-by b signal true false c e o = mode-with side (Some (with_end b)) k downs (taken ups path) u (marked b (with_end b) (Some (with_end b)) None e refl (record { code = refl; command = refl; sequence = refl; moving = refl }) tt)
+  ends-by b signal true false c e o = mode-with side (Some (with_first_end b)) k downs (taken ups path) u (marked b (with_first_end b) (Some (with_first_end b)) None e refl (record { code = refl; command = refl; sequence = refl; moving = refl }) tt)
   ends-by b signal false y c e o = stops (is_last_end signal.status) refl
     where
       x : SubchannelState
-      x = taking_parts.end_shown_at s b signal
+      x = on_end.with_end_status s b signal
 
-      stops : (last : Bool) → is_last_end signal.status ≡ last → Goes (if last then taking.let_go x else taking.quietly x) (stories.ends_alone signal.status k)
+      stops : (last : Bool) → is_last_end signal.status ≡ last → Goes (if last then outcomes.device_released x else outcomes.signal_taken x) (stories.ends_alone signal.status k)
       stops true l = next-over b x (stories.ends_alone signal.status k).now (end-begun b signal true l) o refl refl
       stops false l =
           mode-ended signal.status side x.begun k downs (taken ups path) u
@@ -456,42 +464,42 @@ module _ (laws : AreLaws) (accesses : AreAccesses) (storage : Contents) (side : 
 
   module _ (signal : EndSignal)
       (front : (P : Option AtHand → Type 0) (Q : ℕ → List ℕ → Type 0) (R : ℕ → Load → Type 0) → IsWired side k.number m P Q R downs ups u → Front R (up.End signal.number signal.command signal.status signal.more)) where
-    ended-goes : (begun : Option ActiveProgram) → s.begun ≡ begun → signal.number ≡ k.number → Goes (taking.end_of storage s begun signal) (stories.trace_ends storage s begun signal.command signal.status signal.more k)
+    ended-goes : (begun : Option ActiveProgram) → s.begun ≡ begun → signal.number ≡ k.number → Goes (on_end.ends_at_work storage s begun signal) (stories.trace_ends storage s begun signal.command signal.status signal.more k)
     ended-goes None e z = quiet s.begun None refl tt
     ended-goes (Some b) e z = by (signal.command == b.transfer.command) refl
       where
         by : (x : Bool) → (signal.command == b.transfer.command) ≡ x →
-            Goes (if x then taking.command_ended storage s b signal else taking.ignoring s) (if x then stories.chains storage s b signal.status signal.more k else k)
+            Goes (if x then on_end.ends_command storage s b signal else outcomes.signal_ignored s) (if x then stories.chains storage s b signal.status signal.more k else k)
         by true x = ends-by b signal (chains_command s.scsw b signal.status signal.more) (has_device_end signal.status) refl e (is-over b signal.number signal.command signal.status signal.more e z (eqb-true signal.command b.transfer.command x) front)
         by false x = quiet s.begun None refl tt
 
-    end-goes : Goes (taking.end_command storage s signal) (if is_on s.hold.phase signal.number then stories.trace_ends storage s s.begun signal.command signal.status signal.more k else k)
+    end-goes : Goes (on_end.takes_end storage s signal) (if is_on s.hold.phase signal.number then stories.trace_ends storage s s.begun signal.command signal.status signal.more k else k)
     end-goes = by (is_on s.hold.phase signal.number) refl
       where
         by : (x : Bool) → is_on s.hold.phase signal.number ≡ x →
-            Goes (if x then taking.end_of storage s s.begun signal else taking.ignoring s) (if x then stories.trace_ends storage s s.begun signal.command signal.status signal.more k else k)
+            Goes (if x then on_end.ends_at_work storage s s.begun signal else outcomes.signal_ignored s) (if x then stories.trace_ends storage s s.begun signal.command signal.status signal.more k else k)
         by true x = ended-goes s.begun refl (on-number s.hold.phase k.number s.begun k.sent signal.number held.phase x)
         by false x = quiet s.begun None refl tt
 
-  reset-goes : (step : Option HoldStep) → SendsHoldSignal step → Goes (taking.reset_taken s step) k
+  reset-goes : (step : Option HoldStep) → SendsHoldSignal step → Goes (on_cleared.takes_cleared s step) k
   reset-goes None h = quiet s.begun None refl tt
   reset-goes (Some step) h =
-      quiet (taking.clear_done (record s { hold = step.state })).begun (came_of (Some step)).sent (clear-begun (record s { hold = step.state })) h
+      quiet (on_cleared.clear_performed (record s { hold = step.state })).begun (came_of (Some step)).sent (clear-begun (record s { hold = step.state })) h
 
   -- any signal
   pub mode-meets : (returns : Bool) → (x : Up) → ((P : Option AtHand → Type 0) (Q : ℕ → List ℕ → Type 0) (R : ℕ → Load → Type 0) → IsWired side k.number m P Q R downs ups u → Front R x) → IsNoNotice x →
       Goes (takes_up returns storage s path x).step (trace_meets storage s path x k)
-  mode-meets returns (up.Accept t) f other = accepts-goes s.hold s.hold.phase t (goes_ahead s) held.phase
+  mode-meets returns (up.Accept t) f other = accepts-goes s.hold s.hold.phase t (takes_device s) held.phase
   mode-meets returns (up.Data l t c n seq) f other = data-goes (record { path = path; number = t; connection = c; command = n; sequence = seq }) l f
   mode-meets returns (up.End t n status more) f other = end-goes (record { path = path; number = t; command = n; status = status; more = more }) f
-  mode-meets returns (up.Busy t) f other = by_hold-goes (found_busy s.hold s.hold.phase t) (busy-mutters s.hold s.hold.phase t)
-  mode-meets returns (up.Leave t c) f other = by_hold-goes (left s.hold s.hold.phase t c) (left-mutters s.hold s.hold.phase t c)
-  mode-meets returns (up.Back t c) f other = by_hold-goes (asked_back s.hold s.hold.phase path t c returns) (back-mutters s.hold s.hold.phase path t c returns)
-  mode-meets returns (up.Released t) f other = by_hold-goes (released s.hold s.hold.phase t) (released-mutters s.hold s.hold.phase t)
+  mode-meets returns (up.Busy t) f other = hold_outcome-goes (found_busy s.hold s.hold.phase t) (busy-mutters s.hold s.hold.phase t)
+  mode-meets returns (up.Leave t c) f other = hold_outcome-goes (left s.hold s.hold.phase t c) (left-mutters s.hold s.hold.phase t c)
+  mode-meets returns (up.Back t c) f other = hold_outcome-goes (asked_back s.hold s.hold.phase path t c returns) (back-mutters s.hold s.hold.phase path t c returns)
+  mode-meets returns (up.Released t) f other = hold_outcome-goes (released s.hold s.hold.phase t) (released-mutters s.hold s.hold.phase t)
   mode-meets returns (up.Cleared r) f other = reset-goes (reset_cleared s.hold s.hold.phase r) (cleared-mutters s.hold s.hold.phase r)
   mode-meets returns (up.Notice b) f other = absurd other
   mode-meets returns (up.Attn a status) f other =
-      let step : Option HoldStep = attended s.hold s.hold.phase path a (taking.may_attend s) in
-      quiet (taking.attend s status step).state.begun (came_of step).sent
+      let step : Option HoldStep = attended s.hold s.hold.phase path a (on_attention.may_take_attention s) in
+      quiet (on_attention.takes_attention s status step).state.begun (came_of step).sent
       (attention-begun (record s { hold = hold_after s.hold step }) ((came_of step).taken && not (status.0 == 0x20)))
-      (attended-mutters s.hold s.hold.phase path a (taking.may_attend s))
+      (attended-mutters s.hold s.hold.phase path a (on_attention.may_take_attention s))

@@ -8,8 +8,8 @@ use Rattle.ccw_walk.specs.declared.check.Check.{Check}
 use Rattle.ccw_walk.specs.declared.program.Advance.{Advance}
 use Rattle.ccw_walk.specs.declared.program.Advance.TheVariants as advance
 use Rattle.ccw_walk.specs.Acts.{PlacedBytes}
-use Rattle.ccw_walk.specs.Walks.{WalkPlace, after_acts, advance_acts, advance_of}
-use Rattle.ccw_walk.proofs.Named.{after_used_up}
+use Rattle.ccw_walk.specs.Places.{WalkPlace, after_acts, after_count_used_up}
+use Rattle.ccw_walk.specs.Advancing.{advance_acts, advance_of_acts}
 use Rattle.idaw.specs.Places.{each_below}
 use Rattle.data_move.specs.Moving.{Moving, next_place, needs_word, room}
 use Rattle.data_move.specs.Accesses as access
@@ -17,8 +17,8 @@ use Rattle.transfer.specs.declared.Transfer.{Transfer}
 use Rattle.transfer.specs.declared.CommandStart.TheVariants as came
 use Rattle.transfer.specs.declared.NextChunk.{NextChunk}
 use Rattle.transfer.specs.Commands.{transfer_of, command_begins, goes_to, located_transfer, with_located, has_stopped}
-use Rattle.transfer.specs.Chunks.{chains_data, chained_to, chained, with_moved, moved_on, with_answer, taken_by_device, given_from, next_given}
-use Rattle.transfer.proofs.Named.{next_chunk_of}
+use Rattle.transfer.specs.DataChaining.{chains_data, with_next_ccw, data_chained, with_bytes_moved, after_bytes_moved}
+use Rattle.transfer.specs.ToDevice.{with_chunk_counted, chunk_absorbed, chunk_at_place, next_chunk, with_bytes_fetched}
 use Rattle.program_laws.proofs.MachineActs as doing
 use Rattle.program_laws.specs.Traces.{CommandTrace}
 use Rattle.program_laws.proofs.MachineActs.{with_acts, with_places, with_copy, copying, located_acts, chunk_of, chained_acts, trace_answered, gives}
@@ -29,22 +29,22 @@ abbrev pub view_of : Transfer → CommandTrace → View
 view_of t p = record { seq = t.sequence; next = next_place t.moving; room = room t.moving; moved = p.moved; copied = p.copied }
 
 -- the number of the last chunk stays
-chained_to-seq : (t : Transfer) (walk : WalkPlace) (a : Option Advance) → (chained_to t walk a).sequence ≡ t.sequence
-chained_to-seq t walk (Some (advance.Takes ccw)) = refl
-chained_to-seq t walk other = refl
+with_next_ccw-seq : (t : Transfer) (walk : WalkPlace) (a : Option Advance) → (with_next_ccw t walk a).sequence ≡ t.sequence
+with_next_ccw-seq t walk (Some (advance.Takes ccw)) = refl
+with_next_ccw-seq t walk other = refl
 
-moved_on-if : (storage : Contents) (t : Transfer) (n : ℕ) (b : Bool) → (if b then chained storage (with_moved t n) else with_moved t n).sequence ≡ t.sequence
-moved_on-if storage t n true =
-    let old : WalkPlace = after_used_up t.walk in
-    chained_to-seq (with_moved t n) (after_acts old (advance_acts storage old)) (advance_of old (advance_acts storage old))
-moved_on-if storage t n false = refl
+after_bytes_moved-if : (storage : Contents) (t : Transfer) (n : ℕ) (b : Bool) → (if b then data_chained storage (with_bytes_moved t n) else with_bytes_moved t n).sequence ≡ t.sequence
+after_bytes_moved-if storage t n true =
+    let old : WalkPlace = after_count_used_up t.walk in
+    with_next_ccw-seq (with_bytes_moved t n) (after_acts old (advance_acts storage old)) (advance_of_acts old (advance_acts storage old))
+after_bytes_moved-if storage t n false = refl
 
-pub moved_on-seq : (storage : Contents) (t : Transfer) (n : ℕ) → (moved_on storage t n).sequence ≡ t.sequence
-moved_on-seq storage t n = moved_on-if storage t n (chains_data (with_moved t n) n)
+pub after_bytes_moved-seq : (storage : Contents) (t : Transfer) (n : ℕ) → (after_bytes_moved storage t n).sequence ≡ t.sequence
+after_bytes_moved-seq storage t n = after_bytes_moved-if storage t n (chains_data (with_bytes_moved t n) n)
 
 -- what is moved, and copied
 moved-if : (storage : Contents) (t : Transfer) (n : ℕ) (p : CommandTrace) (b : Bool) →
-    let q : CommandTrace = if b then with_acts (with_places p t.moving n) (chained_acts storage (with_moved t n)) else with_places p t.moving n in
+    let q : CommandTrace = if b then with_acts (with_places p t.moving n) (chained_acts storage (with_bytes_moved t n)) else with_places p t.moving n in
     (_ : q.moved ≡ p.moved ++ each_below (next_place t.moving) n) × (q.copied ≡ p.copied)
 moved-if storage t n p true = (refl, refl)
 moved-if storage t n p false = (refl, refl)
@@ -59,15 +59,15 @@ same-copied xs ys e c k = subst (λ (zs : List PlacedBytes). Contains zs c) (sym
 
 answer-if : (storage : Contents) (t : Transfer) (s count : ℕ) (p : CommandTrace) (b : Bool) → b ≡ true → s ≡ t.sequence + 1 →
     IsAnswered (view_of t p)
-    (view_of (if b then moved_on storage (with_answer t s count) (min count (room t.moving)) else t)
-    (if b then doing.trace_moved_on storage (with_answer t s count) (min count (room t.moving)) p else p))
+    (view_of (if b then after_bytes_moved storage (with_chunk_counted t s count) (min count (room t.moving)) else t)
+    (if b then doing.trace_moved_on storage (with_chunk_counted t s count) (min count (room t.moving)) p else p))
     (min count (room t.moving))
 answer-if storage t s count p true e f =
     let n : ℕ = min count (room t.moving) in
-    let q : CommandTrace = doing.trace_moved_on storage (with_answer t s count) n p in
+    let q : CommandTrace = doing.trace_moved_on storage (with_chunk_counted t s count) n p in
     let parts : (_ : q.moved ≡ p.moved ++ each_below (next_place t.moving) n) × (q.copied ≡ p.copied) =
-    moved-if storage (with_answer t s count) n p (chains_data (with_moved (with_answer t s count) n) n) in
-    record { seq = moved_on-seq storage (with_answer t s count) n ∙ f; moved = parts.0; copied = same-copied p.copied q.copied parts.1 }
+    moved-if storage (with_chunk_counted t s count) n p (chains_data (with_bytes_moved (with_chunk_counted t s count) n) n) in
+    record { seq = after_bytes_moved-seq storage (with_chunk_counted t s count) n ∙ f; moved = parts.0; copied = same-copied p.copied q.copied parts.1 }
 answer-if storage t s count p false e f = absurd (cc e)
 
 -- the next bytes are located
@@ -129,7 +129,7 @@ pub record IsGiven (v w : View) (bytes : List ℕ) : Type 0 where
 
 module _ (accesses : AreAccesses) where
   copy-given : (storage : Contents) (t : Transfer) (p : CommandTrace) (r : Result (List ℕ) Check) → access.copied storage t.walk.orb.key t.moving ≡ r →
-      IsGiven (view_of t p) (view_of (next_chunk_of t r).transfer (with_copy storage t r p)) (next_chunk_of t r).bytes
+      IsGiven (view_of t p) (view_of (with_bytes_fetched t r).transfer (with_copy storage t r p)) (with_bytes_fetched t r).bytes
   copy-given storage t p (Ok bytes) e = record {
     located = record { seq = refl; moved = refl; copied = contains-later p.copied (chunk_of storage t.moving bytes); next = λ n l. (l, refl) };
     good =
@@ -145,45 +145,45 @@ module _ (accesses : AreAccesses) where
 
   stop-given : (storage : Contents) (t : Transfer) (p : CommandTrace) (b : Bool) →
       let r : Result (List ℕ) Check = access.copied storage t.walk.orb.key t.moving in
-      let g : NextChunk = if b then record { transfer = record t { offered = 0 }; bytes = [] } else next_chunk_of t r in
+      let g : NextChunk = if b then record { transfer = record t { offered = 0 }; bytes = [] } else with_bytes_fetched t r in
       IsGiven (view_of t p) (view_of g.transfer (if b then p else with_copy storage t r p)) g.bytes
   stop-given storage t p true = record { located = record { seq = refl; moved = refl; copied = λ c k. k; next = λ n l. (l, refl) }; good = inl refl }
   stop-given storage t p false = copy-given storage t p (access.copied storage t.walk.orb.key t.moving) refl
 
-  next-given : (storage : Contents) (t : Transfer) (p : CommandTrace) → IsGiven (view_of t p) (view_of (next_given storage t).transfer (doing.trace_giving storage t p)) (next_given storage t).bytes
+  next-given : (storage : Contents) (t : Transfer) (p : CommandTrace) → IsGiven (view_of t p) (view_of (next_chunk storage t).transfer (doing.trace_giving storage t p)) (next_chunk storage t).bytes
   next-given storage t p =
       let u : Transfer = located_transfer storage t in
       let q : CommandTrace = with_acts p (located_acts storage t) in
-      let g : IsGiven (view_of u q) (view_of (given_from storage u).transfer (copying storage u q)) (given_from storage u).bytes = stop-given storage u q (has_stopped u) in
-      record { located = located-trans (view_of t p) (view_of u q) (view_of (next_given storage t).transfer (doing.trace_giving storage t p)) (located-view storage t p) g.located; good = g.good }
+      let g : IsGiven (view_of u q) (view_of (chunk_at_place storage u).transfer (copying storage u q)) (chunk_at_place storage u).bytes = stop-given storage u q (has_stopped u) in
+      record { located = located-trans (view_of t p) (view_of u q) (view_of (next_chunk storage t).transfer (doing.trace_giving storage t p)) (located-view storage t p) g.located; good = g.good }
 
   -- a Data of the next chunk: the bytes that were absorbed are moved, and the next are given
   answered-located : (v w x : View) (n : ℕ) → IsAnswered v w n → IsLocated w x → IsAnswered v x n
   answered-located v w x n a b = record { seq = b.seq ∙ a.seq; moved = b.moved ∙ a.moved; copied = λ c k. b.copied c (a.copied c k) }
 
   pub answers-view : (storage : Contents) (t : Transfer) (s count : ℕ) (p : CommandTrace) → (s == t.sequence + 1) ≡ true →
-      let g : NextChunk = next_given storage (taken_by_device storage t s count) in
+      let g : NextChunk = next_chunk storage (chunk_absorbed storage t s count) in
       let w : View = view_of g.transfer (gives storage t s count p) in
       IsAnswered (view_of t p) w (min count (room t.moving)) × ((g.bytes ≡ []) ⊎ IsGood w g.bytes)
   answers-view storage t s count p e =
-      let a : Transfer = taken_by_device storage t s count in
+      let a : Transfer = chunk_absorbed storage t s count in
       let q : CommandTrace = trace_answered storage t s count p in
-      let g : IsGiven (view_of a q) (view_of (next_given storage a).transfer (doing.trace_giving storage a q)) (next_given storage a).bytes = next-given storage a q in (
-        answered-located (view_of t p) (view_of a q) (view_of (next_given storage a).transfer (doing.trace_giving storage a q)) (min count (room t.moving))
+      let g : IsGiven (view_of a q) (view_of (next_chunk storage a).transfer (doing.trace_giving storage a q)) (next_chunk storage a).bytes = next-given storage a q in (
+        answered-located (view_of t p) (view_of a q) (view_of (next_chunk storage a).transfer (doing.trace_giving storage a q)) (min count (room t.moving))
             (answer-if storage t s count p (s == t.sequence + 1) e (eqb-true s (t.sequence + 1) e)) g.located,
         g.good,
       )
 
   -- one of the last chunk: its bytes are moved, and the next are given anew
   pub repeats-view : (storage : Contents) (t : Transfer) (s count : ℕ) (p : CommandTrace) → (s == t.sequence + 1) ≡ false →
-      let g : NextChunk = next_given storage (taken_by_device storage t s count) in
+      let g : NextChunk = next_chunk storage (chunk_absorbed storage t s count) in
       IsGiven (view_of t p) (view_of g.transfer (gives storage t s count p)) g.bytes
   repeats-view storage t s count p e =
       subst
       (λ (b : Bool).
-      let a : Transfer = if b then moved_on storage (with_answer t s count) (min count (room t.moving)) else t in
-      let q : CommandTrace = if b then doing.trace_moved_on storage (with_answer t s count) (min count (room t.moving)) p else p in
-      IsGiven (view_of t p) (view_of (next_given storage a).transfer (doing.trace_giving storage a q)) (next_given storage a).bytes)
+      let a : Transfer = if b then after_bytes_moved storage (with_chunk_counted t s count) (min count (room t.moving)) else t in
+      let q : CommandTrace = if b then doing.trace_moved_on storage (with_chunk_counted t s count) (min count (room t.moving)) p else p in
+      IsGiven (view_of t p) (view_of (next_chunk storage a).transfer (doing.trace_giving storage a q)) (next_chunk storage a).bytes)
       (sym e) (next-given storage t p)
 
 -- a command that begins has moved nothing
@@ -192,7 +192,7 @@ begins-new walk n (Some (advance.Takes ccw)) t e = let same : transfer_of walk n
 begins-new walk n other t e = absurd (cc e)
 
 pub goes-new : (storage : Contents) (n : ℕ) (old : WalkPlace) (t : Transfer) → (goes_to storage n old).came ≡ came.Begins t → t.sequence ≡ 0
-goes-new storage n old t e = begins-new (after_acts old (advance_acts storage old)) n (advance_of old (advance_acts storage old)) t e
+goes-new storage n old t e = begins-new (after_acts old (advance_acts storage old)) n (advance_of_acts old (advance_acts storage old)) t e
 
 -- a Data that is answered is of the command at work, of its last chunk or the next
 pub current-facts : (t : Transfer) (n seq : ℕ) (x : Bool) → (((n == t.command) && ((seq == t.sequence) || (seq == t.sequence + 1))) && x) ≡ true → (n ≡ t.command) × ((seq ≡ t.sequence) ⊎ (seq ≡ t.sequence + 1))

@@ -6,8 +6,8 @@ use Rattle.storage_keys.specs.Storage.{Contents}
 use Rattle.ccw_walk.specs.declared.check.Check.{Check}
 use Rattle.ccw_walk.specs.declared.program.Ended.{Ended}
 use Rattle.ccw_walk.specs.Acts.{Act, PlacedBytes, Used_up, End, Word}
-use Rattle.ccw_walk.specs.Walks.{WalkPlace, advance_acts}
-use Rattle.ccw_walk.proofs.Named.{after_used_up, walk_after_end}
+use Rattle.ccw_walk.specs.Places.{WalkPlace, after_count_used_up, after_command_end}
+use Rattle.ccw_walk.specs.Advancing.{advance_acts}
 use Rattle.idaw.specs.declared.WordFault.{WordFault}
 use Rattle.idaw.specs.Lists.{word_fault}
 use Rattle.idaw.specs.Places.{each_below}
@@ -18,7 +18,9 @@ use Rattle.transfer.specs.declared.Transfer.{Transfer}
 use Rattle.transfer.specs.declared.CommandStart.{CommandStart}
 use Rattle.transfer.specs.declared.CommandStart.TheVariants.{Begins, Suspends, Stops}
 use Rattle.transfer.specs.Commands.{goes_to, located_transfer, has_stopped, brings}
-use Rattle.transfer.specs.Chunks.{Brought, with_moved, chains_data, with_answer, taken_by_device, next_given, fitting, brought}
+use Rattle.transfer.specs.FromDevice.{StoredChunk, fitting_bytes, chunk_stored}
+use Rattle.transfer.specs.DataChaining.{with_bytes_moved, chains_data}
+use Rattle.transfer.specs.ToDevice.{with_chunk_counted, chunk_absorbed, next_chunk}
 
 -- a word of an indirect list is fetched where it is needed
 abbrev pub act_of_right : Option WordFault → ℕ → List Act
@@ -50,11 +52,11 @@ first_acts storage walk = goes_acts storage 1 walk
 abbrev pub next_acts : Contents → Transfer → Bool → List Act
 next_acts storage t modifier =
     let ended : Ended = record { goes_on = true; modifier = modifier } in
-    goes_acts storage (t.command + 1) (walk_after_end t.walk ended) ++ End ended ∷ []
+    goes_acts storage (t.command + 1) (after_command_end t.walk ended) ++ End ended ∷ []
 
 -- data is chained
 abbrev pub chained_acts : Contents → Transfer → List Act
-chained_acts storage t = advance_acts storage (after_used_up t.walk) ++ Used_up ∷ []
+chained_acts storage t = advance_acts storage (after_count_used_up t.walk) ++ Used_up ∷ []
 
 abbrev pub with_acts : CommandTrace → List Act → CommandTrace
 with_acts k acts = record k { acts = acts ++ k.acts }
@@ -65,7 +67,7 @@ with_places k m n = record k { moved = k.moved ++ each_below (next_place m) n }
 
 abbrev pub trace_moved_on : Contents → Transfer → ℕ → CommandTrace → CommandTrace
 trace_moved_on storage t n k =
-    if chains_data (with_moved t n) n then with_acts (with_places k t.moving n) (chained_acts storage (with_moved t n))
+    if chains_data (with_bytes_moved t n) n then with_acts (with_places k t.moving n) (chained_acts storage (with_bytes_moved t n))
     else with_places k t.moving n
 
 -- the next bytes, as storage has them
@@ -75,7 +77,7 @@ chunk_of storage m bytes = record { storage = storage.bytes; places = each_below
 -- the answer of a device that absorbed bytes of chunk s
 abbrev pub trace_answered : Contents → Transfer → ℕ → ℕ → CommandTrace → CommandTrace
 trace_answered storage t s count k =
-    if s == t.sequence + 1 then trace_moved_on storage (with_answer t s count) (min count (room t.moving)) k else k
+    if s == t.sequence + 1 then trace_moved_on storage (with_chunk_counted t s count) (min count (room t.moving)) k else k
 
 -- the next chunk is copied for the device
 abbrev pub with_copy : Contents → Transfer → Result (List ℕ) Check → CommandTrace → CommandTrace
@@ -95,7 +97,7 @@ marked t k = record k { sequence = t.sequence; given = t.offered; stopped = t.st
 -- a Data of a command that takes bytes to the device
 abbrev pub gives : Contents → Transfer → ℕ → ℕ → CommandTrace → CommandTrace
 gives storage t s count k =
-    marked (next_given storage (taken_by_device storage t s count)).transfer (trace_giving storage (taken_by_device storage t s count) (trace_answered storage t s count k))
+    marked (next_chunk storage (chunk_absorbed storage t s count)).transfer (trace_giving storage (chunk_absorbed storage t s count) (trace_answered storage t s count k))
 
 -- the bytes of chunk s of a read are stored
 abbrev pub with_arrival : Contents → Transfer → List ℕ → Result Contents Check → CommandTrace → CommandTrace
@@ -108,12 +110,12 @@ storing storage t bytes k =
     if is_some t.fault then k else with_arrival storage t bytes (access.stored_or_skipped storage t.walk.orb.key t.moving bytes) k
 
 abbrev pub arriving : Contents → Transfer → ℕ → List ℕ → CommandTrace → CommandTrace
-arriving storage t s bytes k = if s == t.sequence + 1 then storing storage (record t { sequence = s }) (fitting t bytes) k else k
+arriving storage t s bytes k = if s == t.sequence + 1 then storing storage (record t { sequence = s }) (fitting_bytes t bytes) k else k
 
 -- a Data of a command that brings bytes in
-abbrev pub located_after : Brought → CommandTrace → CommandTrace
+abbrev pub located_after : StoredChunk → CommandTrace → CommandTrace
 located_after x k = with_acts k (located_acts x.storage x.transfer)
 
 abbrev pub takes_in : Contents → Transfer → ℕ → List ℕ → CommandTrace → CommandTrace
 takes_in storage t s bytes k =
-    marked (located_transfer (brought storage t s bytes).storage (brought storage t s bytes).transfer) (located_after (brought storage t s bytes) (arriving storage t s bytes k))
+    marked (located_transfer (chunk_stored storage t s bytes).storage (chunk_stored storage t s bytes).transfer) (located_after (chunk_stored storage t s bytes) (arriving storage t s bytes k))

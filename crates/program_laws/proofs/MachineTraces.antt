@@ -17,12 +17,12 @@ use Rattle.chan_model.specs.Loads.{load_length}
 use Rattle.chan_model.specs.UnitReports.{is_outward, has_device_end}
 use Rattle.ccw_walk.specs.Acts.{Act, End}
 use Rattle.ccw_walk.specs.Programs.{commands}
-use Rattle.ccw_walk.specs.Walks.{WalkPlace, walk_place}
+use Rattle.ccw_walk.specs.Places.{WalkPlace, walk_place}
 use Rattle.transfer.specs.declared.Transfer.{Transfer}
 use Rattle.transfer.specs.declared.CommandStart.{CommandStart}
 use Rattle.transfer.specs.declared.CommandStart.TheVariants as came
 use Rattle.transfer.specs.Commands.{first_command, next_command, begun_with_room}
-use Rattle.transfer.specs.Chunks.{is_answered}
+use Rattle.transfer.specs.ChunkNumbers.{is_answered}
 use Rattle.wires.specs.Queues.{first_of}
 use Rattle.subchannel_model.specs.declared.state.ActiveProgram.{ActiveProgram}
 use Rattle.subchannel_model.specs.declared.state.Program.{Program}
@@ -32,7 +32,7 @@ use Rattle.subchannel_model.specs.declared.state.SubchannelState.{SubchannelStat
 use Rattle.machine_model.specs.State.{State, place_of}
 use Rattle.subchannel_model.specs.Places.{reached_in}
 use Rattle.subchannel_model.specs.Ends.{has_status_modifier, chains_command}
-use Rattle.subchannel_model.specs.Taking.{goes_ahead}
+use Rattle.subchannel_model.specs.Accept.{takes_device}
 use Rattle.machine_model.specs.Steps.{Run, Opened, Stepped}
 use Rattle.program_laws.proofs.MachineActs.{with_acts, first_acts, next_acts, gives, takes_in}
 use Rattle.program_laws.specs.Traces.{no_trace, ProgramTrace, past_part, chosen_at, taken_at, reported_at}
@@ -105,7 +105,7 @@ trace_ends storage s (Some b) n status more k = if n == b.transfer.command then 
 
 -- what the subchannel does for its program with a signal
 abbrev pub trace_meets : Contents → SubchannelState → ℕ → Up → ProgramTrace → ProgramTrace
-trace_meets storage s p (up.Accept t) k = trace_accepted storage s (hold_takes s.hold p (up.Accept t) (goes_ahead s)) k
+trace_meets storage s p (up.Accept t) k = trace_accepted storage s (hold_takes s.hold p (up.Accept t) (takes_device s)) k
 trace_meets storage s p (up.Data load t c n seq) k = if is_connected s.hold.phase p t c then answers storage s.begun n seq load k else k
 trace_meets storage s p (up.End t n status more) k = if is_on s.hold.phase t then trace_ends storage s s.begun n status more k else k
 trace_meets storage s p signal k = k

@@ -9,7 +9,7 @@ use Rattle.storage_keys.specs.Storage.{Contents, stored_bytes}
 use Rattle.ccw_walk.specs.declared.check.Check.{Check}
 use Rattle.ccw_walk.specs.Acts.{Act}
 use Rattle.ccw_walk.specs.Programs.{Command, commands, code}
-use Rattle.ccw_walk.specs.Walks.{WalkPlace}
+use Rattle.ccw_walk.specs.Places.{WalkPlace}
 use Rattle.idaw.specs.Places.{each_below}
 use Rattle.data_move.specs.Accesses as access
 use Rattle.data_move.specs.Accesses.{checked}
@@ -17,8 +17,9 @@ use Rattle.data_move.specs.Moving.{next_place, room}
 use Rattle.transfer.specs.declared.NextChunk.{NextChunk}
 use Rattle.transfer.specs.declared.Transfer.{Transfer}
 use Rattle.transfer.specs.Commands.{located_transfer, has_stopped}
-use Rattle.transfer.specs.Chunks.{Brought, with_moved, chains_data, with_answer, taken_by_device, given_bytes, next_given, fitting, brought_by, brought_in}
-use Rattle.transfer.proofs.Named.{next_chunk_of}
+use Rattle.transfer.specs.FromDevice.{StoredChunk, fitting_bytes, after_store, bytes_brought_in}
+use Rattle.transfer.specs.DataChaining.{with_bytes_moved, chains_data}
+use Rattle.transfer.specs.ToDevice.{with_chunk_counted, chunk_absorbed, with_bytes_offered, next_chunk, with_bytes_fetched}
 use Rattle.program_laws.specs.Traces.{CommandTrace}
 use Rattle.program_laws.specs.Claims.{IsBeginning, places_of}
 use Rattle.program_laws.specs.DataAreas.{data_areas}
@@ -28,8 +29,8 @@ use Rattle.program_laws.specs.Reached.{CantStore}
 use Rattle.program_laws.proofs.MachineActs.{with_acts, with_places, chained_acts, located_acts, chunk_of, with_copy, copying, trace_moved_on, trace_answered, gives, with_arrival, storing}
 use Rattle.program_laws.proofs.Lists.{length-each_below}
 use Rattle.program_laws.proofs.Accesses.{AreAccesses, copied-room, copied-length, stored-bytes}
-use Rattle.program_laws.proofs.Ties.{AreLaws, Tied, changed, spot-begins, with_moved-tied}
-use Rattle.program_laws.proofs.Parts.{IsSame, IsAtWork, moved_on-parts, fitting-left, answer-by, located-work}
+use Rattle.program_laws.proofs.Ties.{AreLaws, Tied, changed, spot-begins, with_bytes_moved-tied}
+use Rattle.program_laws.proofs.Parts.{IsSame, IsAtWork, after_bytes_moved-parts, fitting-left, answer-by, located-work}
 use Rattle.program_laws.proofs.Goings.{same-codes}
 
 -- how many bytes are given next, as the transfer has it
@@ -57,7 +58,7 @@ module _ (earlier : ℕ) where
   module _ (laws : AreLaws) (accesses : AreAccesses) where
     -- a write
     copied-given : (storage : Contents) (orb : Orb) (p : CommandTrace) (t : Transfer) (r : Result (List ℕ) Check) → access.copied storage t.walk.orb.key t.moving ≡ r →
-        IsAtWork earlier orb p t true → IsGiven storage orb (next_chunk_of t r).bytes p (with_copy storage t r p)
+        IsAtWork earlier orb p t true → IsGiven storage orb (with_bytes_fetched t r).bytes p (with_copy storage t r p)
     copied-given storage orb p t (Ok bytes) e k =
         let n : ℕ = length bytes in
         let most : n ≤ room t.moving = copied-room accesses storage t.walk.orb.key t.moving bytes e in
@@ -65,13 +66,13 @@ module _ (earlier : ℕ) where
         inr (
           each_below (next_place t.moving) n,
           refl,
-          spot-begins orb (data_areas orb p.acts) (with_moved t n) (p.moved ++ each_below (next_place t.moving) n)
-              (with_moved-tied earlier laws orb p.acts p.moved t n (omega (arith, most, within)) k.tied).spot,
+          spot-begins orb (data_areas orb p.acts) (with_bytes_moved t n) (p.moved ++ each_below (next_place t.moving) n)
+              (with_bytes_moved-tied earlier laws orb p.acts p.moved t n (omega (arith, most, within)) k.tied).spot,
         )
     copied-given storage orb p t (Err check) e k = inl (refl, refl)
 
     copy-given : (storage : Contents) (orb : Orb) (p : CommandTrace) (t : Transfer) (b : Bool) → IsAtWork earlier orb p t true →
-        IsGiven storage orb (if b then given_bytes t [] else next_chunk_of t (access.copied storage t.walk.orb.key t.moving)).bytes p
+        IsGiven storage orb (if b then with_bytes_offered t [] else with_bytes_fetched t (access.copied storage t.walk.orb.key t.moving)).bytes p
         (if b then p else with_copy storage t (access.copied storage t.walk.orb.key t.moving) p)
     copy-given storage orb p t true k = inl (refl, refl)
     copy-given storage orb p t false k = copied-given storage orb p t (access.copied storage t.walk.orb.key t.moving) refl k
@@ -88,22 +89,22 @@ module _ (earlier : ℕ) where
     IsAnswered count p q =
         (absorbed : List (Option ℕ)) × (length absorbed ≡ count) × (q.moved ≡ p.moved ++ absorbed) × (q.arrived ≡ p.arrived) × (q.copied ≡ p.copied)
 
-    moved_on-copied : (storage : Contents) (t : Transfer) (n : ℕ) (p : CommandTrace) (b : Bool) →
-        (if b then with_acts (with_places p t.moving n) (chained_acts storage (with_moved t n)) else with_places p t.moving n).copied ≡ p.copied
-    moved_on-copied storage t n p true = refl
-    moved_on-copied storage t n p false = refl
+    after_bytes_moved-copied : (storage : Contents) (t : Transfer) (n : ℕ) (p : CommandTrace) (b : Bool) →
+        (if b then with_acts (with_places p t.moving n) (chained_acts storage (with_bytes_moved t n)) else with_places p t.moving n).copied ≡ p.copied
+    after_bytes_moved-copied storage t n p true = refl
+    after_bytes_moved-copied storage t n p false = refl
 
     answered : (storage : Contents) (t : Transfer) (s count : ℕ) (p : CommandTrace) (b : Bool) →
-        IsAnswered (if b then min count (room t.moving) else 0) p (if b then trace_moved_on storage (with_answer t s count) (min count (room t.moving)) p else p)
+        IsAnswered (if b then min count (room t.moving) else 0) p (if b then trace_moved_on storage (with_chunk_counted t s count) (min count (room t.moving)) p else p)
     answered storage t s count p true =
-        let u : Transfer = with_answer t s count in
+        let u : Transfer = with_chunk_counted t s count in
         let n : ℕ = min count (room t.moving) in
-        let parts = moved_on-parts storage u n p (chains_data (with_moved u n) n) in (
+        let parts = after_bytes_moved-parts storage u n p (chains_data (with_bytes_moved u n) n) in (
           each_below (next_place t.moving) n,
           length-each_below (next_place t.moving) n,
           parts.0,
           parts.1,
-          moved_on-copied storage u n p (chains_data (with_moved u n) n),
+          after_bytes_moved-copied storage u n p (chains_data (with_bytes_moved u n) n),
         )
     answered storage t s count p false = ([], refl, sym (append-nil p.moved), refl, refl)
 
@@ -121,13 +122,13 @@ module _ (earlier : ℕ) where
     or-true false = refl
 
     chunk-many : (storage : Contents) (t : Transfer) (r : Result (List ℕ) Check) → has_stopped t ≡ false → access.copied storage t.walk.orb.key t.moving ≡ r →
-        length (next_chunk_of t r).bytes ≡ given_by (next_chunk_of t r).transfer
+        length (with_bytes_fetched t r).bytes ≡ given_by (with_bytes_fetched t r).transfer
     chunk-many storage t (Ok bytes) e f =
         some-given (has_stopped t) t.moving.skipped (room t.moving) (length bytes) e (copied-length accesses storage t.walk.orb.key t.moving bytes f)
     chunk-many storage t (Err check) e f = none-given (t.stopped || true) t.moving.skipped (room t.moving) (or-true t.stopped)
 
     given-many : (storage : Contents) (t : Transfer) (b : Bool) → has_stopped t ≡ b →
-        let given : NextChunk = if b then given_bytes t [] else next_chunk_of t (access.copied storage t.walk.orb.key t.moving) in
+        let given : NextChunk = if b then with_bytes_offered t [] else with_bytes_fetched t (access.copied storage t.walk.orb.key t.moving) in
         length given.bytes ≡ given_by given.transfer
     given-many storage t true e = none-given (has_stopped t) t.moving.skipped (room t.moving) e
     given-many storage t false e = chunk-many storage t (access.copied storage t.walk.orb.key t.moving) e refl
@@ -139,10 +140,10 @@ module _ (earlier : ℕ) where
         inr (x.0, x.1 ∙ ap (λ cs. record { storage = storage.bytes; places = x.0; bytes = bytes } ∷ cs) e, x.2)
 
     pub gives-told : (storage : Contents) (orb : Orb) (p : CommandTrace) (t : Transfer) (s count : ℕ) → IsAtWork earlier orb p t true →
-        Gives storage orb (if s == t.sequence + 1 then min count (room t.moving) else 0) (given_by (next_given storage (taken_by_device storage t s count)).transfer)
-        (next_given storage (taken_by_device storage t s count)).bytes p (gives storage t s count p)
+        Gives storage orb (if s == t.sequence + 1 then min count (room t.moving) else 0) (given_by (next_chunk storage (chunk_absorbed storage t s count)).transfer)
+        (next_chunk storage (chunk_absorbed storage t s count)).bytes p (gives storage t s count p)
     gives-told storage orb p t s count k =
-        let a : Transfer = taken_by_device storage t s count in
+        let a : Transfer = chunk_absorbed storage t s count in
         let q : CommandTrace = trace_answered storage t s count p in
         let u : Transfer = located_transfer storage a in
         let r : CommandTrace = with_acts q (located_acts storage a) in
@@ -155,13 +156,13 @@ module _ (earlier : ℕ) where
           many = given-many storage u (has_stopped u) refl;
           moved = c.0 ∙ x.2;
           given =
-              given-from storage orb (next_given storage a).bytes p r (copying storage u r) x.4 c.0
+              given-from storage orb (next_chunk storage a).bytes p r (copying storage u r) x.4 c.0
               (copy-given storage orb r u (has_stopped u) (located-work earlier laws storage orb q a true w));
           arrived = c.1 ∙ x.3;
         }
 
     -- a read
-    abbrev StoresBy : Contents → Brought → Orb → ℕ → Bool → ℕ → List ℕ → CommandTrace → CommandTrace → Type 0
+    abbrev StoresBy : Contents → StoredChunk → Orb → ℕ → Bool → ℕ → List ℕ → CommandTrace → CommandTrace → Type 0
     StoresBy storage x orb n kept s bytes p now = Stores storage x.storage orb n kept s bytes p now
 
     -- bytes that storage refuses are of the place that is next
@@ -184,21 +185,21 @@ module _ (earlier : ℕ) where
         let key : t.walk.orb.key ≡ orb.key = ap (λ (x : WalkPlace). x.orb.key) k.walk in (
           m.piece,
           subst (λ (x : Option ℕ). IsBeginning (p.moved ++ x ∷ []) (places_of orb p.acts)) place
-              (spot-begins orb (data_areas orb p.acts) (with_moved t 1) (p.moved ++ each_below (next_place m) 1)
-              (with_moved-tied earlier laws orb p.acts p.moved t 1 (omega (arith, some, l)) k).spot),
+              (spot-begins orb (data_areas orb p.acts) (with_bytes_moved t 1) (p.moved ++ each_below (next_place m) 1)
+              (with_bytes_moved-tied earlier laws orb p.acts p.moved t 1 (omega (arith, some, l)) k).spot),
           not-stored (stored_bytes storage orb.key m.piece bytes) check (ap (λ (x : ℕ). checked (stored_bytes storage x m.piece bytes)) (sym key) ∙ e),
         )
 
     arrival-told : (storage : Contents) (orb : Orb) (t : Transfer) (bytes : List ℕ) (n : ℕ) (r : Result Contents Check) (p : CommandTrace) (kept : Bool) → t.sequence ≡ length p.arrived + 1 →
         access.stored_or_skipped storage t.walk.orb.key t.moving (take n bytes) ≡ r → length (take n bytes) ≤ t.moving.left → Tied earlier orb p.acts p.moved t →
-        StoresBy storage (brought_by storage t (length (take n bytes)) r) orb n kept t.sequence bytes p (with_arrival storage t (take n bytes) r p)
+        StoresBy storage (after_store storage t (length (take n bytes)) r) orb n kept t.sequence bytes p (with_arrival storage t (take n bytes) r p)
         × ((with_arrival storage t (take n bytes) r p).copied ≡ p.copied)
     arrival-told storage orb t bytes n (Ok after) p kept next e l k =
         let some : List ℕ = take n bytes in
         let q : CommandTrace = record p { arrived = record { former = storage.bytes; chunk = chunk_of after t.moving some } ∷ p.arrived } in
-        let parts = moved_on-parts after t (length some) q (chains_data (with_moved t (length some)) (length some)) in (
+        let parts = after_bytes_moved-parts after t (length some) q (chains_data (with_bytes_moved t (length some)) (length some)) in (
           inr (next, each_below (next_place t.moving) (length some), parts.1, parts.0, (stored-bytes accesses storage after t.walk.orb.key t.moving some e).alone),
-          moved_on-copied after t (length some) q (chains_data (with_moved t (length some)) (length some)),
+          after_bytes_moved-copied after t (length some) q (chains_data (with_bytes_moved t (length some)) (length some)),
         )
     arrival-told storage orb t bytes n (Err check) p kept next e l k =
         (inl ((λ f. inr (cant-by storage orb p t (take n bytes) check t.moving.skipped refl e l k)), refl, refl, refl), refl)
@@ -206,7 +207,7 @@ module _ (earlier : ℕ) where
     stored-told : (storage : Contents) (orb : Orb) (t : Transfer) (bytes : List ℕ) (n : ℕ) (r : Result Contents Check) (p : CommandTrace) (fault : Option Check) → t.fault ≡ fault →
         (fault ≡ None → t.sequence ≡ length p.arrived + 1) →
         access.stored_or_skipped storage t.walk.orb.key t.moving (take n bytes) ≡ r → length (take n bytes) ≤ t.moving.left → Tied earlier orb p.acts p.moved t → let b : Bool = is_some fault in
-        StoresBy storage (if b then record { transfer = t; storage = storage } else brought_by storage t (length (take n bytes)) r) orb n b t.sequence bytes p
+        StoresBy storage (if b then record { transfer = t; storage = storage } else after_store storage t (length (take n bytes)) r) orb n b t.sequence bytes p
         (if b then p else with_arrival storage t (take n bytes) r p)
         × ((if b then p else with_arrival storage t (take n bytes) r p).copied ≡ p.copied)
     stored-told storage orb t bytes n r p (Some check) f next e l k = (inl ((λ x. inl refl), refl, refl, refl), refl)
@@ -218,12 +219,12 @@ module _ (earlier : ℕ) where
     unstored None s n m f g e = absurd (eqb-false s (n + 1) f (e ∙ sym (ap (λ (x : ℕ). x + 1) (g refl))))
 
     pub brought-told : (storage : Contents) (orb : Orb) (t : Transfer) (s : ℕ) (bytes : List ℕ) (p : CommandTrace) (b : Bool) → (s == t.sequence + 1) ≡ b → IsAtWork earlier orb p t false →
-        StoresBy storage (if b then brought_in storage (record t { sequence = s }) (fitting t bytes) else record { transfer = t; storage = storage }) orb (room t.moving) (is_some t.fault) s bytes p
-        (if b then storing storage (record t { sequence = s }) (fitting t bytes) p else p)
-        × ((if b then storing storage (record t { sequence = s }) (fitting t bytes) p else p).copied ≡ p.copied)
+        StoresBy storage (if b then bytes_brought_in storage (record t { sequence = s }) (fitting_bytes t bytes) else record { transfer = t; storage = storage }) orb (room t.moving) (is_some t.fault) s bytes p
+        (if b then storing storage (record t { sequence = s }) (fitting_bytes t bytes) p else p)
+        × ((if b then storing storage (record t { sequence = s }) (fitting_bytes t bytes) p else p).copied ≡ p.copied)
     brought-told storage orb t s bytes p true is k =
         let u : Transfer = record t { sequence = s } in
-        stored-told storage orb u bytes (room t.moving) (access.stored_or_skipped storage t.walk.orb.key t.moving (fitting t bytes)) p t.fault refl
+        stored-told storage orb u bytes (room t.moving) (access.stored_or_skipped storage t.walk.orb.key t.moving (fitting_bytes t bytes)) p t.fault refl
         (λ e. eqb-true s (t.sequence + 1) is ∙ ap (λ (n : ℕ). n + 1) (k.arrived.2 e)) refl (fitting-left t bytes)
         (changed earlier orb p.acts p.moved t u refl refl refl refl (λ e. e) (λ e. e) k.tied)
     brought-told storage orb t s bytes p false is k =

@@ -6,17 +6,18 @@ use Rattle.orb_block.specs.declared.Orb.{Orb}
 use Rattle.storage_keys.specs.Storage.{Contents}
 use Rattle.ccw_walk.specs.declared.check.Check.{Check}
 use Rattle.ccw_walk.specs.Acts.{Act}
-use Rattle.ccw_walk.specs.Walks.{WalkPlace, after_acts, advance_acts, advance_of}
+use Rattle.ccw_walk.specs.Places.{WalkPlace, after_acts, after_count_used_up}
+use Rattle.ccw_walk.specs.Advancing.{advance_acts, advance_of_acts}
 use Rattle.ccw_walk.specs.declared.program.Advance.{Advance}
 use Rattle.ccw_walk.specs.declared.program.Advance.TheVariants as advance
-use Rattle.ccw_walk.proofs.Named.{after_used_up}
 use Rattle.data_move.specs.Accesses as access
 use Rattle.data_move.specs.Moving.{Moving, room}
 use Rattle.transfer.specs.declared.NextChunk.{NextChunk}
 use Rattle.transfer.specs.declared.Transfer.{Transfer}
 use Rattle.transfer.specs.Commands.{with_located, located_transfer, with_room, has_stopped}
-use Rattle.transfer.specs.Chunks.{Brought, with_moved, chains_data, chained_to, chained, moved_on, with_answer, taken_by_device, given_bytes, next_given, fitting, brought_by, brought_in, brought}
-use Rattle.transfer.proofs.Named.{next_chunk_of}
+use Rattle.transfer.specs.FromDevice.{StoredChunk, fitting_bytes, after_store, bytes_brought_in, chunk_stored}
+use Rattle.transfer.specs.DataChaining.{with_bytes_moved, chains_data, with_next_ccw, data_chained, after_bytes_moved}
+use Rattle.transfer.specs.ToDevice.{with_chunk_counted, chunk_absorbed, with_bytes_offered, next_chunk, with_bytes_fetched}
 use Rattle.program_laws.specs.Traces.{CommandTrace}
 use Rattle.program_laws.specs.Claims.{has_check}
 use Rattle.program_laws.specs.DataAreas.{data_areas}
@@ -25,9 +26,9 @@ use Rattle.program_laws.specs.Reached.{is_short, skips, CantReach, CantStore, Ca
 use Rattle.program_laws.proofs.MachineActs.{with_acts, located_acts, chunk_of, trace_moved_on, trace_answered, gives, with_arrival, storing, arriving, takes_in}
 use Rattle.program_laws.proofs.Accesses.{AreAccesses}
 use Rattle.program_laws.proofs.Ties.{AreLaws, Tied, changed}
-use Rattle.program_laws.proofs.Parts.{IsAtWork, moved_on-through, located-through, room-left, fitting-left, answer-tied, answer-by, bring-by, gives-work, takes_in-work, located-work}
+use Rattle.program_laws.proofs.Parts.{IsAtWork, after_bytes_moved-through, located-through, room-left, fitting-left, answer-tied, answer-by, bring-by, gives-work, takes_in-work, located-work}
 use Rattle.program_laws.proofs.Holds.{IsMarked}
-use Rattle.program_laws.proofs.Kept.{room-same, skips-same, short-same, located-kept, located-checks, moved_on-kept, copy-kept, fault-stays}
+use Rattle.program_laws.proofs.Kept.{room-same, skips-same, short-same, located-kept, located-checks, after_bytes_moved-kept, copy-kept, fault-stays}
 use Rattle.program_laws.proofs.Fetches.{copy-same}
 use Rattle.program_laws.proofs.Moves.{given_by, gives-told, cant-by, brought-told}
 
@@ -35,14 +36,14 @@ use Rattle.program_laws.proofs.Moves.{given_by, gives-told, cant-by, brought-tol
 abbrev SameFlags : Transfer → Transfer → Type 0
 SameFlags t u = (u.sequence ≡ t.sequence) × (u.offered ≡ t.offered) × (u.stopped ≡ t.stopped) × (u.ended ≡ t.ended) × (u.unchained ≡ t.unchained)
 
-chained_to-flags : (t : Transfer) (walk : WalkPlace) (a : Option Advance) → SameFlags t (chained_to t walk a)
-chained_to-flags t walk (Some (advance.Takes ccw)) = (refl, refl, refl, refl, refl)
-chained_to-flags t walk other = (refl, refl, refl, refl, refl)
+with_next_ccw-flags : (t : Transfer) (walk : WalkPlace) (a : Option Advance) → SameFlags t (with_next_ccw t walk a)
+with_next_ccw-flags t walk (Some (advance.Takes ccw)) = (refl, refl, refl, refl, refl)
+with_next_ccw-flags t walk other = (refl, refl, refl, refl, refl)
 
-moved_on-flags : (storage : Contents) (t : Transfer) (n : ℕ) (b : Bool) → SameFlags t (if b then chained storage (with_moved t n) else with_moved t n)
-moved_on-flags storage t n true =
-    let old : WalkPlace = after_used_up t.walk in chained_to-flags (with_moved t n) (after_acts old (advance_acts storage old)) (advance_of old (advance_acts storage old))
-moved_on-flags storage t n false = (refl, refl, refl, refl, refl)
+after_bytes_moved-flags : (storage : Contents) (t : Transfer) (n : ℕ) (b : Bool) → SameFlags t (if b then data_chained storage (with_bytes_moved t n) else with_bytes_moved t n)
+after_bytes_moved-flags storage t n true =
+    let old : WalkPlace = after_count_used_up t.walk in with_next_ccw-flags (with_bytes_moved t n) (after_acts old (advance_acts storage old)) (advance_of_acts old (advance_acts storage old))
+after_bytes_moved-flags storage t n false = (refl, refl, refl, refl, refl)
 
 located-flags : (t : Transfer) (r : Result Moving Check) (b : Bool) → SameFlags t (if b then t else with_located t r)
 located-flags t r true = (refl, refl, refl, refl, refl)
@@ -74,11 +75,11 @@ record IsAnswered_so (t u : Transfer) (s count : ℕ) (b : Bool) : Type 0 where
   unchained : u.unchained ≡ t.unchained
 
 answered-so : (storage : Contents) (t : Transfer) (s count : ℕ) (b : Bool) →
-    IsAnswered_so t (if b then moved_on storage (with_answer t s count) (min count (room t.moving)) else t) s count b
+    IsAnswered_so t (if b then after_bytes_moved storage (with_chunk_counted t s count) (min count (room t.moving)) else t) s count b
 answered-so storage t s count true =
-    let u : Transfer = with_answer t s count in
+    let u : Transfer = with_chunk_counted t s count in
     let n : ℕ = min count (room t.moving) in
-    let f : SameFlags u (moved_on storage u n) = moved_on-flags storage u n (chains_data (with_moved u n) n) in
+    let f : SameFlags u (after_bytes_moved storage u n) = after_bytes_moved-flags storage u n (chains_data (with_bytes_moved u n) n) in
     record { sequence = f.0; offered = f.1; stopped = f.2; ended = f.3; unchained = f.4 }
 answered-so storage t s count false = record { sequence = refl; offered = refl; stopped = sym (or-none t.stopped); ended = refl; unchained = refl }
 
@@ -87,17 +88,17 @@ GivenFlags t x =
     (x.transfer.sequence ≡ t.sequence) × (x.transfer.offered ≡ length x.bytes) × (x.transfer.stopped ≡ t.stopped) × (x.transfer.ended ≡ t.ended) × (x.transfer.unchained ≡ t.unchained)
     × (x.transfer.fault ≡ None → t.fault ≡ None)
 
-given-flags : (t : Transfer) (r : Result (List ℕ) Check) (b : Bool) → GivenFlags t (if b then given_bytes t [] else next_chunk_of t r)
+given-flags : (t : Transfer) (r : Result (List ℕ) Check) (b : Bool) → GivenFlags t (if b then with_bytes_offered t [] else with_bytes_fetched t r)
 given-flags t r true = (refl, refl, refl, refl, refl, λ e. e)
 given-flags t (Ok bytes) false = (refl, refl, refl, refl, refl, λ e. e)
 given-flags t (Err check) false = (refl, refl, refl, refl, refl, λ e. absurd (cc e))
 
 answered-through : (storage : Contents) (t : Transfer) (s count : ℕ) (b : Bool) →
-    (if b then moved_on storage (with_answer t s count) (min count (room t.moving)) else t).fault ≡ None → t.fault ≡ None
+    (if b then after_bytes_moved storage (with_chunk_counted t s count) (min count (room t.moving)) else t).fault ≡ None → t.fault ≡ None
 answered-through storage t s count true e =
-    let u : Transfer = with_answer t s count in
+    let u : Transfer = with_chunk_counted t s count in
     let n : ℕ = min count (room t.moving) in
-    (moved_on-through storage u n (chains_data (with_moved u n) n)).1 e
+    (after_bytes_moved-through storage u n (chains_data (with_bytes_moved u n) n)).1 e
 answered-through storage t s count false e = e
 
 located-none : (storage : Contents) (t : Transfer) → (located_transfer storage t).fault ≡ None → t.fault ≡ None
@@ -112,21 +113,21 @@ is-none o e = ap (λ (x : Option Check). is_some x) e
 
 module _ (laws : AreLaws) (accesses : AreAccesses) (earlier : ℕ) where
   answered-kept : (storage : Contents) (orb : Orb) (p : CommandTrace) (t : Transfer) (s count : ℕ) (b : Bool) → IsAtWork earlier orb p t true →
-      is_some (if b then moved_on storage (with_answer t s count) (min count (room t.moving)) else t).fault ≡ true →
-      (is_some t.fault ≡ true) ⊎ (has_check orb (if b then trace_moved_on storage (with_answer t s count) (min count (room t.moving)) p else p).acts ≡ true)
+      is_some (if b then after_bytes_moved storage (with_chunk_counted t s count) (min count (room t.moving)) else t).fault ≡ true →
+      (is_some t.fault ≡ true) ⊎ (has_check orb (if b then trace_moved_on storage (with_chunk_counted t s count) (min count (room t.moving)) p else p).acts ≡ true)
   answered-kept storage orb p t s count true k e =
-      moved_on-kept earlier laws storage orb p (with_answer t s count) (min count (room t.moving)) (room-left t count) (answer-tied earlier laws orb p t s count k).tied e
+      after_bytes_moved-kept earlier laws storage orb p (with_chunk_counted t s count) (min count (room t.moving)) (room-left t count) (answer-tied earlier laws orb p t s count k).tied e
   answered-kept storage orb p t s count false k e = inl e
 
   -- of a write
   pub gives-next : (storage : Contents) (orb : Orb) (p : CommandTrace) (t : Transfer) (s count : ℕ) → IsAtWork earlier orb p t true → IsMarked p t → ((s == t.sequence) || (s == t.sequence + 1)) ≡ true →
-      GivesNext storage orb s count (next_given storage (taken_by_device storage t s count)).bytes p (gives storage t s count p)
+      GivesNext storage orb s count (next_chunk storage (chunk_absorbed storage t s count)).bytes p (gives storage t s count p)
   gives-next storage orb p t s count k marks at =
-      let a : Transfer = taken_by_device storage t s count in
+      let a : Transfer = chunk_absorbed storage t s count in
       let q : CommandTrace = trace_answered storage t s count p in
       let u : Transfer = located_transfer storage a in
       let r : CommandTrace = with_acts q (located_acts storage a) in
-      let given : NextChunk = next_given storage a in
+      let given : NextChunk = next_chunk storage a in
       let v : Transfer = given.transfer in
       let now : CommandTrace = gives storage t s count p in
       let next : Bool = s == t.sequence + 1 in
@@ -177,7 +178,7 @@ module _ (laws : AreLaws) (accesses : AreAccesses) (earlier : ℕ) where
 
   -- of a read
   brought-so : (storage : Contents) (t : Transfer) (s : ℕ) (bytes : List ℕ) (b c : Bool) (r : Result Contents Check) →
-      let x : Brought = if b then (if c then record { transfer = record t { sequence = s }; storage = storage } else brought_by storage (record t { sequence = s }) (length bytes) r)
+      let x : StoredChunk = if b then (if c then record { transfer = record t { sequence = s }; storage = storage } else after_store storage (record t { sequence = s }) (length bytes) r)
       else record { transfer = t; storage = storage } in
       (_ : x.transfer.sequence ≡ (if b then s else t.sequence)) × (x.transfer.offered ≡ t.offered) × (x.transfer.stopped ≡ t.stopped) × (x.transfer.ended ≡ t.ended)
       × (x.transfer.unchained ≡ t.unchained) × (x.transfer.fault ≡ None → t.fault ≡ None)
@@ -186,49 +187,49 @@ module _ (laws : AreLaws) (accesses : AreAccesses) (earlier : ℕ) where
   brought-so storage t s bytes true false (Ok after) =
       let u : Transfer = record t { sequence = s } in
       let n : ℕ = length bytes in
-      let f : SameFlags u (moved_on after u n) = moved_on-flags after u n (chains_data (with_moved u n) n) in
-      (f.0, f.1, f.2, f.3, f.4, λ e. (moved_on-through after u n (chains_data (with_moved u n) n)).1 e)
+      let f : SameFlags u (after_bytes_moved after u n) = after_bytes_moved-flags after u n (chains_data (with_bytes_moved u n) n) in
+      (f.0, f.1, f.2, f.3, f.4, λ e. (after_bytes_moved-through after u n (chains_data (with_bytes_moved u n) n)).1 e)
   brought-so storage t s bytes true false (Err check) = (refl, refl, refl, refl, refl, λ e. absurd (cc e))
 
-  abbrev BroughtWhy : Contents → Orb → CommandTrace → Transfer → List ℕ → Brought → CommandTrace → Type 0
+  abbrev BroughtWhy : Contents → Orb → CommandTrace → Transfer → List ℕ → StoredChunk → CommandTrace → Type 0
   BroughtWhy storage orb p t bytes x q = is_some x.transfer.fault ≡ true → (is_some t.fault ≡ true) ⊎ ((has_check orb q.acts ≡ true) ⊎ CantStore storage orb p.acts p.moved bytes)
 
   arrival-kept : (storage : Contents) (orb : Orb) (p : CommandTrace) (t : Transfer) (bytes : List ℕ) (r : Result Contents Check) → access.stored_or_skipped storage t.walk.orb.key t.moving bytes ≡ r →
-      length bytes ≤ t.moving.left → Tied earlier orb p.acts p.moved t → BroughtWhy storage orb p t bytes (brought_by storage t (length bytes) r) (with_arrival storage t bytes r p)
+      length bytes ≤ t.moving.left → Tied earlier orb p.acts p.moved t → BroughtWhy storage orb p t bytes (after_store storage t (length bytes) r) (with_arrival storage t bytes r p)
   arrival-kept storage orb p t bytes (Ok after) e l k f =
       let q : CommandTrace = record p { arrived = record { former = storage.bytes; chunk = chunk_of after t.moving bytes } ∷ p.arrived } in
-      elim (moved_on-kept earlier laws after orb q t (length bytes) l k f) [ inl x ↦ inl x | inr x ↦ inr (inl x) ]
+      elim (after_bytes_moved-kept earlier laws after orb q t (length bytes) l k f) [ inl x ↦ inl x | inr x ↦ inr (inl x) ]
   arrival-kept storage orb p t bytes (Err check) e l k f = inr (inr (cant-by earlier laws accesses storage orb p t bytes check t.moving.skipped refl e l k))
 
   store-kept : (storage : Contents) (orb : Orb) (p : CommandTrace) (t : Transfer) (bytes : List ℕ) (b : Bool) → is_some t.fault ≡ b → length bytes ≤ t.moving.left → Tied earlier orb p.acts p.moved t →
       BroughtWhy storage orb p t bytes
-      (if b then record { transfer = t; storage = storage } else brought_by storage t (length bytes) (access.stored_or_skipped storage t.walk.orb.key t.moving bytes))
+      (if b then record { transfer = t; storage = storage } else after_store storage t (length bytes) (access.stored_or_skipped storage t.walk.orb.key t.moving bytes))
       (if b then p else with_arrival storage t bytes (access.stored_or_skipped storage t.walk.orb.key t.moving bytes) p)
   store-kept storage orb p t bytes true g l k f = inl f
   store-kept storage orb p t bytes false g l k f = arrival-kept storage orb p t bytes (access.stored_or_skipped storage t.walk.orb.key t.moving bytes) refl l k f
 
   bring-kept : (storage : Contents) (orb : Orb) (p : CommandTrace) (t : Transfer) (s : ℕ) (bytes : List ℕ) (b : Bool) → Tied earlier orb p.acts p.moved t →
-      BroughtWhy storage orb p t (fitting t bytes)
-      (if b then brought_in storage (record t { sequence = s }) (fitting t bytes) else record { transfer = t; storage = storage })
-      (if b then storing storage (record t { sequence = s }) (fitting t bytes) p else p)
+      BroughtWhy storage orb p t (fitting_bytes t bytes)
+      (if b then bytes_brought_in storage (record t { sequence = s }) (fitting_bytes t bytes) else record { transfer = t; storage = storage })
+      (if b then storing storage (record t { sequence = s }) (fitting_bytes t bytes) p else p)
   bring-kept storage orb p t s bytes true k f =
       let u : Transfer = record t { sequence = s } in
-      store-kept storage orb p u (fitting t bytes) (is_some t.fault) refl (fitting-left t bytes) (changed earlier orb p.acts p.moved t u refl refl refl refl (λ e. e) (λ e. e) k) f
+      store-kept storage orb p u (fitting_bytes t bytes) (is_some t.fault) refl (fitting-left t bytes) (changed earlier orb p.acts p.moved t u refl refl refl refl (λ e. e) (λ e. e) k) f
   bring-kept storage orb p t s bytes false k f = inl f
 
   pub takes-next : (storage : Contents) (orb : Orb) (p : CommandTrace) (t : Transfer) (s : ℕ) (bytes : List ℕ) → IsAtWork earlier orb p t false → IsMarked p t →
       ((s == t.sequence) || (s == t.sequence + 1)) ≡ true →
-      let x : Brought = brought storage t s bytes in
+      let x : StoredChunk = chunk_stored storage t s bytes in
       TakesNext storage x.storage orb s bytes (with_room x.storage x.transfer).room p (takes_in storage t s bytes p)
   takes-next storage orb p t s bytes k marks at =
-      let x : Brought = brought storage t s bytes in
+      let x : StoredChunk = chunk_stored storage t s bytes in
       let q : CommandTrace = arriving storage t s bytes p in
       let u : Transfer = located_transfer x.storage x.transfer in
       let now : CommandTrace = takes_in storage t s bytes p in
       let next : Bool = s == t.sequence + 1 in
       let wx : IsAtWork earlier orb q x.transfer false = bring-by earlier laws accesses storage orb p t s bytes next refl k in
       let w : IsAtWork earlier orb now u false = takes_in-work earlier laws accesses storage orb p t s bytes k in
-      let fx = brought-so storage t s (fitting t bytes) next (is_some t.fault) (access.stored_or_skipped storage t.walk.orb.key t.moving (fitting t bytes)) in
+      let fx = brought-so storage t s (fitting_bytes t bytes) next (is_some t.fault) (access.stored_or_skipped storage t.walk.orb.key t.moving (fitting_bytes t bytes)) in
       let fu : SameFlags x.transfer u = located-same-flags x.storage x.transfer in
       let located = located-kept earlier x.storage orb q.acts q.moved x.transfer wx.tied in
       let told = brought-told earlier laws accesses storage orb t s bytes p next refl k in
@@ -259,7 +260,7 @@ module _ (laws : AreLaws) (accesses : AreAccesses) (earlier : ℕ) where
   pub gives-flags : (storage : Contents) (p : CommandTrace) (t : Transfer) (s count : ℕ) → IsMarked p t →
       (_ : (gives storage t s count p).ended ≡ p.ended) × ((gives storage t s count p).unchained ≡ p.unchained)
   gives-flags storage p t s count marks =
-      let a : Transfer = taken_by_device storage t s count in
+      let a : Transfer = chunk_absorbed storage t s count in
       let u : Transfer = located_transfer storage a in
       let fa = answered-so storage t s count (s == t.sequence + 1) in
       let fu : SameFlags a u = located-same-flags storage a in
@@ -269,7 +270,7 @@ module _ (laws : AreLaws) (accesses : AreAccesses) (earlier : ℕ) where
   pub takes-flags : (storage : Contents) (p : CommandTrace) (t : Transfer) (s : ℕ) (bytes : List ℕ) → IsMarked p t →
       (_ : (takes_in storage t s bytes p).ended ≡ p.ended) × ((takes_in storage t s bytes p).unchained ≡ p.unchained)
   takes-flags storage p t s bytes marks =
-      let x : Brought = brought storage t s bytes in
-      let fx = brought-so storage t s (fitting t bytes) (s == t.sequence + 1) (is_some t.fault) (access.stored_or_skipped storage t.walk.orb.key t.moving (fitting t bytes)) in
+      let x : StoredChunk = chunk_stored storage t s bytes in
+      let fx = brought-so storage t s (fitting_bytes t bytes) (s == t.sequence + 1) (is_some t.fault) (access.stored_or_skipped storage t.walk.orb.key t.moving (fitting_bytes t bytes)) in
       let fu : SameFlags x.transfer (located_transfer x.storage x.transfer) = located-same-flags x.storage x.transfer in
       (fu.3 ∙ fx.3 ∙ sym marks.4, fu.4 ∙ fx.4 ∙ sym marks.5)

@@ -44,7 +44,8 @@ use Rattle.subchannel_model.specs.Resume.{resumed}
 use Rattle.subchannel_model.specs.Sending.{carried_by, finds_full}
 use Rattle.subchannel_model.specs.Start.{started}
 use Rattle.subchannel_model.specs.SystemReset.{state_reset}
-use Rattle.subchannel_model.specs.Taking.{goes_ahead, path_used, standing, accept, takes_up}
+use Rattle.subchannel_model.specs.Accept.{takes_device, with_path_used, offered_position, takes_accept}
+use Rattle.subchannel_model.specs.Taking.{takes_up}
 use Rattle.subchannel_model.specs.Test.{ends_suspended, tested_wholly, tested}
 use Rattle.machine_model.specs.State.{State, opening_of}
 use Rattle.machine_model.specs.Turns.{SubTurn, UpTurn, DownTurn}
@@ -131,19 +132,19 @@ gone-offers s r (Some k) e w = (w, subst (λ (y : HoldPhase). IsOfferedAt y s.wa
 
 -- a signal that comes up: an offer stays only where nothing changed
 accept-traced : (storage : Contents) (s : SubchannelState) (h : HoldState) (p t q u v w : ℕ) (k : ProgramTrace) (may same : Bool) →
-    phases.Meets p (up.Accept u) (hold.Offer t q) (accept storage (with_hold s h (hold.Offer t q)) (offer_begun h t q may same)).came.taken
-    (accept storage (with_hold s h (hold.Offer t q)) (offer_begun h t q may same)).came.sent
-    (accept storage (with_hold s h (hold.Offer t q)) (offer_begun h t q may same)).state.hold.phase →
-    (accept storage (with_hold s h (hold.Offer t q)) (offer_begun h t q may same)).state.hold.phase ≡ hold.Offer v w →
+    phases.Meets p (up.Accept u) (hold.Offer t q) (takes_accept storage (with_hold s h (hold.Offer t q)) (offer_begun h t q may same)).came.taken
+    (takes_accept storage (with_hold s h (hold.Offer t q)) (offer_begun h t q may same)).came.sent
+    (takes_accept storage (with_hold s h (hold.Offer t q)) (offer_begun h t q may same)).state.hold.phase →
+    (takes_accept storage (with_hold s h (hold.Offer t q)) (offer_begun h t q may same)).state.hold.phase ≡ hold.Offer v w →
     trace_accepted storage (with_hold s h (hold.Offer t q)) (offer_begun h t q may same) k ≡ k
-accept-traced storage s h p t q u v w k true true m e = absurd (meets-accept p u (up.Accept u) _ _ _ _ v w refl (begin-taken storage (record s { hold = record h { phase = hold.On t q 0; seen = 0; first_path = Some q }; pmcw = path_used s.pmcw q }) q t (standing s)) m e)
+accept-traced storage s h p t q u v w k true true m e = absurd (meets-accept p u (up.Accept u) _ _ _ _ v w refl (begin-taken storage (record s { hold = record h { phase = hold.On t q 0; seen = 0; first_path = Some q }; pmcw = with_path_used s.pmcw q }) q t (offered_position s)) m e)
 accept-traced storage s h p t q u v w k false true m e = absurd (meets-accept p u (up.Accept u) _ _ _ _ v w refl refl m e)
 accept-traced storage s h p t q u v w k may false m e = refl
 
 offer-traced : (returns : Bool) (storage : Contents) (s : SubchannelState) (h : HoldState) (t q p : ℕ) (x : Up) (k : ProgramTrace) (v w : ℕ) →
     (takes_up returns storage (with_hold s h (hold.Offer t q)) p x).step.state.hold.phase ≡ hold.Offer v w → trace_meets storage (with_hold s h (hold.Offer t q)) p x k ≡ k
 offer-traced returns storage s h t q p (up.Accept u) k v w e =
-    accept-traced storage s h p t q u v w k (goes_ahead s) (u == t) (takes-meets returns storage (with_hold s h (hold.Offer t q)) p (up.Accept u)) e
+    accept-traced storage s h p t q u v w k (takes_device s) (u == t) (takes-meets returns storage (with_hold s h (hold.Offer t q)) p (up.Accept u)) e
 offer-traced returns storage s h t q p x k v w e = refl
 
 traced-same : (returns : Bool) (storage : Contents) (s : SubchannelState) (t q p : ℕ) (x : Up) (k : ProgramTrace) (v w : ℕ) → s.hold.phase ≡ hold.Offer t q →

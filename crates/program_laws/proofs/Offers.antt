@@ -11,7 +11,7 @@ use Rattle.subchannel_model.specs.declared.state.ActiveProgram.{ActiveProgram}
 use Rattle.subchannel_model.specs.declared.state.Program.{Program}
 use Rattle.subchannel_model.specs.declared.state.ProgramPosition.{ProgramPosition}
 use Rattle.subchannel_model.specs.declared.state.SubchannelState.{SubchannelState}
-use Rattle.subchannel_model.specs.Taking.{goes_ahead, from_start, suspended_as, standing_as, standing}
+use Rattle.subchannel_model.specs.Accept.{takes_device, position_at_start, suspended_position, position_of_start, offered_position}
 use Rattle.program_laws.specs.Traces.{CommandTrace, no_trace, ProgramTrace, past_part}
 use Rattle.program_laws.specs.Tells.{IsOver}
 use Rattle.program_laws.proofs.Holds.{IsStanding}
@@ -44,11 +44,11 @@ with-same k orb earlier now e f g =
     ∙ ap (λ (x : CommandTrace). (let y : ProgramTrace = record k { now = x } in y)) g
 
 start-same : (b : Bool) (program : Program) (st : Option ProgramPosition) (start : ℕ) (k : ProgramTrace) → (program.start == start) ≡ b → st ≡ None →
-    is_some (if b then Some (from_start program) else suspended_as st start) ≡ true → IsOfferedStart (Some program) start k → beginning (Some program) k ≡ k
+    is_some (if b then Some (position_at_start program) else suspended_position st start) ≡ true → IsOfferedStart (Some program) start k → beginning (Some program) k ≡ k
 start-same true program st start k e n h f =
     let same = f (eqb-true program.start start e) in
     with-same k program.orb 0 no_trace same.0 (sym same.1) (sym same.2)
-start-same false program st start k e n h f = absurd (cc (sym (ap (λ (o : Option ProgramPosition). is_some (suspended_as o start)) n) ∙ h))
+start-same false program st start k e n h f = absurd (cc (sym (ap (λ (o : Option ProgramPosition). is_some (suspended_position o start)) n) ∙ h))
 
 position-same : (b : Bool) (st : ProgramPosition) (start : ℕ) (k : ProgramTrace) → (st.program.start == start) ≡ b → is_some (if b then Some st else None) ≡ true →
     IsOfferedPosition (Some st) start k → beginning None k ≡ k
@@ -61,7 +61,7 @@ stands-alone : (program : Program) (b : Option ActiveProgram) (st : Option Progr
 stands-alone program b None k x = refl
 stands-alone program b (Some st) k x = absurd (cc x.0)
 
-pub begins-same : (w : Option Program) (b : Option ActiveProgram) (st : Option ProgramPosition) (start : ℕ) (k : ProgramTrace) → is_some (standing_as w st start) ≡ true →
+pub begins-same : (w : Option Program) (b : Option ActiveProgram) (st : Option ProgramPosition) (start : ℕ) (k : ProgramTrace) → is_some (position_of_start w st start) ≡ true →
     IsStanding w b st k → IsOfferedStart w start k → IsOfferedPosition st start k → beginning w k ≡ k
 begins-same None b None start k h x f g = absurd (cc h)
 begins-same None b (Some st) start k h x f g = position-same (st.program.start == start) st start k refl h g
@@ -74,25 +74,25 @@ position-there : (st : ProgramPosition) (start : ℕ) (b : Bool) → (st.program
 position-there st start true e h g = g st refl (eqb-true st.program.start start e)
 position-there st start false e h g = absurd (cc h)
 
-suspended-there : (st : Option ProgramPosition) (start : ℕ) → is_some (suspended_as st start) ≡ true →
+suspended-there : (st : Option ProgramPosition) (start : ℕ) → is_some (suspended_position st start) ≡ true →
     ((position : ProgramPosition) → st ≡ Some position → position.program.start ≡ start → ⊥) → ⊥
 suspended-there None start h g = absurd (cc h)
 suspended-there (Some st) start h g = position-there st start (st.program.start == start) refl h g
 
 start-there : (program : Program) (st : Option ProgramPosition) (start : ℕ) (b : Bool) → (program.start == start) ≡ b →
-    is_some (if b then Some (from_start program) else suspended_as st start) ≡ true →
+    is_some (if b then Some (position_at_start program) else suspended_position st start) ≡ true →
     ((x : Program) → Some program ≡ Some x → x.start ≡ start → ⊥) → ((position : ProgramPosition) → st ≡ Some position → position.program.start ≡ start → ⊥) → ⊥
 start-there program st start true e h f g = f program refl (eqb-true program.start start e)
 start-there program st start false e h f g = suspended-there st start h g
 
-stands-there : (w : Option Program) (st : Option ProgramPosition) (start : ℕ) → is_some (standing_as w st start) ≡ true →
+stands-there : (w : Option Program) (st : Option ProgramPosition) (start : ℕ) → is_some (position_of_start w st start) ≡ true →
     ((program : Program) → w ≡ Some program → program.start ≡ start → ⊥) → ((position : ProgramPosition) → st ≡ Some position → position.program.start ≡ start → ⊥) → ⊥
 stands-there None st start h f g = suspended-there st start h g
 stands-there (Some program) st start h f g = start-there program st start (program.start == start) refl h f g
 
-pub ahead-over : (s : SubchannelState) → goes_ahead s ≡ true → IsOver s → ⊥
+pub ahead-over : (s : SubchannelState) → takes_device s ≡ true → IsOver s → ⊥
 ahead-over s e (inl h) =
-    let parts = and_parts (is_some (standing s)) (not s.scsw.activity.halt_pending) e in
+    let parts = and_parts (is_some (offered_position s)) (not s.scsw.activity.halt_pending) e in
     cc (sym (ap not h) ∙ parts.1)
 ahead-over s e (inr x) =
-    stands-there s.waiting s.suspended s.offered (and_parts (is_some (standing s)) (not s.scsw.activity.halt_pending) e).0 x.0 x.1
+    stands-there s.waiting s.suspended s.offered (and_parts (is_some (offered_position s)) (not s.scsw.activity.halt_pending) e).0 x.0 x.1

@@ -33,7 +33,8 @@ use Rattle.subchannel_model.specs.Resume.{resumed}
 use Rattle.subchannel_model.specs.Sending.{carried_by, finds_full}
 use Rattle.subchannel_model.specs.Start.{started}
 use Rattle.subchannel_model.specs.Status.{intermediate_alone, without_status}
-use Rattle.subchannel_model.specs.Taking.{goes_ahead, standing, standing_as, suspended_as, from_start, takes_up}
+use Rattle.subchannel_model.specs.Accept.{takes_device, offered_position, position_of_start, suspended_position, position_at_start}
+use Rattle.subchannel_model.specs.Taking.{takes_up}
 use Rattle.subchannel_model.specs.Test.{tested_scsw, ended_scsw, suspended_scsw, ends_suspended, tested, tested_wholly}
 use Rattle.machine_model.specs.ChooseSteps.{choose_sub}
 use Rattle.machine_model.specs.PathSteps.{swept}
@@ -92,10 +93,10 @@ and-both : (a b : Bool) → a ≡ true → b ≡ true → (a && b) ≡ true
 and-both true b e f = f
 and-both false b e f = absurd (cc e)
 
-test-ahead : (s : SubchannelState) → goes_ahead s ≡ true → goes_ahead (tested s) ≡ true
+test-ahead : (s : SubchannelState) → takes_device s ≡ true → takes_device (tested s) ≡ true
 test-ahead s e =
-    let parts = and_parts (is_some (standing s)) (not s.scsw.activity.halt_pending) e in
-    and-both (is_some (standing s)) (not (tested_scsw s.scsw).activity.halt_pending) parts.0
+    let parts = and_parts (is_some (offered_position s)) (not s.scsw.activity.halt_pending) e in
+    and-both (is_some (offered_position s)) (not (tested_scsw s.scsw).activity.halt_pending) parts.0
     (test-halt s.scsw s.scsw.status.pending (intermediate_alone s.scsw.status) s.scsw.activity.suspended s.scsw.functions.halt parts.1)
 
 test-just : (over : Bool) (s : SubchannelState) → IsJust over s → IsJust (over || ends_suspended s.scsw) (tested_wholly s)
@@ -183,39 +184,39 @@ chosen-ahead sub choice =
     (rest-ahead s s.scsw.activity.halt_pending (candidate s) (is_any (reachable_paths (path_use sub))) choice s.hold.phase refl refl)))
 
 -- it stands
-suspended-stands : (st : ProgramPosition) → is_some (suspended_as (Some st) st.program.start) ≡ true
+suspended-stands : (st : ProgramPosition) → is_some (suspended_position (Some st) st.program.start) ≡ true
 suspended-stands st = ap (λ (b : Bool). is_some (if b then Some st else None)) (eq-eqb st.program.start st.program.start refl)
 
-either-stands : (w : Option Program) (st : ProgramPosition) → is_some (standing_as w (Some st) st.program.start) ≡ true
+either-stands : (w : Option Program) (st : ProgramPosition) → is_some (position_of_start w (Some st) st.program.start) ≡ true
 either-stands None st = suspended-stands st
 either-stands (Some program) st = by (program.start == st.program.start)
   where
-    by : (b : Bool) → is_some (if b then Some (from_start program) else suspended_as (Some st) st.program.start) ≡ true
+    by : (b : Bool) → is_some (if b then Some (position_at_start program) else suspended_position (Some st) st.program.start) ≡ true
     by true = refl
     by false = suspended-stands st
 
-waiting-stands : (program : Program) (st : Option ProgramPosition) → is_some (standing_as (Some program) st program.start) ≡ true
-waiting-stands program st = ap (λ (b : Bool). is_some (if b then Some (from_start program) else suspended_as st program.start)) (eq-eqb program.start program.start refl)
+waiting-stands : (program : Program) (st : Option ProgramPosition) → is_some (position_of_start (Some program) st program.start) ≡ true
+waiting-stands program st = ap (λ (b : Bool). is_some (if b then Some (position_at_start program) else suspended_position st program.start)) (eq-eqb program.start program.start refl)
 
 resuming-stands : (w : Option Program) (pending : Bool) (st : Option ProgramPosition) (c : Candidate) → first_some (resuming pending st ∷ []) ≡ Some c →
-    is_some (standing_as w st c.program.start) ≡ true
+    is_some (position_of_start w st c.program.start) ≡ true
 resuming-stands w false st c e = absurd (cc e)
 resuming-stands w true None c e = absurd (cc e)
 resuming-stands w true (Some st) c e =
     let same : st.program ≡ c.program = ap (λ (x : Option Program). unwrap_or x st.program) (ap (λ (o : Option Candidate). option_map (λ (y : Candidate). y.program) o) e) in
-    subst (λ (p : Program). is_some (standing_as w (Some st) p.start) ≡ true) same (either-stands w st)
+    subst (λ (p : Program). is_some (position_of_start w (Some st) p.start) ≡ true) same (either-stands w st)
 
 found-stands : (w : Option Program) (first second : Bool) (st : Option ProgramPosition) (c : Candidate) → first_some (starting first w ∷ resuming second st ∷ []) ≡ Some c →
-    is_some (standing_as w st c.program.start) ≡ true
+    is_some (position_of_start w st c.program.start) ≡ true
 found-stands w false second st c e = resuming-stands w second st c e
 found-stands None true second st c e = resuming-stands None second st c e
 found-stands (Some program) true second st c e =
     let same : program ≡ c.program = ap (λ (x : Option Program). unwrap_or x program) (ap (λ (o : Option Candidate). option_map (λ (y : Candidate). y.program) o) e) in
-    subst (λ (p : Program). is_some (standing_as (Some program) st p.start) ≡ true) same (waiting-stands program st)
+    subst (λ (p : Program). is_some (position_of_start (Some program) st p.start) ≡ true) same (waiting-stands program st)
 
 offers-tied : (s : SubchannelState) (c : Candidate) (path : ℕ) → s.scsw.activity.halt_pending ≡ false → candidate s ≡ Some c → Tied false (offered s c.program path)
 offers-tied s c path h e = λ t q o.
-    and-both (is_some (standing_as s.waiting s.suspended c.program.start)) (not s.scsw.activity.halt_pending)
+    and-both (is_some (position_of_start s.waiting s.suspended c.program.start)) (not s.scsw.activity.halt_pending)
     (found-stands s.waiting s.scsw.activity.start_pending s.scsw.activity.resume_pending s.suspended c e) (ap not h)
 
 abbrev pub IsTurn : Bool → SubTurn → Type 0
@@ -289,13 +290,13 @@ reset-owned over s false k = (reset-within s false k.0, reset-tied over (reset_w
 pub same-just : (over : Bool) (s x : SubchannelState) → x.waiting ≡ s.waiting → x.suspended ≡ s.suspended → x.offered ≡ s.offered → x.scsw ≡ s.scsw → IsJust over s → IsJust over x
 same-just true s x w st o c (inl h) = inl (ap (λ (y : Scsw). y.activity.halt_pending) c ∙ h.0, ap (λ (y : Scsw). shows_end y.status) c ∙ h.1)
 same-just true s x w st o c (inr e) =
-    inr (ap (λ (y : Option Program). standing_as y x.suspended x.offered) w ∙ ap (λ (y : Option ProgramPosition). standing_as s.waiting y x.offered) st
-    ∙ ap (λ (y : ℕ). standing_as s.waiting s.suspended y) o ∙ e)
+    inr (ap (λ (y : Option Program). position_of_start y x.suspended x.offered) w ∙ ap (λ (y : Option ProgramPosition). position_of_start s.waiting y x.offered) st
+    ∙ ap (λ (y : ℕ). position_of_start s.waiting s.suspended y) o ∙ e)
 same-just false s x w st o c e =
-    ap (λ (y : Option Program). is_some (standing_as y x.suspended x.offered) && not x.scsw.activity.halt_pending) w
-    ∙ ap (λ (y : Option ProgramPosition). is_some (standing_as s.waiting y x.offered) && not x.scsw.activity.halt_pending) st
-    ∙ ap (λ (y : ℕ). is_some (standing_as s.waiting s.suspended y) && not x.scsw.activity.halt_pending) o
-    ∙ ap (λ (y : Scsw). is_some (standing s) && not y.activity.halt_pending) c ∙ e
+    ap (λ (y : Option Program). is_some (position_of_start y x.suspended x.offered) && not x.scsw.activity.halt_pending) w
+    ∙ ap (λ (y : Option ProgramPosition). is_some (position_of_start s.waiting y x.offered) && not x.scsw.activity.halt_pending) st
+    ∙ ap (λ (y : ℕ). is_some (position_of_start s.waiting s.suspended y) && not x.scsw.activity.halt_pending) o
+    ∙ ap (λ (y : Scsw). is_some (offered_position s) && not y.activity.halt_pending) c ∙ e
 
 pub swept-owned : (over : Bool) (what : Sweep) (x : Subchannel) → Owned over x.state → Owned over (swept what x).state
 swept-owned over what x k =

@@ -13,8 +13,8 @@ use Rattle.ccw_walk.specs.declared.program.Advance.{Advance}
 use Rattle.ccw_walk.specs.declared.program.Advance.TheVariants as advance
 use Rattle.ccw_walk.specs.Acts.{Act}
 use Rattle.ccw_walk.specs.Programs.{IsProgram, Command, role_of, next, commands, code}
-use Rattle.ccw_walk.specs.Walks.{WalkPlace, walk_place, advance_acts, after_acts, advance_of}
-use Rattle.ccw_walk.proofs.Named.{after_used_up}
+use Rattle.ccw_walk.specs.Places.{WalkPlace, walk_place, after_acts, after_count_used_up}
+use Rattle.ccw_walk.specs.Advancing.{advance_acts, advance_of_acts}
 use Rattle.idaw.specs.declared.WordFault.{WordFault}
 use Rattle.idaw.specs.Lists.{word_fault}
 use Rattle.idaw.specs.Places.{each_below}
@@ -25,8 +25,9 @@ use Rattle.transfer.specs.declared.Beginning.{Beginning}
 use Rattle.transfer.specs.declared.CommandStart.{CommandStart}
 use Rattle.transfer.specs.declared.CommandStart.TheVariants as came
 use Rattle.transfer.specs.Commands.{goes_to, located_transfer, with_located, begun_with_room, with_room, brings, has_stopped}
-use Rattle.transfer.specs.Chunks.{chains_data, chained_to, chained, with_moved, moved_on, with_answer, taken_by_device, given_bytes, given_from, next_given, brought_by, brought_in, brought, fitting}
-use Rattle.transfer.proofs.Named.{next_chunk_of}
+use Rattle.transfer.specs.DataChaining.{chains_data, with_next_ccw, data_chained, with_bytes_moved, after_bytes_moved}
+use Rattle.transfer.specs.ToDevice.{with_chunk_counted, chunk_absorbed, with_bytes_offered, chunk_at_place, next_chunk, with_bytes_fetched}
+use Rattle.transfer.specs.FromDevice.{after_store, bytes_brought_in, chunk_stored, fitting_bytes}
 use Rattle.program_laws.specs.DataAreas.{data_areas}
 use Rattle.program_laws.proofs.MachineActs as doing
 use Rattle.program_laws.specs.Traces.{CommandTrace, Arrival}
@@ -37,7 +38,7 @@ use Rattle.program_laws.proofs.Accesses.{AreAccesses, IsStore, stored-bytes}
 use Rattle.program_laws.proofs.Ties.{AreLaws, IsFresh, Tied, changed, spot-begins, Begins, goes-begins, located-tied, room-tied}
 use Rattle.program_laws.specs.Reached.{room_of, BeginsData}
 use Rattle.program_laws.proofs.Kept.{room-same as reached-room, short-same, located-kept}
-use Rattle.program_laws.proofs.Chainings.{moved_on-tied}
+use Rattle.program_laws.proofs.Chainings.{after_bytes_moved-tied}
 
 -- the command at work and its code stay
 abbrev pub IsSame : Transfer → Transfer → Type 0
@@ -46,21 +47,21 @@ IsSame t u = (u.code ≡ t.code) × (u.command ≡ t.command)
 same-trans : (t u v : Transfer) → IsSame t u → IsSame u v → IsSame t v
 same-trans t u v a b = (b.0 ∙ a.0, b.1 ∙ a.1)
 
-chained_to-same : (t : Transfer) (walk : WalkPlace) (a : Option Advance) → IsSame t (chained_to t walk a)
-chained_to-same t walk (Some (advance.Takes ccw)) = (refl, refl)
-chained_to-same t walk other = (refl, refl)
+with_next_ccw-same : (t : Transfer) (walk : WalkPlace) (a : Option Advance) → IsSame t (with_next_ccw t walk a)
+with_next_ccw-same t walk (Some (advance.Takes ccw)) = (refl, refl)
+with_next_ccw-same t walk other = (refl, refl)
 
-chained-same : (storage : Contents) (t : Transfer) → IsSame t (chained storage t)
+chained-same : (storage : Contents) (t : Transfer) → IsSame t (data_chained storage t)
 chained-same storage t =
-    let old : WalkPlace = after_used_up t.walk in
-    chained_to-same t (after_acts old (advance_acts storage old)) (advance_of old (advance_acts storage old))
+    let old : WalkPlace = after_count_used_up t.walk in
+    with_next_ccw-same t (after_acts old (advance_acts storage old)) (advance_of_acts old (advance_acts storage old))
 
-moved_on-if : (storage : Contents) (t : Transfer) (n : ℕ) (b : Bool) → IsSame t (if b then chained storage (with_moved t n) else with_moved t n)
-moved_on-if storage t n true = chained-same storage (with_moved t n)
-moved_on-if storage t n false = (refl, refl)
+after_bytes_moved-if : (storage : Contents) (t : Transfer) (n : ℕ) (b : Bool) → IsSame t (if b then data_chained storage (with_bytes_moved t n) else with_bytes_moved t n)
+after_bytes_moved-if storage t n true = chained-same storage (with_bytes_moved t n)
+after_bytes_moved-if storage t n false = (refl, refl)
 
-pub moved_on-same : (storage : Contents) (t : Transfer) (n : ℕ) → IsSame t (moved_on storage t n)
-moved_on-same storage t n = moved_on-if storage t n (chains_data (with_moved t n) n)
+pub after_bytes_moved-same : (storage : Contents) (t : Transfer) (n : ℕ) → IsSame t (after_bytes_moved storage t n)
+after_bytes_moved-same storage t n = after_bytes_moved-if storage t n (chains_data (with_bytes_moved t n) n)
 
 with_located-same : (t : Transfer) (r : Result Moving Check) → IsSame t (with_located t r)
 with_located-same t (Ok m) = (refl, refl)
@@ -81,60 +82,60 @@ pub room-same : (storage : Contents) (t : Transfer) → IsSame t (begun_with_roo
 room-same storage t = room-if storage t (brings (class_of t.code))
 
 absorbed-if : (storage : Contents) (t : Transfer) (s count : ℕ) (b : Bool) →
-    IsSame t (if b then moved_on storage (with_answer t s count) (min count (room t.moving)) else t)
-absorbed-if storage t s count true = moved_on-same storage (with_answer t s count) (min count (room t.moving))
+    IsSame t (if b then after_bytes_moved storage (with_chunk_counted t s count) (min count (room t.moving)) else t)
+absorbed-if storage t s count true = after_bytes_moved-same storage (with_chunk_counted t s count) (min count (room t.moving))
 absorbed-if storage t s count false = (refl, refl)
 
-pub absorbed-same : (storage : Contents) (t : Transfer) (s count : ℕ) → IsSame t (taken_by_device storage t s count)
+pub absorbed-same : (storage : Contents) (t : Transfer) (s count : ℕ) → IsSame t (chunk_absorbed storage t s count)
 absorbed-same storage t s count = absorbed-if storage t s count (s == t.sequence + 1)
 
-given_of-same : (t : Transfer) (r : Result (List ℕ) Check) → IsSame t (next_chunk_of t r).transfer
+given_of-same : (t : Transfer) (r : Result (List ℕ) Check) → IsSame t (with_bytes_fetched t r).transfer
 given_of-same t (Ok bytes) = (refl, refl)
 given_of-same t (Err check) = (refl, refl)
 
-given-if : (t : Transfer) (r : Result (List ℕ) Check) (b : Bool) → IsSame t (if b then given_bytes t [] else next_chunk_of t r).transfer
+given-if : (t : Transfer) (r : Result (List ℕ) Check) (b : Bool) → IsSame t (if b then with_bytes_offered t [] else with_bytes_fetched t r).transfer
 given-if t r true = (refl, refl)
 given-if t r false = given_of-same t r
 
-given-same : (storage : Contents) (t : Transfer) → IsSame t (given_from storage t).transfer
+given-same : (storage : Contents) (t : Transfer) → IsSame t (chunk_at_place storage t).transfer
 given-same storage t = given-if t (access.copied storage t.walk.orb.key t.moving) (has_stopped t)
 
-pub next_given-same : (storage : Contents) (t : Transfer) → IsSame t (next_given storage t).transfer
-next_given-same storage t = same-trans t (located_transfer storage t) (next_given storage t).transfer (located-same storage t) (given-same storage (located_transfer storage t))
+pub next_chunk-same : (storage : Contents) (t : Transfer) → IsSame t (next_chunk storage t).transfer
+next_chunk-same storage t = same-trans t (located_transfer storage t) (next_chunk storage t).transfer (located-same storage t) (given-same storage (located_transfer storage t))
 
-brought_by-same : (storage : Contents) (t : Transfer) (n : ℕ) (r : Result Contents Check) → IsSame t (brought_by storage t n r).transfer
-brought_by-same storage t n (Ok after) = moved_on-same after t n
-brought_by-same storage t n (Err check) = (refl, refl)
+after_store-same : (storage : Contents) (t : Transfer) (n : ℕ) (r : Result Contents Check) → IsSame t (after_store storage t n r).transfer
+after_store-same storage t n (Ok after) = after_bytes_moved-same after t n
+after_store-same storage t n (Err check) = (refl, refl)
 
 brought-in-if : (storage : Contents) (t : Transfer) (n : ℕ) (r : Result Contents Check) (b : Bool) →
-    IsSame t (if b then record { transfer = t; storage = storage } else brought_by storage t n r).transfer
+    IsSame t (if b then record { transfer = t; storage = storage } else after_store storage t n r).transfer
 brought-in-if storage t n r true = (refl, refl)
-brought-in-if storage t n r false = brought_by-same storage t n r
+brought-in-if storage t n r false = after_store-same storage t n r
 
 brought-if : (storage : Contents) (t : Transfer) (s : ℕ) (bytes : List ℕ) (b : Bool) →
-    IsSame t (if b then brought_in storage (record t { sequence = s }) (fitting t bytes) else record { transfer = t; storage = storage }).transfer
+    IsSame t (if b then bytes_brought_in storage (record t { sequence = s }) (fitting_bytes t bytes) else record { transfer = t; storage = storage }).transfer
 brought-if storage t s bytes true =
-    brought-in-if storage (record t { sequence = s }) (length (fitting t bytes)) (access.stored_or_skipped storage t.walk.orb.key t.moving (fitting t bytes)) (is_some t.fault)
+    brought-in-if storage (record t { sequence = s }) (length (fitting_bytes t bytes)) (access.stored_or_skipped storage t.walk.orb.key t.moving (fitting_bytes t bytes)) (is_some t.fault)
 brought-if storage t s bytes false = (refl, refl)
 
-pub brought-same : (storage : Contents) (t : Transfer) (s : ℕ) (bytes : List ℕ) → IsSame t (brought storage t s bytes).transfer
+pub brought-same : (storage : Contents) (t : Transfer) (s : ℕ) (bytes : List ℕ) → IsSame t (chunk_stored storage t s bytes).transfer
 brought-same storage t s bytes = brought-if storage t s bytes (s == t.sequence + 1)
 
 -- a fault stays, and so does the place of the Data that came last
 abbrev pub IsThrough : Transfer → Transfer → Type 0
 IsThrough t u = (u.sequence ≡ t.sequence) × (u.fault ≡ None → t.fault ≡ None)
 
-chained_to-through : (t : Transfer) (walk : WalkPlace) (a : Option Advance) → IsThrough t (chained_to t walk a)
-chained_to-through t walk (Some (advance.Takes ccw)) = (refl, λ e. e)
-chained_to-through t walk (Some advance.Suspends) = (refl, λ e. absurd (cc e))
-chained_to-through t walk (Some (advance.Stops check)) = (refl, λ e. absurd (cc e))
-chained_to-through t walk None = (refl, λ e. e)
+with_next_ccw-through : (t : Transfer) (walk : WalkPlace) (a : Option Advance) → IsThrough t (with_next_ccw t walk a)
+with_next_ccw-through t walk (Some (advance.Takes ccw)) = (refl, λ e. e)
+with_next_ccw-through t walk (Some advance.Suspends) = (refl, λ e. absurd (cc e))
+with_next_ccw-through t walk (Some (advance.Stops check)) = (refl, λ e. absurd (cc e))
+with_next_ccw-through t walk None = (refl, λ e. e)
 
-pub moved_on-through : (storage : Contents) (t : Transfer) (n : ℕ) (b : Bool) → IsThrough t (if b then chained storage (with_moved t n) else with_moved t n)
-moved_on-through storage t n true =
-    let old : WalkPlace = after_used_up t.walk in
-    chained_to-through (with_moved t n) (after_acts old (advance_acts storage old)) (advance_of old (advance_acts storage old))
-moved_on-through storage t n false = (refl, λ e. e)
+pub after_bytes_moved-through : (storage : Contents) (t : Transfer) (n : ℕ) (b : Bool) → IsThrough t (if b then data_chained storage (with_bytes_moved t n) else with_bytes_moved t n)
+after_bytes_moved-through storage t n true =
+    let old : WalkPlace = after_count_used_up t.walk in
+    with_next_ccw-through (with_bytes_moved t n) (after_acts old (advance_acts storage old)) (advance_of_acts old (advance_acts storage old))
+after_bytes_moved-through storage t n false = (refl, λ e. e)
 
 pub located-through : (t : Transfer) (r : Result Moving Check) (b : Bool) → IsThrough t (if b then t else with_located t r)
 located-through t r true = (refl, λ e. e)
@@ -187,18 +188,18 @@ room-left t n =
     omega (arith, f, g)
 
 -- bytes that are moved
-pub fitting-left : (t : Transfer) (bytes : List ℕ) → length (fitting t bytes) ≤ t.moving.left
+pub fitting-left : (t : Transfer) (bytes : List ℕ) → length (fitting_bytes t bytes) ≤ t.moving.left
 fitting-left t bytes =
     let e : length (take (room t.moving) bytes) ≡ min (room t.moving) (length bytes) = length-take (room t.moving) bytes in
     let f : min (room t.moving) (length bytes) ≤ room t.moving = min-le_left (room t.moving) (length bytes) in
     let g : room t.moving ≤ t.moving.left = min-le_left t.moving.left 256 in
     omega (arith, e, f, g)
 
-pub moved_on-parts : (storage : Contents) (t : Transfer) (n : ℕ) (p : CommandTrace) (b : Bool) →
-    let q : CommandTrace = if b then with_acts (with_places p t.moving n) (chained_acts storage (with_moved t n)) else with_places p t.moving n in
+pub after_bytes_moved-parts : (storage : Contents) (t : Transfer) (n : ℕ) (p : CommandTrace) (b : Bool) →
+    let q : CommandTrace = if b then with_acts (with_places p t.moving n) (chained_acts storage (with_bytes_moved t n)) else with_places p t.moving n in
     (_ : q.moved ≡ p.moved ++ each_below (next_place t.moving) n) × (q.arrived ≡ p.arrived)
-moved_on-parts storage t n p true = (refl, refl)
-moved_on-parts storage t n p false = (refl, refl)
+after_bytes_moved-parts storage t n p true = (refl, refl)
+after_bytes_moved-parts storage t n p false = (refl, refl)
 
 -- so many commands were sent under earlier numbers
 module _ (earlier : ℕ) where
@@ -237,24 +238,24 @@ module _ (earlier : ℕ) where
       }
 
   module _ (laws : AreLaws) where
-    moved_on-out : (storage : Contents) (orb : Orb) (p : CommandTrace) (t : Transfer) (n : ℕ) → n ≤ t.moving.left → IsAtWork orb p t true →
-        IsAtWork orb (doing.trace_moved_on storage t n p) (moved_on storage t n) true
-    moved_on-out storage orb p t n l k = record {
-      tied = moved_on-tied laws earlier storage orb p t n l k.tied;
-      arrived = (moved_on-parts storage t n p (chains_data (with_moved t n) n)).1 ∙ k.arrived;
+    after_bytes_moved-out : (storage : Contents) (orb : Orb) (p : CommandTrace) (t : Transfer) (n : ℕ) → n ≤ t.moving.left → IsAtWork orb p t true →
+        IsAtWork orb (doing.trace_moved_on storage t n p) (after_bytes_moved storage t n) true
+    after_bytes_moved-out storage orb p t n l k = record {
+      tied = after_bytes_moved-tied laws earlier storage orb p t n l k.tied;
+      arrived = (after_bytes_moved-parts storage t n p (chains_data (with_bytes_moved t n) n)).1 ∙ k.arrived;
     }
 
     -- a Data of a command that takes bytes to the device
-    pub answer-tied : (orb : Orb) (p : CommandTrace) (t : Transfer) (s count : ℕ) → IsAtWork orb p t true → IsAtWork orb p (with_answer t s count) true
+    pub answer-tied : (orb : Orb) (p : CommandTrace) (t : Transfer) (s count : ℕ) → IsAtWork orb p t true → IsAtWork orb p (with_chunk_counted t s count) true
     answer-tied orb p t s count k = record {
-      tied = changed earlier orb p.acts p.moved t (with_answer t s count) refl refl refl refl (λ e. e) (λ e. e) k.tied;
+      tied = changed earlier orb p.acts p.moved t (with_chunk_counted t s count) refl refl refl refl (λ e. e) (λ e. e) k.tied;
       arrived = k.arrived;
     }
 
     pub answer-by : (storage : Contents) (orb : Orb) (p : CommandTrace) (t : Transfer) (s count : ℕ) (b : Bool) → IsAtWork orb p t true →
-        IsAtWork orb (if b then doing.trace_moved_on storage (with_answer t s count) (min count (room t.moving)) p else p)
-        (if b then moved_on storage (with_answer t s count) (min count (room t.moving)) else t) true
-    answer-by storage orb p t s count true k = moved_on-out storage orb p (with_answer t s count) (min count (room t.moving)) (room-left t count) (answer-tied orb p t s count k)
+        IsAtWork orb (if b then doing.trace_moved_on storage (with_chunk_counted t s count) (min count (room t.moving)) p else p)
+        (if b then after_bytes_moved storage (with_chunk_counted t s count) (min count (room t.moving)) else t) true
+    answer-by storage orb p t s count true k = after_bytes_moved-out storage orb p (with_chunk_counted t s count) (min count (room t.moving)) (room-left t count) (answer-tied orb p t s count k)
     answer-by storage orb p t s count false k = k
 
     pub located-work : (storage : Contents) (orb : Orb) (p : CommandTrace) (t : Transfer) (d : Bool) → IsAtWork orb p t d →
@@ -268,33 +269,33 @@ module _ (earlier : ℕ) where
         }
 
     given-by : (storage : Contents) (orb : Orb) (p : CommandTrace) (t : Transfer) (r : Result (List ℕ) Check) → IsAtWork orb p t true →
-        IsAtWork orb (with_copy storage t r p) (next_chunk_of t r).transfer true
+        IsAtWork orb (with_copy storage t r p) (with_bytes_fetched t r).transfer true
     given-by storage orb p t (Ok bytes) k = record {
-      tied = changed earlier orb p.acts p.moved t (next_chunk_of t (Ok bytes)).transfer refl refl refl refl (λ e. e) (λ e. e) k.tied;
+      tied = changed earlier orb p.acts p.moved t (with_bytes_fetched t (Ok bytes)).transfer refl refl refl refl (λ e. e) (λ e. e) k.tied;
       arrived = k.arrived;
     }
     given-by storage orb p t (Err check) k = record {
-      tied = changed earlier orb p.acts p.moved t (next_chunk_of t (Err check)).transfer refl refl refl refl (λ e. absurd (cc e)) (λ e. refl) k.tied;
+      tied = changed earlier orb p.acts p.moved t (with_bytes_fetched t (Err check)).transfer refl refl refl refl (λ e. absurd (cc e)) (λ e. refl) k.tied;
       arrived = k.arrived;
     }
 
     copy-by : (storage : Contents) (orb : Orb) (p : CommandTrace) (t : Transfer) (r : Result (List ℕ) Check) (b : Bool) → IsAtWork orb p t true →
-        IsAtWork orb (if b then p else with_copy storage t r p) (if b then given_bytes t [] else next_chunk_of t r).transfer true
+        IsAtWork orb (if b then p else with_copy storage t r p) (if b then with_bytes_offered t [] else with_bytes_fetched t r).transfer true
     copy-by storage orb p t r true k = record {
       tied = changed earlier orb p.acts p.moved t (record t { offered = 0 }) refl refl refl refl (λ e. e) (λ e. e) k.tied;
       arrived = k.arrived;
     }
     copy-by storage orb p t r false k = given-by storage orb p t r k
 
-    giving-work : (storage : Contents) (orb : Orb) (p : CommandTrace) (t : Transfer) → IsAtWork orb p t true → IsAtWork orb (trace_giving storage t p) (next_given storage t).transfer true
+    giving-work : (storage : Contents) (orb : Orb) (p : CommandTrace) (t : Transfer) → IsAtWork orb p t true → IsAtWork orb (trace_giving storage t p) (next_chunk storage t).transfer true
     giving-work storage orb p t k =
         let u : Transfer = located_transfer storage t in
         copy-by storage orb (with_acts p (located_acts storage t)) u (access.copied storage u.walk.orb.key u.moving) (has_stopped u) (located-work storage orb p t true k)
 
     pub gives-work : (storage : Contents) (orb : Orb) (p : CommandTrace) (t : Transfer) (s count : ℕ) → IsAtWork orb p t true →
-        IsAtWork orb (gives storage t s count p) (next_given storage (taken_by_device storage t s count)).transfer true
+        IsAtWork orb (gives storage t s count p) (next_chunk storage (chunk_absorbed storage t s count)).transfer true
     gives-work storage orb p t s count k =
-        let w = giving-work storage orb (trace_answered storage t s count p) (taken_by_device storage t s count) (answer-by storage orb p t s count (s == t.sequence + 1) k) in
+        let w = giving-work storage orb (trace_answered storage t s count p) (chunk_absorbed storage t s count) (answer-by storage orb p t s count (s == t.sequence + 1) k) in
         record { tied = w.tied; arrived = w.arrived }
 
     -- a Data of a command that brings bytes in
@@ -307,16 +308,16 @@ module _ (earlier : ℕ) where
 
       arrival-by : (storage : Contents) (orb : Orb) (p : CommandTrace) (t : Transfer) (bytes : List ℕ) (r : Result Contents Check) → access.stored_or_skipped storage t.walk.orb.key t.moving bytes ≡ r →
           length bytes ≤ t.moving.left → IsNext orb p t →
-          IsAtWork orb (with_arrival storage t bytes r p) (brought_by storage t (length bytes) r).transfer false
+          IsAtWork orb (with_arrival storage t bytes r p) (after_store storage t (length bytes) r).transfer false
       arrival-by storage orb p t bytes (Ok after) e l k =
           let a : Arrival = record { former = storage.bytes; chunk = chunk_of after t.moving bytes } in
           let q : CommandTrace = record p { arrived = a ∷ p.arrived } in
           let parts : (_ : (doing.trace_moved_on after t (length bytes) q).moved ≡ p.moved ++ each_below (next_place t.moving) (length bytes))
           × ((doing.trace_moved_on after t (length bytes) q).arrived ≡ a ∷ p.arrived) =
-          moved_on-parts after t (length bytes) q (chains_data (with_moved t (length bytes)) (length bytes)) in
-          let x : IsThrough t (moved_on after t (length bytes)) = moved_on-through after t (length bytes) (chains_data (with_moved t (length bytes)) (length bytes)) in
+          after_bytes_moved-parts after t (length bytes) q (chains_data (with_bytes_moved t (length bytes)) (length bytes)) in
+          let x : IsThrough t (after_bytes_moved after t (length bytes)) = after_bytes_moved-through after t (length bytes) (chains_data (with_bytes_moved t (length bytes)) (length bytes)) in
           record {
-            tied = moved_on-tied laws earlier after orb q t (length bytes) l k.tied;
+            tied = after_bytes_moved-tied laws earlier after orb q t (length bytes) l k.tied;
             arrived = (
               subst (λ (xs : List Arrival). All IsStored xs) (sym parts.1) (All-cons IsStored a p.arrived (arrival-stored storage after t bytes e) k.stored),
               ap places_arrived parts.1 ∙ ap (λ (xs : List (Option ℕ)). xs ++ each_below (next_place t.moving) (length bytes)) k.places ∙ sym parts.0,
@@ -330,16 +331,16 @@ module _ (earlier : ℕ) where
 
       store-by : (storage : Contents) (orb : Orb) (p : CommandTrace) (t : Transfer) (bytes : List ℕ) (b : Bool) → is_some t.fault ≡ b → length bytes ≤ t.moving.left → IsNext orb p t →
           IsAtWork orb (if b then p else with_arrival storage t bytes (access.stored_or_skipped storage t.walk.orb.key t.moving bytes) p)
-          (if b then record { transfer = t; storage = storage } else brought_by storage t (length bytes) (access.stored_or_skipped storage t.walk.orb.key t.moving bytes)).transfer false
+          (if b then record { transfer = t; storage = storage } else after_store storage t (length bytes) (access.stored_or_skipped storage t.walk.orb.key t.moving bytes)).transfer false
       store-by storage orb p t bytes true f l k =
           record { tied = k.tied; arrived = (k.stored, k.places, λ z. absurd (cc (sym (ap (λ (x : Option Check). is_some x) z) ∙ f))) }
       store-by storage orb p t bytes false f l k = arrival-by storage orb p t bytes (access.stored_or_skipped storage t.walk.orb.key t.moving bytes) refl l k
 
       pub bring-by : (storage : Contents) (orb : Orb) (p : CommandTrace) (t : Transfer) (s : ℕ) (bytes : List ℕ) (b : Bool) → (s == t.sequence + 1) ≡ b → IsAtWork orb p t false →
-          IsAtWork orb (if b then storing storage (record t { sequence = s }) (fitting t bytes) p else p)
-          (if b then brought_in storage (record t { sequence = s }) (fitting t bytes) else record { transfer = t; storage = storage }).transfer false
+          IsAtWork orb (if b then storing storage (record t { sequence = s }) (fitting_bytes t bytes) p else p)
+          (if b then bytes_brought_in storage (record t { sequence = s }) (fitting_bytes t bytes) else record { transfer = t; storage = storage }).transfer false
       bring-by storage orb p t s bytes true is k =
-          store-by storage orb p (record t { sequence = s }) (fitting t bytes) (is_some t.fault) refl (fitting-left t bytes)
+          store-by storage orb p (record t { sequence = s }) (fitting_bytes t bytes) (is_some t.fault) refl (fitting-left t bytes)
           (record {
             tied = changed earlier orb p.acts p.moved t (record t { sequence = s }) refl refl refl refl (λ e. e) (λ e. e) k.tied;
             stored = k.arrived.0;
@@ -349,9 +350,9 @@ module _ (earlier : ℕ) where
       bring-by storage orb p t s bytes false is k = k
 
       pub takes_in-work : (storage : Contents) (orb : Orb) (p : CommandTrace) (t : Transfer) (s : ℕ) (bytes : List ℕ) → IsAtWork orb p t false →
-          IsAtWork orb (takes_in storage t s bytes p) (with_room (brought storage t s bytes).storage (brought storage t s bytes).transfer).transfer false
+          IsAtWork orb (takes_in storage t s bytes p) (with_room (chunk_stored storage t s bytes).storage (chunk_stored storage t s bytes).transfer).transfer false
       takes_in-work storage orb p t s bytes k =
-          let w = located-work (brought storage t s bytes).storage orb (arriving storage t s bytes p) (brought storage t s bytes).transfer false
+          let w = located-work (chunk_stored storage t s bytes).storage orb (arriving storage t s bytes p) (chunk_stored storage t s bytes).transfer false
           (bring-by storage orb p t s bytes (s == t.sequence + 1) refl k) in
           record { tied = w.tied; arrived = w.arrived }
 

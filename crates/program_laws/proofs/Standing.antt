@@ -15,8 +15,8 @@ use Rattle.ccw_walk.specs.declared.program.Reading.TheVariants.{Transfers, Takes
 use Rattle.ccw_walk.specs.Acts.{Act, Block, Unfetched, Used_up, End, Word}
 use Rattle.ccw_walk.specs.Blocks.{format_of, block_reads, transfer_reads, command_reads, reads}
 use Rattle.ccw_walk.specs.Programs.{next, next_after, role_of, role_after}
-use Rattle.ccw_walk.specs.Walks.{WalkPlace, walk_place, after_acts, advance_of}
-use Rattle.ccw_walk.proofs.Named.{block_advance}
+use Rattle.ccw_walk.specs.Places.{WalkPlace, walk_place, after_acts}
+use Rattle.ccw_walk.specs.Advancing.{advance_of_acts, advance_of_ccw}
 use Rattle.program_laws.specs.Claims.{IsSuspended, shows_check, has_check, EndsAtCheck}
 
 -- a block to which data is chained does not suspend the program
@@ -82,7 +82,7 @@ Stands orb acts (advance.Takes ccw) = next orb acts ≡ None
 Stands orb acts advance.Suspends = IsSuspended orb acts
 Stands orb acts (advance.Stops check) = next orb acts ≡ None
 
-block-stands : (orb : Orb) (before : List Act) (address : ℕ) (bytes : List ℕ) (a : Advance) (r : Reading) → reads orb (role_of orb before) bytes ≡ r → block_advance r ≡ Some a →
+block-stands : (orb : Orb) (before : List Act) (address : ℕ) (bytes : List ℕ) (a : Advance) (r : Reading) → reads orb (role_of orb before) bytes ≡ r → advance_of_ccw r ≡ Some a →
     Stands orb (Block address bytes ∷ before) a
 block-stands orb before address bytes a (Transfers target) e f = absurd (cc f)
 block-stands orb before address bytes a (Takes ccw) e f =
@@ -96,11 +96,11 @@ block-stands orb before address bytes a Shows e f =
     subst (λ (x : Advance). Stands orb (Block address bytes ∷ before) x) same (ap (λ (r : Reading). next_after address r) e)
 
 pub acts-stand : (orb : Orb) (before acts : List Act) (a : Advance) → ((xs : List Act) → after_acts (walk_place orb before) xs ≡ walk_place orb (xs ++ before)) →
-    advance_of (walk_place orb before) acts ≡ Some a → Stands orb (acts ++ before) a
+    advance_of_acts (walk_place orb before) acts ≡ Some a → Stands orb (acts ++ before) a
 acts-stand orb before [] a leads e = absurd (cc e)
 acts-stand orb before (Block address bytes ∷ acts) a leads e =
     block-stands orb (acts ++ before) address bytes a (reads orb (role_of orb (acts ++ before)) bytes) refl
-    (subst (λ (w : WalkPlace). block_advance (reads w.orb w.role bytes) ≡ Some a) (leads acts) e)
+    (subst (λ (w : WalkPlace). advance_of_ccw (reads w.orb w.role bytes) ≡ Some a) (leads acts) e)
 acts-stand orb before (Unfetched address check ∷ acts) a leads e =
     let same : advance.Stops check ≡ a = cc e in
     subst (λ (x : Advance). Stands orb (Unfetched address check ∷ acts ++ before) x) same refl

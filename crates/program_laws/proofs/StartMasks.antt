@@ -14,7 +14,7 @@ use Rattle.chan_model.specs.declared.answer.ConditionCode.TheVariants as code
 use Rattle.chan_model.specs.PathSets.{paths_of_mask}
 use Rattle.chan_model.specs.Signals.{Up}
 use Rattle.chan_model.specs.UnitReports.{is_last_end}
-use Rattle.ccw_walk.specs.Walks.{WalkPlace}
+use Rattle.ccw_walk.specs.Places.{WalkPlace}
 use Rattle.storage_keys.specs.Storage.{Contents}
 use Rattle.transfer.specs.declared.Transfer.{Transfer}
 use Rattle.subchannel_model.specs.declared.cause.StatusCause.{StatusCause}
@@ -28,7 +28,7 @@ use Rattle.subchannel_model.specs.Ends.{work_shown, last_shown}
 use Rattle.subchannel_model.specs.Halt.{halted, drops_status, status_dropped, halt_begun}
 use Rattle.subchannel_model.specs.Losing.{reset_with}
 use Rattle.subchannel_model.specs.Modify.{modified_state, msch_code}
-use Rattle.subchannel_model.specs.Parts.{suspended_alone, standing_still}
+use Rattle.subchannel_model.specs.Suspension.{suspended_alone, with_suspended_program}
 use Rattle.subchannel_model.specs.Programs.{without_programs}
 use Rattle.subchannel_model.specs.Resume.{resumed, rsch_code}
 use Rattle.subchannel_model.specs.declared.state.Subchannel.{Subchannel}
@@ -36,7 +36,8 @@ use Rattle.subchannel_model.specs.declared.state.PmcwState.{PmcwState}
 use Rattle.subchannel_model.specs.declared.status.Shown.{Shown}
 use Rattle.subchannel_model.specs.Status.{scsw_made, with_joined, no_device_status, no_subchannel_status, intermediate_alone, without_status}
 use Rattle.subchannel_model.specs.Test.{ended_scsw, suspended_scsw, tested, tested_wholly, ends_suspended}
-use Rattle.subchannel_model.specs.Taking.{taking_over, working, takes_up}
+use Rattle.subchannel_model.specs.Accept.{with_program_at_work, working_activity}
+use Rattle.subchannel_model.specs.Taking.{takes_up}
 use Rattle.machine_model.specs.InstructionSteps.{code_at}
 use Rattle.program_laws.proofs.Signals.{signal-kept, reset-kept}
 use Rattle.shown_laws.proofs.Fitting.{zero-two}
@@ -140,10 +141,10 @@ module _ (started : Option Orb) where
   same-masked s x w e l k =
       subst (λ (y : Scsw). Masks started x.pmcw.logical y.functions y.activity) (sym e) (subst (λ (logical : List Bool). Masks started logical s.scsw.functions s.scsw.activity) (sym l) k)
 
-  takes-masked : (s : SubchannelState) (program : Program) (transfer : Transfer) → Masked started s → Masked started (taking_over s program transfer)
-  takes-masked s program transfer k = idle s.pmcw.logical s.scsw.functions s.scsw.activity (working s.scsw.activity) refl k
+  takes-masked : (s : SubchannelState) (program : Program) (transfer : Transfer) → Masked started s → Masked started (with_program_at_work s program transfer)
+  takes-masked s program transfer k = idle s.pmcw.logical s.scsw.functions s.scsw.activity (working_activity s.scsw.activity) refl k
 
-  alone-masked : (s : SubchannelState) (program : Program) (walk : WalkPlace) (count : ℕ) → Masked started s → Masked started (record (standing_still s program walk count) { scsw = suspended_alone s.scsw })
+  alone-masked : (s : SubchannelState) (program : Program) (walk : WalkPlace) (count : ℕ) → Masked started s → Masked started (record (with_suspended_program s program walk count) { scsw = suspended_alone s.scsw })
   alone-masked s program walk count k = idle s.pmcw.logical s.scsw.functions s.scsw.activity (suspended_alone s.scsw).activity refl k
 
   pub signal-masked : (returns : Bool) (storage : Contents) (s : SubchannelState) (p : ℕ) (x : Up) → Masked started s → Masked started (takes_up returns storage s p x).step.state

@@ -11,7 +11,7 @@ use Rattle.chan_model.specs.declared.signal.Down.TheVariants as down
 use Rattle.chan_model.specs.HoldTable as hold_table
 use Rattle.chan_model.specs.HoldTable.{HoldStep}
 use Rattle.chan_events.specs.declared.reply.Reply.TheVariants as reply
-use Rattle.ccw_walk.specs.Walks.{WalkPlace}
+use Rattle.ccw_walk.specs.Places.{WalkPlace}
 use Rattle.data_move.specs.Moving.{residual}
 use Rattle.scsw_irb.specs.declared.scsw.Scsw.{Scsw}
 use Rattle.scsw_irb.specs.declared.status.DeviceStatus.{DeviceStatus}
@@ -28,8 +28,12 @@ use Rattle.subchannel_model.specs.Causes.{attention_shown, address_shown, count_
 use Rattle.subchannel_model.specs.Programs.{has_any}
 use Rattle.subchannel_model.specs.Choosing.{candidate, chosen, clear_chosen, first_some, halt_sent, marked_sub, offered, over_unless, path_use, reset_chosen, reset_sent, unsent_reset, halt_chosen, offer_chosen}
 use Rattle.subchannel_model.specs.Losing.{is_offered_or_held, reset_drawn, reset_with, reset_for}
-use Rattle.subchannel_model.specs.Taking as taking
-use Rattle.subchannel_model.specs.Taking.{halt_done, reset_taken, with_attention, with_known}
+use Rattle.subchannel_model.specs.Attention.{with_attention}
+use Rattle.subchannel_model.specs.Notice.{with_known}
+use Rattle.subchannel_model.specs.Attention as on_attention
+use Rattle.subchannel_model.specs.Outcomes as outcomes
+use Rattle.subchannel_model.specs.Accept.{halt_performed}
+use Rattle.subchannel_model.specs.Cleared.{takes_cleared}
 use Rattle.subchannel_model.specs.SystemReset.{state_reset}
 use Rattle.machine_model.specs.ChooseSteps.{choose_sub}
 use Rattle.machine_model.specs.Turns.{SubTurn}
@@ -91,7 +95,7 @@ of-program s next (Some k) h f = count-of s next s.waiting s.begun s.suspended k
 halt-count : (s : SubchannelState) → ShowsItsProgram s (with_cause s cause.HaltDone)
 halt-count s l = status-count s.pmcw.enabled (scsw_joined s.pmcw.enabled s.scsw (without_intermediate s.scsw)) s.serials (program_shown s) l
 
-pub halt-shows : (s : SubchannelState) → ShowsItsProgram s (halt_done s)
+pub halt-shows : (s : SubchannelState) → ShowsItsProgram s (halt_performed s)
 halt-shows s = by s.scsw.activity.halt_pending
   where
     by : (b : Bool) → ShowsItsProgram s (if b then with_cause s cause.HaltDone else s)
@@ -106,7 +110,7 @@ clear-zero : (s : SubchannelState) (b : Bool) → IsZeroShown s (if b then with_
 clear-zero s true = clear-count s
 clear-zero s false = λ l. absurd (omega (arith, l))
 
-pub cleared-zero : (s : SubchannelState) (phase : HoldPhase) (u : ℕ) → IsZeroShown s (reset_taken s (hold_table.reset_cleared s.hold phase u)).state
+pub cleared-zero : (s : SubchannelState) (phase : HoldPhase) (u : ℕ) → IsZeroShown s (takes_cleared s (hold_table.reset_cleared s.hold phase u)).state
 cleared-zero s hold.Free u = λ l. absurd (omega (arith, l))
 cleared-zero s (hold.Offer t p) u = λ l. absurd (omega (arith, l))
 cleared-zero s (hold.On t p c) u = λ l. absurd (omega (arith, l))
@@ -114,7 +118,7 @@ cleared-zero s (hold.Away t) u = λ l. absurd (omega (arith, l))
 cleared-zero s (hold.Letting t p) u = λ l. absurd (omega (arith, l))
 cleared-zero s (hold.Reset r) u = by (u == r)
   where
-    by : (x : Bool) → IsZeroShown s (reset_taken s (if x then Some (hold_table.hold_quietly (record s.hold { phase = hold.Free; reset_path = None })) else None)).state
+    by : (x : Bool) → IsZeroShown s (takes_cleared s (if x then Some (hold_table.hold_quietly (record s.hold { phase = hold.Free; reset_path = None })) else None)).state
     by true = clear-zero (record s { hold = record s.hold { phase = hold.Free; reset_path = None } }) s.scsw.activity.clear_pending
     by false = λ l. absurd (omega (arith, l))
 
@@ -124,9 +128,9 @@ attention-left s true = λ l. status-count s.pmcw.enabled (scsw_joined s.pmcw.en
 attention-left s false = none-left s s refl
 
 pub attended-left : (s : SubchannelState) (p a : ℕ) (status : DeviceStatus) →
-    IsStandingShown s (taking.attend s status (hold_table.attended s.hold s.hold.phase p a (taking.may_attend s))).state
+    IsStandingShown s (on_attention.takes_attention s status (hold_table.attended s.hold s.hold.phase p a (on_attention.may_take_attention s))).state
 attended-left s p a status =
-    let step : Option HoldStep = hold_table.attended s.hold s.hold.phase p a (taking.may_attend s) in
+    let step : Option HoldStep = hold_table.attended s.hold s.hold.phase p a (on_attention.may_take_attention s) in
     attention-left (record s { hold = hold_table.hold_after s.hold step }) ((hold_table.came_of step).taken && not (status.0 == 0x20))
 
 -- the hold is to be reset as a path is lost, or as the unit was restarted
@@ -137,7 +141,7 @@ reset-shows s false = none-made s (reset_with s false) refl
 lost-shows : (s : SubchannelState) → ShowsItsProgram s (reset_for s)
 lost-shows s = reset-shows s (is_offered_or_held s.hold.phase && has_any s.waiting s.begun s.suspended)
 
-pub noticed-shows : (s : SubchannelState) (b : ℕ) (more : Bool) → ShowsItsProgram s (if more then taking.quietly (reset_for (with_known s b)) else taking.ignoring s).state
+pub noticed-shows : (s : SubchannelState) (b : ℕ) (more : Bool) → ShowsItsProgram s (if more then outcomes.signal_taken (reset_for (with_known s b)) else outcomes.signal_ignored s).state
 noticed-shows s b true = lost-shows (with_known s b)
 noticed-shows s b false = none-made s s refl
 

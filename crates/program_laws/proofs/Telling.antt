@@ -29,7 +29,8 @@ use Rattle.subchannel_model.specs.declared.state.Subchannel.{Subchannel}
 use Rattle.subchannel_model.specs.declared.state.SubchannelState.{SubchannelState}
 use Rattle.subchannel_model.specs.Choosing.{paths_to_choose, chosen, marked_sub}
 use Rattle.subchannel_model.specs.Sending.{carried_by, finds_full}
-use Rattle.subchannel_model.specs.Taking.{goes_ahead, takes_up}
+use Rattle.subchannel_model.specs.Accept.{takes_device}
+use Rattle.subchannel_model.specs.Taking.{takes_up}
 use Rattle.chan_model.specs.declared.hold_state.HoldPhase.{HoldPhase}
 use Rattle.chan_model.specs.declared.hold_state.HoldPhase.TheVariants as hold
 use Rattle.machine_model.specs.ChooseSteps.{choose_sub}
@@ -70,7 +71,7 @@ lets-go t (Some sent) (inr a) e = absurd (cc (sym (ap command_in a.2) ∙ e))
 -- the start is over by what was seen, or it goes ahead
 abbrev pub IsJust : Bool → SubchannelState → Type 0
 IsJust true s = IsOver s
-IsJust false s = goes_ahead s ≡ true
+IsJust false s = takes_device s ≡ true
 
 accepts : (over : Bool) (storage : Contents) (s next : SubchannelState) (t : ℕ) (sent : Option (OnPath Down)) (k after : ProgramTrace) → IsJust over s → IsAnswered false t sent →
     Accepted storage s next sent k after → Accepts over storage t sent k after

@@ -13,8 +13,8 @@ use Rattle.ccw_walk.specs.declared.program.Advance.TheVariants as advance
 use Rattle.ccw_walk.specs.declared.program.Reading.TheVariants.{Takes}
 use Rattle.ccw_walk.specs.Acts.{Act}
 use Rattle.ccw_walk.specs.Programs.{IsProgram, Command, role_of, next, commands, commands_after, join_last, code}
-use Rattle.ccw_walk.proofs.Named.{acts_at}
-use Rattle.ccw_walk.specs.Walks.{WalkPlace, walk_place, after_acts, advance_acts, advance_of}
+use Rattle.ccw_walk.specs.Advancing.{acts_from_next, advance_acts, advance_of_acts}
+use Rattle.ccw_walk.specs.Places.{WalkPlace, walk_place, after_acts}
 use Rattle.idaw.specs.declared.ListKind.{ListKind}
 use Rattle.idaw.specs.declared.WordFault.{WordFault}
 use Rattle.idaw.specs.declared.WordFault.TheVariants.{LeftmostBit, OffBlock, OutsideStorage}
@@ -28,7 +28,7 @@ use Rattle.transfer.specs.declared.CommandStart.{CommandStart}
 use Rattle.transfer.specs.declared.CommandStart.TheVariants as came
 use Rattle.transfer.specs.Commands.{is_skipped, transfer_of, command_begins, goes_to, with_located, located_transfer, begun_with_room, with_room, brings}
 use Rattle.ccw_codec.specs.Command.{class_of}
-use Rattle.transfer.specs.Chunks.{with_moved}
+use Rattle.transfer.specs.DataChaining.{with_bytes_moved}
 use Rattle.step_laws.specs.Walks.{AreWalks}
 use Rattle.machine_laws.specs.Agreeing.{AreAbove}
 use Rattle.chan_events.specs.declared.reply.Entry.{Entry}
@@ -56,7 +56,7 @@ pub record AreLaws : Type 0 where
   pub places : (r : Reach) (m : Moving) (n : ℕ) → IsAt r m → n ≤ m.left →
       each_below (place_of_byte (block m.kind) r) m.done ++ each_below (next_place m) n ≡ each_below (place_of_byte (block m.kind) r) (m.done + n)
   pub leads : (orb : Orb) (before acts : List Act) → after_acts (walk_place orb before) acts ≡ walk_place orb (acts ++ before)
-  pub stands : (storage : Contents) (old : WalkPlace) → IsSome (advance_of old (advance_acts storage old)) ↔ IsSome old.next
+  pub stands : (storage : Contents) (old : WalkPlace) → IsSome (advance_of_acts old (advance_acts storage old)) ↔ IsSome old.next
   pub goes : (storage : Contents) (orb : Orb) (before : List Act) → IsProgram orb before → IsProgram orb (advance_acts storage (walk_place orb before) ++ before)
 
 -- the command at work has this code
@@ -231,16 +231,16 @@ module _ (earlier : ℕ) where
 
     -- where a program does not go on, no block was next
     pub none-next : (storage : Contents) (orb : Orb) (before : List Act) → let old : WalkPlace = walk_place orb before in
-        advance_of old (advance_acts storage old) ≡ None → next orb before ≡ None
+        advance_of_acts old (advance_acts storage old) ≡ None → next orb before ≡ None
     none-next storage orb before = by (next orb before) refl
       where
         old : WalkPlace
         old = walk_place orb before
 
-        by : (n : Option ℕ) → old.next ≡ n → advance_of old (advance_acts storage old) ≡ None → n ≡ None
+        by : (n : Option ℕ) → old.next ≡ n → advance_of_acts old (advance_acts storage old) ≡ None → n ≡ None
         by None e a = refl
         by (Some address) e a =
-            let s : IsSome (advance_of old (advance_acts storage old)) = (laws.stands storage old).1 (ap (λ (x : Option ℕ). is_some x) e) in
+            let s : IsSome (advance_of_acts old (advance_acts storage old)) = (laws.stands storage old).1 (ap (λ (x : Option ℕ). is_some x) e) in
             absurd (cc (sym (ap (λ (x : Option Advance). is_some x) a) ∙ s))
 
     pub goes-begins : (storage : Contents) (orb : Orb) (before : List Act) (n : ℕ) → (role_of orb before).chained ≡ false → length (commands orb before) + 1 ≡ earlier + n →
@@ -248,12 +248,12 @@ module _ (earlier : ℕ) where
         Begins orb before (advance_acts storage (walk_place orb before) ++ before) n (goes_to storage n (walk_place orb before)).came
     goes-begins storage orb before n c l p hc en =
         let old : WalkPlace = walk_place orb before in
-        advance-begins orb before (advance_acts storage old ++ before) (after_acts old (advance_acts storage old)) n (advance_of old (advance_acts storage old))
+        advance-begins orb before (advance_acts storage old ++ before) (after_acts old (advance_acts storage old)) n (advance_of_acts old (advance_acts storage old))
         (laws.leads orb before (advance_acts storage old)) c l (laws.goes storage orb before p) (advance-went storage orb before)
         (λ x. acts-stand orb before (advance_acts storage old) x (laws.leads orb before))
         (λ e.
         let none : next orb before ≡ None = none-next storage orb before e in
-        subst (λ (xs : List Act). next orb (xs ++ before) ≡ None) (sym (ap (λ (x : Option ℕ). acts_at storage old x) none)) none)
+        subst (λ (xs : List Act). next orb (xs ++ before) ≡ None) (sym (ap (λ (x : Option ℕ). acts_from_next storage old x) none)) none)
         (advance-ends storage orb before hc en)
 
     -- a word of an indirect list
@@ -355,7 +355,7 @@ module _ (earlier : ℕ) where
 
     -- bytes are moved
     moved-spot : (orb : Orb) (rs : List Reach) (t : Transfer) (ps : List (Option ℕ)) (n : ℕ) → t.moving.kind ≡ kind_of orb → n ≤ t.moving.left → IsMovedTo orb rs t ps →
-        IsMovedTo orb rs (with_moved t n) (ps ++ each_below (next_place t.moving) n)
+        IsMovedTo orb rs (with_bytes_moved t n) (ps ++ each_below (next_place t.moving) n)
     moved-spot orb [] t ps n e l k = absurd k
     moved-spot orb (r ∷ rs) t ps n e l k =
         let b : ℕ = block (kind_of orb) in
@@ -369,8 +369,8 @@ module _ (earlier : ℕ) where
               ∙ ap (λ (xs : List (Option ℕ)). places_of_bytes b rs ++ xs) more,
         )
 
-    pub with_moved-tied : (orb : Orb) (acts : List Act) (ps : List (Option ℕ)) (t : Transfer) (n : ℕ) → n ≤ t.moving.left → Tied orb acts ps t →
-        Tied orb acts (ps ++ each_below (next_place t.moving) n) (with_moved t n)
-    with_moved-tied orb acts ps t n l k =
-        same-command orb acts ps (ps ++ each_below (next_place t.moving) n) t (with_moved t n) refl refl refl refl refl (λ e. e)
+    pub with_bytes_moved-tied : (orb : Orb) (acts : List Act) (ps : List (Option ℕ)) (t : Transfer) (n : ℕ) → n ≤ t.moving.left → Tied orb acts ps t →
+        Tied orb acts (ps ++ each_below (next_place t.moving) n) (with_bytes_moved t n)
+    with_bytes_moved-tied orb acts ps t n l k =
+        same-command orb acts ps (ps ++ each_below (next_place t.moving) n) t (with_bytes_moved t n) refl refl refl refl refl (λ e. e)
         (moved-spot orb (data_areas orb acts) t ps n k.kind l k.spot) k

@@ -18,13 +18,15 @@ use Rattle.chan_model.specs.UnitReports.{has_device_end, is_last_end, is_outward
 use Rattle.channel_config.specs.Lawful.{IsLawful}
 use Rattle.channel_config.specs.Setup.{Setup}
 use Rattle.channel_config.specs.declared.parts.SubchannelSetup.{SubchannelSetup}
-use Rattle.ccw_walk.specs.Walks.{WalkPlace}
+use Rattle.ccw_walk.specs.Places.{WalkPlace}
 use Rattle.data_move.specs.Moving.{residual}
 use Rattle.storage_keys.specs.Storage.{Contents}
 use Rattle.transfer.specs.declared.CommandStart.{CommandStart}
 use Rattle.transfer.specs.declared.CommandStart.TheVariants as came
 use Rattle.transfer.specs.declared.Transfer.{Transfer}
-use Rattle.transfer.specs.Chunks.{brought, is_answered, next_given, taken_by_device}
+use Rattle.transfer.specs.FromDevice.{chunk_stored}
+use Rattle.transfer.specs.ChunkNumbers.{is_answered}
+use Rattle.transfer.specs.ToDevice.{next_chunk, chunk_absorbed}
 use Rattle.transfer.specs.Commands.{begun_with_room, first_command, next_command, with_room}
 use Rattle.subchannel_model.specs.declared.cause.StatusCause.TheVariants as cause
 use Rattle.subchannel_model.specs.declared.signals.DataSignal.{DataSignal}
@@ -35,16 +37,26 @@ use Rattle.subchannel_model.specs.declared.state.Chosen.TheVariants.{Idle, Reset
 use Rattle.subchannel_model.specs.declared.state.ProgramPosition.{ProgramPosition}
 use Rattle.subchannel_model.specs.declared.state.Subchannel.{Subchannel}
 use Rattle.subchannel_model.specs.declared.state.SubchannelState.{SubchannelState}
-use Rattle.subchannel_model.proofs.Named.{give_next}
+use Rattle.subchannel_model.specs.Data.{gives_next_chunk}
 use Rattle.subchannel_model.specs.Causes.{programs_after_end, with_cause, without_begun}
 use Rattle.subchannel_model.specs.Choosing.{chosen, halt_sent, marked_sub, offered, reset_sent}
 use Rattle.subchannel_model.specs.Ends.{chains_command, has_status_modifier}
 use Rattle.subchannel_model.specs.Losing.{is_offered_or_held, reset_for, reset_with}
-use Rattle.subchannel_model.specs.Parts.{chain_with}
 use Rattle.subchannel_model.specs.Programs.{has_any}
+use Rattle.subchannel_model.specs.End.{chains_with, with_first_end}
 use Rattle.subchannel_model.specs.Sending.{carried_by, finds_full}
-use Rattle.subchannel_model.specs.Taking as taking
-use Rattle.subchannel_model.specs.Taking.{let_go, takes_up, with_end, without_pci, with_known}
+use Rattle.subchannel_model.specs.Taking.{takes_up}
+use Rattle.subchannel_model.specs.Notice.{with_known}
+use Rattle.subchannel_model.specs.Accept as on_accept
+use Rattle.subchannel_model.specs.Suspension as suspension
+use Rattle.subchannel_model.specs.Outcomes.{device_released}
+use Rattle.subchannel_model.specs.Outcomes as outcomes
+use Rattle.subchannel_model.specs.Data as on_data
+use Rattle.subchannel_model.specs.Command as command_spec
+use Rattle.subchannel_model.specs.End as on_end
+use Rattle.subchannel_model.specs.Cleared as on_cleared
+use Rattle.subchannel_model.specs.Attention as on_attention
+use Rattle.subchannel_model.specs.Pci.{without_pci}
 use Rattle.machine_model.specs.ChooseSteps.{choose_sub}
 use Rattle.machine_model.specs.declared.state.Sweep.{Sweep}
 use Rattle.machine_model.specs.PathSteps.{swept}
@@ -86,19 +98,19 @@ asked-made s b false p e = unasked-as (Some b) s.begun e p
 
 -- Accept
 begins-unasked : (storage : Contents) (s : SubchannelState) (p t : ℕ) (st : ProgramPosition) (walk : WalkPlace) (c : CommandStart) →
-    IsUnasked (taking.beginning storage s p t st walk c).state.begun
+    IsUnasked (on_accept.first_ccw_outcome storage s p t st walk c).state.begun
 begins-unasked storage s p t st walk (came.Begins transfer) =
     let u : Transfer = (begun_with_room storage transfer).transfer in
-    asked-made (taking.taking_over s st.program u) (record { program = st.program; primary_shown = false; transfer = u }) u.pci_pending refl refl
-begins-unasked storage s p t st walk came.Suspends = unasked-none (taking.suspending s st.program walk st.count).begun (suspending-workless s st.program walk st.count).begun
+    asked-made (on_accept.with_program_at_work s st.program u) (record { program = st.program; primary_shown = false; transfer = u }) u.pci_pending refl refl
+begins-unasked storage s p t st walk came.Suspends = unasked-none (suspension.program_suspended s st.program walk st.count).begun (suspending-workless s st.program walk st.count).begun
 begins-unasked storage s p t st walk (came.Stops check) = unasked-none (without_begun s.begun s).begun (fault-begun s s.begun refl)
 
 standing-unasked : (storage : Contents) (s : SubchannelState) (p t : ℕ) (o : Option ProgramPosition) → IsUnasked s.begun →
-    IsUnasked (taking.begin_standing storage s p t o).state.begun
+    IsUnasked (on_accept.begins_at storage s p t o).state.begun
 standing-unasked storage s p t None u = u
 standing-unasked storage s p t (Some st) u = begins-unasked storage s p t st (first_command storage st.walk).walk (first_command storage st.walk).came
 
-halt-unasked : (s : SubchannelState) → IsUnasked s.begun → IsUnasked (taking.halt_done s).begun
+halt-unasked : (s : SubchannelState) → IsUnasked s.begun → IsUnasked (on_accept.halt_performed s).begun
 halt-unasked s u = by s.scsw.activity.halt_pending
   where
     by : (c : Bool) → IsUnasked (if c then with_cause s cause.HaltDone else s).begun
@@ -106,99 +118,99 @@ halt-unasked s u = by s.scsw.activity.halt_pending
     by false = u
 
 phase-unasked : (storage : Contents) (s : SubchannelState) (phase : HoldPhase) (taken : Taken Down) → IsUnasked s.begun →
-    IsUnasked (taking.accepted_by storage s phase taken).state.begun
-phase-unasked storage s (hold.On t p c) taken u = standing-unasked storage (record s { pmcw = taking.path_used s.pmcw p }) p t (taking.standing s) u
-phase-unasked storage s (hold.Letting t p) taken u = halt-unasked (record s { pmcw = taking.path_used s.pmcw p }) u
+    IsUnasked (on_accept.accepted_in_phase storage s phase taken).state.begun
+phase-unasked storage s (hold.On t p c) taken u = standing-unasked storage (record s { pmcw = on_accept.with_path_used s.pmcw p }) p t (on_accept.offered_position s) u
+phase-unasked storage s (hold.Letting t p) taken u = halt-unasked (record s { pmcw = on_accept.with_path_used s.pmcw p }) u
 phase-unasked storage s other taken u = u
 
-accept-unasked : (storage : Contents) (s : SubchannelState) (step : Option HoldStep) → IsUnasked s.begun → IsUnasked (taking.accept storage s step).state.begun
+accept-unasked : (storage : Contents) (s : SubchannelState) (step : Option HoldStep) → IsUnasked s.begun → IsUnasked (on_accept.takes_accept storage s step).state.begun
 accept-unasked storage s step u = by (came_of step).taken
   where
     by : (x : Bool) →
-        IsUnasked (if x then taking.accepted_by storage (record s { hold = hold_after s.hold step }) (hold_after s.hold step).phase (came_of step) else taking.ignoring s).state.begun
+        IsUnasked (if x then on_accept.accepted_in_phase storage (record s { hold = hold_after s.hold step }) (hold_after s.hold step).phase (came_of step) else outcomes.signal_ignored s).state.begun
     by true = phase-unasked storage (record s { hold = hold_after s.hold step }) (hold_after s.hold step).phase (came_of step) u
     by false = u
 
 -- Data
 move-unasked : (storage : Contents) (s : SubchannelState) (b : ActiveProgram) (signal : DataSignal) (load : Load) (x : Bool) →
     IsUnasked
-    (if x then taking.meets storage (give_next storage s b signal (load_length load))
-    else taking.take_in s b signal (brought storage b.transfer signal.sequence (load_bytes load))).step.state.begun
+    (if x then outcomes.with_storage storage (gives_next_chunk storage s b signal (load_length load))
+    else on_data.tells_room_after s b signal (chunk_stored storage b.transfer signal.sequence (load_bytes load))).step.state.begun
 move-unasked storage s b signal load true =
-    let t = (next_given storage (taken_by_device storage b.transfer signal.sequence (load_length load))).transfer in
-    asked-made (taking.with_transfer s b t) (record b { transfer = t }) t.pci_pending refl refl
+    let t = (next_chunk storage (chunk_absorbed storage b.transfer signal.sequence (load_length load))).transfer in
+    asked-made (command_spec.with_transfer s b t) (record b { transfer = t }) t.pci_pending refl refl
 move-unasked storage s b signal load false =
-    let t = (with_room (brought storage b.transfer signal.sequence (load_bytes load)).storage (brought storage b.transfer signal.sequence (load_bytes load)).transfer).transfer in
-    asked-made (taking.with_transfer s b t) (record b { transfer = t }) t.pci_pending refl refl
+    let t = (with_room (chunk_stored storage b.transfer signal.sequence (load_bytes load)).storage (chunk_stored storage b.transfer signal.sequence (load_bytes load)).transfer).transfer in
+    asked-made (command_spec.with_transfer s b t) (record b { transfer = t }) t.pci_pending refl refl
 
 answered-unasked : (storage : Contents) (s : SubchannelState) (b : ActiveProgram) (signal : DataSignal) (load : Load) (x : Bool) → IsUnasked s.begun →
-    IsUnasked (if x then taking.move_bytes storage s b signal load else taking.meets storage (taking.ignoring s)).step.state.begun
+    IsUnasked (if x then on_data.moves_bytes storage s b signal load else outcomes.with_storage storage (outcomes.signal_ignored s)).step.state.begun
 answered-unasked storage s b signal load true u = move-unasked storage s b signal load (is_outward b.transfer.code)
 answered-unasked storage s b signal load false u = u
 
 begun-unasked : (storage : Contents) (s : SubchannelState) (b : Option ActiveProgram) (signal : DataSignal) (load : Load) → IsUnasked s.begun →
-    IsUnasked (taking.move_data storage s b signal load).step.state.begun
+    IsUnasked (on_data.moves_data storage s b signal load).step.state.begun
 begun-unasked storage s None signal load u = u
 begun-unasked storage s (Some b) signal load u = answered-unasked storage s b signal load (is_answered b.transfer signal.command signal.sequence) u
 
 data-unasked : (storage : Contents) (s : SubchannelState) (signal : DataSignal) (load : Load) (x : Bool) → IsUnasked s.begun →
-    IsUnasked (if x then taking.move_data storage s s.begun signal load else taking.meets storage (taking.ignoring s)).step.state.begun
+    IsUnasked (if x then on_data.moves_data storage s s.begun signal load else outcomes.with_storage storage (outcomes.signal_ignored s)).step.state.begun
 data-unasked storage s signal load true u = begun-unasked storage s s.begun signal load u
 data-unasked storage s signal load false u = u
 
 -- End
 chaining-unasked : (storage : Contents) (s : SubchannelState) (b : ActiveProgram) (signal : EndSignal) (walk : WalkPlace) (c : CommandStart) →
-    IsUnasked (taking.chaining storage s b signal walk c).state.begun
+    IsUnasked (on_end.next_ccw_outcome storage s b signal walk c).state.begun
 chaining-unasked storage s b signal walk (came.Begins transfer) =
     let t : Transfer = (begun_with_room storage transfer).transfer in
-    asked-made (taking.with_transfer s b t) (record b { transfer = t }) t.pci_pending refl refl
+    asked-made (command_spec.with_transfer s b t) (record b { transfer = t }) t.pci_pending refl refl
 chaining-unasked storage s b signal walk came.Suspends =
-    unasked-none (taking.suspending (taking.end_taken s signal) b.program walk (residual b.transfer.moving)).begun
-    (suspending-workless (taking.end_taken s signal) b.program walk (residual b.transfer.moving)).begun
+    unasked-none (suspension.program_suspended (on_end.with_allegiance_after_end s signal) b.program walk (residual b.transfer.moving)).begun
+    (suspending-workless (on_end.with_allegiance_after_end s signal) b.program walk (residual b.transfer.moving)).begun
 chaining-unasked storage s b signal walk (came.Stops check) =
-    unasked-none (without_begun s.begun (taking.end_taken s signal)).begun (fault-begun (taking.end_taken s signal) s.begun refl)
+    unasked-none (without_begun s.begun (on_end.with_allegiance_after_end s signal)).begun (fault-begun (on_end.with_allegiance_after_end s signal) s.begun refl)
 
 left-unasked : (s : SubchannelState) (b : ActiveProgram) (last : Bool) → IsUnasked (Some b) → IsUnasked (programs_after_end s b last).begun
 left-unasked s b true u = tt
 left-unasked s b false u = u
 
 stops-unasked : (s : SubchannelState) (b : ActiveProgram) (signal : EndSignal) (x : Bool) → IsUnasked (Some b) →
-    let shown : SubchannelState = record (with_cause s (cause.End b signal.status signal.more)) { dedicated = taking.dedicated_by_end s.dedicated signal } in
-    IsUnasked (if x then let_go shown else taking.quietly shown).state.begun
+    let shown : SubchannelState = record (with_cause s (cause.End b signal.status signal.more)) { dedicated = on_end.dedicated_after_end s.dedicated signal } in
+    IsUnasked (if x then device_released shown else outcomes.signal_taken shown).state.begun
 stops-unasked s b signal true u = left-unasked s b (is_last_end signal.status) u
 stops-unasked s b signal false u = left-unasked s b (is_last_end signal.status) u
 
 goes-unasked : (storage : Contents) (s : SubchannelState) (b : ActiveProgram) (signal : EndSignal) (x : Bool) → IsUnasked (Some b) →
     IsUnasked
-    (if x then chain_with storage s (with_end b) signal (next_command storage (with_end b).transfer (has_status_modifier signal.status))
-    else taking.quietly (record (taking.end_taken s signal) { begun = Some (with_end b) })).state.begun
+    (if x then chains_with storage s (with_first_end b) signal (next_command storage (with_first_end b).transfer (has_status_modifier signal.status))
+    else outcomes.signal_taken (record (on_end.with_allegiance_after_end s signal) { begun = Some (with_first_end b) })).state.begun
 goes-unasked storage s b signal true u =
-    let next = next_command storage (with_end b).transfer (has_status_modifier signal.status) in
-    chaining-unasked storage s (with_end b) signal next.walk next.came
+    let next = next_command storage (with_first_end b).transfer (has_status_modifier signal.status) in
+    chaining-unasked storage s (with_first_end b) signal next.walk next.came
 goes-unasked storage s b signal false u = u
 
 command-unasked : (storage : Contents) (s : SubchannelState) (b : ActiveProgram) (signal : EndSignal) (x : Bool) → IsUnasked (Some b) →
-    IsUnasked (if x then taking.goes_on storage s (with_end b) signal else taking.stops_at s b signal).state.begun
+    IsUnasked (if x then on_end.chains_at_device_end storage s (with_first_end b) signal else on_end.concludes s b signal).state.begun
 command-unasked storage s b signal true u = goes-unasked storage s b signal (has_device_end signal.status) u
 command-unasked storage s b signal false u = stops-unasked s b signal (is_last_end signal.status) u
 
 ended-unasked : (storage : Contents) (s : SubchannelState) (b : ActiveProgram) (signal : EndSignal) (x : Bool) → IsUnasked s.begun → IsUnasked (Some b) →
-    IsUnasked (if x then taking.command_ended storage s b signal else taking.ignoring s).state.begun
+    IsUnasked (if x then on_end.ends_command storage s b signal else outcomes.signal_ignored s).state.begun
 ended-unasked storage s b signal true u w = command-unasked storage s b signal (chains_command s.scsw b signal.status signal.more) w
 ended-unasked storage s b signal false u w = u
 
 work-unasked : (storage : Contents) (s : SubchannelState) (b : Option ActiveProgram) (signal : EndSignal) → IsUnasked s.begun → IsUnasked b →
-    IsUnasked (taking.end_of storage s b signal).state.begun
+    IsUnasked (on_end.ends_at_work storage s b signal).state.begun
 work-unasked storage s None signal u w = u
 work-unasked storage s (Some b) signal u w = ended-unasked storage s b signal (signal.command == b.transfer.command) u w
 
 end-unasked : (storage : Contents) (s : SubchannelState) (signal : EndSignal) (x : Bool) → IsUnasked s.begun →
-    IsUnasked (if x then taking.end_of storage s s.begun signal else taking.ignoring s).state.begun
+    IsUnasked (if x then on_end.ends_at_work storage s s.begun signal else outcomes.signal_ignored s).state.begun
 end-unasked storage s signal true u = work-unasked storage s s.begun signal u u
 end-unasked storage s signal false u = u
 
 -- the other signals
-cleared-unasked : (s : SubchannelState) (step : Option HoldStep) → IsUnasked s.begun → IsUnasked (taking.reset_taken s step).state.begun
+cleared-unasked : (s : SubchannelState) (step : Option HoldStep) → IsUnasked s.begun → IsUnasked (on_cleared.takes_cleared s step).state.begun
 cleared-unasked s None u = u
 cleared-unasked s (Some step) u = unasked-as s.begun _ (clear-begun (record s { hold = step.state })) u
 
@@ -210,12 +222,12 @@ lost-unasked : (s : SubchannelState) → IsUnasked s.begun → IsUnasked (reset_
 lost-unasked s u = reset-unasked s (is_offered_or_held s.hold.phase && has_any s.waiting s.begun s.suspended) u
 
 noticed-unasked : (s : SubchannelState) (b : ℕ) (more : Bool) → IsUnasked s.begun →
-    IsUnasked (if more then taking.quietly (reset_for (with_known s b)) else taking.ignoring s).state.begun
+    IsUnasked (if more then outcomes.signal_taken (reset_for (with_known s b)) else outcomes.signal_ignored s).state.begun
 noticed-unasked s b true u = lost-unasked (with_known s b) u
 noticed-unasked s b false u = u
 
 takes-unasked : (returns : Bool) (storage : Contents) (s : SubchannelState) (p : ℕ) (x : Up) → IsUnasked s.begun → IsUnasked (takes_up returns storage s p x).step.state.begun
-takes-unasked returns storage s p (up.Accept t) u = accept-unasked storage s (hold_takes s.hold p (up.Accept t) (taking.goes_ahead s)) u
+takes-unasked returns storage s p (up.Accept t) u = accept-unasked storage s (hold_takes s.hold p (up.Accept t) (on_accept.takes_device s)) u
 takes-unasked returns storage s p (up.Data load t c n q) u =
     data-unasked storage s (record { path = p; number = t; connection = c; command = n; sequence = q }) load (is_connected s.hold.phase p t c) u
 takes-unasked returns storage s p (up.End t n status more) u =
@@ -223,7 +235,7 @@ takes-unasked returns storage s p (up.End t n status more) u =
 takes-unasked returns storage s p (up.Cleared r) u = cleared-unasked s (hold_takes s.hold p (up.Cleared r) false) u
 takes-unasked returns storage s p (up.Notice b) u = noticed-unasked s b (nat_lt s.hold.known b) u
 takes-unasked returns storage s p (up.Attn a status) u =
-    let step : Option HoldStep = hold_takes s.hold p (up.Attn a status) (taking.may_attend s) in
+    let step : Option HoldStep = hold_takes s.hold p (up.Attn a status) (on_attention.may_take_attention s) in
     unasked-as s.begun _ (attention-begun (record s { hold = hold_after s.hold step }) ((came_of step).taken && not (status.0 == 0x20))) u
 takes-unasked returns storage s p x u = u
 

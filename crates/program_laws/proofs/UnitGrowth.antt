@@ -22,18 +22,21 @@ use Rattle.ccw_walk.specs.declared.program.Reading.TheVariants.{Takes}
 use Rattle.ccw_walk.specs.Acts.{Act, Block, Unfetched, Used_up, End, Word}
 use Rattle.ccw_walk.specs.Blocks.{reads}
 use Rattle.ccw_walk.specs.Programs.{Command, join_last, commands_after, commands, code, role_of}
-use Rattle.ccw_walk.specs.Walks.{WalkPlace, walk_place}
+use Rattle.ccw_walk.specs.Places.{WalkPlace, walk_place}
 use Rattle.transfer.specs.declared.Transfer.{Transfer}
 use Rattle.transfer.specs.declared.CommandStart.{CommandStart}
 use Rattle.transfer.specs.declared.CommandStart.TheVariants as came
 use Rattle.transfer.specs.Commands.{first_command, next_command, located_transfer, has_stopped}
-use Rattle.transfer.specs.Chunks.{with_moved, chains_data, with_answer, taken_by_device, fitting, brought, is_answered}
+use Rattle.transfer.specs.DataChaining.{with_bytes_moved, chains_data}
+use Rattle.transfer.specs.ToDevice.{with_chunk_counted, chunk_absorbed}
+use Rattle.transfer.specs.FromDevice.{fitting_bytes, chunk_stored}
+use Rattle.transfer.specs.ChunkNumbers.{is_answered}
 use Rattle.subchannel_model.specs.declared.state.ActiveProgram.{ActiveProgram}
 use Rattle.subchannel_model.specs.declared.state.Program.{Program}
 use Rattle.subchannel_model.specs.declared.state.ProgramPosition.{ProgramPosition}
 use Rattle.subchannel_model.specs.declared.state.SubchannelState.{SubchannelState}
 use Rattle.subchannel_model.specs.Ends.{has_status_modifier, chains_command}
-use Rattle.subchannel_model.specs.Taking.{goes_ahead}
+use Rattle.subchannel_model.specs.Accept.{takes_device}
 use Rattle.program_laws.specs.Traces.{CommandTrace, no_trace, ProgramTrace, past_part}
 use Rattle.program_laws.proofs.MachineActs.{with_acts, with_places, trace_moved_on, trace_answered, with_copy, copying, trace_giving, gives, with_arrival, storing, arriving, takes_in, located_acts, chained_acts, chunk_of, first_acts, next_acts}
 use Rattle.program_laws.proofs.MachineTraces.{trace_goes_on, trace_begins, begins_anew, begins_again, again_as, begins_as, accepted_at, trace_accepted, moves, answers, ends_alone, with_ended, chains, trace_ends, trace_meets}
@@ -120,11 +123,11 @@ if-on : (k : CommandTrace) (c : Bool) (x y : CommandTrace) → IsOn k x → IsOn
 if-on k true x y e f = e
 if-on k false x y e f = f
 
-moved_on-on : (storage : Contents) (t : Transfer) (n : ℕ) (k : CommandTrace) → IsOn k (trace_moved_on storage t n k)
-moved_on-on storage t n k = if-on k (chains_data (with_moved t n) n) _ _ (chained_acts storage (with_moved t n), refl) (on-same k (with_places k t.moving n) refl)
+after_bytes_moved-on : (storage : Contents) (t : Transfer) (n : ℕ) (k : CommandTrace) → IsOn k (trace_moved_on storage t n k)
+after_bytes_moved-on storage t n k = if-on k (chains_data (with_bytes_moved t n) n) _ _ (chained_acts storage (with_bytes_moved t n), refl) (on-same k (with_places k t.moving n) refl)
 
 answered-on : (storage : Contents) (t : Transfer) (s count : ℕ) (k : CommandTrace) → IsOn k (trace_answered storage t s count k)
-answered-on storage t s count k = if-on k (s == t.sequence + 1) _ k (moved_on-on storage (with_answer t s count) _ k) (on-same k k refl)
+answered-on storage t s count k = if-on k (s == t.sequence + 1) _ k (after_bytes_moved-on storage (with_chunk_counted t s count) _ k) (on-same k k refl)
 
 with_copy-on : (storage : Contents) (t : Transfer) (r : Result (List ℕ) Check) (k : CommandTrace) → IsOn k (with_copy storage t r k)
 with_copy-on storage t (Ok bytes) k = on-same k (record k { copied = chunk_of storage t.moving bytes ∷ k.copied }) refl
@@ -137,24 +140,24 @@ giving-on : (storage : Contents) (t : Transfer) (k : CommandTrace) → IsOn k (t
 giving-on storage t k = on-then k (with_acts k (located_acts storage t)) (trace_giving storage t k) (located_acts storage t, refl) (copying-on storage (located_transfer storage t) (with_acts k (located_acts storage t)))
 
 pub gives-on : (storage : Contents) (t : Transfer) (s count : ℕ) (k : CommandTrace) → IsOn k (gives storage t s count k)
-gives-on storage t s count k = on-then k (trace_answered storage t s count k) (gives storage t s count k) (answered-on storage t s count k) (giving-on storage (taken_by_device storage t s count) (trace_answered storage t s count k))
+gives-on storage t s count k = on-then k (trace_answered storage t s count k) (gives storage t s count k) (answered-on storage t s count k) (giving-on storage (chunk_absorbed storage t s count) (trace_answered storage t s count k))
 
 with_arrival-on : (storage : Contents) (t : Transfer) (bytes : List ℕ) (r : Result Contents Check) (k : CommandTrace) → IsOn k (with_arrival storage t bytes r k)
 with_arrival-on storage t bytes (Ok after) k =
     let x : CommandTrace = record k { arrived = record { former = storage.bytes; chunk = chunk_of after t.moving bytes } ∷ k.arrived } in
-    on-then k x (trace_moved_on after t (length bytes) x) (on-same k x refl) (moved_on-on after t (length bytes) x)
+    on-then k x (trace_moved_on after t (length bytes) x) (on-same k x refl) (after_bytes_moved-on after t (length bytes) x)
 with_arrival-on storage t bytes (Err check) k = on-same k k refl
 
 storing-on : (storage : Contents) (t : Transfer) (bytes : List ℕ) (k : CommandTrace) → IsOn k (storing storage t bytes k)
 storing-on storage t bytes k = if-on k (is_some t.fault) k _ (on-same k k refl) (with_arrival-on storage t bytes _ k)
 
 arriving-on : (storage : Contents) (t : Transfer) (s : ℕ) (bytes : List ℕ) (k : CommandTrace) → IsOn k (arriving storage t s bytes k)
-arriving-on storage t s bytes k = if-on k (s == t.sequence + 1) (storing storage (record t { sequence = s }) (fitting t bytes) k) k (storing-on storage (record t { sequence = s }) (fitting t bytes) k) (on-same k k refl)
+arriving-on storage t s bytes k = if-on k (s == t.sequence + 1) (storing storage (record t { sequence = s }) (fitting_bytes t bytes) k) k (storing-on storage (record t { sequence = s }) (fitting_bytes t bytes) k) (on-same k k refl)
 
 pub takes_in-on : (storage : Contents) (t : Transfer) (s : ℕ) (bytes : List ℕ) (k : CommandTrace) → IsOn k (takes_in storage t s bytes k)
 takes_in-on storage t s bytes k =
     on-then k (arriving storage t s bytes k) (takes_in storage t s bytes k) (arriving-on storage t s bytes k)
-    (located_acts (brought storage t s bytes).storage (brought storage t s bytes).transfer, refl)
+    (located_acts (chunk_stored storage t s bytes).storage (chunk_stored storage t s bytes).transfer, refl)
 
 -- a story in which the codes grew or stayed, or before any was sent, and the device took and absorbed nothing
 abbrev pub IsMore : ProgramTrace → ProgramTrace → Type 0
@@ -185,10 +188,10 @@ now-grown k now a =
       codes = inl (c.0, ap (λ (l : List Act). later_codes k.earlier (map code (commands k.orb l))) a.1 ∙ c.1);
     }
 
-goes_on-grown : (storage : Contents) (c : CommandStart) (acts : List Act) (k : ProgramTrace) → IsGrown k (trace_goes_on storage c acts k)
-goes_on-grown storage (came.Begins t) acts k = record { number = refl; taken = refl; absorbed = refl; sent = omega arith; codes = inl (codes-add k acts) }
-goes_on-grown storage came.Suspends acts k = now-grown k (with_acts k.now acts) (acts, refl)
-goes_on-grown storage (came.Stops check) acts k = now-grown k (with_acts k.now acts) (acts, refl)
+chains_at_device_end-grown : (storage : Contents) (c : CommandStart) (acts : List Act) (k : ProgramTrace) → IsGrown k (trace_goes_on storage c acts k)
+chains_at_device_end-grown storage (came.Begins t) acts k = record { number = refl; taken = refl; absorbed = refl; sent = omega arith; codes = inl (codes-add k acts) }
+chains_at_device_end-grown storage came.Suspends acts k = now-grown k (with_acts k.now acts) (acts, refl)
+chains_at_device_end-grown storage (came.Stops check) acts k = now-grown k (with_acts k.now acts) (acts, refl)
 
 -- where none was sent
 begins-grown : (storage : Contents) (walk : WalkPlace) (k new : ProgramTrace) → k.sent ≡ 0 → new.number ≡ k.number → new.taken ≡ k.taken → new.absorbed ≡ k.absorbed →
@@ -244,7 +247,7 @@ chains-grown storage s b status more k =
     let acts : List Act = End (record { goes_on = false; modifier = has_status_modifier status }) ∷ [] in
     if-grown k (chains_command s.scsw b status more) _ (ends_alone status k)
     (if-grown k (has_device_end status) _ (with_ended k)
-    (goes_on-grown storage (next_command storage b.transfer (has_status_modifier status)).came (next_acts storage b.transfer (has_status_modifier status)) k)
+    (chains_at_device_end-grown storage (next_command storage b.transfer (has_status_modifier status)).came (next_acts storage b.transfer (has_status_modifier status)) k)
     (now-grown k (record k.now { ended = true }) ([], refl)))
     (now-grown k (record k.now { acts = acts ++ k.now.acts; ended = true; unchained = true }) (acts, refl))
 
@@ -253,7 +256,7 @@ ends-grown storage s None n status more k = same-grown k
 ends-grown storage s (Some b) n status more k = if-grown k (n == b.transfer.command) _ k (chains-grown storage s b status more k) (same-grown k)
 
 pub meets-grown : (storage : Contents) (s : SubchannelState) (p : ℕ) (x : Up) (k : ProgramTrace) → IsUnbegun s.hold.phase k → IsGrown k (trace_meets storage s p x k)
-meets-grown storage s p (up.Accept t) k e = accept-grown storage s s.hold s.hold.phase t (goes_ahead s) k e
+meets-grown storage s p (up.Accept t) k e = accept-grown storage s s.hold s.hold.phase t (takes_device s) k e
 meets-grown storage s p (up.Data load t c n seq) k e = if-grown k (is_connected s.hold.phase p t c) _ k (answers-grown storage s.begun n seq load k) (same-grown k)
 meets-grown storage s p (up.End t n status more) k e = if-grown k (is_on s.hold.phase t) _ k (ends-grown storage s s.begun n status more k) (same-grown k)
 meets-grown storage s p x k e = same-grown k

@@ -9,12 +9,12 @@ use Rattle.ccw_walk.specs.Programs.{latest, next_used_up}
 use Rattle.idaw.specs.Places.{each_below}
 use Rattle.data_move.specs.Moving.{next_place, residual}
 use Rattle.transfer.specs.declared.Transfer.{Transfer}
-use Rattle.transfer.specs.Chunks.{chains_data, with_moved}
+use Rattle.transfer.specs.DataChaining.{chains_data, with_bytes_moved}
 use Rattle.program_laws.specs.DataAreas.{data_areas, counts}
 use Rattle.program_laws.specs.Traces.{CommandTrace}
 use Rattle.program_laws.specs.Tells.{is_used_up}
 use Rattle.program_laws.proofs.Lists.{length-each_below}
-use Rattle.program_laws.proofs.Ties.{AreLaws, Tied, spot-counts, with_moved-tied}
+use Rattle.program_laws.proofs.Ties.{AreLaws, Tied, spot-counts, with_bytes_moved-tied}
 use Rattle.program_laws.proofs.Latest.{IsLatest, latest-of}
 
 not-below : (a b : ℕ) → (a < b → ⊥) → nat_lt a b ≡ false
@@ -55,15 +55,15 @@ all-same a b c d e f g h i j k l =
 
 module _ (laws : AreLaws) (earlier : ℕ) where
   pub used-same : (orb : Orb) (p q : CommandTrace) (t : Transfer) (n : ℕ) → n ≤ t.moving.left → Tied earlier orb p.acts p.moved t →
-      q.moved ≡ p.moved ++ each_below (next_place t.moving) n → is_used_up orb (is_some t.fault) p q ≡ chains_data (with_moved t n) n
+      q.moved ≡ p.moved ++ each_below (next_place t.moving) n → is_used_up orb (is_some t.fault) p q ≡ chains_data (with_bytes_moved t n) n
   used-same orb p q t n l k e =
       let m : ℕ = length p.moved in
       let ps = p.moved ++ each_below (next_place t.moving) n in
       let many : length ps ≡ m + n =
       length-append p.moved (each_below (next_place t.moving) n) ∙ ap (λ (x : ℕ). m + x) (length-each_below (next_place t.moving) n) in
       let long : length q.moved ≡ m + n = ap length e ∙ many in
-      let u : Transfer = with_moved t n in
-      let tied : Tied earlier orb p.acts ps u = with_moved-tied earlier laws orb p.acts p.moved t n l k in
+      let u : Transfer = with_bytes_moved t n in
+      let tied : Tied earlier orb p.acts ps u = with_bytes_moved-tied earlier laws orb p.acts p.moved t n l k in
       let all : counts (data_areas orb p.acts) ≡ length ps + residual u.moving = spot-counts orb (data_areas orb p.acts) u ps tied.spot in
       let whole : counts (data_areas orb p.acts) ≡ length q.moved + residual u.moving = all ∙ ap (λ (x : ℕ). x + residual u.moving) (many ∙ sym long) in
       all-same (nat_lt m (length q.moved)) (length q.moved == counts (data_areas orb p.acts)) (is_some (next_used_up (latest orb p.acts))) (not (is_some t.fault))

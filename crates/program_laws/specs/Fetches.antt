@@ -5,7 +5,7 @@ use Rattle.storage_keys.specs.Storage.{Contents, fetched}
 use Rattle.ccw_walk.specs.declared.check.Check.TheVariants.{Program}
 use Rattle.ccw_walk.specs.Acts.{Act, Block, Unfetched, Word}
 use Rattle.ccw_walk.specs.Programs.{role_of}
-use Rattle.ccw_walk.specs.Walks.{is_program_misplaced}
+use Rattle.ccw_walk.specs.Fetching.{is_program_misplaced}
 use Rattle.idaw.specs.Lists.{kind_of, width, address_of_word, word_fault}
 use Rattle.idaw.specs.Places.{Reach}
 use Rattle.data_move.specs.Accesses.{checked, list_word_of}

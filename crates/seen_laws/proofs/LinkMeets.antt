@@ -1,6 +1,6 @@
 -- What is seen of a subchannel's program is where its hold has it, after each signal that it takes.
 use Rattle.std.proofs.Common.{◌≡◌, refl, sym, ◌∙◌, ap, subst, ℕ, ◌≤◌, ◌==◌, ◌&&◌, nat_lt, Bool, true, false, not, Option, None, Some, if◌then◌else◌, inl, arith}
-use Rattle.ccw_walk.specs.Walks.{WalkPlace}
+use Rattle.ccw_walk.specs.Places.{WalkPlace}
 use Rattle.chan_events.specs.declared.reply.Reply.TheVariants as reply
 use Rattle.chan_model.specs.declared.hold_state.HoldPhase.{HoldPhase}
 use Rattle.chan_model.specs.declared.hold_state.HoldPhase.TheVariants as hold
@@ -19,7 +19,9 @@ use Rattle.transfer.specs.declared.Beginning.{Beginning}
 use Rattle.transfer.specs.declared.CommandStart.{CommandStart}
 use Rattle.transfer.specs.declared.CommandStart.TheVariants as came
 use Rattle.transfer.specs.Commands.{first_command, next_command, begun_with_room, with_room}
-use Rattle.transfer.specs.Chunks.{taken_by_device, next_given, brought, is_answered}
+use Rattle.transfer.specs.ToDevice.{chunk_absorbed, next_chunk}
+use Rattle.transfer.specs.FromDevice.{chunk_stored}
+use Rattle.transfer.specs.ChunkNumbers.{is_answered}
 use Rattle.subchannel_model.specs.declared.cause.StatusCause.TheVariants as cause
 use Rattle.subchannel_model.specs.declared.signals.DataSignal.{DataSignal}
 use Rattle.subchannel_model.specs.declared.signals.EndSignal.{EndSignal}
@@ -30,11 +32,18 @@ use Rattle.subchannel_model.specs.declared.state.UpStep.{UpStep}
 use Rattle.subchannel_model.specs.Causes.{with_cause}
 use Rattle.subchannel_model.specs.Ends.{has_status_modifier, chains_command}
 use Rattle.subchannel_model.specs.Losing.{is_offered_or_held, reset_with, reset_for}
-use Rattle.subchannel_model.specs.Parts.{chain_with, end_shown_at}
 use Rattle.subchannel_model.specs.Programs.{has_any}
-use Rattle.subchannel_model.proofs.Named.{give_next}
-use Rattle.subchannel_model.specs.Taking.{Met, meets, ignoring, quietly, let_go, by_hold, interrupted, standing, goes_ahead, path_used, taking_over, suspending, beginning, begin_standing, halt_done, clear_done, accept, moving_on, take_in, move_bytes, move_data, with_end, end_taken, chaining, goes_on, stops_at, command_ended, end_of, reset_taken, may_attend, takes_up, with_known, with_attention}
-use Rattle.machine_laws.proofs.SameState.{IsSame, is-same, same-then, cause-same, interrupted-same, moving-same, suspending-same, halt_done-same, clear_done-same, attention-same}
+use Rattle.subchannel_model.specs.Taking.{takes_up}
+use Rattle.subchannel_model.specs.Notice.{with_known}
+use Rattle.subchannel_model.specs.Attention.{with_attention, may_take_attention}
+use Rattle.machine_laws.proofs.SameState.{IsSame, is-same, same-then, cause-same, interrupted-same, moving-same, suspending-same, attention-same, halt_performed-same, clear_performed-same}
+use Rattle.subchannel_model.specs.End.{chains_with, with_end_status, with_first_end, with_allegiance_after_end, next_ccw_outcome, chains_at_device_end, concludes, ends_command, ends_at_work}
+use Rattle.subchannel_model.specs.Data.{gives_next_chunk, after_chunk, tells_room_after, moves_bytes, moves_data}
+use Rattle.subchannel_model.specs.Outcomes.{SignalOutcome, with_storage, signal_ignored, signal_taken, device_released, hold_outcome}
+use Rattle.subchannel_model.specs.Pci.{with_pci}
+use Rattle.subchannel_model.specs.Accept.{offered_position, takes_device, with_path_used, with_program_at_work, first_ccw_outcome, begins_at, halt_performed, takes_accept}
+use Rattle.subchannel_model.specs.Suspension.{program_suspended}
+use Rattle.subchannel_model.specs.Cleared.{clear_performed, takes_cleared}
 use Rattle.seen_laws.specs.Links.{Link, Offered, accepted, engaged_by, link_sent, SubSeen, sub_met, program_of, mover_of, IsSilent, IsTaken}
 use Rattle.seen_laws.proofs.LinkHolds.{Stands, IsHeldAs, phased, is_offer_of, same-offered, certain, IsSentAs, AreSentAs, Turned, TurnedBy, ignored, busy-turned, left-turned, released-turned, cleared-turned, back-turned, attended-turned}
 use Rattle.seen_laws.proofs.Meets.{Meets, Ignored, Turns, Begins, Declines, Moves, Ends, Ends_last, Leaves, Grants, IsPlainUp, AreCommandsOn, AreDataAnswers, takes-meets, Sends_command, Sends_room, Sends_bytes}
@@ -54,20 +63,20 @@ lets : (h : HoldState) (phase : HoldPhase) → Rephased (phased h phase) (hold_a
 lets h hold.Free = refl
 lets h other = refl
 
-let-left : (s x : SubchannelState) → IsSame s x → IsLeft s (let_go x)
+let-left : (s x : SubchannelState) → IsSame s x → IsLeft s (device_released x)
 let-left s x same = record {
   hold = subst (λ (h : HoldState). Rephased h (hold_after x.hold (letting_go x.hold x.hold.phase))) same.hold (lets x.hold x.hold.phase);
   drawn = same.drawn;
 }
 
-ignored-left : (s : SubchannelState) → IsLeft s (ignoring s)
+ignored-left : (s : SubchannelState) → IsLeft s (signal_ignored s)
 ignored-left s = record { hold = refl; drawn = refl }
 
 if-left : (s : SubchannelState) (b : Bool) (x y : UpStep) → IsLeft s x → IsLeft s y → IsLeft s (if b then x else y)
 if-left s true x y k l = k
 if-left s false x y k l = l
 
-if-met : (s : SubchannelState) (b : Bool) (x y : Met) → IsLeft s x.step → IsLeft s y.step → IsLeft s (if b then x else y).step
+if-met : (s : SubchannelState) (b : Bool) (x y : SignalOutcome) → IsLeft s x.step → IsLeft s y.step → IsLeft s (if b then x else y).step
 if-met s true x y k l = k
 if-met s false x y k l = l
 
@@ -76,19 +85,19 @@ record IsBegun (s : SubchannelState) (step : UpStep) : Type 0 where
   left : IsLeft s step
   taken : step.came.taken ≡ true
 
-beginning-left : (storage : Contents) (s : SubchannelState) (p t : ℕ) (st : ProgramPosition) (walk : WalkPlace) (r : CommandStart) → IsBegun s (beginning storage s p t st walk r)
+beginning-left : (storage : Contents) (s : SubchannelState) (p t : ℕ) (st : ProgramPosition) (walk : WalkPlace) (r : CommandStart) → IsBegun s (first_ccw_outcome storage s p t st walk r)
 beginning-left storage s p t st walk (came.Begins transfer) =
-    let next : SubchannelState = taking_over s st.program (begun_with_room storage transfer).transfer in
+    let next : SubchannelState = with_program_at_work s st.program (begun_with_room storage transfer).transfer in
     record {
-      left = same-left s (interrupted next next.begun) _ (same-then s next (interrupted next next.begun) (is-same s next refl refl refl) (interrupted-same next next.begun));
+      left = same-left s (with_pci next next.begun) _ (same-then s next (with_pci next next.begun) (is-same s next refl refl refl) (interrupted-same next next.begun));
       taken = refl;
     }
 beginning-left storage s p t st walk came.Suspends =
-    record { left = let-left s (suspending s st.program walk st.count) (suspending-same s st.program walk st.count); taken = refl }
+    record { left = let-left s (program_suspended s st.program walk st.count) (suspending-same s st.program walk st.count); taken = refl }
 beginning-left storage s p t st walk (came.Stops check) =
     record { left = let-left s (with_cause s (cause.FetchFault walk.tried check st.count)) (cause-same s (cause.FetchFault walk.tried check st.count)); taken = refl }
 
-standing-left : (storage : Contents) (s : SubchannelState) (p t : ℕ) (st : Option ProgramPosition) → IsBegun s (begin_standing storage s p t st)
+standing-left : (storage : Contents) (s : SubchannelState) (p t : ℕ) (st : Option ProgramPosition) → IsBegun s (begins_at storage s p t st)
 standing-left storage s p t None = record { left = same-left s s _ (is-same s s refl refl refl); taken = refl }
 standing-left storage s p t (Some st) = beginning-left storage s p t st (first_command storage st.walk).walk (first_command storage st.walk).came
 
@@ -104,7 +113,7 @@ record IsAccepted (u : ℕ) (s : SubchannelState) (step : UpStep) : Type 0 where
   noted : IsNoted (up.Accept u) s step
   taken : step.came.taken ≡ is_offer_of s.hold.phase u
 
-not-accepted : (u : ℕ) (s : SubchannelState) (h : HoldState) (phase : HoldPhase) → is_offer_of phase u ≡ false → IsAccepted u (record s { hold = phased h phase }) (ignoring (record s { hold = phased h phase }))
+not-accepted : (u : ℕ) (s : SubchannelState) (h : HoldState) (phase : HoldPhase) → is_offer_of phase u ≡ false → IsAccepted u (record s { hold = phased h phase }) (signal_ignored (record s { hold = phased h phase }))
 not-accepted u s h phase e = record { noted = record { hold = refl; drawn = refl }; taken = sym e }
 
 begun-noted : (u t q : ℕ) (s : SubchannelState) (h : HoldState) (x : SubchannelState) (phase : HoldPhase) (step : UpStep) → x.hold ≡ record h { phase = phase; seen = 0; first_path = Some q } → x.drawn ≡ s.drawn →
@@ -120,61 +129,61 @@ begun-noted u t q s h x phase step e n same b = record {
 
 accept-begun : (storage : Contents) (s : SubchannelState) (h : HoldState) (t q u : ℕ) (may same : Bool) → (u == t) ≡ same →
     IsAccepted u (record s { hold = phased h (hold.Offer t q) })
-    (accept storage (record s { hold = phased h (hold.Offer t q) }) (if same then Some (program_begun (phased h (hold.Offer t q)) t q may) else None))
+    (takes_accept storage (record s { hold = phased h (hold.Offer t q) }) (if same then Some (program_begun (phased h (hold.Offer t q)) t q may) else None))
 accept-begun storage s h t q u true true e =
-    let x : SubchannelState = record s { hold = record h { phase = hold.On t q 0; seen = 0; first_path = Some q }; pmcw = path_used s.pmcw q } in
-    begun-noted u t q s h x (hold.On t q 0) _ refl refl e (standing-left storage x q t (standing s))
+    let x : SubchannelState = record s { hold = record h { phase = hold.On t q 0; seen = 0; first_path = Some q }; pmcw = with_path_used s.pmcw q } in
+    begun-noted u t q s h x (hold.On t q 0) _ refl refl e (standing-left storage x q t (offered_position s))
 accept-begun storage s h t q u false true e =
-    let x : SubchannelState = record s { hold = record h { phase = hold.Letting t q; seen = 0; first_path = Some q }; pmcw = path_used s.pmcw q } in
-    begun-noted u t q s h x (hold.Letting t q) _ refl refl e (record { left = same-left x (halt_done x) _ (halt_done-same x); taken = refl })
+    let x : SubchannelState = record s { hold = record h { phase = hold.Letting t q; seen = 0; first_path = Some q }; pmcw = with_path_used s.pmcw q } in
+    begun-noted u t q s h x (hold.Letting t q) _ refl refl e (record { left = same-left x (halt_performed x) _ (halt_performed-same x); taken = refl })
 accept-begun storage s h t q u may false e = not-accepted u s h (hold.Offer t q) e
 
 accept-noted : (storage : Contents) (s : SubchannelState) (h : HoldState) (phase : HoldPhase) (u : ℕ) (may : Bool) →
-    IsAccepted u (record s { hold = phased h phase }) (accept storage (record s { hold = phased h phase }) (offer_accepted (phased h phase) phase u may))
+    IsAccepted u (record s { hold = phased h phase }) (takes_accept storage (record s { hold = phased h phase }) (offer_accepted (phased h phase) phase u may))
 accept-noted storage s h (hold.Offer t q) u may = accept-begun storage s h t q u may (u == t) refl
 accept-noted storage s h other u may = not-accepted u s h other refl
 
 -- Data
-data-left : (storage : Contents) (s : SubchannelState) (b : Option ActiveProgram) (signal : DataSignal) (load : Load) → IsLeft s (move_data storage s b signal load).step
+data-left : (storage : Contents) (s : SubchannelState) (b : Option ActiveProgram) (signal : DataSignal) (load : Load) → IsLeft s (moves_data storage s b signal load).step
 data-left storage s None signal load = ignored-left s
 data-left storage s (Some b) signal load =
-    if-met s (is_answered b.transfer signal.command signal.sequence) (move_bytes storage s b signal load) (meets storage (ignoring s))
-    (if-met s (is_outward b.transfer.code) (meets storage (give_next storage s b signal (load_length load))) (take_in s b signal (brought storage b.transfer signal.sequence (load_bytes load)))
-    (same-left s (moving_on s b (next_given storage (taken_by_device storage b.transfer signal.sequence (load_length load))).transfer) _ (moving-same s b _))
+    if-met s (is_answered b.transfer signal.command signal.sequence) (moves_bytes storage s b signal load) (with_storage storage (signal_ignored s))
+    (if-met s (is_outward b.transfer.code) (with_storage storage (gives_next_chunk storage s b signal (load_length load))) (tells_room_after s b signal (chunk_stored storage b.transfer signal.sequence (load_bytes load)))
+    (same-left s (after_chunk s b (next_chunk storage (chunk_absorbed storage b.transfer signal.sequence (load_length load))).transfer) _ (moving-same s b _))
     (same-left s
-    (moving_on s b (with_room (brought storage b.transfer signal.sequence (load_bytes load)).storage (brought storage b.transfer signal.sequence (load_bytes load)).transfer).transfer) _
+    (after_chunk s b (with_room (chunk_stored storage b.transfer signal.sequence (load_bytes load)).storage (chunk_stored storage b.transfer signal.sequence (load_bytes load)).transfer).transfer) _
     (moving-same s b _)))
     (ignored-left s)
 
 -- End
-ended-same : (s x : SubchannelState) (signal : EndSignal) → IsSame (end_taken s signal) x → IsSame s x
+ended-same : (s x : SubchannelState) (signal : EndSignal) → IsSame (with_allegiance_after_end s signal) x → IsSame s x
 ended-same s x signal same = is-same s x same.drawn same.hold same.available
 
-chaining-left : (storage : Contents) (s : SubchannelState) (b : ActiveProgram) (signal : EndSignal) (walk : WalkPlace) (r : CommandStart) → IsLeft s (chaining storage s b signal walk r)
+chaining-left : (storage : Contents) (s : SubchannelState) (b : ActiveProgram) (signal : EndSignal) (walk : WalkPlace) (r : CommandStart) → IsLeft s (next_ccw_outcome storage s b signal walk r)
 chaining-left storage s b signal walk (came.Begins transfer) =
-    same-left s (moving_on s b (begun_with_room storage transfer).transfer) _ (moving-same s b (begun_with_room storage transfer).transfer)
+    same-left s (after_chunk s b (begun_with_room storage transfer).transfer) _ (moving-same s b (begun_with_room storage transfer).transfer)
 chaining-left storage s b signal walk came.Suspends =
-    let x : SubchannelState = suspending (end_taken s signal) b.program walk (residual b.transfer.moving) in
-    let-left s x (ended-same s x signal (suspending-same (end_taken s signal) b.program walk (residual b.transfer.moving)))
+    let x : SubchannelState = program_suspended (with_allegiance_after_end s signal) b.program walk (residual b.transfer.moving) in
+    let-left s x (ended-same s x signal (suspending-same (with_allegiance_after_end s signal) b.program walk (residual b.transfer.moving)))
 chaining-left storage s b signal walk (came.Stops check) =
-    let x : SubchannelState = with_cause (end_taken s signal) (cause.FetchFault walk.tried check (residual b.transfer.moving)) in
-    let-left s x (ended-same s x signal (cause-same (end_taken s signal) (cause.FetchFault walk.tried check (residual b.transfer.moving))))
+    let x : SubchannelState = with_cause (with_allegiance_after_end s signal) (cause.FetchFault walk.tried check (residual b.transfer.moving)) in
+    let-left s x (ended-same s x signal (cause-same (with_allegiance_after_end s signal) (cause.FetchFault walk.tried check (residual b.transfer.moving))))
 
-stops-left : (s : SubchannelState) (b : ActiveProgram) (signal : EndSignal) → IsLeft s (stops_at s b signal)
+stops-left : (s : SubchannelState) (b : ActiveProgram) (signal : EndSignal) → IsLeft s (concludes s b signal)
 stops-left s b signal =
     let e : IsSame s (with_cause s (cause.End b signal.status signal.more)) = cause-same s (cause.End b signal.status signal.more) in
-    let x : SubchannelState = end_shown_at s b signal in
+    let x : SubchannelState = with_end_status s b signal in
     let same : IsSame s x = is-same s x e.drawn e.hold e.available in
-    if-left s (is_last_end signal.status) (let_go x) (quietly x) (let-left s x same) (same-left s x _ same)
+    if-left s (is_last_end signal.status) (device_released x) (signal_taken x) (let-left s x same) (same-left s x _ same)
 
-end-left : (storage : Contents) (s : SubchannelState) (b : Option ActiveProgram) (signal : EndSignal) → IsLeft s (end_of storage s b signal)
+end-left : (storage : Contents) (s : SubchannelState) (b : Option ActiveProgram) (signal : EndSignal) → IsLeft s (ends_at_work storage s b signal)
 end-left storage s None signal = ignored-left s
 end-left storage s (Some b) signal =
-    let next : Beginning = next_command storage (with_end b).transfer (has_status_modifier signal.status) in
-    if-left s (signal.command == b.transfer.command) (command_ended storage s b signal) (ignoring s)
-    (if-left s (chains_command s.scsw b signal.status signal.more) (goes_on storage s (with_end b) signal) (stops_at s b signal)
-    (if-left s (has_device_end signal.status) (chain_with storage s (with_end b) signal next) _ (chaining-left storage s (with_end b) signal next.walk next.came)
-    (same-left s (record (end_taken s signal) { begun = Some (with_end b) }) _ (is-same s _ refl refl refl)))
+    let next : Beginning = next_command storage (with_first_end b).transfer (has_status_modifier signal.status) in
+    if-left s (signal.command == b.transfer.command) (ends_command storage s b signal) (signal_ignored s)
+    (if-left s (chains_command s.scsw b signal.status signal.more) (chains_at_device_end storage s (with_first_end b) signal) (concludes s b signal)
+    (if-left s (has_device_end signal.status) (chains_with storage s (with_first_end b) signal next) _ (chaining-left storage s (with_first_end b) signal next.walk next.came)
+    (same-left s (record (with_allegiance_after_end s signal) { begun = Some (with_first_end b) }) _ (is-same s _ refl refl refl)))
     (stops-left s b signal))
     (ignored-left s)
 
@@ -350,10 +359,10 @@ steady-turned p x k s step steady m noted taken tie = record {
 same-turned : (p : ℕ) (x : Up) (k : SubSeen) (s y : SubchannelState) (taken : Bool) (sent : Option (OnPath Down)) → IsSame s y → Turned p x k taken sent s.hold s.drawn → Turned p x k taken sent y.hold y.drawn
 same-turned p x k s y taken sent same t = record { taken = t.taken; sent = t.sent; after = after-as (sub_met (reply.Up x taken sent) k) s.hold y.hold s.drawn y.drawn same.hold same.drawn t.after }
 
-cleared-step : (p : ℕ) (x : Up) (k : SubSeen) (s : SubchannelState) (step : Option HoldStep) → TurnedBy p x k s.hold s.drawn step → IsTurn p x k (reset_taken s step)
+cleared-step : (p : ℕ) (x : Up) (k : SubSeen) (s : SubchannelState) (step : Option HoldStep) → TurnedBy p x k s.hold s.drawn step → IsTurn p x k (takes_cleared s step)
 cleared-step p x k s None t = t
 cleared-step p x k s (Some step) t =
-    let next : SubchannelState = record s { hold = step.state } in same-turned p x k next (clear_done next) true step.sent (clear_done-same next) t
+    let next : SubchannelState = record s { hold = step.state } in same-turned p x k next (clear_performed next) true step.sent (clear_performed-same next) t
 
 -- Notice: the hold is to be reset under a fresh number
 notice-after : (k : SubSeen) (s : SubchannelState) (b : ℕ) (shows : Bool) → IsHeldAs k s.hold s.drawn →
@@ -366,7 +375,7 @@ notice-after k s b false tie =
     record { stands = inl refl; asked = tie.asked; first = tie.first; known = refl; drawn = omega (arith, l); due = (omega (arith, l), omega arith); single = tt }
 
 notice-turned : (p : ℕ) (k : SubSeen) (s : SubchannelState) (b : ℕ) (more : Bool) → nat_lt s.hold.known b ≡ more → IsHeldAs k s.hold s.drawn →
-    IsTurn p (up.Notice b) k (if more then quietly (reset_for (with_known s b)) else ignoring s)
+    IsTurn p (up.Notice b) k (if more then signal_taken (reset_for (with_known s b)) else signal_ignored s)
 notice-turned p k s b true e tie = record {
   taken = sym (ap (λ (m : ℕ). nat_lt m b) tie.known ∙ e);
   sent = tt;
@@ -382,7 +391,7 @@ IsSeenUp n x = Unit {0}
 pub takes-turned : (returns : Bool) (storage : Contents) (s : SubchannelState) (p : ℕ) (x : Up) (k : SubSeen) → (returns ≡ true → s.hold.single_path ≡ true → s.hold.first_path ≡ Some p) →
     IsSeenUp k.drawn x → IsHeldAs k s.hold s.drawn → IsTurn p x k (takes_up returns storage s p x).step
 takes-turned returns storage s p (up.Accept t) k single seen tie =
-    let a = accept-noted storage s s.hold s.hold.phase t (goes_ahead s) in
+    let a = accept-noted storage s s.hold s.hold.phase t (takes_device s) in
     steady-turned p (up.Accept t) k s (takes_up returns storage s p (up.Accept t)).step tt (takes-meets returns storage s p (up.Accept t)) a.noted
     (a.taken ∙ sym (same-offered k s.hold.phase s.hold.reset_path t tie.stands)) tie
 takes-turned returns storage s p (up.Busy t) k single seen tie = busy-turned p k s.hold s.drawn s.hold.phase t tie
@@ -391,13 +400,13 @@ takes-turned returns storage s p (up.Back t c) k single seen tie = back-turned p
 takes-turned returns storage s p (up.Data load t c n q) k single seen tie =
     let signal : DataSignal = record { path = p; number = t; connection = c; command = n; sequence = q } in
     let left : IsLeft s (takes_up returns storage s p (up.Data load t c n q)).step =
-    if-met s (is_connected s.hold.phase p t c) (move_data storage s s.begun signal load) (meets storage (ignoring s)) (data-left storage s s.begun signal load) (ignored-left s) in
+    if-met s (is_connected s.hold.phase p t c) (moves_data storage s s.begun signal load) (with_storage storage (signal_ignored s)) (data-left storage s s.begun signal load) (ignored-left s) in
     steady-turned p (up.Data load t c n q) k s (takes_up returns storage s p (up.Data load t c n q)).step tt (takes-meets returns storage s p (up.Data load t c n q)) (record { hold = left.hold; drawn = left.drawn })
     (work-taken p (up.Data load t c n q) s.hold.phase _ _ _ k s.hold.reset_path (takes-meets returns storage s p (up.Data load t c n q)) tt tie.stands) tie
 takes-turned returns storage s p (up.End t n status more) k single seen tie =
     let signal : EndSignal = record { path = p; number = t; command = n; status = status; more = more } in
     let left : IsLeft s (takes_up returns storage s p (up.End t n status more)).step =
-    if-left s (is_on s.hold.phase t) (end_of storage s s.begun signal) (ignoring s) (end-left storage s s.begun signal) (ignored-left s) in
+    if-left s (is_on s.hold.phase t) (ends_at_work storage s s.begun signal) (signal_ignored s) (end-left storage s s.begun signal) (ignored-left s) in
     steady-turned p (up.End t n status more) k s (takes_up returns storage s p (up.End t n status more)).step tt (takes-meets returns storage s p (up.End t n status more)) (record { hold = left.hold; drawn = left.drawn })
     (work-taken p (up.End t n status more) s.hold.phase _ _ _ k s.hold.reset_path (takes-meets returns storage s p (up.End t n status more)) tt tie.stands) tie
 takes-turned returns storage s p (up.Released t) k single seen tie = released-turned p k s.hold s.drawn s.hold.phase t tie
@@ -405,7 +414,7 @@ takes-turned returns storage s p (up.Cleared r) k single seen tie =
     cleared-step p (up.Cleared r) k s (hold_takes s.hold p (up.Cleared r) false) (cleared-turned p k s.hold s.drawn s.hold.phase r seen tie)
 takes-turned returns storage s p (up.Notice b) k single seen tie = notice-turned p k s b (nat_lt s.hold.known b) refl tie
 takes-turned returns storage s p (up.Attn a status) k single seen tie =
-    let step : Option HoldStep = hold_takes s.hold p (up.Attn a status) (may_attend s) in
+    let step : Option HoldStep = hold_takes s.hold p (up.Attn a status) (may_take_attention s) in
     let shows : Bool = (came_of step).taken && not (status.0 == 0x20) in
-    same-turned p (up.Attn a status) k (by_hold s step).state (with_attention (by_hold s step).state shows) (came_of step).taken (came_of step).sent
-    (attention-same (by_hold s step).state shows) (attended-turned p k s.hold s.drawn s.hold.phase a status (may_attend s) tie)
+    same-turned p (up.Attn a status) k (hold_outcome s step).state (with_attention (hold_outcome s step).state shows) (came_of step).taken (came_of step).sent
+    (attention-same (hold_outcome s step).state shows) (attended-turned p k s.hold s.drawn s.hold.phase a status (may_take_attention s) tie)

@@ -16,7 +16,8 @@ use Rattle.chan_model.specs.ConditionCodes.{in_order}
 use Rattle.chan_model.specs.HoldTable.{HoldStep, hold_after, came_of, program_begun, letting_go}
 use Rattle.ccw_walk.specs.declared.program.Advance.{Advance}
 use Rattle.ccw_walk.specs.declared.program.Advance.TheVariants as advance
-use Rattle.ccw_walk.specs.Walks.{WalkPlace, advance_acts, advance_of, after_acts}
+use Rattle.ccw_walk.specs.Places.{WalkPlace, after_acts}
+use Rattle.ccw_walk.specs.Advancing.{advance_acts, advance_of_acts}
 use Rattle.data_move.specs.Accesses as access
 use Rattle.data_move.specs.Moving.{Moving}
 use Rattle.ccw_walk.specs.declared.check.Check.{Check}
@@ -40,7 +41,11 @@ use Rattle.subchannel_model.specs.Programs.{without_programs, has_any}
 use Rattle.subchannel_model.specs.Start.{started}
 use Rattle.subchannel_model.specs.Status.{intermediate_alone, without_status, serials_cleared}
 use Rattle.subchannel_model.specs.Test.{ended_scsw, suspended_scsw, ends_suspended, tested, tested_wholly}
-use Rattle.subchannel_model.specs.Taking.{quietly, ignoring, let_go, standing, goes_ahead, from_start, path_used, suspending, beginning, begin_standing, accept, takes_up, with_known}
+use Rattle.subchannel_model.specs.Taking.{takes_up}
+use Rattle.subchannel_model.specs.Notice.{with_known}
+use Rattle.subchannel_model.specs.Outcomes.{signal_taken, signal_ignored, device_released}
+use Rattle.subchannel_model.specs.Accept.{offered_position, takes_device, position_at_start, with_path_used, first_ccw_outcome, begins_at, takes_accept}
+use Rattle.subchannel_model.specs.Suspension.{program_suspended}
 use Rattle.machine_laws.proofs.SameHold.{suspending-same, cause-same}
 use Rattle.seen_laws.specs.BeginsItsOwn.{IsAnswered, IsAcceptRight}
 use Rattle.seen_laws.proofs.Meets.{Meets, Ignored, Turns, IsGone, IsPlainUp, releases, phase-of, reset-gone, takes-meets}
@@ -50,22 +55,22 @@ abbrev pub IsHalting : SubchannelState → Type 0
 IsHalting s = (s.scsw.activity.halt_pending ≡ true) × (shows_end s.scsw.status ≡ false)
 
 abbrev pub IsOver : SubchannelState → Type 0
-IsOver s = IsHalting s ⊎ (standing s ≡ None)
+IsOver s = IsHalting s ⊎ (offered_position s ≡ None)
 
 -- where a program is offered, and what was seen says that it is over, it is
 abbrev pub Tied : Bool → SubchannelState → Type 0
 Tied over s = (t p : ℕ) → s.hold.phase ≡ hold.Offer t p → over ≡ true → IsOver s
 
-pub over-stops : (s : SubchannelState) → IsOver s → goes_ahead s ≡ false
-over-stops s (inl h) = and_right (is_some (standing s)) (not s.scsw.activity.halt_pending) (ap not h.0)
-over-stops s (inr e) = and_left (is_some (standing s)) (not s.scsw.activity.halt_pending) (ap is_some e)
+pub over-stops : (s : SubchannelState) → IsOver s → takes_device s ≡ false
+over-stops s (inl h) = and_right (is_some (offered_position s)) (not s.scsw.activity.halt_pending) (ap not h.0)
+over-stops s (inr e) = and_left (is_some (offered_position s)) (not s.scsw.activity.halt_pending) (ap is_some e)
 
 -- a later start
 pub start-over : (s : SubchannelState) (orb : Orb) → Within s → IsOver (started s orb)
 start-over s orb k =
     let program : Program = record { start = s.starts + 1; orb = orb; single_path = not s.pmcw.multipath } in
     let other : ((s.starts + 1) == s.offered) ≡ false = ne_eqb (s.starts + 1) s.offered (λ e. absurd (omega (arith, e, k.0))) in
-    inr (ap (λ (b : Bool). if b then Some (from_start program) else None) other)
+    inr (ap (λ (b : Bool). if b then Some (position_at_start program) else None) other)
 
 -- a test: status that stands beside a pending halt is none, or intermediate alone
 shows-alone : (pending i a p q : Bool) → (pending && (not i || (a || (p || q)))) ≡ false → (pending && not (i && (not a && (not p && not q)))) ≡ false
@@ -92,7 +97,7 @@ test-halting s true true false d e h = inl (h.0, refl)
 test-halting s true true true true e h = inr refl
 test-halting s true true true false e h = inl (h.0, refl)
 
-test-stands : (s : SubchannelState) (b : Bool) (x : SubchannelState) → standing x ≡ None → IsOver (if b then without_programs x else x)
+test-stands : (s : SubchannelState) (b : Bool) (x : SubchannelState) → offered_position x ≡ None → IsOver (if b then without_programs x else x)
 test-stands s true x e = inr refl
 test-stands s false x e = inr e
 
@@ -146,7 +151,7 @@ begins-first walk (Some (advance.Takes ccw)) = refl
 begins-first walk other = tt
 
 first-first : (storage : Contents) (walk : WalkPlace) → IsFirst (first_command storage walk).came
-first-first storage walk = begins-first (after_acts walk (advance_acts storage walk)) (advance_of walk (advance_acts storage walk))
+first-first storage walk = begins-first (after_acts walk (advance_acts storage walk)) (advance_of_acts walk (advance_acts storage walk))
 
 located-command : (t : Transfer) (r : Result Moving Check) → (with_located t r).command ≡ t.command
 located-command t (Ok m) = refl
@@ -170,22 +175,22 @@ begun-command storage t =
 lets-sent : (h : HoldState) (phase : HoldPhase) (t q c : ℕ) → phase ≡ hold.On t q c → (came_of (letting_go h phase)).sent ≡ releases t q
 lets-sent h phase t q c e = subst (λ (y : HoldPhase). (came_of (letting_go h y)).sent ≡ releases t q) (sym e) refl
 
-let-answered : (t q : ℕ) (x : SubchannelState) → x.hold.phase ≡ hold.On t q 0 → IsAnswered false t (let_go x).came.sent
+let-answered : (t q : ℕ) (x : SubchannelState) → x.hold.phase ≡ hold.On t q 0 → IsAnswered false t (device_released x).came.sent
 let-answered t q x e = subst (λ (o : Option (OnPath Down)). IsAnswered false t o) (sym (lets-sent x.hold x.hold.phase t q 0 e)) (inl refl)
 
 beginning-answered : (storage : Contents) (s : SubchannelState) (t q : ℕ) (st : ProgramPosition) (walk : WalkPlace) (c : CommandStart) → IsFirst c → s.hold.phase ≡ hold.On t q 0 →
-    IsAnswered false t (beginning storage s q t st walk c).came.sent
+    IsAnswered false t (first_ccw_outcome storage s q t st walk c).came.sent
 beginning-answered storage s t q st walk (came.Begins transfer) f e =
     let x : WithRoom = begun_with_room storage transfer in
     inr (x.transfer.code, x.room, ap (λ (n : ℕ). down.Command t n x.transfer.code x.room) (begun-command storage transfer ∙ f))
 beginning-answered storage s t q st walk came.Suspends f e =
-    let x = suspending s st.program walk st.count in let-answered t q x (phase-of s x (suspending-same s st.program walk st.count) ∙ e)
+    let x = program_suspended s st.program walk st.count in let-answered t q x (phase-of s x (suspending-same s st.program walk st.count) ∙ e)
 beginning-answered storage s t q st walk (came.Stops check) f e =
     let x = with_cause s (cause.FetchFault walk.tried check st.count) in
     let-answered t q x (phase-of s x (cause-same s (cause.FetchFault walk.tried check st.count)) ∙ e)
 
 begin-answered : (storage : Contents) (s : SubchannelState) (t q : ℕ) (st : Option ProgramPosition) → is_some st ≡ true → s.hold.phase ≡ hold.On t q 0 →
-    IsAnswered false t (begin_standing storage s q t st).came.sent
+    IsAnswered false t (begins_at storage s q t st).came.sent
 begin-answered storage s t q None h e = absurd (cc h)
 begin-answered storage s t q (Some st) h e =
     beginning-answered storage s t q st (first_command storage st.walk).walk (first_command storage st.walk).came (first-first storage st.walk) e
@@ -204,14 +209,14 @@ with_hold s h phase = record s { hold = record h { phase = phase } }
 abbrev pub offer_begun : HoldState → ℕ → ℕ → Bool → Bool → Option HoldStep
 offer_begun h t q may same = if same then Some (program_begun (record h { phase = hold.Offer t q }) t q may) else None
 
-begun-answered : (storage : Contents) (s : SubchannelState) (h : HoldState) (t q u : ℕ) (over may same : Bool) → (same ≡ true → u ≡ t) → (may ≡ true → is_some (standing s) ≡ true) →
-    (over ≡ true → may ≡ false) → (accept storage (with_hold s h (hold.Offer t q)) (offer_begun h t q may same)).came.taken ≡ true →
-    IsAnswered over u (accept storage (with_hold s h (hold.Offer t q)) (offer_begun h t q may same)).came.sent
+begun-answered : (storage : Contents) (s : SubchannelState) (h : HoldState) (t q u : ℕ) (over may same : Bool) → (same ≡ true → u ≡ t) → (may ≡ true → is_some (offered_position s) ≡ true) →
+    (over ≡ true → may ≡ false) → (takes_accept storage (with_hold s h (hold.Offer t q)) (offer_begun h t q may same)).came.taken ≡ true →
+    IsAnswered over u (takes_accept storage (with_hold s h (hold.Offer t q)) (offer_begun h t q may same)).came.sent
 begun-answered storage s h t q u over true true e f g i =
     let n : u ≡ t = e refl in
-    let x = record s { hold = record h { phase = hold.On t q 0; seen = 0; first_path = Some q }; pmcw = path_used s.pmcw q } in
-    subst (λ (v : ℕ). IsAnswered over v (begin_standing storage x q t (standing s)).came.sent) (sym n)
-    (either-answered over t (begin_standing storage x q t (standing s)).came.sent (λ y. absurd (cc (g y))) (begin-answered storage x t q (standing s) (f refl) refl))
+    let x = record s { hold = record h { phase = hold.On t q 0; seen = 0; first_path = Some q }; pmcw = with_path_used s.pmcw q } in
+    subst (λ (v : ℕ). IsAnswered over v (begins_at storage x q t (offered_position s)).came.sent) (sym n)
+    (either-answered over t (begins_at storage x q t (offered_position s)).came.sent (λ y. absurd (cc (g y))) (begin-answered storage x t q (offered_position s) (f refl) refl))
 begun-answered storage s h t q u over false true e f g i = subst (λ (v : ℕ). IsAnswered over v (releases t q)) (sym (e refl)) (release-answered over t q)
 begun-answered storage s h t q u over may false e f g i = absurd (cc i)
 
@@ -219,8 +224,8 @@ accept-answered : (returns : Bool) (storage : Contents) (s : SubchannelState) (h
     (takes_up returns storage (with_hold s h phase) p (up.Accept u)).step.came.taken ≡ true →
     IsAnswered over u (takes_up returns storage (with_hold s h phase) p (up.Accept u)).step.came.sent
 accept-answered returns storage s h (hold.Offer t q) p u over k i =
-    begun-answered storage s h t q u over (goes_ahead s) (u == t) (λ e. eqb-true u t e)
-    (λ e. (and_parts (is_some (standing s)) (not s.scsw.activity.halt_pending) e).0)
+    begun-answered storage s h t q u over (takes_device s) (u == t) (λ e. eqb-true u t e)
+    (λ e. (and_parts (is_some (offered_position s)) (not s.scsw.activity.halt_pending) e).0)
     (λ e. over-stops (with_hold s h (hold.Offer t q)) (k t q refl e)) i
 accept-answered returns storage s h other p u over k i = absurd (cc i)
 
@@ -262,12 +267,12 @@ if-same : (s : SubchannelState) (b : Bool) (x y : UpStep) → IsSameOr s x.state
 if-same s true x y e f = e
 if-same s false x y e f = f
 
-starts-taken : (storage : Contents) (s : SubchannelState) (p t : ℕ) (st : ProgramPosition) (walk : WalkPlace) (c : CommandStart) → (beginning storage s p t st walk c).came.taken ≡ true
+starts-taken : (storage : Contents) (s : SubchannelState) (p t : ℕ) (st : ProgramPosition) (walk : WalkPlace) (c : CommandStart) → (first_ccw_outcome storage s p t st walk c).came.taken ≡ true
 starts-taken storage s p t st walk (came.Begins transfer) = refl
 starts-taken storage s p t st walk came.Suspends = refl
 starts-taken storage s p t st walk (came.Stops check) = refl
 
-pub begin-taken : (storage : Contents) (s : SubchannelState) (p t : ℕ) (o : Option ProgramPosition) → (begin_standing storage s p t o).came.taken ≡ true
+pub begin-taken : (storage : Contents) (s : SubchannelState) (p t : ℕ) (o : Option ProgramPosition) → (begins_at storage s p t o).came.taken ≡ true
 begin-taken storage s p t None = refl
 begin-taken storage s p t (Some st) = starts-taken storage s p t st (first_command storage st.walk).walk (first_command storage st.walk).came
 
@@ -278,20 +283,20 @@ meets-accept p u _ _ _ _ _ t q h i (Turns x phase next sent plain stays quiet) e
 meets-accept p u _ _ _ _ _ t q h i other e = absurd (cc e)
 
 begun-same : (storage : Contents) (s : SubchannelState) (h : HoldState) (p t q u : ℕ) (may same : Bool) →
-    Meets p (up.Accept u) (hold.Offer t q) (accept storage (with_hold s h (hold.Offer t q)) (offer_begun h t q may same)).came.taken
-    (accept storage (with_hold s h (hold.Offer t q)) (offer_begun h t q may same)).came.sent
-    (accept storage (with_hold s h (hold.Offer t q)) (offer_begun h t q may same)).state.hold.phase →
-    IsSameOr (with_hold s h (hold.Offer t q)) (accept storage (with_hold s h (hold.Offer t q)) (offer_begun h t q may same)).state
+    Meets p (up.Accept u) (hold.Offer t q) (takes_accept storage (with_hold s h (hold.Offer t q)) (offer_begun h t q may same)).came.taken
+    (takes_accept storage (with_hold s h (hold.Offer t q)) (offer_begun h t q may same)).came.sent
+    (takes_accept storage (with_hold s h (hold.Offer t q)) (offer_begun h t q may same)).state.hold.phase →
+    IsSameOr (with_hold s h (hold.Offer t q)) (takes_accept storage (with_hold s h (hold.Offer t q)) (offer_begun h t q may same)).state
 begun-same storage s h p t q u true true m =
-    let x = record s { hold = record h { phase = hold.On t q 0; seen = 0; first_path = Some q }; pmcw = path_used s.pmcw q } in
-    inr (λ v w e. meets-accept p u (up.Accept u) _ _ _ _ v w refl (begin-taken storage x q t (standing s)) m e)
+    let x = record s { hold = record h { phase = hold.On t q 0; seen = 0; first_path = Some q }; pmcw = with_path_used s.pmcw q } in
+    inr (λ v w e. meets-accept p u (up.Accept u) _ _ _ _ v w refl (begin-taken storage x q t (offered_position s)) m e)
 begun-same storage s h p t q u false true m = inr (λ v w e. meets-accept p u (up.Accept u) _ _ _ _ v w refl refl m e)
 begun-same storage s h p t q u may false m = inl refl
 
 same-at : (returns : Bool) (storage : Contents) (s : SubchannelState) (h : HoldState) (t q p : ℕ) (x : Up) →
     IsSameOr (with_hold s h (hold.Offer t q)) (takes_up returns storage (with_hold s h (hold.Offer t q)) p x).step.state
 same-at returns storage s h t q p (up.Accept u) =
-    begun-same storage s h p t q u (goes_ahead s) (u == t) (takes-meets returns storage (with_hold s h (hold.Offer t q)) p (up.Accept u))
+    begun-same storage s h p t q u (takes_device s) (u == t) (takes-meets returns storage (with_hold s h (hold.Offer t q)) p (up.Accept u))
 same-at returns storage s h t q p (up.Busy u) = either (u == t)
   where
     x : SubchannelState
@@ -308,7 +313,7 @@ same-at returns storage s h t q p (up.Released u) = inl refl
 same-at returns storage s h t q p (up.Cleared r) = inl refl
 same-at returns storage s h t q p (up.Notice b) =
     let x : SubchannelState = with_hold s h (hold.Offer t q) in
-    if-same x (nat_lt h.known b) (quietly (reset_for (with_known x b))) (ignoring x)
+    if-same x (nat_lt h.known b) (signal_taken (reset_for (with_known x b))) (signal_ignored x)
     (inr (λ v w e. gone-offer (reset_for (with_known x b)).hold.phase v w (reset-gone (with_known x b) (true && has_any s.waiting s.begun s.suspended)) e)) (inl refl)
 same-at returns storage s h t q p (up.Attn a status) = inl refl
 

@@ -20,14 +20,16 @@ use Rattle.chan_model.specs.Loads.{load_length}
 use Rattle.chan_model.specs.ResetCauses.{rests_on}
 use Rattle.chan_model.specs.UnitReports.{is_last_end, is_outward, has_device_end}
 use Rattle.channel_config.specs.declared.names.SubchannelId.{SubchannelId}
-use Rattle.ccw_walk.specs.Walks.{WalkPlace}
+use Rattle.ccw_walk.specs.Places.{WalkPlace}
 use Rattle.data_move.specs.Moving.{residual}
 use Rattle.storage_keys.specs.Storage.{Contents}
 use Rattle.transfer.specs.declared.CommandStart.{CommandStart}
 use Rattle.transfer.specs.declared.CommandStart.TheVariants as came
 use Rattle.transfer.specs.declared.Transfer.{Transfer}
 use Rattle.transfer.specs.Commands.{first_command, next_command, begun_with_room, with_room}
-use Rattle.transfer.specs.Chunks.{taken_by_device, next_given, brought, is_answered}
+use Rattle.transfer.specs.ToDevice.{chunk_absorbed, next_chunk}
+use Rattle.transfer.specs.FromDevice.{chunk_stored}
+use Rattle.transfer.specs.ChunkNumbers.{is_answered}
 use Rattle.machine_model.specs.declared.state.Sweep.{Sweep}
 use Rattle.machine_model.specs.declared.state.Sweep.TheVariants as sweep
 use Rattle.machine_model.specs.PathSteps.{swept}
@@ -49,9 +51,17 @@ use Rattle.subchannel_model.specs.Conditions.{left_by}
 use Rattle.subchannel_model.specs.Ends.{has_status_modifier, chains_command}
 use Rattle.subchannel_model.specs.Halt.{drops_status, status_dropped, halt_begun}
 use Rattle.subchannel_model.specs.Losing.{is_offered_or_held, reset_with, reset_for, path_index, loses_at, loses, shows_at}
-use Rattle.subchannel_model.specs.Parts.{suspended_alone, standing_still, end_shown_at}
 use Rattle.subchannel_model.specs.Programs.{without_programs, has_any}
-use Rattle.subchannel_model.specs.Taking.{Met, meets, ignoring, quietly, let_go, without_pci, standing, goes_ahead, path_used, taking_over, beginning, begin_standing, accept, with_transfer, moving_on, giving, take_in, move_bytes, move_data, with_end, end_taken, chaining, goes_on, stops_at, command_ended, end_of, reset_taken, attend, may_attend, takes_up}
+use Rattle.subchannel_model.specs.Taking.{takes_up}
+use Rattle.subchannel_model.specs.Suspension.{suspended_alone, with_suspended_program}
+use Rattle.subchannel_model.specs.End.{with_end_status, with_first_end, with_allegiance_after_end, next_ccw_outcome, chains_at_device_end, concludes, ends_command, ends_at_work}
+use Rattle.subchannel_model.specs.Outcomes.{SignalOutcome, with_storage, signal_ignored, signal_taken, device_released}
+use Rattle.subchannel_model.specs.Pci.{without_pci}
+use Rattle.subchannel_model.specs.Accept.{offered_position, takes_device, with_path_used, with_program_at_work, first_ccw_outcome, begins_at, takes_accept}
+use Rattle.subchannel_model.specs.Command.{with_transfer}
+use Rattle.subchannel_model.specs.Data.{after_chunk, gives_chunk, tells_room_after, moves_bytes, moves_data}
+use Rattle.subchannel_model.specs.Cleared.{takes_cleared}
+use Rattle.subchannel_model.specs.Attention.{takes_attention, may_take_attention}
 use Rattle.subchannel_model.specs.Test.{tested, ends_suspended, tested_wholly}
 use Rattle.shown_laws.specs.Behind.{behind_met, behind_after}
 use Rattle.shown_laws.specs.Shown.{is_about}
@@ -96,7 +106,7 @@ module _ (s : SubchannelState) where
   if-step true x y e f = e
   if-step false x y e f = f
 
-  if-met : (b : Bool) (x y : Met) → Keeps s x.step.state → Keeps s y.step.state → Keeps s (if b then x else y).step.state
+  if-met : (b : Bool) (x y : SignalOutcome) → Keeps s x.step.state → Keeps s y.step.state → Keeps s (if b then x else y).step.state
   if-met true x y e f = e
   if-met false x y e f = f
 
@@ -110,51 +120,51 @@ module _ (s : SubchannelState) where
   same = λ e. (e, refl)
 
   -- Data
-  moving-keeps : (b : ActiveProgram) (t : Transfer) → is_some s.begun ≡ true → Keeps s (moving_on s b t)
+  moving-keeps : (b : ActiveProgram) (t : Transfer) → is_some s.begun ≡ true → Keeps s (after_chunk s b t)
   moving-keeps b t i =
       let next : SubchannelState = with_transfer s b t in
       if-keeps t.pci_pending (with_cause (record next { begun = Some (without_pci (record b { transfer = t })) }) (cause.Pci t.walk.tried (residual t.moving))) next
       (λ e. (i, refl)) (λ e. (i, refl))
 
-  move-keeps : (storage : Contents) (o : Option ActiveProgram) (signal : DataSignal) (load : Load) → s.begun ≡ o → Keeps s (move_data storage s o signal load).step.state
+  move-keeps : (storage : Contents) (o : Option ActiveProgram) (signal : DataSignal) (load : Load) → s.begun ≡ o → Keeps s (moves_data storage s o signal load).step.state
   move-keeps storage None signal load i = same
   move-keeps storage (Some b) signal load i =
       let some : is_some s.begun ≡ true = ap (λ (o : Option ActiveProgram). is_some o) i in
-      if-met (is_answered b.transfer signal.command signal.sequence) (move_bytes storage s b signal load) (meets storage (ignoring s))
-      (if-met (is_outward b.transfer.code) (meets storage (giving s b signal (next_given storage (taken_by_device storage b.transfer signal.sequence (load_length load)))))
-      (take_in s b signal (brought storage b.transfer signal.sequence (load_bytes load)))
-      (moving-keeps b (next_given storage (taken_by_device storage b.transfer signal.sequence (load_length load))).transfer some)
+      if-met (is_answered b.transfer signal.command signal.sequence) (moves_bytes storage s b signal load) (with_storage storage (signal_ignored s))
+      (if-met (is_outward b.transfer.code) (with_storage storage (gives_chunk s b signal (next_chunk storage (chunk_absorbed storage b.transfer signal.sequence (load_length load)))))
+      (tells_room_after s b signal (chunk_stored storage b.transfer signal.sequence (load_bytes load)))
+      (moving-keeps b (next_chunk storage (chunk_absorbed storage b.transfer signal.sequence (load_length load))).transfer some)
       (moving-keeps b
-      (with_room (brought storage b.transfer signal.sequence (load_bytes load)).storage (brought storage b.transfer signal.sequence (load_bytes load)).transfer).transfer some))
+      (with_room (chunk_stored storage b.transfer signal.sequence (load_bytes load)).storage (chunk_stored storage b.transfer signal.sequence (load_bytes load)).transfer).transfer some))
       same
 
   -- End
   chaining-keeps : (storage : Contents) (b : ActiveProgram) (signal : EndSignal) (walk : WalkPlace) (c : CommandStart) → is_some s.begun ≡ true →
-      Keeps s (chaining storage s b signal walk c).state
+      Keeps s (next_ccw_outcome storage s b signal walk c).state
   chaining-keeps storage b signal walk (came.Begins transfer) i = moving-keeps b (begun_with_room storage transfer).transfer i
   chaining-keeps storage b signal walk came.Suspends i =
-      let x : SubchannelState = standing_still (end_taken s signal) b.program walk (residual b.transfer.moving) in
+      let x : SubchannelState = with_suspended_program (with_allegiance_after_end s signal) b.program walk (residual b.transfer.moving) in
       if-keeps b.program.orb.suppress_suspended (record x { scsw = suspended_alone s.scsw }) (with_cause x (cause.Suspension walk.tried (residual b.transfer.moving)))
       (λ e. absurd (cc e)) (λ e. absurd (cc e))
-  chaining-keeps storage b signal walk (came.Stops check) i = λ e. absurd (fault-none (end_taken s signal) s.begun refl e)
+  chaining-keeps storage b signal walk (came.Stops check) i = λ e. absurd (fault-none (with_allegiance_after_end s signal) s.begun refl e)
 
-  goes-keeps : (storage : Contents) (b : ActiveProgram) (signal : EndSignal) → is_some s.begun ≡ true → Keeps s (goes_on storage s b signal).state
+  goes-keeps : (storage : Contents) (b : ActiveProgram) (signal : EndSignal) → is_some s.begun ≡ true → Keeps s (chains_at_device_end storage s b signal).state
   goes-keeps storage b signal i =
       let next = next_command storage b.transfer (has_status_modifier signal.status) in
-      if-step (has_device_end signal.status) (chaining storage s b signal next.walk next.came) (quietly (record (end_taken s signal) { begun = Some b }))
+      if-step (has_device_end signal.status) (next_ccw_outcome storage s b signal next.walk next.came) (signal_taken (record (with_allegiance_after_end s signal) { begun = Some b }))
       (chaining-keeps storage b signal next.walk next.came i) (λ e. (i, refl))
 
-  stops-keeps : (b : ActiveProgram) (signal : EndSignal) → s.begun ≡ Some b → Keeps s (stops_at s b signal).state
+  stops-keeps : (b : ActiveProgram) (signal : EndSignal) → s.begun ≡ Some b → Keeps s (concludes s b signal).state
   stops-keeps b signal i =
-      if-step (is_last_end signal.status) (let_go (end_shown_at s b signal)) (quietly (end_shown_at s b signal))
+      if-step (is_last_end signal.status) (device_released (with_end_status s b signal)) (signal_taken (with_end_status s b signal))
       (end-by b (is_last_end signal.status) i) (end-by b (is_last_end signal.status) i)
 
-  end_of-keeps : (storage : Contents) (o : Option ActiveProgram) (signal : EndSignal) → s.begun ≡ o → Keeps s (end_of storage s o signal).state
-  end_of-keeps storage None signal i = same
-  end_of-keeps storage (Some b) signal i =
-      if-step (signal.command == b.transfer.command) (command_ended storage s b signal) (ignoring s)
-      (if-step (chains_command s.scsw b signal.status signal.more) (goes_on storage s (with_end b) signal) (stops_at s b signal)
-      (goes-keeps storage (with_end b) signal (ap (λ (o : Option ActiveProgram). is_some o) i)) (stops-keeps b signal i))
+  ends_at_work-keeps : (storage : Contents) (o : Option ActiveProgram) (signal : EndSignal) → s.begun ≡ o → Keeps s (ends_at_work storage s o signal).state
+  ends_at_work-keeps storage None signal i = same
+  ends_at_work-keeps storage (Some b) signal i =
+      if-step (signal.command == b.transfer.command) (ends_command storage s b signal) (signal_ignored s)
+      (if-step (chains_command s.scsw b signal.status signal.more) (chains_at_device_end storage s (with_first_end b) signal) (concludes s b signal)
+      (goes-keeps storage (with_first_end b) signal (ap (λ (o : Option ActiveProgram). is_some o) i)) (stops-keeps b signal i))
       same
 
   -- the hold is to be reset
@@ -162,20 +172,20 @@ module _ (s : SubchannelState) where
   reset-keeps x true b w = λ e. absurd (cc e)
   reset-keeps x false b w = λ e. (sym (ap (λ (o : Option ActiveProgram). is_some o) b) ∙ e, w)
 
-  reset_taken-keeps : (step : Option HoldStep) → Keeps s (reset_taken s step).state
-  reset_taken-keeps None = same
-  reset_taken-keeps (Some step) =
+  takes_cleared-keeps : (step : Option HoldStep) → Keeps s (takes_cleared s step).state
+  takes_cleared-keeps None = same
+  takes_cleared-keeps (Some step) =
       let x : SubchannelState = record s { hold = step.state } in
       if-keeps s.scsw.activity.clear_pending (with_cause x cause.ClearDone) x (λ e. (e, refl)) (λ e. (e, refl))
 
   -- Attn is taken only where no program is at work
-  attn-keeps : (storage : Contents) (p a : ℕ) (status : DeviceStatus) → Stands (seen s) → Keeps s (attend s status (hold_takes s.hold p (up.Attn a status) (may_attend s))).state
+  attn-keeps : (storage : Contents) (p a : ℕ) (status : DeviceStatus) → Stands (seen s) → Keeps s (takes_attention s status (hold_takes s.hold p (up.Attn a status) (may_take_attention s))).state
   attn-keeps storage p a status t = by s.begun refl (takes-comes false storage s p (up.Attn a status))
     where
-      by : (o : Option ActiveProgram) → s.begun ≡ o → Comes (Held s) (seen s) (up.Attn a status) (attend s status (hold_takes s.hold p (up.Attn a status) (may_attend s))) →
-          Keeps s (attend s status (hold_takes s.hold p (up.Attn a status) (may_attend s))).state
+      by : (o : Option ActiveProgram) → s.begun ≡ o → Comes (Held s) (seen s) (up.Attn a status) (takes_attention s status (hold_takes s.hold p (up.Attn a status) (may_take_attention s))) →
+          Keeps s (takes_attention s status (hold_takes s.hold p (up.Attn a status) (may_take_attention s))).state
       by None i c =
-          let y : Option HoldStep = hold_takes s.hold p (up.Attn a status) (may_attend s) in
+          let y : Option HoldStep = hold_takes s.hold p (up.Attn a status) (may_take_attention s) in
           let next : SubchannelState = record s { hold = hold_after s.hold y } in
           if-keeps ((came_of y).taken && not (status.0 == 0x20)) (with_cause next cause.Attention) next
           (λ e. absurd (none-some s.begun i e)) (λ e. absurd (none-some s.begun i e))
@@ -185,27 +195,27 @@ module _ (s : SubchannelState) where
 
 -- Accept
 beginning-alone : (storage : Contents) (s : SubchannelState) (p t : ℕ) (st : ProgramPosition) (walk : WalkPlace) (c : CommandStart) → s.begun ≡ None →
-    ((beginning storage s p t st walk c).came.taken ≡ true) × Alone (beginning storage s p t st walk c).state
+    ((first_ccw_outcome storage s p t st walk c).came.taken ≡ true) × Alone (first_ccw_outcome storage s p t st walk c).state
 beginning-alone storage s p t st walk (came.Begins transfer) none = (refl, by (begun_with_room storage transfer).transfer.pci_pending)
   where
     by : (b : Bool) →
-        Alone (if b then with_cause (record (taking_over s st.program (begun_with_room storage transfer).transfer)
+        Alone (if b then with_cause (record (with_program_at_work s st.program (begun_with_room storage transfer).transfer)
         { begun = Some (without_pci (record { program = st.program; primary_shown = false; transfer = (begun_with_room storage transfer).transfer })) })
         (cause.Pci (begun_with_room storage transfer).transfer.walk.tried (residual (begun_with_room storage transfer).transfer.moving))
-        else taking_over s st.program (begun_with_room storage transfer).transfer)
+        else with_program_at_work s st.program (begun_with_room storage transfer).transfer)
     by true = λ e. refl
     by false = λ e. refl
 beginning-alone storage s p t st walk came.Suspends none = (refl, by st.program.orb.suppress_suspended)
   where
     by : (b : Bool) →
-        Alone (if b then record (standing_still s st.program walk st.count) { scsw = suspended_alone s.scsw }
-        else with_cause (standing_still s st.program walk st.count) (cause.Suspension walk.tried st.count))
+        Alone (if b then record (with_suspended_program s st.program walk st.count) { scsw = suspended_alone s.scsw }
+        else with_cause (with_suspended_program s st.program walk st.count) (cause.Suspension walk.tried st.count))
     by true = λ e. absurd (cc e)
     by false = λ e. absurd (cc e)
 beginning-alone storage s p t st walk (came.Stops check) none = (refl, λ e. absurd (fault-none s s.begun refl e))
 
 begin-alone : (storage : Contents) (s : SubchannelState) (p t : ℕ) (o : Option ProgramPosition) → s.begun ≡ None →
-    ((begin_standing storage s p t o).came.taken ≡ true) × Alone (begin_standing storage s p t o).state
+    ((begins_at storage s p t o).came.taken ≡ true) × Alone (begins_at storage s p t o).state
 begin-alone storage s p t None none = (refl, λ e. absurd (none-some s.begun none e))
 begin-alone storage s p t (Some st) none = let first = first_command storage st.walk in beginning-alone storage s p t st first.walk first.came none
 
@@ -226,19 +236,19 @@ module _ (storage : Contents) (behind : Bool) where
   halted-alone s false none = λ e. absurd (none-some s.begun none e)
 
   begun-behind : (s : SubchannelState) (h : HoldState) (t q u : ℕ) (may same : Bool) → s.begun ≡ None → IsBehind behind s →
-      AcceptBehind behind u (accept storage (with_hold s h (hold.Offer t q)) (if same then Some (program_begun (record h { phase = hold.Offer t q }) t q may) else None))
+      AcceptBehind behind u (takes_accept storage (with_hold s h (hold.Offer t q)) (if same then Some (program_begun (record h { phase = hold.Offer t q }) t q may) else None))
   begun-behind s h t q u true true none j =
-      let x : SubchannelState = record s { hold = record h { phase = hold.On t q 0; seen = 0; first_path = Some q }; pmcw = path_used s.pmcw q } in
-      let k = begin-alone storage x q t (standing s) none in
-      alone-behind behind u (begin_standing storage x q t (standing s)) k.0 k.1
+      let x : SubchannelState = record s { hold = record h { phase = hold.On t q 0; seen = 0; first_path = Some q }; pmcw = with_path_used s.pmcw q } in
+      let k = begin-alone storage x q t (offered_position s) none in
+      alone-behind behind u (begins_at storage x q t (offered_position s)) k.0 k.1
   begun-behind s h t q u false true none j =
-      let x : SubchannelState = record s { hold = record h { phase = hold.Letting t q; seen = 0; first_path = Some q }; pmcw = path_used s.pmcw q } in
+      let x : SubchannelState = record s { hold = record h { phase = hold.Letting t q; seen = 0; first_path = Some q }; pmcw = with_path_used s.pmcw q } in
       λ e. ap (λ (o : Option Program). is_none o) (halted-alone x s.scsw.activity.halt_pending none e)
   begun-behind s h t q u may false none j = j
 
   accept-behind : (returns : Bool) (s : SubchannelState) (h : HoldState) (phase : HoldPhase) (p u : ℕ) → Held (with_hold s h phase) → IsBehind behind s →
       AcceptBehind behind u (takes_up returns storage (with_hold s h phase) p (up.Accept u)).step
-  accept-behind returns s h (hold.Offer t q) p u k j = begun-behind s h t q u (goes_ahead s) (u == t) (not-held (with_hold s h (hold.Offer t q)) k refl) j
+  accept-behind returns s h (hold.Offer t q) p u k j = begun-behind s h t q u (takes_device s) (u == t) (not-held (with_hold s h (hold.Offer t q)) k refl) j
   accept-behind returns s h other p u k j = j
 
 -- a signal that came up
@@ -251,16 +261,16 @@ met-behind returns storage s p (up.Back t c) behind k j = j
 met-behind returns storage s p (up.Data load t c n seq) behind k j =
     let signal : DataSignal = record { path = p; number = t; connection = c; command = n; sequence = seq } in
     kept behind s (takes_up returns storage s p (up.Data load t c n seq)).step.state
-    (if-met s (is_connected s.hold.phase p t c) (move_data storage s s.begun signal load) (meets storage (ignoring s)) (move-keeps s storage s.begun signal load refl) (same s)) j
+    (if-met s (is_connected s.hold.phase p t c) (moves_data storage s s.begun signal load) (with_storage storage (signal_ignored s)) (move-keeps s storage s.begun signal load refl) (same s)) j
 met-behind returns storage s p (up.End t n status more) behind k j =
     let signal : EndSignal = record { path = p; number = t; command = n; status = status; more = more } in
-    kept behind s (takes_up returns storage s p (up.End t n status more)).step.state (if-step s (is_on s.hold.phase t) (end_of storage s s.begun signal) (ignoring s) (end_of-keeps s storage s.begun signal refl) (same s)) j
+    kept behind s (takes_up returns storage s p (up.End t n status more)).step.state (if-step s (is_on s.hold.phase t) (ends_at_work storage s s.begun signal) (signal_ignored s) (ends_at_work-keeps s storage s.begun signal refl) (same s)) j
 met-behind returns storage s p (up.Released t) behind k j = j
-met-behind returns storage s p (up.Cleared r) behind k j = kept behind s (takes_up returns storage s p (up.Cleared r)).step.state (reset_taken-keeps s (hold_takes s.hold p (up.Cleared r) false)) j
+met-behind returns storage s p (up.Cleared r) behind k j = kept behind s (takes_up returns storage s p (up.Cleared r)).step.state (takes_cleared-keeps s (hold_takes s.hold p (up.Cleared r) false)) j
 met-behind returns storage s p (up.Notice b) behind k j =
     let x : SubchannelState = record s { hold = record s.hold { known = b } } in
     kept behind s (takes_up returns storage s p (up.Notice b)).step.state
-    (if-step s (nat_lt s.hold.known b) (quietly (reset_for x)) (ignoring s)
+    (if-step s (nat_lt s.hold.known b) (signal_taken (reset_for x)) (signal_ignored s)
     (reset-keeps s x (is_offered_or_held s.hold.phase && has_any s.waiting s.begun s.suspended) refl refl) (same s)) j
 met-behind returns storage s p (up.Attn a status) behind k j = kept behind s (takes_up returns storage s p (up.Attn a status)).step.state (attn-keeps s storage p a status k.stands) j
 
@@ -363,7 +373,7 @@ turned-behind sets id _ _ _ _ behind k (Rests e r sub about) j =
     subst (λ (b : Bool). IsBehind b sub.state) (sym (rests-same (is_about sets id e) e r behind about)) j
 
 -- an End that is taken is of a program at work
-end-begun : (storage : Contents) (s : SubchannelState) (signal : EndSignal) (on : Bool) (o : Option ActiveProgram) → (if on then end_of storage s o signal else ignoring s).came.taken ≡ true → is_some o ≡ true
+end-begun : (storage : Contents) (s : SubchannelState) (signal : EndSignal) (on : Bool) (o : Option ActiveProgram) → (if on then ends_at_work storage s o signal else signal_ignored s).came.taken ≡ true → is_some o ≡ true
 end-begun storage s signal true None e = absurd (cc e)
 end-begun storage s signal true (Some b) e = refl
 end-begun storage s signal false o e = absurd (cc e)

@@ -7,7 +7,7 @@ use Rattle.scsw_irb.specs.declared.scsw.FunctionControl.{FunctionControl}
 use Rattle.scsw_irb.specs.declared.scsw.Scsw.{Scsw}
 use Rattle.scsw_irb.specs.declared.serials.Serials.{Serials}
 use Rattle.chan_model.specs.UnitReports.{is_last_end}
-use Rattle.ccw_walk.specs.Walks.{WalkPlace}
+use Rattle.ccw_walk.specs.Places.{WalkPlace}
 use Rattle.transfer.specs.declared.Transfer.{Transfer}
 use Rattle.subchannel_model.specs.declared.cause.StatusCause.{StatusCause}
 use Rattle.subchannel_model.specs.declared.cause.StatusCause.TheVariants as cause
@@ -20,9 +20,11 @@ use Rattle.subchannel_model.specs.Causes.{row_of, with_status, without_begun, wi
 use Rattle.subchannel_model.specs.Choosing.{halt_sent}
 use Rattle.subchannel_model.specs.Ends.{end_shown}
 use Rattle.subchannel_model.specs.Opening.{opening_subchannel}
-use Rattle.subchannel_model.specs.Parts.{standing_still, suspended_alone}
+use Rattle.subchannel_model.specs.Suspension.{with_suspended_program, suspended_alone}
 use Rattle.subchannel_model.specs.Status.{scsw_made}
-use Rattle.subchannel_model.specs.Taking.{with_transfer, taking_over, is_open}
+use Rattle.subchannel_model.specs.Command.{with_transfer}
+use Rattle.subchannel_model.specs.Accept.{with_program_at_work}
+use Rattle.subchannel_model.specs.Attention.{is_idle_or_start_pending}
 
 -- the status word, the serials, whether the subchannel is enabled, and its programs
 pub record Seen : Type 0 where
@@ -64,20 +66,20 @@ abbrev pub IsTimely : Type 0 → Seen → StatusCause → Type 0
 IsTimely H k (cause.FetchFault tried check count) = IsGoing H k
 IsTimely H k cause.NoPath = H → k.begun ≡ None
 IsTimely H k (cause.End b status more) = k.begun ≡ Some b
-IsTimely H k cause.Attention = (not k.scsw.status.pending && is_open k.scsw.activity) ≡ true
+IsTimely H k cause.Attention = (not k.scsw.status.pending && is_idle_or_start_pending k.scsw.activity) ≡ true
 IsTimely H k cause.ClearDone = k.scsw.activity.clear_pending ≡ true
 IsTimely H k (cause.Pci tried count) = ⊥
 IsTimely H k (cause.Suspension tried count) = ⊥
 IsTimely H k c = Unit {0}
 
 abbrev pub taken_over : Seen → Program → Transfer → SubchannelState
-taken_over k program transfer = taking_over (of_seen k) program transfer
+taken_over k program transfer = with_program_at_work (of_seen k) program transfer
 
 abbrev pub moved : Seen → ActiveProgram → Transfer → SubchannelState
 moved k b transfer = with_transfer (of_seen k) b transfer
 
 abbrev pub still : Seen → Program → WalkPlace → ℕ → SubchannelState
-still k program walk count = standing_still (of_seen k) program walk count
+still k program walk count = with_suspended_program (of_seen k) program walk count
 
 pub data Effect (H : Type 0) (k : Seen) : ℕ → Seen → Type 0 where
   Nothing : Effect H k 0 k

@@ -17,14 +17,16 @@ use Rattle.chan_model.specs.Loads.{load_length}
 use Rattle.chan_model.specs.ResetCauses.{rests_on, is_held}
 use Rattle.chan_model.specs.UnitReports.{is_last_end, is_outward, has_device_end}
 use Rattle.channel_config.specs.declared.names.SubchannelId.{SubchannelId}
-use Rattle.ccw_walk.specs.Walks.{WalkPlace}
+use Rattle.ccw_walk.specs.Places.{WalkPlace}
 use Rattle.data_move.specs.Moving.{residual}
 use Rattle.storage_keys.specs.Storage.{Contents}
 use Rattle.transfer.specs.declared.CommandStart.{CommandStart}
 use Rattle.transfer.specs.declared.CommandStart.TheVariants as came
 use Rattle.transfer.specs.declared.Transfer.{Transfer}
 use Rattle.transfer.specs.Commands.{first_command, next_command, begun_with_room, with_room}
-use Rattle.transfer.specs.Chunks.{taken_by_device, next_given, brought, is_answered}
+use Rattle.transfer.specs.ToDevice.{chunk_absorbed, next_chunk}
+use Rattle.transfer.specs.FromDevice.{chunk_stored}
+use Rattle.transfer.specs.ChunkNumbers.{is_answered}
 use Rattle.machine_model.specs.declared.state.Sweep.{Sweep}
 use Rattle.machine_model.specs.declared.state.Sweep.TheVariants as sweep
 use Rattle.machine_model.specs.PathSteps.{swept}
@@ -46,9 +48,18 @@ use Rattle.subchannel_model.specs.Conditions.{left_by}
 use Rattle.subchannel_model.specs.Ends.{has_status_modifier, chains_command}
 use Rattle.subchannel_model.specs.Halt.{drops_status, status_dropped, halt_begun}
 use Rattle.subchannel_model.specs.Losing.{is_offered_or_held, reset_drawn, reset_with, reset_for, path_lost, path_index, loses_at, loses, shows_at}
-use Rattle.subchannel_model.specs.Parts.{suspended_alone, standing_still, end_shown_at}
 use Rattle.subchannel_model.specs.Programs.{without_programs, has_any}
-use Rattle.subchannel_model.specs.Taking.{Met, meets, ignoring, quietly, let_go, without_pci, interrupted, standing, goes_ahead, path_used, taking_over, suspending, beginning, begin_standing, halt_done, accept, with_transfer, moving_on, giving, take_in, move_bytes, move_data, with_end, end_taken, chaining, goes_on, stops_at, command_ended, end_of, clear_done, reset_taken, back, attend, may_attend, takes_up}
+use Rattle.subchannel_model.specs.Taking.{takes_up}
+use Rattle.subchannel_model.specs.Suspension.{suspended_alone, with_suspended_program, program_suspended}
+use Rattle.subchannel_model.specs.End.{with_end_status, with_first_end, with_allegiance_after_end, next_ccw_outcome, chains_at_device_end, concludes, ends_command, ends_at_work}
+use Rattle.subchannel_model.specs.Outcomes.{SignalOutcome, with_storage, signal_ignored, signal_taken, device_released}
+use Rattle.subchannel_model.specs.Pci.{without_pci, with_pci}
+use Rattle.subchannel_model.specs.Accept.{offered_position, takes_device, with_path_used, with_program_at_work, first_ccw_outcome, begins_at, halt_performed, takes_accept}
+use Rattle.subchannel_model.specs.Command.{with_transfer}
+use Rattle.subchannel_model.specs.Data.{after_chunk, gives_chunk, tells_room_after, moves_bytes, moves_data}
+use Rattle.subchannel_model.specs.Cleared.{clear_performed, takes_cleared}
+use Rattle.subchannel_model.specs.Back.{takes_back}
+use Rattle.subchannel_model.specs.Attention.{takes_attention, may_take_attention}
 use Rattle.subchannel_model.specs.Test.{tested, ends_suspended}
 use Rattle.shown_laws.proofs.Chosen.{why-chosen, IsWhy}
 use Rattle.step_laws.proofs.Executed.{IsEffect, code_for}
@@ -79,7 +90,7 @@ if-step : (b : Bool) (x y : UpStep) → (b ≡ true → Held x.state) → Held y
 if-step true x y e f = e refl
 if-step false x y e f = f
 
-if-met : (b : Bool) (x y : Met) → Held x.step.state → Held y.step.state → Held (if b then x else y).step.state
+if-met : (b : Bool) (x y : SignalOutcome) → Held x.step.state → Held y.step.state → Held (if b then x else y).step.state
 if-met true x y e f = e
 if-met false x y e f = f
 
@@ -111,18 +122,18 @@ cause-held s cause.InterfaceControlCheck m h = λ e. absurd (cc e)
 cause-held s cause.HaltDone m h = λ e. absurd (cc e)
 cause-held s other m h = h
 
-interrupted-held : (s : SubchannelState) (b : Option ActiveProgram) → is_held s.hold.phase ≡ true → Held (interrupted s b)
+interrupted-held : (s : SubchannelState) (b : Option ActiveProgram) → is_held s.hold.phase ≡ true → Held (with_pci s b)
 interrupted-held s None h = λ e. h
 interrupted-held s (Some b) h =
     if-held b.transfer.pci_pending
     (with_cause (record s { begun = Some (without_pci b) }) (cause.Pci b.transfer.walk.tried (residual b.transfer.moving))) s (λ e. h) (λ e. h)
 
 -- what lets the device go has no program that was begun
-let_go-held : (s : SubchannelState) → s.begun ≡ None → Held (let_go s).state
-let_go-held s none = none-held (let_go s).state none
+device_released-held : (s : SubchannelState) → s.begun ≡ None → Held (device_released s).state
+device_released-held s none = none-held (device_released s).state none
 
 suspending-none : (s : SubchannelState) (program : Program) (walk : WalkPlace) (count : ℕ) (quiet : Bool) →
-    (if quiet then record (standing_still s program walk count) { scsw = suspended_alone s.scsw } else with_cause (standing_still s program walk count) (cause.Suspension walk.tried count)).begun ≡ None
+    (if quiet then record (with_suspended_program s program walk count) { scsw = suspended_alone s.scsw } else with_cause (with_suspended_program s program walk count) (cause.Suspension walk.tried count)).begun ≡ None
 suspending-none s program walk count true = refl
 suspending-none s program walk count false = refl
 
@@ -135,81 +146,81 @@ ended-none s b true e = refl
 ended-none s b false e = absurd (cc e)
 
 -- Accept
-begin-held : (storage : Contents) (s : SubchannelState) (p t : ℕ) (o : Option ProgramPosition) → is_held s.hold.phase ≡ true → Held (begin_standing storage s p t o).state
+begin-held : (storage : Contents) (s : SubchannelState) (p t : ℕ) (o : Option ProgramPosition) → is_held s.hold.phase ≡ true → Held (begins_at storage s p t o).state
 begin-held storage s p t None h = λ e. h
 begin-held storage s p t (Some st) h = by (first_command storage st.walk).walk (first_command storage st.walk).came
   where
-    by : (walk : WalkPlace) (c : CommandStart) → Held (beginning storage s p t st walk c).state
+    by : (walk : WalkPlace) (c : CommandStart) → Held (first_ccw_outcome storage s p t st walk c).state
     by walk (came.Begins transfer) =
-        let next = taking_over s st.program (begun_with_room storage transfer).transfer in interrupted-held next next.begun h
-    by walk came.Suspends = let_go-held (suspending s st.program walk st.count) (suspending-none s st.program walk st.count st.program.orb.suppress_suspended)
-    by walk (came.Stops check) = let_go-held (with_cause s (cause.FetchFault walk.tried check st.count)) (faulted-none s s.begun refl)
+        let next = with_program_at_work s st.program (begun_with_room storage transfer).transfer in interrupted-held next next.begun h
+    by walk came.Suspends = device_released-held (program_suspended s st.program walk st.count) (suspending-none s st.program walk st.count st.program.orb.suppress_suspended)
+    by walk (came.Stops check) = device_released-held (with_cause s (cause.FetchFault walk.tried check st.count)) (faulted-none s s.begun refl)
 
-halt_done-none : (s : SubchannelState) (pending : Bool) → s.begun ≡ None → (if pending then with_cause s cause.HaltDone else s).begun ≡ None
-halt_done-none s true none = refl
-halt_done-none s false none = none
+halt_performed-none : (s : SubchannelState) (pending : Bool) → s.begun ≡ None → (if pending then with_cause s cause.HaltDone else s).begun ≡ None
+halt_performed-none s true none = refl
+halt_performed-none s false none = none
 
 abbrev with_hold : SubchannelState → HoldState → HoldPhase → SubchannelState
 with_hold s h phase = record s { hold = record h { phase = phase } }
 
 accepted-held : (storage : Contents) (s : SubchannelState) (h : HoldState) (t q u : ℕ) (may same : Bool) → s.begun ≡ None →
-    Held (accept storage (with_hold s h (hold.Offer t q)) (if same then Some (program_begun (record h { phase = hold.Offer t q }) t q may) else None)).state
+    Held (takes_accept storage (with_hold s h (hold.Offer t q)) (if same then Some (program_begun (record h { phase = hold.Offer t q }) t q may) else None)).state
 accepted-held storage s h t q u true true none =
-    let x = record s { hold = record h { phase = hold.On t q 0; seen = 0; first_path = Some q }; pmcw = path_used s.pmcw q } in begin-held storage x q t (standing s) refl
+    let x = record s { hold = record h { phase = hold.On t q 0; seen = 0; first_path = Some q }; pmcw = with_path_used s.pmcw q } in begin-held storage x q t (offered_position s) refl
 accepted-held storage s h t q u false true none =
-    let x = record s { hold = record h { phase = hold.Letting t q; seen = 0; first_path = Some q }; pmcw = path_used s.pmcw q } in
-    none-held (halt_done x) (halt_done-none x s.scsw.activity.halt_pending none)
+    let x = record s { hold = record h { phase = hold.Letting t q; seen = 0; first_path = Some q }; pmcw = with_path_used s.pmcw q } in
+    none-held (halt_performed x) (halt_performed-none x s.scsw.activity.halt_pending none)
 accepted-held storage s h t q u may false none = none-held (with_hold s h (hold.Offer t q)) none
 
 accept-held : (returns : Bool) (storage : Contents) (s : SubchannelState) (h : HoldState) (phase : HoldPhase) (p u : ℕ) → Held (with_hold s h phase) →
     Held (takes_up returns storage (with_hold s h phase) p (up.Accept u)).step.state
-accept-held returns storage s h (hold.Offer t q) p u k = accepted-held storage s h t q u (goes_ahead s) (u == t) (not-held (with_hold s h (hold.Offer t q)) k refl)
+accept-held returns storage s h (hold.Offer t q) p u k = accepted-held storage s h t q u (takes_device s) (u == t) (not-held (with_hold s h (hold.Offer t q)) k refl)
 accept-held returns storage s h other p u k = k
 
 -- Data
-moving-held : (s : SubchannelState) (b : ActiveProgram) (t : Transfer) → is_held s.hold.phase ≡ true → Held (moving_on s b t)
+moving-held : (s : SubchannelState) (b : ActiveProgram) (t : Transfer) → is_held s.hold.phase ≡ true → Held (after_chunk s b t)
 moving-held s b t h = let next = with_transfer s b t in interrupted-held next next.begun h
 
 move-held : (storage : Contents) (s : SubchannelState) (o : Option ActiveProgram) (signal : DataSignal) (load : Load) → s.begun ≡ o → Held s →
-    Held (move_data storage s o signal load).step.state
+    Held (moves_data storage s o signal load).step.state
 move-held storage s None signal load e h = h
 move-held storage s (Some b) signal load e h =
-    if-met (is_answered b.transfer signal.command signal.sequence) (move_bytes storage s b signal load) (meets storage (ignoring s))
-    (if-met (is_outward b.transfer.code) (meets storage (giving s b signal (next_given storage (taken_by_device storage b.transfer signal.sequence (load_length load)))))
-    (take_in s b signal (brought storage b.transfer signal.sequence (load_bytes load)))
-    (moving-held s b (next_given storage (taken_by_device storage b.transfer signal.sequence (load_length load))).transfer (begun-held s b h e))
+    if-met (is_answered b.transfer signal.command signal.sequence) (moves_bytes storage s b signal load) (with_storage storage (signal_ignored s))
+    (if-met (is_outward b.transfer.code) (with_storage storage (gives_chunk s b signal (next_chunk storage (chunk_absorbed storage b.transfer signal.sequence (load_length load)))))
+    (tells_room_after s b signal (chunk_stored storage b.transfer signal.sequence (load_bytes load)))
+    (moving-held s b (next_chunk storage (chunk_absorbed storage b.transfer signal.sequence (load_length load))).transfer (begun-held s b h e))
     (moving-held s b
-    (with_room (brought storage b.transfer signal.sequence (load_bytes load)).storage (brought storage b.transfer signal.sequence (load_bytes load)).transfer).transfer
+    (with_room (chunk_stored storage b.transfer signal.sequence (load_bytes load)).storage (chunk_stored storage b.transfer signal.sequence (load_bytes load)).transfer).transfer
     (begun-held s b h e)))
     h
 
 -- End
 chaining-held : (storage : Contents) (s : SubchannelState) (b : ActiveProgram) (signal : EndSignal) (walk : WalkPlace) (c : CommandStart) → is_held s.hold.phase ≡ true →
-    Held (chaining storage s b signal walk c).state
+    Held (next_ccw_outcome storage s b signal walk c).state
 chaining-held storage s b signal walk (came.Begins transfer) h = moving-held s b (begun_with_room storage transfer).transfer h
 chaining-held storage s b signal walk came.Suspends h =
-    let_go-held (suspending (end_taken s signal) b.program walk (residual b.transfer.moving))
-    (suspending-none (end_taken s signal) b.program walk (residual b.transfer.moving) b.program.orb.suppress_suspended)
+    device_released-held (program_suspended (with_allegiance_after_end s signal) b.program walk (residual b.transfer.moving))
+    (suspending-none (with_allegiance_after_end s signal) b.program walk (residual b.transfer.moving) b.program.orb.suppress_suspended)
 chaining-held storage s b signal walk (came.Stops check) h =
-    let_go-held (with_cause (end_taken s signal) (cause.FetchFault walk.tried check (residual b.transfer.moving))) (faulted-none (end_taken s signal) s.begun refl)
+    device_released-held (with_cause (with_allegiance_after_end s signal) (cause.FetchFault walk.tried check (residual b.transfer.moving))) (faulted-none (with_allegiance_after_end s signal) s.begun refl)
 
-goes-held : (storage : Contents) (s : SubchannelState) (b : ActiveProgram) (signal : EndSignal) → is_held s.hold.phase ≡ true → Held (goes_on storage s b signal).state
+goes-held : (storage : Contents) (s : SubchannelState) (b : ActiveProgram) (signal : EndSignal) → is_held s.hold.phase ≡ true → Held (chains_at_device_end storage s b signal).state
 goes-held storage s b signal h =
     let next = next_command storage b.transfer (has_status_modifier signal.status) in
-    if-step (has_device_end signal.status) (chaining storage s b signal next.walk next.came) (quietly (record (end_taken s signal) { begun = Some b }))
+    if-step (has_device_end signal.status) (next_ccw_outcome storage s b signal next.walk next.came) (signal_taken (record (with_allegiance_after_end s signal) { begun = Some b }))
     (λ e. chaining-held storage s b signal next.walk next.came h) (λ e. h)
 
-stops-held : (s : SubchannelState) (b : ActiveProgram) (signal : EndSignal) → is_held s.hold.phase ≡ true → Held (stops_at s b signal).state
+stops-held : (s : SubchannelState) (b : ActiveProgram) (signal : EndSignal) → is_held s.hold.phase ≡ true → Held (concludes s b signal).state
 stops-held s b signal h =
-    if-step (is_last_end signal.status) (let_go (end_shown_at s b signal)) (quietly (end_shown_at s b signal))
-    (λ e. let_go-held (end_shown_at s b signal) (ended-none s b (is_last_end signal.status) e)) (after_end-held s b (is_last_end signal.status) h)
+    if-step (is_last_end signal.status) (device_released (with_end_status s b signal)) (signal_taken (with_end_status s b signal))
+    (λ e. device_released-held (with_end_status s b signal) (ended-none s b (is_last_end signal.status) e)) (after_end-held s b (is_last_end signal.status) h)
 
-end_of-held : (storage : Contents) (s : SubchannelState) (o : Option ActiveProgram) (signal : EndSignal) → s.begun ≡ o → Held s → Held (end_of storage s o signal).state
-end_of-held storage s None signal e h = h
-end_of-held storage s (Some b) signal e h =
-    if-step (signal.command == b.transfer.command) (command_ended storage s b signal) (ignoring s)
-    (λ i. if-step (chains_command s.scsw b signal.status signal.more) (goes_on storage s (with_end b) signal) (stops_at s b signal)
-    (λ j. goes-held storage s (with_end b) signal (begun-held s b h e)) (stops-held s b signal (begun-held s b h e)))
+ends_at_work-held : (storage : Contents) (s : SubchannelState) (o : Option ActiveProgram) (signal : EndSignal) → s.begun ≡ o → Held s → Held (ends_at_work storage s o signal).state
+ends_at_work-held storage s None signal e h = h
+ends_at_work-held storage s (Some b) signal e h =
+    if-step (signal.command == b.transfer.command) (ends_command storage s b signal) (signal_ignored s)
+    (λ i. if-step (chains_command s.scsw b signal.status signal.more) (chains_at_device_end storage s (with_first_end b) signal) (concludes s b signal)
+    (λ j. goes-held storage s (with_first_end b) signal (begun-held s b h e)) (stops-held s b signal (begun-held s b h e)))
     h
 
 -- the hold is to be reset
@@ -267,18 +278,18 @@ leave-held s h (hold.Letting t q) p u d k = k
 leave-held s h (hold.Reset r) p u d k = k
 
 back-held : (s : SubchannelState) (h : HoldState) (phase : HoldPhase) (p u c : ℕ) (may : Bool) → Held (with_hold s h phase) →
-    Held (back (with_hold s h phase) p (hold_takes (record h { phase = phase }) p (up.Back u c) may)).state
+    Held (takes_back (with_hold s h phase) p (hold_takes (record h { phase = phase }) p (up.Back u c) may)).state
 back-held s h hold.Free p u c may k = k
 back-held s h (hold.Offer t q) p u c may k = k
 back-held s h (hold.On t q d) p u c may k = by ((u == t) && nat_lt h.seen c)
   where
-    by : (b : Bool) → Held (back (with_hold s h (hold.On t q d)) p
+    by : (b : Bool) → Held (takes_back (with_hold s h (hold.On t q d)) p
         (if b then Some (record { state = record h { phase = hold.On t q d; seen = c }; sent = Some (record { path = p; signal = Rattle.chan_model.specs.declared.signal.Down.TheVariants.Refuse t c }) }) else None)).state
     by true = λ e. refl
     by false = λ e. refl
 back-held s h (hold.Away t) p u c may k = by ((u == t) && nat_lt h.seen c) may
   where
-    by : (b may : Bool) → Held (back (with_hold s h (hold.Away t)) p
+    by : (b may : Bool) → Held (takes_back (with_hold s h (hold.Away t)) p
         (if b then (if may then Some (record { state = record h { phase = hold.On t p c; seen = c }; sent = Some (record { path = p; signal = Rattle.chan_model.specs.declared.signal.Down.TheVariants.Grant t c }) })
         else Some (record { state = record h { phase = hold.Away t; seen = c }; sent = Some (record { path = p; signal = Rattle.chan_model.specs.declared.signal.Down.TheVariants.Refuse t c }) })) else None)).state
     by true true = λ e. refl
@@ -292,7 +303,7 @@ clear-none s true none = none
 clear-none s false none = none
 
 cleared-held : (s : SubchannelState) (h : HoldState) (phase : HoldPhase) (p u : ℕ) → Held (with_hold s h phase) →
-    Held (reset_taken (with_hold s h phase) (hold_takes (record h { phase = phase }) p (up.Cleared u) false)).state
+    Held (takes_cleared (with_hold s h phase) (hold_takes (record h { phase = phase }) p (up.Cleared u) false)).state
 cleared-held s h hold.Free p u k = k
 cleared-held s h (hold.Offer t q) p u k = k
 cleared-held s h (hold.On t q c) p u k = k
@@ -303,13 +314,13 @@ cleared-held s h (hold.Reset r) p u k = by (u == r)
     none : s.begun ≡ None
     none = not-held (with_hold s h (hold.Reset r)) k refl
 
-    by : (b : Bool) → Held (reset_taken (with_hold s h (hold.Reset r)) (if b then Some (record { state = record h { phase = hold.Free; reset_path = None }; sent = None }) else None)).state
+    by : (b : Bool) → Held (takes_cleared (with_hold s h (hold.Reset r)) (if b then Some (record { state = record h { phase = hold.Free; reset_path = None }; sent = None }) else None)).state
     by true =
-        let x = record s { hold = record h { phase = hold.Free; reset_path = None } } in none-held (clear_done x) (clear-none x s.scsw.activity.clear_pending none)
+        let x = record s { hold = record h { phase = hold.Free; reset_path = None } } in none-held (clear_performed x) (clear-none x s.scsw.activity.clear_pending none)
     by false = k
 
 attend-held : (s : SubchannelState) (h : HoldState) (phase : HoldPhase) (p a : ℕ) (status : Rattle.scsw_irb.specs.declared.status.DeviceStatus.DeviceStatus) (may : Bool) →
-    Held (with_hold s h phase) → Held (attend (with_hold s h phase) status (hold_takes (record h { phase = phase }) p (up.Attn a status) may)).state
+    Held (with_hold s h phase) → Held (takes_attention (with_hold s h phase) status (hold_takes (record h { phase = phase }) p (up.Attn a status) may)).state
 attend-held s h hold.Free p a status true k = if-held (true && not (status.0 == 0x20)) (with_cause (with_hold s h hold.Free) cause.Attention) (with_hold s h hold.Free) k k
 attend-held s h hold.Free p a status false k = k
 attend-held s h other p a status may k = k
@@ -321,16 +332,16 @@ takes-held returns storage s p (up.Leave t c) h = leave-held s s.hold s.hold.pha
 takes-held returns storage s p (up.Back t c) h = back-held s s.hold s.hold.phase p t c returns h
 takes-held returns storage s p (up.Data load t c n seq) h =
     let signal : DataSignal = record { path = p; number = t; connection = c; command = n; sequence = seq } in
-    if-met (is_connected s.hold.phase p t c) (move_data storage s s.begun signal load) (meets storage (ignoring s)) (move-held storage s s.begun signal load refl h) h
+    if-met (is_connected s.hold.phase p t c) (moves_data storage s s.begun signal load) (with_storage storage (signal_ignored s)) (move-held storage s s.begun signal load refl h) h
 takes-held returns storage s p (up.End t n status more) h =
     let signal : EndSignal = record { path = p; number = t; command = n; status = status; more = more } in
-    if-step (is_on s.hold.phase t) (end_of storage s s.begun signal) (ignoring s) (λ i. end_of-held storage s s.begun signal refl h) h
+    if-step (is_on s.hold.phase t) (ends_at_work storage s s.begun signal) (signal_ignored s) (λ i. ends_at_work-held storage s s.begun signal refl h) h
 takes-held returns storage s p (up.Released t) h = released-held s s.hold s.hold.phase p t h
 takes-held returns storage s p (up.Cleared r) h = cleared-held s s.hold s.hold.phase p r h
 takes-held returns storage s p (up.Notice b) h =
     let x : SubchannelState = record s { hold = record s.hold { known = b } } in
-    if-step (nat_lt s.hold.known b) (quietly (reset_for x)) (ignoring s) (λ i. reset_for-held x h) h
-takes-held returns storage s p (up.Attn a status) h = attend-held s s.hold s.hold.phase p a status (may_attend s) h
+    if-step (nat_lt s.hold.known b) (signal_taken (reset_for x)) (signal_ignored s) (λ i. reset_for-held x h) h
+takes-held returns storage s p (up.Attn a status) h = attend-held s s.hold s.hold.phase p a status (may_take_attention s) h
 
 -- instructions
 effect-held : (i : Instruction) (sub : Subchannel) (effect : SubchannelState) → IsEffect i sub effect → Held sub.state → Held effect

@@ -12,7 +12,8 @@ use Rattle.subchannel_model.specs.declared.state.SubchannelState.{SubchannelStat
 use Rattle.subchannel_model.specs.Losing.{is_offered_or_held, reset_with, reset_for, path_index, loses_at}
 use Rattle.subchannel_model.specs.Programs.{has_any}
 use Rattle.subchannel_model.specs.Status.{serials_made}
-use Rattle.subchannel_model.specs.Taking.{quietly, ignoring, with_known}
+use Rattle.subchannel_model.specs.Notice.{with_known}
+use Rattle.subchannel_model.specs.Outcomes.{signal_taken, signal_ignored}
 use Rattle.shown_laws.proofs.Effects.{seen}
 use Rattle.shown_laws.proofs.Fitting.{Fits}
 use Rattle.shown_laws.proofs.Showing.{TellsPrograms}
@@ -87,7 +88,7 @@ reset_for-counts s h p = reset-counts s (holds s && has_program s) (both (holds 
 
 -- a Notice
 abbrev pub noticed : SubchannelState → ℕ → Bool → SubchannelState
-noticed s b more = (if more then quietly (reset_for (with_known s b)) else ignoring s).state
+noticed s b more = (if more then signal_taken (reset_for (with_known s b)) else signal_ignored s).state
 
 module _ (k : SubSeen) (s : SubchannelState) (tie : IsHeldAs k s.hold s.drawn) where
   pub notice-made : (b : ℕ) (more : Bool) → s.serials.made < (noticed s b more).serials.made → (is_program k.link && more) ≡ true

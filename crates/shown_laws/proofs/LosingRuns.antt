@@ -19,7 +19,8 @@ use Rattle.subchannel_model.specs.declared.state.Subchannel.{Subchannel}
 use Rattle.subchannel_model.specs.declared.state.SubchannelState.{SubchannelState}
 use Rattle.subchannel_model.specs.declared.state.UpStep.{UpStep}
 use Rattle.subchannel_model.specs.Losing.{reset_for, loses, path_index}
-use Rattle.subchannel_model.specs.Taking.{quietly, ignoring, with_known}
+use Rattle.subchannel_model.specs.Notice.{with_known}
+use Rattle.subchannel_model.specs.Outcomes.{signal_taken, signal_ignored}
 use Rattle.seen_laws.specs.Links.{SubSeen, OfSub, first_seen, nothing_seen, seen_through}
 use Rattle.seen_laws.proofs.LinkLists.{of-first}
 use Rattle.seen_laws.proofs.LinkRuns.{AreOnePath, IsRunSeen, run-seen}
@@ -61,7 +62,7 @@ module _ (is_up : ℕ → Bool) (known : Option Bool) (sub : Subchannel) (is : I
       }
 
       step : Bool → UpStep
-      step more = if more then quietly (reset_for (with_known sub.state b)) else ignoring sub.state
+      step more = if more then signal_taken (reset_for (with_known sub.state b)) else signal_ignored sub.state
 
       by : (more : Bool) → IsLoss k ((step more).came.taken && not k.doubt) (step more).came.taken known (status_of sub.state) (status_of (step more).state)
       by true = loss true

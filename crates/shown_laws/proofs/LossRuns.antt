@@ -24,7 +24,8 @@ use Rattle.subchannel_model.specs.declared.state.SubchannelState.{SubchannelStat
 use Rattle.subchannel_model.specs.Losing.{is_offered_or_held, reset_with, reset_for, loses, path_index, loses_at, shows_at}
 use Rattle.subchannel_model.specs.Programs.{has_any}
 use Rattle.subchannel_model.specs.Status.{serials_made}
-use Rattle.subchannel_model.specs.Taking.{quietly, ignoring, with_known}
+use Rattle.subchannel_model.specs.Notice.{with_known}
+use Rattle.subchannel_model.specs.Outcomes.{signal_taken, signal_ignored}
 use Rattle.shown_laws.specs.Codes.{enabled_in, MayBe}
 use Rattle.shown_laws.specs.Losses.{StaysUnmade, IsLossShown, AreLossesShown}
 use Rattle.shown_laws.specs.Shown.{StoredStatus}
@@ -50,7 +51,7 @@ loses-silent : (o : Option ℕ) (sub : Subchannel) → IsSilent sub.state (loses
 loses-silent None sub = λ e same. refl
 loses-silent (Some p) sub = lost-silent sub.state (rests_on sub.state.hold p)
 
-notice-silent : (s : SubchannelState) (b : ℕ) (more : Bool) → IsSilent s (if more then quietly (reset_for (with_known s b)) else ignoring s).state
+notice-silent : (s : SubchannelState) (b : ℕ) (more : Bool) → IsSilent s (if more then signal_taken (reset_for (with_known s b)) else signal_ignored s).state
 notice-silent s b true = lost-silent (with_known s b) true
 notice-silent s b false = λ e same. refl
 

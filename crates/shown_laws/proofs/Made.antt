@@ -41,7 +41,7 @@ use Rattle.subchannel_model.specs.Halt.{shows_end, drops_status, status_dropped,
 use Rattle.subchannel_model.specs.Losing.{path_lost, path_index, loses_at, loses, shows_at}
 use Rattle.subchannel_model.specs.Programs.{without_programs, has_any}
 use Rattle.subchannel_model.specs.Status.{intermediate_alone, without_status}
-use Rattle.subchannel_model.specs.Taking.{is_open}
+use Rattle.subchannel_model.specs.Attention.{is_idle_or_start_pending}
 use Rattle.subchannel_model.specs.Test.{tested, tested_scsw, ended_scsw, suspended_scsw, ends_suspended}
 use Rattle.shown_laws.specs.Codes.{MayBe, enabled_in}
 use Rattle.shown_laws.specs.Serials.{clears_by, clears_all, is_released, IsDueUp, IsDue, IsAttended, Beside, beside, sets_by, IsMade, AreMade}
@@ -194,7 +194,7 @@ open-activity false false true active device suspended start e = absurd (cc e)
 open-activity false true clear active device suspended start e = absurd (cc e)
 open-activity true halt clear active device suspended start e = absurd (cc e)
 
-open-parts : (pending : Bool) (a : ActivityControl) → (not pending && is_open a) ≡ true → (pending ≡ false) × (a ≡ record no_activity { start_pending = a.start_pending })
+open-parts : (pending : Bool) (a : ActivityControl) → (not pending && is_idle_or_start_pending a) ≡ true → (pending ≡ false) × (a ≡ record no_activity { start_pending = a.start_pending })
 open-parts true a e = absurd (cc e)
 open-parts false a e =
     (refl, open-activity a.resume_pending a.halt_pending a.clear_pending a.subchannel_active a.device_active a.suspended a.start_pending e)

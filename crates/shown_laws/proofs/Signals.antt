@@ -11,7 +11,7 @@ use Rattle.chan_model.specs.declared.signal.Up.TheVariants as up
 use Rattle.chan_model.specs.HoldTable.{HoldStep, hold_takes, hold_after, came_of, program_begun, is_connected, is_on}
 use Rattle.chan_model.specs.Loads.{load_length}
 use Rattle.chan_model.specs.UnitReports.{is_last_end, is_outward, has_device_end}
-use Rattle.ccw_walk.specs.Walks.{WalkPlace}
+use Rattle.ccw_walk.specs.Places.{WalkPlace}
 use Rattle.data_move.specs.Moving.{residual}
 use Rattle.scsw_irb.specs.declared.status.DeviceStatus.{DeviceStatus}
 use Rattle.storage_keys.specs.Storage.{Contents}
@@ -19,7 +19,9 @@ use Rattle.transfer.specs.declared.CommandStart.{CommandStart}
 use Rattle.transfer.specs.declared.CommandStart.TheVariants as came
 use Rattle.transfer.specs.declared.Transfer.{Transfer}
 use Rattle.transfer.specs.Commands.{first_command, next_command, begun_with_room, with_room}
-use Rattle.transfer.specs.Chunks.{taken_by_device, next_given, brought, is_answered}
+use Rattle.transfer.specs.ToDevice.{chunk_absorbed, next_chunk}
+use Rattle.transfer.specs.FromDevice.{chunk_stored}
+use Rattle.transfer.specs.ChunkNumbers.{is_answered}
 use Rattle.subchannel_model.specs.declared.cause.StatusCause.TheVariants as cause
 use Rattle.subchannel_model.specs.declared.signals.DataSignal.{DataSignal}
 use Rattle.subchannel_model.specs.declared.signals.EndSignal.{EndSignal}
@@ -31,9 +33,18 @@ use Rattle.subchannel_model.specs.declared.state.UpStep.{UpStep}
 use Rattle.subchannel_model.specs.Causes.{with_cause}
 use Rattle.subchannel_model.specs.Ends.{has_status_modifier, breaks_chain, chains_command}
 use Rattle.subchannel_model.specs.Losing.{is_offered_or_held, reset_drawn, reset_with, reset_for}
-use Rattle.subchannel_model.specs.Parts.{suspended_alone, standing_still, end_shown_at}
 use Rattle.subchannel_model.specs.Programs.{has_any}
-use Rattle.subchannel_model.specs.Taking.{Met, meets, ignoring, quietly, let_go, without_pci, standing, standing_as, goes_ahead, path_used, taking_over, beginning, begin_standing, accept, with_transfer, moving_on, giving, take_in, move_bytes, move_data, with_end, end_taken, chaining, goes_on, stops_at, command_ended, end_of, reset_taken, back, attend, may_attend, is_open, takes_up}
+use Rattle.subchannel_model.specs.Taking.{takes_up}
+use Rattle.subchannel_model.specs.Suspension.{suspended_alone, with_suspended_program}
+use Rattle.subchannel_model.specs.End.{with_end_status, with_first_end, with_allegiance_after_end, next_ccw_outcome, chains_at_device_end, concludes, ends_command, ends_at_work}
+use Rattle.subchannel_model.specs.Outcomes.{SignalOutcome, with_storage, signal_ignored, signal_taken, device_released}
+use Rattle.subchannel_model.specs.Pci.{without_pci}
+use Rattle.subchannel_model.specs.Accept.{offered_position, position_of_start, takes_device, with_path_used, with_program_at_work, first_ccw_outcome, begins_at, takes_accept}
+use Rattle.subchannel_model.specs.Command.{with_transfer}
+use Rattle.subchannel_model.specs.Data.{after_chunk, gives_chunk, tells_room_after, moves_bytes, moves_data}
+use Rattle.subchannel_model.specs.Cleared.{takes_cleared}
+use Rattle.subchannel_model.specs.Back.{takes_back}
+use Rattle.subchannel_model.specs.Attention.{takes_attention, may_take_attention, is_idle_or_start_pending}
 use Rattle.seen_laws.specs.BeginsItsOwn.{is_release}
 use Rattle.shown_laws.proofs.Effects.{Seen, seen, IsStanding, IsGoing, Effect, Nothing, Takes, TakesAsking, Moves, MovesAsking, Suspends, SuspendsShowing, causes}
 use Rattle.shown_laws.proofs.Holding.{Held, not-held}
@@ -51,7 +62,7 @@ Due k (up.End t m status more) sent n suspended = IsReleased sent → suspended 
 Due k (up.Cleared r) sent n suspended = n ≡ (if k.scsw.activity.clear_pending then 1 else 0)
 Due k (up.Notice b) sent n suspended = n ≡ 1 → has_any k.waiting k.begun k.suspended ≡ true
 Due k (up.Attn a status) sent n suspended =
-    ((not k.scsw.status.pending && is_open k.scsw.activity) ≡ true) × (n ≡ (if status.0 == 0x20 then 0 else 1))
+    ((not k.scsw.status.pending && is_idle_or_start_pending k.scsw.activity) ≡ true) × (n ≡ (if status.0 == 0x20 then 0 else 1))
 Due k signal sent n suspended = n ≡ 0
 
 pub data Comes (H : Type 0) (k : Seen) (x : Up) (step : UpStep) : Type 0 where
@@ -78,7 +89,7 @@ chains-free s b signal e =
     let second = and_parts (not b.transfer.moving.ccw.chain_data) (not b.transfer.unchained && not breaks) first.1 in
     not-true b.transfer.unchained (and_parts (not b.transfer.unchained) (not breaks) second.1).0
 
-if-met : (H : Type 0) (k : Seen) (x : Up) (b : Bool) (a c : Met) → Comes H k x a.step → Comes H k x c.step → Comes H k x (if b then a else c).step
+if-met : (H : Type 0) (k : Seen) (x : Up) (b : Bool) (a c : SignalOutcome) → Comes H k x a.step → Comes H k x c.step → Comes H k x (if b then a else c).step
 if-met H k x true a c e f = e
 if-met H k x false a c e f = f
 
@@ -89,8 +100,8 @@ data Goes (H : Type 0) (k : Seen) (y : SubchannelState) : Type 0 where
 -- an intermediate status may be asked for
 takes-goes : (H : Type 0) (s : SubchannelState) (program : Program) (transfer : Transfer) (asks : Bool) (tried count : ℕ) → IsStanding (seen s) → (H → s.begun ≡ None) →
     Goes H (seen s)
-    (if asks then with_cause (record (taking_over s program transfer) { begun = Some (without_pci (record { program = program; primary_shown = false; transfer = transfer })) }) (cause.Pci tried count)
-    else taking_over s program transfer)
+    (if asks then with_cause (record (with_program_at_work s program transfer) { begun = Some (without_pci (record { program = program; primary_shown = false; transfer = transfer })) }) (cause.Pci tried count)
+    else with_program_at_work s program transfer)
 takes-goes H s program transfer true tried count stands none = Went 1 (TakesAsking program (record transfer { pci_pending = false }) tried count stands none)
 takes-goes H s program transfer false tried count stands none = Went 0 (Takes program transfer stands none)
 
@@ -101,21 +112,21 @@ moves-goes : (H : Type 0) (s : SubchannelState) (b : ActiveProgram) (transfer : 
 moves-goes H s b transfer true tried count e chains = Went 1 (MovesAsking b (record transfer { pci_pending = false }) tried count e chains)
 moves-goes H s b transfer false tried count e chains = Went 0 (Moves b transfer e chains)
 
-moving-goes : (H : Type 0) (s : SubchannelState) (b : ActiveProgram) (t : Transfer) → s.begun ≡ Some b → (t.unchained ≡ false → b.transfer.unchained ≡ false) → Goes H (seen s) (moving_on s b t)
+moving-goes : (H : Type 0) (s : SubchannelState) (b : ActiveProgram) (t : Transfer) → s.begun ≡ Some b → (t.unchained ≡ false → b.transfer.unchained ≡ false) → Goes H (seen s) (after_chunk s b t)
 moving-goes H s b t e chains = moves-goes H s b t t.pci_pending t.walk.tried (residual t.moving) e chains
 
 -- a program is suspended: it lets the device go
 suspends-goes : (H : Type 0) (s : SubchannelState) (program : Program) (walk : WalkPlace) (count : ℕ) (quiet : Bool) → IsGoing H (seen s) →
     (n : ℕ)
-    × Effect H (seen s) n (seen (if quiet then record (standing_still s program walk count) { scsw = suspended_alone s.scsw }
-    else with_cause (standing_still s program walk count) (cause.Suspension walk.tried count)))
-    × ((if quiet then record (standing_still s program walk count) { scsw = suspended_alone s.scsw }
-    else with_cause (standing_still s program walk count) (cause.Suspension walk.tried count)).scsw.activity.suspended ≡ false → n ≡ 1)
+    × Effect H (seen s) n (seen (if quiet then record (with_suspended_program s program walk count) { scsw = suspended_alone s.scsw }
+    else with_cause (with_suspended_program s program walk count) (cause.Suspension walk.tried count)))
+    × ((if quiet then record (with_suspended_program s program walk count) { scsw = suspended_alone s.scsw }
+    else with_cause (with_suspended_program s program walk count) (cause.Suspension walk.tried count)).scsw.activity.suspended ≡ false → n ≡ 1)
 suspends-goes H s program walk count true runs = (0, Suspends program walk count runs, λ e. absurd (cc e))
 suspends-goes H s program walk count false runs = (1, SuspendsShowing program walk count runs, λ e. refl)
 
 -- Accept
-none-standing : (w : Option Program) (st : Option ProgramPosition) (start : ℕ) (x : ProgramPosition) → standing_as w st start ≡ Some x → w ≡ None → st ≡ None → ⊥
+none-standing : (w : Option Program) (st : Option ProgramPosition) (start : ℕ) (x : ProgramPosition) → position_of_start w st start ≡ Some x → w ≡ None → st ≡ None → ⊥
 none-standing None None start x e f g = cc e
 none-standing None (Some st) start x e f g = cc g
 none-standing (Some w) st start x e f g = cc f
@@ -123,12 +134,12 @@ none-standing (Some w) st start x e f g = cc f
 module _ (storage : Contents) where
   -- the program takes the device: no halt is pending
   beginning-comes : (H : Type 0) (s : SubchannelState) (u p t : ℕ) (st : ProgramPosition) (walk : WalkPlace) (c : CommandStart) → IsStanding (seen s) → (H → s.begun ≡ None) →
-      s.scsw.activity.halt_pending ≡ false → Comes H (seen s) (up.Accept u) (beginning storage s p t st walk c)
+      s.scsw.activity.halt_pending ≡ false → Comes H (seen s) (up.Accept u) (first_ccw_outcome storage s p t st walk c)
   beginning-comes H s u p t st walk (came.Begins transfer) stands none idle =
       let x = begun_with_room storage transfer in
       by (takes-goes H s st.program x.transfer x.transfer.pci_pending x.transfer.walk.tried (residual x.transfer.moving) stands none)
     where
-      by : Goes H (seen s) (beginning storage s p t st walk (came.Begins transfer)).state → Comes H (seen s) (up.Accept u) (beginning storage s p t st walk (came.Begins transfer))
+      by : Goes H (seen s) (first_ccw_outcome storage s p t st walk (came.Begins transfer)).state → Comes H (seen s) (up.Accept u) (first_ccw_outcome storage s p t st walk (came.Begins transfer))
       by (Went n effect) = Taken n refl effect (λ r h. absurd (cc (sym h ∙ idle)))
   beginning-comes H s u p t st walk came.Suspends stands none idle =
       let g = suspends-goes H s st.program walk st.count st.program.orb.suppress_suspended (inl (stands, none)) in
@@ -136,8 +147,8 @@ module _ (storage : Contents) where
   beginning-comes H s u p t st walk (came.Stops check) stands none idle =
       Taken 1 refl (causes H s (cause.FetchFault walk.tried check st.count) (inl (stands, none))) (λ r h. absurd (cc (sym h ∙ idle)))
 
-  begin-comes : (H : Type 0) (s : SubchannelState) (u p t : ℕ) (o : Option ProgramPosition) → is_some o ≡ true → standing s ≡ o → (H → s.begun ≡ None) → s.scsw.activity.halt_pending ≡ false →
-      Comes H (seen s) (up.Accept u) (begin_standing storage s p t o)
+  begin-comes : (H : Type 0) (s : SubchannelState) (u p t : ℕ) (o : Option ProgramPosition) → is_some o ≡ true → offered_position s ≡ o → (H → s.begun ≡ None) → s.scsw.activity.halt_pending ≡ false →
+      Comes H (seen s) (up.Accept u) (begins_at storage s p t o)
   begin-comes H s u p t None is e none idle = absurd (cc is)
   begin-comes H s u p t (Some st) is e none idle =
       let first = first_command storage st.walk in
@@ -156,44 +167,44 @@ module _ (storage : Contents) where
   abbrev offer_begun : HoldState → ℕ → ℕ → Bool → Bool → Option HoldStep
   offer_begun h t q may same = if same then Some (program_begun (record h { phase = hold.Offer t q }) t q may) else None
 
-  begun-comes : (H : Type 0) (s : SubchannelState) (h : HoldState) (t q u : ℕ) (may same : Bool) → (may ≡ true → (is_some (standing s) ≡ true) × (s.scsw.activity.halt_pending ≡ false)) →
-      (H → s.begun ≡ None) → Comes H (seen s) (up.Accept u) (accept storage (with_hold s h (hold.Offer t q)) (offer_begun h t q may same))
+  begun-comes : (H : Type 0) (s : SubchannelState) (h : HoldState) (t q u : ℕ) (may same : Bool) → (may ≡ true → (is_some (offered_position s) ≡ true) × (s.scsw.activity.halt_pending ≡ false)) →
+      (H → s.begun ≡ None) → Comes H (seen s) (up.Accept u) (takes_accept storage (with_hold s h (hold.Offer t q)) (offer_begun h t q may same))
   begun-comes H s h t q u true true f none =
-      let x = record s { hold = record h { phase = hold.On t q 0; seen = 0; first_path = Some q }; pmcw = path_used s.pmcw q } in
-      begin-comes H x u q t (standing s) (f refl).0 refl none (f refl).1
+      let x = record s { hold = record h { phase = hold.On t q 0; seen = 0; first_path = Some q }; pmcw = with_path_used s.pmcw q } in
+      begin-comes H x u q t (offered_position s) (f refl).0 refl none (f refl).1
   begun-comes H s h t q u false true f none =
-      let x = record s { hold = record h { phase = hold.Letting t q; seen = 0; first_path = Some q }; pmcw = path_used s.pmcw q } in
+      let x = record s { hold = record h { phase = hold.Letting t q; seen = 0; first_path = Some q }; pmcw = with_path_used s.pmcw q } in
       halted-comes H s x u _ s.scsw.activity.halt_pending refl refl
   begun-comes H s h t q u may false f none = Ignored refl refl
 
   accept-comes : (H : Type 0) (returns : Bool) (s : SubchannelState) (h : HoldState) (phase : HoldPhase) (p u : ℕ) → (H → Held (with_hold s h phase)) →
       Comes H (seen s) (up.Accept u) (takes_up returns storage (with_hold s h phase) p (up.Accept u)).step
   accept-comes H returns s h (hold.Offer t q) p u k =
-      begun-comes H s h t q u (goes_ahead s) (u == t)
-      (λ e. let both = and_parts (is_some (standing s)) (not s.scsw.activity.halt_pending) e in (both.0, not-true s.scsw.activity.halt_pending both.1))
+      begun-comes H s h t q u (takes_device s) (u == t)
+      (λ e. let both = and_parts (is_some (offered_position s)) (not s.scsw.activity.halt_pending) e in (both.0, not-true s.scsw.activity.halt_pending both.1))
       (λ x. not-held (with_hold s h (hold.Offer t q)) (k x) refl)
   accept-comes H returns s h other p u k = Ignored refl refl
 
   -- Data
   giving-comes : (H : Type 0) (s : SubchannelState) (x : Up) (b : ActiveProgram) (signal : DataSignal) (t : Transfer) (sent : Option (OnPath Down)) → s.begun ≡ Some b →
-      (t.unchained ≡ false → b.transfer.unchained ≡ false) → ((n : ℕ) (y : Bool) → Due (seen s) x sent n y) → Comes H (seen s) x (record { state = moving_on s b t; came = record { taken = true; sent = sent } })
+      (t.unchained ≡ false → b.transfer.unchained ≡ false) → ((n : ℕ) (y : Bool) → Due (seen s) x sent n y) → Comes H (seen s) x (record { state = after_chunk s b t; came = record { taken = true; sent = sent } })
   giving-comes H s x b signal t sent e chains due = by (moving-goes H s b t e chains)
     where
-      by : Goes H (seen s) (moving_on s b t) → Comes H (seen s) x (record { state = moving_on s b t; came = record { taken = true; sent = sent } })
+      by : Goes H (seen s) (after_chunk s b t) → Comes H (seen s) x (record { state = after_chunk s b t; came = record { taken = true; sent = sent } })
       by (Went n effect) = Taken n refl effect (due n _)
 
   move-comes : (H : Type 0) (s : SubchannelState) (u c m k : ℕ) (o : Option ActiveProgram) (signal : DataSignal) (load : Load) → s.begun ≡ o →
-      Comes H (seen s) (up.Data load u c m k) (move_data storage s o signal load).step
+      Comes H (seen s) (up.Data load u c m k) (moves_data storage s o signal load).step
   move-comes H s u c m k None signal load e = Ignored refl refl
   move-comes H s u c m k (Some b) signal load e =
-      if-met H (seen s) (up.Data load u c m k) (is_answered b.transfer signal.command signal.sequence) (move_bytes storage s b signal load) (meets storage (ignoring s))
+      if-met H (seen s) (up.Data load u c m k) (is_answered b.transfer signal.command signal.sequence) (moves_bytes storage s b signal load) (with_storage storage (signal_ignored s))
       (if-met H (seen s) (up.Data load u c m k) (is_outward b.transfer.code)
-      (meets storage (giving s b signal (next_given storage (taken_by_device storage b.transfer signal.sequence (load_length load)))))
-      (take_in s b signal (brought storage b.transfer signal.sequence (load_bytes load)))
-      (giving-comes H s (up.Data load u c m k) b signal (next_given storage (taken_by_device storage b.transfer signal.sequence (load_length load))).transfer _ e
+      (with_storage storage (gives_chunk s b signal (next_chunk storage (chunk_absorbed storage b.transfer signal.sequence (load_length load)))))
+      (tells_room_after s b signal (chunk_stored storage b.transfer signal.sequence (load_bytes load)))
+      (giving-comes H s (up.Data load u c m k) b signal (next_chunk storage (chunk_absorbed storage b.transfer signal.sequence (load_length load))).transfer _ e
       (λ u. sym (giving-same storage b.transfer signal.sequence (load_length load)) ∙ u) (λ n y. tt))
       (giving-comes H s (up.Data load u c m k) b signal
-      (with_room (brought storage b.transfer signal.sequence (load_bytes load)).storage (brought storage b.transfer signal.sequence (load_bytes load)).transfer).transfer _ e
+      (with_room (chunk_stored storage b.transfer signal.sequence (load_bytes load)).storage (chunk_stored storage b.transfer signal.sequence (load_bytes load)).transfer).transfer _ e
       (λ u. sym (taking-same storage b.transfer signal.sequence (load_bytes load)) ∙ u) (λ n y. tt)))
       (Ignored refl refl)
 
@@ -202,40 +213,40 @@ module _ (storage : Contents) where
   IsDue k x = (n : ℕ) (sent : Option (OnPath Down)) (y : Bool) → (IsReleased sent → y ≡ false → n ≡ 1) → Due k x sent n y
 
   chaining-comes : (H : Type 0) (s : SubchannelState) (x : Up) (b : ActiveProgram) (signal : EndSignal) (walk : WalkPlace) (c : CommandStart) → s.begun ≡ Some b →
-      b.transfer.unchained ≡ false → IsDue (seen s) x → Comes H (seen s) x (chaining storage s (with_end b) signal walk c)
+      b.transfer.unchained ≡ false → IsDue (seen s) x → Comes H (seen s) x (next_ccw_outcome storage s (with_first_end b) signal walk c)
   chaining-comes H s x b signal walk (came.Begins transfer) e free due = by (moves-goes H s b t t.pci_pending t.walk.tried (residual t.moving) e (λ u. free))
     where
       t : Transfer
       t = (begun_with_room storage transfer).transfer
 
-      by : Goes H (seen s) (moving_on s b t) → Comes H (seen s) x (chaining storage s (with_end b) signal walk (came.Begins transfer))
+      by : Goes H (seen s) (after_chunk s b t) → Comes H (seen s) x (next_ccw_outcome storage s (with_first_end b) signal walk (came.Begins transfer))
       by (Went n effect) = Taken n refl effect (due n _ _ (λ r. absurd (cc r)))
   chaining-comes H s x b signal walk came.Suspends e free due =
-      let g = suspends-goes H (end_taken s signal) b.program walk (residual b.transfer.moving) b.program.orb.suppress_suspended (inr (b, e, free)) in
+      let g = suspends-goes H (with_allegiance_after_end s signal) b.program walk (residual b.transfer.moving) b.program.orb.suppress_suspended (inr (b, e, free)) in
       Taken g.0 refl g.1 (due g.0 _ _ (λ r ends. g.2 ends))
   chaining-comes H s x b signal walk (came.Stops check) e free due =
-      Taken 1 refl (causes H (end_taken s signal) (cause.FetchFault walk.tried check (residual b.transfer.moving)) (inr (b, e, free))) (due 1 _ _ (λ r ends. refl))
+      Taken 1 refl (causes H (with_allegiance_after_end s signal) (cause.FetchFault walk.tried check (residual b.transfer.moving)) (inr (b, e, free))) (due 1 _ _ (λ r ends. refl))
 
   goes-comes : (H : Type 0) (s : SubchannelState) (x : Up) (b : ActiveProgram) (signal : EndSignal) → s.begun ≡ Some b → b.transfer.unchained ≡ false → IsDue (seen s) x →
-      Comes H (seen s) x (goes_on storage s (with_end b) signal)
+      Comes H (seen s) x (chains_at_device_end storage s (with_first_end b) signal)
   goes-comes H s x b signal e free due =
-      let next = next_command storage (with_end b).transfer (has_status_modifier signal.status) in
-      if-comes H (seen s) x (has_device_end signal.status) (chaining storage s (with_end b) signal next.walk next.came)
-      (quietly (record (end_taken s signal) { begun = Some (with_end b) }))
+      let next = next_command storage (with_first_end b).transfer (has_status_modifier signal.status) in
+      if-comes H (seen s) x (has_device_end signal.status) (next_ccw_outcome storage s (with_first_end b) signal next.walk next.came)
+      (signal_taken (record (with_allegiance_after_end s signal) { begun = Some (with_first_end b) }))
       (chaining-comes H s x b signal next.walk next.came e free due)
-      (Taken 0 refl (Moves b (with_end b).transfer e (λ u. u)) (due 0 None _ (λ r. absurd r)))
+      (Taken 0 refl (Moves b (with_first_end b).transfer e (λ u. u)) (due 0 None _ (λ r. absurd r)))
 
-  stops-comes : (H : Type 0) (s : SubchannelState) (x : Up) (b : ActiveProgram) (signal : EndSignal) → s.begun ≡ Some b → IsDue (seen s) x → Comes H (seen s) x (stops_at s b signal)
+  stops-comes : (H : Type 0) (s : SubchannelState) (x : Up) (b : ActiveProgram) (signal : EndSignal) → s.begun ≡ Some b → IsDue (seen s) x → Comes H (seen s) x (concludes s b signal)
   stops-comes H s x b signal e due =
-      if-comes H (seen s) x (is_last_end signal.status) (let_go (end_shown_at s b signal)) (quietly (end_shown_at s b signal))
+      if-comes H (seen s) x (is_last_end signal.status) (device_released (with_end_status s b signal)) (signal_taken (with_end_status s b signal))
       (Taken 1 refl (causes H s (cause.End b signal.status signal.more) e) (due 1 _ _ (λ r ends. refl)))
       (Taken 1 refl (causes H s (cause.End b signal.status signal.more) e) (due 1 _ _ (λ r ends. refl)))
 
-  end-comes : (H : Type 0) (s : SubchannelState) (x : Up) (o : Option ActiveProgram) (signal : EndSignal) → s.begun ≡ o → IsDue (seen s) x → Comes H (seen s) x (end_of storage s o signal)
+  end-comes : (H : Type 0) (s : SubchannelState) (x : Up) (o : Option ActiveProgram) (signal : EndSignal) → s.begun ≡ o → IsDue (seen s) x → Comes H (seen s) x (ends_at_work storage s o signal)
   end-comes H s x None signal e due = Ignored refl refl
   end-comes H s x (Some b) signal e due =
-      if-comes H (seen s) x (signal.command == b.transfer.command) (command_ended storage s b signal) (ignoring s)
-      (if-chains H (seen s) x (chains_command s.scsw b signal.status signal.more) (goes_on storage s (with_end b) signal) (stops_at s b signal)
+      if-comes H (seen s) x (signal.command == b.transfer.command) (ends_command storage s b signal) (signal_ignored s)
+      (if-chains H (seen s) x (chains_command s.scsw b signal.status signal.more) (chains_at_device_end storage s (with_first_end b) signal) (concludes s b signal)
       (λ i. goes-comes H s x b signal e (chains-free s b signal i) due) (stops-comes H s x b signal e due))
       (Ignored refl refl)
 
@@ -252,7 +263,7 @@ lost-goes H s true =
 lost-goes H s false = (0, Nothing, λ e. absurd (omega (arith, e)))
 
 notice-comes : (H : Type 0) (s x : SubchannelState) (b : ℕ) (newer shows : Bool) → seen x ≡ seen s → (shows ≡ true → has_any s.waiting s.begun s.suspended ≡ true) →
-    Comes H (seen s) (up.Notice b) (if newer then quietly (reset_with x shows) else ignoring s)
+    Comes H (seen s) (up.Notice b) (if newer then signal_taken (reset_with x shows) else signal_ignored s)
 notice-comes H s x b true shows same f =
     let g = reset-goes H x shows in
     Taken g.0 refl (subst (λ (k : Seen). Effect H k g.0 (seen (reset_with x shows))) same g.1) (λ e. f (g.2 e))
@@ -260,7 +271,7 @@ notice-comes H s x b false shows same f = Ignored refl refl
 
 -- Cleared
 cleared-comes : (H : Type 0) (s x : SubchannelState) (r : ℕ) (pending : Bool) → seen x ≡ seen s → s.scsw.activity.clear_pending ≡ pending →
-    Comes H (seen s) (up.Cleared r) (quietly (if pending then with_cause x cause.ClearDone else x))
+    Comes H (seen s) (up.Cleared r) (signal_taken (if pending then with_cause x cause.ClearDone else x))
 cleared-comes H s x r true same e =
     Taken 1 refl
     (subst (λ (k : Seen). Effect H k 1 (seen (with_cause x cause.ClearDone))) same (causes H x cause.ClearDone (ap (λ (k : Seen). k.scsw.activity.clear_pending) same ∙ e)))
@@ -269,7 +280,7 @@ cleared-comes H s x r false same e = Taken 0 refl (subst (λ (k : Seen). Effect 
 
 reset_cleared-comes : (H : Type 0) (s : SubchannelState) (h : HoldState) (phase : HoldPhase) (p r : ℕ) →
     Comes H (seen s) (up.Cleared r)
-    (reset_taken (record s { hold = record h { phase = phase } }) (hold_takes (record h { phase = phase }) p (up.Cleared r) false))
+    (takes_cleared (record s { hold = record h { phase = phase } }) (hold_takes (record h { phase = phase }) p (up.Cleared r) false))
 reset_cleared-comes H s h hold.Free p r = Ignored refl refl
 reset_cleared-comes H s h (hold.Offer t q) p r = Ignored refl refl
 reset_cleared-comes H s h (hold.On t q c) p r = Ignored refl refl
@@ -281,7 +292,7 @@ reset_cleared-comes H s h (hold.Reset n) p r = by (r == n)
     x = record s { hold = record h { phase = hold.Reset n } }
 
     by : (b : Bool) → Comes H (seen s) (up.Cleared r)
-        (reset_taken x (if b then Some (record { state = record h { phase = hold.Free; reset_path = None }; sent = None }) else None))
+        (takes_cleared x (if b then Some (record { state = record h { phase = hold.Free; reset_path = None }; sent = None }) else None))
     by true = cleared-comes H s (record s { hold = record h { phase = hold.Free; reset_path = None } }) r s.scsw.activity.clear_pending refl refl
     by false = Ignored refl refl
 
@@ -291,25 +302,25 @@ held-comes : (H : Type 0) (s : SubchannelState) (x : Up) (step : Option HoldStep
 held-comes H s x None due = Ignored refl refl
 held-comes H s x (Some step) due = Taken 0 refl Nothing (due step.sent _)
 
-back-comes : (H : Type 0) (s : SubchannelState) (t c p : ℕ) (step : Option HoldStep) → Comes H (seen s) (up.Back t c) (back s p step)
+back-comes : (H : Type 0) (s : SubchannelState) (t c p : ℕ) (step : Option HoldStep) → Comes H (seen s) (up.Back t c) (takes_back s p step)
 back-comes H s t c p None = Ignored refl refl
 back-comes H s t c p (Some step) = Taken 0 refl Nothing refl
 
 -- Attn
 attended-comes : (H : Type 0) (s x : SubchannelState) (a : ℕ) (status : DeviceStatus) (sent : Option (OnPath Down)) (quiet : Bool) →
-    seen x ≡ seen s → may_attend s ≡ true → (status.0 == 0x20) ≡ quiet →
+    seen x ≡ seen s → may_take_attention s ≡ true → (status.0 == 0x20) ≡ quiet →
     Comes H (seen s) (up.Attn a status) (record { state = if true && not quiet then with_cause x cause.Attention else x; came = record { taken = true; sent = sent } })
 attended-comes H s x a status sent true same may e =
     Taken 0 refl (subst (λ (k : Seen). Effect H k 0 (seen x)) same Nothing) (may, ap (λ (b : Bool). if b then 0 else 1) (sym e))
 attended-comes H s x a status sent false same may e =
     Taken 1 refl
     (subst (λ (k : Seen). Effect H k 1 (seen (with_cause x cause.Attention))) same
-    (causes H x cause.Attention (ap (λ (k : Seen). not k.scsw.status.pending && is_open k.scsw.activity) same ∙ may)))
+    (causes H x cause.Attention (ap (λ (k : Seen). not k.scsw.status.pending && is_idle_or_start_pending k.scsw.activity) same ∙ may)))
     (may, ap (λ (b : Bool). if b then 0 else 1) (sym e))
 
-attend-comes : (H : Type 0) (s : SubchannelState) (h : HoldState) (phase : HoldPhase) (p a : ℕ) (status : DeviceStatus) (may : Bool) → may_attend s ≡ may →
+attend-comes : (H : Type 0) (s : SubchannelState) (h : HoldState) (phase : HoldPhase) (p a : ℕ) (status : DeviceStatus) (may : Bool) → may_take_attention s ≡ may →
     Comes H (seen s) (up.Attn a status)
-    (attend (record s { hold = record h { phase = phase } }) status (hold_takes (record h { phase = phase }) p (up.Attn a status) may))
+    (takes_attention (record s { hold = record h { phase = phase } }) status (hold_takes (record h { phase = phase }) p (up.Attn a status) may))
 attend-comes H s h hold.Free p a status true e =
     attended-comes H s (record s { hold = record h { phase = hold.Free } }) a status _ (status.0 == 0x20) refl e refl
 attend-comes H s h hold.Free p a status false e = Ignored refl refl
@@ -323,15 +334,15 @@ takes-comes returns storage s p (up.Leave t c) = held-comes (Held s) s (up.Leave
 takes-comes returns storage s p (up.Back t c) = back-comes (Held s) s t c p (hold_takes s.hold p (up.Back t c) returns)
 takes-comes returns storage s p (up.Data load t c n seq) =
     let signal : DataSignal = record { path = p; number = t; connection = c; command = n; sequence = seq } in
-    if-met (Held s) (seen s) (up.Data load t c n seq) (is_connected s.hold.phase p t c) (move_data storage s s.begun signal load) (meets storage (ignoring s))
+    if-met (Held s) (seen s) (up.Data load t c n seq) (is_connected s.hold.phase p t c) (moves_data storage s s.begun signal load) (with_storage storage (signal_ignored s))
     (move-comes storage (Held s) s t c n seq s.begun signal load refl) (Ignored refl refl)
 takes-comes returns storage s p (up.End t n status more) =
     let signal : EndSignal = record { path = p; number = t; command = n; status = status; more = more } in
-    if-comes (Held s) (seen s) (up.End t n status more) (is_on s.hold.phase t) (end_of storage s s.begun signal) (ignoring s)
+    if-comes (Held s) (seen s) (up.End t n status more) (is_on s.hold.phase t) (ends_at_work storage s s.begun signal) (signal_ignored s)
     (end-comes storage (Held s) s (up.End t n status more) s.begun signal refl (λ n sent y f. f)) (Ignored refl refl)
 takes-comes returns storage s p (up.Released t) = held-comes (Held s) s (up.Released t) (hold_takes s.hold p (up.Released t) false) (λ sent y. refl)
 takes-comes returns storage s p (up.Cleared r) = reset_cleared-comes (Held s) s s.hold s.hold.phase p r
 takes-comes returns storage s p (up.Notice b) =
     notice-comes (Held s) s (record s { hold = record s.hold { known = b } }) b (nat_lt s.hold.known b) (is_offered_or_held s.hold.phase && has_any s.waiting s.begun s.suspended) refl
     (λ e. (and_parts (is_offered_or_held s.hold.phase) (has_any s.waiting s.begun s.suspended) e).1)
-takes-comes returns storage s p (up.Attn a status) = attend-comes (Held s) s s.hold s.hold.phase p a status (may_attend s) refl
+takes-comes returns storage s p (up.Attn a status) = attend-comes (Held s) s s.hold s.hold.phase p a status (may_take_attention s) refl

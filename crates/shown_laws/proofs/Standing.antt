@@ -20,7 +20,7 @@ use Rattle.subchannel_model.specs.Causes.{intermediate, row_of, with_status, wit
 use Rattle.subchannel_model.specs.Ends.{end_shown, last_shown, work_shown}
 use Rattle.subchannel_model.specs.Halt.{shows_end}
 use Rattle.subchannel_model.specs.Status.{scsw_made, scsw_with_status}
-use Rattle.subchannel_model.specs.Taking.{is_open}
+use Rattle.subchannel_model.specs.Attention.{is_idle_or_start_pending}
 use Rattle.shown_laws.proofs.Effects.{Seen, seen, of_seen, IsStanding, IsGoing, IsTimely, Effect, Nothing, Causes, Takes, TakesAsking, Moves, MovesAsking, Suspends, SuspendsShowing, SendsHalt, taken_over, moved, still, made-functions, joined-functions}
 use Rattle.shown_laws.proofs.Fitting.{cause-activity, asked-functions}
 use Rattle.shown_laws.proofs.Holding.{none-if, none-some}
@@ -184,7 +184,7 @@ or-left : (a b : Bool) → (a || b) ≡ false → a ≡ false
 or-left true b e = absurd (cc e)
 or-left false b e = refl
 
-pub open-none : (pending : Bool) (a : ActivityControl) → (not pending && is_open a) ≡ true → (a.device_active ≡ false) × (a.suspended ≡ false)
+pub open-none : (pending : Bool) (a : ActivityControl) → (not pending && is_idle_or_start_pending a) ≡ true → (a.device_active ≡ false) × (a.suspended ≡ false)
 open-none true a e = absurd (cc e)
 open-none false a e =
     let all : (a.resume_pending || (a.halt_pending || (a.clear_pending || (a.subchannel_active || (a.device_active || a.suspended))))) ≡ false = not-true _ e in

@@ -48,7 +48,8 @@ use Rattle.subchannel_model.specs.Choosing.{path_use, engaged_paths, return_path
 use Rattle.subchannel_model.specs.Places.{Found, found_at, place_in, place_of_id, found_with}
 use Rattle.subchannel_model.specs.Sending.{carried_by, finds_full}
 use Rattle.subchannel_model.specs.Store.{available_paths}
-use Rattle.subchannel_model.specs.Taking.{Met, takes_up}
+use Rattle.subchannel_model.specs.Outcomes.{SignalOutcome}
+use Rattle.subchannel_model.specs.Taking.{takes_up}
 use Rattle.wires.specs.Queues.{queue}
 use Rattle.shown_laws.specs.Shown.{names, is_about}
 use Rattle.step_laws.proofs.Executed.{IsEffect, reply_of, code_for, state_left, IsDone}
@@ -75,10 +76,10 @@ state_chosen s PerformsHalt = with_cause s cause.HaltDone
 state_chosen s FindsNoPath = with_cause s cause.NoPath
 state_chosen s (Offers c path) = offered s c.program path
 
-abbrev pub met : Bool → Contents → Subchannel → ℕ → Up → Met
+abbrev pub met : Bool → Contents → Subchannel → ℕ → Up → SignalOutcome
 met returns storage sub path x = takes_up returns storage sub.state path x
 
-abbrev pub reply_met : Up → Met → Reply
+abbrev pub reply_met : Up → SignalOutcome → Reply
 reply_met x m = reply.Up x m.step.came.taken m.step.came.sent
 
 -- a halt goes to a program that is away by a path by which it may come back, where there is one
@@ -143,7 +144,7 @@ front-met : (returns : Bool) (storage : Contents) (sub : Subchannel) (path : ℕ
 front-met returns storage sub path None t ok = absurd (cc ok)
 front-met returns storage sub path (Some x) t ok = full (finds_full sub.wires.down (carried_by sub m.step.came.sent)) ok
   where
-    m : Met
+    m : SignalOutcome
     m = met returns storage sub path x
 
     full : (b : Bool) → (if b then Err fault.WireFull else Ok (record { reply = reply_met x m; sub = Rattle.machine_model.specs.UpSteps.with_met sub path m.step; storage = m.storage })) ≡ Ok t →

@@ -14,7 +14,7 @@ use Rattle.chan_events.specs.declared.reply.Reply.TheVariants as reply
 use Rattle.chan_model.specs.declared.signal.Up.TheVariants as up
 use Rattle.chan_model.specs.PathSets.{has_path, mask_of_path}
 use Rattle.channel_config.specs.declared.names.SubchannelId.{SubchannelId}
-use Rattle.subchannel_model.specs.Taking.{is_grant}
+use Rattle.subchannel_model.specs.Back.{is_grant}
 use Rattle.shown_laws.specs.Shown.{names, is_accepted}
 
 -- a CPU's prefix is set to zero, it executes STORE SUBCHANNEL of this subchannel with condition code 0, and the four bytes of word 2 of the

@@ -22,14 +22,16 @@ use Rattle.chan_model.specs.UnitTable.{restarted}
 use Rattle.ccw_walk.specs.declared.check.Check.{Check}
 use Rattle.data_move.specs.Accesses as access
 use Rattle.transfer.specs.declared.Transfer.{Transfer}
-use Rattle.transfer.specs.Chunks.{Brought, brought_by, brought_in, brought, fitting, is_answered}
-use Rattle.transfer.proofs.Named.{brings_none}
+use Rattle.transfer.specs.FromDevice.{StoredChunk, after_store, bytes_brought_in, chunk_stored, fitting_bytes, nothing_stored}
+use Rattle.transfer.specs.ChunkNumbers.{is_answered}
 use Rattle.subchannel_model.specs.declared.signals.DataSignal.{DataSignal}
 use Rattle.subchannel_model.specs.declared.state.ActiveProgram.{ActiveProgram}
 use Rattle.subchannel_model.specs.declared.state.Subchannel.{Subchannel}
 use Rattle.subchannel_model.specs.declared.state.SubchannelState.{SubchannelState}
 use Rattle.subchannel_model.specs.Sending.{carried_by, finds_full}
-use Rattle.subchannel_model.specs.Taking.{Met, meets, ignoring, move_data, takes_up}
+use Rattle.subchannel_model.specs.Outcomes.{SignalOutcome, with_storage, signal_ignored}
+use Rattle.subchannel_model.specs.Data.{moves_data}
+use Rattle.subchannel_model.specs.Taking.{takes_up}
 use Rattle.wires.specs.Queues.{queue}
 use Rattle.control_units.specs.declared.Member.{Member}
 use Rattle.control_units.specs.Units.{may_serve, member_told, begun_at, over_at, refused_at}
@@ -85,34 +87,34 @@ prefix-of n storage true false prefixes k = tt
 prefix-of n storage false inside prefixes k = tt
 
 -- a chunk that is brought in
-brought_by-of : (n : ℕ) (storage : Contents) (t : Transfer) (count : ℕ) (r : Result Contents Check) → IsOf n storage → AreOf n r →
-    IsOf n (brought_by storage t count r).storage
-brought_by-of n storage t count (Ok after) k a = a
-brought_by-of n storage t count (Err check) k a = k
+after_store-of : (n : ℕ) (storage : Contents) (t : Transfer) (count : ℕ) (r : Result Contents Check) → IsOf n storage → AreOf n r →
+    IsOf n (after_store storage t count r).storage
+after_store-of n storage t count (Ok after) k a = a
+after_store-of n storage t count (Err check) k a = k
 
-brought_in-of : (n : ℕ) (storage : Contents) (t : Transfer) (bytes : List ℕ) → IsOf n storage → IsOf n (brought_in storage t bytes).storage
-brought_in-of n storage t bytes k =
-    either (λ (x : Brought). IsOf n x.storage) (is_some t.fault) (brings_none storage t) _ k
-    (brought_by-of n storage t (length bytes) (access.stored_or_skipped storage t.walk.orb.key t.moving bytes) k
+bytes_brought_in-of : (n : ℕ) (storage : Contents) (t : Transfer) (bytes : List ℕ) → IsOf n storage → IsOf n (bytes_brought_in storage t bytes).storage
+bytes_brought_in-of n storage t bytes k =
+    either (λ (x : StoredChunk). IsOf n x.storage) (is_some t.fault) (nothing_stored storage t) _ k
+    (after_store-of n storage t (length bytes) (access.stored_or_skipped storage t.walk.orb.key t.moving bytes) k
     (either (AreOf n) t.moving.skipped (Ok storage) _ k
     (checked-of n (keys.stored_bytes storage t.walk.orb.key t.moving.piece bytes)
     (stored-of n storage t.moving.piece bytes (access_check (key_permits_store t.walk.orb.key) storage t.moving.piece (length bytes)) k))))
 
-brought-of : (n : ℕ) (storage : Contents) (t : Transfer) (s : ℕ) (bytes : List ℕ) → IsOf n storage → IsOf n (brought storage t s bytes).storage
+brought-of : (n : ℕ) (storage : Contents) (t : Transfer) (s : ℕ) (bytes : List ℕ) → IsOf n storage → IsOf n (chunk_stored storage t s bytes).storage
 brought-of n storage t s bytes k =
-    either (λ (x : Brought). IsOf n x.storage) (s == t.sequence + 1) _ (brings_none storage t)
-    (brought_in-of n storage (record t { sequence = s }) (fitting t bytes) k) k
+    either (λ (x : StoredChunk). IsOf n x.storage) (s == t.sequence + 1) _ (nothing_stored storage t)
+    (bytes_brought_in-of n storage (record t { sequence = s }) (fitting_bytes t bytes) k) k
 
 -- signals that come up
-abbrev MeetsOf : ℕ → Met → Type 0
+abbrev MeetsOf : ℕ → SignalOutcome → Type 0
 MeetsOf n m = IsOf n m.storage
 
 data-of : (n : ℕ) (storage : Contents) (s : SubchannelState) (begun : Option ActiveProgram) (signal : DataSignal)
-    (load : Load) → IsOf n storage → MeetsOf n (move_data storage s begun signal load)
+    (load : Load) → IsOf n storage → MeetsOf n (moves_data storage s begun signal load)
 data-of n storage s None signal load k = k
 data-of n storage s (Some b) signal load k =
-    either (MeetsOf n) (is_answered b.transfer signal.command signal.sequence) _ (meets storage (ignoring s))
-    (either (MeetsOf n) (is_outward b.transfer.code) (meets storage _) _ k
+    either (MeetsOf n) (is_answered b.transfer signal.command signal.sequence) _ (with_storage storage (signal_ignored s))
+    (either (MeetsOf n) (is_outward b.transfer.code) (with_storage storage _) _ k
     (brought-of n storage b.transfer signal.sequence (load_bytes load) k)) k
 
 met-of : (n : ℕ) (returns : Bool) (storage : Contents) (s : SubchannelState) (p : ℕ) (signal : Up) → IsOf n storage → MeetsOf n (takes_up returns storage s p signal)
@@ -121,7 +123,7 @@ met-of n returns storage s p (up.Busy t) k = k
 met-of n returns storage s p (up.Leave t c) k = k
 met-of n returns storage s p (up.Back t c) k = k
 met-of n returns storage s p (up.Data load t c m seq) k =
-    either (MeetsOf n) (is_connected s.hold.phase p t c) _ (meets storage (ignoring s)) (data-of n storage s s.begun _ load k) k
+    either (MeetsOf n) (is_connected s.hold.phase p t c) _ (with_storage storage (signal_ignored s)) (data-of n storage s s.begun _ load k) k
 met-of n returns storage s p (up.End t m status more) k = k
 met-of n returns storage s p (up.Released t) k = k
 met-of n returns storage s p (up.Cleared r) k = k

@@ -7,19 +7,21 @@ use Rattle.chan_model.specs.Signals.{Up}
 use Rattle.chan_model.specs.declared.signal.Up.TheVariants as up
 use Rattle.chan_model.specs.UnitReports.{is_outward}
 use Rattle.working.specs.Sent.{sent_path}
-use Rattle.transfer.specs.Chunks.{is_answered}
+use Rattle.transfer.specs.ChunkNumbers.{is_answered}
 use Rattle.subchannel_model.specs.declared.signals.DataSignal.{DataSignal}
 use Rattle.subchannel_model.specs.declared.state.ActiveProgram.{ActiveProgram}
 use Rattle.subchannel_model.specs.declared.state.SubchannelState.{SubchannelState}
-use Rattle.subchannel_model.specs.Taking.{Met, take_data, takes_up}
+use Rattle.subchannel_model.specs.Outcomes.{SignalOutcome}
+use Rattle.subchannel_model.specs.Data.{takes_data}
+use Rattle.subchannel_model.specs.Taking.{takes_up}
 use Rattle.subchannel.specs.Answering.{is_data}
 use Rattle.working.specs.Working.{Moved, moved_of, moved_at, moved_by, data_met}
 use Rattle.subchannel.proofs.Working.{data_takes}
 
-abbrev answers : Met → Option ℕ
+abbrev answers : SignalOutcome → Option ℕ
 answers met = sent_path met.step.came.sent
 
-both : (b : Bool) (x y : Met) (u : Option ℕ) → answers x ≡ u → answers y ≡ u → answers (if b then x else y) ≡ u
+both : (b : Bool) (x y : SignalOutcome) (u : Option ℕ) → answers x ≡ u → answers y ≡ u → answers (if b then x else y) ≡ u
 both true x y u e f = e
 both false x y u e f = f
 
@@ -44,7 +46,7 @@ at-path : (b : Bool) (o : Option Moved) (p : ℕ) → ((m : Moved) → o ≡ Som
 at-path true o p f m e = f m e
 at-path false o p f m e = absurd (cc e)
 
-signal-path : (storage : Contents) (s : SubchannelState) (load : Load) (signal : DataSignal) → answers (take_data storage s signal load) ≡ path_if (is_some (moved_at s signal)) signal.path
+signal-path : (storage : Contents) (s : SubchannelState) (load : Load) (signal : DataSignal) → answers (takes_data storage s signal load) ≡ path_if (is_some (moved_at s signal)) signal.path
 signal-path storage s load signal =
     ap answers (data_takes storage s signal load)
     ∙ moved-path storage s load signal.path (moved_at s signal) (at-path _ (moved_of s.begun signal) signal.path (of-path s.begun signal))

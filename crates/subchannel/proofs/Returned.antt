@@ -7,16 +7,17 @@ use Rattle.chan_model.specs.HoldTable.{HoldStep, hold_after, came_of}
 use Rattle.working.specs.Sent.{came_so}
 use Rattle.subchannel_model.specs.declared.state.SubchannelState.{SubchannelState}
 use Rattle.subchannel_model.specs.declared.state.UpStep.{UpStep}
-use Rattle.subchannel_model.specs.Taking.{back, by_hold, is_granted, returned}
+use Rattle.subchannel_model.specs.Back.{takes_back, is_granted, with_granted_path}
+use Rattle.subchannel_model.specs.Outcomes.{hold_outcome}
 use Rattle.working.specs.Stepping.{subchannel_stepped}
 
-ungranted : (s : SubchannelState) (came : Taken Down) (p : ℕ) (b : Bool) → b ≡ false → subchannel_stepped s came ≡ subchannel_stepped (returned s p b) came
+ungranted : (s : SubchannelState) (came : Taken Down) (p : ℕ) (b : Bool) → b ≡ false → subchannel_stepped s came ≡ subchannel_stepped (with_granted_path s p b) came
 ungranted s came p false e = refl
 ungranted s came p true e = absurd (cc e)
 
 pub back_refused : (s : SubchannelState) (p : ℕ) (step : Option HoldStep) (next : SubchannelState) (taken : Bool) (sent : Option (OnPath Down)) →
-    subchannel_stepped next (came_so taken sent) ≡ by_hold s step → is_granted sent ≡ false →
-    subchannel_stepped next (came_so taken sent) ≡ back s p step
+    subchannel_stepped next (came_so taken sent) ≡ hold_outcome s step → is_granted sent ≡ false →
+    subchannel_stepped next (came_so taken sent) ≡ takes_back s p step
 back_refused s p step next taken sent e g =
     e
     ∙ ungranted (record s { hold = hold_after s.hold step }) (came_of step) p (is_granted (came_of step).sent)

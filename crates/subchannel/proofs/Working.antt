@@ -6,13 +6,16 @@ use Rattle.chan_model.specs.Signals.{Load}
 use Rattle.chan_model.specs.Signals.{Up}
 use Rattle.chan_model.specs.declared.signal.Up.TheVariants as up
 use Rattle.chan_model.specs.HoldTable.{is_connected, is_on}
-use Rattle.transfer.specs.Chunks.{is_answered}
+use Rattle.transfer.specs.ChunkNumbers.{is_answered}
 use Rattle.subchannel_model.specs.declared.signals.DataSignal.{DataSignal}
 use Rattle.subchannel_model.specs.declared.signals.EndSignal.{EndSignal}
 use Rattle.subchannel_model.specs.declared.state.ActiveProgram.{ActiveProgram}
 use Rattle.subchannel_model.specs.declared.state.SubchannelState.{SubchannelState}
 use Rattle.subchannel_model.specs.declared.state.UpStep.{UpStep}
-use Rattle.subchannel_model.specs.Taking.{Met, meets, ignoring, move_data, take_data, end_of, end_command, takes_up}
+use Rattle.subchannel_model.specs.Outcomes.{SignalOutcome, with_storage, signal_ignored}
+use Rattle.subchannel_model.specs.Data.{moves_data, takes_data}
+use Rattle.subchannel_model.specs.End.{ends_at_work, takes_end}
+use Rattle.subchannel_model.specs.Taking.{takes_up}
 use Rattle.subchannel.specs.Answering.{is_data}
 use Rattle.working.specs.Working.{moved_of, moved_at, data_by, data_taken, data_met, ended_of, ended_at, end_met}
 use Rattle.chan_model.specs.Signals.{load_of}
@@ -22,29 +25,29 @@ either f true x y = refl
 either f false x y = refl
 
 data-of : (storage : Contents) (s : SubchannelState) (b : Option ActiveProgram) (signal : DataSignal) (load : Load) →
-    move_data storage s b signal load ≡ data_met storage s load (moved_of b signal)
+    moves_data storage s b signal load ≡ data_met storage s load (moved_of b signal)
 data-of storage s None signal load = refl
 data-of storage s (Some b) signal load =
     either (data_met storage s load) (is_answered b.transfer signal.command signal.sequence) (Some (record { begun = b; signal = signal })) None
 
 pub data_takes : (storage : Contents) (s : SubchannelState) (signal : DataSignal) (load : Load) →
-    take_data storage s signal load ≡ data_met storage s load (moved_at s signal)
+    takes_data storage s signal load ≡ data_met storage s load (moved_at s signal)
 data_takes storage s signal load =
     let connected : Bool = is_connected s.hold.phase signal.path signal.number signal.connection in
-    ap (λ (met : Met). if connected then met else meets storage (ignoring s)) (data-of storage s s.begun signal load)
+    ap (λ (met : SignalOutcome). if connected then met else with_storage storage (signal_ignored s)) (data-of storage s s.begun signal load)
     ∙ either (data_met storage s load) connected (moved_of s.begun signal) None
 
 end-of : (storage : Contents) (s : SubchannelState) (b : Option ActiveProgram) (signal : EndSignal) →
-    end_of storage s b signal ≡ end_met storage s (ended_of b signal)
+    ends_at_work storage s b signal ≡ end_met storage s (ended_of b signal)
 end-of storage s None signal = refl
 end-of storage s (Some b) signal =
     either (end_met storage s) (signal.command == b.transfer.command) (Some (record { begun = b; signal = signal })) None
 
 pub end_takes : (storage : Contents) (s : SubchannelState) (signal : EndSignal) →
-    end_command storage s signal ≡ end_met storage s (ended_at s signal)
+    takes_end storage s signal ≡ end_met storage s (ended_at s signal)
 end_takes storage s signal =
     let on : Bool = is_on s.hold.phase signal.number in
-    ap (λ (step : UpStep). if on then step else ignoring s) (end-of storage s s.begun signal)
+    ap (λ (step : UpStep). if on then step else signal_ignored s) (end-of storage s s.begun signal)
     ∙ either (end_met storage s) on (ended_of s.begun signal) None
 
 pub told_takes : (returns : Bool) (storage : Contents) (s : SubchannelState) (p : ℕ) (told : Up) → is_data told ≡ true →

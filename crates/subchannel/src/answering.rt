@@ -5,6 +5,7 @@ ghost use Rattle.chan_model.specs.Lent.{lent_up};
 ghost use Rattle.chan_model.specs.Signals as signals;
 ghost use Rattle.working.specs.Sent.{sent_path};
 ghost use Rattle.subchannel_model.specs.Taking as taking_spec;
+ghost use Rattle.subchannel_model.specs.Command as command_spec;
 ghost use Rattle.subchannel.specs.Answering as spec;
 ghost use Rattle.working.specs.Working as working_spec;
 ghost use Rattle.storage_keys.specs.Storage.{Contents};
@@ -42,7 +43,7 @@ pub fn answer_paths()
 
 /// Whether the program that is connected answers a Data of this path: one of its command, and not of a chunk before the last.
 fn answers_data(state: &PackedState, path: Path, signal: &LentUp<'_>) -> bool
-    requires { taking_spec.IsBelow state.now.state.begun }
+    requires { command_spec.AreNumbersBelow state.now.state.begun }
     ensures { result ≡ is_some (working_spec.moved_by state.now.state path (lent_up signal.now)) }
 {
     let Some(data) = data_by(path, signal) else {
@@ -69,7 +70,7 @@ pub fn answer_path(
 ) -> Option<Path>
     requires made { state.now.state.serials.made < 2 ^ 63 }
     requires drawn { state.now.state.drawn < 2 ^ 63 }
-    requires below { taking_spec.IsBelow state.now.state.begun }
+    requires below { command_spec.AreNumbersBelow state.now.state.begun }
     ensures { sent_path (taking_spec.takes_up returns storage.now state.now.state path (lent_up signal.now)).step.came.sent ≡ result }
 {
     match *signal.kept {
@@ -89,7 +90,7 @@ fn unmoved_path(
 ) -> Option<Path>
     requires made { state.now.state.serials.made < 2 ^ 63 }
     requires drawn { state.now.state.drawn < 2 ^ 63 }
-    requires below { taking_spec.IsBelow state.now.state.begun }
+    requires below { command_spec.AreNumbersBelow state.now.state.begun }
     requires unmoved { spec.is_data (lent_up signal.now) ≡ false }
     ensures { sent_path (taking_spec.takes_up returns storage.now state.now.state path (lent_up signal.now)).step.came.sent ≡ result }
 {

@@ -4,7 +4,7 @@ ghost use Rattle.std.specs.Prelude.{◌≡◌, ◌<◌, ◌^◌};
 ghost use Rattle.chan_model.specs.HoldTable.{hold_takes};
 ghost use Rattle.chan_model.specs.Lent.{lent_up};
 ghost use Rattle.working.specs.Sent.{came_so};
-ghost use Rattle.subchannel_model.specs.Taking as spec;
+ghost use Rattle.subchannel_model.specs.Attention as on_attention;
 ghost use Rattle.working.specs.Stepping.{subchannel_stepped};
 
 use chan_model::lent::LentUp;
@@ -31,14 +31,14 @@ const BUSY: u32 = RESUME_PENDING
 
 /// Whether nothing goes on but a start that waits.
 fn is_open(scsw: &ScswWords) -> bool
-    ensures { result ≡ spec.is_open scsw.now.activity }
+    ensures { result ≡ on_attention.is_idle_or_start_pending scsw.now.activity }
 {
     !scsw.any(BUSY)
 }
 
 /// Whether an Attn may be taken: no status is pending, and nothing goes on but a start that waits.
 pub fn may_attend(state: &PackedState) -> bool
-    ensures { result ≡ spec.may_attend state.now.state }
+    ensures { result ≡ on_attention.may_take_attention state.now.state }
 {
     let scsw = state.scsw();
     !scsw.any(STATUS_PENDING) && is_open(scsw)
@@ -53,7 +53,7 @@ pub(crate) fn attend(
     sent: &mut SentDown,
 ) -> bool
     requires { state.old.state.serials.made < 2 ^ 63 }
-    ensures step { subchannel_stepped state.new.state (came_so result sent.new) ≡ spec.attend state.old.state status (hold_takes state.old.state.hold path (lent_up signal.now) (spec.may_attend state.old.state)) }
+    ensures step { subchannel_stepped state.new.state (came_so result sent.new) ≡ on_attention.takes_attention state.old.state status (hold_takes state.old.state.hold path (lent_up signal.now) (on_attention.may_take_attention state.old.state)) }
     ensures setup { state.new.setup ≡ state.old.setup }
 {
     let may = may_attend(state);

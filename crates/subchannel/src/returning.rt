@@ -4,7 +4,7 @@ ghost use Rattle.std.specs.Prelude.{◌≡◌, Some};
 ghost use Rattle.chan_model.specs.HoldTable.{hold_takes};
 ghost use Rattle.chan_model.specs.Lent.{lent_up};
 ghost use Rattle.working.specs.Sent.{came_so};
-ghost use Rattle.subchannel_model.specs.Taking as spec;
+ghost use Rattle.subchannel_model.specs.Back as on_back;
 ghost use Rattle.working.specs.Stepping.{subchannel_stepped};
 
 use chan_model::lent::LentUp;
@@ -23,7 +23,7 @@ pub(crate) fn come_back(
     returns: bool,
     sent: &mut SentDown,
 ) -> bool
-    ensures step { subchannel_stepped state.new.state (came_so result sent.new) ≡ spec.back state.old.state path (hold_takes state.old.state.hold path (lent_up signal.now) returns) }
+    ensures step { subchannel_stepped state.new.state (came_so result sent.new) ≡ on_back.takes_back state.old.state path (hold_takes state.old.state.hold path (lent_up signal.now) returns) }
     ensures setup { state.new.setup ≡ state.old.setup }
 {
     let taken = by_hold(state, path, signal, returns, sent);
@@ -36,7 +36,7 @@ pub(crate) fn come_back(
 
 /// Whether an answer is a Grant.
 fn is_granted(answer: &SentDown) -> bool
-    ensures { result ≡ spec.is_granted answer.now }
+    ensures { result ≡ on_back.is_granted answer.now }
 {
     match answer.get() {
         Some(sent) => matches!(sent.signal.kept, Down::Grant { .. }),

@@ -6,6 +6,10 @@ ghost use Rattle.chan_model.specs.Lent.{lent_up};
 ghost use Rattle.working.specs.Sent.{came_so};
 ghost use Rattle.subchannel.specs.Answering.{is_data};
 ghost use Rattle.working.specs.Stepping.{subchannel_stepped};
+ghost use Rattle.subchannel_model.specs.Cleared as on_cleared;
+ghost use Rattle.subchannel_model.specs.Notice as on_notice;
+ghost use Rattle.subchannel_model.specs.Command as command;
+ghost use Rattle.subchannel_model.specs.Outcomes as outcomes;
 ghost use Rattle.subchannel_model.specs.Taking as spec;
 ghost use Rattle.subchannel_words.specs.Unwired.{with_state};
 
@@ -30,7 +34,7 @@ use working::sent::SentDown;
 /// A clear that is pending is performed.
 fn do_clear(state: &mut PackedState)
     requires { state.old.state.serials.made < 2 ^ 63 }
-    ensures { state.new ≡ with_state state.old (spec.clear_done state.old.state) }
+    ensures { state.new ≡ with_state state.old (on_cleared.clear_performed state.old.state) }
 {
     if state.scsw().any(CLEAR_PENDING) {
         make_pending(state, &StatusCause::ClearDone);
@@ -45,7 +49,7 @@ fn reset_taken(
     sent: &mut SentDown,
 ) -> bool
     requires { state.old.state.serials.made < 2 ^ 63 }
-    ensures step { subchannel_stepped state.new.state (came_so result sent.new) ≡ spec.reset_taken state.old.state (hold_takes state.old.state.hold path (lent_up signal.now) false) }
+    ensures step { subchannel_stepped state.new.state (came_so result sent.new) ≡ on_cleared.takes_cleared state.old.state (hold_takes state.old.state.hold path (lent_up signal.now) false) }
     ensures setup { state.new.setup ≡ state.old.setup }
 {
     let mut hold = Hold::of(state.rest().hold);
@@ -62,7 +66,7 @@ fn reset_taken(
 fn notice(state: &mut PackedState, restarts: u64, sent: &mut SentDown) -> bool
     requires made { state.old.state.serials.made < 2 ^ 63 }
     requires drawn { state.old.state.drawn < 2 ^ 63 }
-    ensures step { subchannel_stepped state.new.state (came_so result sent.new) ≡ spec.notice state.old.state restarts }
+    ensures step { subchannel_stepped state.new.state (came_so result sent.new) ≡ on_notice.takes_notice state.old.state restarts }
     ensures setup { state.new.setup ≡ state.old.setup }
 {
     if restarts <= state.rest().hold.known {
@@ -86,9 +90,9 @@ pub fn take_unmoved(
 ) -> bool
     requires made { state.old.state.serials.made < 2 ^ 63 }
     requires drawn { state.old.state.drawn < 2 ^ 63 }
-    requires below { spec.IsBelow state.old.state.begun }
+    requires below { command.AreNumbersBelow state.old.state.begun }
     requires unmoved { is_data (lent_up signal.now) ≡ false }
-    ensures met { spec.meets storage.now (subchannel_stepped state.new.state (came_so result sent.new)) ≡ spec.takes_up returns storage.now state.old.state path (lent_up signal.now) }
+    ensures met { outcomes.with_storage storage.now (subchannel_stepped state.new.state (came_so result sent.new)) ≡ spec.takes_up returns storage.now state.old.state path (lent_up signal.now) }
     ensures setup { state.new.setup ≡ state.old.setup }
 {
     match *signal.kept {
@@ -114,8 +118,8 @@ pub fn take_up(
 ) -> bool
     requires made { state.old.state.serials.made < 2 ^ 63 }
     requires drawn { state.old.state.drawn < 2 ^ 63 }
-    requires below { spec.IsBelow state.old.state.begun }
-    ensures met { spec.meets storage.new (subchannel_stepped state.new.state (came_so result sent.new)) ≡ spec.takes_up returns storage.old state.old.state path (lent_up signal.now) }
+    requires below { command.AreNumbersBelow state.old.state.begun }
+    ensures met { outcomes.with_storage storage.new (subchannel_stepped state.new.state (came_so result sent.new)) ≡ spec.takes_up returns storage.old state.old.state path (lent_up signal.now) }
     ensures setup { state.new.setup ≡ state.old.setup }
 {
     match *signal.kept {

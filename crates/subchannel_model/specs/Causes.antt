@@ -8,15 +8,7 @@ use Rattle.scsw_irb.specs.declared.scsw.Scsw.{Scsw}
 use Rattle.scsw_irb.specs.declared.scsw.StatusControl.{StatusControl}
 use Rattle.scsw_irb.specs.Empty.{no_functions, no_activity, no_status, zero_scsw}
 use Rattle.subchannel_model.specs.declared.status.Shown.{Shown}
-use Rattle.subchannel_model.specs.Status.{
-  check_bits,
-  conditions,
-  no_device_status,
-  no_subchannel_status,
-  scsw_made,
-  serials_made,
-  shows_primary,
-}
+use Rattle.subchannel_model.specs.Status.{check_bits, conditions, no_device_status, no_subchannel_status, scsw_made, serials_made, shows_primary}
 use Rattle.chan_model.specs.UnitReports.{is_last_end}
 use Rattle.ccw_walk.specs.declared.check.Check.{Check}
 use Rattle.data_move.specs.Moving.{residual}

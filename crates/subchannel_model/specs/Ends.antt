@@ -1,6 +1,6 @@
 -- What an End of a command shows, and whether the next command is chained to (SA22-7832, chapter 16; the bits are this
 -- project's own choice).
-use Rattle.std.specs.Prelude.{ℕ, Bool, true, false, not, ◌&&◌, ◌||◌, if◌then◌else◌, Option, None, Some, is_some, bit_or}
+use Rattle.std.specs.Prelude.{ℕ, Bool, true, false, not, ◌==◌, ◌&&◌, ◌||◌, if◌then◌else◌, Option, None, Some, is_some, bit_or}
 use Rattle.scsw_irb.specs.declared.scsw.DeferredCode.TheVariants as deferred
 use Rattle.scsw_irb.specs.declared.scsw.Scsw.{Scsw}
 use Rattle.scsw_irb.specs.declared.status.DeviceStatus.{DeviceStatus}
@@ -16,12 +16,15 @@ use Rattle.subchannel_model.specs.declared.state.ActiveProgram.{ActiveProgram}
 use Rattle.subchannel_model.specs.declared.state.Program.{Program}
 use Rattle.subchannel_model.specs.declared.state.SubchannelState.{SubchannelState}
 
--- two more bits of a device status (SA22-7832, chapter 16)
+-- more bits of a device status (SA22-7832, chapter 16)
 abbrev pub has_status_modifier : DeviceStatus → Bool
 has_status_modifier status = has status.0 bit.status_modifier
 
 abbrev pub has_unit_exception : DeviceStatus → Bool
 has_unit_exception status = has status.0 bit.unit_exception
+
+abbrev pub is_control_unit_end_alone : DeviceStatus → Bool
+is_control_unit_end_alone status = status.0 == bit.control_unit_end
 
 -- an incorrect length is shown at the first End of a command, where bytes are left on one side; not with unit check alone
 -- (own), nor where a halt is specified (own), nor where SLI is one and CD zero; for a command that ended at once only in

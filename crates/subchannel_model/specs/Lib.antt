@@ -18,5 +18,15 @@ pub mod Choosing
 pub mod Sending
 pub mod Losing
 pub mod SystemReset
+pub mod Outcomes
+pub mod Pci
+pub mod Suspension
+pub mod Command
+pub mod Accept
+pub mod Data
+pub mod End
+pub mod Cleared
+pub mod Back
+pub mod Notice
+pub mod Attention
 pub mod Taking
-pub mod Parts

@@ -15,7 +15,7 @@ ghost use Rattle.subchannel_model.specs.Clear.{cleared_pmcw};
 ghost use Rattle.subchannel_model.specs.SystemReset.{pmcw_reset};
 ghost use Rattle.subchannel_model.specs.Start.{started_pmcw};
 ghost use Rattle.subchannel_model.specs.Store.{available_paths, installed_paths, pmcw_of};
-ghost use Rattle.subchannel_model.specs.Taking.{path_used};
+ghost use Rattle.subchannel_model.specs.Accept.{with_path_used};
 ghost use Rattle.subchannel_words.specs.Unwired as spec;
 ghost use Rattle.subchannel_words.specs.Unwired.{disabled, rest_in, unwired_sub, with_pmcw, with_state};
 ghost use Rattle.subchannel_words.specs.Lending.{LendsRest, LendsScsw};
@@ -273,7 +273,7 @@ impl PackedState {
 
     /// A program is accepted on a path: LPUM shows it, and POM that it is operational.
     pub fn use_path(&mut self, path: Path)
-        ensures { self.new ≡ with_pmcw self.old (path_used self.old.state.pmcw path) }
+        ensures { self.new ≡ with_pmcw self.old (with_path_used self.old.state.pmcw path) }
     {
         let mut operational = self.operational();
         operational.add(path);

@@ -11,7 +11,8 @@ use Rattle.ccw_walk.specs.declared.check.Check.TheVariants.{Program}
 use Rattle.ccw_walk.specs.declared.program.Advance.{Advance}
 use Rattle.ccw_walk.specs.declared.program.Advance.TheVariants.{Takes, Suspends, Stops}
 use Rattle.ccw_walk.specs.Acts.{End}
-use Rattle.ccw_walk.specs.Walks.{WalkPlace, after_act, after_acts, advance_acts, advance_of}
+use Rattle.ccw_walk.specs.Places.{WalkPlace, after_act, after_acts}
+use Rattle.ccw_walk.specs.Advancing.{advance_acts, advance_of_acts}
 use Rattle.idaw.specs.Lists.{kind_of}
 use Rattle.data_move.specs.Moving as movement
 use Rattle.data_move.specs.Moving.{Moving}
@@ -56,7 +57,7 @@ command_begins walk n None = came.Stops Program
 abbrev pub goes_to : Contents → ℕ → WalkPlace → Beginning
 goes_to storage n old =
     let acts = advance_acts storage old in
-    record { walk = after_acts old acts; came = command_begins (after_acts old acts) n (advance_of old acts) }
+    record { walk = after_acts old acts; came = command_begins (after_acts old acts) n (advance_of_acts old acts) }
 
 -- the first command of a program from where it stands: at its beginning, or where it was suspended; and the next after one
 -- that ended, with status modifier or without

@@ -1,3 +1,6 @@
 pub mod Commands
-pub mod Chunks
+pub mod ChunkNumbers
+pub mod DataChaining
+pub mod ToDevice
+pub mod FromDevice
 pub mod Numbers

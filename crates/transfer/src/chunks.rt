@@ -1,8 +1,11 @@
 //! How the bytes of a command move, chunk by chunk.
 
 ghost use Rattle.std.specs.Prelude.{◌≡◌, ◌<◌, ◌≤◌, ◌^◌, ◌+◌, ◌==◌, Some, [], length};
-ghost use Rattle.transfer.specs.Chunks as spec;
-ghost use Rattle.transfer.specs.Chunks.{next_chunk};
+ghost use Rattle.transfer.specs.DataChaining as data_chaining;
+ghost use Rattle.transfer.specs.ToDevice as to_device;
+ghost use Rattle.transfer.specs.FromDevice as from_device;
+ghost use Rattle.transfer.specs.ChunkNumbers as chunk_numbers;
+ghost use Rattle.transfer.specs.ToDevice.{with_bytes};
 
 use crate::commands::{data_of, has_stopped, is_outward, locate};
 use crate::{NextChunk, Transfer};
@@ -13,7 +16,7 @@ use data_move::slices::ChunkSlice;
 use storage_keys::Storage;
 
 fn chains_data(transfer: &Transfer, count: u16) -> bool
-    ensures { result ≡ spec.chains_data transfer.now count }
+    ensures { result ≡ data_chaining.chains_data transfer.now count }
 {
     count != 0
         && transfer.moving.residual() == 0
@@ -22,7 +25,7 @@ fn chains_data(transfer: &Transfer, count: u16) -> bool
 }
 
 fn chain_to(transfer: &mut Transfer, walk: Walk, advance: Option<Advance>)
-    ensures { transfer.new ≡ spec.chained_to transfer.old walk advance }
+    ensures { transfer.new ≡ data_chaining.with_next_ccw transfer.old walk advance }
 {
     match advance {
         Some(Advance::Takes(ccw)) => {
@@ -44,7 +47,7 @@ fn chain_to(transfer: &mut Transfer, walk: Walk, advance: Option<Advance>)
 
 /// The next block takes control, with its own data.
 fn chain(storage: &Storage, transfer: &mut Transfer)
-    ensures { transfer.new ≡ spec.chained storage.now transfer.old }
+    ensures { transfer.new ≡ data_chaining.data_chained storage.now transfer.old }
 {
     let mut walk = transfer.walk;
     walk.used_up();
@@ -55,7 +58,7 @@ fn chain(storage: &Storage, transfer: &mut Transfer)
 /// So many bytes of the chunk at hand were moved.
 fn move_on(storage: &Storage, transfer: &mut Transfer, count: u16)
     requires { count ≤ transfer.old.moving.left }
-    ensures { transfer.new ≡ spec.moved_on storage.now transfer.old count }
+    ensures { transfer.new ≡ data_chaining.after_bytes_moved storage.now transfer.old count }
 {
     transfer.moving.moved(count);
     if chains_data(transfer, count) {
@@ -74,7 +77,7 @@ fn is_next(transfer: &Transfer, sequence: u64) -> bool
 /// The device absorbed so many bytes of a chunk.
 pub fn absorb(storage: &Storage, transfer: &mut Transfer, sequence: u64, count: usize)
     requires { transfer.old.sequence < 2 ^ 63 }
-    ensures { transfer.new ≡ spec.taken_by_device storage.now transfer.old sequence count }
+    ensures { transfer.new ≡ to_device.chunk_absorbed storage.now transfer.old sequence count }
 {
     if is_next(transfer, sequence) {
         transfer.sequence = sequence;
@@ -87,7 +90,7 @@ pub fn absorb(storage: &Storage, transfer: &mut Transfer, sequence: u64, count: 
 /// The transfer after the device absorbed so many bytes of a chunk.
 pub fn absorbed(storage: &Storage, transfer: &Transfer, sequence: u64, count: usize) -> Transfer
     requires { transfer.now.sequence < 2 ^ 63 }
-    ensures { result ≡ spec.taken_by_device storage.now transfer.now sequence count }
+    ensures { result ≡ to_device.chunk_absorbed storage.now transfer.now sequence count }
 {
     let mut next = *transfer;
     absorb(storage, &mut next, sequence, count);
@@ -96,14 +99,14 @@ pub fn absorbed(storage: &Storage, transfer: &Transfer, sequence: u64, count: us
 
 /// The bytes of a chunk that is given, of which the transfer takes note.
 fn give_bytes<'a>(transfer: &mut Transfer, bytes: ChunkSlice<'a>) -> ChunkSlice<'a>
-    ensures { next_chunk transfer.new result ≡ spec.given_bytes transfer.old bytes.entry }
+    ensures { with_bytes transfer.new result ≡ to_device.with_bytes_offered transfer.old bytes.entry }
 {
     transfer.offered = bytes.len() as u16;
     bytes
 }
 
 fn give_fault<'a>(transfer: &mut Transfer, check: Check) -> ChunkSlice<'a>
-    ensures { next_chunk transfer.new result ≡ record { transfer = record transfer.old { offered = 0; fault = Some check }; bytes = [] } }
+    ensures { with_bytes transfer.new result ≡ record { transfer = record transfer.old { offered = 0; fault = Some check }; bytes = [] } }
 {
     transfer.offered = 0;
     transfer.fault = Some(check);
@@ -111,7 +114,7 @@ fn give_fault<'a>(transfer: &mut Transfer, check: Check) -> ChunkSlice<'a>
 }
 
 fn give_from<'a>(storage: &'a Storage, transfer: &mut Transfer) -> ChunkSlice<'a>
-    ensures { next_chunk transfer.new result ≡ spec.given_from storage.now transfer.old }
+    ensures { with_bytes transfer.new result ≡ to_device.chunk_at_place storage.now transfer.old }
 {
     if has_stopped(transfer) {
         return give_bytes(transfer, ChunkSlice::empty());
@@ -124,7 +127,7 @@ fn give_from<'a>(storage: &'a Storage, transfer: &mut Transfer) -> ChunkSlice<'a
 
 /// The bytes of the next chunk as it is given to the device, as they lie in storage; the transfer takes note of them.
 pub fn give_next<'a>(storage: &'a Storage, transfer: &mut Transfer) -> ChunkSlice<'a>
-    ensures { next_chunk transfer.new result ≡ spec.next_given storage.now transfer.old }
+    ensures { with_bytes transfer.new result ≡ to_device.next_chunk storage.now transfer.old }
 {
     locate(storage, transfer);
     give_from(storage, transfer)
@@ -132,7 +135,7 @@ pub fn give_next<'a>(storage: &'a Storage, transfer: &mut Transfer) -> ChunkSlic
 
 /// The next chunk as it is given to the device: its bytes as they lie in storage.
 pub fn next_given<'a>(storage: &'a Storage, transfer: &Transfer) -> NextChunk<'a>
-    ensures { result ≡ spec.next_given storage.now transfer.now }
+    ensures { result ≡ to_device.next_chunk storage.now transfer.now }
 {
     let mut next = *transfer;
     let bytes = give_next(storage, &mut next);
@@ -146,8 +149,8 @@ pub fn next_given<'a>(storage: &'a Storage, transfer: &Transfer) -> NextChunk<'a
 fn bring_in(storage: &mut Storage, transfer: &mut Transfer, bytes: &[u8])
     requires piece { length bytes.now ≤ transfer.old.moving.left }
     requires chunk { length bytes.now ≤ 256 }
-    ensures transfer { transfer.new ≡ (spec.brought_in storage.old transfer.old bytes.now).transfer }
-    ensures storage { storage.new ≡ (spec.brought_in storage.old transfer.old bytes.now).storage }
+    ensures transfer { transfer.new ≡ (from_device.bytes_brought_in storage.old transfer.old bytes.now).transfer }
+    ensures storage { storage.new ≡ (from_device.bytes_brought_in storage.old transfer.old bytes.now).storage }
 {
     if transfer.fault.is_some() {
         return;
@@ -162,8 +165,8 @@ fn bring_in(storage: &mut Storage, transfer: &mut Transfer, bytes: &[u8])
 /// The device supplied a chunk: the bytes that there is room for are stored.
 pub fn bring(storage: &mut Storage, transfer: &mut Transfer, sequence: u64, bytes: &[u8])
     requires { transfer.old.sequence < 2 ^ 63 }
-    ensures transfer { transfer.new ≡ (spec.brought storage.old transfer.old sequence bytes.now).transfer }
-    ensures storage { storage.new ≡ (spec.brought storage.old transfer.old sequence bytes.now).storage }
+    ensures transfer { transfer.new ≡ (from_device.chunk_stored storage.old transfer.old sequence bytes.now).transfer }
+    ensures storage { storage.new ≡ (from_device.chunk_stored storage.old transfer.old sequence bytes.now).storage }
 {
     if is_next(transfer, sequence) {
         transfer.sequence = sequence;
@@ -175,8 +178,8 @@ pub fn bring(storage: &mut Storage, transfer: &mut Transfer, sequence: u64, byte
 /// The transfer after a chunk that the device supplied. The bytes that there is room for are stored.
 pub fn brought(storage: &mut Storage, transfer: &Transfer, sequence: u64, bytes: &[u8]) -> Transfer
     requires { transfer.now.sequence < 2 ^ 63 }
-    ensures transfer { result ≡ (spec.brought storage.old transfer.now sequence bytes.now).transfer }
-    ensures storage { storage.new ≡ (spec.brought storage.old transfer.now sequence bytes.now).storage }
+    ensures transfer { result ≡ (from_device.chunk_stored storage.old transfer.now sequence bytes.now).transfer }
+    ensures storage { storage.new ≡ (from_device.chunk_stored storage.old transfer.now sequence bytes.now).storage }
 {
     let mut next = *transfer;
     bring(storage, &mut next, sequence, bytes);
@@ -186,7 +189,7 @@ pub fn brought(storage: &mut Storage, transfer: &Transfer, sequence: u64, bytes:
 /// Whether a Data is of this command, its chunk the last one or the next, and to be answered.
 pub fn is_answered(transfer: &Transfer, command: u64, sequence: u64) -> bool
     requires { transfer.now.sequence < 2 ^ 63 }
-    ensures { result ≡ spec.is_answered transfer.now command sequence }
+    ensures { result ≡ chunk_numbers.is_answered transfer.now command sequence }
 {
     command == transfer.command
         && (sequence == transfer.sequence || sequence == transfer.sequence + 1)

@@ -10,15 +10,20 @@ use Rattle.chan_model.specs.declared.signal.Down.TheVariants as down
 use Rattle.chan_model.specs.declared.signal.OnPath.{OnPath}
 use Rattle.transfer.specs.declared.NextChunk.{NextChunk}
 use Rattle.transfer.specs.declared.WithRoom.{WithRoom}
-use Rattle.transfer.specs.Chunks.{is_answered, taken_by_device, next_given, brought}
+use Rattle.transfer.specs.ChunkNumbers.{is_answered}
+use Rattle.transfer.specs.ToDevice.{chunk_absorbed, next_chunk}
+use Rattle.transfer.specs.FromDevice.{chunk_stored}
 use Rattle.transfer.specs.Commands.{with_room}
 use Rattle.subchannel_model.specs.declared.signals.DataSignal.{DataSignal}
 use Rattle.subchannel_model.specs.declared.signals.EndSignal.{EndSignal}
 use Rattle.subchannel_model.specs.declared.state.ActiveProgram.{ActiveProgram}
 use Rattle.subchannel_model.specs.declared.state.SubchannelState.{SubchannelState}
 use Rattle.subchannel_model.specs.declared.state.UpStep.{UpStep}
-use Rattle.subchannel_model.specs.Taking.{Met, meets, giving, ignoring, interrupted, take_data, move_bytes, command_ended, end_command}
-use Rattle.subchannel_model.specs.Parts.{dedicated_by_data}
+use Rattle.subchannel_model.specs.Outcomes.{SignalOutcome, with_storage, signal_ignored}
+use Rattle.subchannel_model.specs.Data.{gives_chunk, takes_data, moves_bytes}
+use Rattle.subchannel_model.specs.Pci.{with_pci}
+use Rattle.subchannel_model.specs.End.{ends_command, takes_end}
+use Rattle.subchannel_model.specs.Command.{dedicated_after_data}
 use Rattle.subchannel_model.specs.Ends.{chains_command}
 
 -- a Data that the program at work takes, and the program
@@ -52,16 +57,16 @@ abbrev pub is_due : Option ActiveProgram → DataSignal → Bool
 is_due None signal = false
 is_due (Some b) signal = is_answered b.transfer signal.command signal.sequence
 
-abbrev pub data_taken : Contents → SubchannelState → Load → Option DataSignal → Met
-data_taken storage s load None = meets storage (ignoring s)
-data_taken storage s load (Some signal) = take_data storage s signal load
+abbrev pub data_taken : Contents → SubchannelState → Load → Option DataSignal → SignalOutcome
+data_taken storage s load None = with_storage storage (signal_ignored s)
+data_taken storage s load (Some signal) = takes_data storage s signal load
 
 -- the chunk that is given next, and the room that is told, with their signals
 abbrev pub given : Contents → ActiveProgram → DataSignal → ℕ → NextChunk
-given storage b signal count = next_given storage (taken_by_device storage b.transfer signal.sequence count)
+given storage b signal count = next_chunk storage (chunk_absorbed storage b.transfer signal.sequence count)
 
 abbrev pub give_next : Contents → SubchannelState → ActiveProgram → DataSignal → ℕ → UpStep
-give_next storage s b signal count = giving s b signal (given storage b signal count)
+give_next storage s b signal count = gives_chunk s b signal (given storage b signal count)
 
 abbrev pub give_of : DataSignal → NextChunk → Option (OnPath Down)
 give_of signal chunk = Some (record {
@@ -71,7 +76,7 @@ give_of signal chunk = Some (record {
 
 abbrev pub taken_in : Contents → ActiveProgram → DataSignal → List ℕ → WithRoom
 taken_in storage b signal bytes =
-    let after = brought storage b.transfer signal.sequence bytes in
+    let after = chunk_stored storage b.transfer signal.sequence bytes in
     with_room after.storage after.transfer
 
 abbrev pub took_of : DataSignal → WithRoom → Option (OnPath Down)
@@ -81,13 +86,13 @@ took_of signal x =
 -- a subchannel whose transfer moved on
 abbrev pub followed : SubchannelState → SubchannelState
 followed s =
-    let next = record s { dedicated = dedicated_by_data s.dedicated } in
-    interrupted next next.begun
+    let next = record s { dedicated = dedicated_after_data s.dedicated } in
+    with_pci next next.begun
 
 -- it moves bytes, and any other is ignored
-abbrev pub data_met : Contents → SubchannelState → Load → Option Moved → Met
-data_met storage s load None = meets storage (ignoring s)
-data_met storage s load (Some m) = move_bytes storage s m.begun m.signal load
+abbrev pub data_met : Contents → SubchannelState → Load → Option Moved → SignalOutcome
+data_met storage s load None = with_storage storage (signal_ignored s)
+data_met storage s load (Some m) = moves_bytes storage s m.begun m.signal load
 
 -- an End that the program at work takes, and the program
 pub record Ended : Type 0 where
@@ -119,8 +124,8 @@ is_of_command None signal = false
 is_of_command (Some b) signal = signal.command == b.transfer.command
 
 abbrev pub end_taken_by : Contents → SubchannelState → Option EndSignal → UpStep
-end_taken_by storage s None = ignoring s
-end_taken_by storage s (Some signal) = end_command storage s signal
+end_taken_by storage s None = signal_ignored s
+end_taken_by storage s (Some signal) = takes_end storage s signal
 
 abbrev pub chains_at : SubchannelState → Option ActiveProgram → EndSignal → Bool
 chains_at s None signal = false
@@ -128,5 +133,5 @@ chains_at s (Some b) signal = chains_command s.scsw b signal.status signal.more
 
 -- it ends the command, and any other is ignored
 abbrev pub end_met : Contents → SubchannelState → Option Ended → UpStep
-end_met storage s None = ignoring s
-end_met storage s (Some e) = command_ended storage s e.begun e.signal
+end_met storage s None = signal_ignored s
+end_met storage s (Some e) = ends_command storage s e.begun e.signal

@@ -5,8 +5,9 @@ ghost use Rattle.chan_model.specs.HoldTable.{hold_takes};
 ghost use Rattle.chan_model.specs.Lent.{lent_up, plain_down};
 ghost use Rattle.working.specs.Sent.{came_so};
 ghost use Rattle.subchannel_model.specs.Causes.{with_cause};
-ghost use Rattle.subchannel_model.specs.Taking as spec;
-ghost use Rattle.subchannel_model.specs.Parts as parts;
+ghost use Rattle.subchannel_model.specs.Accept as on_accept;
+ghost use Rattle.subchannel_model.specs.Outcomes as outcomes;
+ghost use Rattle.subchannel_model.specs.Suspension as suspension;
 ghost use Rattle.subchannel_model.specs.declared.cause.StatusCause.TheVariants as cause;
 ghost use Rattle.working.specs.Stepping.{subchannel_stepped};
 ghost use Rattle.subchannel_words.specs.Unwired.{with_state};
@@ -38,7 +39,7 @@ use transfer::commands::{command_of, room_to_tell};
 
 /// A program that waits, at its beginning.
 fn from_start(program: Program) -> ProgramPosition
-    ensures { result ≡ spec.from_start program }
+    ensures { result ≡ on_accept.position_at_start program }
 {
     ProgramPosition {
         program,
@@ -48,7 +49,7 @@ fn from_start(program: Program) -> ProgramPosition
 }
 
 fn suspended_as(suspended: Option<ProgramPosition>, start: u64) -> Option<ProgramPosition>
-    ensures { result ≡ spec.suspended_as suspended start }
+    ensures { result ≡ on_accept.suspended_position suspended start }
 {
     match suspended {
         Some(standing) if standing.program.start == start => Some(standing),
@@ -61,7 +62,7 @@ fn standing_as(
     suspended: Option<ProgramPosition>,
     start: u64,
 ) -> Option<ProgramPosition>
-    ensures { result ≡ spec.standing_as waiting suspended start }
+    ensures { result ≡ on_accept.position_of_start waiting suspended start }
 {
     match waiting {
         Some(program) if program.start == start => Some(from_start(program)),
@@ -71,14 +72,14 @@ fn standing_as(
 
 /// The program that was offered, where it is not over.
 fn standing(state: &PackedState) -> Option<ProgramPosition>
-    ensures { result ≡ spec.standing state.now.state }
+    ensures { result ≡ on_accept.offered_position state.now.state }
 {
     let rest = state.rest();
     standing_as(rest.waiting, rest.suspended, rest.offered)
 }
 
 fn is_suspended_as(rest: &Rest, start: u64) -> bool
-    ensures { result ≡ is_some (spec.suspended_as rest.now.suspended start) }
+    ensures { result ≡ is_some (on_accept.suspended_position rest.now.suspended start) }
 {
     match &rest.suspended {
         Some(standing) => standing.program.start == start,
@@ -88,7 +89,7 @@ fn is_suspended_as(rest: &Rest, start: u64) -> bool
 
 /// Whether the program that was offered is not over.
 fn is_standing(rest: &Rest) -> bool
-    ensures { result ≡ is_some (spec.standing_as rest.now.waiting rest.now.suspended rest.now.offered) }
+    ensures { result ≡ is_some (on_accept.position_of_start rest.now.waiting rest.now.suspended rest.now.offered) }
 {
     match &rest.waiting {
         Some(program) if program.start == rest.offered => true,
@@ -105,14 +106,14 @@ fn is_halt_pending(scsw: &ScswWords) -> bool
 
 /// Whether the program that was offered takes the device.
 fn goes_ahead(state: &PackedState) -> bool
-    ensures { result ≡ spec.goes_ahead state.now.state }
+    ensures { result ≡ on_accept.takes_device state.now.state }
 {
     is_standing(state.rest()) && !is_halt_pending(state.scsw())
 }
 
 /// Start pending, resume pending and suspended are turned off; subchannel active and device active are turned on.
 fn work(scsw: &mut ScswWords)
-    ensures { scsw.new ≡ parts.working_scsw scsw.old }
+    ensures { scsw.new ≡ on_accept.working_scsw scsw.old }
 {
     scsw.change(
         RESUME_PENDING | START_PENDING | SUSPENDED,
@@ -121,7 +122,7 @@ fn work(scsw: &mut ScswWords)
 }
 
 fn take_over(state: &mut PackedState, program: Program, transfer: Transfer)
-    ensures { state.new ≡ with_state state.old (spec.taking_over state.old.state program transfer) }
+    ensures { state.new ≡ with_state state.old (on_accept.with_program_at_work state.old.state program transfer) }
 {
     work(state.scsw_mut());
     let rest = state.rest_mut();
@@ -161,7 +162,7 @@ fn send_first(
     sent: &mut SentDown,
 ) -> bool
     requires { state.old.state.serials.made < 2 ^ 63 }
-    ensures step { subchannel_stepped state.new.state (came_so result sent.new) ≡ parts.sends_first state.old.state path number program (transfer_spec.begun_with_room storage.now first) }
+    ensures step { subchannel_stepped state.new.state (came_so result sent.new) ≡ on_accept.sends_first_command state.old.state path number program (transfer_spec.begun_with_room storage.now first) }
     ensures setup { state.new.setup ≡ state.old.setup }
 {
     take_over(state, program, first);
@@ -183,7 +184,7 @@ fn suspend_first(
 ) -> bool
     requires { state.old.state.serials.made < 2 ^ 63 }
     ensures step { subchannel_stepped state.new.state (came_so result sent.new) ≡
-        spec.let_go (spec.suspending state.old.state standing.now.program walk standing.now.count) }
+        outcomes.device_released (suspension.program_suspended state.old.state standing.now.program walk standing.now.count) }
     ensures setup { state.new.setup ≡ state.old.setup }
 {
     suspend(state, standing.program, walk, standing.count);
@@ -201,7 +202,7 @@ fn check_first(
 ) -> bool
     requires { state.old.state.serials.made < 2 ^ 63 }
     ensures step { subchannel_stepped state.new.state (came_so result sent.new) ≡
-        spec.let_go (with_cause state.old.state (cause.FetchFault tried check count)) }
+        outcomes.device_released (with_cause state.old.state (cause.FetchFault tried check count)) }
     ensures setup { state.new.setup ≡ state.old.setup }
 {
     make_pending(
@@ -228,7 +229,7 @@ fn begin_as(
 ) -> bool
     requires { state.old.state.serials.made < 2 ^ 63 }
     ensures step { subchannel_stepped state.new.state (came_so result sent.new) ≡
-        spec.beginning storage.now state.old.state path number standing.now walk (transfer_spec.command_begins walk 1 advance) }
+        on_accept.first_ccw_outcome storage.now state.old.state path number standing.now walk (transfer_spec.command_begins walk 1 advance) }
     ensures setup { state.new.setup ≡ state.old.setup }
 {
     match advance {
@@ -253,7 +254,7 @@ fn begin_with(
     sent: &mut SentDown,
 ) -> bool
     requires { state.old.state.serials.made < 2 ^ 63 }
-    ensures step { subchannel_stepped state.new.state (came_so result sent.new) ≡ parts.begin_with storage.now state.old.state path number standing.now (transfer_spec.first_command storage.now standing.now.walk) }
+    ensures step { subchannel_stepped state.new.state (came_so result sent.new) ≡ on_accept.begins_with storage.now state.old.state path number standing.now (transfer_spec.first_command storage.now standing.now.walk) }
     ensures setup { state.new.setup ≡ state.old.setup }
 {
     let mut walk = standing.walk;
@@ -269,7 +270,7 @@ fn begin_standing(
     sent: &mut SentDown,
 ) -> bool
     requires { state.old.state.serials.made < 2 ^ 63 }
-    ensures step { subchannel_stepped state.new.state (came_so result sent.new) ≡ spec.begin_standing storage.now state.old.state path number (spec.standing state.old.state) }
+    ensures step { subchannel_stepped state.new.state (came_so result sent.new) ≡ on_accept.begins_at storage.now state.old.state path number (on_accept.offered_position state.old.state) }
     ensures setup { state.new.setup ≡ state.old.setup }
 {
     match standing(state) {
@@ -281,7 +282,7 @@ fn begin_standing(
 /// A halt that is pending is performed as the device is let go.
 fn do_halt(state: &mut PackedState)
     requires { state.old.state.serials.made < 2 ^ 63 }
-    ensures { state.new ≡ with_state state.old (spec.halt_done state.old.state) }
+    ensures { state.new ≡ with_state state.old (on_accept.halt_performed state.old.state) }
 {
     if is_halt_pending(state.scsw()) {
         make_pending(state, &StatusCause::HaltDone);
@@ -291,7 +292,7 @@ fn do_halt(state: &mut PackedState)
 /// What comes of an Accept that the hold took as `sent` says.
 fn accepted_by(storage: &Storage, state: &mut PackedState, taken: bool, sent: &mut SentDown) -> bool
     requires { state.old.state.serials.made < 2 ^ 63 }
-    ensures step { subchannel_stepped state.new.state (came_so result sent.new) ≡ spec.accepted_by storage.now state.old.state state.old.state.hold.phase (came_so taken sent.old) }
+    ensures step { subchannel_stepped state.new.state (came_so result sent.new) ≡ on_accept.accepted_in_phase storage.now state.old.state state.old.state.hold.phase (came_so taken sent.old) }
     ensures setup { state.new.setup ≡ state.old.setup }
 {
     let phase = state.rest().hold.phase;
@@ -318,7 +319,7 @@ pub fn accept(
     sent: &mut SentDown,
 ) -> bool
     requires { state.old.state.serials.made < 2 ^ 63 }
-    ensures step { subchannel_stepped state.new.state (came_so result sent.new) ≡ spec.accept storage.now state.old.state (hold_takes state.old.state.hold path (lent_up signal.now) (spec.goes_ahead state.old.state)) }
+    ensures step { subchannel_stepped state.new.state (came_so result sent.new) ≡ on_accept.takes_accept storage.now state.old.state (hold_takes state.old.state.hold path (lent_up signal.now) (on_accept.takes_device state.old.state)) }
     ensures setup { state.new.setup ≡ state.old.setup }
 {
     let mut hold = Hold::of(state.rest().hold);

@@ -4,7 +4,7 @@ ghost use Rattle.std.specs.Prelude.{◌≡◌, None, Some};
 ghost use Rattle.chan_model.specs.HoldTable.{came_of, hold_after, hold_takes};
 ghost use Rattle.chan_model.specs.Lent.{lent_down, lent_up};
 ghost use Rattle.working.specs.Sent.{came_so};
-ghost use Rattle.subchannel_model.specs.Taking as spec;
+ghost use Rattle.subchannel_model.specs.Outcomes as outcomes;
 ghost use Rattle.working.specs.Stepping.{not_taken, subchannel_stepped, taken_with};
 
 use crate::sent::SentDown;
@@ -56,7 +56,7 @@ pub fn take_by(
 }
 
 pub(crate) fn let_go(state: &mut PackedState, sent: &mut SentDown) -> bool
-    ensures step { subchannel_stepped state.new.state (came_so result sent.new) ≡ spec.let_go state.old.state }
+    ensures step { subchannel_stepped state.new.state (came_so result sent.new) ≡ outcomes.device_released state.old.state }
     ensures setup { state.new.setup ≡ state.old.setup }
 {
     let mut hold = Hold::of(state.rest().hold);
@@ -74,7 +74,7 @@ pub fn by_hold(
     may: bool,
     sent: &mut SentDown,
 ) -> bool
-    ensures step { subchannel_stepped state.new.state (came_so result sent.new) ≡ spec.by_hold state.old.state (hold_takes state.old.state.hold path (lent_up signal.now) may) }
+    ensures step { subchannel_stepped state.new.state (came_so result sent.new) ≡ outcomes.hold_outcome state.old.state (hold_takes state.old.state.hold path (lent_up signal.now) may) }
     ensures setup { state.new.setup ≡ state.old.setup }
 {
     let mut hold = Hold::of(state.rest().hold);

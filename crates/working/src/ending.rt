@@ -5,8 +5,10 @@ ghost use Rattle.chan_model.specs.Lent.{lent_up};
 ghost use Rattle.working.specs.Sent.{came_so};
 ghost use Rattle.subchannel_model.specs.Causes.{with_cause};
 ghost use Rattle.subchannel_model.specs.Ends as end_spec;
-ghost use Rattle.subchannel_model.specs.Taking as spec;
-ghost use Rattle.subchannel_model.specs.Parts as parts;
+ghost use Rattle.subchannel_model.specs.End as on_end;
+ghost use Rattle.subchannel_model.specs.Outcomes as outcomes;
+ghost use Rattle.subchannel_model.specs.Suspension as suspension;
+ghost use Rattle.subchannel_model.specs.Command as command_spec;
 ghost use Rattle.working.specs.Stepping.{subchannel_stepped};
 ghost use Rattle.working.specs.Working as working_spec;
 ghost use Rattle.subchannel_model.specs.declared.cause.StatusCause.TheVariants as cause;
@@ -69,7 +71,7 @@ fn is_of_command(state: &PackedState, end: &EndSignal) -> bool
 /// What an End leaves of the dedicated allegiance. Where one stands, the End is of a later program than the one whose unit
 /// check brought it.
 fn dedicated_by_end(before: Option<Path>, signal: EndSignal) -> Option<Path>
-    ensures { result ≡ spec.dedicated_by_end before signal }
+    ensures { result ≡ on_end.dedicated_after_end before signal }
 {
     let cause = allegiances::AllegianceCause::End {
         path: signal.path,
@@ -80,7 +82,7 @@ fn dedicated_by_end(before: Option<Path>, signal: EndSignal) -> Option<Path>
 }
 
 fn take_end(state: &mut PackedState, signal: EndSignal)
-    ensures { state.new ≡ with_state state.old (spec.end_taken state.old.state signal) }
+    ensures { state.new ≡ with_state state.old (on_end.with_allegiance_after_end state.old.state signal) }
 {
     let rest = state.rest_mut();
     rest.dedicated = dedicated_by_end(rest.dedicated, signal);
@@ -95,7 +97,7 @@ fn send_next(
 ) -> bool
     requires { state.old.state.serials.made < 2 ^ 63 }
     ensures step { IfSome state.old.state.begun (λ b. subchannel_stepped state.new.state (came_so result sent.new) ≡
-        parts.sends_next state.old.state (spec.with_end b) end.now command) }
+        on_end.sends_next_command state.old.state (on_end.with_first_end b) end.now command) }
     ensures setup { state.new.setup ≡ state.old.setup }
 {
     let WithRoom { transfer, room } = command;
@@ -120,7 +122,7 @@ fn suspend_at(
 ) -> bool
     requires { state.old.state.serials.made < 2 ^ 63 }
     ensures step { subchannel_stepped state.new.state (came_so result sent.new) ≡
-        spec.let_go (spec.suspending (spec.end_taken state.old.state end.now) program walk count) }
+        outcomes.device_released (suspension.program_suspended (on_end.with_allegiance_after_end state.old.state end.now) program walk count) }
     ensures setup { state.new.setup ≡ state.old.setup }
 {
     take_end(state, *end);
@@ -139,7 +141,7 @@ fn check_at(
 ) -> bool
     requires { state.old.state.serials.made < 2 ^ 63 }
     ensures step { subchannel_stepped state.new.state (came_so result sent.new) ≡
-        spec.let_go (with_cause (spec.end_taken state.old.state end.now) (cause.FetchFault tried check count)) }
+        outcomes.device_released (with_cause (on_end.with_allegiance_after_end state.old.state end.now) (cause.FetchFault tried check count)) }
     ensures setup { state.new.setup ≡ state.old.setup }
 {
     take_end(state, *end);
@@ -156,9 +158,9 @@ fn check_at(
 
 fn chain(storage: &Storage, state: &mut PackedState, end: &EndSignal, sent: &mut SentDown) -> bool
     requires made { state.old.state.serials.made < 2 ^ 63 }
-    requires below { spec.IsBelow state.old.state.begun }
+    requires below { command_spec.AreNumbersBelow state.old.state.begun }
     ensures step { IfSome state.old.state.begun (λ b. subchannel_stepped state.new.state (came_so result sent.new) ≡
-        parts.chain_with storage.now state.old.state (spec.with_end b) end.now (transfer_spec.next_command storage.now b.transfer (end_spec.has_status_modifier end.now.status))) }
+        on_end.chains_with storage.now state.old.state (on_end.with_first_end b) end.now (transfer_spec.next_command storage.now b.transfer (end_spec.has_status_modifier end.now.status))) }
     ensures setup { state.new.setup ≡ state.old.setup }
 {
     let Some(begun) = &state.rest().begun else {
@@ -178,16 +180,16 @@ fn chain(storage: &Storage, state: &mut PackedState, end: &EndSignal, sent: &mut
 }
 
 fn note_end(begun: &mut ActiveProgram)
-    ensures { begun.new ≡ spec.with_end begun.old }
+    ensures { begun.new ≡ on_end.with_first_end begun.old }
 {
     begun.transfer.ended = true;
 }
 
 fn go_on(storage: &Storage, state: &mut PackedState, end: &EndSignal, sent: &mut SentDown) -> bool
     requires made { state.old.state.serials.made < 2 ^ 63 }
-    requires below { spec.IsBelow state.old.state.begun }
+    requires below { command_spec.AreNumbersBelow state.old.state.begun }
     ensures step { IfSome state.old.state.begun (λ b. subchannel_stepped state.new.state (came_so result sent.new) ≡
-        spec.goes_on storage.now state.old.state (spec.with_end b) end.now) }
+        on_end.chains_at_device_end storage.now state.old.state (on_end.with_first_end b) end.now) }
     ensures setup { state.new.setup ≡ state.old.setup }
 {
     if end.status.has_device_end() {
@@ -203,7 +205,7 @@ fn go_on(storage: &Storage, state: &mut PackedState, end: &EndSignal, sent: &mut
 /// Shows the end of the program at work, or of its command.
 fn show_end(state: &mut PackedState, end: &EndSignal)
     requires { state.old.state.serials.made < 2 ^ 63 }
-    ensures state { IfSome state.old.state.begun (λ b. state.new ≡ with_state state.old (parts.end_shown_at state.old.state b end.now)) }
+    ensures state { IfSome state.old.state.begun (λ b. state.new ≡ with_state state.old (on_end.with_end_status state.old.state b end.now)) }
     ensures setup { state.new.setup ≡ state.old.setup }
 {
     let before = state.rest().dedicated;
@@ -213,7 +215,7 @@ fn show_end(state: &mut PackedState, end: &EndSignal)
 
 fn stop_at(state: &mut PackedState, end: &EndSignal, sent: &mut SentDown) -> bool
     requires { state.old.state.serials.made < 2 ^ 63 }
-    ensures step { IfSome state.old.state.begun (λ b. subchannel_stepped state.new.state (came_so result sent.new) ≡ spec.stops_at state.old.state b end.now) }
+    ensures step { IfSome state.old.state.begun (λ b. subchannel_stepped state.new.state (came_so result sent.new) ≡ on_end.concludes state.old.state b end.now) }
     ensures setup { state.new.setup ≡ state.old.setup }
 {
     show_end(state, end);
@@ -241,8 +243,8 @@ fn command_ended(
     sent: &mut SentDown,
 ) -> bool
     requires made { state.old.state.serials.made < 2 ^ 63 }
-    requires below { spec.IsBelow state.old.state.begun }
-    ensures step { IfSome state.old.state.begun (λ b. subchannel_stepped state.new.state (came_so result sent.new) ≡ spec.command_ended storage.now state.old.state b end.now) }
+    requires below { command_spec.AreNumbersBelow state.old.state.begun }
+    ensures step { IfSome state.old.state.begun (λ b. subchannel_stepped state.new.state (came_so result sent.new) ≡ on_end.ends_command storage.now state.old.state b end.now) }
     ensures setup { state.new.setup ≡ state.old.setup }
 {
     if chains_at(state, end) {
@@ -261,7 +263,7 @@ pub fn end_command(
     sent: &mut SentDown,
 ) -> bool
     requires made { state.old.state.serials.made < 2 ^ 63 }
-    requires below { spec.IsBelow state.old.state.begun }
+    requires below { command_spec.AreNumbersBelow state.old.state.begun }
     ensures step { subchannel_stepped state.new.state (came_so result sent.new) ≡ working_spec.end_taken_by storage.now state.old.state (working_spec.end_by path (lent_up signal.now)) }
     ensures setup { state.new.setup ≡ state.old.setup }
 {

@@ -3,8 +3,8 @@
 ghost use Rattle.std.specs.Prelude.{◌≡◌, ◌<◌, ◌^◌, option_map};
 ghost use Rattle.data_move.specs.Moving.{residual};
 ghost use Rattle.subchannel_model.specs.declared.cause.StatusCause.TheVariants as cause;
-ghost use Rattle.subchannel_model.specs.Taking as spec;
-ghost use Rattle.subchannel_model.specs.Parts as parts;
+ghost use Rattle.subchannel_model.specs.Pci as pci;
+ghost use Rattle.subchannel_model.specs.Suspension as suspension_spec;
 ghost use Rattle.subchannel_words.specs.Unwired.{with_state};
 
 use ccw_walk::Walk;
@@ -19,7 +19,7 @@ use subchannel_model::state::{ActiveProgram, Program, ProgramPosition};
 use subchannel_words::{PackedState, Rest};
 
 fn drop_interruption(rest: &mut Rest)
-    ensures { rest.new ≡ record rest.old { begun = option_map spec.without_pci rest.old.begun } }
+    ensures { rest.new ≡ record rest.old { begun = option_map pci.without_pci rest.old.begun } }
 {
     if let Some(begun) = &mut rest.begun {
         begun.transfer.pci_pending = false;
@@ -38,7 +38,7 @@ fn interruption_of(begun: &ActiveProgram) -> StatusCause
 /// The block that took control last makes the interruption that it asks for.
 pub(crate) fn interrupt(state: &mut PackedState)
     requires { state.old.state.serials.made < 2 ^ 63 }
-    ensures { state.new ≡ with_state state.old (spec.interrupted state.old.state state.old.state.begun) }
+    ensures { state.new ≡ with_state state.old (pci.with_pci state.old.state state.old.state.begun) }
 {
     let Some(begun) = &state.rest().begun else {
         return;
@@ -61,13 +61,13 @@ const ACTIVE: u32 = RESUME_PENDING
 
 /// Of the activity control, suspended alone is on.
 fn suspend_alone(scsw: &mut ScswWords)
-    ensures { scsw.new ≡ parts.suspended_alone scsw.old }
+    ensures { scsw.new ≡ suspension_spec.suspended_alone scsw.old }
 {
     scsw.change(ACTIVE, SUSPENDED);
 }
 
 fn stand_still(state: &mut PackedState, program: Program, walk: Walk, count: u16)
-    ensures { state.new ≡ with_state state.old (parts.standing_still state.old.state program walk count) }
+    ensures { state.new ≡ with_state state.old (suspension_spec.with_suspended_program state.old.state program walk count) }
 {
     let rest = state.rest_mut();
     rest.waiting = None;
@@ -82,7 +82,7 @@ fn stand_still(state: &mut PackedState, program: Program, walk: Walk, count: u16
 /// A program is suspended where it stands; of its last command `count` bytes were not moved.
 pub(crate) fn suspend(state: &mut PackedState, program: Program, walk: Walk, count: u16)
     requires { state.old.state.serials.made < 2 ^ 63 }
-    ensures { state.new ≡ with_state state.old (spec.suspending state.old.state program walk count) }
+    ensures { state.new ≡ with_state state.old (suspension_spec.program_suspended state.old.state program walk count) }
 {
     stand_still(state, program, walk, count);
     if program.orb.suppress_suspended {

@@ -6,9 +6,10 @@ ghost use Rattle.chan_model.specs.Signals.{load_bytes, load_of};
 ghost use Rattle.working.specs.Sent.{came_so};
 ghost use Rattle.chan_model.specs.Loads.{load_length};
 ghost use Rattle.chan_model.specs.UnitReports.{is_outward as is_outward_code};
-ghost use Rattle.transfer.specs.Chunks.{brought as brought_by};
-ghost use Rattle.subchannel_model.specs.Taking as spec;
-ghost use Rattle.subchannel_model.specs.Parts as parts;
+ghost use Rattle.transfer.specs.FromDevice.{chunk_stored};
+ghost use Rattle.subchannel_model.specs.Command as command_spec;
+ghost use Rattle.subchannel_model.specs.Data as on_data;
+ghost use Rattle.subchannel_model.specs.Outcomes as outcomes;
 ghost use Rattle.working.specs.Working as working_spec;
 ghost use Rattle.working.specs.Stepping.{subchannel_stepped};
 ghost use Rattle.subchannel_words.specs.Unwired.{with_state};
@@ -55,7 +56,7 @@ pub fn data_by(path: Path, signal: &LentUp<'_>) -> Option<DataSignal>
 /// What a Data leaves of the dedicated allegiance. Where one stands, the Data is of a later program than the one whose unit
 /// check brought it.
 fn dedicated_by_data(before: Option<Path>) -> Option<Path>
-    ensures { result ≡ parts.dedicated_by_data before }
+    ensures { result ≡ command_spec.dedicated_after_data before }
 {
     dedicated(before, AllegianceCause::Data { later: true })
 }
@@ -73,7 +74,7 @@ fn follow(state: &mut PackedState)
 /// The program at work is a command further; a block that took control may ask for an interruption.
 pub(crate) fn move_on(state: &mut PackedState, transfer: Transfer)
     requires { state.old.state.serials.made < 2 ^ 63 }
-    ensures state { IfSome state.old.state.begun (λ b. state.new ≡ with_state state.old (spec.moving_on state.old.state b transfer)) }
+    ensures state { IfSome state.old.state.begun (λ b. state.new ≡ with_state state.old (on_data.after_chunk state.old.state b transfer)) }
     ensures setup { state.new.setup ≡ state.old.setup }
 {
     if let Some(begun) = &mut state.rest_mut().begun {
@@ -116,7 +117,7 @@ fn take_in(
     sent: &mut SentDown,
 )
     requires { begun.old.transfer.sequence < 2 ^ 63 }
-    ensures storage { storage.new ≡ (brought_by storage.old begun.old.transfer moved.now.sequence bytes.now).storage }
+    ensures storage { storage.new ≡ (chunk_stored storage.old begun.old.transfer moved.now.sequence bytes.now).storage }
     ensures begun { begun.new ≡ record begun.old { transfer = (working_spec.taken_in storage.old begun.old moved.now bytes.now).transfer } }
     ensures sent { sent.new ≡ working_spec.took_of moved.now (working_spec.taken_in storage.old begun.old moved.now bytes.now) }
 {
@@ -143,7 +144,7 @@ fn count_of(signal: &LentUp<'_>) -> usize
 
 /// Whether a Data is to be answered by the program at work.
 fn is_due(state: &PackedState, moved: &DataSignal) -> bool
-    requires { spec.IsBelow state.now.state.begun }
+    requires { command_spec.AreNumbersBelow state.now.state.begun }
     ensures { result ≡ working_spec.is_due state.now.state.begun moved.now }
 {
     match &state.rest().begun {
@@ -171,7 +172,7 @@ fn give_bytes(
 ) -> bool
     requires made { state.old.state.serials.made < 2 ^ 63 }
     requires sequence { moved.now.sequence < 2 ^ 63 }
-    requires below { spec.IsBelow state.old.state.begun }
+    requires below { command_spec.AreNumbersBelow state.old.state.begun }
     ensures step { IfSome state.old.state.begun (λ b. subchannel_stepped state.new.state (came_so result sent.new) ≡
         working_spec.give_next storage.now state.old.state b moved.now count) }
     ensures setup { state.new.setup ≡ state.old.setup }
@@ -191,9 +192,9 @@ fn take_bytes(
     sent: &mut SentDown,
 ) -> bool
     requires made { state.old.state.serials.made < 2 ^ 63 }
-    requires below { spec.IsBelow state.old.state.begun }
-    ensures step { IfSome state.old.state.begun (λ b. spec.meets storage.new (subchannel_stepped state.new.state (came_so result sent.new)) ≡
-        spec.take_in state.old.state b moved.now (brought_by storage.old b.transfer moved.now.sequence bytes.now)) }
+    requires below { command_spec.AreNumbersBelow state.old.state.begun }
+    ensures step { IfSome state.old.state.begun (λ b. outcomes.with_storage storage.new (subchannel_stepped state.new.state (came_so result sent.new)) ≡
+        on_data.tells_room_after state.old.state b moved.now (chunk_stored storage.old b.transfer moved.now.sequence bytes.now)) }
     ensures setup { state.new.setup ≡ state.old.setup }
 {
     if let Some(begun) = &mut state.rest_mut().begun {
@@ -212,9 +213,9 @@ fn move_bytes(
 ) -> bool
     requires made { state.old.state.serials.made < 2 ^ 63 }
     requires sequence { moved.now.sequence < 2 ^ 63 }
-    requires below { spec.IsBelow state.old.state.begun }
-    ensures step { IfSome state.old.state.begun (λ b. spec.meets storage.new (subchannel_stepped state.new.state (came_so result sent.new)) ≡
-        spec.move_bytes storage.old state.old.state b moved.now (load_of (lent_up signal.now))) }
+    requires below { command_spec.AreNumbersBelow state.old.state.begun }
+    ensures step { IfSome state.old.state.begun (λ b. outcomes.with_storage storage.new (subchannel_stepped state.new.state (came_so result sent.new)) ≡
+        on_data.moves_bytes storage.old state.old.state b moved.now (load_of (lent_up signal.now))) }
     ensures setup { state.new.setup ≡ state.old.setup }
 {
     if goes_out(state) {
@@ -233,8 +234,8 @@ pub fn take_data(
     sent: &mut SentDown,
 ) -> bool
     requires made { state.old.state.serials.made < 2 ^ 63 }
-    requires below { spec.IsBelow state.old.state.begun }
-    ensures step { spec.meets storage.new (subchannel_stepped state.new.state (came_so result sent.new)) ≡ working_spec.data_taken storage.old state.old.state (load_of (lent_up signal.now)) (working_spec.data_by path (lent_up signal.now)) }
+    requires below { command_spec.AreNumbersBelow state.old.state.begun }
+    ensures step { outcomes.with_storage storage.new (subchannel_stepped state.new.state (came_so result sent.new)) ≡ working_spec.data_taken storage.old state.old.state (load_of (lent_up signal.now)) (working_spec.data_by path (lent_up signal.now)) }
     ensures setup { state.new.setup ≡ state.old.setup }
 {
     let Some(moved) = data_by(path, signal) else {

@@ -1,5 +1,5 @@
 use Rattle.std.specs.Prelude.{◌+◌, true}
-use Rattle.ccw_walk.proofs.Named.{walk_after_end}
+use Rattle.ccw_walk.specs.Places.{after_command_end}
 use Rattle.transfer.proofs.Numbers.{goes_to-new, begun-same, located-same, given-same, absorbed-later, brought-later}
 use Rattle.transfer.proofs.law.command_numbers.Goals as goal
 
@@ -7,7 +7,7 @@ pub returns-clause-first : goal.returns-clause-first
 returns-clause-first c = λ storage walk. goes_to-new storage 1 walk
 
 pub returns-clause-next : goal.returns-clause-next
-returns-clause-next c = λ storage t modifier. goes_to-new storage (t.command + 1) (walk_after_end t.walk (record { goes_on = true; modifier = modifier }))
+returns-clause-next c = λ storage t modifier. goes_to-new storage (t.command + 1) (after_command_end t.walk (record { goes_on = true; modifier = modifier }))
 
 pub returns-clause-begun : goal.returns-clause-begun
 returns-clause-begun c = begun-same
