@@ -3,3 +3,4 @@ pub mod OneSide
 pub mod KeptSignals
 pub mod TakenSignals
 pub mod PathMasks
+pub mod PathOrder
