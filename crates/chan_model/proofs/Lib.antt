@@ -4,3 +4,4 @@ pub mod KeptSignals
 pub mod TakenSignals
 pub mod PathMasks
 pub mod PathOrder
+pub mod PathFilling
