@@ -1,6 +1,6 @@
 //! The instructions that name no subchannel.
 
-ghost use Rattle.std.specs.Prelude.{◌≡◌, ◌≤◌, ◌<◌, ◌+◌, ◌*◌, Ok, Err, IfOk, IfErr, OnErr, OnOk, Some, length};
+ghost use Rattle.std.specs.Prelude.{◌≡◌, ◌≤◌, ◌<◌, ◌+◌, Ok, Err, IfOk, IfErr, OnErr, OnOk, Some, length};
 ghost use Rattle.io_step.specs.Operands.{from_storage};
 ghost use Rattle.machine_model.specs.OtherSteps as spec;
 ghost use Rattle.machine_model.specs.OtherTurns as turns;

@@ -1,5 +1,5 @@
 -- What there is of a channel subsystem, as small values.
-use Rattle.std.specs.Prelude.{◌≡◌, ◌≤◌, ◌^◌, ◌⊎◌, ℕ, zero, suc, ◌+◌, ◌%◌, ◌==◌, not, Bool, List, map, length, slice_get, slice_set, unwrap_or, Option, None, Some, if◌then◌else◌}
+use Rattle.std.specs.Prelude.{◌≡◌, ◌≤◌, ◌^◌, ◌⊎◌, ℕ, ◌+◌, ◌==◌, not, Bool, List, map, length, slice_get, slice_set, unwrap_or, Option, None, Some, if◌then◌else◌}
 use Rattle.std.specs.List.{range_with_len}
 use Rattle.storage_keys.specs.Storage.{Contents, cleared_storage}
 use Rattle.chan_model.specs.declared.unit_state.UnitState.{UnitState}

@@ -1,6 +1,6 @@
 //! The sets of paths of which one is chosen (own).
 
-ghost use Rattle.std.specs.Prelude.{◌≡◌, ◌&&◌, ◌+◌, Bool, List, not};
+ghost use Rattle.std.specs.Prelude.{◌≡◌, ◌&&◌, not};
 ghost use Rattle.allegiance.specs.PathUse as use_spec;
 ghost use Rattle.chan_model.specs.PathSets as set_spec;
 ghost use Rattle.subchannel_model.specs.Choosing as spec;

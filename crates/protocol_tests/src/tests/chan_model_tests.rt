@@ -70,8 +70,7 @@ fn paths_of_a_set_come_in_order(rt: HostRuntime) {
             && is_path(set.first_from(3), 7)
     );
     assert!(rt;
-        is_path(PathSet::of_mask(0x20).first_from(3), 2)
-            && PathSet::none().first_from(5).is_none()
+        is_path(PathSet::of_mask(0x20).first_from(3), 2) && PathSet::none().first_from(5).is_none()
     );
     let mut paths = set.each_path();
     assert!(rt;

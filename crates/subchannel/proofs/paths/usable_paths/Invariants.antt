@@ -1,5 +1,5 @@
 use Rattle.std.proofs.Common.{◌≡◌, ℕ, not}
-use Rattle.allegiance.specs.PathUse.{reachable_paths, usable_paths}
+use Rattle.allegiance.specs.PathUse.{usable_paths}
 use Rattle.chan_model.specs.PathSets.{is_member}
 use Rattle.chan_model.proofs.PathFilling.{set_each}
 use Rattle.subchannel_model.specs.Choosing.{engaged_paths, path_use}
