@@ -1,5 +1,5 @@
 -- The paths in cyclic order of 8: those from a number are those from its rest by 8.
-use Rattle.std.proofs.Common.{◌≡◌, refl, sym, ◌∙◌, ap, ℕ, ◌+◌, ◌%◌, zero, suc, Option, Some, List, if◌then◌else◌}
+use Rattle.std.proofs.Common.{◌≡◌, refl, sym, ◌∙◌, ap, ℕ, ◌+◌, ◌%◌, zero, suc, Option, Some, Bool, List, if◌then◌else◌}
 use Rattle.std.proofs.Math.Nat.{mod-add-mod, mod-mod}
 use Rattle.chan_model.specs.PathSets.{cyclic_path, is_member}
 
