@@ -1,5 +1,5 @@
 -- Sets of paths, and the masks that control blocks have for them: path 0 is the leftmost bit (SA22-7832, chapter 15).
-use Rattle.std.specs.Prelude.{ℕ, ◌+◌, ◌*◌, ◌/◌, ◌^◌, ◌==◌, Bool, true, false, not, ◌&&◌, ◌||◌, List, [], ◌∷◌, replicate, Option, None, Some, slice_index_or}
+use Rattle.std.specs.Prelude.{ℕ, ◌+◌, ◌*◌, ◌/◌, ◌^◌, ◌==◌, Bool, true, false, not, ◌&&◌, ◌||◌, List, [], ◌∷◌, replicate, Option, None, Some, slice_index_or, ◌%◌, suc, zero, if◌then◌else◌}
 use Rattle.zbits.specs.Bits.{bit_of}
 use Rattle.zbits.specs.Layout.{bit_number}
 
@@ -53,3 +53,21 @@ abbrev pub is_any : List Bool → Bool
 is_any set =
     is_member set 0 || (is_member set 1 || (is_member set 2 || (is_member set 3
     || (is_member set 4 || (is_member set 5 || (is_member set 6 || is_member set 7))))))
+
+-- of so many paths in cyclic order, counted from a number on, where 0 follows 7, the first that is in the set
+abbrev pub cyclic_path : List Bool → ℕ → ℕ → Option ℕ
+cyclic_path paths zero from = None
+cyclic_path paths (suc n) from = if is_member paths (from % 8) then Some (from % 8) else cyclic_path paths n (from + 1)
+
+-- a path is put before those that follow it, where it is in the set
+abbrev pub put_before : Bool → ℕ → List ℕ → List ℕ
+put_before true path paths = path ∷ paths
+put_before false path paths = paths
+
+-- the paths of a set in order of path numbers, of which the first place of the set is this one
+abbrev pub members_from : ℕ → List Bool → List ℕ
+members_from path [] = []
+members_from path (is_in ∷ set) = put_before is_in path (members_from (path + 1) set)
+
+abbrev pub members : List Bool → List ℕ
+members set = members_from 0 set

@@ -1,6 +1,7 @@
 //! Sets of the paths of a subchannel.
 
 ghost use Rattle.std.specs.Prelude.{◌≡◌, ◌<◌, ◌≤◌, ◌^◌, ◌==◌, nat_lt, true, false, slice_set};
+ghost use Rattle.std.specs.Iterator.{YieldsFirst, item_count};
 ghost use Rattle.chan_model.specs.PathSets as spec;
 
 use crate::names::Path;
@@ -124,6 +125,26 @@ impl PathSet {
         }
     }
 
+    /// The path of the set that comes first, counted from this number on, where 0 follows 7; None where the set is empty.
+    pub fn first_from(&self, first: usize) -> Option<Path>
+        requires { first < 8 }
+        ensures { result ≡ spec.cyclic_path self.now 8 first }
+    {
+        let later = self.mask & (0xFF >> first);
+        if later != 0 {
+            Path::new(later.leading_zeros())
+        } else {
+            Path::new(self.mask.leading_zeros())
+        }
+    }
+
+    /// The paths of the set, in order of path numbers.
+    pub fn each_path(&self) -> EachPath
+        ensures { result ≡ spec.members self.now }
+    {
+        EachPath { mask: self.mask }
+    }
+
     /// Puts a path into the set, or takes it out.
     pub fn set(&mut self, path: Path, is_in: bool)
         ensures { self.new ≡ slice_set self.old path is_in }
@@ -147,6 +168,37 @@ impl PathSet {
         ensures { self.new ≡ slice_set self.old path false }
     {
         self.mask &= !(0x80 >> path.index());
+    }
+}
+
+/// The paths of a set that are still to come, in order of path numbers. From [`PathSet::each_path`].
+#[derive(Clone, Debug, Drop)]
+pub struct EachPath {
+    mask: u8,
+}
+
+impl Model for EachPath {
+    ghost use Rattle.std.specs.Prelude.{List, ℕ, ◌<◌};
+    ghost use Rattle.chan_model.specs.PathSets.{members, paths_of_mask};
+
+    ghost Value = { List ℕ };
+
+    ghost view = { λ paths. members (paths_of_mask paths.mask) };
+
+    ghost invariant = { λ paths. paths.mask < 256 };
+}
+
+impl Iterator for EachPath {
+    type Item = Path;
+
+    ghost next_gives = { YieldsFirst (λ paths. paths) };
+
+    ghost remaining = { item_count (λ paths. paths) };
+
+    fn next(&mut self) -> Option<Path> {
+        let path = Path::new(self.mask.leading_zeros())?;
+        self.mask &= !(0x80 >> path.index());
+        Some(path)
     }
 }
 

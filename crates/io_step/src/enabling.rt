@@ -2,15 +2,10 @@
 
 ghost use Rattle.std.specs.Prelude.{◌≡◌, ◌%◌, true};
 ghost use Rattle.schib_block.specs.Reading.{flag_of};
-ghost use Rattle.schib_block.specs.SchibTable.{schib_tables};
 ghost use Rattle.subchannel_model.specs.Enable as enable_spec;
 ghost use Rattle.zbits.specs.Bits.{field_of};
-ghost use Rattle.zbits.specs.Layout.{image_of};
 
-use schib_block::SCHIB_BYTES;
 use schib_block::words::PmcwWords;
-use scsw_irb::words::ScswWords;
-use zbits::be_bytes;
 
 /// The second word, with ISC (bits 2 to 4) and D (bit 13), and E one (bit 8).
 fn controls(subclass: u8, multipath: bool) -> u32
@@ -30,15 +25,4 @@ pub fn enabling(word: &PmcwWords, subclass: u8, multipath: bool) -> PmcwWords
     let mut enabling = *word;
     enabling.modify(&[parameter, given, masks, block, 0, 0, 0]);
     enabling
-}
-
-/// The subchannel-information block of two words.
-pub fn block_of(pmcw: &PmcwWords, scsw: &ScswWords) -> [u8; SCHIB_BYTES]
-    ensures { result ≡ image_of (schib_tables (record { pmcw = pmcw.now; scsw = scsw.now })) }
-{
-    let [parameter, controls, masks, block, front, back, last] = *pmcw.words();
-    let [status, address, count] = *scsw.words();
-    be_bytes(&[
-        parameter, controls, masks, block, front, back, last, status, address, count, 0, 0, 0,
-    ])
 }

@@ -1,7 +1,6 @@
 //! The instructions that name no subchannel.
 
-ghost use Rattle.std.specs.Prelude.{◌≡◌, ◌≤◌, ◌<◌, ◌+◌, ◌*◌, Ok, Err, IfOk, IfErr, OnErr, OnOk, Some, length};
-ghost use Rattle.chan_model.specs.PathSets as sets;
+ghost use Rattle.std.specs.Prelude.{◌≡◌, ◌≤◌, ◌<◌, ◌+◌, Ok, Err, IfOk, IfErr, OnErr, OnOk, Some, length};
 ghost use Rattle.io_step.specs.Operands.{from_storage};
 ghost use Rattle.machine_model.specs.OtherSteps as spec;
 ghost use Rattle.machine_model.specs.OtherTurns as turns;
@@ -11,6 +10,7 @@ use chan_events::reply::{PATH_STATUS_BYTES, report_word};
 use chan_model::answer::ConditionCode;
 use chan_model::fault::Fault;
 use chan_model::names::Cpu;
+use chan_model::paths::PathSet;
 use channel_reports::Reports;
 use interruptions::Pending;
 use scsw_irb::code::IntCode;
@@ -123,45 +123,16 @@ pub fn rchp(reports: &mut Reports, up: &PathTable, path: u32) -> Result<Conditio
     Ok(reports.rchp(named, up[usize::from(named)]))
 }
 
-/// 1 where the channel path of this index is in the set, otherwise 0.
-fn path_bit(set: [bool; 8], index: usize) -> u8
-    requires { index < 8 }
-    ensures value { result ≡ sets.path_bit set index }
-    ensures bound { result ≤ 1 }
-{
-    u8::from(set[index])
-}
-
-/// The byte of eight channel paths, the first leftmost.
-fn byte_of(set: [bool; 8]) -> u8
-    ensures { result ≡ sets.mask_of_paths set }
-{
-    128 * path_bit(set, 0)
-        + 64 * path_bit(set, 1)
-        + 32 * path_bit(set, 2)
-        + 16 * path_bit(set, 3)
-        + 8 * path_bit(set, 4)
-        + 4 * path_bit(set, 5)
-        + 2 * path_bit(set, 6)
-        + path_bit(set, 7)
-}
-
 /// Eight channel paths, the first leftmost.
 fn engaged_byte(engaged: &PathTable, place: usize) -> u8
     requires { place < 32 }
     ensures { result ≡ spec.engaged_byte engaged.now place }
 {
-    let first = 8 * place;
-    byte_of([
-        engaged[first],
-        engaged[first + 1],
-        engaged[first + 2],
-        engaged[first + 3],
-        engaged[first + 4],
-        engaged[first + 5],
-        engaged[first + 6],
-        engaged[first + 7],
-    ])
+    let mut set = PathSet::none();
+    for path in PathSet::all().each_path() {
+        set.set(path, engaged[8 * place + path.index()]);
+    }
+    set.mask()
 }
 
 fn engaged_bytes(engaged: &PathTable) -> [u8; PATH_STATUS_BYTES]

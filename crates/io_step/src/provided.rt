@@ -9,7 +9,7 @@ ghost use Rattle.machine_model.specs.Bounds.{IsRoomy};
 ghost use Rattle.subchannel_model.specs.Test.{tsch_code};
 ghost use Rattle.chan_events.specs.declared.event.Instruction.TheVariants as instruction_spec;
 
-use crate::enabling::{block_of, enabling};
+use crate::enabling::enabling;
 use crate::operands::{ENABLE_BLOCK, WORD, check_operand, orb_at, word_at};
 use crate::turns::{
     cancel_sub, clear_sub, halt_sub, modify_sub, resume_sub, start_sub, store_reply, stores_irb,
@@ -20,6 +20,7 @@ use chan_events::reply::PlainReply;
 use chan_model::fault::Fault;
 use chan_model::names::Cpu;
 use schib_block::SCHIB_BYTES;
+use schib_block::words::block_of;
 use scsw_irb::irb::IRB_BYTES;
 use storage_keys::Storage;
 use subchannel_words::Subchannel;

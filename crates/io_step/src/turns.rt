@@ -18,7 +18,7 @@ ghost use Rattle.subchannel_model.specs.Test as test_spec;
 
 use chan_events::reply::{PlainReply, Reply};
 use chan_model::answer::{Answer, ConditionCode};
-use functions::codes::tsch_code;
+use functions::codes::{stsch_code, tsch_code};
 use functions::law::modified;
 use functions::{csch, hsch, msch, rsch, ssch, xsch};
 use orb_block::Orb;
@@ -82,8 +82,9 @@ pub fn stores_irb(code: ConditionCode) -> bool
 pub fn store_reply(sub: &Subchannel) -> PlainReply
     ensures { reply_of result ≡ reply_spec.Status (answer_spec.Zero sub.now.state.serials) sub.now.state.scsw }
 {
+    let code = stsch_code(&sub.state);
     Reply::Status {
-        answer: Answer::Zero(sub.state.rest().serials),
+        answer: Answer::of(code, sub.state.rest().serials),
         scsw: shown_word(sub),
     }
 }

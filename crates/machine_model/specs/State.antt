@@ -1,5 +1,5 @@
 -- What there is of a channel subsystem, as small values.
-use Rattle.std.specs.Prelude.{◌≡◌, ◌≤◌, ◌^◌, ◌⊎◌, ℕ, zero, suc, ◌+◌, ◌%◌, ◌==◌, not, Bool, List, map, length, slice_get, slice_set, unwrap_or, Option, None, Some, if◌then◌else◌}
+use Rattle.std.specs.Prelude.{◌≡◌, ◌≤◌, ◌^◌, ◌⊎◌, ℕ, ◌+◌, ◌==◌, not, Bool, List, map, length, slice_get, slice_set, unwrap_or, Option, None, Some, if◌then◌else◌}
 use Rattle.std.specs.List.{range_with_len}
 use Rattle.storage_keys.specs.Storage.{Contents, cleared_storage}
 use Rattle.chan_model.specs.declared.unit_state.UnitState.{UnitState}
@@ -27,7 +27,7 @@ use Rattle.chan_model.specs.declared.unit_state.Place.{Place}
 use Rattle.chan_model.specs.declared.unit_state.Place.TheVariants.{Away}
 use Rattle.wires.specs.Queues.{queue}
 use Rattle.subchannel_model.specs.declared.state.Subchannel.{Subchannel}
-use Rattle.chan_model.specs.PathSets.{is_member}
+use Rattle.chan_model.specs.PathSets.{cyclic_path}
 use Rattle.subchannel_model.specs.Opening.{opened}
 use Rattle.subchannel_model.specs.Store.{available_paths}
 use Rattle.subchannel_model.specs.Places.{place_of_id, sub_at, reached_sub, Found, found_at}
@@ -134,10 +134,6 @@ takes_from (Some sub) = takes_on sub (signal_path sub.wires.down)
 
 -- a program that is away may ask for a path: the first available one of its subchannel in cyclic order from the one whose
 -- index is the number of its last connection, modulo 8 (own)
-abbrev pub cyclic_path : List Bool → ℕ → ℕ → Option ℕ
-cyclic_path paths zero from = None
-cyclic_path paths (suc n) from = if is_member paths (from % 8) then Some (from % 8) else cyclic_path paths n (from + 1)
-
 abbrev pub away_path : Option Subchannel → ℕ → Option ℕ
 away_path None c = None
 away_path (Some sub) c = cyclic_path (available_paths sub) 8 c

@@ -28,7 +28,8 @@ use Rattle.subchannel_model.specs.Sending.{carried_by, finds_full, with_any_sent
 use Rattle.subchannel_model.specs.Losing.{path_index}
 use Rattle.machine_model.specs.ChooseSteps.{choose_sub, send_sub}
 use Rattle.machine_model.specs.Requests.{settled}
-use Rattle.machine_model.specs.State.{State, cyclic_path, place_of, sub_of}
+use Rattle.chan_model.specs.PathSets.{cyclic_path}
+use Rattle.machine_model.specs.State.{State, place_of, sub_of}
 use Rattle.machine_model.specs.Steps.{Step}
 use Rattle.machine_model.specs.Turns.{Outcome, SubTurn, at_sub, leaves}
 use Rattle.subchannel_steps.specs.PathTurns.{has_to_choose, is_idle, lowest_path, path_turn_of, turn_at, turn_by, turn_on, waits_up}

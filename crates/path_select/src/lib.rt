@@ -58,12 +58,5 @@ fn first_from(usable: &PathSet, first: usize) -> Option<Path>
     ensures law { IsChoice usable.now result }
     ensures next { IsNextFrom usable.now first result }
 {
-    for step in 0..8 {
-        if let Some(path) = Path::new(((first + step) % 8) as u32)
-            && usable.has(path)
-        {
-            return Some(path);
-        }
-    }
-    None
+    usable.first_from(first)
 }

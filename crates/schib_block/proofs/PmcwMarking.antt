@@ -1,5 +1,6 @@
 -- One byte of a word is replaced.
-use Rattle.std.proofs.Common.{◌≡◌, ℕ, ◌*◌, ◌^◌, ◌<◌, List, [], ◌∷◌, slice_index, refl, ap, ◌∙◌, arith}
+use Rattle.std.proofs.Common.{◌≡◌, ℕ, zero, suc, ◌+◌, ◌*◌, ◌^◌, ◌<◌, ◌≤◌, ◌==◌, lit<, List, [], ◌∷◌, slice_index, refl, ap, ◌∙◌, arith}
+use Rattle.std.specs.Prelude.{if◌then◌else◌}
 use Rattle.std.proofs.lemmas.Nat.{and_le_r, or_lt}
 use Rattle.std.specs.Int.RustNames.{bit_and, bit_or}
 use Rattle.zbits.specs.Bits.{field_of}
@@ -11,98 +12,106 @@ use Rattle.schib_block.proofs.PmcwModifying.{seven-fit}
 abbrev pub with_byte : ℕ → ℕ → ℕ → ℕ
 with_byte word keep set = bit_or (bit_and word keep) set
 
--- LPUM: byte 2 of word 2
-pub last-used-is : (a b c d e f g m : ℕ) → m < 256
-    → pmcw_of_words (a ∷ b ∷ with_byte c 4294902015 (m * 256) ∷ d ∷ e ∷ f ∷ g ∷ []) ≡ record (pmcw_of_words (a ∷ b ∷ c ∷ d ∷ e ∷ f ∷ g ∷ [])) { last_used = m }
-last-used-is a b c d e f g m small =
-    let s = m * 256 in
-    let x = with_byte c 4294902015 s in
-    let p = pmcw_of_words (a ∷ b ∷ c ∷ d ∷ e ∷ f ∷ g ∷ []) in
-    let s0 : field_of s 0 7 ≡ 0 = omega (arith, small) in
-    let s1 : field_of s 8 15 ≡ 0 = omega (arith, small) in
-    let s2 : field_of s 16 23 ≡ m = omega (arith, small) in
-    let s3 : field_of s 24 31 ≡ 0 = omega (arith, small) in
-    let e0 : field_of x 0 7 ≡ field_of c 0 7 = field-stays c 4294902015 s 0 7 refl s0 in
-    let e1 : field_of x 8 15 ≡ field_of c 8 15 = field-stays c 4294902015 s 8 15 refl s1 in
-    let e2 : field_of x 16 23 ≡ m = field-set c 4294902015 s 16 23 refl ∙ s2 in
-    let e3 : field_of x 24 31 ≡ field_of c 24 31 = field-stays c 4294902015 s 24 31 refl s3 in
-    ap (λ (n : ℕ). record p { logical = n; not_operational = field_of x 8 15; last_used = field_of x 16 23; installed = field_of x 24 31 }) e0
-    ∙ ap (λ (n : ℕ). record p { not_operational = n; last_used = field_of x 16 23; installed = field_of x 24 31 }) e1
-    ∙ ap (λ (n : ℕ). record p { last_used = n; installed = field_of x 24 31 }) e2
-    ∙ ap (λ (n : ℕ). record p { last_used = m; installed = n }) e3
+-- bytes are counted from the left
+abbrev byte_at : ℕ → ℕ → ℕ
+byte_at word k = field_of word (8 * k) (8 * k + 7)
 
--- PAM: byte 3 of word 3
-pub available-is : (a b c d e f g m : ℕ) → m < 256
-    → pmcw_of_words (a ∷ b ∷ c ∷ with_byte d 4294967040 m ∷ e ∷ f ∷ g ∷ []) ≡ record (pmcw_of_words (a ∷ b ∷ c ∷ d ∷ e ∷ f ∷ g ∷ [])) { available = m }
-available-is a b c d e f g m small =
-    let x = with_byte d 4294967040 m in
-    let p = pmcw_of_words (a ∷ b ∷ c ∷ d ∷ e ∷ f ∷ g ∷ []) in
-    let s0 : field_of m 0 15 ≡ 0 = omega (arith, small) in
-    let s1 : field_of m 16 23 ≡ 0 = omega (arith, small) in
-    let s2 : field_of m 24 31 ≡ m = omega (arith, small) in
-    let e0 : field_of x 0 15 ≡ field_of d 0 15 = field-stays d 4294967040 m 0 15 refl s0 in
-    let e1 : field_of x 16 23 ≡ field_of d 16 23 = field-stays d 4294967040 m 16 23 refl s1 in
-    let e2 : field_of x 24 31 ≡ m = field-set d 4294967040 m 24 31 refl ∙ s2 in
-    ap (λ (n : ℕ). record p { measurement_block = n; operational = field_of x 16 23; available = field_of x 24 31 }) e0
-    ∙ ap (λ (n : ℕ). record p { operational = n; available = field_of x 24 31 }) e1
-    ∙ ap (λ (n : ℕ). record p { available = n }) e2
+-- what the bytes beside the one at a place are kept by, and where it stands
+abbrev kept_by : ℕ → ℕ
+kept_by zero = 16777215
+kept_by (suc zero) = 4278255615
+kept_by (suc (suc zero)) = 4294902015
+kept_by place = 4294967040
 
--- LPM: byte 0 of word 2
-pub logical-is : (a b c d e f g m : ℕ) → m < 256
-    → pmcw_of_words (a ∷ b ∷ with_byte c 16777215 (m * 16777216) ∷ d ∷ e ∷ f ∷ g ∷ []) ≡ record (pmcw_of_words (a ∷ b ∷ c ∷ d ∷ e ∷ f ∷ g ∷ [])) { logical = m }
-logical-is a b c d e f g m small =
-    let s = m * 16777216 in
-    let x = with_byte c 16777215 s in
-    let p = pmcw_of_words (a ∷ b ∷ c ∷ d ∷ e ∷ f ∷ g ∷ []) in
-    let s0 : field_of s 0 7 ≡ m = omega (arith, small) in
-    let s1 : field_of s 8 15 ≡ 0 = omega (arith, small) in
-    let s2 : field_of s 16 23 ≡ 0 = omega (arith, small) in
-    let s3 : field_of s 24 31 ≡ 0 = omega (arith, small) in
-    let e0 : field_of x 0 7 ≡ m = field-set c 16777215 s 0 7 refl ∙ s0 in
-    let e1 : field_of x 8 15 ≡ field_of c 8 15 = field-stays c 16777215 s 8 15 refl s1 in
-    let e2 : field_of x 16 23 ≡ field_of c 16 23 = field-stays c 16777215 s 16 23 refl s2 in
-    let e3 : field_of x 24 31 ≡ field_of c 24 31 = field-stays c 16777215 s 24 31 refl s3 in
-    ap (λ (n : ℕ). record p { logical = n; not_operational = field_of x 8 15; last_used = field_of x 16 23; installed = field_of x 24 31 }) e0
-    ∙ ap (λ (n : ℕ). record p { logical = m; not_operational = n; last_used = field_of x 16 23; installed = field_of x 24 31 }) e1
-    ∙ ap (λ (n : ℕ). record p { logical = m; last_used = n; installed = field_of x 24 31 }) e2
-    ∙ ap (λ (n : ℕ). record p { logical = m; installed = n }) e3
+abbrev moved_to : ℕ → ℕ → ℕ
+moved_to zero byte = byte * 16777216
+moved_to (suc zero) byte = byte * 65536
+moved_to (suc (suc zero)) byte = byte * 256
+moved_to place byte = byte
 
--- PNOM: byte 1 of word 2
-pub not-operational-is : (a b c d e f g m : ℕ) → m < 256
-    → pmcw_of_words (a ∷ b ∷ with_byte c 4278255615 (m * 65536) ∷ d ∷ e ∷ f ∷ g ∷ []) ≡ record (pmcw_of_words (a ∷ b ∷ c ∷ d ∷ e ∷ f ∷ g ∷ [])) { not_operational = m }
-not-operational-is a b c d e f g m small =
-    let s = m * 65536 in
-    let x = with_byte c 4278255615 s in
-    let p = pmcw_of_words (a ∷ b ∷ c ∷ d ∷ e ∷ f ∷ g ∷ []) in
-    let s0 : field_of s 0 7 ≡ 0 = omega (arith, small) in
-    let s1 : field_of s 8 15 ≡ m = omega (arith, small) in
-    let s2 : field_of s 16 23 ≡ 0 = omega (arith, small) in
-    let s3 : field_of s 24 31 ≡ 0 = omega (arith, small) in
-    let e0 : field_of x 0 7 ≡ field_of c 0 7 = field-stays c 4278255615 s 0 7 refl s0 in
-    let e1 : field_of x 8 15 ≡ m = field-set c 4278255615 s 8 15 refl ∙ s1 in
-    let e2 : field_of x 16 23 ≡ field_of c 16 23 = field-stays c 4278255615 s 16 23 refl s2 in
-    let e3 : field_of x 24 31 ≡ field_of c 24 31 = field-stays c 4278255615 s 24 31 refl s3 in
-    ap (λ (n : ℕ). record p { logical = n; not_operational = field_of x 8 15; last_used = field_of x 16 23; installed = field_of x 24 31 }) e0
-    ∙ ap (λ (n : ℕ). record p { not_operational = n; last_used = field_of x 16 23; installed = field_of x 24 31 }) e1
-    ∙ ap (λ (n : ℕ). record p { not_operational = m; last_used = n; installed = field_of x 24 31 }) e2
-    ∙ ap (λ (n : ℕ). record p { not_operational = m; installed = n }) e3
+abbrev byte_put : ℕ → ℕ → ℕ → ℕ
+byte_put word place byte = with_byte word (kept_by place) (moved_to place byte)
 
--- POM: byte 2 of word 3
-pub operational-is : (a b c d e f g m : ℕ) → m < 256
-    → pmcw_of_words (a ∷ b ∷ c ∷ with_byte d 4294902015 (m * 256) ∷ e ∷ f ∷ g ∷ []) ≡ record (pmcw_of_words (a ∷ b ∷ c ∷ d ∷ e ∷ f ∷ g ∷ [])) { operational = m }
-operational-is a b c d e f g m small =
-    let s = m * 256 in
-    let x = with_byte d 4294902015 s in
+-- the byte at a place is the one that is put there, or the one that was there
+abbrev IsByte : ℕ → ℕ → ℕ → ℕ → Type 0
+IsByte word place k byte = byte_at (byte_put word place byte) k ≡ (if place == k then byte else byte_at word k)
+
+each-below-4 : (P : ℕ → Type 0) → P 0 → P 1 → P 2 → P 3 → (k : ℕ) → k < 4 → P k
+each-below-4 P a b c d zero below = a
+each-below-4 P a b c d (suc zero) below = b
+each-below-4 P a b c d (suc (suc zero)) below = c
+each-below-4 P a b c d (suc (suc (suc zero))) below = d
+each-below-4 P a b c d (suc (suc (suc (suc k)))) below = absurd (omega (arith, below))
+
+byte-is : (word place k byte : ℕ) → place < 4 → k < 4 → byte < 256 → IsByte word place k byte
+byte-is word place k byte within inside small =
+    each-below-4 (λ place. IsByte word place k byte)
+    (each-below-4 (λ k. IsByte word 0 k byte)
+    (field-set word 16777215 (byte * 16777216) 0 7 refl ∙ omega (arith, small))
+    (field-stays word 16777215 (byte * 16777216) 8 15 refl (omega (arith, small)))
+    (field-stays word 16777215 (byte * 16777216) 16 23 refl (omega (arith, small)))
+    (field-stays word 16777215 (byte * 16777216) 24 31 refl (omega (arith, small)))
+    k inside)
+    (each-below-4 (λ k. IsByte word 1 k byte)
+    (field-stays word 4278255615 (byte * 65536) 0 7 refl (omega (arith, small)))
+    (field-set word 4278255615 (byte * 65536) 8 15 refl ∙ omega (arith, small))
+    (field-stays word 4278255615 (byte * 65536) 16 23 refl (omega (arith, small)))
+    (field-stays word 4278255615 (byte * 65536) 24 31 refl (omega (arith, small)))
+    k inside)
+    (each-below-4 (λ k. IsByte word 2 k byte)
+    (field-stays word 4294902015 (byte * 256) 0 7 refl (omega (arith, small)))
+    (field-stays word 4294902015 (byte * 256) 8 15 refl (omega (arith, small)))
+    (field-set word 4294902015 (byte * 256) 16 23 refl ∙ omega (arith, small))
+    (field-stays word 4294902015 (byte * 256) 24 31 refl (omega (arith, small)))
+    k inside)
+    (each-below-4 (λ k. IsByte word 3 k byte)
+    (field-stays word 4294967040 byte 0 7 refl (omega (arith, small)))
+    (field-stays word 4294967040 byte 8 15 refl (omega (arith, small)))
+    (field-stays word 4294967040 byte 16 23 refl (omega (arith, small)))
+    (field-set word 4294967040 byte 24 31 refl ∙ omega (arith, small))
+    k inside)
+    place within
+
+-- the two bytes on the left stay where one on the right is put
+left-half-stays : (word place byte : ℕ) → 2 ≤ place → place < 4 → byte < 256 → field_of (byte_put word place byte) 0 15 ≡ field_of word 0 15
+left-half-stays word zero byte right within small = absurd (omega (arith, right))
+left-half-stays word (suc zero) byte right within small = absurd (omega (arith, right))
+left-half-stays word (suc (suc zero)) byte right within small = field-stays word 4294902015 (byte * 256) 0 15 refl (omega (arith, small))
+left-half-stays word (suc (suc (suc zero))) byte right within small = field-stays word 4294967040 byte 0 15 refl (omega (arith, small))
+left-half-stays word (suc (suc (suc (suc k)))) byte right within small = absurd (omega (arith, within))
+
+-- word 2: LPM, PNOM, LPUM and PIM
+pub word-2-is : (a b c d e f g place m : ℕ) → place < 4 → m < 256
+    → pmcw_of_words (a ∷ b ∷ byte_put c place m ∷ d ∷ e ∷ f ∷ g ∷ [])
+    ≡ record (pmcw_of_words (a ∷ b ∷ c ∷ d ∷ e ∷ f ∷ g ∷ [])) {
+      logical = if place == 0 then m else field_of c 0 7;
+      not_operational = if place == 1 then m else field_of c 8 15;
+      last_used = if place == 2 then m else field_of c 16 23;
+      installed = if place == 3 then m else field_of c 24 31;
+    }
+word-2-is a b c d e f g place m within small =
+    let x = byte_put c place m in
     let p = pmcw_of_words (a ∷ b ∷ c ∷ d ∷ e ∷ f ∷ g ∷ []) in
-    let s0 : field_of s 0 15 ≡ 0 = omega (arith, small) in
-    let s1 : field_of s 16 23 ≡ m = omega (arith, small) in
-    let s2 : field_of s 24 31 ≡ 0 = omega (arith, small) in
-    let e0 : field_of x 0 15 ≡ field_of d 0 15 = field-stays d 4294902015 s 0 15 refl s0 in
-    let e1 : field_of x 16 23 ≡ m = field-set d 4294902015 s 16 23 refl ∙ s1 in
-    let e2 : field_of x 24 31 ≡ field_of d 24 31 = field-stays d 4294902015 s 24 31 refl s2 in
-    ap (λ (n : ℕ). record p { measurement_block = n; operational = field_of x 16 23; available = field_of x 24 31 }) e0
-    ∙ ap (λ (n : ℕ). record p { operational = n; available = field_of x 24 31 }) e1
-    ∙ ap (λ (n : ℕ). record p { operational = m; available = n }) e2
+    let at : (k : ℕ) → ℕ = λ k. if place == k then m else byte_at c k in
+    ap (λ (n : ℕ). record p { logical = n; not_operational = field_of x 8 15; last_used = field_of x 16 23; installed = field_of x 24 31 }) (byte-is c place 0 m within (lit< tt) small)
+    ∙ ap (λ (n : ℕ). record p { logical = at 0; not_operational = n; last_used = field_of x 16 23; installed = field_of x 24 31 }) (byte-is c place 1 m within (lit< tt) small)
+    ∙ ap (λ (n : ℕ). record p { logical = at 0; not_operational = at 1; last_used = n; installed = field_of x 24 31 }) (byte-is c place 2 m within (lit< tt) small)
+    ∙ ap (λ (n : ℕ). record p { logical = at 0; not_operational = at 1; last_used = at 2; installed = n }) (byte-is c place 3 m within (lit< tt) small)
+
+-- word 3: the index of the measurement block, POM and PAM
+pub word-3-is : (a b c d e f g place m : ℕ) → 2 ≤ place → place < 4 → m < 256
+    → pmcw_of_words (a ∷ b ∷ c ∷ byte_put d place m ∷ e ∷ f ∷ g ∷ [])
+    ≡ record (pmcw_of_words (a ∷ b ∷ c ∷ d ∷ e ∷ f ∷ g ∷ [])) {
+      operational = if place == 2 then m else field_of d 16 23;
+      available = if place == 3 then m else field_of d 24 31;
+    }
+word-3-is a b c d e f g place m right within small =
+    let x = byte_put d place m in
+    let p = pmcw_of_words (a ∷ b ∷ c ∷ d ∷ e ∷ f ∷ g ∷ []) in
+    let at : (k : ℕ) → ℕ = λ k. if place == k then m else byte_at d k in
+    ap (λ (n : ℕ). record p { measurement_block = n; operational = field_of x 16 23; available = field_of x 24 31 }) (left-half-stays d place m right within small)
+    ∙ ap (λ (n : ℕ). record p { operational = n; available = field_of x 24 31 }) (byte-is d place 2 m within (lit< tt) small)
+    ∙ ap (λ (n : ℕ). record p { operational = at 2; available = n }) (byte-is d place 3 m within (lit< tt) small)
 
 -- words of which the third is another
 pub third-are : (w : List ℕ) (x : ℕ) → ArePmcwWords w → x < 2 ^ 32

@@ -1,4 +1,4 @@
--- Words and word: each is made of the other.
+-- The seven words and the path-management-control word (SA22-7832, chapter 15): each is made of the other.
 use Rattle.std.proofs.Common.{◌≡◌, ℕ, zero, suc, ◌/◌, ◌%◌, ◌^◌, ◌<◌, ◌==◌, List, [], ◌∷◌, length, slice_index, map, refl, sym, ◌∙◌, arith, subst, lit<}
 use Rattle.std.proofs.lemmas.Nat.{mod_below}
 use Rattle.zbits.specs.declared.layout.BitField.{BitField}

@@ -1,14 +1,17 @@
 //! The words of a path-management-control word, and what masks do to them (SA22-7832, chapter 15).
 
 ghost use Rattle.std.specs.Prelude.{◌≡◌, ◌<◌, ◌^◌, ◌↔◌, map, ℕ, IsTrue, length, slice_index};
-ghost use Rattle.zbits.specs.Layout.{word_of};
-ghost use Rattle.schib_block.specs.SchibTable.{pmcw_tables};
+ghost use Rattle.zbits.specs.Layout.{image_of, word_of};
+ghost use Rattle.schib_block.specs.Ranges.{IsPmcwInRange};
+ghost use Rattle.schib_block.specs.SchibTable.{pmcw_tables, schib_tables};
 ghost use Rattle.schib_block.specs.Reading.{pmcw_of_words};
 ghost use Rattle.schib_block.specs.Modify.{IsAllowedPmcw, modified};
 
+use crate::SCHIB_BYTES;
 use crate::pmcw::Pmcw;
+use scsw_irb::words::ScswWords;
 use std::marker::Model;
-use zbits::field;
+use zbits::{be_bytes, field};
 
 /// The bits of each word that MODIFY SUBCHANNEL takes from the given one; of word 0 it takes all, of the last three none.
 const TAKEN_1: u32 = 0x3884_0000;
@@ -16,6 +19,17 @@ const TAKEN_1: u32 = 0x3884_0000;
 const TAKEN_2: u32 = 0xFF00_0000;
 
 const TAKEN_3: u32 = 0x0000_FF00;
+
+/// The subchannel-information block of two words: what STORE SUBCHANNEL stores.
+pub fn block_of(pmcw: &PmcwWords, scsw: &ScswWords) -> [u8; SCHIB_BYTES]
+    ensures { result ≡ image_of (schib_tables (record { pmcw = pmcw.now; scsw = scsw.now })) }
+{
+    let [parameter, controls, masks, block, front, back, last] = *pmcw.words();
+    let [status, address, count] = *scsw.words();
+    be_bytes(&[
+        parameter, controls, masks, block, front, back, last, status, address, count, 0, 0, 0,
+    ])
+}
 
 /// A path-management-control word as its seven words.
 #[derive(Clone, Copy)]
@@ -59,9 +73,7 @@ impl PmcwWords {
     pub fn of(pmcw: Pmcw) -> PmcwWords
         ensures { result ≡ pmcw }
     {
-        is_in_range(&pmcw);
-        are_in_range(&pmcw);
-        are_bytes(&pmcw.chpids);
+        is_whole(&pmcw);
         let words = pmcw.words();
         PmcwWords { words }
     }
@@ -248,6 +260,16 @@ impl PmcwWords {
     {
         self.words[0]
     }
+}
+
+/// The numbers of a word are those of their types, and it has eight channel-path identifiers. A law, with nothing to do.
+fn is_whole(pmcw: &Pmcw)
+    ensures range { IsPmcwInRange pmcw.now }
+    ensures eight { length pmcw.now.chpids ≡ 8 }
+{
+    is_in_range(pmcw);
+    are_in_range(pmcw);
+    are_bytes(&pmcw.chpids);
 }
 
 /// The numbers of a word are those of their types. A law, with nothing to do.

@@ -1,5 +1,5 @@
--- What is left of a subchannel-status word once the bits of one mask of word 0 are cleared and those of another are set, and what a
--- test of word 0 under a mask finds.
+-- What is left of a subchannel-status word (SA22-7832, chapter 16) once the bits of one mask of word 0 are cleared and those of
+-- another are set, and what a test of word 0 under a mask finds.
 use Rattle.std.specs.Prelude.{ℕ, ◌==◌, Bool, true, false, ◌&&◌, ◌||◌, if◌then◌else◌, List, [], ◌∷◌}
 use Rattle.zbits.specs.Bits.{field_of}
 use Rattle.zbits.specs.Flags.{changed_flag, flag_of}

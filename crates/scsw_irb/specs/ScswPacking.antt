@@ -1,4 +1,4 @@
--- Words and status word: each is made of the other.
+-- The three words and the subchannel-status word (SA22-7832, chapter 16): each is made of the other.
 use Rattle.std.proofs.Common.{◌≡◌, ℕ, zero, suc, ◌/◌, ◌^◌, ◌<◌, ◌==◌, Bool, true, false, List, [], ◌∷◌, slice_index, map, refl, sym, arith, subst, lit<}
 use Rattle.std.proofs.lemmas.Nat.{mod_below}
 use Rattle.zbits.specs.Bits.{bit_of, field_of, weight}

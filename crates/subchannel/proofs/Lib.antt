@@ -1,5 +1,4 @@
 pub mod AnswerPaths
-mod Freeing
 mod Kept
 mod PathIndices
 mod Returned

@@ -1,9 +1,8 @@
 //! The sets of paths of which one is chosen (own).
 
-ghost use Rattle.std.specs.Prelude.{◌≡◌, ◌&&◌, ◌+◌, Bool, List, not};
+ghost use Rattle.std.specs.Prelude.{◌≡◌, ◌&&◌, not};
 ghost use Rattle.allegiance.specs.PathUse as use_spec;
 ghost use Rattle.chan_model.specs.PathSets as set_spec;
-ghost use Rattle.subchannel.specs.Freeing.{freed};
 ghost use Rattle.subchannel_model.specs.Choosing as spec;
 
 use allegiance::path_use::PathUse;
@@ -41,27 +40,16 @@ pub(crate) fn is_any_lost(sub: &Subchannel) -> bool
     path_use(sub).lost().any()
 }
 
-/// The paths that may be used and whose engines are free.
+/// The paths that may be used and whose engines are free. The engine is asked only of a path that is within reach.
 pub(crate) fn usable_paths(subs: &Served<'_>, sub: &Subchannel) -> PathSet
     ensures { result ≡ use_spec.usable_paths (spec.path_use sub.now) (spec.engaged_paths subs.now sub.now) }
 {
-    let mut usable = path_use(sub).reachable();
-    for index in 0..8 {
-        if let Some(path) = Path::new(index) {
-            keep_free(subs, sub, &mut usable, path);
-        }
+    let reachable = path_use(sub).reachable();
+    let mut usable = reachable;
+    for path in reachable.each_path() {
+        usable.set(path, !is_engaged(subs, sub, path));
     }
     usable
-}
-
-/// Takes a path out of the set if its engine serves a subchannel. The engine is asked only of a path that is in the set.
-fn keep_free(subs: &Served<'_>, sub: &Subchannel, set: &mut PathSet, path: Path)
-    ensures { (all : List Bool) → set.old ≡ freed all (spec.engaged_paths subs.now sub.now) path →
-        set.new ≡ freed all (spec.engaged_paths subs.now sub.now) (path + 1) }
-{
-    if set.has(path) && is_engaged(subs, sub, path) {
-        set.remove(path);
-    }
 }
 
 /// Whether the engine of a path serves some subchannel.

@@ -8,7 +8,8 @@ use Rattle.subchannel_model.specs.declared.state.Chosen.TheVariants.{Idle, Reset
 use Rattle.subchannel_model.specs.declared.state.Subchannel.{Subchannel}
 use Rattle.subchannel_model.specs.Choosing.{chosen, paths_to_choose}
 use Rattle.subchannel_model.specs.Losing.{path_index}
-use Rattle.machine_model.specs.State.{State, cyclic_path, sub_of}
+use Rattle.chan_model.specs.PathSets.{cyclic_path}
+use Rattle.machine_model.specs.State.{State, sub_of}
 
 -- a signal waits on the wire up of a path
 abbrev pub waits_up : Subchannel → ℕ → Bool

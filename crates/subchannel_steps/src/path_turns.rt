@@ -3,7 +3,6 @@
 ghost use Rattle.std.specs.Prelude.{◌≡◌, Some};
 ghost use Rattle.subchannel_steps.specs.PathTurns as spec;
 
-use crate::unit_turns::cyclic_path;
 use chan_events::event::Event;
 use chan_model::names::Path;
 use chan_model::paths::PathSet;
@@ -12,12 +11,6 @@ use subchannel::choosing::{chosen, paths_to_choose};
 use subchannel::losing::path_index;
 use subchannel_model::state::Chosen;
 use subchannel_words::Subchannel;
-
-fn lowest_path(paths: &PathSet) -> Option<Path>
-    ensures { result ≡ spec.lowest_path paths.now }
-{
-    Path::new(cyclic_path(paths, 0)?)
-}
 
 fn is_idle(chosen: &Chosen) -> bool
     ensures { result ≡ spec.is_idle chosen.now }
@@ -30,7 +23,7 @@ fn has_to_choose(subs: &Served<'_>, sub: &Subchannel) -> bool
     ensures { result ≡ spec.has_to_choose subs.now sub.now }
 {
     let paths = paths_to_choose(subs, sub);
-    !is_idle(&chosen(sub, lowest_path(&paths)))
+    !is_idle(&chosen(sub, paths.first_from(0)))
 }
 
 /// The event of a turn for a subchannel, which this word names, on the channel path of this identifier.

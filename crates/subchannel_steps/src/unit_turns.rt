@@ -1,7 +1,7 @@
 //! What a unit is to do next.
 
 ghost use Rattle.std.specs.Prelude.{◌≡◌, ◌<◌, MatchOption, None, Some};
-ghost use Rattle.chan_model.specs.PathSets.{is_member};
+ghost use Rattle.chan_model.specs.PathSets as set_spec;
 ghost use Rattle.chan_model.specs.UnitReports as report_spec;
 ghost use Rattle.chan_model.specs.declared.names.Side.TheVariants.{Second};
 ghost use Rattle.machine_model.specs.State as state_spec;
@@ -94,29 +94,12 @@ fn taken_from(places: &Places, unit: usize, side: Side, subs: &[Subchannel]) -> 
     })
 }
 
-/// Whether the path of this index is in the set.
-fn has_path(paths: &PathSet, index: u32) -> bool
-    requires { index < 8 }
-    ensures { result ≡ is_member paths.now index }
+/// The first of the paths, in cyclic order of 8 from this number on.
+fn cyclic_path(paths: &PathSet, from: u64) -> Option<u32>
+    ensures { result ≡ set_spec.cyclic_path paths.now 8 from }
 {
-    match Path::new(index) {
-        Some(path) => paths.has(path),
-        None => false,
-    }
-}
-
-/// The first of the paths, in cyclic order of 8 from this one.
-pub fn cyclic_path(paths: &PathSet, from: u64) -> Option<u32>
-    ensures { result ≡ state_spec.cyclic_path paths.now 8 from }
-{
-    let mut next = (from % 8) as u32;
-    for _ in 0..8u32 {
-        if has_path(paths, next) {
-            return Some(next);
-        }
-        next = (next + 1) % 8;
-    }
-    None
+    let path = paths.first_from((from % 8) as usize)?;
+    Some(path.index() as u32)
 }
 
 /// The installed paths of a subchannel that are not down.

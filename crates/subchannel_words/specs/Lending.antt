@@ -1,4 +1,4 @@
--- The status word, and what is beside the words, lent to be changed.
+-- The subchannel-status word (SA22-7832, chapter 16), and what is beside the words, lent to be changed.
 use Rattle.std.specs.Borrow.{Fml, Lends, MutBor}
 use Rattle.scsw_irb.specs.declared.scsw.Scsw.{Scsw}
 use Rattle.scsw_irb.specs.contracts.words.ScswWords.{the_row as scsw_row}

@@ -1,4 +1,5 @@
--- A subchannel beside its wires: its set-up, and what changes of it; made of its two words and the parts beside them.
+-- A subchannel beside its wires: its set-up, and what changes of it; made of its two words, the path-management-control word
+-- (SA22-7832, chapter 15) and the subchannel-status word (chapter 16), and the parts beside them.
 use Rattle.std.specs.Prelude.{ℕ, ◌==◌, Bool, if◌then◌else◌, List, Option, None, Some}
 use Rattle.scsw_irb.specs.declared.scsw.Scsw.{Scsw}
 use Rattle.schib_block.specs.declared.pmcw.Pmcw.{Pmcw}

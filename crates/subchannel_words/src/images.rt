@@ -11,6 +11,7 @@ ghost use Rattle.subchannel_words.specs.Unwired.{unwired_sub};
 
 use crate::state::PackedState;
 use schib_block::SCHIB_BYTES;
+use schib_block::words::block_of;
 use scsw_irb::irb::IRB_BYTES;
 use zbits::be_bytes;
 
@@ -20,11 +21,7 @@ impl PackedState {
     pub fn schib(&self) -> [u8; SCHIB_BYTES]
         ensures { result ≡ image_of (schib_tables (schib_of (unwired_sub self.now))) }
     {
-        let [parameter, controls, masks, block, front, back, last] = *self.pmcw_words();
-        let [status, address, count] = *self.scsw_words();
-        be_bytes(&[
-            parameter, controls, masks, block, front, back, last, status, address, count, 0, 0, 0,
-        ])
+        block_of(self.pmcw(), self.scsw())
     }
 
     /// The interruption-response block, which TEST SUBCHANNEL stores: the status word, LPUM, and words of zeros (SA22-7832,

@@ -461,3 +461,43 @@ fn operands_are_tested_before_code_3(rt: HostRuntime) {
     assert!(rt; not_stored, "there is no subchannel to store");
     assert!(rt; not_cleared, "there is no subchannel to clear");
 }
+
+/// Whether TEST SUBCHANNEL of a subchannel that is not provided has code 3, and stores nothing at 500.
+fn tests_nothing(bench: &mut Lent) -> bool {
+    let test = Instruction::Tsch {
+        subchannel: WORD,
+        address: 0x500,
+    };
+    let absent = is_code(performed_absent(bench, test), 3);
+    let kept = holds(bench, 0x500, &[0xFF; 12]);
+    absent && kept
+}
+
+#[test]
+fn modify_and_test_of_no_subchannel(rt: HostRuntime) {
+    let Some(mut bench) = made(rt.alloc()) else {
+        return assert!(rt; false, "there is memory");
+    };
+    let subchannel = WORD;
+    let modify = |address: u32| Instruction::Msch {
+        subchannel,
+        address,
+    };
+    let test = |address: u32| Instruction::Tsch {
+        subchannel,
+        address,
+    };
+    let placed = bench.storage.put(0x500, &[0xFF; 12]).is_ok();
+    let block_refused = is_operand(performed_absent(&mut bench, modify(0x500)));
+    let halfway_refused = is_specification(performed_absent(&mut bench, modify(0x502)));
+    let outside_refused = is_addressing(performed_absent(&mut bench, test(0x1_0000)));
+    let not_modified = is_code(performed_absent(&mut bench, modify(0x600)), 3);
+    let not_tested = tests_nothing(&mut bench);
+    drop(bench);
+    assert!(rt; placed, "the block is in storage");
+    assert!(rt; block_refused, "the block is wrong");
+    assert!(rt; halfway_refused, "the address is of no word");
+    assert!(rt; outside_refused, "the address is outside storage");
+    assert!(rt; not_modified, "there is no subchannel to modify");
+    assert!(rt; not_tested, "there is no subchannel to test");
+}

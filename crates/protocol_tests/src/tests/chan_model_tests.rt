@@ -54,6 +54,33 @@ fn names_keep_their_range(rt: HostRuntime) {
     );
 }
 
+fn is_path(path: Option<Path>, number: usize) -> bool {
+    match path {
+        Some(path) => path.index() == number,
+        None => false,
+    }
+}
+
+#[test]
+fn paths_of_a_set_come_in_order(rt: HostRuntime) {
+    let set = PathSet::of_mask(0xA1);
+    assert!(rt;
+        is_path(set.first_from(0), 0)
+            && is_path(set.first_from(1), 2)
+            && is_path(set.first_from(3), 7)
+    );
+    assert!(rt;
+        is_path(PathSet::of_mask(0x20).first_from(3), 2) && PathSet::none().first_from(5).is_none()
+    );
+    let mut paths = set.each_path();
+    assert!(rt;
+        is_path(paths.next(), 0)
+            && is_path(paths.next(), 2)
+            && is_path(paths.next(), 7)
+            && paths.next().is_none()
+    );
+}
+
 #[test]
 fn chunks_and_signals_are_copied(rt: HostRuntime) {
     let mut bytes = Chunk::of(&[0xC1, 0xC2]);

@@ -1,9 +1,11 @@
-use Rattle.std.proofs.Common.{◌≡◌}
-use Rattle.allegiance.specs.PathUse.{reachable_paths}
+use Rattle.std.proofs.Common.{◌≡◌, ℕ, not}
+use Rattle.allegiance.specs.PathUse.{usable_paths}
+use Rattle.chan_model.specs.PathSets.{is_member}
+use Rattle.chan_model.proofs.PathFilling.{set_each}
 use Rattle.subchannel_model.specs.Choosing.{engaged_paths, path_use}
-use Rattle.subchannel.specs.Freeing.{freed}
 use Rattle.subchannel.proofs.paths.usable_paths.Given as goal
 
--- of the paths so far, those whose engines serve a subchannel are out
-abbrev pub invariant-loop-index : goal.invariant-loop-index
-invariant-loop-index l = l.usable ≡ freed (reachable_paths (path_use l.sub)) (engaged_paths l.subs l.sub) l.index
+-- what is left once the paths to come are asked
+abbrev pub invariant-loop-path : goal.invariant-loop-path
+invariant-loop-path l =
+    set_each (λ (p : ℕ). not (is_member (engaged_paths l.subs l.sub) p)) l.usable l.path-iterator ≡ usable_paths (path_use l.sub) (engaged_paths l.subs l.sub)

@@ -1,7 +1,7 @@
-use Rattle.std.proofs.Common.{◌≡◌, ◌<◌, ◌*◌, ◌%◌, ◌∙◌, ap, ℕ, ◌∷◌, [], slice_index, arith}
+use Rattle.std.proofs.Common.{◌≡◌, ◌<◌, ◌*◌, ◌%◌, ◌∙◌, ap, ℕ, ◌∷◌, [], slice_index, arith, lit<}
 use Rattle.schib_block.specs.declared.pmcw.Pmcw.{Pmcw}
 use Rattle.schib_block.specs.Reading.{pmcw_of_words}
-use Rattle.schib_block.proofs.PmcwMarking.{not-operational-is, with_byte}
+use Rattle.schib_block.proofs.PmcwMarking.{with_byte, word-2-is}
 use Rattle.schib_block.proofs.words.PmcwWords.set_not_operational.Goals as goal
 
 pub returns : goal.returns
@@ -11,6 +11,6 @@ returns c =
     let small : m < 256 = omega (arith, c.from.ensures, c.ranges.mask.fits) in
     let shifted : m * 65536 % 4294967296 ≡ m * 65536 = omega (arith, small) in
     ap (λ (s : ℕ). pmcw_of_words (slice_index w 0 ∷ slice_index w 1 ∷ with_byte (slice_index w 2) 4278255615 s ∷ slice_index w 3 ∷ slice_index w 4 ∷ slice_index w 5 ∷ slice_index w 6 ∷ [])) shifted
-    ∙ not-operational-is (slice_index w 0) (slice_index w 1) (slice_index w 2) (slice_index w 3) (slice_index w 4) (slice_index w 5) (slice_index w 6) m small
+    ∙ word-2-is (slice_index w 0) (slice_index w 1) (slice_index w 2) (slice_index w 3) (slice_index w 4) (slice_index w 5) (slice_index w 6) 1 m (lit< tt) small
     ∙ ap (λ (p : Pmcw). record p { not_operational = m }) c.self.view_is
     ∙ ap (λ (n : ℕ). record c.args.self.now { not_operational = n }) c.from.ensures

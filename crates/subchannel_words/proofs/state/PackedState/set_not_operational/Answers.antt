@@ -1,21 +1,14 @@
-use Rattle.std.proofs.Common.{◌≡◌, ◌<◌, ◌∙◌, ap, subst, sym, ℕ, List, Bool}
-use Rattle.subchannel_words.proofs.Tied.{mask-lt}
-use Rattle.schib_block.specs.declared.pmcw.Pmcw.{Pmcw}
-use Rattle.subchannel_model.specs.Store.{pmcw_of}
-use Rattle.subchannel_words.specs.Unwired.{Unwired, bare, unwired_of, with_pmcw}
-use Rattle.subchannel_words.proofs.Setting.{not-operational-tied}
+use Rattle.std.proofs.Common.{refl}
+use Rattle.subchannel_words.proofs.Setting.{mask-shown, mask-tied}
 use Rattle.subchannel_words.proofs.state.PackedState.set_not_operational.Goals as goal
 
 pub invariant_of-self : goal.invariant_of-self
 invariant_of-self c =
     let s = c.self.inside in
-    subst (λ (p : Pmcw). p ≡ pmcw_of (bare s.setup p s.scsw s.up s.rest)) (sym c.set_not_operational.ensures)
-    (not-operational-tied s.setup s.pmcw s.scsw s.up s.rest c.mask.result c.self.invariant (subst (λ (n : ℕ). n < 256) (sym c.mask.ensures.mask) (mask-lt c.args.set)))
+    mask-tied (λ p m. record p { not_operational = m }) s.setup s.pmcw c.set_not_operational.new.self s.scsw s.up s.rest c.mask.result c.args.set c.self.invariant c.set_not_operational.ensures c.mask.ensures.mask (λ m. refl)
 
 pub returns : goal.returns
 returns c =
     let s = c.self.inside in
-    let before = unwired_of s.setup s.pmcw s.scsw s.up s.rest in
-    ap (λ (p : Pmcw). unwired_of s.setup p s.scsw s.up s.rest) c.set_not_operational.ensures
-    ∙ ap (λ (set : List Bool). with_pmcw before (record before.state.pmcw { not_operational = set })) c.mask.ensures.set
-    ∙ ap (λ (p : Unwired). with_pmcw p (record p.state.pmcw { not_operational = c.args.set })) c.self.view_is
+    mask-shown (λ p m. record p { not_operational = m }) (λ p set. record p { not_operational = set }) s.setup s.pmcw c.set_not_operational.new.self s.scsw s.up s.rest c.mask.result c.args.set _
+    c.set_not_operational.ensures c.mask.ensures.set c.self.view_is refl
