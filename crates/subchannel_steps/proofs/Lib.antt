@@ -1,6 +1,5 @@
 pub mod Answered
 pub mod Owing
 mod Entries
-mod Cycles
 mod Turning
 mod Acting
