@@ -8,7 +8,7 @@ use chan_model::report::{DeviceAnswer, Report, Work};
 use core_lock::guarded::Guarded;
 use core_lock::locked::Seat;
 use core_lock::stock::SeatStock;
-use core_parts::naming::Naming;
+use core_lock::naming::Naming;
 use device_law::answering::answer_to;
 use device_models::any_device::AnyDevice;
 use event_log::history::LentReply;

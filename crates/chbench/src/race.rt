@@ -7,7 +7,7 @@ use chan_events::event::Instruction;
 use chan_model::names::Cpu;
 use core_lock::executing::CpuInstruction;
 use core_lock::locked::{Core, Seat, audit};
-use core_parts::naming::Naming;
+use core_lock::naming::Naming;
 use machine_lock::machine::Machine;
 use path_select::Rotating;
 use std::alloc::{AllocError, Global};

@@ -3,7 +3,7 @@
 ghost use Rattle.std.specs.Prelude.{◌≡◌};
 ghost use Rattle.machine_model.specs.State.{opening_of};
 ghost use Rattle.subsystem.specs.Keeping.{all_serials};
-ghost use Rattle.core_parts.specs.Directory.{directory_of};
+ghost use Rattle.core_lock.specs.Directory.{directory_of};
 
 use crate::bench::{Bench, Count, config_of};
 use crate::cycle::Kind;
@@ -12,7 +12,7 @@ use crate::race::{Race, RaceCount, run_race};
 use channel_config::config::Config;
 use core_lock::locked::Core;
 use core_lock::parts::Parts;
-use core_parts::naming::Naming;
+use core_lock::naming::Naming;
 use path_select::Rotating;
 use std::alloc::Global;
 use std::marker::Brand;

@@ -14,7 +14,7 @@ mod tests;
 
 use crate::outcome::Outcome;
 use command_words::{Refused, TextSupply, Wanted, command_of};
-use core_parts::supplies::CoreSupply;
+use core_lock::supplies::CoreSupply;
 use serving::{check_script_with, race_script_with, serve_script_with};
 use std::alloc::Global;
 use std::io::ErrorKind;

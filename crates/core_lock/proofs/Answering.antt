@@ -6,7 +6,7 @@ use Rattle.chan_events.specs.Events.{Event}
 use Rattle.chan_events.specs.Replies.{Reply}
 use Rattle.machine_model.specs.State.{State}
 use Rattle.path_select.specs.Choice.{Rule}
-use Rattle.core_parts.specs.Seats.{Guarded, GuardedCore, HeldSeat, Seated}
+use Rattle.core_lock.specs.Seats.{Guarded, GuardedCore, HeldSeat, Seated}
 use Rattle.core_lock.specs.Entering.{MayRefuse, entered}
 use Rattle.core_lock.specs.Turns.{Executes, IsOfMachine, IsRefusedBy, MayStand}
 

@@ -10,7 +10,7 @@ use Rattle.chan_events.specs.declared.reply.Reply.TheVariants.{Done}
 use Rattle.chan_events.specs.declared.reply.Entry.{Entry}
 use Rattle.event_log.specs.Logs.{HasSame}
 use Rattle.event_log.proofs.Growing.{same_heads, same_rests}
-use Rattle.core_parts.specs.Seats.{entries_by, entry}
+use Rattle.core_lock.specs.Seats.{entries_by, entry}
 
 -- an entry, where any will do
 abbrev pub any_entry : Entry

@@ -11,8 +11,8 @@ use Rattle.subchannel_model.specs.Places.{place_in, place_of_id, one_later}
 use Rattle.machine_model.specs.State.{State, opening_of, place_of}
 use Rattle.machine_model.specs.Setups.{IsSetUp}
 use Rattle.subsystem.specs.Keeping.{all_serials}
-use Rattle.core_parts.specs.Directory.{Directory, directory_by, directory_of, is_name, name_place, place_named, place_of_name, setup_of}
-use Rattle.core_parts.specs.Named.{serials}
+use Rattle.core_lock.specs.Directory.{Directory, directory_by, directory_of, is_name, name_place, place_named, place_of_name, setup_of}
+use Rattle.core_lock.specs.Named.{serials}
 
 -- a name is found where its subchannel stands
 name_stands : (id : SubchannelId) (subs : List Subchannel) → name_place id (map setup_of subs) ≡ place_in id subs

@@ -9,14 +9,15 @@ use Rattle.chan_events.specs.declared.event.Event.TheVariants as event
 use Rattle.chan_events.specs.declared.event.UnitAct.TheVariants as act
 use Rattle.chan_events.specs.declared.reply.Entry.{Entry}
 use Rattle.chan_events.specs.Replies.{Reply}
-use Rattle.core_parts.specs.declared.turns.KeptReport.{KeptReport}
-use Rattle.core_parts.specs.declared.turns.Turn.{Turn}
-use Rattle.core_parts.specs.declared.turns.Turn.TheVariants.{Enters, Leaves, Owes, Rests}
+use Rattle.unit_driver.specs.declared.keeping.KeptReport.{KeptReport}
+use Rattle.unit_driver.specs.declared.turns.Turn.{Turn}
+use Rattle.unit_driver.specs.declared.turns.Turn.TheVariants.{Enters, Leaves, Owes, Rests}
 use Rattle.channel_config.specs.Setup.{Setup}
 use Rattle.path_select.specs.Choice.{Rule}
-use Rattle.core_parts.specs.Seats.{Guarded, GuardedCore, HeldSeat, Seated, entry}
+use Rattle.core_lock.specs.Seats.{Guarded, GuardedCore, HeldSeat, Seated, entry}
 use Rattle.core_lock.specs.Entering.{entered}
-use Rattle.core_parts.specs.Turns.{turn_of, report_event, kept_after}
+use Rattle.unit_driver.specs.Keeping.{report_event, kept_after}
+use Rattle.unit_driver.specs.Turns.{turn_of}
 use Rattle.core_lock.specs.Turns.{turned_seat, emptied_seat, turn_of_path, with_left, with_owed, Tries, Passes, HandsIn, TakesTurn, TakesUnitTurn, TakesPathTurn, MayStand, MayTurn, IsOfPath, IsOfWorker, Grew, IsKeptFrom, IsOwedBy, WorksPath, WorksUnit, count_in}
 
 all_none : (P : Entry → Type 0) → All P []

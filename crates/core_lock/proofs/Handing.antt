@@ -3,10 +3,10 @@ use Rattle.std.proofs.Common.{◌≡◌, ◌≢◌, Bool, true, false, Option, N
 use Rattle.chan_model.specs.declared.fault.Fault.{Fault}
 use Rattle.chan_model.specs.declared.fault.Fault.TheVariants as fault
 use Rattle.chan_events.specs.Events.{Event}
-use Rattle.core_parts.specs.declared.turns.KeptReport.{KeptReport}
+use Rattle.unit_driver.specs.declared.keeping.KeptReport.{KeptReport}
 use Rattle.path_select.specs.Choice.{Rule}
-use Rattle.core_parts.specs.Seats.{Guarded, GuardedCore, HeldSeat, Seated}
-use Rattle.core_parts.specs.Turns.{kept_after, refusal_of, report_event}
+use Rattle.core_lock.specs.Seats.{Guarded, GuardedCore, HeldSeat, Seated}
+use Rattle.unit_driver.specs.Keeping.{kept_after, refusal_of, report_event}
 use Rattle.core_lock.specs.Turns.{EntersBy, HandsIn, IsRefusedBy, Tries, with_kept}
 
 pub handed_ok : (picks : Rule) (old : GuardedCore) (seat : HeldSeat) (kept : KeptReport) (e : Event) (b : Bool) (new : Guarded) (after : Seated) → e ≡ report_event kept → Tries picks old seat seat.value e (Ok b) new after → HandsIn picks old seat kept (Ok b) new after

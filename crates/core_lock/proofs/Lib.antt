@@ -1,3 +1,6 @@
+pub mod Finding
+pub mod Rewriting
+pub mod Changing
 pub mod Auditing
 pub mod Directories
 pub mod Entered

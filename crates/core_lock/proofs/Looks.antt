@@ -10,9 +10,9 @@ use Rattle.subchannel_model.specs.Places.{sub_at}
 use Rattle.machine_model.specs.State.{State, serials_in, sub_of}
 use Rattle.subsystem.specs.Keeping.{all_serials}
 use Rattle.glance_cell.specs.Shown.{Words}
-use Rattle.core_parts.specs.Directory.{Directory, directory_of, place_named}
-use Rattle.core_parts.specs.Named.{cell_of, cells_of, counts_of, shown}
-use Rattle.core_parts.specs.Seats.{Seated, greater}
+use Rattle.core_lock.specs.Directory.{Directory, directory_of, place_named}
+use Rattle.core_lock.specs.Named.{cell_of, cells_of, counts_of, shown}
+use Rattle.core_lock.specs.Seats.{Seated, greater}
 use Rattle.core_lock.specs.Entering.{LoadsAt, Looks}
 use Rattle.core_lock.proofs.Directories.{place_is}
 

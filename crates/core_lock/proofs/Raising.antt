@@ -11,8 +11,8 @@ use Rattle.chan_events.specs.declared.event.Instruction.TheVariants as instructi
 use Rattle.chan_events.specs.Replies.{Reply}
 use Rattle.machine_laws.specs.Codes.{answer_in}
 use Rattle.subsystem.specs.Keeping.{BringsOrdered, IsOrdered, serials_brought}
-use Rattle.core_parts.specs.Directory.{Directory, place_named}
-use Rattle.core_parts.specs.Seats.{greater, raised_among, raised_at, raised_by}
+use Rattle.core_lock.specs.Directory.{Directory, place_named}
+use Rattle.core_lock.specs.Seats.{greater, raised_among, raised_at, raised_by}
 
 pub get_ordered : (pairs : List Serials) (k : ℕ) (s : Serials) → All IsOrdered pairs → IsOrdered s → IsOrdered (get_or pairs k s)
 get_ordered [] k s all one = one

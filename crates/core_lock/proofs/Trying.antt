@@ -7,7 +7,7 @@ use Rattle.chan_events.specs.Replies.{Reply}
 use Rattle.machine_model.specs.Ruled.{GoesByRule}
 use Rattle.machine_model.specs.Steps.{IsRefused}
 use Rattle.path_select.specs.Choice.{Rule}
-use Rattle.core_parts.specs.Seats.{Guarded, GuardedCore, HeldSeat}
+use Rattle.core_lock.specs.Seats.{Guarded, GuardedCore, HeldSeat}
 use Rattle.core_lock.specs.Entering.{IsEntered, LacksRoom, MayRefuse}
 use Rattle.core_lock.specs.Turns.{Executes, IsRefusedBy, Tries}
 

@@ -4,7 +4,7 @@ use Rattle.chan_model.specs.declared.fault.Fault.{Fault}
 use Rattle.chan_events.specs.Events.{Event}
 use Rattle.chan_events.specs.Replies.{Reply}
 use Rattle.path_select.specs.Choice.{Rule}
-use Rattle.core_parts.specs.Seats.{Guarded, GuardedCore, HeldSeat, Seated}
+use Rattle.core_lock.specs.Seats.{Guarded, GuardedCore, HeldSeat, Seated}
 use Rattle.core_lock.specs.Turns.{Executes, IsOfMachine, TakesPathTurn, TakesUnitTurn, turn_of_path, turned_seat}
 
 -- an event is executed from a seat, at the machine of that seat as it stood when the lock was got, and left so

@@ -15,14 +15,17 @@ use Rattle.machine_model.specs.Setups.{IsSetUp}
 use Rattle.machine_model.specs.State.{State}
 use Rattle.machine_model.specs.Steps.{HasRun, IsRefused}
 use Rattle.path_select.specs.Choice.{Rule}
-use Rattle.core_parts.specs.declared.turns.OwedCall.{OwedCall}
-use Rattle.core_parts.specs.declared.turns.KeptReport.{KeptReport}
-use Rattle.core_parts.specs.declared.turns.TakenCommand.{TakenCommand}
-use Rattle.core_parts.specs.declared.turns.Turn.{Turn}
-use Rattle.core_parts.specs.declared.turns.Turn.TheVariants.{Enters, Leaves, Owes, Rests}
-use Rattle.core_parts.specs.Directory.{directory_of}
-use Rattle.core_parts.specs.Seats.{Guarded, GuardedCore, HeldSeat, Seated}
-use Rattle.core_parts.specs.Turns.{kept_after, path_turn_among, report_event, turn_of}
+use Rattle.unit_driver.specs.declared.turns.OwedCall.{OwedCall}
+use Rattle.unit_driver.specs.declared.keeping.KeptReport.{KeptReport}
+use Rattle.unit_driver.specs.declared.turns.TakenCommand.{TakenCommand}
+use Rattle.unit_driver.specs.declared.turns.Turn.{Turn}
+use Rattle.unit_driver.specs.declared.turns.Turn.TheVariants.{Enters, Leaves, Owes, Rests}
+use Rattle.core_lock.specs.Directory.{directory_of}
+use Rattle.core_lock.specs.Seats.{Guarded, GuardedCore, HeldSeat, Seated}
+use Rattle.unit_driver.specs.Keeping.{kept_after, report_event}
+use Rattle.unit_driver.specs.Reporting.{report_of}
+use Rattle.unit_driver.specs.Turns.{turn_of}
+use Rattle.core_lock.specs.PathTurns.{path_turn_among}
 use Rattle.core_lock.specs.Entering as entering
 use Rattle.core_lock.specs.Entering.{LacksRoom}
 
@@ -99,13 +102,6 @@ TakesPathTurn picks core seat (Some e) result new after = Tries picks core seat 
 -- a turn of this channel path's worker
 abbrev pub turn_of_path : State → ℕ → Option Event
 turn_of_path s chpid = path_turn_among s chpid (directory_of s).setups
-
--- the report of what a device answered to a call
-abbrev pub report_of : OwedCall → DeviceAnswer → KeptReport
-report_of owed answer = record {
-  «unit» = owed.«unit»;
-  report = record { side = owed.side; number = owed.number; command = owed.command; sequence = owed.sequence; answer = answer };
-}
 
 -- one call more, of which the greatest number of 64 bits stays
 abbrev pub one_call_more : ℕ → ℕ

@@ -5,14 +5,14 @@ ghost use Rattle.chan_model.specs.declared.fault.Fault.TheVariants as fault_spec
 ghost use Rattle.event_log.specs.Logs.{IsKept};
 ghost use Rattle.subsystem.specs.Keeping.{StaysSetUp, all_serials, answer_of};
 ghost use Rattle.core_lock.specs.Entering.{IsEntered, core_of, starved_after};
-ghost use Rattle.core_parts.specs.Named.{cells_of, shown};
+ghost use Rattle.core_lock.specs.Named.{cells_of, shown};
 
 use crate::locked::Seat;
+use crate::naming::{Entries, Naming};
+use crate::pairs::{publish, raise};
+use crate::touching::{touched_by, touches};
 use chan_events::event::Event;
 use chan_model::fault::Fault;
-use core_parts::naming::{Entries, Naming};
-use core_parts::pairs::{publish, raise};
-use core_parts::touching::{touched_by, touches};
 use event_log::logs::Log;
 use glance_cell::cell::Writer;
 use path_select::PathChoice;

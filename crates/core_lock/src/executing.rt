@@ -9,11 +9,11 @@ ghost use Rattle.core_lock.specs.Turns.{Executes, MayStand};
 
 use crate::guarded::Guarded;
 use crate::locked::Seat;
+use crate::naming::Naming;
 use chan_events::event::{Event, Instruction, OtherInstruction};
 use chan_events::reply::Reply;
 use chan_model::fault::Fault;
 use chan_model::names::Cpu;
-use core_parts::naming::Naming;
 use path_select::PathChoice;
 use supply::Given;
 

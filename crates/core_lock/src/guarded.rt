@@ -11,24 +11,24 @@ ghost use Rattle.machine_model.specs.Setups.{IsSetUp};
 ghost use Rattle.machine_model.specs.Steps.{HasRun};
 ghost use Rattle.subsystem.specs.Headline.{HasHeld};
 ghost use Rattle.subsystem.specs.Keeping.{IsOrdered, all_serials, answer_of};
-ghost use Rattle.core_parts.specs.Directory.{directory_of};
-ghost use Rattle.core_parts.specs.Named.{cells_of, shown};
-ghost use Rattle.core_parts.specs.Seats.{entries_by};
+ghost use Rattle.core_lock.specs.Directory.{directory_of};
+ghost use Rattle.core_lock.specs.Named.{cells_of, shown};
+ghost use Rattle.core_lock.specs.Seats.{entries_by};
 ghost use Rattle.core_lock.specs.Entering.{IsEntered};
 ghost use Rattle.core_lock.specs.Turns as turn_spec;
 
+use crate::directory::Directory;
 use crate::entering::keep_entry;
 use crate::locked::Seat;
+use crate::naming::{Entries, Naming, Turns};
+use crate::pairs::{first_pairs, watch};
 use crate::parts::Parts;
 use crate::same_log::is_log;
 use crate::stock::SeatStock;
+use crate::supplies::CoreSupply;
 use chan_events::event::Event;
 use chan_events::reply::Reply;
 use chan_model::fault::Fault;
-use core_parts::directory::Directory;
-use core_parts::naming::{Entries, Naming, Turns};
-use core_parts::pairs::{first_pairs, watch};
-use core_parts::supplies::CoreSupply;
 use glance_cell::cell::{Reader, Writer};
 use path_select::PathChoice;
 use scsw_irb::serials::Serials;
@@ -53,7 +53,7 @@ pub struct Guarded<J: Naming, P: PathChoice + Drop> {
 
 impl<J: Naming, P: PathChoice + Drop> Model for Guarded<J, P> {
     ghost use Rattle.std.specs.Arc.{arc_value};
-    ghost use Rattle.core_parts.specs.Seats.{GuardedCore};
+    ghost use Rattle.core_lock.specs.Seats.{GuardedCore};
     ghost use Rattle.core_lock.specs.Entering.{core_of};
     ghost use Rattle.core_lock.specs.Keeping.{IsGuarded};
 

@@ -12,19 +12,18 @@ ghost use Rattle.machine_model.specs.State.{place_of};
 ghost use Rattle.machine_model.specs.Steps.{HasRun};
 ghost use Rattle.subsystem.specs.Headline.{HasHeld};
 ghost use Rattle.subsystem.specs.Keeping.{all_serials};
-ghost use Rattle.core_parts.specs.Directory.{directory_of, place_named};
+ghost use Rattle.core_lock.specs.Directory.{directory_of, place_named};
 ghost use Rattle.core_lock.specs.Entering.{guarded_in};
-ghost use Rattle.core_parts.specs.Named.{shown};
-ghost use Rattle.core_parts.specs.Seats.{entries_by};
+ghost use Rattle.core_lock.specs.Named.{shown};
+ghost use Rattle.core_lock.specs.Seats.{entries_by};
 
+use crate::directory::Directory;
 use crate::guarded::{FirstLook, Guarded, open};
+use crate::naming::{Entries, Naming, Turns};
 use crate::parts::Parts;
 use crate::stock::SeatStock;
+use crate::supplies::CoreSupply;
 use chan_model::fault::Fault;
-use core_parts::directory::Directory;
-use core_parts::naming::{Entries, Naming, Turns};
-use core_parts::supplies::CoreSupply;
-use core_parts::turns::{KeptReport, OwedCall, TakenCommand};
 use event_log::logs::Log;
 use glance_cell::cell::Reader;
 use path_select::PathChoice;
@@ -35,6 +34,8 @@ use std::sync::Arc;
 use std::sync::ledger::{Book, Share};
 use subsystem::subsystem::Subsystem;
 use supply::Given;
+use unit_driver::keeping::KeptReport;
+use unit_driver::turns::{OwedCall, TakenCommand};
 
 /// The most seats of one machine.
 pub const MOST_SEATS: u16 = 1024;
@@ -47,7 +48,7 @@ pub struct Core<J: Naming, P: PathChoice + Drop> {
 }
 
 impl<J: Naming, P: PathChoice + Drop> Model for Core<J, P> {
-    ghost use Rattle.core_parts.specs.Seats.{LockedCore};
+    ghost use Rattle.core_lock.specs.Seats.{LockedCore};
 
     ghost Value = { LockedCore };
 
@@ -84,7 +85,7 @@ pub struct Seat<J: Naming> {
 
 impl<J: Naming> Model for Seat<J> {
     ghost use Rattle.std.specs.Arc.{arc_value};
-    ghost use Rattle.core_parts.specs.Seats.{HeldSeat};
+    ghost use Rattle.core_lock.specs.Seats.{HeldSeat};
     ghost use Rattle.core_lock.specs.Keeping.{IsSeat};
 
     ghost Value = { HeldSeat };

@@ -2,20 +2,18 @@
 
 ghost use Rattle.std.specs.Prelude.{◌≡◌, ◌<◌, ◌≤◌, None, Some, IsSome, IfOk, IfErr, OnErr, is_some, length, slice_get};
 ghost use Rattle.chan_model.specs.declared.fault.Fault.TheVariants as fault_spec;
-ghost use Rattle.core_parts.specs.Directory.{place_named};
+ghost use Rattle.core_lock.specs.Directory.{place_named};
 ghost use Rattle.core_lock.specs.Entering.{Glances, LoadsAt, Looks};
-ghost use Rattle.core_parts.specs.Named.{cells_of, serials, shown};
+ghost use Rattle.core_lock.specs.Named.{cells_of, serials, shown};
 ghost use Rattle.machine_model.specs.State.{sub_of};
 ghost use Rattle.core_lock.specs.Turns as turn_spec;
 
+use crate::gate::{Gate, Gated};
 use crate::guarded::Guarded;
 use crate::locked::{Core, Seat};
+use crate::naming::Naming;
+use crate::pairs::greater;
 use chan_model::fault::Fault;
-use chan_model::report::Report;
-use core_parts::gate::{Gate, Gated};
-use core_parts::naming::Naming;
-use core_parts::pairs::greater;
-use core_parts::turns::KeptReport;
 use glance_cell::cell::{Reader, Writer};
 use glance_cell::words::Glance;
 use path_select::PathChoice;
@@ -41,16 +39,7 @@ impl<J: Naming> Seat<J> {
         self.calls = self.calls.saturating_add(1);
         gate.pass(owed.unit, self.calls);
         let answer = device.call_through(gate, owed.unit, self.calls, &owed.call);
-        self.kept = Some(KeptReport {
-            unit: owed.unit,
-            report: Report {
-                side: owed.side,
-                number: owed.number,
-                command: owed.command,
-                sequence: owed.sequence,
-                answer,
-            },
-        });
+        self.kept = Some(owed.report(answer));
     }
 
     /// The serials of a subchannel: part by part the greater of what is loaded and of what the seat saw. It takes no lock and

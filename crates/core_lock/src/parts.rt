@@ -3,12 +3,12 @@
 ghost use Rattle.std.specs.Prelude.{◌≡◌, true, IfOk, OnErr, OnOk, replicate};
 ghost use Rattle.machine_model.specs.State.{opening_of};
 ghost use Rattle.subsystem.specs.Keeping.{all_serials};
-ghost use Rattle.core_parts.specs.Directory.{directory_of};
-ghost use Rattle.core_parts.specs.Named.{shown, serials};
+ghost use Rattle.core_lock.specs.Directory.{directory_of};
+ghost use Rattle.core_lock.specs.Named.{shown, serials};
 
+use crate::directory::Directory;
+use crate::supplies::CoreSupply;
 use channel_config::config::Config;
-use core_parts::directory::Directory;
-use core_parts::supplies::CoreSupply;
 use glance_cell::cell::Writer;
 use glance_cell::supplies::CellSupply;
 use std::alloc::{AllocError, Global};
@@ -29,7 +29,7 @@ pub struct Parts {
 impl Model for Parts {
     ghost use Rattle.std.specs.Prelude.{◌≡◌, length};
     ghost use Rattle.std.specs.Arc.{arc_value};
-    ghost use Rattle.core_parts.specs.Named.{MachineParts, cells_of, shown};
+    ghost use Rattle.core_lock.specs.Named.{MachineParts, cells_of, shown};
 
     ghost Value = { MachineParts };
 

@@ -2,7 +2,7 @@
 
 ghost use Rattle.std.specs.Prelude.{◌≡◌, ◌==◌, ◌↔◌, IsTrue, length};
 ghost use Rattle.std.specs.List.{list_all};
-ghost use Rattle.core_parts.specs.Seats.{entries_by};
+ghost use Rattle.core_lock.specs.Seats.{entries_by};
 
 use event_log::history::History;
 

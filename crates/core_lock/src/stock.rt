@@ -2,7 +2,7 @@
 
 ghost use Rattle.std.specs.Prelude.{◌≡◌, ◌+◌, ◌<◌, ◌≤◌};
 
-use core_parts::naming::{Entries, Naming, Turns};
+use crate::naming::{Entries, Naming, Turns};
 use std::alloc::Global;
 use std::marker::Model;
 use std::sync::ledger::Share;

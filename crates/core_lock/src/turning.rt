@@ -3,17 +3,18 @@
 ghost use Rattle.std.specs.Prelude.{◌≡◌, ◌+◌, None};
 ghost use Rattle.core_lock.specs.Outside.{IsPathTurn, IsUnitTurn};
 ghost use Rattle.core_lock.specs.Turns as turn_spec;
-ghost use Rattle.core_parts.specs.Turns as part_spec;
+ghost use Rattle.unit_driver.specs.Keeping as kept_spec;
+ghost use Rattle.unit_driver.specs.Turns as unit_spec;
 
 use crate::guarded::Guarded;
 use crate::locked::Seat;
+use crate::naming::Naming;
+use crate::path_turns::path_turn_of;
 use chan_events::event::{Event, UnitAct};
 use chan_model::fault::Fault;
-use core_parts::naming::Naming;
-use core_parts::turns::{
-    KeptReport, TakenCommand, Turn, kept_after, path_turn_of, refusal_of, turn_of,
-};
 use path_select::PathChoice;
+use unit_driver::keeping::{KeptReport, kept_after, refusal_of};
+use unit_driver::turns::{TakenCommand, Turn, turn_by};
 
 impl<J: Naming, P: PathChoice + Drop> Guarded<J, P> {
     /// One turn of the worker of a channel path: the first event that there is for a subchannel of that path is entered. False
@@ -76,7 +77,7 @@ impl<J: Naming, P: PathChoice + Drop> Guarded<J, P> {
                 self.hand_in(seat, kept)
             }
             None => {
-                let turn = turn_of(&self.subsystem, seat.left, unit, roam);
+                let turn = turn_by(roam, seat.left, unit, self.subsystem.unit_turn(unit));
                 self.take_turn(seat, turn)
             }
         }
@@ -120,7 +121,7 @@ impl<J: Naming, P: PathChoice + Drop> Guarded<J, P> {
 
     /// The unit leaves its path, for this command once.
     fn leave(&mut self, seat: &mut Seat<J>, command: TakenCommand) -> Result<bool, Fault>
-        ensures { turn_spec.TakesTurn P.picks self.old seat.old (part_spec.leaves command) result self.new.value seat.new.value }
+        ensures { turn_spec.TakesTurn P.picks self.old seat.old (unit_spec.leaves command) result self.new.value seat.new.value }
     {
         let event = Event::Act {
             unit: command.unit,
@@ -143,8 +144,8 @@ impl<J: Naming, P: PathChoice + Drop> Guarded<J, P> {
 impl<J: Naming> Seat<J> {
     /// Keeps a report that was refused, where it is to be kept. A stale one is no refusal.
     fn keep(&mut self, kept: KeptReport, fault: Fault) -> Result<bool, Fault>
-        ensures result { result ≡ part_spec.refusal_of fault }
-        ensures seat { self.new.value ≡ turn_spec.with_kept self.old.value (part_spec.kept_after kept fault) }
+        ensures result { result ≡ kept_spec.refusal_of fault }
+        ensures seat { self.new.value ≡ turn_spec.with_kept self.old.value (kept_spec.kept_after kept fault) }
         ensures room { self.new.room ≡ self.old.room }
     {
         self.kept = kept_after(kept, fault);

@@ -11,16 +11,17 @@ use crate::clock::Clock;
 use chan_events::event::Event;
 use chan_events::reply::Reply;
 use chan_model::fault::Fault;
-use chan_model::report::{Report, Work};
+use chan_model::report::Report;
 use channel_config::config::{Config, ConfigFault};
 use channel_config::parts::UnitKind;
-use device_law::answering::answer;
 use machine_model::state::UnitTurn;
 use path_select::Rotating;
 use std::alloc::Global;
 use std::marker::Model;
 use storage_keys::StorageFault;
 use subsystem::subsystem::Subsystem;
+use unit_driver::keeping::{KeptReport, forget, keep_refused};
+use unit_driver::reporting::reported;
 
 /// The subsystem-identification word of the one subchannel.
 pub const SUBCHANNEL: u32 = 0x0001_0000;
@@ -44,7 +45,7 @@ pub enum Turn {
 pub struct Host {
     subsystem: Subsystem<Rotating>,
     clock: Clock,
-    kept: Option<Report>,
+    kept: Option<KeptReport>,
 }
 
 impl Model for Host {
@@ -136,51 +137,22 @@ impl Host {
     fn next_report(&mut self) -> Option<Report>
         ensures machine { self.new.past ≡ self.old.past }
     {
-        if let Some(report) = self.kept.take() {
-            return Some(report);
-        }
-        match self.subsystem.unit_turn(UNIT) {
-            Some(UnitTurn::Works(work)) => Some(self.worked(work)),
-            _ => None,
-        }
-    }
-
-    /// The report of a work.
-    fn worked(&mut self, work: Work) -> Report
-        ensures machine { self.new.past ≡ self.old.past }
-    {
-        match work {
-            Work::Report(report) => report,
-            Work::Call {
-                side,
-                number,
-                command,
-                sequence,
-                call,
-            } => Report {
-                side,
-                number,
-                command,
-                sequence,
-                answer: answer(&mut self.clock, &call),
-            },
-        }
+        let turn = self.subsystem.lent_turn(UNIT)?;
+        reported(&mut self.clock, &self.kept, &turn)
     }
 
     /// Hands in a report. The clock was called for it, so it is kept where there is no room for it yet.
     fn hand_in(&mut self, report: Report) -> Turn
         ensures { Turned 0x10000 1 result self.old.past self.new.past }
     {
-        let event = Event::Report {
-            unit: UNIT,
-            report: report.copy(),
-        };
+        let event = Event::Report { unit: UNIT, report };
         match self.enter(&event) {
-            Ok(()) => Turn::Moved,
+            Ok(()) => {
+                forget(&mut self.kept);
+                Turn::Moved
+            }
             Err(fault) => {
-                if let Fault::NoMemory | Fault::WireFull = fault {
-                    self.kept = Some(report);
-                }
+                keep_refused(&mut self.kept, &event, fault);
                 Turn::Refused(fault)
             }
         }

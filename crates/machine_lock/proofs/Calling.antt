@@ -4,12 +4,13 @@ use Rattle.std.specs.Prelude.{is_some}
 use Rattle.chan_model.specs.Reports.{Call}
 use Rattle.chan_model.specs.Reports.{DeviceAnswer}
 use Rattle.chan_events.specs.declared.reply.Entry.{Entry}
-use Rattle.core_parts.specs.declared.turns.OwedCall.{OwedCall}
-use Rattle.core_parts.specs.declared.turns.KeptReport.{KeptReport}
+use Rattle.unit_driver.specs.declared.turns.OwedCall.{OwedCall}
+use Rattle.unit_driver.specs.declared.keeping.KeptReport.{KeptReport}
 use Rattle.channel_config.specs.Setup.{Setup}
-use Rattle.core_parts.specs.Seats.{Seated}
+use Rattle.core_lock.specs.Seats.{Seated}
 use Rattle.machine_lock.specs.Working.{MakesOwed}
-use Rattle.core_lock.specs.Turns.{Calls, Grew, IsAnswered, IsCalled, IsKeptFrom, IsOfWorker, IsOwedBy, WorksUnit, one_call_more, report_of}
+use Rattle.core_lock.specs.Turns.{Calls, Grew, IsAnswered, IsCalled, IsKeptFrom, IsOfWorker, IsOwedBy, WorksUnit, one_call_more}
+use Rattle.unit_driver.specs.Reporting.{report_of}
 
 none_owed : (o : Option OwedCall) → is_some o ≡ false → o ≡ None
 none_owed None is = refl

@@ -4,7 +4,7 @@ use Rattle.chan_model.specs.declared.fault.Fault.{Fault}
 use Rattle.chan_model.specs.Reports.{Call}
 use Rattle.chan_model.specs.Reports.{DeviceAnswer}
 use Rattle.path_select.specs.Choice.{Rule}
-use Rattle.core_parts.specs.Seats.{HeldSeat}
+use Rattle.core_lock.specs.Seats.{HeldSeat}
 use Rattle.core_lock.specs.Turns.{count_in}
 use Rattle.core_lock.specs.Outside.{IsPathTurn}
 use Rattle.machine_lock.specs.Working.{ArePathTurns, AreUnitTurns, IsWholeTurn}

@@ -18,8 +18,8 @@ use chan_model::names::Cpu;
 use core_lock::executing::CpuInstruction;
 use core_lock::guarded::Guarded;
 use core_lock::locked::{Core, Seat};
+use core_lock::naming::Naming;
 use core_lock::stock::SeatStock;
-use core_parts::naming::Naming;
 use path_select::PathChoice;
 use std::sync::{Mutex, Wait};
 

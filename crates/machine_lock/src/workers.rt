@@ -7,9 +7,9 @@ ghost use Rattle.machine_lock.specs.Working.{ArePathTurns, AreUnitTurns, IsWhole
 
 use crate::machine::Machine;
 use chan_model::fault::Fault;
+use core_lock::gate::{Gate, Gated};
 use core_lock::locked::Seat;
-use core_parts::gate::{Gate, Gated};
-use core_parts::naming::Naming;
+use core_lock::naming::Naming;
 use path_select::PathChoice;
 use std::sync::Wait;
 

@@ -7,7 +7,7 @@ use Rattle.chan_model.specs.declared.answer.ConditionCode.{ConditionCode}
 use Rattle.chan_model.specs.declared.answer.ConditionCode.TheVariants.{Zero, One, Two, Three}
 use Rattle.chan_model.specs.declared.fault.Fault.{Fault}
 use Rattle.core_lock.specs.Entering.{entered}
-use Rattle.core_parts.specs.Seats.{Seated, entry}
+use Rattle.core_lock.specs.Seats.{Seated, entry}
 use Rattle.script_rows.specs.declared.race.Race.{Race}
 use Rattle.racing.specs.declared.tally.Tally.{Tally}
 use Rattle.racing.specs.Racing.{tested, code_in, no_tally, counted, tally_after, tally_of, AreTests, IsBelow, HasTested}

@@ -1,6 +1,6 @@
 -- CPUs that race, one after another.
 use Rattle.std.proofs.Common.{◌≡◌, ◌≤◌, ◌<◌, ℕ, ◌+◌, ◌*◌, List, [], ◌∷◌, ◌++◌, length, refl, sym, ap, subst, ◌∙◌, append_assoc, arith}
-use Rattle.core_parts.specs.Seats.{HeldSeat, Locked}
+use Rattle.core_lock.specs.Seats.{HeldSeat, Locked}
 use Rattle.racing.specs.declared.tally.Tally.{Tally}
 use Rattle.racing.specs.Racing.{plus, IsBelow, Runner, AreReady, total_after, seats_of}
 

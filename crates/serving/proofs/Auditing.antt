@@ -2,7 +2,7 @@
 use Rattle.std.proofs.Common.{◌≡◌, ℕ, Bool, List, sym, ap, subst, ◌∙◌}
 use Rattle.std.specs.Prelude.{IsTrue, ◌↔◌, ◌≢◌, IfSome, IfNone, Option, Some, None}
 use Rattle.channel_config.specs.Setup.{Setup}
-use Rattle.core_parts.specs.Seats.{HeldSeat, Locked}
+use Rattle.core_lock.specs.Seats.{HeldSeat, Locked}
 use Rattle.machine_model.specs.Setups.{IsSetUp}
 use Rattle.machine_model.specs.State.{State}
 use Rattle.subsystem.specs.Keeping.{StaysSetUp}

@@ -5,7 +5,7 @@ use Rattle.chan_events.specs.Replies.{Reply}
 use Rattle.chan_model.specs.declared.fault.Fault.{Fault}
 use Rattle.chan_model.specs.declared.fault.Fault.TheVariants as fault
 use Rattle.core_lock.specs.Entering.{IsEntered, MayRefuse, guarded_in}
-use Rattle.core_parts.specs.Seats.{Guarded, HeldSeat, LockedCore}
+use Rattle.core_lock.specs.Seats.{Guarded, HeldSeat, LockedCore}
 use Rattle.machine_model.specs.Ruled.{GoesByRule}
 use Rattle.machine_model.specs.State.{IsAsBefore, State}
 use Rattle.machine_model.specs.Steps.{IsRefused}

@@ -1,7 +1,7 @@
 -- When an audit fails.
 use Rattle.std.proofs.Common.{◌≡◌, ◌≢◌, ℕ, Bool, true, false, List, Option, None, Some, refl, sym, ap, subst, inl, inr, map}
 use Rattle.channel_config.specs.Setup.{Setup}
-use Rattle.core_parts.specs.Seats.{Seated}
+use Rattle.core_lock.specs.Seats.{Seated}
 use Rattle.script.specs.Pieces.{lines_of}
 use Rattle.script.specs.Scripts.{ScriptContents, IsScript}
 use Rattle.script.specs.declared.Line.{Line}

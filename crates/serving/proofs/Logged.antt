@@ -8,7 +8,7 @@ use Rattle.chan_events.specs.Replies.{Reply}
 use Rattle.chan_model.specs.declared.fault.Fault.{Fault}
 use Rattle.chan_model.specs.declared.fault.Fault.TheVariants as fault
 use Rattle.chan_model.specs.Reports.{Report}
-use Rattle.core_parts.specs.Seats.{Seated, entries_by, entry}
+use Rattle.core_lock.specs.Seats.{Seated, entries_by, entry}
 use Rattle.machine_model.specs.State.{IsAsBefore, Past, State}
 use Rattle.scsw_irb.specs.declared.serials.Serials.{Serials}
 use Rattle.script_rows.specs.declared.Action.{Action}

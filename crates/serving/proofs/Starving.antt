@@ -1,23 +1,24 @@
 -- Histories that grow, and what wants where an action is refused for want of memory.
 use Rattle.std.proofs.Common.{◌≡◌, ◌≢◌, ℕ, ◌+◌, ◌≤◌, ◌^◌, Bool, true, false, ◌||◌, List, [], ◌∷◌, ◌++◌, length, Option, None, Some, Result, Ok, Err, refl, sym, ap, ◌∙◌, arith, inl, inr, length-append, true≢false}
-use Rattle.std.specs.Prelude.{◌⊎◌}
+use Rattle.std.specs.Prelude.{◌⊎◌, slice_get}
 use Rattle.chan_events.specs.Events.{Event}
 use Rattle.chan_events.specs.declared.event.Event.TheVariants as event
 use Rattle.chan_events.specs.declared.reply.Entry.{Entry}
 use Rattle.chan_events.specs.Replies.{Reply}
 use Rattle.chan_model.specs.declared.fault.Fault.{Fault}
 use Rattle.chan_model.specs.declared.fault.Fault.TheVariants as fault
-use Rattle.chan_model.specs.Reports.{Report}
-use Rattle.chan_model.specs.Reports.{Work}
-use Rattle.chan_model.specs.declared.report.Work.TheVariants as work
-use Rattle.core_parts.specs.Seats.{entry}
+use Rattle.chan_model.specs.Reports.{DeviceAnswer, Report}
+use Rattle.core_lock.specs.Seats.{entry}
 use Rattle.device_models.specs.declared.any_device.AnyDevice.{AnyDevice}
 use Rattle.machine_model.specs.State.{Past}
 use Rattle.machine_model.specs.UnitTurns.{UnitTurn}
-use Rattle.machine_model.specs.declared.state.UnitTurn.TheVariants.{Takes, Works, Away, Rests}
 use Rattle.script_rows.specs.declared.Action.{Action}
 use Rattle.script_rows.specs.declared.Action.TheVariants as action
-use Rattle.serving.specs.Acting.{ActionOutcome, Enters, Follows, Installed, IsUsedUp, PerformsAction, device_turn_of, is_starved, outcome_of, report_of_work, turn_by}
+use Rattle.serving.specs.Acting.{ActionOutcome, Enters, Follows, Installed, IsUsedUp, PerformsAction, device_turn_of, answer_by, is_starved, outcome_of, report_with, turn_by, turn_by_next}
+use Rattle.unit_driver.specs.Reporting.{AskedCall, next_of}
+use Rattle.unit_driver.specs.declared.keeping.KeptReport.{KeptReport}
+use Rattle.unit_driver.specs.declared.reporting.NextReport.{NextReport}
+use Rattle.unit_driver.specs.declared.reporting.NextReport.TheVariants.{Told, Asked, Nothing}
 use Rattle.serving.specs.declared.installation.Acted.{Acted}
 use Rattle.serving.specs.declared.installation.Acted.TheVariants.{Replied, Looked}
 
@@ -78,20 +79,20 @@ caused-more was short p q false false le earlier given memory e = absurd (true�
 abbrev lacking : Result Report Fault
 lacking = Err fault.NoMemory
 
-work_lacks : (device : Option AnyDevice) (w : Work) → report_of_work device w ≢ lacking
-work_lacks device (work.Report own) is = absurd (cc)
-work_lacks None (work.Call side number command sequence call) is = absurd (cc)
-work_lacks (Some device) (work.Call side number command sequence call) is = absurd (cc)
+with_lacks : (call : AskedCall) (answer : Option DeviceAnswer) → report_with call answer ≢ lacking
+with_lacks call None is = absurd (cc)
+with_lacks call (Some answer) is = absurd (cc)
+
+next_lacks : (devices : List AnyDevice) (place : ℕ) (next : NextReport Report AskedCall) → (turn_by_next devices place next).report ≢ lacking
+next_lacks devices place (Told report) is = absurd (cc)
+next_lacks devices place (Asked asks) is = with_lacks asks (answer_by (slice_get devices place) asks.call) is
+next_lacks devices place Nothing is = absurd (cc)
 
 -- a unit has a report, or not, whatever memory there is
-pub turn_lacks : (devices : List AnyDevice) (place : ℕ) (kept : Option (Option Report)) (turn : Option UnitTurn) → (turn_by devices place kept turn).report ≢ lacking
+pub turn_lacks : (devices : List AnyDevice) (place : ℕ) (kept : Option (Option KeptReport)) (turn : Option UnitTurn) → (turn_by devices place kept turn).report ≢ lacking
 turn_lacks devices place None turn is = absurd (cc)
 turn_lacks devices place (Some kept) None is = absurd (cc)
-turn_lacks devices place (Some (Some report)) (Some turn) is = absurd (cc)
-turn_lacks devices place (Some None) (Some (Takes id path)) is = absurd (cc)
-turn_lacks devices place (Some None) (Some (Away path)) is = absurd (cc)
-turn_lacks devices place (Some None) (Some Rests) is = absurd (cc)
-turn_lacks devices place (Some None) (Some (Works w)) is = work_lacks _ w is
+turn_lacks devices place (Some kept) (Some turn) is = next_lacks devices place (next_of kept turn) is
 
 -- an action whose outcome is so is refused so
 pub starved_by : (r : Result Acted Fault) (h : List Entry) → is_starved (outcome_of r h) ≡ true → r ≡ Err fault.NoMemory
@@ -123,5 +124,5 @@ abbrev no_report : Fault → Result Report Fault
 no_report f = Err f
 
 -- where a unit has no report, its turn is not refused for want of memory
-pub turn_has_memory : (devices : List AnyDevice) (place : ℕ) (kept : Option (Option Report)) (turn : Option UnitTurn) (f : Fault) → (turn_by devices place kept turn).report ≡ no_report f → refusal f ≢ refusal fault.NoMemory
+pub turn_has_memory : (devices : List AnyDevice) (place : ℕ) (kept : Option (Option KeptReport)) (turn : Option UnitTurn) (f : Fault) → (turn_by devices place kept turn).report ≡ no_report f → refusal f ≢ refusal fault.NoMemory
 turn_has_memory devices place kept turn f is same = turn_lacks devices place kept turn (is ∙ ap no_report (ap fault_in same))

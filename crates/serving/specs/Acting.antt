@@ -4,17 +4,14 @@ use Rattle.chan_events.specs.Events.{Event}
 use Rattle.chan_events.specs.declared.event.Event.TheVariants as event
 use Rattle.chan_model.specs.declared.fault.Fault.{Fault}
 use Rattle.chan_model.specs.declared.fault.Fault.TheVariants as fault
-use Rattle.chan_model.specs.declared.names.Side.{Side}
 use Rattle.chan_events.specs.declared.reply.Entry.{Entry}
 use Rattle.chan_events.specs.Replies.{Reply}
 use Rattle.chan_model.specs.Reports.{Call}
 use Rattle.chan_model.specs.Reports.{DeviceAnswer}
 use Rattle.chan_model.specs.Reports.{Report}
-use Rattle.chan_model.specs.Reports.{Work}
-use Rattle.chan_model.specs.declared.report.Work.TheVariants as work
 use Rattle.channel_config.specs.Setup.{Setup}
 use Rattle.core_lock.specs.Entering.{Looks, entered}
-use Rattle.core_parts.specs.Seats.{Locked, LockedCore, HeldSeat, Seated, entries_by}
+use Rattle.core_lock.specs.Seats.{Locked, LockedCore, HeldSeat, Seated, entries_by}
 use Rattle.device_models.specs.AnyDevices.{device_of, device_opening, answer_of, after}
 use Rattle.device_models.specs.declared.any_device.AnyDevice.{AnyDevice}
 use Rattle.machine_model.specs.Ruled.{GoesByRule}
@@ -22,7 +19,6 @@ use Rattle.path_select.specs.Choice.{TakesNext}
 use Rattle.machine_model.specs.State.{Past, State, IsAsBefore, IsSpent, opening_of, unit_turn_of, sub_of, serials_in}
 use Rattle.machine_model.specs.Steps.{Step, IsRefused}
 use Rattle.machine_model.specs.UnitTurns.{UnitTurn}
-use Rattle.machine_model.specs.declared.state.UnitTurn.TheVariants.{Takes, Works, Away, Rests}
 use Rattle.scsw_irb.specs.declared.serials.Serials.{Serials}
 use Rattle.script_rows.specs.declared.Action.{Action}
 use Rattle.script_rows.specs.declared.Action.TheVariants as action
@@ -31,6 +27,11 @@ use Rattle.script_text.specs.declared.ActionResult.TheVariants as told
 use Rattle.script_text.specs.Text.{told_of}
 use Rattle.racing.specs.Racing.{IsNewSeat}
 use Rattle.event_log.specs.Logs.{last_reply}
+use Rattle.unit_driver.specs.Keeping.{kept_by}
+use Rattle.unit_driver.specs.Reporting.{AskedCall, answered, next_of}
+use Rattle.unit_driver.specs.declared.keeping.KeptReport.{KeptReport}
+use Rattle.unit_driver.specs.declared.reporting.NextReport.{NextReport}
+use Rattle.unit_driver.specs.declared.reporting.NextReport.TheVariants.{Told, Asked, Nothing}
 use Rattle.serving.specs.declared.installation.Acted.{Acted}
 use Rattle.serving.specs.declared.installation.Acted.TheVariants.{Replied, Looked}
 
@@ -49,7 +50,7 @@ pub record Installed : Type 0 where
   pub past : Past
   pub books : Books
   pub devices : List AnyDevice
-  pub kept : List (Option Report)
+  pub kept : List (Option KeptReport)
 
 -- a machine that no lock guards and its one seat, as a past and its books
 abbrev pub past_of : LockedCore → HeldSeat → Past
@@ -127,32 +128,28 @@ abbrev pub called : List AnyDevice → ℕ → Option AnyDevice → Call → Lis
 called devices place None call = devices
 called devices place (Some device) call = slice_set devices place (after device call)
 
--- the report of a work, its own or one with what the device answered; and the devices after it
-abbrev pub report_with : Side → ℕ → ℕ → ℕ → Option DeviceAnswer → Result Report Fault
-report_with side number command sequence None = Err fault.NoSuchUnit
-report_with side number command sequence (Some answer) =
-    Ok (record { side = side; number = number; command = command; sequence = sequence; answer = answer })
+-- the report with what the device answers to the call that is asked; and the devices after it
+abbrev pub report_with : AskedCall → Option DeviceAnswer → Result Report Fault
+report_with call None = Err fault.NoSuchUnit
+report_with call (Some answer) = Ok (answered call answer)
 
-abbrev pub report_of_work : Option AnyDevice → Work → Result Report Fault
-report_of_work device (work.Report own) = Ok own
-report_of_work device (work.Call side number command sequence call) = report_with side number command sequence (answer_by device call)
+abbrev pub asked : List AnyDevice → ℕ → AskedCall → DeviceTurn
+asked devices place asks = record {
+  report = report_with asks (answer_by (slice_get devices place) asks.call);
+  devices = called devices place (slice_get devices place) asks.call;
+}
 
-abbrev pub devices_after : List AnyDevice → ℕ → Work → List AnyDevice
-devices_after devices place (work.Report own) = devices
-devices_after devices place (work.Call side number command sequence call) = called devices place (slice_get devices place) call
-
-abbrev pub worked : List AnyDevice → ℕ → Work → DeviceTurn
-worked devices place w = record { report = report_of_work (slice_get devices place) w; devices = devices_after devices place w }
+-- the report that a unit hands in next: one that is there, or one with what its device answers
+abbrev pub turn_by_next : List AnyDevice → ℕ → NextReport Report AskedCall → DeviceTurn
+turn_by_next devices place (Told report) = hands devices report
+turn_by_next devices place (Asked asks) = asked devices place asks
+turn_by_next devices place Nothing = turn_refused devices fault.NotNow
 
 -- the report that is kept for a unit, else the one of its work
-abbrev pub turn_by : List AnyDevice → ℕ → Option (Option Report) → Option UnitTurn → DeviceTurn
+abbrev pub turn_by : List AnyDevice → ℕ → Option (Option KeptReport) → Option UnitTurn → DeviceTurn
 turn_by devices place None turn = turn_refused devices fault.NoSuchUnit
 turn_by devices place (Some kept) None = turn_refused devices fault.NoSuchUnit
-turn_by devices place (Some (Some report)) (Some turn) = hands devices report
-turn_by devices place (Some None) (Some (Takes id path)) = turn_refused devices fault.NotNow
-turn_by devices place (Some None) (Some (Away path)) = turn_refused devices fault.NotNow
-turn_by devices place (Some None) (Some Rests) = turn_refused devices fault.NotNow
-turn_by devices place (Some None) (Some (Works w)) = worked devices place w
+turn_by devices place (Some kept) (Some turn) = turn_by_next devices place (next_of kept turn)
 
 abbrev pub device_turn_of : Installed → ℕ → DeviceTurn
 device_turn_of old place = turn_by old.devices place (slice_get old.kept place) (unit_turn_of old.past.state place)
@@ -172,21 +169,15 @@ IsWritten place (Ok done) e r = (report : Report) × (e ≡ event.Report place r
 IsWritten place (Err f) e r = r ≡ Err f
 
 -- a report is kept where it was refused for want of memory or of room on a wire, and only there
-abbrev pub kept_of_fault : Report → Fault → Option Report
-kept_of_fault report fault.NoMemory = Some report
-kept_of_fault report fault.WireFull = Some report
-kept_of_fault report f = None
-
-abbrev pub kept_after : Report → Result Reply Fault → Option Report
-kept_after report (Ok r) = None
-kept_after report (Err f) = kept_of_fault report f
+abbrev pub report_at : ℕ → Report → KeptReport
+report_at place report = record { «unit» = place; report = report }
 
 abbrev pub HandsIn : Installed → ℕ → Report → Result Reply Fault → Installed → Type 0
 HandsIn old place report r new =
     Enters old.past (event.Report place report) r new.past
     × (new.books ≡ booked old.books (event.Report place report) r)
     × (new.devices ≡ old.devices)
-    × (new.kept ≡ slice_set old.kept place (kept_after report r))
+    × (new.kept ≡ slice_set old.kept place (kept_by (report_at place report) r))
 
 -- a turn of the device of a unit: its report is handed in, or it has none and nothing changes
 abbrev pub Follows : Installed → ℕ → Result Report Fault → Result Reply Fault → Installed → Type 0

@@ -1,6 +1,6 @@
 -- A race at a machine, and what is told of it.
 use Rattle.std.specs.Prelude.{◌≡◌, ◌+◌, Bool, IsTrue, ◌↔◌, List, ◌∷◌, length, sum_by}
-use Rattle.core_parts.specs.Seats.{HeldSeat, Locked}
+use Rattle.core_lock.specs.Seats.{HeldSeat, Locked}
 use Rattle.machine_model.specs.Steps.{HasRun}
 use Rattle.subsystem.specs.Headline.{HasHeld}
 use Rattle.subsystem.specs.Keeping.{StaysSetUp}

@@ -13,8 +13,8 @@ ghost use Rattle.serving.specs.Acting.{books_of, past_of, PerformsAction, Happen
 ghost use Rattle.machine_model.specs.State.{opening_of, sub_of, serials_in, unit_turn_of};
 ghost use Rattle.event_log.specs.Logs.{last_reply};
 ghost use Rattle.subsystem.specs.Keeping.{all_serials, answer_of};
-ghost use Rattle.core_parts.specs.Directory.{directory_of};
-ghost use Rattle.core_parts.specs.Seats.{entries_by};
+ghost use Rattle.core_lock.specs.Directory.{directory_of};
+ghost use Rattle.core_lock.specs.Seats.{entries_by};
 ghost use Rattle.device_models.specs.declared.any_device.AnyDevice.{AnyDevice};
 ghost use Rattle.chan_model.specs.Reports as report_spec;
 ghost use Rattle.chan_events.specs.Events.{event_in, event_length};
@@ -22,16 +22,16 @@ ghost use Rattle.script_rows.specs.Places.{action_in, action_length};
 ghost use Rattle.chan_events.specs.declared.event.Event.TheVariants as event_spec;
 
 use crate::opening::{opening_seats, opening_units};
-use crate::places::{Places, no_report, write_choose, write_down, write_execute, write_up};
-use crate::reports::{forget, keep, reported_by};
+use crate::places::{Places, write_choose, write_down, write_execute, write_up};
+use crate::reports::reported_by;
 use chan_events::event::{Event, KeptEvent};
 use chan_model::fault::Fault;
 use chan_model::report::Report;
 use channel_config::config::Config;
 use core_lock::locked::{Core, Seat, audit};
+use core_lock::naming::Naming;
 use core_lock::parts::Parts;
-use core_parts::naming::Naming;
-use core_parts::supplies::CoreSupply;
+use core_lock::supplies::CoreSupply;
 use device_law::Device;
 use device_models::any_device::AnyDevice;
 use event_log::history::LentReply;
@@ -47,6 +47,8 @@ use std::sync::Wait;
 use std::thread::Threads;
 use subsystem::subsystem::Subsystem;
 use supply::Supply;
+use unit_driver::keeping::{KeptReport, forget, keep_refused};
+use unit_driver::reporting::no_report;
 
 /// A channel subsystem that no lock guards, with the seat from which its events are entered, a device for each unit, and by
 /// unit the report that is still to be handed in: one for which there was no memory or no room on a wire.
@@ -55,7 +57,7 @@ pub struct Installation<J: Naming> {
     core: Core<J, Rotating>,
     seat: Seat<J>,
     devices: Vec<AnyDevice>,
-    kept: Vec<Option<Report>>,
+    kept: Vec<Option<KeptReport>>,
 }
 
 /// What an action came to that was not refused.
@@ -340,8 +342,8 @@ impl<J: Naming> Installation<J> {
         let answer = enter_from(&mut self.core, &mut self.seat, supply, event);
         if let Some(kept) = self.kept.get_mut(unit as usize) {
             match answer {
-                Err(Fault::NoMemory | Fault::WireFull) => keep(kept, event),
-                _ => forget(kept),
+                Ok(()) => forget(kept),
+                Err(fault) => keep_refused(kept, event, fault),
             }
         }
         answer
@@ -352,7 +354,7 @@ impl<J: Naming> Installation<J> {
 fn report_among<J: Naming>(
     core: &Core<J, Rotating>,
     devices: &mut Vec<AnyDevice>,
-    kept: &[Option<Report>],
+    kept: &[Option<KeptReport>],
     unit: u32,
     report: &mut Report,
 ) -> Result<(), Fault>

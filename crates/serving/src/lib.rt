@@ -17,7 +17,7 @@ pub mod places;
 mod reports;
 mod running;
 
-use core_parts::supplies::CoreSupply;
+use core_lock::supplies::CoreSupply;
 use script::{Script, ScriptBad};
 use script_rows::words::LineRule;
 use script_text::put_bad_line;

@@ -6,22 +6,22 @@ ghost use Rattle.serving.specs.Acting.{IsOpeningSeat, books_of, past_of};
 ghost use Rattle.racing.specs.Racing.{AreMade, IsNewSeat, IsSeatedIn};
 ghost use Rattle.machine_model.specs.State.{opening_of};
 ghost use Rattle.subsystem.specs.Keeping.{all_serials};
-ghost use Rattle.core_parts.specs.Directory.{directory_of};
+ghost use Rattle.core_lock.specs.Directory.{directory_of};
 ghost use Rattle.device_models.specs.AnyDevices.{device_of};
 
-use chan_model::report::Report;
 use channel_config::config::Config;
 use channel_config::parts::UnitKind;
 use core_lock::locked::{Core, Seat};
+use core_lock::naming::Naming;
 use core_lock::parts::Parts;
-use core_parts::naming::Naming;
-use core_parts::supplies::CoreSupply;
+use core_lock::supplies::CoreSupply;
 use device_models::any_device::AnyDevice;
 use path_select::Rotating;
 use racing::racers::{Racers, one_seat};
 use std::alloc::{AllocError, Global};
 use subsystem::subsystem::Subsystem;
 use supply::{Supply, push};
+use unit_driver::keeping::KeptReport;
 
 /// A core at the opening of a configuration, of which no seat was made.
 fn opening_core<J: Naming, S: CoreSupply>(
@@ -98,7 +98,7 @@ fn no_reports<S: Supply>(
     alloc: Global,
     supply: &mut S,
     count: usize,
-) -> Result<Vec<Option<Report>>, AllocError>
+) -> Result<Vec<Option<KeptReport>>, AllocError>
     ensures none { IfOk result (λ kept. kept.items ≡ replicate count None) }
     ensures given { OnOk result (S.refused supply.new ≡ S.refused supply.old) }
     ensures memory { OnErr result (S.refused supply.new ≡ true) }
@@ -115,7 +115,7 @@ pub(crate) fn opening_units<S: Supply>(
     alloc: Global,
     supply: &mut S,
     kinds: &[UnitKind],
-) -> Result<(Vec<AnyDevice>, Vec<Option<Report>>), AllocError>
+) -> Result<(Vec<AnyDevice>, Vec<Option<KeptReport>>), AllocError>
     ensures devices { IfOk result (λ both. both.0.items ≡ map device_of kinds.now) }
     ensures kept { IfOk result (λ both. both.1.items ≡ replicate (length kinds.now) None) }
     ensures given { OnOk result (S.refused supply.new ≡ S.refused supply.old) }

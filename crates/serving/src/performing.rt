@@ -13,7 +13,7 @@ use crate::installation::{Acted, Installation};
 use crate::places::Places;
 use chan_events::reply::Reply;
 use chan_model::fault::Fault;
-use core_parts::naming::Naming;
+use core_lock::naming::Naming;
 use script::lines::{LentLine, Lines};
 use script_text::held::Held;
 use script_text::{ActionResult, put_event_line_at_once, put_reply_line_at_once};

@@ -4,9 +4,9 @@ ghost use Rattle.std.specs.Prelude.{◌≡◌, ◌≤◌, length};
 ghost use Rattle.chan_events.specs.declared.event.Event.TheVariants as event_spec;
 
 use chan_events::event::{Event, Instruction};
-use chan_model::names::{Cpu, Side};
-use chan_model::report::{DeviceAnswer, Report};
+use chan_model::names::Cpu;
 use script_text::held::Held;
+use unit_driver::reporting::no_report;
 
 /// Places for the events of lines, by what is common among them, one for the event of a report, and one for the line that is
 /// written. An event that is of the kind that stood in its place moves no more than its numbers.
@@ -36,17 +36,6 @@ impl Places {
             },
             held: Held::new(),
         }
-    }
-}
-
-/// A report that no one made.
-pub(crate) fn no_report() -> Report {
-    Report {
-        side: Side::First,
-        number: 0,
-        command: 0,
-        sequence: 0,
-        answer: DeviceAnswer::Begins,
     }
 }
 

@@ -6,10 +6,10 @@ ghost use Rattle.subsystem.specs.Keeping.{answer_of};
 ghost use Rattle.core_lock.specs.Entering.{IsEntered, guarded_in};
 
 use super::{Core, Seat};
+use crate::naming::Naming;
 use chan_events::event::Event;
 use chan_events::reply::Reply;
 use chan_model::fault::Fault;
-use core_parts::naming::Naming;
 use path_select::PathChoice;
 use supply::{Given, Supply};
 

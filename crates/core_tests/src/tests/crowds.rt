@@ -7,7 +7,7 @@ use chan_events::event::{Event, Instruction, OtherInstruction, UnitAct};
 use chan_model::names::{Cpu, Side};
 use core_lock::executing::CpuInstruction;
 use core_lock::locked::Seat;
-use core_parts::naming::Naming;
+use core_lock::naming::Naming;
 
 /// How many subchannels a CPU has.
 pub const EACH: u32 = 4;

@@ -5,9 +5,9 @@ use crate::tests::machines::{accepts, accepts_all, enable, loads, ssch, word_of}
 use crate::tests::stories::{Story, goes};
 use chan_events::event::Event;
 use chan_model::names::Cpu;
+use core_lock::gate::Gate;
 use core_lock::locked::{Core, Seat};
-use core_parts::gate::Gate;
-use core_parts::naming::Naming;
+use core_lock::naming::Naming;
 use crossbeam_utils::Backoff;
 use machine_lock::machine::Machine;
 use path_select::Rotating;

@@ -4,9 +4,9 @@ ghost use Rattle.std.specs.Prelude.{◌≡◌, None};
 
 use chan_model::names::Cpu;
 use channel_config::parts::UnitKind;
+use core_lock::gate::Gate;
 use core_lock::locked::{Core, Seat};
-use core_parts::gate::Gate;
-use core_parts::naming::Naming;
+use core_lock::naming::Naming;
 use device_models::any_device::AnyDevice;
 use machine_lock::machine::Machine;
 use path_select::Rotating;

@@ -6,7 +6,7 @@ use chan_model::names::Cpu;
 use channel_config::config::Config;
 use channel_config::parts::UnitKind;
 use core_lock::locked::{Core, Seat};
-use core_parts::naming::Naming;
+use core_lock::naming::Naming;
 use path_select::Rotating;
 use std::alloc::Global;
 

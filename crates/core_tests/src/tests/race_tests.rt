@@ -3,14 +3,14 @@
 ghost use Rattle.std.specs.Prelude.{◌≡◌};
 ghost use Rattle.machine_model.specs.State.{opening_of};
 ghost use Rattle.subsystem.specs.Keeping.{all_serials};
-ghost use Rattle.core_parts.specs.Directory.{directory_of};
+ghost use Rattle.core_lock.specs.Directory.{directory_of};
 
 use crate::tests::machines::{WORD, config_of};
 use chan_events::event::Event;
 use channel_config::config::Config;
 use core_lock::locked::Core;
+use core_lock::naming::Naming;
 use core_lock::parts::Parts;
-use core_parts::naming::Naming;
 use event_log::history::History;
 use path_select::Rotating;
 use racing::racers::{Racers, one_seat};

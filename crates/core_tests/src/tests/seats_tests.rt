@@ -11,7 +11,7 @@ use chan_model::answer::Answer;
 use chan_model::fault::Fault;
 use chan_model::names::Cpu;
 use core_lock::locked::{Core, MOST_SEATS, Seat};
-use core_parts::naming::Naming;
+use core_lock::naming::Naming;
 use path_select::Rotating;
 
 /// Makes a status and clears it from one seat.

@@ -4,7 +4,7 @@ ghost use Rattle.std.specs.Prelude.{◌≡◌, []};
 ghost use Rattle.machine_model.specs.Setups.{IsSetUp};
 ghost use Rattle.machine_model.specs.State.{opening_of};
 ghost use Rattle.subsystem.specs.Keeping.{all_serials};
-ghost use Rattle.core_parts.specs.Directory.{directory_of};
+ghost use Rattle.core_lock.specs.Directory.{directory_of};
 
 use crate::tests::crowd_tests::{answered, are_enough, begins_crowd, crowds, has_been_disturbed};
 use crate::tests::draws::config;
@@ -21,8 +21,8 @@ use crate::tests::storm_tests::{are_all, has_stormed, storms};
 use crate::tests::workers_tests::{begins_work, has_roamed, roams};
 use channel_config::config::Config;
 use core_lock::locked::{Core, NotMade, Seat, audit};
+use core_lock::naming::Naming;
 use core_lock::parts::Parts;
-use core_parts::naming::Naming;
 use machine_lock::machine::Machine;
 use path_select::Rotating;
 use std::alloc::Global;

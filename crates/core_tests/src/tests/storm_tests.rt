@@ -8,14 +8,12 @@ use chan_events::event::{Event, Instruction, OtherInstruction, UnitAct};
 use chan_events::reply::{Entry, Reply};
 use chan_model::answer::Answer;
 use chan_model::names::Cpu;
-use chan_model::report::Report;
 use core_lock::locked::{Core, Seat};
-use core_parts::gate::{Gate, Gated, Open};
-use core_parts::naming::Naming;
-use core_parts::turns::{OwedCall, Turn, turn_of};
+use core_lock::naming::Naming;
 use device_models::any_device::AnyDevice;
 use event_log::history::History;
 use path_select::Rotating;
+use unit_driver::turns::{Turn, turn_by};
 
 /// How many events are accepted.
 const EVENTS: u64 = 1_000_000;
@@ -43,36 +41,12 @@ fn devices() -> Devices {
     ]
 }
 
-/// The report of a call that is owed: what the device answers.
-fn report_of(owed: OwedCall, device: &mut AnyDevice) -> Event {
-    let OwedCall {
-        unit,
-        side,
-        number,
-        command,
-        sequence,
-        call,
-    } = owed;
-    Open.pass(unit, 1);
-    let answer = device.call_through(&Open, unit, 1, &call);
-    Event::Report {
-        unit,
-        report: Report {
-            side,
-            number,
-            command,
-            sequence,
-            answer,
-        },
-    }
-}
-
 /// The next event of a unit, if there is one.
 fn at_unit<J: Naming>(core: &Core<J, Rotating>, devices: &mut Devices, unit: u32) -> Option<Event> {
     let device = devices.get_mut(unit as usize)?;
-    match turn_of(core.subsystem(), None, unit, false) {
+    match turn_by(false, None, unit, core.subsystem().unit_turn(unit)) {
         Turn::Enters(event) => Some(event),
-        Turn::Owes(owed) => Some(report_of(owed, device)),
+        Turn::Owes(owed) => Some(owed.make(device).event()),
         Turn::Leaves(_) | Turn::Rests => None,
     }
 }

@@ -1,5 +1,5 @@
 use Rattle.std.proofs.Common.{length, sym, ap, ◌∙◌}
-use Rattle.core_parts.specs.Named.{MachineName, MachineParts}
+use Rattle.core_lock.specs.Named.{MachineName, MachineParts}
 use Rattle.core_lock.proofs.Directories.{directory_is}
 use Rattle.core_lock.proofs.guarded.open.Goals as goal
 

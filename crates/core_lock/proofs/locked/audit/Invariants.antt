@@ -1,5 +1,5 @@
 use Rattle.std.proofs.Common.{◌≡◌, ◌<◌, ℕ, get_or}
-use Rattle.core_parts.specs.Seats.{HeldSeat, entries_by}
+use Rattle.core_lock.specs.Seats.{HeldSeat, entries_by}
 use Rattle.core_lock.proofs.locked.audit.Given as goal
 
 abbrev pub invariant-loop-seat : goal.invariant-loop-seat

@@ -1,5 +1,5 @@
 use Rattle.std.proofs.Common.{◌≡◌, ◌+◌, length, vec_len, sum_by}
-use Rattle.core_parts.specs.Seats.{HeldSeat}
+use Rattle.core_lock.specs.Seats.{HeldSeat}
 use Rattle.core_lock.proofs.locked.settle.Given as goal
 
 abbrev pub invariant-loop-seat : goal.invariant-loop-seat

@@ -1,5 +1,5 @@
 use Rattle.std.proofs.Common.{◌∷◌, ◌++◌, [], rules, ap, ◌∙◌, vec_len}
-use Rattle.core_parts.specs.Seats.{HeldSeat}
+use Rattle.core_lock.specs.Seats.{HeldSeat}
 use Rattle.racing.specs.declared.tally.Tally.{Tally}
 use Rattle.racing.specs.Racing.{plus, seats_of, total_of}
 use Rattle.racing.proofs.Gathering.{codes_added, entries_added, seats_taken, total_taken}

@@ -1,6 +1,6 @@
 use Rattle.std.proofs.Common.{sym, ap, ◌∙◌}
-use Rattle.core_parts.specs.Directory.{directory_of}
-use Rattle.core_parts.specs.Seats.{GuardedCore}
+use Rattle.core_lock.specs.Directory.{directory_of}
+use Rattle.core_lock.specs.Seats.{GuardedCore}
 use Rattle.core_lock.proofs.Directories.{is_named}
 use Rattle.core_lock.proofs.guarded.Guarded.first_look.Goals as goal
 

@@ -4,11 +4,11 @@ use Rattle.std.specs.Arc.{arc_value}
 use Rattle.std.proofs.lemmas.List.{length-set}
 use Rattle.std.proofs.lemmas.Option.{slice_get_read}
 use Rattle.subsystem.specs.Keeping.{IsOrdered}
-use Rattle.core_parts.specs.Directory.{Directory, place_named}
+use Rattle.core_lock.specs.Directory.{Directory, place_named}
 use Rattle.scsw_irb.specs.declared.serials.Serials.{Serials}
-use Rattle.core_parts.specs.Seats.{GuardedCore, HeldSeat, Seated}
+use Rattle.core_lock.specs.Seats.{GuardedCore, HeldSeat, Seated}
 use Rattle.core_lock.specs.Entering.{Looks}
-use Rattle.core_parts.proofs.Rewriting.{same_cells}
+use Rattle.core_lock.proofs.Rewriting.{same_cells}
 use Rattle.core_lock.proofs.Directories.{is_named}
 use Rattle.core_lock.proofs.Looks.{looks, lacks, same_count}
 use Rattle.core_lock.proofs.Looks as look

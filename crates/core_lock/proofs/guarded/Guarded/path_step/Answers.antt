@@ -1,6 +1,6 @@
 use Rattle.std.proofs.Common.{Option, ap, ◌∙◌, subst}
 use Rattle.chan_events.specs.Events.{Event}
-use Rattle.core_parts.specs.Seats.{GuardedCore, HeldSeat}
+use Rattle.core_lock.specs.Seats.{GuardedCore, HeldSeat}
 use Rattle.core_lock.specs.Turns.{TakesPathTurn, turn_of_path, turned_seat}
 use Rattle.core_lock.proofs.Growing.{path_turns, path_works}
 use Rattle.core_lock.proofs.guarded.Guarded.path_step.Goals as goal

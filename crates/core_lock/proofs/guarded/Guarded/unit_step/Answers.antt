@@ -1,5 +1,5 @@
 use Rattle.std.proofs.Common.{subst}
-use Rattle.core_parts.specs.Seats.{GuardedCore, HeldSeat}
+use Rattle.core_lock.specs.Seats.{GuardedCore, HeldSeat}
 use Rattle.core_lock.specs.Turns.{TakesUnitTurn, turned_seat}
 use Rattle.core_lock.proofs.Growing.{unit_works, unit_owed, unit_turns}
 use Rattle.core_lock.proofs.guarded.Guarded.unit_step.Goals as goal

@@ -1,6 +1,6 @@
 use Rattle.std.proofs.Common.{ap, ◌∙◌}
-use Rattle.core_parts.specs.Directory.{Directory, directory_of, place_named}
-use Rattle.core_parts.specs.Seats.{LockedCore}
+use Rattle.core_lock.specs.Directory.{Directory, directory_of, place_named}
+use Rattle.core_lock.specs.Seats.{LockedCore}
 use Rattle.core_lock.proofs.Directories.{place_is}
 use Rattle.core_lock.proofs.locked.Core.seat_with.Goals as goal
 

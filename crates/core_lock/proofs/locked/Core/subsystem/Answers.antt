@@ -2,7 +2,7 @@ use Rattle.std.proofs.Common.{subst}
 use Rattle.machine_laws.specs.Agreeing.{AllAgree}
 use Rattle.machine_model.specs.Setups.{IsSetUp}
 use Rattle.subsystem.specs.Headline.{HasHeld}
-use Rattle.core_parts.specs.Seats.{LockedCore}
+use Rattle.core_lock.specs.Seats.{LockedCore}
 use Rattle.core_lock.proofs.locked.Core.subsystem.Goals as goal
 
 pub returns-clause-set_up : goal.returns-clause-set_up

@@ -1,5 +1,5 @@
 use Rattle.std.proofs.Common.{◌∷◌, ◌++◌, [], List, subst, ap, ◌∙◌}
-use Rattle.core_parts.specs.Seats.{HeldSeat}
+use Rattle.core_lock.specs.Seats.{HeldSeat}
 use Rattle.racing.specs.Racing.{HaveRaced, Runner, seats_of}
 use Rattle.racing.proofs.racers.Racers.race.Goals as goal
 

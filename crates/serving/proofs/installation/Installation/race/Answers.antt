@@ -1,5 +1,5 @@
 use Rattle.std.proofs.Common.{◌+◌, ◌∷◌, ℕ, List, length, ap, subst, ◌∙◌}
-use Rattle.core_parts.specs.Seats.{HeldSeat}
+use Rattle.core_lock.specs.Seats.{HeldSeat}
 use Rattle.serving.specs.Racing.{HasAll}
 use Rattle.serving.specs.Acting.{Installed}
 use Rattle.racing.specs.declared.tally.Tally.{Tally}

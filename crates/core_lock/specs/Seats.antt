@@ -1,0 +1,93 @@
+-- What contracts see of a locked machine and of its seats (own).
+use Rattle.std.specs.Prelude.{ℕ, ◌==◌, max, List, [], ◌∷◌, Option, None, Some, slice_index_or, slice_set, if◌then◌else◌}
+use Rattle.scsw_irb.specs.declared.serials.Serials.{Serials}
+use Rattle.chan_events.specs.Events.{Event}
+use Rattle.chan_events.specs.declared.event.Event.TheVariants as event
+use Rattle.chan_events.specs.declared.event.Instruction.TheVariants as instruction
+use Rattle.chan_events.specs.declared.reply.Entry.{Entry}
+use Rattle.chan_events.specs.Replies.{Reply}
+use Rattle.channel_config.specs.Setup.{Setup}
+use Rattle.machine_laws.specs.Codes.{answer_in}
+use Rattle.subsystem.specs.Keeping.{serials_brought}
+use Rattle.glance_cell.specs.Shown.{Words}
+use Rattle.machine_model.specs.State.{State}
+use Rattle.unit_driver.specs.declared.turns.OwedCall.{OwedCall}
+use Rattle.unit_driver.specs.declared.keeping.KeptReport.{KeptReport}
+use Rattle.unit_driver.specs.declared.turns.TakenCommand.{TakenCommand}
+use Rattle.core_lock.specs.Directory.{Directory, place_named}
+use Rattle.core_lock.specs.Named.{serials}
+
+-- a machine under its lock: its state and the history that led there, the seat of each entry of it, and how many seats were made
+pub record Locked : Type 0 where
+  pub state : State
+  pub history : List Entry
+  pub by : List ℕ
+  pub seats : ℕ
+
+-- what the lock of a machine guards: its state and the history that led there, and the seat of each entry of it
+pub record Guarded : Type 0 where
+  pub state : State
+  pub history : List Entry
+  pub by : List ℕ
+
+-- a seat: its number, and what it entered; how its machine is set up, the subchannels of it, what it saw of the counts of each, and what
+-- its readers loaded last; how many turns it made and calls it began, the call that it owes, the report that it keeps, and the command after
+-- which its unit left its path
+pub record Seated : Type 0 where
+  pub number : ℕ
+  pub log : List Entry
+  pub setup : Setup
+  pub directory : Directory
+  pub pairs : List Serials
+  pub loaded : List Words
+  pub turns : ℕ
+  pub calls : ℕ
+  pub owed : Option OwedCall
+  pub kept : Option KeptReport
+  pub left : Option TakenCommand
+
+-- a machine under its lock, and for how many more entries there is room, in its history and beside it
+pub record LockedCore : Type 0 where
+  pub value : Locked
+  pub room : ℕ
+
+-- what the lock guards, and for how many more entries there is room
+pub record GuardedCore : Type 0 where
+  pub value : Guarded
+  pub room : ℕ
+
+-- a seat, for how many more entries its log has room, and how often an event was refused it for want of memory
+pub record HeldSeat : Type 0 where
+  pub value : Seated
+  pub room : ℕ
+  pub starved : ℕ
+
+abbrev pub entry : Event → Reply → Entry
+entry e r = record { event = e; reply = r }
+
+-- the entries of a history that were entered by the seat of this number, in order
+abbrev pub entries_by : ℕ → List ℕ → List Entry → List Entry
+entries_by number [] history = []
+entries_by number (n ∷ by) [] = []
+entries_by number (n ∷ by) (e ∷ history) = if n == number then e ∷ entries_by number by history else entries_by number by history
+
+-- part by part the greater
+abbrev pub greater : Serials → Serials → Serials
+greater one other = serials (max one.made other.made) (max one.cleared other.cleared)
+
+-- the pair of a place, raised to these counts
+abbrev pub raised_at : List Serials → Option ℕ → Serials → List Serials
+raised_at pairs None found = pairs
+raised_at pairs (Some place) found = slice_set pairs place (greater (slice_index_or pairs place found) found)
+
+abbrev pub raised_by : List Serials → Option ℕ → Option Serials → List Serials
+raised_by pairs place None = pairs
+raised_by pairs place (Some found) = raised_at pairs place found
+
+-- TEST SUBCHANNEL with code 0 or 1 ends by raising the pair of its subchannel to the counts that it answers
+abbrev pub raised_among : List Serials → Directory → Event → Reply → List Serials
+raised_among pairs directory (event.Execute cpu (instruction.Tsch word address)) r = raised_by pairs (place_named directory word) (serials_brought (answer_in r))
+raised_among pairs directory e r = pairs
+
+abbrev pub raised : Seated → Event → Reply → List Serials
+raised seat e r = raised_among seat.pairs seat.directory e r

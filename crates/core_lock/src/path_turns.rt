@@ -1,0 +1,41 @@
+//! What a turn of a channel path's worker is for.
+
+ghost use Rattle.std.specs.Prelude.{◌≡◌, slice_get};
+ghost use Rattle.core_lock.specs.PathTurns as spec;
+
+use crate::directory::Directory;
+use chan_events::event::Event;
+use path_select::PathChoice;
+use subsystem::subsystem::Subsystem;
+use unit_driver::turns::word_of;
+
+/// What a turn of a channel path's worker is for: the first event that there is for a subchannel.
+pub(crate) fn path_turn_of<P: PathChoice + Drop>(
+    subsystem: &Subsystem<P>,
+    directory: &Directory,
+    chpid: u8,
+) -> Option<Event>
+    ensures { result ≡ spec.path_turn_among subsystem.now.state chpid directory.now.setups }
+{
+    for place in 0..directory.count() {
+        if let Some(turn) = path_turn_at(subsystem, directory, place, chpid) {
+            return Some(turn);
+        }
+    }
+    None
+}
+
+/// The event that there is for the subchannel of a place.
+fn path_turn_at<P: PathChoice + Drop>(
+    subsystem: &Subsystem<P>,
+    directory: &Directory,
+    place: usize,
+    chpid: u8,
+) -> Option<Event>
+    ensures { result ≡ spec.path_turn_at subsystem.now.state chpid (slice_get directory.now.setups place) }
+{
+    match directory.setups().get(place) {
+        Some(setup) => subsystem.path_turn(word_of(setup.id), chpid),
+        None => None,
+    }
+}

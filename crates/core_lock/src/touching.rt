@@ -1,0 +1,80 @@
+//! Which subchannels' serials an event may change, so that the glance cells of no others need be looked at.
+
+ghost use Rattle.std.specs.Prelude.{◌≡◌, ℕ, length};
+ghost use Rattle.chan_events.specs.Events as events;
+ghost use Rattle.chan_events.specs.Replies.{Reply};
+ghost use Rattle.machine_model.specs.InstructionSteps as instruction_spec;
+ghost use Rattle.machine_model.specs.State.{State};
+ghost use Rattle.machine_model.specs.Steps.{Step};
+ghost use Rattle.subsystem.specs.Keeping.{all_serials};
+ghost use Rattle.core_lock.specs.Touching as spec;
+
+use chan_events::event::{Event, Instruction};
+use path_select::PathChoice;
+use step_laws::walks;
+use subsystem::subsystem::Subsystem;
+
+/// The subchannels whose serials an event may change.
+#[derive(Clone, Copy, Debug)]
+pub enum Touched {
+    Nothing,
+    /// The one at this place.
+    Place(usize),
+    All,
+}
+
+/// An event changes no serials but those of the subchannels that it touches.
+pub fn touches()
+    ensures { (s : State) (e : events.Event) (r : Reply) (new : State) → Step s e r new →
+        spec.Changes (spec.touched s e) (all_serials s) (all_serials new) }
+{
+    walks();
+}
+
+/// General register 1 of an instruction: the word that names its subchannel.
+fn word_of(instruction: Instruction) -> u32
+    ensures { result ≡ instruction_spec.subchannel_word instruction }
+{
+    match instruction {
+        Instruction::Ssch { subchannel, .. }
+        | Instruction::Tsch { subchannel, .. }
+        | Instruction::Stsch { subchannel, .. }
+        | Instruction::Msch { subchannel, .. }
+        | Instruction::Rsch { subchannel }
+        | Instruction::Hsch { subchannel }
+        | Instruction::Csch { subchannel }
+        | Instruction::Xsch { subchannel }
+        | Instruction::Enable { subchannel, .. } => subchannel,
+    }
+}
+
+/// The subchannel that a word names.
+#[inline(always)]
+fn at_word<P: PathChoice + Drop>(subsystem: &Subsystem<P>, word: u32) -> Touched
+    ensures value { result ≡ spec.touched_word subsystem.now.state word }
+    ensures there { spec.IsThere result (length (all_serials subsystem.now.state)) }
+{
+    match subsystem.place(word) {
+        Some(place) => Touched::Place(place),
+        None => Touched::Nothing,
+    }
+}
+
+/// The subchannels whose serials an event may change.
+#[inline(always)]
+pub fn touched_by<P: PathChoice + Drop>(subsystem: &Subsystem<P>, event: &Event) -> Touched
+    ensures value { result ≡ spec.touched subsystem.now.state event.now }
+    ensures there { spec.IsThere result (length (all_serials subsystem.now.state)) }
+{
+    match event {
+        Event::Execute { instruction, .. } => at_word(subsystem, word_of(*instruction)),
+        Event::Choose { subchannel } | Event::Up { subchannel, .. } => {
+            at_word(subsystem, *subchannel)
+        }
+        Event::PathDown { .. }
+        | Event::PathUp { .. }
+        | Event::PathReset { .. }
+        | Event::SystemReset => Touched::All,
+        _ => Touched::Nothing,
+    }
+}

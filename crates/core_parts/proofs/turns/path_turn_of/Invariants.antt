@@ -1,7 +1,0 @@
-use Rattle.std.proofs.Common.{◌≡◌, drop}
-use Rattle.core_parts.specs.Turns.{path_turn_among}
-use Rattle.core_parts.proofs.turns.path_turn_of.Given as goal
-
--- there is none for the subchannels so far
-abbrev pub invariant-loop-place : goal.invariant-loop-place
-invariant-loop-place g l = path_turn_among l.subsystem.state l.chpid l.directory.setups ≡ path_turn_among l.subsystem.state l.chpid (drop l.place l.directory.setups)

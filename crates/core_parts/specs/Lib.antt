@@ -1,5 +1,0 @@
-pub mod Directory
-pub mod Named
-pub mod Seats
-pub mod Turns
-pub mod Touching
