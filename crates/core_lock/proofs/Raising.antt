@@ -9,7 +9,7 @@ use Rattle.chan_events.specs.declared.event.Event.TheVariants as event
 use Rattle.chan_events.specs.declared.event.Instruction.{Instruction}
 use Rattle.chan_events.specs.declared.event.Instruction.TheVariants as instruction
 use Rattle.chan_events.specs.Replies.{Reply}
-use Rattle.machine_laws.specs.Codes.{answer_in}
+use Rattle.run_laws.specs.CodeSteps.{answer_in}
 use Rattle.subsystem.specs.Keeping.{BringsOrdered, IsOrdered, serials_brought}
 use Rattle.core_lock.specs.Directory.{Directory, place_named}
 use Rattle.core_lock.specs.Seats.{greater, raised_among, raised_at, raised_by}

@@ -7,7 +7,7 @@ use Rattle.chan_events.specs.declared.event.Instruction.TheVariants as instructi
 use Rattle.chan_events.specs.declared.reply.Entry.{Entry}
 use Rattle.chan_events.specs.Replies.{Reply}
 use Rattle.channel_config.specs.Setup.{Setup}
-use Rattle.machine_laws.specs.Codes.{answer_in}
+use Rattle.run_laws.specs.CodeSteps.{answer_in}
 use Rattle.subsystem.specs.Keeping.{serials_brought}
 use Rattle.glance_cell.specs.Shown.{Words}
 use Rattle.machine_model.specs.State.{State}

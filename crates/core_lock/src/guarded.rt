@@ -4,9 +4,9 @@
 ghost use Rattle.std.specs.Prelude.{◌≡◌, ◌≢◌, ◌⊎◌, ◌+◌, ◌^◌, ◌↔◌, ◌≤◌, [], ◌∷◌, ◌++◌, All, IfErr, IfOk, IsTrue, OnErr, OnOk, Ok, Err, length, true};
 ghost use Rattle.std.specs.Arc.{arc_value};
 ghost use Rattle.chan_model.specs.declared.fault.Fault.TheVariants as fault_spec;
-ghost use Rattle.machine_laws.specs.Agreeing.{AllAgree};
-ghost use Rattle.machine_laws.specs.Beginnings.{IsBegunOnce};
-ghost use Rattle.machine_laws.specs.Claims.{IsClearedOnce};
+ghost use Rattle.run_laws.specs.Agreeing.{AllAgree};
+ghost use Rattle.run_laws.specs.Beginnings.{IsBegunOnce};
+ghost use Rattle.run_laws.specs.StateClaims.{IsClearedOnce};
 ghost use Rattle.machine_model.specs.Setups.{IsSetUp};
 ghost use Rattle.machine_model.specs.Steps.{HasRun};
 ghost use Rattle.subsystem.specs.Headline.{HasHeld};

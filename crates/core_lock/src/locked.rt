@@ -4,9 +4,9 @@ mod events;
 
 ghost use Rattle.std.specs.Prelude.{◌≡◌, ◌≢◌, ◌⊎◌, ◌+◌, ◌↔◌, ℕ, [], ◌∷◌, ◌++◌, length, vec_len, sum_by, All, Err, true, IsTrue, IfOk, IfErr, IfSome, IfNone, OnErr, OnOk, None, Some, Ok, ◌≤◌};
 ghost use Rattle.chan_model.specs.declared.fault.Fault.TheVariants as fault_spec;
-ghost use Rattle.machine_laws.specs.Agreeing.{AllAgree};
-ghost use Rattle.machine_laws.specs.Beginnings.{IsBegunOnce};
-ghost use Rattle.machine_laws.specs.Claims.{IsClearedOnce};
+ghost use Rattle.run_laws.specs.Agreeing.{AllAgree};
+ghost use Rattle.run_laws.specs.Beginnings.{IsBegunOnce};
+ghost use Rattle.run_laws.specs.StateClaims.{IsClearedOnce};
 ghost use Rattle.machine_model.specs.Setups.{IsSetUp};
 ghost use Rattle.machine_model.specs.State.{place_of};
 ghost use Rattle.machine_model.specs.Steps.{HasRun};

@@ -2,7 +2,7 @@
 
 ghost use Rattle.std.specs.Prelude.{◌≡◌, ◌<◌, ◌≤◌, ℕ, true, All, IfOk, OnErr, OnOk, Some, length, slice_get, slice_set, vec_len};
 ghost use Rattle.scsw_irb.specs.declared.serials.Serials.{Serials};
-ghost use Rattle.machine_laws.specs.Codes.{answer_in};
+ghost use Rattle.run_laws.specs.CodeSteps.{answer_in};
 ghost use Rattle.event_log.specs.Logs.{last_reply};
 ghost use Rattle.subsystem.specs.Keeping as keeping;
 ghost use Rattle.subsystem.specs.Keeping.{IsOrdered, Rises, all_serials};

@@ -19,9 +19,9 @@ use Rattle.machine_model.specs.Steps.{Performs, Step}
 use Rattle.finding.specs.Tables.{Serves, server, served_at, without_server, with_entry, engaged}
 use Rattle.finding.proofs.Serving.{engages-is}
 use Rattle.step_laws.proofs.Places.{set-get, get-set, get-other}
-use Rattle.machine_laws.specs.Engines.{IsAlone}
-use Rattle.machine_laws.proofs.OneEngine.{alone-set, opened-idle, swept-engages}
-use Rattle.machine_laws.proofs.SweptPaths.{IsSwept, is-swept}
+use Rattle.run_laws.specs.OneEngine.{IsAlone}
+use Rattle.run_laws.proofs.Machine.OneEngine.{alone-set, opened-idle, swept-engages}
+use Rattle.run_laws.proofs.Machine.SweptPaths.{IsSwept, is-swept}
 
 -- the engine that a subchannel engages is one
 path-is : (o : Option ℕ) (c : ℕ) → is_path o c ≡ true → o ≡ Some c

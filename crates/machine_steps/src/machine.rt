@@ -27,7 +27,7 @@ use finding::engines::{Engines, Served, engaged};
 use finding::tables::Places;
 use interruptions::Pending;
 use io_step::{ChannelPaths, PathTable, execute_absent, perform_other, perform_provided};
-use machine_laws::paths::engines;
+use run_laws::engines::engines;
 use path_select::PathChoice;
 use scsw_irb::serials::Serials;
 use std::marker::Model;

@@ -17,10 +17,10 @@ use Rattle.chan_model.specs.declared.fault.Fault.{Fault}
 use Rattle.chan_model.specs.declared.unit_state.UnitState.{UnitState}
 use Rattle.subchannel_model.specs.Opening.{opened}
 use Rattle.subchannel_model.specs.declared.state.Subchannel.{Subchannel}
-use Rattle.machine_laws.specs.Agreeing.{AllAgree}
-use Rattle.machine_laws.specs.Beginnings.{IsBegunOnce}
-use Rattle.machine_laws.specs.Claims.{IsClearedOnce}
-use Rattle.seen_laws.proofs.HolderRuns.{opening-set_up}
+use Rattle.run_laws.specs.Agreeing.{AllAgree}
+use Rattle.run_laws.specs.Beginnings.{IsBegunOnce}
+use Rattle.run_laws.specs.StateClaims.{IsClearedOnce}
+use Rattle.run_laws.proofs.Signals.HolderRuns.{opening-set_up}
 use Rattle.machine_steps.specs.Postable.{IsPostable}
 use Rattle.machine_model.specs.State.{State, configured_paths, opening_of, idle_of}
 use Rattle.machine_model.specs.Setups.{IsSetUp}

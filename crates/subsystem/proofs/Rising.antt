@@ -21,8 +21,8 @@ use Rattle.subchannel_model.specs.Places.{sub_at}
 use Rattle.machine_model.specs.InstructionSteps.{subchannel_word}
 use Rattle.machine_model.specs.State.{State, opening_of, place_of, sub_of}
 use Rattle.machine_model.specs.Steps.{HasRun, Performs, Run, Step, Stepped}
-use Rattle.machine_laws.specs.Claims.{IsLaterSubchannel, IsPendingUncleared}
-use Rattle.machine_laws.specs.Codes.{IsByTable, serials_of, state_of}
+use Rattle.run_laws.specs.StateClaims.{IsLaterSubchannel, IsPendingUncleared}
+use Rattle.run_laws.specs.CodeSteps.{IsByTable, serials_of, state_of}
 use Rattle.step_laws.specs.Codes.{code_by}
 use Rattle.subsystem.specs.Keeping.{BringsOrdered, IsOrdered, Rises, all_serials, serials_brought}
 

@@ -5,41 +5,41 @@ use Rattle.chan_events.specs.Events.{Event}
 use Rattle.chan_events.specs.declared.reply.Entry.{Entry}
 use Rattle.chan_events.specs.Replies.{Reply}
 use Rattle.channel_config.specs.Setup.{Setup, set_count}
-use Rattle.machine_laws.specs.Clearing.{ClearsByCause}
-use Rattle.machine_laws.specs.Codes.{IsByTable}
-use Rattle.machine_laws.specs.Counts.{CountsByStatus}
-use Rattle.machine_laws.specs.Resets.{ResetsByCause, StaysReset}
-use Rattle.machine_laws.specs.Agreeing.{AllAgree, HoldEndsByReset}
-use Rattle.machine_laws.specs.Beginnings.{IsBegunOnce}
-use Rattle.machine_laws.specs.Claims.{IsPendingUncleared, IsClearedOnce}
+use Rattle.run_laws.specs.Clearing.{ClearsByCause}
+use Rattle.run_laws.specs.CodeSteps.{IsByTable}
+use Rattle.run_laws.specs.Counts.{CountsByStatus}
+use Rattle.run_laws.specs.Resets.{ResetsByCause, StaysReset}
+use Rattle.run_laws.specs.Agreeing.{AllAgree, HoldEndsByReset}
+use Rattle.run_laws.specs.Beginnings.{IsBegunOnce}
+use Rattle.run_laws.specs.StateClaims.{IsPendingUncleared, IsClearedOnce}
 use Rattle.machine_model.specs.Setups.{IsSetUp}
 use Rattle.machine_model.specs.State.{State, opening_of}
 use Rattle.machine_model.specs.Steps.{HasRun, Run, Opened, Step, Stepped}
-use Rattle.machine_laws.specs.Engines.{IsOnePath}
-use Rattle.machine_laws.specs.Returns.{OffersOnDedicated, ReturnsByFirst}
-use Rattle.machine_laws.specs.Shown.{AreShown}
-use Rattle.program_laws.specs.ProgramTold.{AreProgramsTold}
-use Rattle.program_laws.specs.Tells.{AllTold}
-use Rattle.seen_laws.specs.BeginsItsOwn.{BeginsItsOwn}
-use Rattle.seen_laws.specs.BothAgree.{DoBothAgree}
-use Rattle.seen_laws.specs.ByItsPath.{IsByItsPath}
-use Rattle.seen_laws.specs.Dedicated as dedicated
-use Rattle.seen_laws.specs.DevicePaths.{HasOneWayEach}
-use Rattle.seen_laws.specs.Engines.{HasOneEngine}
-use Rattle.seen_laws.specs.Links.{KeepsLinks}
-use Rattle.seen_laws.specs.OneHolder.{HasOneHolder}
-use Rattle.seen_laws.specs.PathReports.{AnswersByPaths}
-use Rattle.shown_laws.specs.Choices.{AreChoicesRight}
-use Rattle.shown_laws.specs.Codes.{AreCodesRight, AreThree}
-use Rattle.shown_laws.specs.Deferred.{AreDeferredRight}
-use Rattle.shown_laws.specs.Functions.{DoFunctionsFollow}
-use Rattle.shown_laws.specs.Halts.{AreHaltsDone}
-use Rattle.shown_laws.specs.LostPrograms.{AreLossesRight}
-use Rattle.shown_laws.specs.Interruptions.{IsAskedFor, IsGivenOnce, IsLowestFirst, IsOldestFirst}
-use Rattle.shown_laws.specs.Losses.{AreLossesShown}
-use Rattle.shown_laws.specs.Paths.{AreOffersLogical, ShowsLastUsed}
-use Rattle.shown_laws.specs.Serials.{AreMade, ArePendingShown}
-use Rattle.shown_laws.specs.StatusBytes.{AreBytesRight}
+use Rattle.run_laws.specs.OneEngine.{IsOnePath}
+use Rattle.run_laws.specs.Returns.{OffersOnDedicated, ReturnsByFirst}
+use Rattle.run_laws.specs.MaskStates.{AreShown}
+use Rattle.run_laws.specs.ProgramTold.{AreProgramsTold}
+use Rattle.run_laws.specs.Tells.{AllTold}
+use Rattle.run_laws.specs.BeginsItsOwn.{BeginsItsOwn}
+use Rattle.run_laws.specs.BothAgree.{DoBothAgree}
+use Rattle.run_laws.specs.ByItsPath.{IsByItsPath}
+use Rattle.run_laws.specs.Dedicated as dedicated
+use Rattle.run_laws.specs.DevicePaths.{HasOneWayEach}
+use Rattle.run_laws.specs.Engines.{HasOneEngine}
+use Rattle.run_laws.specs.Links.{KeepsLinks}
+use Rattle.run_laws.specs.OneHolder.{HasOneHolder}
+use Rattle.run_laws.specs.PathReports.{AnswersByPaths}
+use Rattle.run_laws.specs.Choices.{AreChoicesRight}
+use Rattle.run_laws.specs.Codes.{AreCodesRight, AreThree}
+use Rattle.run_laws.specs.Deferred.{AreDeferredRight}
+use Rattle.run_laws.specs.Functions.{DoFunctionsFollow}
+use Rattle.run_laws.specs.Halts.{AreHaltsDone}
+use Rattle.run_laws.specs.LostPrograms.{AreLossesRight}
+use Rattle.run_laws.specs.Interruptions.{IsAskedFor, IsGivenOnce, IsLowestFirst, IsOldestFirst}
+use Rattle.run_laws.specs.Losses.{AreLossesShown}
+use Rattle.run_laws.specs.Paths.{AreOffersLogical, ShowsLastUsed}
+use Rattle.run_laws.specs.Serials.{AreMade, ArePendingShown}
+use Rattle.run_laws.specs.StatusBytes.{AreBytesRight}
 
 -- of a history, by its entries alone
 pub record HeadlineHolds (setup : Setup) (h : List Entry) : Type 0 where

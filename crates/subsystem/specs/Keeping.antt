@@ -10,7 +10,7 @@ use Rattle.chan_events.specs.declared.event.Event.TheVariants as event
 use Rattle.chan_events.specs.declared.reply.Entry.{Entry}
 use Rattle.chan_events.specs.Replies.{Reply}
 use Rattle.channel_config.specs.Setup.{Setup}
-use Rattle.machine_laws.specs.Codes.{answer_in}
+use Rattle.run_laws.specs.CodeSteps.{answer_in}
 use Rattle.event_log.specs.Logs.{Logged, last_reply}
 use Rattle.machine_model.specs.Ruled.{GoesByRule}
 use Rattle.machine_model.specs.State.{IsAsBefore, LacksRoom, Past, State}

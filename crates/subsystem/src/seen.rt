@@ -4,23 +4,22 @@ ghost use Rattle.std.specs.Prelude.{List};
 ghost use Rattle.chan_events.specs.declared.reply.Entry.{Entry};
 ghost use Rattle.channel_config.specs.Lawful.{IsLawful};
 ghost use Rattle.channel_config.specs.Setup.{Setup, set_count};
-ghost use Rattle.machine_laws.specs.Claims.{IsClearedOnce};
+ghost use Rattle.run_laws.specs.StateClaims.{IsClearedOnce};
 ghost use Rattle.machine_model.specs.State.{State, opening_of};
 ghost use Rattle.machine_model.specs.Steps.{Run};
-ghost use Rattle.shown_laws.specs.Losses.{AreLossesShown};
+ghost use Rattle.run_laws.specs.Losses.{AreLossesShown};
 ghost use Rattle.subsystem.specs.Headline.{HeadlineHolds};
 
-use machine_laws::beginnings;
-use program_laws::entries::told_by_entries;
-use seen_laws::{
-    begins_its_own, both_agree, by_its_path, dedicated_offers, device_paths, links, one_engine,
-    one_holder, path_reports,
-};
-use shown_laws::whereabouts::{halts, losses};
-use shown_laws::{
-    choices, codes, deferred_codes, functions, last_used, logical_offers, requests, serials,
-    status_bytes,
-};
+use run_laws::beginnings::beginnings;
+use run_laws::programs::told_by_entries;
+use run_laws::beginnings::{begins_its_own, dedicated_offers};
+use run_laws::agreement::{both_agree, links, one_holder};
+use run_laws::paths::{by_its_path, device_paths, one_engine};
+use run_laws::codes::path_reports;
+use run_laws::halts_and_losses::{halts, losses};
+use run_laws::status_word::{choices, deferred_codes, functions, serials, status_bytes};
+use run_laws::codes::{codes, requests};
+use run_laws::beginnings::{last_used, logical_offers};
 
 /// In each run of a lawful set-up the headline holds of the entries.
 pub fn headline()
@@ -56,12 +55,12 @@ pub fn headline()
 fn cleared_once()
     ensures { (setup : Setup) (h : List Entry) (s : State) → Run (opening_of setup) h s → IsClearedOnce (set_count setup) h }
 {
-    machine_laws::serials();
+    run_laws::clearing::serials();
 }
 
 /// In each run a lost path, or a Notice, that makes no status of an enabled subchannel leaves its status word.
 fn silent()
     ensures { (setup : Setup) (h : List Entry) (s : State) → Run (opening_of setup) h s → AreLossesShown (set_count setup) h }
 {
-    shown_laws::losses();
+    run_laws::status_word::losses();
 }

@@ -1,5 +1,5 @@
 use Rattle.std.proofs.Common.{subst}
-use Rattle.machine_laws.specs.Agreeing.{AllAgree}
+use Rattle.run_laws.specs.Agreeing.{AllAgree}
 use Rattle.machine_model.specs.Setups.{IsSetUp}
 use Rattle.subsystem.specs.Headline.{HasHeld}
 use Rattle.core_lock.specs.Seats.{LockedCore}

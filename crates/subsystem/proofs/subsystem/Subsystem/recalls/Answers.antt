@@ -1,7 +1,7 @@
 use Rattle.std.proofs.Common.{subst}
-use Rattle.machine_laws.specs.Agreeing.{AllAgree}
-use Rattle.machine_laws.specs.Beginnings.{IsBegunOnce}
-use Rattle.machine_laws.specs.Claims.{IsClearedOnce}
+use Rattle.run_laws.specs.Agreeing.{AllAgree}
+use Rattle.run_laws.specs.Beginnings.{IsBegunOnce}
+use Rattle.run_laws.specs.StateClaims.{IsClearedOnce}
 use Rattle.machine_model.specs.State.{Past}
 use Rattle.subsystem.specs.Headline.{HasHeld}
 use Rattle.subsystem.proofs.Pasts.{past-cleared, past-begun, past-agrees}

@@ -1,10 +1,10 @@
 use Rattle.std.proofs.Common.{◌≡◌, ◌+◌, ◌≤◌, length, take, vec_len, vec_capacity}
 use Rattle.machine_model.specs.Answering.{HasAnswered}
 use Rattle.machine_model.specs.Steps.{HasRun}
-use Rattle.machine_laws.specs.Agreeing.{AllAgree}
+use Rattle.run_laws.specs.Agreeing.{AllAgree}
 use Rattle.subsystem.specs.Headline.{HasHeld}
-use Rattle.machine_laws.specs.Beginnings.{IsBegunOnce}
-use Rattle.machine_laws.specs.Claims.{IsClearedOnce}
+use Rattle.run_laws.specs.Beginnings.{IsBegunOnce}
+use Rattle.run_laws.specs.StateClaims.{IsClearedOnce}
 use Rattle.subsystem.specs.Keeping.{StaysSetUp}
 use Rattle.subsystem.proofs.subsystem.Subsystem.run_with.Given as goal
 

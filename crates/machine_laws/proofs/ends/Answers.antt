@@ -1,9 +1,0 @@
-use Rattle.machine_laws.proofs.Growth.{AreLaws, laws-of}
-use Rattle.machine_laws.proofs.Ended.{run-ends}
-use Rattle.machine_laws.proofs.ends.Goals as goal
-
-pub returns : goal.returns
-returns c =
-    let laws : AreLaws =
-    laws-of c.walks.ensures.each c.agreement.ensures.keeps c.resets.ensures c.agreement.ensures.means c.passing.ensures.busy c.passing.ensures.stays in
-    record { by_reset = run-ends c.agreement.ensures.opens laws }

@@ -1,5 +1,0 @@
-use Rattle.machine_laws.proofs.AllCleared.{clears-by-cause}
-use Rattle.machine_laws.proofs.events.clearings.Goals as goal
-
-pub returns : goal.returns
-returns c = record { cause = λ s e r new w. clears-by-cause s e r new (c.walks.ensures.each s e r new w) w }

@@ -1,5 +1,0 @@
-use Rattle.machine_laws.proofs.Counting.{counts-by-status}
-use Rattle.machine_laws.proofs.events.counts.Goals as goal
-
-pub returns : goal.returns
-returns c = record { status = λ s e r new w. counts-by-status s e r new (c.walks.ensures.each s e r new w) }

@@ -1,9 +1,0 @@
-use Rattle.machine_laws.proofs.Growth.{AreLaws, laws-of}
-use Rattle.machine_laws.proofs.RunAgrees.{run-above}
-use Rattle.machine_laws.proofs.reset_numbers.Goals as goal
-
-pub returns : goal.returns
-returns c =
-    let laws : AreLaws =
-    laws-of c.walks.ensures.each c.agreement.ensures.keeps c.resets.ensures c.agreement.ensures.means c.passing.ensures.busy c.passing.ensures.stays in
-    record { above = run-above c.agreement.ensures.opens laws c.rising.ensures }

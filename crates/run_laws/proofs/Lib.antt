@@ -1,0 +1,10 @@
+pub mod Machine
+pub mod Signals
+pub mod Shown
+pub mod Traces
+pub mod Bytes
+pub mod Commands
+pub mod Units
+pub mod Offers
+pub mod Statuses
+pub mod Links

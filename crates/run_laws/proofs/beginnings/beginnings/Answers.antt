@@ -1,0 +1,9 @@
+use Rattle.run_laws.proofs.Machine.Growth.{AreLaws, laws-of}
+use Rattle.run_laws.proofs.Machine.RunAgrees.{run-begins}
+use Rattle.run_laws.proofs.beginnings.beginnings.Goals as goal
+
+pub returns : goal.returns
+returns c =
+    let laws : AreLaws =
+    laws-of c.walks.ensures.each c.agreement.ensures.keeps c.resets.ensures c.agreement.ensures.means c.passing.ensures.busy c.passing.ensures.stays in
+    record { once = run-begins c.agreement.ensures.opens laws }

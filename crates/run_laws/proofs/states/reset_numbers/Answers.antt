@@ -1,0 +1,9 @@
+use Rattle.run_laws.proofs.Machine.Growth.{AreLaws, laws-of}
+use Rattle.run_laws.proofs.Machine.RunAgrees.{run-above}
+use Rattle.run_laws.proofs.states.reset_numbers.Goals as goal
+
+pub returns : goal.returns
+returns c =
+    let laws : AreLaws =
+    laws-of c.walks.ensures.each c.agreement.ensures.keeps c.resets.ensures c.agreement.ensures.means c.passing.ensures.busy c.passing.ensures.stays in
+    record { above = run-above c.agreement.ensures.opens laws c.rising.ensures }

@@ -1,5 +1,0 @@
-use Rattle.seen_laws.proofs.WayRuns.{run-one-way}
-use Rattle.seen_laws.proofs.device_paths.Goals as goal
-
-pub returns : goal.returns
-returns c = record { ways = run-one-way (record { set_up = c.setups.ensures.set_up; above = c.reset_numbers.ensures.above }) }

@@ -1,5 +1,0 @@
-use Rattle.seen_laws.proofs.HolderRuns.{run-one-holder}
-use Rattle.seen_laws.proofs.one_holder.Goals as goal
-
-pub returns : goal.returns
-returns c = record { one = run-one-holder (record { set_up = c.setups.ensures.set_up; above = c.reset_numbers.ensures.above }) }

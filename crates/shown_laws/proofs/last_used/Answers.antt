@@ -1,5 +1,0 @@
-use Rattle.shown_laws.proofs.LastUsed.{run-last_used}
-use Rattle.shown_laws.proofs.last_used.Goals as goal
-
-pub returns : goal.returns
-returns c = record { used = run-last_used (record { walks = c.walks.ensures.each; sets = c.steps.ensures.sets; setups = c.setups.ensures.stay }) }
