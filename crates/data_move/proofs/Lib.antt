@@ -1,3 +1,4 @@
 pub mod AccessLemmas
 pub mod ListLemmas
 pub mod PieceLemmas
+pub mod Numbers

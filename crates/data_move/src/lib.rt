@@ -2,6 +2,9 @@
 //! (SA22-7832, chapter 15).
 #![tactic(auto)]
 
+pub mod chunks;
+pub mod commands;
 pub mod law;
 pub mod moving;
 pub mod slices;
+pub mod transfer;

@@ -6,7 +6,7 @@ ghost use Rattle.finding.specs.Tables as spec;
 
 use hold::Hold;
 use std::marker::Model;
-use subchannel_words::Subchannel;
+use functions::Subchannel;
 
 /// The identifier of the channel path whose engine the subchannel engages: the path of its active allegiance (SA22-7832,
 /// chapter 15). None where it has none.

@@ -10,7 +10,7 @@ use chan_model::names::Side;
 use channel_config::names::SubchannelId;
 use std::alloc::{AllocError, Global};
 use std::marker::Model;
-use subchannel_words::Subchannel;
+use functions::Subchannel;
 use supply::Supply;
 
 /// How many numbers of a set have entries in the table of names.

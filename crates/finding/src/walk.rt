@@ -5,7 +5,7 @@ ghost use Rattle.subchannel_model.specs.Places as place_spec;
 
 use chan_model::names::Side;
 use channel_config::names::SubchannelId;
-use subchannel_words::Subchannel;
+use functions::Subchannel;
 
 fn is_named(id: SubchannelId, sub: &Subchannel) -> bool
     ensures { result ≡ place_spec.is_named id sub.now }

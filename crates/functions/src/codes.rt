@@ -21,7 +21,7 @@ use scsw_irb::bits::{
     SECONDARY, START_FUNCTION, START_PENDING, STATUS_PENDING, SUBCHANNEL_ACTIVE, SUSPENDED,
 };
 use scsw_irb::words::ScswWords;
-use subchannel_words::PackedState;
+use crate::PackedState;
 
 /// 3 where the subchannel is not operational, otherwise 1, otherwise 2, otherwise 0.
 fn in_order(operational: bool, one: bool, two: bool) -> ConditionCode

@@ -12,7 +12,7 @@ ghost use Rattle.subchannel_model.specs.Clear as clear_spec;
 ghost use Rattle.subchannel_model.specs.Cancel as cancel_spec;
 ghost use Rattle.subchannel_model.specs.Modify as modify_spec;
 ghost use Rattle.subchannel_model.specs.Start as start_spec;
-ghost use Rattle.subchannel_words.specs.Unwired.{with_state};
+ghost use Rattle.functions.specs.Unwired.{with_state};
 
 use crate::codes::{is_intermediate_alone, is_pending};
 use allegiance::allegiances::{AllegianceCause, dedicated};
@@ -26,7 +26,7 @@ use scsw_irb::scsw::Scsw;
 use scsw_irb::serials::Serials;
 use scsw_irb::words::ScswWords;
 use subchannel_model::state::Program;
-use subchannel_words::{PackedState, Rest};
+use crate::{PackedState, Rest};
 
 /// What START SUBCHANNEL leaves of a status word of zeros.
 fn started_scsw(orb: &Orb) -> Scsw

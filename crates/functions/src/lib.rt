@@ -13,16 +13,24 @@ ghost use Rattle.subchannel_model.specs.Conditions as condition_spec;
 ghost use Rattle.subchannel_model.specs.Conditions.{condition_of};
 ghost use Rattle.subchannel_model.specs.Start.{started};
 ghost use Rattle.schib_block.specs.Reading.{pmcw_of_words};
-ghost use Rattle.subchannel_words.specs.Unwired.{with_state};
+ghost use Rattle.functions.specs.Unwired.{with_state};
 
+mod block;
 pub mod blocks;
 pub mod codes;
 pub mod effects;
+mod images;
 pub mod law;
+pub mod rest;
+pub mod state;
+pub mod subchannel;
+
+pub use rest::Rest;
+pub use state::PackedState;
+pub use subchannel::Subchannel;
 
 use chan_model::answer::ConditionCode;
 use orb_block::Orb;
-use subchannel_words::PackedState;
 
 /// START SUBCHANNEL with an ORB that is allowed.
 pub fn ssch(state: &mut PackedState, orb: Orb) -> ConditionCode

@@ -7,7 +7,7 @@ use Rattle.std.proofs.lemmas.Nat.{leading_length, leading_le, mod_below, pow_pos
 use Rattle.std.proofs.lemmas.Nat.Bits.{bit_at-lt, bit_at_above, bit_at_and, bit_at_clear_other, bit_at_clear_same, bit_at_set_other, bit_at_set_same}
 use Rattle.std.proofs.Math.Nat.{pow-suc}
 use lib.Count.{count_leading_zeros}
-use Rattle.linked.proofs.Members.{apart}
+use Rattle.interruptions.proofs.Members.{apart}
 use Rattle.interruptions.specs.Places.{has_subclass}
 
 place : (k : ℕ) → k < 8 → 31 - (24 + k) ≡ 7 - k

@@ -3,8 +3,8 @@ use Rattle.std.proofs.Common.{◌≡◌, refl, sym, ◌∙◌, ap, ℕ, Bool, tr
 use Rattle.std.specs.List.{IsDistinct, filter}
 use Rattle.std.proofs.lemmas.List.Folds.{list_any-append}
 use Rattle.std.proofs.lemmas.Map.Keys.{IsDistinct-cons, IsDistinct-tail}
-use Rattle.linked.specs.Paths.{has}
-use Rattle.linked.proofs.Members.{all-others, first-false, flipped, head-apart, neither, not-true, second-false}
+use Rattle.interruptions.specs.Paths.{has}
+use Rattle.interruptions.proofs.Members.{all-others, first-false, flipped, head-apart, neither, not-true, second-false}
 
 pub in-rest : (a : Bool) {b : Bool} → b ≡ true → (a || b) ≡ true
 in-rest true h = refl

@@ -5,9 +5,9 @@ use Rattle.std.specs.List.{IsDistinct}
 use Rattle.std.proofs.lemmas.List.{get_or-set_same, get_or-set_other}
 use Rattle.std.proofs.lemmas.Map.Keys.{IsDistinct-cons}
 use Rattle.scsw_irb.specs.declared.code.IntCode.{IntCode}
-use Rattle.linked.specs.Circles.{Circles, next_of}
-use Rattle.linked.specs.Paths.{IsCircle, IsPut, IsTaken, has, without}
-use Rattle.linked.proofs.Members.{all-others, apart, differ, first-false, flipped, neither, not-own, not-true, second-false, without-none}
+use Rattle.interruptions.specs.Circles.{Circles, next_of}
+use Rattle.interruptions.specs.Paths.{IsCircle, IsPut, IsTaken, has, without}
+use Rattle.interruptions.proofs.Members.{all-others, apart, differ, first-false, flipped, neither, not-own, not-true, second-false, without-none}
 use Rattle.interruptions.specs.Places.{AreOwn, Tables, Wait, has_subclass, is_class, is_some, no_request, of_subclass, place_of, request_at, request_place}
 use Rattle.interruptions.proofs.Lists.{distinct-end, distinct-filter, filter-end, filter-turned, has-end, in-filter, none-filter, same-filter, stays-in, test-of}
 

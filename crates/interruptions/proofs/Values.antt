@@ -6,10 +6,10 @@ use Rattle.std.proofs.lemmas.Bool.{and_parts, lt-ltb, ltb-true}
 use Rattle.std.proofs.lemmas.List.{get_or_read, length-set, map-append}
 use Rattle.std.proofs.lemmas.Map.Keys.{IsDistinct-cons, IsDistinct-tail}
 use Rattle.scsw_irb.specs.declared.code.IntCode.{IntCode}
-use Rattle.linked.specs.Circles.{AreAlone, Circles, former_of, next_of}
-use Rattle.linked.specs.Paths.{IsCircle, IsPut, IsTaken, has, without}
-use Rattle.linked.proofs.Members.{apart, few, first-false, flipped, head-apart, neither, not-true, second-false}
-use Rattle.linked.proofs.Walks.{follow-is, moves}
+use Rattle.interruptions.specs.Circles.{AreAlone, Circles, former_of, next_of}
+use Rattle.interruptions.specs.Paths.{IsCircle, IsPut, IsTaken, has, without}
+use Rattle.interruptions.proofs.Members.{apart, few, first-false, flipped, head-apart, neither, not-true, second-false}
+use Rattle.interruptions.proofs.Walks.{follow-is, moves}
 use Rattle.interruptions.specs.Requests.{AtMostOne, WaitingRequests, is_of, no_requests_wait, posted, request_dropped, stands}
 use Rattle.interruptions.specs.Places.{AreOwn, AreQueued, Tables, Wait, first_of, has_subclass, is_class, is_some, no_request, of_subclass, place_of, request_at, request_place, requests_of, value_of, waiting}
 use Rattle.interruptions.proofs.Bytes.{no-bit}

@@ -5,8 +5,8 @@ use Rattle.std.specs.Prelude.{ℕ, ◌+◌, ◌*◌, ◌<◌, ◌≤◌, ◌≡�
 use Rattle.std.specs.List.{IsDistinct, filter}
 use Rattle.zbits.specs.Bits.{bit_of}
 use Rattle.scsw_irb.specs.declared.code.IntCode.{IntCode}
-use Rattle.linked.specs.Circles.{Circles, next_of}
-use Rattle.linked.specs.Paths.{IsCircle, follow, has}
+use Rattle.interruptions.specs.Circles.{Circles, next_of}
+use Rattle.interruptions.specs.Paths.{IsCircle, follow, has}
 use Rattle.interruptions.specs.Requests.{WaitingRequests}
 
 pub record Tables : Type 0 where

@@ -19,7 +19,7 @@ use chan_model::names::Cpu;
 use channel_reports::Reports;
 use interruptions::Pending;
 use storage_keys::Storage;
-use subchannel_words::Subchannel;
+use functions::Subchannel;
 
 /// Whether an instruction that set this code drops the request of its subchannel.
 fn drops(instruction: Instruction, code: Option<ConditionCode>) -> bool

@@ -23,7 +23,7 @@ use schib_block::SCHIB_BYTES;
 use schib_block::words::block_of;
 use scsw_irb::irb::IRB_BYTES;
 use storage_keys::Storage;
-use subchannel_words::Subchannel;
+use functions::Subchannel;
 
 fn start(
     storage: &Storage,

@@ -24,7 +24,7 @@ use functions::{csch, hsch, msch, rsch, ssch, xsch};
 use orb_block::Orb;
 use scsw_irb::scsw::Scsw;
 use status::tsch;
-use subchannel_words::Subchannel;
+use functions::Subchannel;
 
 /// START SUBCHANNEL with an allowed ORB.
 pub fn start_sub(sub: &mut Subchannel, orb: Orb) -> PlainReply

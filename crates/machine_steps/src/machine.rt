@@ -40,7 +40,7 @@ use subchannel_steps::tables::engaged_for;
 use subchannel_steps::turns::{
     choose_sub, down_sub, path_of, reached_unit, report_sub, returns_at, up_sub,
 };
-use subchannel_words::Subchannel;
+use functions::Subchannel;
 use unit::Unit;
 use working::sent::SentDown;
 

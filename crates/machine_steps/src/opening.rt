@@ -22,7 +22,7 @@ use std::alloc::{AllocError, Global};
 use storage_keys::Storage;
 use subchannel::opening;
 use subchannel_steps::tables::configured;
-use subchannel_words::Subchannel;
+use functions::Subchannel;
 use supply::{Supply, push};
 use unit::Unit;
 use wires::Wires;

@@ -22,7 +22,7 @@ use subchannel::losing::{go_down, lose_path, show_path};
 use subchannel::system_reset::reset_by_system;
 use subchannel_steps::posting::{made_by, post};
 use subchannel_steps::tables::has_chpid;
-use subchannel_words::Subchannel;
+use functions::Subchannel;
 
 /// The channel path of this identifier, where it is configured.
 fn chpid_of(chpids: &[u8], number: u32) -> Option<u8>

@@ -6,7 +6,7 @@ use Rattle.storage_keys.specs.Storage.{Contents, fetched, stored_bytes}
 use Rattle.ccw_walk.specs.Acts.{Act}
 use Rattle.idaw.specs.Lists.{kind_of, block}
 use Rattle.idaw.specs.Places.{Reach, covered}
-use Rattle.transfer.specs.Commands.{brings}
+use Rattle.data_move.specs.Commands.{brings}
 use Rattle.run_laws.specs.ProgramClaims.{IsBeginning, places_of}
 use Rattle.run_laws.specs.DataAreas.{data_areas, counts}
 use Rattle.run_laws.specs.Fetches.{IsNextWord}

@@ -7,8 +7,8 @@ use Rattle.machine_model.specs.Setups.{IsSetUp}
 use Rattle.machine_model.specs.State.{State}
 use Rattle.subsystem.specs.Keeping.{StaysSetUp}
 use Rattle.script_text.specs.declared.race.RaceCount.{RaceCount}
-use Rattle.racing.specs.declared.tally.Tally.{Tally}
-use Rattle.racing.specs.Racing.{HasLogs, count_of}
+use Rattle.serving.specs.declared.tally.Tally.{Tally}
+use Rattle.serving.specs.Race.{HasLogs, count_of}
 
 -- a core was closed: it counted the entries both ways, and answers no count only where not all seats were given
 pub counted : (closed : Option ℕ) (given made entries logs : ℕ) → IfSome closed (λ c. c ≡ entries) → IfSome closed (λ c. c ≡ logs) → IfNone closed (given ≢ made)

@@ -25,7 +25,7 @@ use Rattle.script_rows.specs.declared.Action.TheVariants as action
 use Rattle.script_text.specs.declared.ActionResult.{ActionResult}
 use Rattle.script_text.specs.declared.ActionResult.TheVariants as told
 use Rattle.script_text.specs.Text.{told_of}
-use Rattle.racing.specs.Racing.{IsNewSeat}
+use Rattle.serving.specs.Race.{IsNewSeat}
 use Rattle.event_log.specs.Logs.{last_reply}
 use Rattle.unit_driver.specs.Keeping.{kept_by}
 use Rattle.unit_driver.specs.Reporting.{AskedCall, answered, next_of}

@@ -3,3 +3,4 @@ pub mod Performing
 pub mod Racing
 pub mod Serving
 pub mod Audits
+pub mod Race

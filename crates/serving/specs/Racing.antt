@@ -4,7 +4,7 @@ use Rattle.core_lock.specs.Seats.{HeldSeat, Locked}
 use Rattle.machine_model.specs.Steps.{HasRun}
 use Rattle.subsystem.specs.Headline.{HasHeld}
 use Rattle.subsystem.specs.Keeping.{StaysSetUp}
-use Rattle.racing.specs.Racing.{AreMade, HasLogs, HaveRaced, Runner, count_of, seats_of, total_of}
+use Rattle.serving.specs.Race.{AreMade, HasLogs, HaveRaced, Runner, count_of, seats_of, total_of}
 use Rattle.script_rows.specs.declared.race.Race.{Race}
 use Rattle.script_text.specs.declared.race.RaceCount.{RaceCount}
 use Rattle.serving.specs.Acting.{Installed}

@@ -4,7 +4,7 @@
 ghost use Rattle.std.specs.Prelude.{◌≡◌, ◌≢◌, ◌⊎◌, ◌+◌, IsTrue, Err, IfOk, IfNone, IfSome, List, [], None, Some, OnErr, OnOk, length, slice_get, true, ◌↔◌, ◌≤◌, ℕ};
 ghost use Rattle.chan_model.specs.declared.fault.Fault.TheVariants as fault_spec;
 ghost use Rattle.serving.specs.Acting as spec;
-ghost use Rattle.racing.specs.Racing.{AreMade, HasLogs};
+ghost use Rattle.serving.specs.Race.{AreMade, HasLogs};
 ghost use Rattle.serving.specs.Racing.{HasAll, IsRaced};
 ghost use Rattle.machine_model.specs.Setups.{IsSetUp};
 ghost use Rattle.machine_model.specs.Steps.{HasRun};
@@ -36,7 +36,7 @@ use device_law::Device;
 use device_models::any_device::AnyDevice;
 use event_log::history::LentReply;
 use path_select::Rotating;
-use racing::racers::Racers;
+use crate::racers::Racers;
 use script_rows::places::KeptAction;
 use script_rows::race::Race;
 use script_text::RaceCount;

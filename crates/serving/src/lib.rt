@@ -14,8 +14,10 @@ pub mod law;
 mod opening;
 pub mod performing;
 pub mod places;
+pub mod racers;
 mod reports;
 mod running;
+pub mod tally;
 
 use core_lock::supplies::CoreSupply;
 use script::{Script, ScriptBad};

@@ -3,7 +3,7 @@
 ghost use Rattle.std.specs.Prelude.{◌≡◌, [], IfOk, None, OnErr, OnOk, length, map, replicate, true};
 ghost use Rattle.serving.specs.Acting as spec;
 ghost use Rattle.serving.specs.Acting.{IsOpeningSeat, books_of, past_of};
-ghost use Rattle.racing.specs.Racing.{AreMade, IsNewSeat, IsSeatedIn};
+ghost use Rattle.serving.specs.Race.{AreMade, IsNewSeat, IsSeatedIn};
 ghost use Rattle.machine_model.specs.State.{opening_of};
 ghost use Rattle.subsystem.specs.Keeping.{all_serials};
 ghost use Rattle.core_lock.specs.Directory.{directory_of};
@@ -17,7 +17,7 @@ use core_lock::parts::Parts;
 use core_lock::supplies::CoreSupply;
 use device_models::any_device::AnyDevice;
 use path_select::Rotating;
-use racing::racers::{Racers, one_seat};
+use crate::racers::{Racers, one_seat};
 use std::alloc::{AllocError, Global};
 use subsystem::subsystem::Subsystem;
 use supply::{Supply, push};

@@ -6,7 +6,7 @@ ghost use Rattle.subchannel_model.specs.Ends as end_spec;
 ghost use Rattle.subchannel_model.specs.declared.cause.StatusCause.TheVariants as cause_spec;
 ghost use Rattle.subchannel_model.specs.Status as joined_spec;
 ghost use Rattle.subchannel_model.specs.Causes as spec;
-ghost use Rattle.subchannel_words.specs.Unwired.{with_state};
+ghost use Rattle.functions.specs.Unwired.{with_state};
 ghost use Rattle.status.specs.Ended.{rest_after_end};
 
 use crate::ends::{end_shown, is_last_end, show_primary};
@@ -20,7 +20,7 @@ use scsw_irb::words::ScswWords;
 use subchannel_model::cause::StatusCause;
 use subchannel_model::state::{ActiveProgram, Program};
 use subchannel_model::status::Shown;
-use subchannel_words::{PackedState, Rest};
+use functions::{PackedState, Rest};
 
 /// Status is pending, and nothing else is shown.
 fn plain_shown(command_address: u32, count: u16) -> Shown

@@ -11,7 +11,7 @@ use scsw_irb::status::{DeviceStatus, SubchannelStatus};
 use scsw_irb::words::ScswWords;
 use subchannel_model::state::{ActiveProgram, Program};
 use subchannel_model::status::Shown;
-use subchannel_words::PackedState;
+use functions::PackedState;
 
 /// Whether an End is the last of its program: it has device end or unit check, or no channel end.
 pub fn is_last_end(status: DeviceStatus) -> bool

@@ -8,7 +8,7 @@ ghost use Rattle.subchannel_model.specs.Causes as cause_spec;
 ghost use Rattle.subchannel_model.specs.declared.cause.StatusCause.TheVariants as ends_spec;
 ghost use Rattle.subchannel_model.specs.Conditions as condition_spec;
 ghost use Rattle.subchannel_model.specs.Conditions.{condition_of};
-ghost use Rattle.subchannel_words.specs.Unwired.{with_state};
+ghost use Rattle.functions.specs.Unwired.{with_state};
 
 pub mod causes;
 pub mod ends;
@@ -20,7 +20,7 @@ use chan_model::answer::ConditionCode;
 use functions::codes::tsch_code;
 use scsw_irb::status::DeviceStatus;
 use subchannel_model::cause::StatusCause;
-use subchannel_words::PackedState;
+use functions::PackedState;
 
 /// Makes the status of a cause pending. A subchannel that is not enabled gets none (own), but its activity and its programs
 /// change. The request for an interruption is the caller's.

@@ -21,9 +21,9 @@ use Rattle.chan_model.specs.UnitReports.{is_outward}
 use Rattle.chan_model.specs.UnitTable.{restarted}
 use Rattle.ccw_walk.specs.declared.check.Check.{Check}
 use Rattle.data_move.specs.Accesses as access
-use Rattle.transfer.specs.declared.Transfer.{Transfer}
-use Rattle.transfer.specs.FromDevice.{StoredChunk, after_store, bytes_brought_in, chunk_stored, fitting_bytes, nothing_stored}
-use Rattle.transfer.specs.ChunkNumbers.{is_answered}
+use Rattle.data_move.specs.declared.transfer.Transfer.{Transfer}
+use Rattle.data_move.specs.FromDevice.{StoredChunk, after_store, bytes_brought_in, chunk_stored, fitting_bytes, nothing_stored}
+use Rattle.data_move.specs.ChunkNumbers.{is_answered}
 use Rattle.subchannel_model.specs.declared.signals.DataSignal.{DataSignal}
 use Rattle.subchannel_model.specs.declared.state.ActiveProgram.{ActiveProgram}
 use Rattle.subchannel_model.specs.declared.state.Subchannel.{Subchannel}

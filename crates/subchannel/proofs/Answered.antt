@@ -7,7 +7,7 @@ use Rattle.chan_model.specs.Signals.{Up}
 use Rattle.chan_model.specs.declared.signal.Up.TheVariants as up
 use Rattle.chan_model.specs.UnitReports.{is_outward}
 use Rattle.working.specs.Sent.{sent_path}
-use Rattle.transfer.specs.ChunkNumbers.{is_answered}
+use Rattle.data_move.specs.ChunkNumbers.{is_answered}
 use Rattle.subchannel_model.specs.declared.signals.DataSignal.{DataSignal}
 use Rattle.subchannel_model.specs.declared.state.ActiveProgram.{ActiveProgram}
 use Rattle.subchannel_model.specs.declared.state.SubchannelState.{SubchannelState}

@@ -18,8 +18,8 @@ use chan_model::names::Path;
 use chan_model::signal::Up;
 use hold::Hold;
 use storage_keys::Storage;
-use subchannel_words::PackedState;
-use transfer::chunks::is_answered;
+use functions::PackedState;
+use data_move::chunks::is_answered;
 use working::moving::data_by;
 use working::sent::SentDown;
 

@@ -17,7 +17,7 @@ use scsw_irb::status::DeviceStatus;
 use scsw_irb::words::ScswWords;
 use status::make_pending;
 use subchannel_model::cause::StatusCause;
-use subchannel_words::PackedState;
+use functions::PackedState;
 use working::answers::by_hold;
 use working::sent::SentDown;
 

@@ -7,7 +7,7 @@ ghost use Rattle.chan_model.specs.Signals.{map_sent};
 ghost use Rattle.chan_model.specs.HoldTable.{came_of, offering, sending_reset};
 ghost use Rattle.allegiance.specs.PathUse.{reachable_paths};
 ghost use Rattle.subchannel_model.specs.Choosing as spec;
-ghost use Rattle.subchannel_words.specs.Unwired.{with_state};
+ghost use Rattle.functions.specs.Unwired.{with_state};
 ghost use Rattle.chan_model.specs.declared.hold_state.HoldPhase.TheVariants as phase;
 
 use crate::paths::{is_any_lost, is_any_reachable, path_use, return_paths, usable_paths};
@@ -24,7 +24,7 @@ use scsw_irb::bits::{
 };
 use scsw_irb::words::ScswWords;
 use subchannel_model::state::{Candidate, Chosen, Program, ProgramPosition};
-use subchannel_words::{PackedState, Subchannel};
+use functions::{PackedState, Subchannel};
 
 /// The number of a Reset that was not sent yet.
 fn unsent_reset(hold: &HoldState) -> Option<u64>

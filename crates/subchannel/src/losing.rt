@@ -4,7 +4,7 @@ ghost use Rattle.std.specs.Prelude.{◌≡◌, ◌<◌, ◌≤◌, ◌^◌, leng
 ghost use Rattle.wires.specs.Queues.{lost};
 ghost use Rattle.subchannel_model.specs.Losing as spec;
 ghost use Rattle.subchannel_model.specs.Programs.{has_any};
-ghost use Rattle.subchannel_words.specs.Unwired.{with_state};
+ghost use Rattle.functions.specs.Unwired.{with_state};
 
 use chan_model::hold_state::HoldPhase;
 use chan_model::names::Path;
@@ -12,7 +12,7 @@ use functions::effects::draw_reset;
 use hold::Hold;
 use status::make_pending;
 use subchannel_model::cause::StatusCause;
-use subchannel_words::{PackedState, Rest, Subchannel};
+use functions::{PackedState, Rest, Subchannel};
 use wires::Wires;
 
 fn is_offered_or_held(phase: HoldPhase) -> bool

@@ -9,7 +9,7 @@ use hold::Hold;
 use scsw_irb::scsw::Scsw;
 use scsw_irb::serials::Serials;
 use subchannel_model::state::{PmcwState, SubchannelState};
-use subchannel_words::PackedState;
+use functions::PackedState;
 
 /// A subchannel of this set-up at the opening; its wires are made apart.
 pub fn opened(setup: SubchannelSetup) -> PackedState

@@ -9,7 +9,7 @@ use allegiance::path_use::PathUse;
 use chan_model::names::Path;
 use chan_model::paths::PathSet;
 use finding::engines::Served;
-use subchannel_words::Subchannel;
+use functions::Subchannel;
 
 /// What decides which paths the subchannel may use.
 pub(crate) fn path_use(sub: &Subchannel) -> PathUse

@@ -10,7 +10,7 @@ ghost use Rattle.working.specs.Stepping.{subchannel_stepped};
 use chan_model::lent::LentUp;
 use chan_model::names::Path;
 use chan_model::signal::Down;
-use subchannel_words::PackedState;
+use functions::PackedState;
 use working::answers::by_hold;
 use working::sent::SentDown;
 

@@ -2,13 +2,13 @@
 
 ghost use Rattle.std.specs.Prelude.{◌≡◌, ◌<◌, ◌^◌};
 ghost use Rattle.subchannel_model.specs.SystemReset as spec;
-ghost use Rattle.subchannel_words.specs.Unwired.{with_state};
+ghost use Rattle.functions.specs.Unwired.{with_state};
 
 use allegiance::allegiances::{AllegianceCause, dedicated};
 use functions::effects::{clear_serials, draw_reset, end_programs};
 use scsw_irb::bits::CONTROLS;
 use scsw_irb::words::ScswWords;
-use subchannel_words::{PackedState, Subchannel};
+use functions::{PackedState, Subchannel};
 
 /// Function, activity and status control are cleared.
 fn reset_scsw(scsw: &mut ScswWords)

@@ -11,7 +11,7 @@ ghost use Rattle.subchannel_model.specs.Notice as on_notice;
 ghost use Rattle.subchannel_model.specs.Command as command;
 ghost use Rattle.subchannel_model.specs.Outcomes as outcomes;
 ghost use Rattle.subchannel_model.specs.Taking as spec;
-ghost use Rattle.subchannel_words.specs.Unwired.{with_state};
+ghost use Rattle.functions.specs.Unwired.{with_state};
 
 use crate::attending::attend;
 use crate::losing::reset_for;
@@ -24,7 +24,7 @@ use scsw_irb::bits::CLEAR_PENDING;
 use status::make_pending;
 use storage_keys::Storage;
 use subchannel_model::cause::StatusCause;
-use subchannel_words::PackedState;
+use functions::PackedState;
 use working::accepting::accept;
 use working::answers::{by_hold, ignored, quiet, take_by};
 use working::ending::end_command;

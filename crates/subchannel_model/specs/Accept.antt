@@ -12,12 +12,12 @@ use Rattle.chan_model.specs.declared.signal.Taken.{Taken}
 use Rattle.chan_model.specs.Signals.{Down}
 use Rattle.chan_model.specs.HoldTable.{HoldStep, hold_after, came_of}
 use Rattle.ccw_walk.specs.Places.{WalkPlace, walk_place}
-use Rattle.transfer.specs.declared.Beginning.{Beginning}
-use Rattle.transfer.specs.declared.CommandStart.{CommandStart}
-use Rattle.transfer.specs.declared.CommandStart.TheVariants as start
-use Rattle.transfer.specs.declared.Transfer.{Transfer}
-use Rattle.transfer.specs.declared.WithRoom.{WithRoom}
-use Rattle.transfer.specs.Commands.{first_command, begun_with_room}
+use Rattle.data_move.specs.declared.transfer.Beginning.{Beginning}
+use Rattle.data_move.specs.declared.transfer.CommandStart.{CommandStart}
+use Rattle.data_move.specs.declared.transfer.CommandStart.TheVariants as start
+use Rattle.data_move.specs.declared.transfer.Transfer.{Transfer}
+use Rattle.data_move.specs.declared.transfer.WithRoom.{WithRoom}
+use Rattle.data_move.specs.Commands.{first_command, begun_with_room}
 use Rattle.subchannel_model.specs.declared.state.PmcwState.{PmcwState}
 use Rattle.subchannel_model.specs.declared.state.Program.{Program}
 use Rattle.subchannel_model.specs.declared.state.ProgramPosition.{ProgramPosition}

@@ -3,8 +3,8 @@ use Rattle.std.specs.Prelude.{ℕ, ◌+◌, ◌<◌, ◌^◌, true, Option, None
 use Rattle.allegiance.specs.Allegiances.{dedicated_after}
 use Rattle.allegiance.specs.declared.allegiances.AllegianceCause.TheVariants as allegiance
 use Rattle.chan_model.specs.declared.signal.Down.TheVariants as down
-use Rattle.transfer.specs.declared.Transfer.{Transfer}
-use Rattle.transfer.specs.declared.WithRoom.{WithRoom}
+use Rattle.data_move.specs.declared.transfer.Transfer.{Transfer}
+use Rattle.data_move.specs.declared.transfer.WithRoom.{WithRoom}
 use Rattle.subchannel_model.specs.declared.state.ActiveProgram.{ActiveProgram}
 use Rattle.subchannel_model.specs.declared.state.SubchannelState.{SubchannelState}
 use Rattle.subchannel_model.specs.declared.state.UpStep.{UpStep}

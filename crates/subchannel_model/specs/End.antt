@@ -8,11 +8,11 @@ use Rattle.chan_model.specs.HoldTable.{is_on}
 use Rattle.chan_model.specs.UnitReports.{is_last_end, has_device_end, has_unit_check}
 use Rattle.ccw_walk.specs.Places.{WalkPlace}
 use Rattle.data_move.specs.Moving.{residual}
-use Rattle.transfer.specs.declared.Beginning.{Beginning}
-use Rattle.transfer.specs.declared.CommandStart.{CommandStart}
-use Rattle.transfer.specs.declared.CommandStart.TheVariants as start
-use Rattle.transfer.specs.declared.WithRoom.{WithRoom}
-use Rattle.transfer.specs.Commands.{next_command, begun_with_room}
+use Rattle.data_move.specs.declared.transfer.Beginning.{Beginning}
+use Rattle.data_move.specs.declared.transfer.CommandStart.{CommandStart}
+use Rattle.data_move.specs.declared.transfer.CommandStart.TheVariants as start
+use Rattle.data_move.specs.declared.transfer.WithRoom.{WithRoom}
+use Rattle.data_move.specs.Commands.{next_command, begun_with_room}
 use Rattle.subchannel_model.specs.declared.signals.EndSignal.{EndSignal}
 use Rattle.subchannel_model.specs.declared.state.ActiveProgram.{ActiveProgram}
 use Rattle.subchannel_model.specs.declared.state.SubchannelState.{SubchannelState}

@@ -11,7 +11,7 @@ use channel_config::parts::SubchannelSetup;
 use orb_block::Orb;
 use scsw_irb::scsw::Scsw;
 use scsw_irb::serials::Serials;
-use transfer::Transfer;
+use data_move::transfer::Transfer;
 use wires::Wires;
 
 /// What changes of a path-management-control word (SA22-7832, chapter 15).

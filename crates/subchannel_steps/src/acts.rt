@@ -21,7 +21,7 @@ use chan_model::lent_forms::lend_up;
 use chan_model::names::{Path, Side};
 use chan_model::unit_state::{Own, Place};
 use finding::tables::Places;
-use subchannel_words::Subchannel;
+use functions::Subchannel;
 use unit::Unit;
 
 /// The path of a place that has one: of a program that is connected.

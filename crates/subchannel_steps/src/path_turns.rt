@@ -10,7 +10,7 @@ use finding::engines::Served;
 use subchannel::choosing::{chosen, paths_to_choose};
 use subchannel::losing::path_index;
 use subchannel_model::state::Chosen;
-use subchannel_words::Subchannel;
+use functions::Subchannel;
 
 fn is_idle(chosen: &Chosen) -> bool
     ensures { result ≡ spec.is_idle chosen.now }

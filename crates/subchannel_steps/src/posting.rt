@@ -6,7 +6,7 @@ ghost use Rattle.subchannel_steps.specs.Giving as giving_spec;
 
 use interruptions::Pending;
 use scsw_irb::code::IntCode;
-use subchannel_words::Subchannel;
+use functions::Subchannel;
 
 /// The request of a subchannel: its name, with the interruption parameter and the subclass that it has.
 fn request_of(sub: &Subchannel) -> IntCode

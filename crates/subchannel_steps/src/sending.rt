@@ -13,7 +13,7 @@ use chan_model::lent::{LentDown, LentUp};
 use chan_model::names::Path;
 use chan_model::paths::PathSet;
 use chan_model::signal::OnPath;
-use subchannel_words::Subchannel;
+use functions::Subchannel;
 use wires::Wires;
 
 /// The signal that waits longest on the wire up of a path, where one waits.

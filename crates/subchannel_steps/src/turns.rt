@@ -51,7 +51,7 @@ use subchannel::paths::is_granted;
 use subchannel::taking::take_up;
 use subchannel_model::cause::StatusCause;
 use subchannel_model::state::{Candidate, Chosen};
-use subchannel_words::Subchannel;
+use functions::Subchannel;
 use unit::Unit;
 use working::sent::SentDown;
 

@@ -19,7 +19,7 @@ use chan_model::unit_state::{Own, Place};
 use channel_config::names::SubchannelId;
 use finding::tables::Places;
 use machine_model::state::UnitTurn;
-use subchannel_words::Subchannel;
+use functions::Subchannel;
 use unit::Unit;
 use wires::Wires;
 

@@ -8,12 +8,12 @@ use Rattle.chan_model.specs.HoldTable.{is_connected, is_on}
 use Rattle.chan_model.specs.Signals.{Down}
 use Rattle.chan_model.specs.declared.signal.Down.TheVariants as down
 use Rattle.chan_model.specs.declared.signal.OnPath.{OnPath}
-use Rattle.transfer.specs.declared.NextChunk.{NextChunk}
-use Rattle.transfer.specs.declared.WithRoom.{WithRoom}
-use Rattle.transfer.specs.ChunkNumbers.{is_answered}
-use Rattle.transfer.specs.ToDevice.{chunk_absorbed, next_chunk}
-use Rattle.transfer.specs.FromDevice.{chunk_stored}
-use Rattle.transfer.specs.Commands.{with_room}
+use Rattle.data_move.specs.declared.transfer.NextChunk.{NextChunk}
+use Rattle.data_move.specs.declared.transfer.WithRoom.{WithRoom}
+use Rattle.data_move.specs.ChunkNumbers.{is_answered}
+use Rattle.data_move.specs.ToDevice.{chunk_absorbed, next_chunk}
+use Rattle.data_move.specs.FromDevice.{chunk_stored}
+use Rattle.data_move.specs.Commands.{with_room}
 use Rattle.subchannel_model.specs.declared.signals.DataSignal.{DataSignal}
 use Rattle.subchannel_model.specs.declared.signals.EndSignal.{EndSignal}
 use Rattle.subchannel_model.specs.declared.state.ActiveProgram.{ActiveProgram}

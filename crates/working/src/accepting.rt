@@ -10,9 +10,9 @@ ghost use Rattle.subchannel_model.specs.Outcomes as outcomes;
 ghost use Rattle.subchannel_model.specs.Suspension as suspension;
 ghost use Rattle.subchannel_model.specs.declared.cause.StatusCause.TheVariants as cause;
 ghost use Rattle.working.specs.Stepping.{subchannel_stepped};
-ghost use Rattle.subchannel_words.specs.Unwired.{with_state};
+ghost use Rattle.functions.specs.Unwired.{with_state};
 ghost use Rattle.chan_model.specs.declared.signal.Down.TheVariants as down;
-ghost use Rattle.transfer.specs.Commands as transfer_spec;
+ghost use Rattle.data_move.specs.Commands as transfer_spec;
 
 use crate::answers::{ignored, let_go, quiet, take_by};
 use crate::intermediate::{interrupt, suspend};
@@ -33,9 +33,9 @@ use status::make_pending;
 use storage_keys::Storage;
 use subchannel_model::cause::StatusCause;
 use subchannel_model::state::{ActiveProgram, Program, ProgramPosition};
-use subchannel_words::{PackedState, Rest};
-use transfer::Transfer;
-use transfer::commands::{command_of, room_to_tell};
+use functions::{PackedState, Rest};
+use data_move::transfer::Transfer;
+use data_move::commands::{command_of, room_to_tell};
 
 /// A program that waits, at its beginning.
 fn from_start(program: Program) -> ProgramPosition

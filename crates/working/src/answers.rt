@@ -13,7 +13,7 @@ use chan_model::lent_forms::lend_down;
 use chan_model::names::Path;
 use chan_model::signal::OnPath;
 use hold::Hold;
-use subchannel_words::PackedState;
+use functions::PackedState;
 
 pub fn ignored(sent: &mut SentDown) -> bool
     ensures { came_so result sent.new ≡ not_taken }

@@ -12,8 +12,8 @@ ghost use Rattle.subchannel_model.specs.Command as command_spec;
 ghost use Rattle.working.specs.Stepping.{subchannel_stepped};
 ghost use Rattle.working.specs.Working as working_spec;
 ghost use Rattle.subchannel_model.specs.declared.cause.StatusCause.TheVariants as cause;
-ghost use Rattle.transfer.specs.Commands as transfer_spec;
-ghost use Rattle.subchannel_words.specs.Unwired.{with_state};
+ghost use Rattle.data_move.specs.Commands as transfer_spec;
+ghost use Rattle.functions.specs.Unwired.{with_state};
 
 use crate::answers::{ignored, let_go, quiet, send};
 use crate::intermediate::suspend;
@@ -33,9 +33,9 @@ use storage_keys::Storage;
 use subchannel_model::cause::StatusCause;
 use subchannel_model::signals::EndSignal;
 use subchannel_model::state::{ActiveProgram, Program};
-use subchannel_words::PackedState;
-use transfer::commands::{begun_with_room, next_command};
-use transfer::{CommandStart, WithRoom};
+use functions::PackedState;
+use data_move::commands::{begun_with_room, next_command};
+use data_move::transfer::{CommandStart, WithRoom};
 
 /// The numbers of an End. None where the signal is another.
 pub fn end_by(path: Path, signal: &LentUp<'_>) -> Option<EndSignal>

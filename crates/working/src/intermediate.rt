@@ -5,7 +5,7 @@ ghost use Rattle.data_move.specs.Moving.{residual};
 ghost use Rattle.subchannel_model.specs.declared.cause.StatusCause.TheVariants as cause;
 ghost use Rattle.subchannel_model.specs.Pci as pci;
 ghost use Rattle.subchannel_model.specs.Suspension as suspension_spec;
-ghost use Rattle.subchannel_words.specs.Unwired.{with_state};
+ghost use Rattle.functions.specs.Unwired.{with_state};
 
 use ccw_walk::Walk;
 use scsw_irb::bits::{
@@ -16,7 +16,7 @@ use scsw_irb::words::ScswWords;
 use status::make_pending;
 use subchannel_model::cause::StatusCause;
 use subchannel_model::state::{ActiveProgram, Program, ProgramPosition};
-use subchannel_words::{PackedState, Rest};
+use functions::{PackedState, Rest};
 
 fn drop_interruption(rest: &mut Rest)
     ensures { rest.new ≡ record rest.old { begun = option_map pci.without_pci rest.old.begun } }

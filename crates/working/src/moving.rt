@@ -6,13 +6,13 @@ ghost use Rattle.chan_model.specs.Signals.{load_bytes, load_of};
 ghost use Rattle.working.specs.Sent.{came_so};
 ghost use Rattle.chan_model.specs.Loads.{load_length};
 ghost use Rattle.chan_model.specs.UnitReports.{is_outward as is_outward_code};
-ghost use Rattle.transfer.specs.FromDevice.{chunk_stored};
+ghost use Rattle.data_move.specs.FromDevice.{chunk_stored};
 ghost use Rattle.subchannel_model.specs.Command as command_spec;
 ghost use Rattle.subchannel_model.specs.Data as on_data;
 ghost use Rattle.subchannel_model.specs.Outcomes as outcomes;
 ghost use Rattle.working.specs.Working as working_spec;
 ghost use Rattle.working.specs.Stepping.{subchannel_stepped};
-ghost use Rattle.subchannel_words.specs.Unwired.{with_state};
+ghost use Rattle.functions.specs.Unwired.{with_state};
 
 use crate::answers::ignored;
 use crate::intermediate::interrupt;
@@ -26,10 +26,10 @@ use hold::Hold;
 use storage_keys::Storage;
 use subchannel_model::signals::DataSignal;
 use subchannel_model::state::ActiveProgram;
-use subchannel_words::PackedState;
-use transfer::Transfer;
-use transfer::chunks::{absorb, bring, give_next, is_answered};
-use transfer::commands::{find_room, is_outward};
+use functions::PackedState;
+use data_move::transfer::Transfer;
+use data_move::chunks::{absorb, bring, give_next, is_answered};
+use data_move::commands::{find_room, is_outward};
 
 /// The numbers of a Data. None where the signal is another.
 pub fn data_by(path: Path, signal: &LentUp<'_>) -> Option<DataSignal>

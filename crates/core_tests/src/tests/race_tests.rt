@@ -13,7 +13,7 @@ use core_lock::naming::Naming;
 use core_lock::parts::Parts;
 use event_log::history::History;
 use path_select::Rotating;
-use racing::racers::{Racers, one_seat};
+use serving::racers::{Racers, one_seat};
 use script_rows::race::Race;
 use std::alloc::Global;
 use std::marker::Brand;

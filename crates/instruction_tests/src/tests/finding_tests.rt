@@ -9,7 +9,7 @@ use finding::engines::engaged;
 use finding::tables::Places;
 use std::alloc::{AllocError, Global};
 use subchannel_model::state::SubchannelState;
-use subchannel_words::{PackedState, Subchannel};
+use functions::{PackedState, Subchannel};
 use supply::{Given, Refusing, Supply};
 use wires::Wires;
 

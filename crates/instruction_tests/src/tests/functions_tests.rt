@@ -15,7 +15,7 @@ use orb_block::Orb;
 use scsw_irb::scsw::Scsw;
 use scsw_irb::serials::Serials;
 use subchannel_model::state::{PmcwState, Program, ProgramPosition, SubchannelState};
-use subchannel_words::PackedState;
+use functions::PackedState;
 
 /// An enabled subchannel whose status word has these three words, and whose number 4 was drawn last.
 fn state(words: [u32; 3]) -> SubchannelState {

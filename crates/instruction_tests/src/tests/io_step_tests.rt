@@ -18,7 +18,7 @@ use scsw_irb::code::IntCode;
 use std::alloc::Global;
 use storage_keys::{Storage, StorageFault};
 use subchannel_model::state::SubchannelState;
-use subchannel_words::{PackedState, Subchannel};
+use functions::{PackedState, Subchannel};
 use wires::Wires;
 
 const WORD: u32 = 0x0001_0001;

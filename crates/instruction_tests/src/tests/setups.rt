@@ -12,9 +12,9 @@ use scsw_irb::serials::Serials;
 use std::alloc::Global;
 use storage_keys::Storage;
 use subchannel_model::state::{ActiveProgram, PmcwState, Program, SubchannelState};
-use subchannel_words::PackedState;
-use transfer::CommandStart;
-use transfer::commands::first_command;
+use functions::PackedState;
+use data_move::transfer::CommandStart;
+use data_move::commands::first_command;
 
 /// An enabled subchannel of subclass 0 that holds no device and has no status.
 pub(crate) fn idle_state() -> SubchannelState {

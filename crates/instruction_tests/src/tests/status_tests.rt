@@ -16,8 +16,8 @@ use std::alloc::Global;
 use storage_keys::Storage;
 use subchannel_model::cause::StatusCause;
 use subchannel_model::state::{ActiveProgram, ProgramPosition, SubchannelState};
-use subchannel_words::PackedState;
-use transfer::chunks::{absorbed, next_given};
+use functions::PackedState;
+use data_move::chunks::{absorbed, next_given};
 
 /// The same once its device has absorbed the four bytes.
 fn moved(alloc: Global) -> Option<ActiveProgram> {

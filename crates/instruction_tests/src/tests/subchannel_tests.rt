@@ -10,7 +10,7 @@ use subchannel::choosing::mark_lost_paths;
 use subchannel::losing::{go_down, lose_path, show_path};
 use subchannel::system_reset::reset_by_system;
 use subchannel_model::state::{PmcwState, SubchannelState};
-use subchannel_words::{PackedState, Subchannel};
+use functions::{PackedState, Subchannel};
 use wires::Wires;
 
 fn first_path() -> Path {

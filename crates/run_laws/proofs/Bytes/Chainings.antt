@@ -18,9 +18,9 @@ use Rattle.idaw.specs.Lists.{block, kind_of}
 use Rattle.idaw.specs.Places.{Reach, place_of_byte, each_below, places_of_bytes}
 use Rattle.data_move.specs.Moving as movement
 use Rattle.data_move.specs.Moving.{Moving, next_place, residual, IsAt}
-use Rattle.transfer.specs.declared.Transfer.{Transfer}
-use Rattle.transfer.specs.Commands.{data_of}
-use Rattle.transfer.specs.DataChaining.{chains_data, with_next_ccw, chained_from, data_chained, with_bytes_moved, after_bytes_moved}
+use Rattle.data_move.specs.declared.transfer.Transfer.{Transfer}
+use Rattle.data_move.specs.Commands.{data_of}
+use Rattle.data_move.specs.DataChaining.{chains_data, with_next_ccw, chained_from, data_chained, with_bytes_moved, after_bytes_moved}
 use Rattle.run_laws.specs.ProgramClaims.{has_check, EndsAtCheck}
 use Rattle.run_laws.specs.DataAreas.{reach, data_areas, reaches_after, reaches_with}
 use Rattle.run_laws.proofs.Traces.MachineActs as doing

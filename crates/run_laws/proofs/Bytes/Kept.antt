@@ -23,10 +23,10 @@ use Rattle.idaw.specs.Places.{Reach, covered, each_below, place_of_byte, places_
 use Rattle.data_move.specs.Accesses as access
 use Rattle.data_move.specs.Accesses.{checked, list_word_of, where_right}
 use Rattle.data_move.specs.Moving.{Moving, with_piece, next_place, needs_word, residual, uses_list, room, IsAt}
-use Rattle.transfer.specs.declared.Transfer.{Transfer}
-use Rattle.transfer.specs.Commands.{located_transfer, with_located}
-use Rattle.transfer.specs.DataChaining.{chains_data, with_next_ccw, data_chained, with_bytes_moved, after_bytes_moved}
-use Rattle.transfer.specs.ToDevice.{with_bytes_offered, with_bytes_fetched}
+use Rattle.data_move.specs.declared.transfer.Transfer.{Transfer}
+use Rattle.data_move.specs.Commands.{located_transfer, with_located}
+use Rattle.data_move.specs.DataChaining.{chains_data, with_next_ccw, data_chained, with_bytes_moved, after_bytes_moved}
+use Rattle.data_move.specs.ToDevice.{with_bytes_offered, with_bytes_fetched}
 use Rattle.run_laws.specs.ProgramClaims.{IsBeginning, places_of, has_check}
 use Rattle.run_laws.specs.DataAreas.{data_areas, counts}
 use Rattle.run_laws.specs.Fetches.{IsNextWord}

@@ -19,8 +19,8 @@ use Rattle.ccw_walk.specs.Acts.{PlacedBytes}
 use Rattle.idaw.specs.Lists.{kind_of, block}
 use Rattle.idaw.specs.Places.{Reach, places_of_bytes, each_below}
 use Rattle.data_move.specs.Moving.{Moving, room, next_place}
-use Rattle.transfer.specs.declared.Transfer.{Transfer}
-use Rattle.transfer.specs.DataChaining.{with_bytes_moved}
+use Rattle.data_move.specs.declared.transfer.Transfer.{Transfer}
+use Rattle.data_move.specs.DataChaining.{with_bytes_moved}
 use Rattle.wires.specs.Queues.{queue, taken}
 use Rattle.scsw_irb.specs.declared.status.DeviceStatus.{DeviceStatus}
 use Rattle.subchannel_model.specs.declared.state.ActiveProgram.{ActiveProgram}

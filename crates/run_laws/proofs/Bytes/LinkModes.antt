@@ -15,7 +15,7 @@ use Rattle.chan_model.specs.declared.unit_state.UnitState.{UnitState}
 use Rattle.chan_model.specs.UnitTable.{UnitStep, came_of, changes, new_command, side_of, is_owner, unit_takes, unit_after, telling}
 use Rattle.chan_model.specs.UnitReports.{is_outward}
 use Rattle.data_move.specs.Moving.{room}
-use Rattle.transfer.specs.declared.Transfer.{Transfer}
+use Rattle.data_move.specs.declared.transfer.Transfer.{Transfer}
 use Rattle.wires.specs.Queues.{queue, taken}
 use Rattle.subchannel_model.specs.declared.state.ActiveProgram.{ActiveProgram}
 use Rattle.subchannel_model.specs.Sending.{with_any_sent}

@@ -14,12 +14,12 @@ use Rattle.idaw.specs.Places.{each_below}
 use Rattle.data_move.specs.Accesses as access
 use Rattle.data_move.specs.Accesses.{checked}
 use Rattle.data_move.specs.Moving.{next_place, room}
-use Rattle.transfer.specs.declared.NextChunk.{NextChunk}
-use Rattle.transfer.specs.declared.Transfer.{Transfer}
-use Rattle.transfer.specs.Commands.{located_transfer, has_stopped}
-use Rattle.transfer.specs.FromDevice.{StoredChunk, fitting_bytes, after_store, bytes_brought_in}
-use Rattle.transfer.specs.DataChaining.{with_bytes_moved, chains_data}
-use Rattle.transfer.specs.ToDevice.{with_chunk_counted, chunk_absorbed, with_bytes_offered, next_chunk, with_bytes_fetched}
+use Rattle.data_move.specs.declared.transfer.NextChunk.{NextChunk}
+use Rattle.data_move.specs.declared.transfer.Transfer.{Transfer}
+use Rattle.data_move.specs.Commands.{located_transfer, has_stopped}
+use Rattle.data_move.specs.FromDevice.{StoredChunk, fitting_bytes, after_store, bytes_brought_in}
+use Rattle.data_move.specs.DataChaining.{with_bytes_moved, chains_data}
+use Rattle.data_move.specs.ToDevice.{with_chunk_counted, chunk_absorbed, with_bytes_offered, next_chunk, with_bytes_fetched}
 use Rattle.run_laws.specs.Traces.{CommandTrace}
 use Rattle.run_laws.specs.ProgramClaims.{IsBeginning, places_of}
 use Rattle.run_laws.specs.DataAreas.{data_areas}

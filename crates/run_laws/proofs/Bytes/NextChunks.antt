@@ -12,12 +12,12 @@ use Rattle.ccw_walk.specs.declared.program.Advance.{Advance}
 use Rattle.ccw_walk.specs.declared.program.Advance.TheVariants as advance
 use Rattle.data_move.specs.Accesses as access
 use Rattle.data_move.specs.Moving.{Moving, room}
-use Rattle.transfer.specs.declared.NextChunk.{NextChunk}
-use Rattle.transfer.specs.declared.Transfer.{Transfer}
-use Rattle.transfer.specs.Commands.{with_located, located_transfer, with_room, has_stopped}
-use Rattle.transfer.specs.FromDevice.{StoredChunk, fitting_bytes, after_store, bytes_brought_in, chunk_stored}
-use Rattle.transfer.specs.DataChaining.{with_bytes_moved, chains_data, with_next_ccw, data_chained, after_bytes_moved}
-use Rattle.transfer.specs.ToDevice.{with_chunk_counted, chunk_absorbed, with_bytes_offered, next_chunk, with_bytes_fetched}
+use Rattle.data_move.specs.declared.transfer.NextChunk.{NextChunk}
+use Rattle.data_move.specs.declared.transfer.Transfer.{Transfer}
+use Rattle.data_move.specs.Commands.{with_located, located_transfer, with_room, has_stopped}
+use Rattle.data_move.specs.FromDevice.{StoredChunk, fitting_bytes, after_store, bytes_brought_in, chunk_stored}
+use Rattle.data_move.specs.DataChaining.{with_bytes_moved, chains_data, with_next_ccw, data_chained, after_bytes_moved}
+use Rattle.data_move.specs.ToDevice.{with_chunk_counted, chunk_absorbed, with_bytes_offered, next_chunk, with_bytes_fetched}
 use Rattle.run_laws.specs.Traces.{CommandTrace}
 use Rattle.run_laws.specs.ProgramClaims.{has_check}
 use Rattle.run_laws.specs.DataAreas.{data_areas}

@@ -8,8 +8,8 @@ use Rattle.ccw_walk.specs.declared.program.Latest.{Latest}
 use Rattle.ccw_walk.specs.Programs.{latest, next_used_up}
 use Rattle.idaw.specs.Places.{each_below}
 use Rattle.data_move.specs.Moving.{next_place, residual}
-use Rattle.transfer.specs.declared.Transfer.{Transfer}
-use Rattle.transfer.specs.DataChaining.{chains_data, with_bytes_moved}
+use Rattle.data_move.specs.declared.transfer.Transfer.{Transfer}
+use Rattle.data_move.specs.DataChaining.{chains_data, with_bytes_moved}
 use Rattle.run_laws.specs.DataAreas.{data_areas, counts}
 use Rattle.run_laws.specs.Traces.{CommandTrace}
 use Rattle.run_laws.specs.Tells.{is_used_up}

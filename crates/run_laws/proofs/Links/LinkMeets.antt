@@ -25,14 +25,14 @@ use Rattle.ccw_walk.specs.Programs.{commands}
 use Rattle.ccw_walk.specs.Places.{WalkPlace, after_command_end}
 use Rattle.idaw.specs.Places.{each_below}
 use Rattle.data_move.specs.Moving.{residual, room}
-use Rattle.transfer.specs.declared.Transfer.{Transfer}
-use Rattle.transfer.specs.declared.CommandStart.{CommandStart}
-use Rattle.transfer.specs.declared.CommandStart.TheVariants as came
-use Rattle.transfer.specs.declared.NextChunk.{NextChunk}
-use Rattle.transfer.specs.Commands.{first_command, next_command, begun_with_room, with_room}
-use Rattle.transfer.specs.FromDevice.{StoredChunk, chunk_stored}
-use Rattle.transfer.specs.ToDevice.{chunk_absorbed, next_chunk}
-use Rattle.transfer.specs.ChunkNumbers.{is_answered}
+use Rattle.data_move.specs.declared.transfer.Transfer.{Transfer}
+use Rattle.data_move.specs.declared.transfer.CommandStart.{CommandStart}
+use Rattle.data_move.specs.declared.transfer.CommandStart.TheVariants as came
+use Rattle.data_move.specs.declared.transfer.NextChunk.{NextChunk}
+use Rattle.data_move.specs.Commands.{first_command, next_command, begun_with_room, with_room}
+use Rattle.data_move.specs.FromDevice.{StoredChunk, chunk_stored}
+use Rattle.data_move.specs.ToDevice.{chunk_absorbed, next_chunk}
+use Rattle.data_move.specs.ChunkNumbers.{is_answered}
 use Rattle.subchannel_model.specs.declared.signals.DataSignal.{DataSignal}
 use Rattle.subchannel_model.specs.declared.signals.EndSignal.{EndSignal}
 use Rattle.subchannel_model.specs.declared.state.ActiveProgram.{ActiveProgram}

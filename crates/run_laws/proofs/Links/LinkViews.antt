@@ -13,12 +13,12 @@ use Rattle.ccw_walk.specs.Advancing.{advance_acts, advance_of_acts}
 use Rattle.idaw.specs.Places.{each_below}
 use Rattle.data_move.specs.Moving.{Moving, next_place, needs_word, room}
 use Rattle.data_move.specs.Accesses as access
-use Rattle.transfer.specs.declared.Transfer.{Transfer}
-use Rattle.transfer.specs.declared.CommandStart.TheVariants as came
-use Rattle.transfer.specs.declared.NextChunk.{NextChunk}
-use Rattle.transfer.specs.Commands.{transfer_of, command_begins, goes_to, located_transfer, with_located, has_stopped}
-use Rattle.transfer.specs.DataChaining.{chains_data, with_next_ccw, data_chained, with_bytes_moved, after_bytes_moved}
-use Rattle.transfer.specs.ToDevice.{with_chunk_counted, chunk_absorbed, chunk_at_place, next_chunk, with_bytes_fetched}
+use Rattle.data_move.specs.declared.transfer.Transfer.{Transfer}
+use Rattle.data_move.specs.declared.transfer.CommandStart.TheVariants as came
+use Rattle.data_move.specs.declared.transfer.NextChunk.{NextChunk}
+use Rattle.data_move.specs.Commands.{transfer_of, command_begins, goes_to, located_transfer, with_located, has_stopped}
+use Rattle.data_move.specs.DataChaining.{chains_data, with_next_ccw, data_chained, with_bytes_moved, after_bytes_moved}
+use Rattle.data_move.specs.ToDevice.{with_chunk_counted, chunk_absorbed, chunk_at_place, next_chunk, with_bytes_fetched}
 use Rattle.run_laws.proofs.Traces.MachineActs as doing
 use Rattle.run_laws.specs.Traces.{CommandTrace}
 use Rattle.run_laws.proofs.Traces.MachineActs.{with_acts, with_places, with_copy, copying, located_acts, chunk_of, chained_acts, trace_answered, gives}

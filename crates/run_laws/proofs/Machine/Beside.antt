@@ -5,7 +5,7 @@ use Rattle.std.specs.Prelude.{if◌then◌else◌}
 use Rattle.ccw_walk.specs.Places.{WalkPlace}
 use Rattle.chan_model.specs.UnitReports.{is_last_end}
 use Rattle.data_move.specs.Moving.{residual}
-use Rattle.transfer.specs.declared.Transfer.{Transfer}
+use Rattle.data_move.specs.declared.transfer.Transfer.{Transfer}
 use Rattle.subchannel_model.specs.declared.cause.StatusCause.{StatusCause}
 use Rattle.subchannel_model.specs.declared.cause.StatusCause.TheVariants as cause
 use Rattle.subchannel_model.specs.declared.state.ActiveProgram.{ActiveProgram}

@@ -9,7 +9,7 @@ use Rattle.chan_model.specs.UnitReports.{is_last_end}
 use Rattle.ccw_walk.specs.Places.{WalkPlace}
 use Rattle.data_move.specs.Moving.{residual}
 use Rattle.scsw_irb.specs.declared.serials.Serials.{Serials}
-use Rattle.transfer.specs.declared.Transfer.{Transfer}
+use Rattle.data_move.specs.declared.transfer.Transfer.{Transfer}
 use Rattle.subchannel_model.specs.declared.cause.StatusCause.{StatusCause}
 use Rattle.subchannel_model.specs.declared.cause.StatusCause.TheVariants as cause
 use Rattle.subchannel_model.specs.declared.state.ActiveProgram.{ActiveProgram}

@@ -1,7 +1,7 @@
 -- A status that is made leaves the hold and the counter of numbers as they are.
 use Rattle.std.proofs.Common.{refl, ◌≡◌, ◌∙◌, ℕ, Bool, Option}
 use Rattle.ccw_walk.specs.Places.{WalkPlace}
-use Rattle.transfer.specs.declared.Transfer.{Transfer}
+use Rattle.data_move.specs.declared.transfer.Transfer.{Transfer}
 use Rattle.subchannel_model.specs.declared.cause.StatusCause.{StatusCause}
 use Rattle.subchannel_model.specs.declared.state.ActiveProgram.{ActiveProgram}
 use Rattle.subchannel_model.specs.declared.state.Program.{Program}

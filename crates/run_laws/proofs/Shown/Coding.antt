@@ -20,13 +20,13 @@ use Rattle.chan_model.specs.Loads.{load_length}
 use Rattle.chan_model.specs.ResetCauses.{rests_on}
 use Rattle.chan_model.specs.UnitReports.{is_last_end, is_outward, has_device_end}
 use Rattle.data_move.specs.Moving.{residual}
-use Rattle.transfer.specs.declared.Beginning.{Beginning}
-use Rattle.transfer.specs.declared.CommandStart.{CommandStart}
-use Rattle.transfer.specs.declared.CommandStart.TheVariants as came
-use Rattle.transfer.specs.Commands.{first_command, next_command, begun_with_room, with_room}
-use Rattle.transfer.specs.ToDevice.{chunk_absorbed, next_chunk}
-use Rattle.transfer.specs.FromDevice.{chunk_stored}
-use Rattle.transfer.specs.ChunkNumbers.{is_answered}
+use Rattle.data_move.specs.declared.transfer.Beginning.{Beginning}
+use Rattle.data_move.specs.declared.transfer.CommandStart.{CommandStart}
+use Rattle.data_move.specs.declared.transfer.CommandStart.TheVariants as came
+use Rattle.data_move.specs.Commands.{first_command, next_command, begun_with_room, with_room}
+use Rattle.data_move.specs.ToDevice.{chunk_absorbed, next_chunk}
+use Rattle.data_move.specs.FromDevice.{chunk_stored}
+use Rattle.data_move.specs.ChunkNumbers.{is_answered}
 use Rattle.subchannel_model.specs.declared.cause.StatusCause.{StatusCause}
 use Rattle.subchannel_model.specs.declared.cause.StatusCause.TheVariants as cause
 use Rattle.subchannel_model.specs.declared.signals.DataSignal.{DataSignal}

@@ -44,7 +44,7 @@ use Rattle.subchannel_model.specs.Status.{intermediate_alone, without_status}
 use Rattle.subchannel_model.specs.Test.{tested, tested_scsw, ended_scsw, suspended_scsw, ends_suspended}
 use Rattle.scsw_irb.specs.declared.status.DeviceStatus.{DeviceStatus}
 use Rattle.chan_model.specs.UnitReports.{is_last_end}
-use Rattle.transfer.specs.declared.Transfer.{Transfer}
+use Rattle.data_move.specs.declared.transfer.Transfer.{Transfer}
 use Rattle.subchannel_model.specs.declared.state.ActiveProgram.{ActiveProgram}
 use Rattle.subchannel_model.specs.declared.state.Program.{Program}
 use Rattle.subchannel_model.specs.Ends.{last_shown, work_shown}

@@ -20,13 +20,13 @@ use Rattle.channel_config.specs.declared.names.SubchannelId.{SubchannelId}
 use Rattle.ccw_walk.specs.Places.{WalkPlace}
 use Rattle.data_move.specs.Moving.{residual}
 use Rattle.storage_keys.specs.Storage.{Contents}
-use Rattle.transfer.specs.declared.CommandStart.{CommandStart}
-use Rattle.transfer.specs.declared.CommandStart.TheVariants as came
-use Rattle.transfer.specs.declared.Transfer.{Transfer}
-use Rattle.transfer.specs.Commands.{first_command, next_command, begun_with_room, with_room}
-use Rattle.transfer.specs.ToDevice.{chunk_absorbed, next_chunk}
-use Rattle.transfer.specs.FromDevice.{chunk_stored}
-use Rattle.transfer.specs.ChunkNumbers.{is_answered}
+use Rattle.data_move.specs.declared.transfer.CommandStart.{CommandStart}
+use Rattle.data_move.specs.declared.transfer.CommandStart.TheVariants as came
+use Rattle.data_move.specs.declared.transfer.Transfer.{Transfer}
+use Rattle.data_move.specs.Commands.{first_command, next_command, begun_with_room, with_room}
+use Rattle.data_move.specs.ToDevice.{chunk_absorbed, next_chunk}
+use Rattle.data_move.specs.FromDevice.{chunk_stored}
+use Rattle.data_move.specs.ChunkNumbers.{is_answered}
 use Rattle.machine_model.specs.declared.state.Sweep.{Sweep}
 use Rattle.machine_model.specs.declared.state.Sweep.TheVariants as sweep
 use Rattle.machine_model.specs.PathSteps.{swept}

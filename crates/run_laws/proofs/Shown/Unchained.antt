@@ -10,11 +10,11 @@ use Rattle.ccw_walk.specs.Advancing.{advance_acts, advance_of_acts}
 use Rattle.data_move.specs.Moving as movement
 use Rattle.data_move.specs.Moving.{Moving}
 use Rattle.data_move.specs.Accesses as access
-use Rattle.transfer.specs.declared.Transfer.{Transfer}
-use Rattle.transfer.specs.Commands.{with_located, located_transfer, with_room, has_stopped}
-use Rattle.transfer.specs.FromDevice.{StoredChunk, after_store, fitting_bytes, bytes_brought_in, chunk_stored, nothing_stored}
-use Rattle.transfer.specs.DataChaining.{chains_data, with_next_ccw, data_chained, with_bytes_moved, after_bytes_moved}
-use Rattle.transfer.specs.ToDevice.{with_chunk_counted, chunk_absorbed, with_bytes_offered, chunk_at_place, next_chunk, with_bytes_fetched}
+use Rattle.data_move.specs.declared.transfer.Transfer.{Transfer}
+use Rattle.data_move.specs.Commands.{with_located, located_transfer, with_room, has_stopped}
+use Rattle.data_move.specs.FromDevice.{StoredChunk, after_store, fitting_bytes, bytes_brought_in, chunk_stored, nothing_stored}
+use Rattle.data_move.specs.DataChaining.{chains_data, with_next_ccw, data_chained, with_bytes_moved, after_bytes_moved}
+use Rattle.data_move.specs.ToDevice.{with_chunk_counted, chunk_absorbed, with_bytes_offered, chunk_at_place, next_chunk, with_bytes_fetched}
 
 abbrev pub IsSame : Transfer → Transfer → Type 0
 IsSame t x = x.unchained ≡ t.unchained

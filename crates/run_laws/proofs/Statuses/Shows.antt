@@ -14,13 +14,13 @@ use Rattle.ccw_walk.specs.declared.check.Check.{Check}
 use Rattle.ccw_walk.specs.Acts.{Act, End}
 use Rattle.ccw_walk.specs.Places.{WalkPlace, walk_place}
 use Rattle.data_move.specs.Moving.{residual}
-use Rattle.transfer.specs.declared.Beginning.{Beginning}
-use Rattle.transfer.specs.declared.CommandStart.{CommandStart}
-use Rattle.transfer.specs.declared.CommandStart.TheVariants as came
-use Rattle.transfer.specs.Commands.{next_command, begun_with_room, with_room}
-use Rattle.transfer.specs.FromDevice.{chunk_stored}
-use Rattle.transfer.specs.ChunkNumbers.{is_answered}
-use Rattle.transfer.specs.ToDevice.{next_chunk, chunk_absorbed}
+use Rattle.data_move.specs.declared.transfer.Beginning.{Beginning}
+use Rattle.data_move.specs.declared.transfer.CommandStart.{CommandStart}
+use Rattle.data_move.specs.declared.transfer.CommandStart.TheVariants as came
+use Rattle.data_move.specs.Commands.{next_command, begun_with_room, with_room}
+use Rattle.data_move.specs.FromDevice.{chunk_stored}
+use Rattle.data_move.specs.ChunkNumbers.{is_answered}
+use Rattle.data_move.specs.ToDevice.{next_chunk, chunk_absorbed}
 use Rattle.subchannel_model.specs.declared.signals.DataSignal.{DataSignal}
 use Rattle.subchannel_model.specs.declared.signals.EndSignal.{EndSignal}
 use Rattle.subchannel_model.specs.declared.state.ActiveProgram.{ActiveProgram}

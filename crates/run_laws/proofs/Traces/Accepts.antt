@@ -12,9 +12,9 @@ use Rattle.ccw_walk.specs.Acts.{Act}
 use Rattle.ccw_walk.specs.Programs.{IsProgram, role_of, next, commands}
 use Rattle.ccw_walk.specs.Places.{WalkPlace, walk_place}
 use Rattle.ccw_walk.specs.Advancing.{advance_acts}
-use Rattle.transfer.specs.declared.CommandStart.{CommandStart}
-use Rattle.transfer.specs.declared.CommandStart.TheVariants as came
-use Rattle.transfer.specs.Commands.{first_command, begun_with_room}
+use Rattle.data_move.specs.declared.transfer.CommandStart.{CommandStart}
+use Rattle.data_move.specs.declared.transfer.CommandStart.TheVariants as came
+use Rattle.data_move.specs.Commands.{first_command, begun_with_room}
 use Rattle.subchannel_model.specs.declared.state.ActiveProgram.{ActiveProgram}
 use Rattle.subchannel_model.specs.declared.state.Program.{Program}
 use Rattle.subchannel_model.specs.declared.state.ProgramPosition.{ProgramPosition}

@@ -26,13 +26,13 @@ use Rattle.data_move.specs.Accesses as access
 use Rattle.data_move.specs.Moving.{Moving, needs_word, residual, room}
 use Rattle.idaw.specs.declared.WordFault.{WordFault}
 use Rattle.idaw.specs.Lists.{word_fault}
-use Rattle.transfer.specs.declared.Transfer.{Transfer}
-use Rattle.transfer.specs.declared.CommandStart.{CommandStart}
-use Rattle.transfer.specs.declared.CommandStart.TheVariants as came
-use Rattle.transfer.specs.Commands.{begun_with_room, brings, command_begins, goes_to, has_stopped, located_transfer, next_command, transfer_of, with_located, with_room}
-use Rattle.transfer.specs.FromDevice.{chunk_stored, after_store, bytes_brought_in, fitting_bytes}
-use Rattle.transfer.specs.DataChaining.{data_chained, chained_from, with_next_ccw, chains_data, after_bytes_moved, with_bytes_moved}
-use Rattle.transfer.specs.ToDevice.{with_bytes_offered, next_chunk, chunk_absorbed, with_chunk_counted, with_bytes_fetched}
+use Rattle.data_move.specs.declared.transfer.Transfer.{Transfer}
+use Rattle.data_move.specs.declared.transfer.CommandStart.{CommandStart}
+use Rattle.data_move.specs.declared.transfer.CommandStart.TheVariants as came
+use Rattle.data_move.specs.Commands.{begun_with_room, brings, command_begins, goes_to, has_stopped, located_transfer, next_command, transfer_of, with_located, with_room}
+use Rattle.data_move.specs.FromDevice.{chunk_stored, after_store, bytes_brought_in, fitting_bytes}
+use Rattle.data_move.specs.DataChaining.{data_chained, chained_from, with_next_ccw, chains_data, after_bytes_moved, with_bytes_moved}
+use Rattle.data_move.specs.ToDevice.{with_bytes_offered, next_chunk, chunk_absorbed, with_chunk_counted, with_bytes_fetched}
 use Rattle.subchannel_model.specs.declared.state.ActiveProgram.{ActiveProgram}
 use Rattle.subchannel_model.specs.declared.state.SubchannelState.{SubchannelState}
 use Rattle.subchannel_model.specs.declared.status.Shown.{Shown}

@@ -12,10 +12,10 @@ use Rattle.chan_model.specs.UnitReports.{has_device_end, has_unit_check, is_last
 use Rattle.ccw_walk.specs.Programs.{latest, next}
 use Rattle.ccw_walk.specs.Acts.{Act, End}
 use Rattle.ccw_walk.specs.Places.{WalkPlace}
-use Rattle.transfer.specs.declared.Beginning.{Beginning}
-use Rattle.transfer.specs.declared.CommandStart.{CommandStart}
-use Rattle.transfer.specs.declared.CommandStart.TheVariants as came
-use Rattle.transfer.specs.Commands.{next_command, begun_with_room}
+use Rattle.data_move.specs.declared.transfer.Beginning.{Beginning}
+use Rattle.data_move.specs.declared.transfer.CommandStart.{CommandStart}
+use Rattle.data_move.specs.declared.transfer.CommandStart.TheVariants as came
+use Rattle.data_move.specs.Commands.{next_command, begun_with_room}
 use Rattle.scsw_irb.specs.declared.serials.Serials.{Serials}
 use Rattle.subchannel_model.specs.declared.signals.EndSignal.{EndSignal}
 use Rattle.subchannel_model.specs.declared.state.ActiveProgram.{ActiveProgram}

@@ -11,12 +11,12 @@ use Rattle.chan_model.specs.declared.signal.Up.TheVariants as up
 use Rattle.chan_model.specs.Loads.{load_length}
 use Rattle.chan_model.specs.UnitReports.{is_outward}
 use Rattle.ccw_walk.specs.Places.{walk_place}
-use Rattle.transfer.specs.declared.NextChunk.{NextChunk}
-use Rattle.transfer.specs.declared.Transfer.{Transfer}
-use Rattle.transfer.specs.Commands.{located_transfer}
-use Rattle.transfer.specs.FromDevice.{StoredChunk, chunk_stored}
-use Rattle.transfer.specs.ToDevice.{chunk_absorbed, next_chunk}
-use Rattle.transfer.specs.ChunkNumbers.{is_answered}
+use Rattle.data_move.specs.declared.transfer.NextChunk.{NextChunk}
+use Rattle.data_move.specs.declared.transfer.Transfer.{Transfer}
+use Rattle.data_move.specs.Commands.{located_transfer}
+use Rattle.data_move.specs.FromDevice.{StoredChunk, chunk_stored}
+use Rattle.data_move.specs.ToDevice.{chunk_absorbed, next_chunk}
+use Rattle.data_move.specs.ChunkNumbers.{is_answered}
 use Rattle.subchannel_model.specs.declared.signals.DataSignal.{DataSignal}
 use Rattle.subchannel_model.specs.declared.state.ActiveProgram.{ActiveProgram}
 use Rattle.subchannel_model.specs.declared.state.SubchannelState.{SubchannelState}

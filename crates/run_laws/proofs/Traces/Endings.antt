@@ -6,7 +6,7 @@ use Rattle.ccw_walk.specs.declared.program.Latest.{Latest}
 use Rattle.ccw_walk.specs.Acts.{Act, End}
 use Rattle.ccw_walk.specs.Programs.{role_of, latest, next_ended, tried}
 use Rattle.ccw_walk.specs.Places.{WalkPlace}
-use Rattle.transfer.specs.declared.Transfer.{Transfer}
+use Rattle.data_move.specs.declared.transfer.Transfer.{Transfer}
 use Rattle.subchannel_model.specs.Ends.{has_status_modifier}
 use Rattle.run_laws.specs.Traces.{ProgramTrace}
 use Rattle.run_laws.proofs.Traces.MachineTraces.{ends_alone, with_ended}

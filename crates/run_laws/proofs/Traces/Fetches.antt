@@ -25,13 +25,13 @@ use Rattle.idaw.specs.Places.{Reach}
 use Rattle.data_move.specs.Moving.{Moving, needs_word, room}
 use Rattle.data_move.specs.Accesses as access
 use Rattle.data_move.specs.Accesses.{checked, list_word_of}
-use Rattle.transfer.specs.declared.Transfer.{Transfer}
-use Rattle.transfer.specs.declared.CommandStart.{CommandStart}
-use Rattle.transfer.specs.declared.CommandStart.TheVariants as came
-use Rattle.transfer.specs.Commands.{goes_to, located_transfer, has_stopped, brings}
-use Rattle.transfer.specs.DataChaining.{chains_data, with_bytes_moved}
-use Rattle.transfer.specs.ToDevice.{with_chunk_counted, chunk_absorbed}
-use Rattle.transfer.specs.FromDevice.{after_store, bytes_brought_in, chunk_stored, fitting_bytes}
+use Rattle.data_move.specs.declared.transfer.Transfer.{Transfer}
+use Rattle.data_move.specs.declared.transfer.CommandStart.{CommandStart}
+use Rattle.data_move.specs.declared.transfer.CommandStart.TheVariants as came
+use Rattle.data_move.specs.Commands.{goes_to, located_transfer, has_stopped, brings}
+use Rattle.data_move.specs.DataChaining.{chains_data, with_bytes_moved}
+use Rattle.data_move.specs.ToDevice.{with_chunk_counted, chunk_absorbed}
+use Rattle.data_move.specs.FromDevice.{after_store, bytes_brought_in, chunk_stored, fitting_bytes}
 use Rattle.run_laws.specs.DataAreas.{data_areas}
 use Rattle.run_laws.proofs.Traces.MachineActs as doing
 use Rattle.run_laws.specs.Traces.{Arrival, CommandTrace}

@@ -11,7 +11,7 @@ use Rattle.chan_model.specs.HoldTable.{HoldStep, hold_after, letting_go}
 use Rattle.chan_model.specs.UnitReports.{is_outward}
 use Rattle.ccw_walk.specs.Programs.{role_of}
 use Rattle.ccw_walk.specs.Places.{walk_place}
-use Rattle.transfer.specs.declared.Transfer.{Transfer}
+use Rattle.data_move.specs.declared.transfer.Transfer.{Transfer}
 use Rattle.scsw_irb.specs.declared.scsw.Scsw.{Scsw}
 use Rattle.subchannel_model.specs.declared.state.ActiveProgram.{ActiveProgram}
 use Rattle.subchannel_model.specs.declared.state.PmcwState.{PmcwState}

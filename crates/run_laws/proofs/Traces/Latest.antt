@@ -10,7 +10,7 @@ use Rattle.ccw_walk.specs.Acts.{Act, Block, Unfetched, Used_up, End, Word}
 use Rattle.ccw_walk.specs.Blocks.{reads}
 use Rattle.ccw_walk.specs.Programs.{Command, code, role_of, latest, latest_after, next_ended, commands, commands_after}
 use Rattle.idaw.specs.Places.{Reach, reach_with_word}
-use Rattle.transfer.specs.declared.Transfer.{Transfer}
+use Rattle.data_move.specs.declared.transfer.Transfer.{Transfer}
 use Rattle.run_laws.specs.DataAreas.{reach, data_areas, reaches_after, word_after}
 use Rattle.run_laws.proofs.Traces.Ties.{HasCode, IsMovedTo, Tied, ccw-of}
 

@@ -14,13 +14,13 @@ use Rattle.idaw.specs.Places.{each_below}
 use Rattle.data_move.specs.Moving.{Moving, needs_word, next_place, room}
 use Rattle.data_move.specs.Accesses as access
 use Rattle.run_laws.specs.Traces.{CommandTrace}
-use Rattle.transfer.specs.declared.Transfer.{Transfer}
-use Rattle.transfer.specs.declared.CommandStart.{CommandStart}
-use Rattle.transfer.specs.declared.CommandStart.TheVariants.{Begins, Suspends, Stops}
-use Rattle.transfer.specs.Commands.{goes_to, located_transfer, has_stopped, brings}
-use Rattle.transfer.specs.FromDevice.{StoredChunk, fitting_bytes, chunk_stored}
-use Rattle.transfer.specs.DataChaining.{with_bytes_moved, chains_data}
-use Rattle.transfer.specs.ToDevice.{with_chunk_counted, chunk_absorbed, next_chunk}
+use Rattle.data_move.specs.declared.transfer.Transfer.{Transfer}
+use Rattle.data_move.specs.declared.transfer.CommandStart.{CommandStart}
+use Rattle.data_move.specs.declared.transfer.CommandStart.TheVariants.{Begins, Suspends, Stops}
+use Rattle.data_move.specs.Commands.{goes_to, located_transfer, has_stopped, brings}
+use Rattle.data_move.specs.FromDevice.{StoredChunk, fitting_bytes, chunk_stored}
+use Rattle.data_move.specs.DataChaining.{with_bytes_moved, chains_data}
+use Rattle.data_move.specs.ToDevice.{with_chunk_counted, chunk_absorbed, next_chunk}
 
 -- a word of an indirect list is fetched where it is needed
 abbrev pub act_of_right : Option WordFault → ℕ → List Act

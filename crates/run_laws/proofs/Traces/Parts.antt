@@ -20,14 +20,14 @@ use Rattle.idaw.specs.Lists.{word_fault}
 use Rattle.idaw.specs.Places.{each_below}
 use Rattle.data_move.specs.Moving.{Moving, next_place, room, needs_word}
 use Rattle.data_move.specs.Accesses as access
-use Rattle.transfer.specs.declared.Transfer.{Transfer}
-use Rattle.transfer.specs.declared.Beginning.{Beginning}
-use Rattle.transfer.specs.declared.CommandStart.{CommandStart}
-use Rattle.transfer.specs.declared.CommandStart.TheVariants as came
-use Rattle.transfer.specs.Commands.{goes_to, located_transfer, with_located, begun_with_room, with_room, brings, has_stopped}
-use Rattle.transfer.specs.DataChaining.{chains_data, with_next_ccw, data_chained, with_bytes_moved, after_bytes_moved}
-use Rattle.transfer.specs.ToDevice.{with_chunk_counted, chunk_absorbed, with_bytes_offered, chunk_at_place, next_chunk, with_bytes_fetched}
-use Rattle.transfer.specs.FromDevice.{after_store, bytes_brought_in, chunk_stored, fitting_bytes}
+use Rattle.data_move.specs.declared.transfer.Transfer.{Transfer}
+use Rattle.data_move.specs.declared.transfer.Beginning.{Beginning}
+use Rattle.data_move.specs.declared.transfer.CommandStart.{CommandStart}
+use Rattle.data_move.specs.declared.transfer.CommandStart.TheVariants as came
+use Rattle.data_move.specs.Commands.{goes_to, located_transfer, with_located, begun_with_room, with_room, brings, has_stopped}
+use Rattle.data_move.specs.DataChaining.{chains_data, with_next_ccw, data_chained, with_bytes_moved, after_bytes_moved}
+use Rattle.data_move.specs.ToDevice.{with_chunk_counted, chunk_absorbed, with_bytes_offered, chunk_at_place, next_chunk, with_bytes_fetched}
+use Rattle.data_move.specs.FromDevice.{after_store, bytes_brought_in, chunk_stored, fitting_bytes}
 use Rattle.run_laws.specs.DataAreas.{data_areas}
 use Rattle.run_laws.proofs.Traces.MachineActs as doing
 use Rattle.run_laws.specs.Traces.{CommandTrace, Arrival}

@@ -23,12 +23,12 @@ use Rattle.idaw.specs.Places.{Reach, place_of_byte, each_below, places_of_bytes,
 use Rattle.data_move.specs.Moving as movement
 use Rattle.data_move.specs.Moving.{Moving, moving_begun, with_piece, moved, next_place, needs_word, residual, uses_list, room, IsAt, MayFetch}
 use Rattle.data_move.specs.Accesses as access
-use Rattle.transfer.specs.declared.Transfer.{Transfer}
-use Rattle.transfer.specs.declared.CommandStart.{CommandStart}
-use Rattle.transfer.specs.declared.CommandStart.TheVariants as came
-use Rattle.transfer.specs.Commands.{is_skipped, transfer_of, command_begins, goes_to, with_located, located_transfer, begun_with_room, with_room, brings}
+use Rattle.data_move.specs.declared.transfer.Transfer.{Transfer}
+use Rattle.data_move.specs.declared.transfer.CommandStart.{CommandStart}
+use Rattle.data_move.specs.declared.transfer.CommandStart.TheVariants as came
+use Rattle.data_move.specs.Commands.{is_skipped, transfer_of, command_begins, goes_to, with_located, located_transfer, begun_with_room, with_room, brings}
 use Rattle.ccw_codec.specs.Command.{class_of}
-use Rattle.transfer.specs.DataChaining.{with_bytes_moved}
+use Rattle.data_move.specs.DataChaining.{with_bytes_moved}
 use Rattle.step_laws.specs.Walks.{AreWalks}
 use Rattle.run_laws.specs.Agreeing.{AreAbove}
 use Rattle.chan_events.specs.declared.reply.Entry.{Entry}

@@ -21,13 +21,13 @@ use Rattle.channel_config.specs.declared.parts.SubchannelSetup.{SubchannelSetup}
 use Rattle.ccw_walk.specs.Places.{WalkPlace}
 use Rattle.data_move.specs.Moving.{residual}
 use Rattle.storage_keys.specs.Storage.{Contents}
-use Rattle.transfer.specs.declared.CommandStart.{CommandStart}
-use Rattle.transfer.specs.declared.CommandStart.TheVariants as came
-use Rattle.transfer.specs.declared.Transfer.{Transfer}
-use Rattle.transfer.specs.FromDevice.{chunk_stored}
-use Rattle.transfer.specs.ChunkNumbers.{is_answered}
-use Rattle.transfer.specs.ToDevice.{next_chunk, chunk_absorbed}
-use Rattle.transfer.specs.Commands.{begun_with_room, first_command, next_command, with_room}
+use Rattle.data_move.specs.declared.transfer.CommandStart.{CommandStart}
+use Rattle.data_move.specs.declared.transfer.CommandStart.TheVariants as came
+use Rattle.data_move.specs.declared.transfer.Transfer.{Transfer}
+use Rattle.data_move.specs.FromDevice.{chunk_stored}
+use Rattle.data_move.specs.ChunkNumbers.{is_answered}
+use Rattle.data_move.specs.ToDevice.{next_chunk, chunk_absorbed}
+use Rattle.data_move.specs.Commands.{begun_with_room, first_command, next_command, with_room}
 use Rattle.subchannel_model.specs.declared.cause.StatusCause.TheVariants as cause
 use Rattle.subchannel_model.specs.declared.signals.DataSignal.{DataSignal}
 use Rattle.subchannel_model.specs.declared.signals.EndSignal.{EndSignal}

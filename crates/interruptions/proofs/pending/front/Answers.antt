@@ -1,8 +1,8 @@
 use Rattle.std.proofs.Common.{◌<◌, length, ◌∙◌, sym, ap, Bool, None, Some, eq-eqb, arith}
 use Rattle.std.specs.Prelude.{if◌then◌else◌}
 use Rattle.std.proofs.lemmas.List.{get_or_read}
-use Rattle.linked.specs.Circles.{next_of}
-use Rattle.linked.proofs.Members.{differ}
+use Rattle.interruptions.specs.Circles.{next_of}
+use Rattle.interruptions.proofs.Members.{differ}
 use Rattle.interruptions.specs.Places.{no_request, request_at}
 use Rattle.interruptions.proofs.Values.{first-request}
 use Rattle.interruptions.proofs.pending.front.Goals as goal

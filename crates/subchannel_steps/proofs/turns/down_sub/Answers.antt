@@ -7,7 +7,7 @@ use Rattle.chan_model.specs.UnitTable.{came_of, unit_after, unit_takes}
 use Rattle.wires.specs.Queues.{Queues, first_of}
 use Rattle.subchannel_model.specs.Sending.{carried_by, finds_full}
 use Rattle.subchannel_model.specs.declared.state.Subchannel.{Subchannel}
-use Rattle.subchannel_words.specs.contracts.subchannel.Subchannel.{the_view}
+use Rattle.functions.specs.contracts.subchannel.Subchannel.{the_view}
 use Rattle.machine_model.specs.DownSteps.{down_shared, with_answer}
 use Rattle.machine_model.specs.ReportSteps.{with_any_up}
 use Rattle.machine_model.specs.Sharing.{is_asked_for, may_take, members_after, owing_after}

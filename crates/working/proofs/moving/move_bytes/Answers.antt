@@ -10,7 +10,7 @@ use Rattle.storage_keys.specs.Storage.{Contents}
 use Rattle.chan_model.specs.Loads.{load_length}
 use Rattle.chan_model.specs.Signals.{Load}
 use Rattle.working.specs.Sent.{came_so}
-use Rattle.transfer.specs.FromDevice.{chunk_stored}
+use Rattle.data_move.specs.FromDevice.{chunk_stored}
 use Rattle.working.specs.Stepping.{subchannel_stepped}
 use Rattle.chan_model.specs.Lent.{lent_up}
 use Rattle.chan_model.specs.Signals.{load_of}

@@ -2,8 +2,8 @@ use Rattle.std.proofs.Common.{◌+◌, ◌∷◌, ℕ, List, length, ap, subst, 
 use Rattle.core_lock.specs.Seats.{HeldSeat}
 use Rattle.serving.specs.Racing.{HasAll}
 use Rattle.serving.specs.Acting.{Installed}
-use Rattle.racing.specs.declared.tally.Tally.{Tally}
-use Rattle.racing.specs.Racing.{HasLogs, seats_of, total_of}
+use Rattle.serving.specs.declared.tally.Tally.{Tally}
+use Rattle.serving.specs.Race.{HasLogs, seats_of, total_of}
 use Rattle.subsystem.specs.Keeping.{StaysSetUp}
 use Rattle.serving.proofs.Auditing.{settled, stays_by, told_audited, told_of}
 use Rattle.serving.proofs.installation.Installation.race.Goals as goal

@@ -1,0 +1,14 @@
+use Rattle.std.proofs.Common.{refl}
+use Rattle.functions.proofs.Setting.{mask-shown, mask-tied}
+use Rattle.functions.proofs.state.PackedState.set_not_operational.Goals as goal
+
+pub invariant_of-self : goal.invariant_of-self
+invariant_of-self c =
+    let s = c.self.inside in
+    mask-tied (λ p m. record p { not_operational = m }) s.setup s.pmcw c.set_not_operational.new.self s.scsw s.up s.rest c.mask.result c.args.set c.self.invariant c.set_not_operational.ensures c.mask.ensures.mask (λ m. refl)
+
+pub returns : goal.returns
+returns c =
+    let s = c.self.inside in
+    mask-shown (λ p m. record p { not_operational = m }) (λ p set. record p { not_operational = set }) s.setup s.pmcw c.set_not_operational.new.self s.scsw s.up s.rest c.mask.result c.args.set _
+    c.set_not_operational.ensures c.mask.ensures.set c.self.view_is refl

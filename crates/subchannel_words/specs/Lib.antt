@@ -1,2 +1,0 @@
-pub mod Unwired
-pub mod Lending

@@ -1,6 +1,0 @@
-pub mod Commands
-pub mod ChunkNumbers
-pub mod DataChaining
-pub mod ToDevice
-pub mod FromDevice
-pub mod Numbers
