@@ -11,7 +11,7 @@ use Rattle.chan_model.specs.Signals.{Down}
 use Rattle.chan_model.specs.declared.unit_state.Attention.{Attention}
 use Rattle.chan_model.specs.declared.unit_state.Own.{Own}
 use Rattle.chan_model.specs.declared.unit_state.Own.TheVariants as own
-use Rattle.chan_model.specs.declared.unit_state.Place.TheVariants as place
+use Rattle.chan_model.specs.declared.unit_state.Connection.TheVariants as place
 use Rattle.chan_model.specs.declared.unit_state.UnitState.{UnitState}
 use Rattle.chan_model.specs.UnitTable.{unit_after, owns, is_idle, leaving, asking, attending, telling, noticing, side_of}
 use Rattle.chan_model.specs.UnitReports.{unit_reports}

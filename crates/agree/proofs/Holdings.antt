@@ -11,11 +11,11 @@ use Rattle.chan_model.specs.Signals.{Down}
 use Rattle.chan_model.specs.declared.signal.Down.TheVariants as down
 use Rattle.chan_model.specs.Signals.{Load}
 use Rattle.chan_model.specs.declared.signal.Up.TheVariants as up
-use Rattle.chan_model.specs.declared.unit_state.AtHand.{AtHand}
+use Rattle.chan_model.specs.declared.unit_state.CurrentCommand.{CurrentCommand}
 use Rattle.chan_model.specs.declared.unit_state.Own.{Own}
 use Rattle.chan_model.specs.declared.unit_state.Own.TheVariants as own
-use Rattle.chan_model.specs.declared.unit_state.Place.{Place}
-use Rattle.chan_model.specs.declared.unit_state.Place.TheVariants as place
+use Rattle.chan_model.specs.declared.unit_state.Connection.{Connection}
+use Rattle.chan_model.specs.declared.unit_state.Connection.TheVariants as place
 use Rattle.chan_model.specs.declared.unit_state.Progress.{Progress}
 use Rattle.chan_model.specs.declared.unit_state.Progress.TheVariants as progress
 use Rattle.chan_model.specs.declared.unit_state.SideState.{SideState}
@@ -127,15 +127,15 @@ if-keeps : (u : UnitState) (b : Bool) (x y : Option UnitStep) → Keeps u x → 
 if-keeps u true x y e f = e
 if-keeps u false x y e f = f
 
-absorbed-keeps : (u : UnitState) (p t c : ℕ) (x : AtHand) (given : Option (List ℕ)) (count : ℕ) → Keeps u (report_absorbed u p t c x given count)
+absorbed-keeps : (u : UnitState) (p t c : ℕ) (x : CurrentCommand) (given : Option (List ℕ)) (count : ℕ) → Keeps u (report_absorbed u p t c x given count)
 absorbed-keeps u p t c x None count = refl
 absorbed-keeps u p t c x (Some bytes) count = if-keeps u (nat_le count (length bytes)) _ None refl refl
 
-again-keeps : (u : UnitState) (p t c : ℕ) (x : AtHand) (load : Option Load) → Keeps u (sent_again u p t c x load)
+again-keeps : (u : UnitState) (p t c : ℕ) (x : CurrentCommand) (load : Option Load) → Keeps u (sent_again u p t c x load)
 again-keeps u p t c x None = refl
 again-keeps u p t c x (Some load) = if-keeps u x.again _ None refl refl
 
-answer-keeps : (u : UnitState) (p t c : ℕ) (x : AtHand) (at : Progress) (a : DeviceAnswer) → Keeps u (answer_taken u p t c x at a)
+answer-keeps : (u : UnitState) (p t c : ℕ) (x : CurrentCommand) (at : Progress) (a : DeviceAnswer) → Keeps u (answer_taken u p t c x at a)
 answer-keeps u p t c x at (answer.Ended status more) = if-keeps u (may_end u.halted x at status more) _ None refl refl
 answer-keeps u p t c x progress.New answer.Begins = if-keeps u (is_outward x.code) _ _ refl refl
 answer-keeps u p t c x progress.New (answer.Absorbed count) = refl
@@ -154,7 +154,7 @@ answer-keeps u p t c x progress.Ended (answer.Absorbed count) = refl
 answer-keeps u p t c x progress.Ended (answer.Supplied bytes) = refl
 answer-keeps u p t c x progress.Ended answer.Again = refl
 
-report_on-keeps : (u : UnitState) (t : ℕ) (at : Place) (x : Option AtHand) (r : Report) → Keeps u (report_on u t at x r)
+report_on-keeps : (u : UnitState) (t : ℕ) (at : Connection) (x : Option CurrentCommand) (r : Report) → Keeps u (report_on u t at x r)
 report_on-keeps u t (place.On p c) None r = refl
 report_on-keeps u t (place.On p c) (Some x) r = if-keeps u (r.sequence == x.sequence) (answer_taken u p t c x x.progress r.answer) None (answer-keeps u p t c x x.progress r.answer) refl
 report_on-keeps u t (place.Ask p c) x r = refl
@@ -168,7 +168,7 @@ report_of-keeps u (own.Owned k t at) r =
 pub reports-keep : (u : UnitState) (r : Report) → Keeps u (unit_reports u r)
 reports-keep u r = report_of-keeps u u.own r
 
-leaving_from-keeps : (u : UnitState) (side : Side) (t : ℕ) (at : Place) → holder_of u.own ≡ Some (record { side = side; number = t }) → Keeps u (leaving_from u side t at)
+leaving_from-keeps : (u : UnitState) (side : Side) (t : ℕ) (at : Connection) → holder_of u.own ≡ Some (record { side = side; number = t }) → Keeps u (leaving_from u side t at)
 leaving_from-keeps u side t (place.On p c) e = own-next u (own.Owned side t (place.Away c)) (sym e)
 leaving_from-keeps u side t (place.Ask p c) e = refl
 leaving_from-keeps u side t (place.Away c) e = refl
@@ -177,7 +177,7 @@ pub leaving-keeps : (u : UnitState) (o : Own) → u.own ≡ o → Keeps u (leavi
 leaving-keeps u own.Idle e = refl
 leaving-keeps u (own.Owned k t at) e = leaving_from-keeps u k t at (ap holder_of e)
 
-asking_from-keeps : (u : UnitState) (side : Side) (t : ℕ) (at : Place) (p : ℕ) → holder_of u.own ≡ Some (record { side = side; number = t }) → Keeps u (asking_from u side t at p)
+asking_from-keeps : (u : UnitState) (side : Side) (t : ℕ) (at : Connection) (p : ℕ) → holder_of u.own ≡ Some (record { side = side; number = t }) → Keeps u (asking_from u side t at p)
 asking_from-keeps u side t (place.On q c) p e = refl
 asking_from-keeps u side t (place.Ask q c) p e = own-next u (own.Owned side t (place.Ask p (c + 1))) (sym e)
 asking_from-keeps u side t (place.Away c) p e = own-next u (own.Owned side t (place.Ask p (c + 1))) (sym e)

@@ -11,8 +11,8 @@ use Rattle.chan_model.specs.Signals.{Down}
 use Rattle.chan_model.specs.declared.signal.OnPath.{OnPath}
 use Rattle.chan_model.specs.Signals.{Up}
 use Rattle.chan_model.specs.declared.signal.Up.TheVariants as up
-use Rattle.chan_model.specs.declared.unit_state.Place.{Place}
-use Rattle.chan_model.specs.declared.unit_state.Place.TheVariants as place
+use Rattle.chan_model.specs.declared.unit_state.Connection.{Connection}
+use Rattle.chan_model.specs.declared.unit_state.Connection.TheVariants as place
 use Rattle.chan_model.specs.declared.unit_state.UnitState.{UnitState}
 use Rattle.unit.specs.UnitWords.{connection_of}
 use Rattle.agreement_laws.specs.Links.{Link, Carries}
@@ -100,7 +100,7 @@ abbrev pub IsPhaseWay : List Connected → HoldPhase → Type 0
 IsPhaseWay ks (hold.On t q c) = way_of ks t c ≡ Some q
 IsPhaseWay ks phase = Unit {0}
 
-abbrev pub moving_at : ℕ → Place → Option Connected
+abbrev pub moving_at : ℕ → Connection → Option Connected
 moving_at t (place.On p c) = Some (linked t p c)
 moving_at t (place.Ask p c) = None
 moving_at t (place.Away c) = None
@@ -109,7 +109,7 @@ abbrev pub moving_of : Option Held → Option Connected
 moving_of None = None
 moving_of (Some h) = moving_at h.number h.place
 
-abbrev pub IsPlaceWay : List Connected → ℕ → Place → Type 0
+abbrev pub IsPlaceWay : List Connected → ℕ → Connection → Type 0
 IsPlaceWay ks t (place.On p c) = way_of ks t c ≡ Some p
 IsPlaceWay ks t (place.Ask p c) = way_of ks t c ≡ Some p
 IsPlaceWay ks t (place.Away c) = Unit {0}

@@ -7,8 +7,8 @@ use Rattle.chan_model.specs.declared.signal.Down.TheVariants as down
 use Rattle.chan_model.specs.declared.signal.OnPath.{OnPath}
 use Rattle.chan_model.specs.Signals.{Up}
 use Rattle.chan_model.specs.declared.signal.Up.TheVariants as up
-use Rattle.chan_model.specs.declared.unit_state.Place.{Place}
-use Rattle.chan_model.specs.declared.unit_state.Place.TheVariants as place
+use Rattle.chan_model.specs.declared.unit_state.Connection.{Connection}
+use Rattle.chan_model.specs.declared.unit_state.Connection.TheVariants as place
 use Rattle.chan_model.specs.declared.unit_state.UnitState.{UnitState}
 use Rattle.chan_model.specs.declared.hold_state.HoldPhase.{HoldPhase}
 use Rattle.chan_model.specs.UnitTable.{UnitStep, unit_after, came_of, sends}
@@ -207,7 +207,7 @@ sends-said side u v l k t p c (up.Cleared w) its on is tie new s = absurd its
 sends-said side u v l k t p c (up.Notice b) its on is tie new s = absurd its
 sends-said side u v l k t p c (up.Attn a status) its on is tie new s = absurd its
 
-off-moving : (t : ℕ) (at : Place) → IsOffPath at → moving_of (Some (held t at)) ≡ None
+off-moving : (t : ℕ) (at : Connection) → IsOffPath at → moving_of (Some (held t at)) ≡ None
 off-moving t (place.On p c) off = absurd off
 off-moving t (place.Ask p c) off = refl
 off-moving t (place.Away c) off = refl

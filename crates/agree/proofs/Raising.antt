@@ -5,11 +5,11 @@ use Rattle.chan_model.specs.declared.names.Side.{Side}
 use Rattle.chan_model.specs.declared.names.Side.TheVariants.{First, Second}
 use Rattle.chan_model.specs.Reports.{Report}
 use Rattle.chan_model.specs.Signals.{Down}
-use Rattle.chan_model.specs.declared.unit_state.AtHand.{AtHand}
+use Rattle.chan_model.specs.declared.unit_state.CurrentCommand.{CurrentCommand}
 use Rattle.chan_model.specs.declared.unit_state.Own.{Own}
 use Rattle.chan_model.specs.declared.unit_state.Own.TheVariants.{Idle, Owned}
-use Rattle.chan_model.specs.declared.unit_state.Place.{Place}
-use Rattle.chan_model.specs.declared.unit_state.Place.TheVariants.{On, Ask, Away}
+use Rattle.chan_model.specs.declared.unit_state.Connection.{Connection}
+use Rattle.chan_model.specs.declared.unit_state.Connection.TheVariants.{On, Ask, Away}
 use Rattle.chan_model.specs.declared.unit_state.UnitState.{UnitState}
 use Rattle.chan_model.proofs.TakenSignals.{Takes, Ignores, Accepts, Denies, Begins, Joins, Parts, Answers, Gives, Halts, Frees, Resets, Forgets, takes-by}
 use Rattle.chan_model.proofs.TakenSignals as taken
@@ -68,12 +68,12 @@ raised-raises u First t = raises-alike u _ refl refl refl (omega arith)
 raised-raises u Second t = raises-alike u _ refl refl refl (omega arith)
 
 -- Grant and Refuse: the connection asked for
-placed-raises : (u : UnitState) (side : Side) (t : ℕ) (old new : Place) → u.own ≡ Owned side t old → connection_of new ≡ connection_of old → Raises u (record u { own = Owned side t new })
+placed-raises : (u : UnitState) (side : Side) (t : ℕ) (old new : Connection) → u.own ≡ Owned side t old → connection_of new ≡ connection_of old → Raises u (record u { own = Owned side t new })
 placed-raises u side t old new is same =
     raises-own u _ refl refl (let e : last_connection u.own ≡ connection_of old = ap last_connection is in omega (arith, e, same)) (omega arith)
 
 -- Took and Give: the same chunk, or the one that follows
-hand-raises : (u : UnitState) (x y : AtHand) → u.at_hand ≡ Some x → y.sequence ≤ x.sequence + 1 → Raises u (record u { at_hand = Some y })
+hand-raises : (u : UnitState) (x y : CurrentCommand) → u.at_hand ≡ Some x → y.sequence ≤ x.sequence + 1 → Raises u (record u { at_hand = Some y })
 hand-raises u x y hand le = raises-alike u _ refl refl refl (let e : last_sequence u.at_hand ≡ x.sequence = ap last_sequence hand in omega (arith, e, le))
 
 taken-raises : (u : UnitState) (side : Side) (p : ℕ) (d : Down) (step : Option UnitStep) → Takes u side p d step → RaisesBy u step
@@ -93,11 +93,11 @@ taken-raises u side p _ _ (Resets r b is) = reset-raises u side r
 taken-raises u side p _ _ (Forgets a) = raises-alike u _ refl refl refl (omega arith)
 
 -- what the unit does of itself
-marked-sequence : (x : Option AtHand) → last_sequence (marked_again x) ≤ last_sequence x + 1
+marked-sequence : (x : Option CurrentCommand) → last_sequence (marked_again x) ≤ last_sequence x + 1
 marked-sequence None = omega arith
 marked-sequence (Some x) = omega arith
 
-leaving_from-raises : (u : UnitState) (side : Side) (t : ℕ) (place : Place) → connection_of place ≤ last_connection u.own → RaisesBy u (leaving_from u side t place)
+leaving_from-raises : (u : UnitState) (side : Side) (t : ℕ) (place : Connection) → connection_of place ≤ last_connection u.own → RaisesBy u (leaving_from u side t place)
 leaving_from-raises u side t (On p c) le = raises-own u _ refl refl (omega arith) (marked-sequence u.at_hand)
 leaving_from-raises u side t (Ask p c) le = none u
 leaving_from-raises u side t (Away c) le = none u
@@ -106,7 +106,7 @@ leaving-raises : (u : UnitState) (o : Own) → last_connection o ≤ last_connec
 leaving-raises u Idle le = none u
 leaving-raises u (Owned side t place) le = leaving_from-raises u side t place le
 
-asking_from-raises : (u : UnitState) (side : Side) (t : ℕ) (place : Place) (p : ℕ) → connection_of place ≤ last_connection u.own → RaisesBy u (asking_from u side t place p)
+asking_from-raises : (u : UnitState) (side : Side) (t : ℕ) (place : Connection) (p : ℕ) → connection_of place ≤ last_connection u.own → RaisesBy u (asking_from u side t place p)
 asking_from-raises u side t (On q c) p le = none u
 asking_from-raises u side t (Ask q c) p le = raises-own u _ refl refl (omega arith) (omega arith)
 asking_from-raises u side t (Away c) p le = raises-own u _ refl refl (omega arith) (omega arith)

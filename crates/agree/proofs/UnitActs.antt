@@ -11,11 +11,11 @@ use Rattle.chan_model.specs.Reports.{Report}
 use Rattle.chan_model.specs.Signals.{Load}
 use Rattle.chan_model.specs.Signals.{Up}
 use Rattle.chan_model.specs.declared.signal.Up.TheVariants as up
-use Rattle.chan_model.specs.declared.unit_state.AtHand.{AtHand}
+use Rattle.chan_model.specs.declared.unit_state.CurrentCommand.{CurrentCommand}
 use Rattle.chan_model.specs.declared.unit_state.Own.{Own}
 use Rattle.chan_model.specs.declared.unit_state.Own.TheVariants as own
-use Rattle.chan_model.specs.declared.unit_state.Place.{Place}
-use Rattle.chan_model.specs.declared.unit_state.Place.TheVariants as place
+use Rattle.chan_model.specs.declared.unit_state.Connection.{Connection}
+use Rattle.chan_model.specs.declared.unit_state.Connection.TheVariants as place
 use Rattle.chan_model.specs.declared.unit_state.Progress.{Progress}
 use Rattle.chan_model.specs.declared.unit_state.Progress.TheVariants as progress
 use Rattle.chan_model.specs.declared.unit_state.SideState.{SideState}
@@ -35,7 +35,7 @@ IsOfConnection t c (up.Data load u d n s) = (u ≡ t) × (d ≡ c)
 IsOfConnection t c (up.End u n status more) = u ≡ t
 IsOfConnection t c x = ⊥
 
-abbrev pub IsOffPath : Place → Type 0
+abbrev pub IsOffPath : Connection → Type 0
 IsOffPath (place.On p c) = ⊥
 IsOffPath at = Unit {0}
 
@@ -45,7 +45,7 @@ pub data Acts (side : Side) (u : UnitState) : Option UnitStep → Type 0 where
   Begins : (v : UnitState) → IsStill u v side → Acts side u (changes v)
   Leaves : (t p c : ℕ) (v : UnitState) → holds u side ≡ Some (held t (place.On p c)) → holds v side ≡ Some (held t (place.Away c)) → floor_of u side ≤ floor_of v side →
       Acts side u (sends v p (up.Leave t c))
-  Asks : (t p : ℕ) (at : Place) (v : UnitState) → IsOffPath at → holds u side ≡ Some (held t at) → holds v side ≡ Some (held t (place.Ask p (connection_of at + 1))) → floor_of u side ≤ floor_of v side →
+  Asks : (t p : ℕ) (at : Connection) (v : UnitState) → IsOffPath at → holds u side ≡ Some (held t at) → holds v side ≡ Some (held t (place.Ask p (connection_of at + 1))) → floor_of u side ≤ floor_of v side →
       Acts side u (sends v p (up.Back t (connection_of at + 1)))
   Sends : (t p c : ℕ) (x : Up) (v : UnitState) → IsOfConnection t c x → holds u side ≡ Some (held t (place.On p c)) → IsStill u v side → Acts side u (sends v p x)
 
@@ -57,25 +57,25 @@ if-acts side u false x y e f = f
 abbrev IsOn : UnitState → Side → ℕ → ℕ → ℕ → Type 0
 IsOn u side t p c = holds u side ≡ Some (held t (place.On p c))
 
-hand-still : (u : UnitState) (x : AtHand) (side : Side) → IsStill u (record u { at_hand = Some x }) side
+hand-still : (u : UnitState) (x : CurrentCommand) (side : Side) → IsStill u (record u { at_hand = Some x }) side
 hand-still u x side = still-as u (record u { at_hand = Some x }) side refl refl refl
 
-data-acts : (side : Side) (u : UnitState) (p t c n s : ℕ) (x : AtHand) (load : Load) → IsOn u side t p c → Acts side u (sends (record u { at_hand = Some x }) p (up.Data load t c n s))
+data-acts : (side : Side) (u : UnitState) (p t c n s : ℕ) (x : CurrentCommand) (load : Load) → IsOn u side t p c → Acts side u (sends (record u { at_hand = Some x }) p (up.Data load t c n s))
 data-acts side u p t c n s x load on = Sends t p c (up.Data load t c n s) _ (refl, refl) on (hand-still u x side)
 
-absorbed-acts : (side : Side) (u : UnitState) (p t c : ℕ) (x : AtHand) (given : Option (List ℕ)) (count : ℕ) → IsOn u side t p c → Acts side u (report_absorbed u p t c x given count)
+absorbed-acts : (side : Side) (u : UnitState) (p t c : ℕ) (x : CurrentCommand) (given : Option (List ℕ)) (count : ℕ) → IsOn u side t p c → Acts side u (report_absorbed u p t c x given count)
 absorbed-acts side u p t c x None count on = Idles
 absorbed-acts side u p t c x (Some bytes) count on = if-acts side u (nat_le count (length bytes)) _ None (λ e. data-acts side u p t c _ _ _ _ on) Idles
 
-again-acts : (side : Side) (u : UnitState) (p t c : ℕ) (x : AtHand) (load : Option Load) → IsOn u side t p c → Acts side u (sent_again u p t c x load)
+again-acts : (side : Side) (u : UnitState) (p t c : ℕ) (x : CurrentCommand) (load : Option Load) → IsOn u side t p c → Acts side u (sent_again u p t c x load)
 again-acts side u p t c x None on = Idles
 again-acts side u p t c x (Some load) on = if-acts side u x.again _ None (λ e. data-acts side u p t c _ _ _ _ on) Idles
 
-end-acts : (side : Side) (u : UnitState) (p t c : ℕ) (x : AtHand) (n : ℕ) (status : DeviceStatus) (more : Bool) → IsOn u side t p c →
+end-acts : (side : Side) (u : UnitState) (p t c : ℕ) (x : CurrentCommand) (n : ℕ) (status : DeviceStatus) (more : Bool) → IsOn u side t p c →
     Acts side u (sends (record u { at_hand = Some x }) p (up.End t n status more))
 end-acts side u p t c x n status more on = Sends t p c (up.End t n status more) _ refl on (hand-still u x side)
 
-answer-acts : (side : Side) (u : UnitState) (p t c : ℕ) (x : AtHand) (at : Progress) (a : DeviceAnswer) → IsOn u side t p c → Acts side u (answer_taken u p t c x at a)
+answer-acts : (side : Side) (u : UnitState) (p t c : ℕ) (x : CurrentCommand) (at : Progress) (a : DeviceAnswer) → IsOn u side t p c → Acts side u (answer_taken u p t c x at a)
 answer-acts side u p t c x at (answer.Ended status more) on = if-acts side u (may_end u.halted x at status more) _ None (λ e. end-acts side u p t c _ _ _ _ on) Idles
 answer-acts side u p t c x progress.New answer.Begins on = if-acts side u (is_outward x.code) _ _ (λ e. data-acts side u p t c _ _ _ _ on) (Begins _ (hand-still u _ side))
 answer-acts side u p t c x progress.New (answer.Absorbed count) on = Idles
@@ -95,10 +95,10 @@ answer-acts side u p t c x progress.Ended (answer.Absorbed count) on = Idles
 answer-acts side u p t c x progress.Ended (answer.Supplied bytes) on = Idles
 answer-acts side u p t c x progress.Ended answer.Again on = Idles
 
-owned-at : (u : UnitState) (side k : Side) (t : ℕ) (at : Place) → u.own ≡ own.Owned k t at → same_side k side ≡ true → holds u side ≡ Some (held t at)
+owned-at : (u : UnitState) (side k : Side) (t : ℕ) (at : Connection) → u.own ≡ own.Owned k t at → same_side k side ≡ true → holds u side ≡ Some (held t at)
 owned-at u side k t at e s = ap (λ (o : Own). held_at o side) e ∙ ap (λ (b : Bool). if b then Some (held t at) else None) s
 
-report_on-acts : (side : Side) (u : UnitState) (t : ℕ) (at : Place) (x : Option AtHand) (r : Report) → holds u side ≡ Some (held t at) → Acts side u (report_on u t at x r)
+report_on-acts : (side : Side) (u : UnitState) (t : ℕ) (at : Connection) (x : Option CurrentCommand) (r : Report) → holds u side ≡ Some (held t at) → Acts side u (report_on u t at x r)
 report_on-acts side u t (place.On p c) None r on = Idles
 report_on-acts side u t (place.On p c) (Some x) r on =
     if-acts side u (r.sequence == x.sequence) (answer_taken u p t c x x.progress r.answer) None (λ e. answer-acts side u p t c x x.progress r.answer on) Idles
@@ -117,14 +117,14 @@ report_of-acts side u (own.Owned k t at) r e s =
 pub reports-acts : (side : Side) (u : UnitState) (r : Report) → is_owner_side u.own side ≡ true → Acts side u (unit_reports u r)
 reports-acts side u r s = report_of-acts side u u.own r refl s
 
-own-le : (u : UnitState) (o : Own) (x : Option AtHand) (side : Side) → floor_of u side ≤ floor_of (record u { own = o; at_hand = x }) side
+own-le : (u : UnitState) (o : Own) (x : Option CurrentCommand) (side : Side) → floor_of u side ≤ floor_of (record u { own = o; at_hand = x }) side
 own-le u o x First = omega arith
 own-le u o x Second = omega arith
 
 asked-le : (u : UnitState) (o : Own) (side : Side) → floor_of u side ≤ floor_of (record u { own = o }) side
 asked-le u o side = let e : floor_of (record u { own = o }) side ≡ floor_of u side = own-floor u o side in omega (arith, e)
 
-own-here : (k side : Side) (t : ℕ) (at : Place) → same_side k side ≡ true → held_at (own.Owned k t at) side ≡ Some (held t at)
+own-here : (k side : Side) (t : ℕ) (at : Connection) → same_side k side ≡ true → held_at (own.Owned k t at) side ≡ Some (held t at)
 own-here k side t at s = ap (λ (b : Bool). if b then Some (held t at) else None) s
 
 leaving-of : (side : Side) (u : UnitState) (o : Own) → u.own ≡ o → is_owner_side o side ≡ true → Acts side u (leaving u o)

@@ -9,8 +9,8 @@ use Rattle.chan_model.specs.Signals.{Up}
 use Rattle.chan_model.specs.declared.signal.Up.TheVariants as up
 use Rattle.chan_model.specs.declared.unit_state.Own.{Own}
 use Rattle.chan_model.specs.declared.unit_state.Own.TheVariants as own
-use Rattle.chan_model.specs.declared.unit_state.Place.{Place}
-use Rattle.chan_model.specs.declared.unit_state.Place.TheVariants as place
+use Rattle.chan_model.specs.declared.unit_state.Connection.{Connection}
+use Rattle.chan_model.specs.declared.unit_state.Connection.TheVariants as place
 use Rattle.chan_model.specs.declared.unit_state.SideState.{SideState}
 use Rattle.chan_model.specs.declared.unit_state.UnitState.{UnitState}
 use Rattle.chan_model.specs.Sides.{same_side}
@@ -21,9 +21,9 @@ use Rattle.agreement_laws.proofs.SeenSignals.{IsPlainDown, IsResetAbove}
 -- the program of a side that holds the device, and where it is
 pub record Held : Type 0 where
   pub number : ℕ
-  pub place : Place
+  pub place : Connection
 
-abbrev pub held : ℕ → Place → Held
+abbrev pub held : ℕ → Connection → Held
 held t at = record { number = t; place = at }
 
 abbrev pub held_at : Own → Side → Option Held
@@ -83,7 +83,7 @@ pub own-floor : (u : UnitState) (o : Own) (side : Side) → floor_of (record u {
 own-floor u o First = refl
 own-floor u o Second = refl
 
-pub held-here : (side : Side) (t : ℕ) (at : Place) → held_at (own.Owned side t at) side ≡ Some (held t at)
+pub held-here : (side : Side) (t : ℕ) (at : Connection) → held_at (own.Owned side t at) side ≡ Some (held t at)
 held-here First t at = refl
 held-here Second t at = refl
 
@@ -105,7 +105,7 @@ raised-still u side t above = record {
   floor = let f : floor_of (raised u side t) side ≡ t = here-floor u side _ in omega (arith, f, above);
 }
 
-owned-here : (u : UnitState) (side : Side) (t : ℕ) (at : Place) → u.own ≡ own.Owned side t at → holds u side ≡ Some (held t at)
+owned-here : (u : UnitState) (side : Side) (t : ℕ) (at : Connection) → u.own ≡ own.Owned side t at → holds u side ≡ Some (held t at)
 owned-here u side t at e = ap (λ (o : Own). held_at o side) e ∙ held-here side t at
 
 floor-le : (u : UnitState) (o : Own) (side : Side) → floor_of u side ≤ floor_of (record u { own = o }) side

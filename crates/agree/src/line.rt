@@ -26,7 +26,7 @@ use program::{is_taken, may_send, met_by};
 use signals::{cut_downs, cut_ups, is_up, post, with_path};
 use std::alloc::{AllocError, Global};
 use std::marker::Model;
-use supply::{Supply, ensure_room};
+use memory::{Supply, ensure_room};
 
 /// One side: how many numbers were drawn, the hold, the signals that may still arrive, the numbers that the unit accepted,
 /// and which paths are up.

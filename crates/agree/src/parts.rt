@@ -20,7 +20,7 @@ use chan_model::signal::Down;
 use chan_model::unit_state::Own;
 use std::alloc::{AllocError, Global};
 use std::marker::Model;
-use supply::Supply;
+use memory::Supply;
 use unit::Unit;
 
 /// A unit, both of its sides, and how many steps were made.

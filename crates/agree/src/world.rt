@@ -23,7 +23,7 @@ use chan_model::names::Side;
 use chan_model::unit_state::Own;
 use std::alloc::Global;
 use std::marker::Model;
-use supply::{Given, Supply};
+use memory::{Given, Supply};
 
 /// A unit and both of its sides.
 #[derive(Drop)]

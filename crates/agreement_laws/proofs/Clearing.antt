@@ -12,11 +12,11 @@ use Rattle.chan_model.specs.declared.signal.OnPath.{OnPath}
 use Rattle.chan_model.specs.Signals.{Down}
 use Rattle.chan_model.specs.Signals.{Up}
 use Rattle.chan_model.specs.declared.signal.Up.TheVariants as up
-use Rattle.chan_model.specs.declared.unit_state.AtHand.{AtHand}
+use Rattle.chan_model.specs.declared.unit_state.CurrentCommand.{CurrentCommand}
 use Rattle.chan_model.specs.declared.unit_state.Own.{Own}
 use Rattle.chan_model.specs.declared.unit_state.Own.TheVariants as own
-use Rattle.chan_model.specs.declared.unit_state.Place.{Place}
-use Rattle.chan_model.specs.declared.unit_state.Place.TheVariants.{On, Ask, Away}
+use Rattle.chan_model.specs.declared.unit_state.Connection.{Connection}
+use Rattle.chan_model.specs.declared.unit_state.Connection.TheVariants.{On, Ask, Away}
 use Rattle.chan_model.specs.declared.unit_state.Progress.{Progress}
 use Rattle.chan_model.specs.declared.unit_state.Progress.TheVariants as progress
 use Rattle.chan_model.specs.declared.unit_state.UnitState.{UnitState}
@@ -58,15 +58,15 @@ asking-other u (own.Owned k t (On q c)) p = tt
 asking-other u (own.Owned k t (Ask q c)) p = tt
 asking-other u (own.Owned k t (Away c)) p = tt
 
-absorbed-other : (u : UnitState) (p t c : ℕ) (x : AtHand) (given : Option (List ℕ)) (count : ℕ) → IsOtherStep (report_absorbed u p t c x given count)
+absorbed-other : (u : UnitState) (p t c : ℕ) (x : CurrentCommand) (given : Option (List ℕ)) (count : ℕ) → IsOtherStep (report_absorbed u p t c x given count)
 absorbed-other u p t c x None count = tt
 absorbed-other u p t c x (Some bytes) count = other-if (nat_le count (length bytes)) (Some _) None tt tt
 
-again-other : (u : UnitState) (p t c : ℕ) (x : AtHand) (load : Option Load) → IsOtherStep (sent_again u p t c x load)
+again-other : (u : UnitState) (p t c : ℕ) (x : CurrentCommand) (load : Option Load) → IsOtherStep (sent_again u p t c x load)
 again-other u p t c x None = tt
 again-other u p t c x (Some load) = other-if x.again (Some _) None tt tt
 
-taken-other : (u : UnitState) (p t c : ℕ) (x : AtHand) (at : Progress) (a : DeviceAnswer) → IsOtherStep (answer_taken u p t c x at a)
+taken-other : (u : UnitState) (p t c : ℕ) (x : CurrentCommand) (at : Progress) (a : DeviceAnswer) → IsOtherStep (answer_taken u p t c x at a)
 taken-other u p t c x progress.New answer.Begins = other-if (is_outward x.code) (Some _) (Some _) tt tt
 taken-other u p t c x progress.New (answer.Absorbed count) = tt
 taken-other u p t c x progress.New (answer.Supplied bytes) = tt
@@ -88,7 +88,7 @@ taken-other u p t c x progress.Ended (answer.Supplied bytes) = tt
 taken-other u p t c x progress.Ended answer.Again = tt
 taken-other u p t c x progress.Ended (answer.Ended status more) = tt
 
-reported-other : (u : UnitState) (t : ℕ) (place : Place) (x : Option AtHand) (r : Report) → IsOtherStep (report_on u t place x r)
+reported-other : (u : UnitState) (t : ℕ) (place : Connection) (x : Option CurrentCommand) (r : Report) → IsOtherStep (report_on u t place x r)
 reported-other u t (On p c) None r = tt
 reported-other u t (On p c) (Some x) r = other-if (r.sequence == x.sequence) _ None (taken-other u p t c x x.progress r.answer) tt
 reported-other u t (Ask p c) x r = tt

@@ -8,8 +8,8 @@ use Rattle.chan_model.specs.declared.signal.OnPath.{OnPath}
 use Rattle.chan_model.specs.Signals.{Down}
 use Rattle.chan_model.specs.declared.signal.Down.TheVariants as down
 use Rattle.chan_model.specs.Signals.{Up}
-use Rattle.chan_model.specs.declared.unit_state.Place.{Place}
-use Rattle.chan_model.specs.declared.unit_state.Place.TheVariants.{On, Ask, Away}
+use Rattle.chan_model.specs.declared.unit_state.Connection.{Connection}
+use Rattle.chan_model.specs.declared.unit_state.Connection.TheVariants.{On, Ask, Away}
 use Rattle.agreement_laws.specs.Invariant.{SideSeen, Idle, Fresh, Owns, Ends, ends_seen, IsJoined, IsParted, IsMatched, AreEndsGood, IsNotDue, IsResetGood, IsAskedOn, IsDownGood, IsAcceptGood, IsNotOwned, IsBackAt, IsBackGood, IsUpGood}
 use Rattle.agreement_laws.proofs.Frames.{downs-by, ups-by, IsPlainDown, plain-down}
 
@@ -209,7 +209,7 @@ is_cleared-kept n r s k b f o rf g =
     }
 
 -- a program that leaves its path
-joined-parted : (p c s : ℕ) (place : Place) → IsJoined p c s place → IsParted s place
+joined-parted : (p c s : ℕ) (place : Connection) → IsJoined p c s place → IsParted s place
 joined-parted p c s (On q d) j = j.0
 joined-parted p c s (Ask q d) j = j
 joined-parted p c s (Away d) j = j
@@ -232,12 +232,12 @@ is_left-kept n t p c s k b f o g =
     }
 
 -- a program that comes back
-back-joined : (p t q d c s : ℕ) (place : Place) → s < c → IsBackAt place p c → IsParted s place → IsJoined q d c place
+back-joined : (p t q d c s : ℕ) (place : Connection) → s < c → IsBackAt place p c → IsParted s place → IsJoined q d c place
 back-joined p t q d c s (On x y) lt b j = absurd (omega (arith, b, j))
 back-joined p t q d c s (Ask x y) lt b j = b.0
 back-joined p t q d c s (Away y) lt b j = b
 
-back-parted : (p c s : ℕ) (place : Place) → s < c → IsBackAt place p c → IsParted s place → IsParted c place
+back-parted : (p c s : ℕ) (place : Connection) → s < c → IsBackAt place p c → IsParted s place → IsParted c place
 back-parted p c s (On x y) lt b j = absurd (omega (arith, b, j))
 back-parted p c s (Ask x y) lt b j = b.0
 back-parted p c s (Away y) lt b j = b

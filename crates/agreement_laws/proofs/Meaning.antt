@@ -11,8 +11,8 @@ use Rattle.chan_model.specs.Signals.{Up}
 use Rattle.chan_model.specs.declared.signal.Up.TheVariants as up
 use Rattle.chan_model.specs.declared.unit_state.Own.{Own}
 use Rattle.chan_model.specs.declared.unit_state.Own.TheVariants as own
-use Rattle.chan_model.specs.declared.unit_state.Place.{Place}
-use Rattle.chan_model.specs.declared.unit_state.Place.TheVariants.{On, Ask}
+use Rattle.chan_model.specs.declared.unit_state.Connection.{Connection}
+use Rattle.chan_model.specs.declared.unit_state.Connection.TheVariants.{On, Ask}
 use Rattle.chan_model.specs.Sides.{same_side}
 use Rattle.chan_model.specs.Agreement.{Agrees, owner_of, IsAboveFloor}
 use Rattle.agreement_laws.proofs.Clearing.{IsAnswered}
@@ -54,7 +54,7 @@ raised-below (hold.Reset r) f p t lt y d = elim y [ inl z ↦ absurd (omega arit
 idle-fresh : Idle ≡ Fresh → ⊥
 idle-fresh e = cc
 
-owns-fresh : (t : ℕ) (place : Place) → Owns t place ≡ Fresh → ⊥
+owns-fresh : (t : ℕ) (place : Connection) → Owns t place ≡ Fresh → ⊥
 owns-fresh t place e = cc
 
 -- the unit takes a Reset: it is the hold's, or an older one
@@ -88,7 +88,7 @@ pub fresh-seen : (fresh : Bool) (o : Own) (side : Side) → fresh ≡ true → s
 fresh-seen true o side e = refl
 fresh-seen false o side e = cc
 
-own-not-fresh : (k side : Side) (t : ℕ) (place : Place) (same : Bool) → same_side k side ≡ same → (if same then Owns t place else Idle) ≡ Fresh → ⊥
+own-not-fresh : (k side : Side) (t : ℕ) (place : Connection) (same : Bool) → same_side k side ≡ same → (if same then Owns t place else Idle) ≡ Fresh → ⊥
 own-not-fresh k side t place true i e = cc
 own-not-fresh k side t place false i e = cc
 
@@ -97,7 +97,7 @@ seen-fresh true o side e = refl
 seen-fresh false own.Idle side e = cc
 seen-fresh false (own.Owned k t place) side e = absurd (own-not-fresh k side t place (same_side k side) refl e)
 
-no-owner : (k side : Side) (t : ℕ) (place : Place) (same : Bool) → (if same then Owns t place else Idle) ≡ Idle → (if same then Some t else None) ≡ None
+no-owner : (k side : Side) (t : ℕ) (place : Connection) (same : Bool) → (if same then Owns t place else Idle) ≡ Idle → (if same then Some t else None) ≡ None
 no-owner k side t place true e = cc
 no-owner k side t place false e = refl
 

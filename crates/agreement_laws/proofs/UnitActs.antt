@@ -11,12 +11,12 @@ use Rattle.chan_model.specs.Signals.{Down}
 use Rattle.chan_model.specs.declared.signal.Down.TheVariants as down
 use Rattle.chan_model.specs.Signals.{Up}
 use Rattle.chan_model.specs.declared.signal.Up.TheVariants as up
-use Rattle.chan_model.specs.declared.unit_state.AtHand.{AtHand}
+use Rattle.chan_model.specs.declared.unit_state.CurrentCommand.{CurrentCommand}
 use Rattle.chan_model.specs.declared.unit_state.Attention.{Attention}
 use Rattle.chan_model.specs.declared.unit_state.Own.{Own}
 use Rattle.chan_model.specs.declared.unit_state.Own.TheVariants as own
-use Rattle.chan_model.specs.declared.unit_state.Place.{Place}
-use Rattle.chan_model.specs.declared.unit_state.Place.TheVariants.{On, Ask, Away}
+use Rattle.chan_model.specs.declared.unit_state.Connection.{Connection}
+use Rattle.chan_model.specs.declared.unit_state.Connection.TheVariants.{On, Ask, Away}
 use Rattle.chan_model.specs.declared.unit_state.SideState.{SideState}
 use Rattle.chan_model.specs.declared.unit_state.UnitState.{UnitState}
 use Rattle.chan_model.specs.Sides.{same_side}
@@ -143,15 +143,15 @@ step-if side u true step P s = s
 step-if side u false step P s = nothing side u P
 
 -- Give and Took: what no link sees
-pub given-steps : (side : Side) (u : UnitState) (x : Option AtHand) (s : ℕ) (bytes : List ℕ) (P : Ends → Type 0) → IsStep side u (given_next u x s bytes) P
+pub given-steps : (side : Side) (u : UnitState) (x : Option CurrentCommand) (s : ℕ) (bytes : List ℕ) (P : Ends → Type 0) → IsStep side u (given_next u x s bytes) P
 given-steps side u None s bytes P = nothing side u P
 given-steps side u (Some x) s bytes P = unseen-if side u _ (s == x.sequence + 1) P refl refl refl refl
 
-answered_load-steps : (side : Side) (u : UnitState) (x : AtHand) (load : Option Load) (room : ℕ) (P : Ends → Type 0) → IsStep side u (answered_load u x load room) P
+answered_load-steps : (side : Side) (u : UnitState) (x : CurrentCommand) (load : Option Load) (room : ℕ) (P : Ends → Type 0) → IsStep side u (answered_load u x load room) P
 answered_load-steps side u x None room P = nothing side u P
 answered_load-steps side u x (Some load) room P = unseen side u _ None P refl refl refl refl tt
 
-pub answered-steps : (side : Side) (u : UnitState) (x : Option AtHand) (s room : ℕ) (P : Ends → Type 0) → IsStep side u (answered_last u x s room) P
+pub answered-steps : (side : Side) (u : UnitState) (x : Option CurrentCommand) (s room : ℕ) (P : Ends → Type 0) → IsStep side u (answered_last u x s room) P
 answered-steps side u None s room P = nothing side u P
 answered-steps side u (Some x) s room P = step-if side u (s == x.sequence) _ P (answered_load-steps side u x x.unanswered room P)
 
@@ -163,7 +163,7 @@ late-steps : (side : Side) (u : UnitState) (v p c : ℕ) (late : Bool) (P : Ends
 late-steps side u v p c late P = step-if side u late _ P (unseen side u u _ P refl refl refl refl tt)
 
 -- where the program that holds the device is, is changed at its side alone
-place-moves : (side : Side) (u : UnitState) (v : ℕ) (old new : Place) (f : ℕ) (y : SideState) (P : Ends → Type 0) →
+place-moves : (side : Side) (u : UnitState) (v : ℕ) (old new : Connection) (f : ℕ) (y : SideState) (P : Ends → Type 0) →
     ((n : ℕ) (h : HoldState) → P (ends_seen n h.phase h.seen h.known u.restarts f (Owns v old)) →
     UnitMoves (ends_seen n h.phase h.seen h.known u.restarts f (Owns v old)) (ends_seen n h.phase h.seen h.known u.restarts f (Owns v new)) None) →
     IsMove side (at side u (own.Owned side v old) (working f) y) (at side u (own.Owned side v new) (working f) y) None P
@@ -181,7 +181,7 @@ granted-ask side u v q d f y p c true e =
     Is_granted n h.phase h.seen h.known u.restarts f v q d (subst (λ (x : ℕ). IsGrantGood h.phase h.seen (Owns v (Ask q d)) v x) (eqb-true c d e) g.1))
 granted-ask side u v q d f y p c false e = late-steps side (at side u (own.Owned side v (Ask q d)) (working f) y) v p c (nat_lt c d) (IsGiven p (down.Grant v c))
 
-granted_at-steps : (side : Side) (u : UnitState) (v : ℕ) (place : Place) (f : ℕ) (y : SideState) (p c : ℕ) →
+granted_at-steps : (side : Side) (u : UnitState) (v : ℕ) (place : Connection) (f : ℕ) (y : SideState) (p c : ℕ) →
     IsStep side (at side u (own.Owned side v place) (working f) y) (granted_at (at side u (own.Owned side v place) (working f) y) side v place p c) (IsGiven p (down.Grant v c))
 granted_at-steps First u v (On q d) f y p c = late-steps First _ v p c (nat_lt c d) (IsGiven p (down.Grant v c))
 granted_at-steps First u v (Ask q d) f y p c = granted-ask First u v q d f y p c (c == d) refl
@@ -191,7 +191,7 @@ granted_at-steps Second u v (Ask q d) f y p c = granted-ask Second u v q d f y p
 granted_at-steps Second u v (Away d) f y p c = late-steps Second _ v p c (nat_lt c d) (IsGiven p (down.Grant v c))
 
 -- a step that is taken where this side and number hold the device
-owner-steps : (side : Side) (u : UnitState) (k : Side) (v : ℕ) (place : Place) (x y : SideState) (t : ℕ) (is : Bool) (step : UnitState → Side → ℕ → Option UnitStep) (P : ℕ → Ends → Type 0) →
+owner-steps : (side : Side) (u : UnitState) (k : Side) (v : ℕ) (place : Connection) (x y : SideState) (t : ℕ) (is : Bool) (step : UnitState → Side → ℕ → Option UnitStep) (P : ℕ → Ends → Type 0) →
     (same_side k side && (t == v)) ≡ is →
     IsStep side (at side u (own.Owned side v place) x y) (step (at side u (own.Owned side v place) x y) side v) (P v) →
     IsStep side (at side u (own.Owned k v place) x y) (if is then step (at side u (own.Owned k v place) x y) k v else None) (P t)
@@ -217,7 +217,7 @@ refused_ask-steps side u v q d f y true P =
     place-moves side u v (Ask q d) (Away d) f y P (λ n h g. Is_refused n h.phase h.seen h.known u.restarts f v q d)
 refused_ask-steps side u v q d f y false P = nothing side (at side u (own.Owned side v (Ask q d)) (working f) y) P
 
-refused_at-steps : (side : Side) (u : UnitState) (v : ℕ) (place : Place) (f : ℕ) (y : SideState) (c : ℕ) (P : Ends → Type 0) →
+refused_at-steps : (side : Side) (u : UnitState) (v : ℕ) (place : Connection) (f : ℕ) (y : SideState) (c : ℕ) (P : Ends → Type 0) →
     IsStep side (at side u (own.Owned side v place) (working f) y) (grant_refused_at (at side u (own.Owned side v place) (working f) y) side v place c) P
 refused_at-steps side u v (On q d) f y c P = nothing side (at side u (own.Owned side v (On q d)) (working f) y) P
 refused_at-steps First u v (Ask q d) f y c P = refused_ask-steps First u v q d f y (c == d) P
@@ -232,14 +232,14 @@ refused-steps side u (own.Owned k v place) f y p t c =
     (refused_at-steps side u v place f y c (IsGiven p (down.Refuse v c)))
 
 -- Release, by the program that holds the device
-released-steps : (side : Side) (u : UnitState) (v : ℕ) (place : Place) (f : ℕ) (y : SideState) (p : ℕ) →
+released-steps : (side : Side) (u : UnitState) (v : ℕ) (place : Connection) (f : ℕ) (y : SideState) (p : ℕ) →
     IsStep side (at side u (own.Owned side v place) (working f) y) (sends (freed (at side u (own.Owned side v place) (working f) y)) p (up.Released v)) (IsGiven p (down.Release v))
 released-steps First u v place f y p =
     record { here = λ n h g. Releases n h.phase h.seen h.known u.restarts f p v place g.1; there = λ n h. refl; free_here = λ m w. refl; free_there = λ m w. refl }
 released-steps Second u v place f y p =
     record { here = λ n h g. Releases n h.phase h.seen h.known u.restarts f p v place g.1; there = λ n h. refl; free_here = λ m w. refl; free_there = λ m w. refl }
 
-owned-releases : (side : Side) (u : UnitState) (k : Side) (v : ℕ) (place : Place) (f : ℕ) (y : SideState) (p t : ℕ) (is : Bool) → (same_side k side && (t == v)) ≡ is →
+owned-releases : (side : Side) (u : UnitState) (k : Side) (v : ℕ) (place : Connection) (f : ℕ) (y : SideState) (p t : ℕ) (is : Bool) → (same_side k side && (t == v)) ≡ is →
     IsStep side (at side u (own.Owned k v place) (working f) y) (if is then sends (freed (at side u (own.Owned k v place) (working f) y)) p (up.Released t) else None) (IsGiven p (down.Release t))
 owned-releases side u k v place f y p t true e =
     let both : (same_side k side ≡ true) × ((t == v) ≡ true) = and_parts (same_side k side) (t == v) e in

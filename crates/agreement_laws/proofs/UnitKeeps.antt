@@ -9,8 +9,8 @@ use Rattle.chan_model.specs.declared.signal.OnPath.{OnPath}
 use Rattle.chan_model.specs.Signals.{Down}
 use Rattle.chan_model.specs.Signals.{Up}
 use Rattle.chan_model.specs.declared.signal.Up.TheVariants as up
-use Rattle.chan_model.specs.declared.unit_state.Place.{Place}
-use Rattle.chan_model.specs.declared.unit_state.Place.TheVariants.{On, Ask, Away}
+use Rattle.chan_model.specs.declared.unit_state.Connection.{Connection}
+use Rattle.chan_model.specs.declared.unit_state.Connection.TheVariants.{On, Ask, Away}
 use Rattle.agreement_laws.specs.Links.{with_accepted}
 use Rattle.agreement_laws.specs.Invariant.{SideSeen, Idle, Fresh, Owns, Ends, ends_seen, IsJoined, IsParted, IsPaired, IsNotHeld, AreEndsGood, IsSelectGood, IsReleaseGood, IsNotDue, IsResetTo, IsResetGood, IsAskedOn, IsGrantGood, IsDownGood, IsAcceptGood, IsNotOwned, IsBackGood, IsUpGood}
 use Rattle.agreement_laws.proofs.Frames.{downs-by, ups-by, IsNew, IsPlainUp, plain-up, plain-new}
@@ -27,7 +27,7 @@ IsNotFresh Fresh = ⊥
 IsNotFresh o = Unit {0}
 
 -- the last connection of a place that is not connected
-abbrev pub IsOff : Place → ℕ → Type 0
+abbrev pub IsOff : Connection → ℕ → Type 0
 IsOff (On q d) c = ⊥
 IsOff (Ask q d) c = d ≡ c
 IsOff (Away d) c = d ≡ c
@@ -39,10 +39,10 @@ pub data UnitMoves : Ends → Ends → Option (OnPath Up) → Type 0 where
   Is_busy : (n : ℕ) (h : HoldPhase) (s k b f p t : ℕ) (o : SideSeen) → IsNotFresh o → f < t → t ≤ n → IsSelectGood h f p t → UnitMoves (ends_seen n h s k b f o) (ends_seen n h s k b t o) (by_path p (up.Busy t))
   Is_granted : (n : ℕ) (h : HoldPhase) (s k b f t q c : ℕ) → IsGrantGood h s (Owns t (Ask q c)) t c → UnitMoves (ends_seen n h s k b f (Owns t (Ask q c))) (ends_seen n h s k b f (Owns t (On q c))) None
   Is_refused : (n : ℕ) (h : HoldPhase) (s k b f t q c : ℕ) → UnitMoves (ends_seen n h s k b f (Owns t (Ask q c))) (ends_seen n h s k b f (Owns t (Away c))) None
-  Releases : (n : ℕ) (h : HoldPhase) (s k b f p t : ℕ) (place : Place) → IsReleaseGood h t → UnitMoves (ends_seen n h s k b f (Owns t place)) (ends_seen n h s k b f Idle) (by_path p (up.Released t))
+  Releases : (n : ℕ) (h : HoldPhase) (s k b f p t : ℕ) (place : Connection) → IsReleaseGood h t → UnitMoves (ends_seen n h s k b f (Owns t place)) (ends_seen n h s k b f Idle) (by_path p (up.Released t))
   Clears : (n : ℕ) (h : HoldPhase) (s k b f p r : ℕ) (o : SideSeen) → f < r → r ≤ n → IsResetTo h r → UnitMoves (ends_seen n h s k b f o) (ends_seen n h s k b r Idle) (by_path p (up.Cleared r))
   Leaves : (n : ℕ) (h : HoldPhase) (s k b f t q c p d : ℕ) → UnitMoves (ends_seen n h s k b f (Owns t (On q c))) (ends_seen n h s k b f (Owns t (Away c))) (by_path p (up.Leave t d))
-  Asks : (n : ℕ) (h : HoldPhase) (s k b f t p c : ℕ) (place : Place) → IsOff place c → UnitMoves (ends_seen n h s k b f (Owns t place)) (ends_seen n h s k b f (Owns t (Ask p (c + 1)))) (by_path p (up.Back t (c + 1)))
+  Asks : (n : ℕ) (h : HoldPhase) (s k b f t p c : ℕ) (place : Connection) → IsOff place c → UnitMoves (ends_seen n h s k b f (Owns t place)) (ends_seen n h s k b f (Owns t (Ask p (c + 1)))) (by_path p (up.Back t (c + 1)))
   Restarts : (n : ℕ) (h : HoldPhase) (s k b f : ℕ) (o : SideSeen) → UnitMoves (ends_seen n h s k b f o) (ends_seen n h s k (b + 1) f Fresh) None
   Tells : (n : ℕ) (h : HoldPhase) (s k b f p : ℕ) (o : SideSeen) → UnitMoves (ends_seen n h s k b f o) (ends_seen n h s k b f o) (by_path p (up.Notice b))
 
@@ -86,7 +86,7 @@ grant-seen (hold.Away u) s t c o v k g = g
 grant-seen (hold.Letting u p) s t c o v k g = tt
 grant-seen (hold.Reset r) s t c o v k g = tt
 
-accept-owned : (h : HoldPhase) (v : ℕ) (place : Place) (t : ℕ) → IsAcceptGood h (Owns v place) t
+accept-owned : (h : HoldPhase) (v : ℕ) (place : Connection) (t : ℕ) → IsAcceptGood h (Owns v place) t
 accept-owned hold.Free v place t = tt
 accept-owned (hold.Offer u p) v place t = tt
 accept-owned (hold.On u p c) v place t = tt
@@ -128,7 +128,7 @@ accepts-kept n h s k b f p t lt tn y g =
     }
 
 -- a Select is answered Busy
-busy-paired : (h : HoldPhase) (s f p t v : ℕ) (place : Place) → f < t → IsSelectGood h f p t → IsPaired h s f v place → IsPaired h s t v place
+busy-paired : (h : HoldPhase) (s f p t v : ℕ) (place : Connection) → f < t → IsSelectGood h f p t → IsPaired h s f v place → IsPaired h s t v place
 busy-paired hold.Free s f p t v place lt y m = m
 busy-paired (hold.Offer u q) s f p t v place lt y m = m
 busy-paired (hold.On u q c) s f p t v place lt y m = m
@@ -242,7 +242,7 @@ leaves-kept n h s k b f t q c p d g =
     }
 
 -- a Release is taken
-released-held : (h : HoldPhase) (s f t : ℕ) (place : Place) → IsReleaseGood h t → IsPaired h s f t place → IsNotHeld h
+released-held : (h : HoldPhase) (s f t : ℕ) (place : Connection) → IsReleaseGood h t → IsPaired h s f t place → IsNotHeld h
 released-held hold.Free s f t place y m = tt
 released-held (hold.Offer u p) s f t place y m = tt
 released-held (hold.On u p c) s f t place y m = omega (arith, y, m.0)
@@ -250,7 +250,7 @@ released-held (hold.Away u) s f t place y m = omega (arith, y, m.0)
 released-held (hold.Letting u p) s f t place y m = tt
 released-held (hold.Reset r) s f t place y m = tt
 
-released-accept : (h : HoldPhase) (s f t u : ℕ) (place : Place) → IsReleaseGood h t → IsPaired h s f t place → IsAcceptGood h Idle u
+released-accept : (h : HoldPhase) (s f t u : ℕ) (place : Connection) → IsReleaseGood h t → IsPaired h s f t place → IsAcceptGood h Idle u
 released-accept hold.Free s f t u place y m = tt
 released-accept (hold.Offer v p) s f t u place y m = absurd (omega (arith, y, m.0))
 released-accept (hold.On v p c) s f t u place y m = tt
@@ -258,7 +258,7 @@ released-accept (hold.Away v) s f t u place y m = tt
 released-accept (hold.Letting v p) s f t u place y m = tt
 released-accept (hold.Reset r) s f t u place y m = tt
 
-releases-kept : (n : ℕ) (h : HoldPhase) (s k b f p t : ℕ) (place : Place) → IsReleaseGood h t → AreEndsGood (ends_seen n h s k b f (Owns t place)) →
+releases-kept : (n : ℕ) (h : HoldPhase) (s k b f p t : ℕ) (place : Connection) → IsReleaseGood h t → AreEndsGood (ends_seen n h s k b f (Owns t place)) →
     IsUnitKept (ends_seen n h s k b f (Owns t place)) (ends_seen n h s k b f Idle) (by_path p (up.Released t))
 releases-kept n h s k b f p t place y g =
     record {
@@ -307,17 +307,17 @@ clears-kept n h s k b f p r o lt rn y g =
     }
 
 -- a path is asked for
-asked-joined : (p d s c : ℕ) (q : ℕ) (place : Place) → IsOff place c → IsJoined p d s place → IsJoined p d s (Ask q (c + 1))
+asked-joined : (p d s c : ℕ) (q : ℕ) (place : Connection) → IsOff place c → IsJoined p d s place → IsJoined p d s (Ask q (c + 1))
 asked-joined p d s c q (On x y) i j = absurd i
 asked-joined p d s c q (Ask x y) i j = omega (arith, i, j)
 asked-joined p d s c q (Away y) i j = omega (arith, i, j)
 
-asked-parted : (s c q : ℕ) (place : Place) → IsOff place c → IsParted s place → IsParted s (Ask q (c + 1))
+asked-parted : (s c q : ℕ) (place : Connection) → IsOff place c → IsParted s place → IsParted s (Ask q (c + 1))
 asked-parted s c q (On x y) i j = absurd i
 asked-parted s c q (Ask x y) i j = omega (arith, i, j)
 asked-parted s c q (Away y) i j = omega (arith, i, j)
 
-asked-paired : (h : HoldPhase) (s f t q c : ℕ) (place : Place) → IsOff place c → IsPaired h s f t place → IsPaired h s f t (Ask q (c + 1))
+asked-paired : (h : HoldPhase) (s f t q c : ℕ) (place : Connection) → IsOff place c → IsPaired h s f t place → IsPaired h s f t (Ask q (c + 1))
 asked-paired hold.Free s f t q c place i m = m
 asked-paired (hold.Offer u p) s f t q c place i m = (m.0, asked-joined p 0 0 c q place i m.1)
 asked-paired (hold.On u p d) s f t q c place i m = (m.0, asked-joined p d s c q place i m.1)
@@ -325,12 +325,12 @@ asked-paired (hold.Away u) s f t q c place i m = (m.0, asked-parted s c q place 
 asked-paired (hold.Letting u p) s f t q c place i m = m
 asked-paired (hold.Reset r) s f t q c place i m = m
 
-seen-below : (p d s c : ℕ) (place : Place) → IsOff place c → IsJoined p d s place → s ≤ c
+seen-below : (p d s c : ℕ) (place : Connection) → IsOff place c → IsJoined p d s place → s ≤ c
 seen-below p d s c (On x y) i j = absurd i
 seen-below p d s c (Ask x y) i j = omega (arith, i, j)
 seen-below p d s c (Away y) i j = omega (arith, i, j)
 
-asked-grant : (h : HoldPhase) (s f t q c u x : ℕ) (place : Place) → IsOff place c → IsPaired h s f t place →
+asked-grant : (h : HoldPhase) (s f t q c u x : ℕ) (place : Connection) → IsOff place c → IsPaired h s f t place →
     IsGrantGood h s (Owns t place) u x → IsGrantGood h s (Owns t (Ask q (c + 1))) u x
 asked-grant hold.Free s f t q c u x place i m g = tt
 asked-grant (hold.Offer v p) s f t q c u x place i m g = g
@@ -342,12 +342,12 @@ asked-grant (hold.Away v) s f t q c u x place i m g = g
 asked-grant (hold.Letting v p) s f t q c u x place i m g = tt
 asked-grant (hold.Reset r) s f t q c u x place i m g = tt
 
-asked-back : (t q c a x u : ℕ) (place : Place) → IsOff place c → IsBackGood (Owns t place) a u x → IsBackGood (Owns t (Ask q (c + 1))) a u x
+asked-back : (t q c a x u : ℕ) (place : Connection) → IsOff place c → IsBackGood (Owns t place) a u x → IsBackGood (Owns t (Ask q (c + 1))) a u x
 asked-back t q c a x u (On y d) i g = absurd i
 asked-back t q c a x u (Ask y d) i g = λ e. let le : x ≤ d = (g e).0 in (omega arith, λ j. absurd (omega arith))
 asked-back t q c a x u (Away d) i g = λ e. let le : x ≤ d = g e in (omega arith, λ j. absurd (omega arith))
 
-asks-kept : (n : ℕ) (h : HoldPhase) (s k b f t p c : ℕ) (place : Place) → IsOff place c → AreEndsGood (ends_seen n h s k b f (Owns t place)) →
+asks-kept : (n : ℕ) (h : HoldPhase) (s k b f t p c : ℕ) (place : Connection) → IsOff place c → AreEndsGood (ends_seen n h s k b f (Owns t place)) →
     IsUnitKept (ends_seen n h s k b f (Owns t place)) (ends_seen n h s k b f (Owns t (Ask p (c + 1)))) (by_path p (up.Back t (c + 1)))
 asks-kept n h s k b f t p c place i g =
     record {

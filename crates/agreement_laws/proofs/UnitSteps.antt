@@ -12,11 +12,11 @@ use Rattle.chan_model.specs.Signals.{Load}
 use Rattle.chan_model.specs.Signals.{Down}
 use Rattle.chan_model.specs.declared.signal.Down.TheVariants as down
 use Rattle.chan_model.specs.declared.signal.Up.TheVariants as up
-use Rattle.chan_model.specs.declared.unit_state.AtHand.{AtHand}
+use Rattle.chan_model.specs.declared.unit_state.CurrentCommand.{CurrentCommand}
 use Rattle.chan_model.specs.declared.unit_state.Own.{Own}
 use Rattle.chan_model.specs.declared.unit_state.Own.TheVariants as own
-use Rattle.chan_model.specs.declared.unit_state.Place.{Place}
-use Rattle.chan_model.specs.declared.unit_state.Place.TheVariants.{On, Ask, Away}
+use Rattle.chan_model.specs.declared.unit_state.Connection.{Connection}
+use Rattle.chan_model.specs.declared.unit_state.Connection.TheVariants.{On, Ask, Away}
 use Rattle.chan_model.specs.declared.unit_state.Progress.{Progress}
 use Rattle.chan_model.specs.declared.unit_state.Progress.TheVariants as progress
 use Rattle.chan_model.specs.declared.unit_state.SideState.{SideState}
@@ -64,7 +64,7 @@ reset-idle Second u f fresh y p r e =
       free_there = λ m. m;
     }
 
-reset-owned : (side k : Side) (u : UnitState) (v : ℕ) (place : Place) (f : ℕ) (fresh : Bool) (y : SideState) (p r : ℕ) → (fresh || nat_lt f r) ≡ true →
+reset-owned : (side k : Side) (u : UnitState) (v : ℕ) (place : Connection) (f : ℕ) (fresh : Bool) (y : SideState) (p r : ℕ) → (fresh || nat_lt f r) ≡ true →
     IsStep side (at side u (own.Owned k v place) (side_at f fresh) y) (sends (reset_side (at side u (own.Owned k v place) (side_at f fresh) y) side r) p (up.Cleared r)) (IsGiven p (down.Reset r u.restarts))
 reset-owned First First u v place f fresh y p r e =
     record {
@@ -180,7 +180,7 @@ not-both : true ≡ false → ⊥
 not-both e = cc
 
 -- Leave, and Ask, of the program that holds the device, whose side is not fresh
-leaving-steps : (k : Side) (u : UnitState) (t : ℕ) (place : Place) (f : ℕ) (fresh : Bool) (y : SideState) →
+leaving-steps : (k : Side) (u : UnitState) (t : ℕ) (place : Connection) (f : ℕ) (fresh : Bool) (y : SideState) →
     IsStep k (at k u (own.Owned k t place) (side_at f fresh) y) (leaving_from (at k u (own.Owned k t place) (side_at f fresh) y) k t place) Always
 leaving-steps First u t (On p c) f true y =
     record { here = λ n h g. Stays _ _ _ refl tt; there = λ n h. refl; free_here = λ m. m; free_there = λ m. m }
@@ -193,7 +193,7 @@ leaving-steps Second u t (On p c) f false y =
 leaving-steps k u t (Ask p c) f fresh y = nothing k _ Always
 leaving-steps k u t (Away c) f fresh y = nothing k _ Always
 
-asking-steps : (k : Side) (u : UnitState) (t : ℕ) (place : Place) (f : ℕ) (fresh : Bool) (y : SideState) (p : ℕ) → (fresh ≡ true → true ≡ false) →
+asking-steps : (k : Side) (u : UnitState) (t : ℕ) (place : Connection) (f : ℕ) (fresh : Bool) (y : SideState) (p : ℕ) → (fresh ≡ true → true ≡ false) →
     IsStep k (at k u (own.Owned k t place) (side_at f fresh) y) (asking_from (at k u (own.Owned k t place) (side_at f fresh) y) k t place p) Always
 asking-steps k u t (On q c) f fresh y p x = nothing k _ Always
 asking-steps k u t (Ask q c) f true y p x = absurd (not-both (x refl))
@@ -208,7 +208,7 @@ asking-steps Second u t (Away c) f false y p x =
     record { here = λ n h g. keeps.Asks n h.phase h.seen h.known u.restarts f t p c (Away c) refl; there = λ n h. refl; free_here = λ m. m; free_there = λ m. m }
 
 -- a report changes only the command at hand
-absorbed-steps : (k : Side) (u : UnitState) (p t c : ℕ) (x : AtHand) (given : Option (List ℕ)) (count : ℕ) → IsStep k u (report_absorbed u p t c x given count) Always
+absorbed-steps : (k : Side) (u : UnitState) (p t c : ℕ) (x : CurrentCommand) (given : Option (List ℕ)) (count : ℕ) → IsStep k u (report_absorbed u p t c x given count) Always
 absorbed-steps k u p t c x None count = nothing k u Always
 absorbed-steps k u p t c x (Some bytes) count = step-if k u (nat_le count (length bytes)) _ Always (unseen k u _ _ Always refl refl refl refl tt)
 
@@ -216,11 +216,11 @@ begun-steps : (k : Side) (u : UnitState) (b : Bool) (step other : Option UnitSte
 begun-steps k u true step other s o = s
 begun-steps k u false step other s o = o
 
-again-steps : (k : Side) (u : UnitState) (p t c : ℕ) (x : AtHand) (load : Option Load) → IsStep k u (sent_again u p t c x load) Always
+again-steps : (k : Side) (u : UnitState) (p t c : ℕ) (x : CurrentCommand) (load : Option Load) → IsStep k u (sent_again u p t c x load) Always
 again-steps k u p t c x None = nothing k u Always
 again-steps k u p t c x (Some load) = step-if k u x.again _ Always (unseen k u _ _ Always refl refl refl refl tt)
 
-end-steps : (k : Side) (u : UnitState) (p t c : ℕ) (x : AtHand) (progress : Progress) (a : DeviceAnswer) → IsStep k u (answer_taken u p t c x progress a) Always
+end-steps : (k : Side) (u : UnitState) (p t c : ℕ) (x : CurrentCommand) (progress : Progress) (a : DeviceAnswer) → IsStep k u (answer_taken u p t c x progress a) Always
 end-steps k u p t c x progress.New answer.Begins = begun-steps k u (is_outward x.code) _ _ (unseen k u _ _ Always refl refl refl refl tt) (unseen k u _ None Always refl refl refl refl tt)
 end-steps k u p t c x progress.New (answer.Absorbed count) = nothing k u Always
 end-steps k u p t c x progress.New (answer.Supplied bytes) = nothing k u Always
@@ -242,7 +242,7 @@ end-steps k u p t c x progress.Ended (answer.Supplied bytes) = nothing k u Alway
 end-steps k u p t c x progress.Ended answer.Again = nothing k u Always
 end-steps k u p t c x progress.Ended (answer.Ended status more) = nothing k u Always
 
-report-steps : (k : Side) (u : UnitState) (t : ℕ) (place : Place) (x : Option AtHand) (r : Report) → IsStep k u (report_on u t place x r) Always
+report-steps : (k : Side) (u : UnitState) (t : ℕ) (place : Connection) (x : Option CurrentCommand) (r : Report) → IsStep k u (report_on u t place x r) Always
 report-steps k u t (On p c) None r = nothing k u Always
 report-steps k u t (On p c) (Some x) r = step-if k u (r.sequence == x.sequence) _ Always (end-steps k u p t c x x.progress r.answer)
 report-steps k u t (Ask p c) x r = nothing k u Always
@@ -298,7 +298,7 @@ asks-free side u own.Idle p f g m = m
 asks-free side u (own.Owned First t place) p f g m = from-free First side _ (asking_from (record u { own = own.Owned First t place }) First t place p) Always (asking-steps First u t place u.first.floor u.first.fresh u.second p f) m
 asks-free side u (own.Owned Second t place) p f g m = from-free Second side _ (asking_from (record u { own = own.Owned Second t place }) Second t place p) Always (asking-steps Second u t place u.second.floor u.second.fresh u.first p g) m
 
-reported-steps : (k : Side) (u : UnitState) (t : ℕ) (place : Place) (r : Report) → IsStep k u (report_of u (own.Owned k t place) r) Always
+reported-steps : (k : Side) (u : UnitState) (t : ℕ) (place : Connection) (r : Report) → IsStep k u (report_of u (own.Owned k t place) r) Always
 reported-steps k u t place r = step-if k u (same_side k r.side && ((r.number == t) && (r.command == u.last_command))) _ Always (report-steps k u t place u.at_hand r)
 
 reports-moves : (side : Side) (u : UnitState) (o : Own) (r : Report) (n : ℕ) (h : HoldState) →

@@ -11,8 +11,8 @@ use Rattle.chan_model.specs.Signals.{Up}
 use Rattle.chan_model.specs.declared.signal.Up.TheVariants as up
 use Rattle.chan_model.specs.declared.unit_state.Own.{Own}
 use Rattle.chan_model.specs.declared.unit_state.Own.TheVariants as own
-use Rattle.chan_model.specs.declared.unit_state.Place.{Place}
-use Rattle.chan_model.specs.declared.unit_state.Place.TheVariants.{On, Ask, Away}
+use Rattle.chan_model.specs.declared.unit_state.Connection.{Connection}
+use Rattle.chan_model.specs.declared.unit_state.Connection.TheVariants.{On, Ask, Away}
 use Rattle.chan_model.specs.declared.unit_state.UnitState.{UnitState}
 use Rattle.chan_model.specs.Sides.{same_side}
 use Rattle.chan_model.specs.UnitTable.{side_of, owns}
@@ -22,7 +22,7 @@ use Rattle.agreement_laws.specs.Links.{Link, Links, link_of}
 pub data SideSeen : Type 0 where
   Idle : SideSeen
   Fresh : SideSeen
-  Owns : (number : ℕ) → (place : Place) → SideSeen
+  Owns : (number : ℕ) → (place : Connection) → SideSeen
 
 abbrev pub seen_own : Own → Side → SideSeen
 seen_own own.Idle side = Idle
@@ -61,18 +61,18 @@ IsOwnedBelow (Owns t place) f = t ≤ f
 IsOwnedBelow o f = Unit {0}
 
 -- Places: the program is connected on p by the connection c, and s is the last that the hold saw.
-abbrev pub IsJoined : ℕ → ℕ → ℕ → Place → Type 0
+abbrev pub IsJoined : ℕ → ℕ → ℕ → Connection → Type 0
 IsJoined p c s (On q d) = (s ≡ d) × (p ≡ q) × (c ≡ d)
 IsJoined p c s (Ask q d) = s ≤ d
 IsJoined p c s (Away d) = s ≤ d
 
-abbrev pub IsParted : ℕ → Place → Type 0
+abbrev pub IsParted : ℕ → Connection → Type 0
 IsParted s (On q d) = s ≡ d
 IsParted s (Ask q d) = s ≤ d
 IsParted s (Away d) = s ≤ d
 
 -- The hold, where a program of its side holds the device; where nothing of its side does; where the side is fresh.
-abbrev pub IsPaired : HoldPhase → ℕ → ℕ → ℕ → Place → Type 0
+abbrev pub IsPaired : HoldPhase → ℕ → ℕ → ℕ → Connection → Type 0
 IsPaired hold.Free s f t place = ⊥
 IsPaired (hold.Offer u p) s f t place = (u ≡ t) × IsJoined p 0 0 place
 IsPaired (hold.On u p c) s f t place = (u ≡ t) × IsJoined p c s place
@@ -160,7 +160,7 @@ IsNotOwned (Owns v place) t = v ≢ t
 IsNotOwned o t = Unit {0}
 
 -- Back: of a connection that was drawn; where the unit asks for it, by its path
-abbrev pub IsBackAt : Place → ℕ → ℕ → Type 0
+abbrev pub IsBackAt : Connection → ℕ → ℕ → Type 0
 IsBackAt (On q d) p c = c ≤ d
 IsBackAt (Ask q d) p c = (c ≤ d) × (d ≡ c → p ≡ q)
 IsBackAt (Away d) p c = c ≤ d

@@ -12,13 +12,13 @@ use Rattle.chan_model.specs.Signals.{Down}
 use Rattle.chan_model.specs.declared.signal.Down.TheVariants as down
 use Rattle.chan_model.specs.Signals.{Up}
 use Rattle.chan_model.specs.declared.signal.Up.TheVariants as up
-use Rattle.chan_model.specs.declared.unit_state.Place.{Place}
-use Rattle.chan_model.specs.declared.unit_state.Place.TheVariants.{On, Ask, Away}
+use Rattle.chan_model.specs.declared.unit_state.Connection.{Connection}
+use Rattle.chan_model.specs.declared.unit_state.Connection.TheVariants.{On, Ask, Away}
 use Rattle.chan_model.specs.declared.unit_state.Own.{Own}
 use Rattle.chan_model.specs.declared.unit_state.Own.TheVariants.{Idle, Owned}
 use Rattle.chan_model.specs.declared.unit_state.SideState.{SideState}
 use Rattle.chan_model.specs.declared.unit_state.Progress.TheVariants.{New}
-use Rattle.chan_model.specs.declared.unit_state.AtHand.{AtHand}
+use Rattle.chan_model.specs.declared.unit_state.CurrentCommand.{CurrentCommand}
 use Rattle.chan_model.specs.declared.unit_state.Attention.{Attention}
 use Rattle.chan_model.specs.declared.unit_state.UnitState.{UnitState}
 use Rattle.chan_model.specs.Sides.{same_side}
@@ -61,11 +61,11 @@ owns Idle side = false
 owns (Owned k u place) side = same_side k side
 
 -- the program is connected by this connection
-abbrev pub is_place_on : Place → ℕ → Bool
+abbrev pub is_place_on : Connection → ℕ → Bool
 is_place_on place c = elim place [ On p d ↦ c == d | other ↦ false ]
 
 -- the path by which it is connected, where it is
-abbrev pub path_of_place : Place → Option ℕ
+abbrev pub path_of_place : Connection → Option ℕ
 path_of_place place = elim place [ On p c ↦ Some p | other ↦ None ]
 
 -- the program of this side and number is connected by this connection
@@ -91,7 +91,7 @@ selected u Idle side p t may = if may then sends (held u side t p) p (up.Accept 
 selected u (Owned k v place) side p t may = sends u p (up.Busy t)
 
 -- Command: the next of the program that holds the device
-abbrev pub new_command : ℕ → ℕ → AtHand
+abbrev pub new_command : ℕ → ℕ → CurrentCommand
 new_command code room = record { code = code; room = room; progress = New; sequence = 0; unanswered = None; asked = 0; again = false; given = None; stopped = false }
 
 abbrev pub commanded : UnitState → Side → ℕ → ℕ → ℕ → ℕ → Option UnitStep
@@ -104,11 +104,11 @@ commanded u side t n code room =
 abbrev pub kept_bytes : List ℕ → Option (List ℕ)
 kept_bytes bytes = elim bytes [ [] ↦ None | b ∷ bs ↦ Some (b ∷ bs) ]
 
-abbrev pub with_given : AtHand → ℕ → List ℕ → AtHand
+abbrev pub with_given : CurrentCommand → ℕ → List ℕ → CurrentCommand
 with_given x s bytes =
     record x { sequence = s; unanswered = None; again = false; given = kept_bytes bytes; stopped = x.stopped || (length bytes == 0) }
 
-abbrev pub given_next : UnitState → Option AtHand → ℕ → List ℕ → Option UnitStep
+abbrev pub given_next : UnitState → Option CurrentCommand → ℕ → List ℕ → Option UnitStep
 given_next u None s bytes = None
 given_next u (Some x) s bytes = if s == x.sequence + 1 then changes (record u { at_hand = Some (with_given x s bytes) }) else None
 
@@ -117,19 +117,19 @@ given u side t c n s bytes =
     if is_owner_on u.own side t c && (n == u.last_command) then given_next u u.at_hand s bytes else None
 
 -- Took: the last Data is answered; no room, or fewer bytes than were asked for, stop the transfer
-abbrev pub at_hand_answered : AtHand → Load → ℕ → AtHand
+abbrev pub at_hand_answered : CurrentCommand → Load → ℕ → CurrentCommand
 at_hand_answered x load room = record x { unanswered = None; again = false; room = room; stopped = x.stopped || ((room == 0) || nat_lt (load_length load) x.asked) }
 
-abbrev pub answered_load : UnitState → AtHand → Option Load → ℕ → Option UnitStep
+abbrev pub answered_load : UnitState → CurrentCommand → Option Load → ℕ → Option UnitStep
 answered_load u x None room = None
 answered_load u x (Some load) room = changes (record u { at_hand = Some (at_hand_answered x load room) })
 
-abbrev pub answered_last : UnitState → Option AtHand → ℕ → ℕ → Option UnitStep
+abbrev pub answered_last : UnitState → Option CurrentCommand → ℕ → ℕ → Option UnitStep
 answered_last u None s room = None
 answered_last u (Some x) s room = if s == x.sequence then answered_load u x x.unanswered room else None
 
 -- Grant: of the connection asked for; an older one is answered by Leave
-abbrev pub granted_at : UnitState → Side → ℕ → Place → ℕ → ℕ → Option UnitStep
+abbrev pub granted_at : UnitState → Side → ℕ → Connection → ℕ → ℕ → Option UnitStep
 granted_at u side t (Ask q d) p c =
     if c == d then changes (record u { own = Owned side t (On q d) })
     else (if nat_lt c d then sends u p (up.Leave t c) else None)
@@ -141,7 +141,7 @@ granted u Idle side p t c = None
 granted u (Owned k v place) side p t c = if same_side k side && (t == v) then granted_at u k v place p c else None
 
 -- Refuse: of the connection asked for
-abbrev pub grant_refused_at : UnitState → Side → ℕ → Place → ℕ → Option UnitStep
+abbrev pub grant_refused_at : UnitState → Side → ℕ → Connection → ℕ → Option UnitStep
 grant_refused_at u side t (Ask q d) c = if c == d then changes (record u { own = Owned side t (Away d) }) else None
 grant_refused_at u side t place c = None
 
@@ -213,11 +213,11 @@ came_of (Some step) = record { taken = true; sent = step.sent }
 
 -- Acts of the unit. Leave: the program that is connected works on without the path; a Data that is not answered will be
 -- sent again.
-abbrev pub marked_again : Option AtHand → Option AtHand
+abbrev pub marked_again : Option CurrentCommand → Option CurrentCommand
 marked_again None = None
 marked_again (Some x) = Some (record x { again = x.again || is_some x.unanswered })
 
-abbrev pub leaving_from : UnitState → Side → ℕ → Place → Option UnitStep
+abbrev pub leaving_from : UnitState → Side → ℕ → Connection → Option UnitStep
 leaving_from u side t (On p c) = sends (record u { own = Owned side t (Away c); at_hand = marked_again u.at_hand }) p (up.Leave t c)
 leaving_from u side t place = None
 
@@ -226,7 +226,7 @@ leaving u Idle = None
 leaving u (Owned side t place) = leaving_from u side t place
 
 -- Ask: for a path, under the next connection number
-abbrev pub asking_from : UnitState → Side → ℕ → Place → ℕ → Option UnitStep
+abbrev pub asking_from : UnitState → Side → ℕ → Connection → ℕ → Option UnitStep
 asking_from u side t (On q c) p = None
 asking_from u side t (Ask q c) p = sends (record u { own = Owned side t (Ask p (c + 1)) }) p (up.Back t (c + 1))
 asking_from u side t (Away c) p = sends (record u { own = Owned side t (Ask p (c + 1)) }) p (up.Back t (c + 1))

@@ -8,7 +8,7 @@ use crate::signal::Load;
 
 /// Where the program is that holds the device.
 #[derive(Clone, Copy, Debug)]
-pub enum Place {
+pub enum Connection {
     /// Connected on this path.
     On { path: Path, connection: u64 },
     /// Asking for this path.
@@ -25,7 +25,7 @@ pub enum Own {
     Owned {
         side: Side,
         number: u64,
-        place: Place,
+        place: Connection,
     },
 }
 
@@ -53,7 +53,7 @@ pub enum Progress {
 
 /// The command at hand.
 #[derive(Drop)]
-pub struct AtHand {
+pub struct CurrentCommand {
     pub code: u8,
     /// How many bytes of a read may come.
     pub room: u16,
@@ -89,7 +89,7 @@ pub struct UnitState {
     pub own: Own,
     /// The number of the last command of the program that holds it.
     pub last_command: u64,
-    pub at_hand: Option<AtHand>,
+    pub at_hand: Option<CurrentCommand>,
     /// The program is to end.
     pub halted: bool,
     /// How many attentions were drawn.
@@ -99,12 +99,12 @@ pub struct UnitState {
     pub end_owed: bool,
 }
 
-impl AtHand {
+impl CurrentCommand {
     /// The same command as far; it takes no memory.
     pub fn copy(&self) -> Self
         ensures { result ≡ self.now }
     {
-        AtHand {
+        CurrentCommand {
             code: self.code,
             room: self.room,
             progress: self.progress,
@@ -159,7 +159,7 @@ fn copy_chunk(chunk: &Option<Chunk>) -> Option<Chunk>
 }
 
 /// The same command, where there is one.
-fn copy_at_hand(at_hand: &Option<AtHand>) -> Option<AtHand>
+fn copy_at_hand(at_hand: &Option<CurrentCommand>) -> Option<CurrentCommand>
     ensures { result ≡ at_hand.now }
 {
     match at_hand {

@@ -12,7 +12,7 @@ use crate::parts::{ChpidList, SubchannelSetup, UnitKind};
 use chan_model::names::Side;
 use std::alloc::{AllocError, Global};
 use std::marker::Model;
-use supply::{Given, Supply, make_room, push};
+use memory::{Given, Supply, make_room, push};
 
 /// Why a line of a configuration is refused.
 #[derive(Clone, Copy, Debug, PartialEq, Eq)]

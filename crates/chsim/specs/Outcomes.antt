@@ -1,8 +1,8 @@
 -- How the program ends: its exit status, and its line on standard error (own).
 use Rattle.std.specs.Prelude.{ℕ, Bool, true, false, List, codes, Option, Some, None}
-use Rattle.serving.specs.Serving.{status_of}
-use Rattle.serving.specs.declared.Ending.{Ending}
-use Rattle.serving.specs.declared.Ending.TheVariants as ending
+use Rattle.script_runner.specs.Serving.{status_of}
+use Rattle.script_runner.specs.declared.Ending.{Ending}
+use Rattle.script_runner.specs.declared.Ending.TheVariants as ending
 use Rattle.std.specs.declared.io.ErrorKind.{ErrorKind}
 use Rattle.std.specs.declared.io.ErrorKind.TheVariants.{InvalidData}
 use Rattle.chsim.specs.declared.outcome.Outcome.{Outcome}

@@ -8,8 +8,8 @@ use Rattle.command_words.specs.declared.Wanted.{Wanted}
 use Rattle.command_words.specs.declared.Wanted.TheVariants.{Run, Race, Check}
 use Rattle.command_words.specs.Plain.{plain}
 use Rattle.command_words.specs.Texts.{Telling, IsTold}
-use Rattle.serving.specs.Serving.{Serves, ServesRace, Checks, IsForMemory}
-use Rattle.serving.specs.declared.Ending.{Ending}
+use Rattle.script_runner.specs.Serving.{Serves, ServesRace, Checks, IsForMemory}
+use Rattle.script_runner.specs.declared.Ending.{Ending}
 use Rattle.chsim.specs.declared.outcome.Outcome.{Outcome}
 use Rattle.chsim.specs.declared.outcome.Outcome.TheVariants.{Ended, NoCommand, NoMemory, NotUtf8}
 

@@ -15,15 +15,15 @@ mod tests;
 use crate::outcome::Outcome;
 use command_words::{Refused, TextSupply, Wanted, command_of};
 use core_lock::supplies::CoreSupply;
-use serving::{check_script_with, race_script_with, serve_script_with};
+use script_runner::{check_script_with, race_script_with, serve_script_with};
 use std::alloc::Global;
 use std::io::ErrorKind;
 use std::process::ExitCode;
 use std::sync::Wait;
 use std::thread::Threads;
 use std::{env, io};
-use streams::{Heard, Sink, Source, Watched};
-use supply::Given;
+use streams::{CheckedReader, Sink, Source, CheckedWriter};
+use memory::Given;
 
 /// Serves the program's words, its own name being the first of them, and answers how it ended. Words that name no command
 /// write the text about them, which is help where they ask for it, before anything is read; nothing where there is no memory
@@ -93,8 +93,8 @@ fn run<T: Threads + Wait + Sync, M: CoreSupply + TextSupply>(
     for word in owned.iter() {
         words.push(word.as_str()).map_err(|_| Outcome::NoMemory)?;
     }
-    let mut reader = Heard::new(rt.reader());
-    let mut sink = Watched::new(io::writer(rt));
+    let mut reader = CheckedReader::new(rt.reader());
+    let mut sink = CheckedWriter::new(io::writer(rt));
     Ok(serve(
         threads,
         rt.alloc(),

@@ -3,7 +3,7 @@
 ghost use Rattle.std.specs.Prelude.{◌≡◌, None, Some, MatchOption};
 ghost use Rattle.chsim.specs.Outcomes as spec;
 
-use serving::Ending;
+use script_runner::Ending;
 
 /// How the program ended.
 #[derive(Clone, Copy, Debug, PartialEq, Eq)]

@@ -20,11 +20,11 @@ use crate::outcome::Outcome;
 use crate::serve;
 use crate::tests::memory::{Short, Slow};
 use crate::tests::scenes::Scene;
-use serving::Ending;
+use script_runner::Ending;
 use std::sync::Wait;
 use std::thread::Threads;
-use streams::{Heard, Watched};
-use supply::{Given, Refusing};
+use streams::{CheckedReader, CheckedWriter};
+use memory::{Given, FailingMemory};
 
 /// The output and the exit status of a command over a text.
 pub fn served<R: Threads + Wait + Sync + AllocGlobal>(
@@ -32,8 +32,8 @@ pub fn served<R: Threads + Wait + Sync + AllocGlobal>(
     word: &str,
     text: &[u8],
 ) -> (Vec<u8>, u8) {
-    let mut reader = Heard::new(text);
-    let mut sink = Watched::new(Vec::new(rt.alloc()));
+    let mut reader = CheckedReader::new(text);
+    let mut sink = CheckedWriter::new(Vec::new(rt.alloc()));
     let mut supply = Given { refused: false };
     let outcome = serve(
         rt,
@@ -94,13 +94,13 @@ fn ends(outcome: Outcome, status: u8, complaint: Option<&str>) -> bool {
 fn a_text_that_is_not_read_is_not_served(rt: HostRuntime) {
     let write = Scene::of_a_write(&rt);
     for fails_at in 0..60u64 {
-        let mut reader = Heard::new(Slow {
+        let mut reader = CheckedReader::new(Slow {
             rest: write.text(),
             most: 10,
             calls: 0,
             fails_at,
         });
-        let mut sink = Watched::new(Vec::new(rt.alloc()));
+        let mut sink = CheckedWriter::new(Vec::new(rt.alloc()));
         let mut supply = Given { refused: false };
         let outcome = serve(
             &rt,
@@ -125,8 +125,8 @@ fn a_text_that_is_not_read_is_not_served(rt: HostRuntime) {
 fn nothing_is_performed_after_a_write_fails(rt: HostRuntime) {
     let write = Scene::of_a_write(&rt);
     for fails_at in 0..120u64 {
-        let mut reader = Heard::new(write.text());
-        let mut sink = Watched::new(Short {
+        let mut reader = CheckedReader::new(write.text());
+        let mut sink = CheckedWriter::new(Short {
             text: Vec::new(rt.alloc()),
             most: 3,
             calls: 0,
@@ -158,9 +158,9 @@ fn served_with<R: Threads + Wait + Sync + AllocGlobal>(
     text: &[u8],
     left: u64,
 ) -> (Vec<u8>, Outcome, bool) {
-    let mut reader = Heard::new(text);
-    let mut sink = Watched::new(Vec::new(rt.alloc()));
-    let mut supply = Refusing {
+    let mut reader = CheckedReader::new(text);
+    let mut sink = CheckedWriter::new(Vec::new(rt.alloc()));
+    let mut supply = FailingMemory {
         left,
         refused: false,
     };
@@ -265,8 +265,8 @@ fn other_words_show_a_text(rt: HostRuntime) {
         (&["chsim"], "error"),
     ];
     for (words, begins) in rows {
-        let mut reader = Heard::new(GOOD);
-        let mut sink = Watched::new(Vec::new(rt.alloc()));
+        let mut reader = CheckedReader::new(GOOD);
+        let mut sink = CheckedWriter::new(Vec::new(rt.alloc()));
         let mut supply = Given { refused: false };
         let outcome = serve(&rt, rt.alloc(), &mut supply, words, &mut reader, &mut sink);
         let out = sink.writer;
@@ -284,8 +284,8 @@ fn what_is_not_written_is_told(rt: HostRuntime) {
         (&["chsim", "run"], b"", 2),
     ];
     for (words, text, status) in rows {
-        let mut reader = Heard::new(text);
-        let mut sink = Watched::new(Short {
+        let mut reader = CheckedReader::new(text);
+        let mut sink = CheckedWriter::new(Short {
             text: Vec::new(rt.alloc()),
             most: 3,
             calls: 0,

@@ -11,7 +11,7 @@ ghost use Rattle.command_words.specs.declared.Wanted.{Wanted};
 use clap::Command;
 use clap::error::{Error, ErrorKind};
 use std::alloc::{AllocError, Global};
-use supply::{Given, Refusing, Supply};
+use memory::{Given, FailingMemory, Supply};
 
 /// What the words ask for.
 #[derive(Clone, Copy, Debug, PartialEq, Eq)]
@@ -62,7 +62,7 @@ impl TextSupply for Given {
     }
 }
 
-impl TextSupply for Refusing {
+impl TextSupply for FailingMemory {
     ghost use Rattle.command_words.specs.Texts.{SaysAnything};
 
     ghost tells = { SaysAnything };

@@ -4,7 +4,7 @@ ghost use Rattle.std.specs.Prelude.{◌≡◌, ◌<◌, ◌≤◌, ◌^◌, IfOk
 ghost use Rattle.control_units.specs.Groups as spec;
 
 use std::alloc::{AllocError, Global};
-use supply::{Supply, make_room};
+use memory::{Supply, make_room};
 
 /// What is kept of a group.
 #[derive(Clone, Copy)]

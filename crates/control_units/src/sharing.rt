@@ -9,7 +9,7 @@ use crate::groups::{Group, change_begun, idle_groups, set_refused};
 use crate::{ControlUnit, Member};
 use std::alloc::{AllocError, Global};
 use std::marker::Model;
-use supply::{Given, Supply, push};
+use memory::{Given, Supply, push};
 
 /// Groups of units of which one is served at a time (own).
 #[derive(Drop)]

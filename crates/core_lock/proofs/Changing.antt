@@ -36,8 +36,8 @@ use Rattle.machine_model.specs.declared.state.Sweep.{Sweep}
 use Rattle.machine_model.specs.declared.state.Sweep.TheVariants as sweep
 use Rattle.step_laws.specs.Walks.{Function, Resumes, Halts, Clears, Cancels, OneSub, Walked, Stays, Started, Tested, Modified, Performed, Chosen, Met, Sunk, Reported, Acted, Restarted, Swept, instruction_of, sweep_event}
 use Rattle.subsystem.specs.Keeping.{all_serials}
-use Rattle.core_lock.specs.declared.touching.Touched.{Touched}
-use Rattle.core_lock.specs.declared.touching.Touched.TheVariants.{Nothing, Place, All}
+use Rattle.core_lock.specs.declared.touching.ChangedSerials.{ChangedSerials}
+use Rattle.core_lock.specs.declared.touching.ChangedSerials.TheVariants.{Nothing, Place, All}
 use Rattle.core_lock.specs.Touching.{Changes, touched, touched_at, touched_word}
 
 abbrev serials_at : Subchannel → Serials
@@ -52,7 +52,7 @@ none : Serials
 none = record { made = 0; cleared = 0 }
 
 -- where none was changed, none but some were
-stay : (t : Touched) (old new : List Serials) → new ≡ old → Changes t old new
+stay : (t : ChangedSerials) (old new : List Serials) → new ≡ old → Changes t old new
 stay Nothing old new e = e
 stay (Place place) old new e = (get_or old place none, e ∙ sym (set_own old place none))
 stay All old new e = tt

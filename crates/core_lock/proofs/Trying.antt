@@ -8,7 +8,7 @@ use Rattle.machine_model.specs.Ruled.{GoesByRule}
 use Rattle.machine_model.specs.Steps.{IsRefused}
 use Rattle.path_select.specs.Choice.{Rule}
 use Rattle.core_lock.specs.Seats.{Guarded, GuardedCore, HeldSeat}
-use Rattle.core_lock.specs.Entering.{IsEntered, LacksRoom, MayRefuse}
+use Rattle.core_lock.specs.Entering.{IsEntered, IsExhausted, MayRefuse}
 use Rattle.core_lock.specs.Turns.{Executes, IsRefusedBy, Tries}
 
 abbrev failed : Fault → Result Reply Fault
@@ -22,7 +22,7 @@ not_failed r is = absurd (cc)
 
 module _ (picks : Rule) (core : GuardedCore) (seat : HeldSeat) (e : Event) where
   -- the rule holds of what was refused, but for want of memory
-  refused : (f : Fault) → IsRefused core.value.state e f → (failed f ≡ failed fault.NoMemory → LacksRoom core seat) → (failed f ≢ failed fault.NoMemory → GoesByRule picks core.value.state e (Err f) core.value.state) → IsRefusedBy picks core seat e f
+  refused : (f : Fault) → IsRefused core.value.state e f → (failed f ≡ failed fault.NoMemory → IsExhausted core seat) → (failed f ≢ failed fault.NoMemory → GoesByRule picks core.value.state e (Err f) core.value.state) → IsRefusedBy picks core seat e f
   refused fault.NoMemory is spent ruled = inl (refl, spent refl)
   refused fault.WireFull is spent ruled = inr (is, ruled (λ x. absurd (cc)))
   refused fault.NotSent is spent ruled = inr (is, ruled (λ x. absurd (cc)))
@@ -35,7 +35,7 @@ module _ (picks : Rule) (core : GuardedCore) (seat : HeldSeat) (e : Event) where
   refused (fault.Storage kind) is spent ruled = inr (is, ruled (λ x. absurd (cc)))
   refused fault.Operand is spent ruled = inr (is, ruled (λ x. absurd (cc)))
 
-  pub refused_so : (f : Fault) → MayRefuse core.value.state e f → (failed f ≡ failed fault.NoMemory → LacksRoom core seat) → (failed f ≢ failed fault.NoMemory → GoesByRule picks core.value.state e (Err f) core.value.state) → IsRefusedBy picks core seat e f
+  pub refused_so : (f : Fault) → MayRefuse core.value.state e f → (failed f ≡ failed fault.NoMemory → IsExhausted core seat) → (failed f ≢ failed fault.NoMemory → GoesByRule picks core.value.state e (Err f) core.value.state) → IsRefusedBy picks core seat e f
   refused_so f (inl is) spent ruled = inl (is, spent (λ j. failed (is j)))
   refused_so f (inr is) spent ruled = refused f is spent ruled
 

@@ -49,8 +49,8 @@ core_of past by = record { value = record { state = past.state; history = past.h
 abbrev pub LacksSpace : ℕ → ℕ → ℕ → Type 0
 LacksSpace core seat entries = (min core seat ≡ 0) ⊎ (2 ^ 62 ≤ entries + 1)
 
-abbrev pub LacksRoom : GuardedCore → HeldSeat → Type 0
-LacksRoom core seat = LacksSpace core.room seat.room (length core.value.history)
+abbrev pub IsExhausted : GuardedCore → HeldSeat → Type 0
+IsExhausted core seat = LacksSpace core.room seat.room (length core.value.history)
 
 -- how often an event was refused a seat for want of memory, after this answer; the greatest number of 64 bits stays
 abbrev pub starved_after : {A : Type 0} → Result A Fault → ℕ → ℕ
@@ -73,7 +73,7 @@ pub record IsEntered (picks : Rule) (old : GuardedCore) (held : HeldSeat) (e : E
   -- a refusal is the machine's, or for want of memory
   pub refusal : IfErr answer (λ f. MayRefuse old.value.state e f)
   -- memory is wanting only where there is no room, or no number is left
-  pub spent : answer ≡ Err fault.NoMemory → LacksRoom old held
+  pub spent : answer ≡ Err fault.NoMemory → IsExhausted old held
   -- a refusal leaves what the lock guards as it was
   pub core : OnErr answer (new.value ≡ old.value)
   -- a refusal leaves the seat as it was

@@ -3,7 +3,7 @@ use Rattle.std.specs.Prelude.{ℕ, List, [], ◌∷◌, Option, None, Some}
 use Rattle.chan_events.specs.Events.{Event}
 use Rattle.channel_config.specs.declared.parts.SubchannelSetup.{SubchannelSetup}
 use Rattle.machine_model.specs.State.{State}
-use Rattle.subchannel_steps.specs.PathTurns.{path_turn_of}
+use Rattle.signal_step.specs.PathTurns.{path_turn_of}
 use Rattle.unit_driver.specs.Turns.{word_of}
 
 -- a turn of a channel path's worker: the first event that there is for a subchannel

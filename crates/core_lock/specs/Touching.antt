@@ -5,19 +5,19 @@ use Rattle.chan_events.specs.Events.{Event}
 use Rattle.chan_events.specs.declared.event.Event.TheVariants as event
 use Rattle.machine_model.specs.InstructionSteps.{subchannel_word}
 use Rattle.machine_model.specs.State.{State, place_of}
-use Rattle.core_lock.specs.declared.touching.Touched.{Touched}
-use Rattle.core_lock.specs.declared.touching.Touched.TheVariants.{Nothing, Place, All}
+use Rattle.core_lock.specs.declared.touching.ChangedSerials.{ChangedSerials}
+use Rattle.core_lock.specs.declared.touching.ChangedSerials.TheVariants.{Nothing, Place, All}
 
-abbrev pub touched_at : Option ℕ → Touched
+abbrev pub touched_at : Option ℕ → ChangedSerials
 touched_at None = Nothing
 touched_at (Some place) = Place place
 
-abbrev pub touched_word : State → ℕ → Touched
+abbrev pub touched_word : State → ℕ → ChangedSerials
 touched_word s word = touched_at (place_of s word)
 
 -- an instruction, a choice and a signal that comes up: those of the subchannel that they name. What happens to a channel path, and
 -- a reset of the subsystem: those of all. Anything else: none
-abbrev pub touched : State → Event → Touched
+abbrev pub touched : State → Event → ChangedSerials
 touched s (event.Execute cpu i) = touched_word s (subchannel_word i)
 touched s (event.Choose word) = touched_word s word
 touched s (event.Up word path) = touched_word s word
@@ -28,13 +28,13 @@ touched s event.SystemReset = All
 touched s e = Nothing
 
 -- such serials alone are changed
-abbrev pub Changes : Touched → List Serials → List Serials → Type 0
+abbrev pub Changes : ChangedSerials → List Serials → List Serials → Type 0
 Changes Nothing old new = new ≡ old
 Changes (Place place) old new = (after : Serials) × (new ≡ slice_set old place after)
 Changes All old new = Unit {0}
 
 -- the place is one of so many
-abbrev pub IsThere : Touched → ℕ → Type 0
+abbrev pub IsThere : ChangedSerials → ℕ → Type 0
 IsThere Nothing count = Unit {0}
 IsThere (Place place) count = place < count
 IsThere All count = Unit {0}

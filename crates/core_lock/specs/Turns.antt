@@ -27,7 +27,7 @@ use Rattle.unit_driver.specs.Reporting.{report_of}
 use Rattle.unit_driver.specs.Turns.{turn_of}
 use Rattle.core_lock.specs.PathTurns.{path_turn_among}
 use Rattle.core_lock.specs.Entering as entering
-use Rattle.core_lock.specs.Entering.{LacksRoom}
+use Rattle.core_lock.specs.Entering.{IsExhausted}
 
 -- a seat with one turn more
 abbrev pub turned : Seated → Seated
@@ -55,7 +55,7 @@ EntersBy picks old last e r new after = entering.Enters old last e r new after �
 -- an event is refused so, for a seat: for want of memory only where there is no room, and otherwise as the machine refuses it
 abbrev pub IsRefusedBy : Rule → GuardedCore → HeldSeat → Event → Fault → Type 0
 IsRefusedBy picks core seat e f =
-    ((f ≡ fault.NoMemory) × LacksRoom core seat)
+    ((f ≡ fault.NoMemory) × IsExhausted core seat)
     ⊎ (IsRefused core.value.state e f × GoesByRule picks core.value.state e (Err f) core.value.state)
 
 -- an event is tried: it is entered, and the seat is left as the last one with the entry; or it is refused, and all is left as it was

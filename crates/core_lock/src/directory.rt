@@ -9,7 +9,7 @@ use channel_config::names::{SubchannelId, subchannel_named};
 use channel_config::parts::SubchannelSetup;
 use std::alloc::{AllocError, Global};
 use std::marker::Model;
-use supply::{Supply, push};
+use memory::{Supply, push};
 
 /// The subchannels of a machine, in the order of the configuration.
 #[derive(Drop)]

@@ -18,7 +18,7 @@ use glance_cell::cell::Writer;
 use path_select::PathChoice;
 use std::sync::ledger::Book;
 use subsystem::subsystem::Subsystem;
-use supply::{Supply, ensure_room};
+use memory::{Supply, ensure_room};
 
 /// Makes room for one entry, beside a history and in the log of a seat.
 #[inline(always)]

@@ -15,7 +15,7 @@ use chan_events::reply::Reply;
 use chan_model::fault::Fault;
 use chan_model::names::Cpu;
 use path_select::PathChoice;
-use supply::Given;
+use memory::Given;
 
 /// An I/O instruction of a CPU.
 #[derive(Clone, Copy, Debug)]

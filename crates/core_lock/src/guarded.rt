@@ -37,7 +37,7 @@ use std::marker::Model;
 use std::sync::Arc;
 use std::sync::ledger::Book;
 use subsystem::subsystem::Subsystem;
-use supply::{Given, Supply};
+use memory::{Given, Supply};
 
 /// What the lock of a machine guards: its subsystem, the seat of each entry of its history, and the glance cells of its
 /// subchannels.

@@ -33,7 +33,7 @@ use std::marker::Model;
 use std::sync::Arc;
 use std::sync::ledger::{Book, Share};
 use subsystem::subsystem::Subsystem;
-use supply::Given;
+use memory::Given;
 use unit_driver::keeping::KeptReport;
 use unit_driver::turns::{OwedCall, TakenCommand};
 

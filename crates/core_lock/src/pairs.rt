@@ -11,7 +11,7 @@ ghost use Rattle.core_lock.specs.Seats as spec;
 ghost use Rattle.core_lock.specs.Touching as touch_spec;
 
 use crate::directory::Directory;
-use crate::touching::Touched;
+use crate::touching::ChangedSerials;
 use chan_events::event::{Event, Instruction};
 use chan_events::reply::Reply;
 use chan_model::answer::Answer;
@@ -22,13 +22,13 @@ use path_select::PathChoice;
 use scsw_irb::serials::Serials;
 use std::alloc::{AllocError, Global};
 use subsystem::subsystem::Subsystem;
-use supply::{Supply, push};
+use memory::{Supply, push};
 
 /// Stores the serials that an event may have changed.
 pub fn publish<P: PathChoice + Drop>(
     writers: &mut Vec<Writer>,
     subsystem: &Subsystem<P>,
-    touched: Touched,
+    touched: ChangedSerials,
 )
     requires rises { Rises (shown writers.old.items) (all_serials subsystem.now.state) }
     requires there { touch_spec.IsThere touched (length (shown writers.old.items)) }
@@ -37,9 +37,9 @@ pub fn publish<P: PathChoice + Drop>(
     ensures cells { cells_of writers.new.items ≡ cells_of writers.old.items }
 {
     match touched {
-        Touched::Nothing => {}
-        Touched::Place(place) => publish_one(writers, place, serials_at(subsystem, place)),
-        Touched::All => publish_all(writers, subsystem),
+        ChangedSerials::Nothing => {}
+        ChangedSerials::Place(place) => publish_one(writers, place, serials_at(subsystem, place)),
+        ChangedSerials::All => publish_all(writers, subsystem),
     }
 }
 

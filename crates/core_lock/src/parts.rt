@@ -15,7 +15,7 @@ use std::alloc::{AllocError, Global};
 use std::marker::Model;
 use std::sync::Arc;
 use std::sync::ledger::Blank;
-use supply::{Given, push};
+use memory::{Given, push};
 
 /// The ledgers, the glance cells and the directory of a machine that is not made yet.
 #[derive(Drop)]

@@ -7,7 +7,7 @@ use crate::directory::Directory;
 use glance_cell::supplies::CellSupply;
 use std::alloc::{AllocError, Global};
 use std::sync::Arc;
-use supply::{Given, Refusing};
+use memory::{Given, FailingMemory};
 
 /// Memory for lists, for cells and their readers, and for the directory that a machine shares with its seats. That it refused
 /// something can be seen from then on.
@@ -43,7 +43,7 @@ impl CoreSupply for Given {
     }
 }
 
-impl CoreSupply for Refusing {
+impl CoreSupply for FailingMemory {
     fn share(&mut self, alloc: Global, directory: Directory) -> Result<Arc<Directory>, AllocError>
         ensures shared { IfOk result (λ arc. arc_value arc ≡ directory) }
         ensures given { OnOk result (self.new.refused ≡ self.old.refused) }

@@ -16,7 +16,7 @@ use subsystem::subsystem::Subsystem;
 
 /// The subchannels whose serials an event may change.
 #[derive(Clone, Copy, Debug)]
-pub enum Touched {
+pub enum ChangedSerials {
     Nothing,
     /// The one at this place.
     Place(usize),
@@ -50,19 +50,19 @@ fn word_of(instruction: Instruction) -> u32
 
 /// The subchannel that a word names.
 #[inline(always)]
-fn at_word<P: PathChoice + Drop>(subsystem: &Subsystem<P>, word: u32) -> Touched
+fn at_word<P: PathChoice + Drop>(subsystem: &Subsystem<P>, word: u32) -> ChangedSerials
     ensures value { result ≡ spec.touched_word subsystem.now.state word }
     ensures there { spec.IsThere result (length (all_serials subsystem.now.state)) }
 {
     match subsystem.place(word) {
-        Some(place) => Touched::Place(place),
-        None => Touched::Nothing,
+        Some(place) => ChangedSerials::Place(place),
+        None => ChangedSerials::Nothing,
     }
 }
 
 /// The subchannels whose serials an event may change.
 #[inline(always)]
-pub fn touched_by<P: PathChoice + Drop>(subsystem: &Subsystem<P>, event: &Event) -> Touched
+pub fn touched_by<P: PathChoice + Drop>(subsystem: &Subsystem<P>, event: &Event) -> ChangedSerials
     ensures value { result ≡ spec.touched subsystem.now.state event.now }
     ensures there { spec.IsThere result (length (all_serials subsystem.now.state)) }
 {
@@ -74,7 +74,7 @@ pub fn touched_by<P: PathChoice + Drop>(subsystem: &Subsystem<P>, event: &Event)
         Event::PathDown { .. }
         | Event::PathUp { .. }
         | Event::PathReset { .. }
-        | Event::SystemReset => Touched::All,
-        _ => Touched::Nothing,
+        | Event::SystemReset => ChangedSerials::All,
+        _ => ChangedSerials::Nothing,
     }
 }

@@ -7,14 +7,14 @@
 //! prints something else.
 #![tactic(auto)]
 
-use serving::{check_script_with, race_script_with, serve_script_with};
+use script_runner::{check_script_with, race_script_with, serve_script_with};
 use std::alloc::{AllocError, Global};
 use std::rt::Files;
 use std::sync::Wait;
 use std::thread::Threads;
 use std::{env, fs, io, str};
-use streams::{Heard, Watched};
-use supply::Given;
+use streams::{CheckedReader, CheckedWriter};
+use memory::Given;
 
 /// Whether a line of the script is a race.
 fn races(script: &[u8]) -> bool {
@@ -39,8 +39,8 @@ struct Served {
 impl Served {
     /// The script is performed, with its race where there is one.
     fn by_run<R: Threads + Wait + Sync>(rt: &R, alloc: Global, script: &[u8]) -> Served {
-        let mut reader = Heard::new(script);
-        let mut sink = Watched::new(Vec::new(alloc));
+        let mut reader = CheckedReader::new(script);
+        let mut sink = CheckedWriter::new(Vec::new(alloc));
         let mut supply = Given { refused: false };
         let ending = if races(script) {
             race_script_with(rt, alloc, &mut supply, &mut reader, &mut sink)
@@ -55,8 +55,8 @@ impl Served {
 
     /// The script is read only.
     fn by_check(alloc: Global, script: &[u8]) -> Served {
-        let mut reader = Heard::new(script);
-        let mut sink = Watched::new(Vec::new(alloc));
+        let mut reader = CheckedReader::new(script);
+        let mut sink = CheckedWriter::new(Vec::new(alloc));
         let mut supply = Given { refused: false };
         let status = check_script_with(alloc, &mut supply, &mut reader, &mut sink).status();
         Served {

@@ -4,7 +4,7 @@ ghost use Rattle.std.specs.Prelude.{◌≡◌, ◌+◌, Bool, true, IfOk, OnOk, 
 
 use crate::cell::{Reader, Writer};
 use std::alloc::{AllocError, Global};
-use supply::{Given, Refusing, Supply};
+use memory::{Given, FailingMemory, Supply};
 
 /// Memory for lists, and for cells and their readers. That it refused something can be seen from then on.
 pub trait CellSupply: Supply {
@@ -40,7 +40,7 @@ impl CellSupply for Given {
     }
 }
 
-impl CellSupply for Refusing {
+impl CellSupply for FailingMemory {
     fn cell(&mut self, alloc: Global) -> Result<Writer, AllocError>
         ensures zero { IfOk result (λ w. (w.made ≡ 0) × (w.cleared ≡ 0)) }
         ensures given { OnOk result (self.new.refused ≡ self.old.refused) }

@@ -7,7 +7,7 @@ ghost use Rattle.interruptions.specs.Paths as paths;
 
 use std::alloc::{AllocError, Global};
 use std::marker::Model;
-use supply::{Supply, make_room};
+use memory::{Supply, make_room};
 
 /// Each number below a count has one that is next and one that was before. A number that stands in no circle with others is
 /// alone: next to itself, and before itself. Some numbers may stand for circles, and be alone while these are empty.

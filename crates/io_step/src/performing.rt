@@ -1,7 +1,7 @@
 //! Any I/O instruction, on all that it is lent.
 
 ghost use Rattle.std.specs.Prelude.{◌≡◌, IfSome, Some};
-ghost use Rattle.machine_model.specs.Bounds.{IsRoomy};
+ghost use Rattle.machine_model.specs.Bounds.{CanCount};
 ghost use Rattle.chan_events.specs.Replies.{plain_outcome};
 ghost use Rattle.io_step.specs.Performing as spec;
 ghost use Rattle.machine_model.specs.OtherTurns.{lent_whole};
@@ -48,7 +48,7 @@ pub fn perform_provided(
     cpu: Cpu,
     instruction: Instruction,
 ) -> Result<PlainReply, Fault>
-    requires { IsRoomy sub.old }
+    requires { CanCount sub.old }
     ensures done { spec.Performed (spec.lent storage.old (Some sub.old) pending.old) cpu instruction
         (plain_outcome result) (spec.lent storage.new (Some sub.new) pending.new) }
     ensures setup { sub.new.setup ≡ sub.old.setup }
@@ -70,7 +70,7 @@ pub fn perform(
     cpu: Cpu,
     instruction: Instruction,
 ) -> Result<PlainReply, Fault>
-    requires { IfSome (spec.sub_lent sub) (λ s. IsRoomy s) }
+    requires { IfSome (spec.sub_lent sub) (λ s. CanCount s) }
     ensures { spec.Performed (spec.lent storage.old (spec.sub_lent sub.entry) pending.old) cpu instruction
         (plain_outcome result) (spec.lent storage.new (spec.sub_left sub.exit) pending.new) }
 {

@@ -5,7 +5,7 @@ ghost use Rattle.io_step.specs.Executing as spec;
 ghost use Rattle.chan_events.specs.Replies.{plain_outcome};
 ghost use Rattle.machine_model.specs.State.{State};
 ghost use Rattle.machine_model.specs.InstructionSteps as steps;
-ghost use Rattle.machine_model.specs.Bounds.{IsRoomy};
+ghost use Rattle.machine_model.specs.Bounds.{CanCount};
 ghost use Rattle.subchannel_model.specs.Test.{tsch_code};
 ghost use Rattle.chan_events.specs.declared.event.Instruction.TheVariants as instruction_spec;
 
@@ -31,7 +31,7 @@ fn start(
     cpu: Cpu,
     address: u32,
 ) -> Result<PlainReply, Fault>
-    requires { IsRoomy sub.old }
+    requires { CanCount sub.old }
     ensures done { (word : ℕ) →
         spec.Executed storage.now sub.old cpu (instruction_spec.Ssch word address)
         (plain_outcome result) storage.now sub.new }
@@ -129,7 +129,7 @@ pub fn execute(
     cpu: Cpu,
     instruction: Instruction,
 ) -> Result<PlainReply, Fault>
-    requires { IsRoomy sub.old }
+    requires { CanCount sub.old }
     ensures done { spec.Executed storage.old sub.old cpu instruction (plain_outcome result) storage.new sub.new }
     ensures setup { sub.new.setup ≡ sub.old.setup }
 {

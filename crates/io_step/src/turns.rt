@@ -6,7 +6,7 @@ ghost use Rattle.chan_events.specs.declared.reply.Reply.TheVariants as reply_spe
 ghost use Rattle.chan_model.specs.declared.answer.Answer.TheVariants as answer_spec;
 ghost use Rattle.machine_model.specs.InstructionSteps as spec;
 ghost use Rattle.machine_model.specs.Turns as turn_spec;
-ghost use Rattle.machine_model.specs.Bounds.{IsRoomy};
+ghost use Rattle.machine_model.specs.Bounds.{CanCount};
 ghost use Rattle.schib_block.specs.Modify.{IsAllowedPmcw};
 ghost use Rattle.schib_block.specs.Reading.{pmcw_of_words};
 ghost use Rattle.subchannel_model.specs.Start.{ssch_code, started};
@@ -28,7 +28,7 @@ use functions::Subchannel;
 
 /// START SUBCHANNEL with an allowed ORB.
 pub fn start_sub(sub: &mut Subchannel, orb: Orb) -> PlainReply
-    requires { IsRoomy sub.old }
+    requires { CanCount sub.old }
     ensures left { spec.function_sub sub.old (spec.code_at ssch_code sub.old) (started sub.old.state orb) ≡
         turn_spec.leaves (reply_of result) sub.new }
     ensures setup { sub.new.setup ≡ sub.old.setup }
@@ -122,7 +122,7 @@ pub fn halt_sub(sub: &mut Subchannel) -> PlainReply
 
 /// CLEAR SUBCHANNEL.
 pub fn clear_sub(sub: &mut Subchannel) -> PlainReply
-    requires { IsRoomy sub.old }
+    requires { CanCount sub.old }
     ensures left { spec.function_sub sub.old (spec.code_at csch_code sub.old) (cleared sub.old.state) ≡
         turn_spec.leaves (reply_of result) sub.new }
     ensures setup { sub.new.setup ≡ sub.old.setup }

@@ -1,8 +1,8 @@
 -- Numbers that can still be raised: a channel subsystem makes fewer than 2 ^ 62 steps.
 use Rattle.std.specs.Prelude.{◌≤◌, ◌^◌, ℕ, Option, None, Some}
-use Rattle.chan_model.specs.declared.unit_state.AtHand.{AtHand}
-use Rattle.chan_model.specs.declared.unit_state.Place.{Place}
-use Rattle.chan_model.specs.declared.unit_state.Place.TheVariants.{On, Ask, Away}
+use Rattle.chan_model.specs.declared.unit_state.CurrentCommand.{CurrentCommand}
+use Rattle.chan_model.specs.declared.unit_state.Connection.{Connection}
+use Rattle.chan_model.specs.declared.unit_state.Connection.TheVariants.{On, Ask, Away}
 use Rattle.chan_model.specs.declared.unit_state.Own.{Own}
 use Rattle.chan_model.specs.declared.unit_state.Own.TheVariants.{Idle, Owned}
 use Rattle.chan_model.specs.declared.unit_state.UnitState.{UnitState}
@@ -22,12 +22,12 @@ pub record IsWithin (n : ℕ) (sub : Subchannel) : Type 0 where
   pub moved : IsMovedWithin n sub.state.begun
 
 -- the last chunk of the command at hand of a unit has at most this number
-abbrev pub IsAtWithin : ℕ → Option AtHand → Type 0
+abbrev pub IsAtWithin : ℕ → Option CurrentCommand → Type 0
 IsAtWithin n None = Unit {0}
 IsAtWithin n (Some x) = x.sequence ≤ n
 
 -- the last connection of the program that holds a unit has at most this number
-abbrev pub IsPlaceWithin : ℕ → Place → Type 0
+abbrev pub IsPlaceWithin : ℕ → Connection → Type 0
 IsPlaceWithin n (On p c) = c ≤ n
 IsPlaceWithin n (Ask p c) = c ≤ n
 IsPlaceWithin n (Away c) = c ≤ n
@@ -43,8 +43,8 @@ pub record IsUnitWithin (n : ℕ) (u : UnitState) : Type 0 where
   pub attentions : u.attentions ≤ n
   pub restarts : u.restarts ≤ n
 
-abbrev pub IsUnitRoomy : UnitState → Type 0
-IsUnitRoomy u = IsUnitWithin (2 ^ 62) u
+abbrev pub CanUnitCount : UnitState → Type 0
+CanUnitCount u = IsUnitWithin (2 ^ 62) u
 
-abbrev pub IsRoomy : Subchannel → Type 0
-IsRoomy sub = IsWithin (2 ^ 62) sub
+abbrev pub CanCount : Subchannel → Type 0
+CanCount sub = IsWithin (2 ^ 62) sub

@@ -23,8 +23,8 @@ use Rattle.chan_model.specs.declared.names.Side.{Side}
 use Rattle.chan_model.specs.declared.names.Side.TheVariants.{First, Second}
 use Rattle.chan_model.specs.declared.unit_state.Own.{Own}
 use Rattle.chan_model.specs.declared.unit_state.Own.TheVariants.{Idle, Owned}
-use Rattle.chan_model.specs.declared.unit_state.Place.{Place}
-use Rattle.chan_model.specs.declared.unit_state.Place.TheVariants.{Away}
+use Rattle.chan_model.specs.declared.unit_state.Connection.{Connection}
+use Rattle.chan_model.specs.declared.unit_state.Connection.TheVariants.{Away}
 use Rattle.wires.specs.Queues.{queue}
 use Rattle.subchannel_model.specs.declared.state.Subchannel.{Subchannel}
 use Rattle.chan_model.specs.PathSets.{cyclic_path}
@@ -63,8 +63,8 @@ abbrev pub IsSpent : Past → Type 0
 IsSpent past = (past.room ≡ 0) ⊎ (2 ^ 62 ≤ length past.history + 1)
 
 -- nothing changed, room neither, and there was no room for the event, or no number
-abbrev pub LacksRoom : Past → Past → Type 0
-LacksRoom old new = (new ≡ old) × IsSpent old
+abbrev pub IsExhausted : Past → Past → Type 0
+IsExhausted old new = (new ≡ old) × IsSpent old
 
 -- a unit at the opening, of whatever kind
 abbrev pub idle_of : UnitKind → UnitState
@@ -138,7 +138,7 @@ abbrev pub away_path : Option Subchannel → ℕ → Option ℕ
 away_path None c = None
 away_path (Some sub) c = cyclic_path (available_paths sub) 8 c
 
-abbrev pub turn_of_place : List Subchannel → ℕ → Side → Place → UnitTurn
+abbrev pub turn_of_place : List Subchannel → ℕ → Side → Connection → UnitTurn
 turn_of_place subs place side (Away c) = unit_turn.Away (away_path (reached_sub place side subs) c)
 turn_of_place subs place side other = Rests
 

@@ -30,10 +30,10 @@ setup_named subs None = None
 setup_named subs (Some id) = first_named id subs
 
 -- where a program is at its device: connected by a path, under a connection; asking for a path, under the next one; or on none
-pub data Place : Type 0 where
-  Connected : (path connection : ℕ) → Place
-  Asking : (path connection : ℕ) → Place
-  Apart : (connection : ℕ) → Place
+pub data Connection : Type 0 where
+  Connected : (path connection : ℕ) → Connection
+  Asking : (path connection : ℕ) → Connection
+  Apart : (connection : ℕ) → Connection
 
 -- the bytes of a command: the number of its last chunk, whether a Data of it is not answered, and whether they go to the device
 pub record Transfer : Type 0 where
@@ -46,7 +46,7 @@ pub record Transfer : Type 0 where
 pub record Held : Type 0 where
   pub side : Side
   pub number : ℕ
-  pub place : Place
+  pub place : Connection
   pub command : ℕ
   pub transfer : Option Transfer
   pub halted : Bool
@@ -97,22 +97,22 @@ abbrev pub with_holder : (Held → Held) → Holding → Holding
 with_holder change k = record k { holder = option_map change k.holder }
 
 -- a program is granted the path that it asks for; it leaves its path, or is refused one; it asks for one
-abbrev pub granted : Place → Place
+abbrev pub granted : Connection → Connection
 granted (Connected path c) = Connected path c
 granted (Asking path c) = Connected path c
 granted (Apart c) = Apart c
 
-abbrev pub parted : Place → Place
+abbrev pub parted : Connection → Connection
 parted (Connected path c) = Apart c
 parted (Asking path c) = Apart c
 parted (Apart c) = Apart c
 
-abbrev pub asking : ℕ → Place → Place
+abbrev pub asking : ℕ → Connection → Connection
 asking path (Connected p c) = Asking path (c + 1)
 asking path (Asking p c) = Asking path (c + 1)
 asking path (Apart c) = Asking path (c + 1)
 
-abbrev pub moved : (Place → Place) → Held → Held
+abbrev pub moved : (Connection → Connection) → Held → Held
 moved to h = record h { place = to h.place }
 
 -- a command begins: its code is odd where its bytes go to the device

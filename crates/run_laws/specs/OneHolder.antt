@@ -22,7 +22,7 @@ use Rattle.chan_model.specs.Sides.{same_side}
 use Rattle.channel_config.specs.declared.parts.SubchannelSetup.{SubchannelSetup}
 use Rattle.channel_config.specs.Setup.{Setup, set_count, groups_of}
 use Rattle.channel_config.specs.SubchannelWords.{subchannel_named}
-use Rattle.run_laws.specs.Devices.{Place, Connected, Asking, Apart, Transfer, Held, Asked, Holding, side_seen, is_holder, setup_named, holding_after, nothing_held}
+use Rattle.run_laws.specs.Devices.{Connection, Connected, Asking, Apart, Transfer, Held, Asked, Holding, side_seen, is_holder, setup_named, holding_after, nothing_held}
 
 -- a signal is ignored; it is taken in silence where a test is passed; it is answered, by the path by which it came
 abbrev pub ignores : Down → Reply
@@ -42,22 +42,22 @@ abbrev pub holds_and : (Held → Bool) → Option Held → Side → ℕ → Bool
 holds_and test None side t = false
 holds_and test (Some h) side t = is_holder (Some h) side t && test h
 
-abbrev pub is_connected : Place → Bool
+abbrev pub is_connected : Connection → Bool
 is_connected (Connected path c) = true
 is_connected (Asking path c) = false
 is_connected (Apart c) = false
 
-abbrev pub is_connected_by : Place → ℕ → Bool
+abbrev pub is_connected_by : Connection → ℕ → Bool
 is_connected_by (Connected path c) d = d == c
 is_connected_by (Asking path c) d = false
 is_connected_by (Apart c) d = false
 
-abbrev pub is_asking : Place → ℕ → Bool
+abbrev pub is_asking : Connection → ℕ → Bool
 is_asking (Connected path c) d = false
 is_asking (Asking path c) d = d == c
 is_asking (Apart c) d = false
 
-abbrev pub connection_of : Place → ℕ
+abbrev pub connection_of : Connection → ℕ
 connection_of (Connected path c) = c
 connection_of (Asking path c) = c
 connection_of (Apart c) = c

@@ -6,7 +6,7 @@ use Rattle.chan_model.specs.declared.signal.Down.TheVariants as down
 use Rattle.chan_model.specs.declared.report.DeviceAnswer.TheVariants.{Absorbed}
 use Rattle.chan_model.specs.Signals.{Down}
 use Rattle.chan_model.specs.Reports.{Report, DeviceAnswer}
-use Rattle.chan_model.specs.declared.unit_state.AtHand.{AtHand}
+use Rattle.chan_model.specs.declared.unit_state.CurrentCommand.{CurrentCommand}
 use Rattle.chan_model.specs.declared.unit_state.UnitState.{UnitState}
 use Rattle.chan_model.specs.ResetCauses.{is_path}
 use Rattle.chan_events.specs.Events.{Event}
@@ -104,7 +104,7 @@ taken_at (reply.Down signal true None) (Some k) = Some (takes signal k)
 taken_at r k = k
 
 -- the device absorbs bytes that it was given
-abbrev pub absorbs : ℕ → Option AtHand → ProgramTrace → ProgramTrace
+abbrev pub absorbs : ℕ → Option CurrentCommand → ProgramTrace → ProgramTrace
 absorbs count None k = k
 absorbs count (Some x) k = elim x.given [ None ↦ k | Some bytes ↦ record k { absorbed = k.absorbed ++ take count bytes } ]
 

@@ -11,7 +11,7 @@ use Rattle.script_rows.specs.declared.settings.Setting.{Setting}
 use Rattle.script_rows.specs.Settings.{configured}
 use Rattle.script.specs.declared.Line.{Line}
 use Rattle.script.specs.declared.RaceLine.{RaceLine}
-use Rattle.script.specs.declared.draft.Draft.{Draft}
+use Rattle.script.specs.declared.draft.ScriptBuilder.{ScriptBuilder}
 use Rattle.script.specs.Saying.{Said, Nothing, Sets, first_is_storage, said, has_words, words_say}
 use Rattle.script.specs.Pieces.{words_between_blanks}
 use Rattle.script_rows.specs.Faults.{Says}
@@ -71,7 +71,7 @@ same_context b b' a a' s s' e f g =
     ∙ ap (λ (x : Setup). fault (record { begun = b'; acted = a'; setup = x })) g
 
 -- what the code's draft finds is what the lines before say
-same_fault : (races : Bool) (lines : List (List ℕ)) (i : ℕ) (d : Draft) (line : List ℕ) (later : List (List ℕ)) → IsDraftOf races lines i d →
+same_fault : (races : Bool) (lines : List (List ℕ)) (i : ℕ) (d : ScriptBuilder) (line : List ℕ) (later : List (List ℕ)) → IsDraftOf races lines i d →
     line ≡ get_or lines i [] → later ≡ drop (i + 1) lines → fault (context d) (may_race races later) line ≡ fault_at races lines i
 same_fault races lines i d line later h e after =
     ap (fault (context d) (may_race races later)) e
@@ -85,14 +85,14 @@ clean-more races lines i h e = λ k lt. elim (eqb_tells k i) [
 ]
 
 -- the first line that breaks a rule
-pub first-bad : (races : Bool) (lines : List (List ℕ)) (i n : ℕ) (f : LineFault) (d : Draft) (line : List ℕ) (later : List (List ℕ)) → i < length lines → n ≡ i + 1 →
+pub first-bad : (races : Bool) (lines : List (List ℕ)) (i n : ℕ) (f : LineFault) (d : ScriptBuilder) (line : List ℕ) (later : List (List ℕ)) → i < length lines → n ≡ i + 1 →
     line ≡ get_or lines i [] → later ≡ drop (i + 1) lines → IsDraftOf races lines i d → BreaksRule f (fault (context d) (may_race races later) line) →
     BadIn (bad_by n f) races lines
 first-bad races lines i n line_fault.NoMemory d line later lt num e after h f = tt
 first-bad races lines i n (line_fault.Rule rule) d line later lt num e after h f =
     record { before = i; number = num; within = lt; clean = h.clean; broken = sym (same_fault races lines i d line later h e after) ∙ f }
 
-pub drafted : (races : Bool) (lines : List (List ℕ)) (i n : ℕ) (old new : Draft) (line : List ℕ) (later : List (List ℕ)) → i < length lines → n ≡ i + 1 →
+pub drafted : (races : Bool) (lines : List (List ℕ)) (i n : ℕ) (old new : ScriptBuilder) (line : List ℕ) (later : List (List ℕ)) → i < length lines → n ≡ i + 1 →
     line ≡ get_or lines i [] → later ≡ drop (i + 1) lines → IsDraftOf races lines i old → fault (context old) (may_race races later) line ≡ None →
     IsNext old n line new → IsDraftOf races lines (i + 1) new
 drafted races lines i n old new line later lt num e after h f t =
@@ -116,14 +116,14 @@ drafted races lines i n old new line later lt num e after h f t =
     }
 
 -- a setting that is taken or refused is what the line says
-pub set-ok : (r : Result Unit LineFault) (old new : Draft) (setting : Setting) (number : ℕ) (may : Bool) (what : Result Said LineRule) → what ≡ Ok (Sets setting) →
+pub set-ok : (r : Result Unit LineFault) (old new : ScriptBuilder) (setting : Setting) (number : ℕ) (may : Bool) (what : Result Said LineRule) → what ≡ Ok (Sets setting) →
     OnOk r ((n : ℕ) (m : Bool) → (broken_by (context old) m (Ok (Sets setting)) ≡ None) × Hears old n (Ok (Sets setting)) new) →
     OnOk r ((broken_by (context old) may what ≡ None) × Hears old number what new)
 set-ok (Ok done) old new setting number may what e h =
     subst (λ (w : Result Said LineRule). (broken_by (context old) may w ≡ None) × Hears old number w new) (sym e) (h number may)
 set-ok (Err fault) old new setting number may what e h = tt
 
-pub set-err : (r : Result Unit LineFault) (old : Draft) (setting : Setting) (may : Bool) (what : Result Said LineRule) → what ≡ Ok (Sets setting) →
+pub set-err : (r : Result Unit LineFault) (old : ScriptBuilder) (setting : Setting) (may : Bool) (what : Result Said LineRule) → what ≡ Ok (Sets setting) →
     IfErr r (λ f. (m : Bool) → BreaksRule f (broken_by (context old) m (Ok (Sets setting)))) →
     IfErr r (λ f. BreaksRule f (broken_by (context old) may what))
 set-err (Ok done) old setting may what e h = tt
@@ -137,18 +137,18 @@ or-true true = refl
 or-true false = refl
 
 -- a line that has words, and breaks no rule, is taken as its words say
-pub record IsWorded (old : Draft) (line : List ℕ) (parts : List (List ℕ)) : Type 0 where
+pub record IsWorded (old : ScriptBuilder) (line : List ℕ) (parts : List (List ℕ)) : Type 0 where
   pub worded : has_words line ≡ true
   pub begun : (not old.begun && not (first_is_storage (words_between_blanks line))) ≡ false
   pub readable : (nat_lt 1024 (length line) || not (is_utf8 line)) ≡ false
   pub words : parts ≡ words_between_blanks line
 
-said-worded : (old : Draft) (line : List ℕ) (words : List (List ℕ)) → IsWorded old line words → said line ≡ words_say words
+said-worded : (old : ScriptBuilder) (line : List ℕ) (words : List (List ℕ)) → IsWorded old line words → said line ≡ words_say words
 said-worded old line words is =
     ap (λ (b : Bool). if b then Err BadWord else (if has_words line then words_say (words_between_blanks line) else Ok Nothing)) is.readable
     ∙ ap (λ (b : Bool). if b then words_say (words_between_blanks line) else Ok Nothing) is.worded ∙ ap words_say (sym is.words)
 
-pub taken-clean : (old : Draft) (line : List ℕ) (words : List (List ℕ)) (may : Bool) → IsWorded old line words →
+pub taken-clean : (old : ScriptBuilder) (line : List ℕ) (words : List (List ℕ)) (may : Bool) → IsWorded old line words →
     broken_by (context old) may (words_say words) ≡ None → fault (context old) may line ≡ None
 taken-clean old line words may is none =
     let other = broken_by (context old) may (said line) in
@@ -156,7 +156,7 @@ taken-clean old line words may is none =
     ∙ ap (λ (b : Bool). if b then Some StorageNotFirst else other) is.begun
     ∙ ap (broken_by (context old) may) (said-worded old line words is) ∙ none
 
-pub taken-next : (old mid : Draft) (n : ℕ) (line : List ℕ) (words : List (List ℕ)) → IsWorded old line words → Hears old n (words_say words) mid →
+pub taken-next : (old mid : ScriptBuilder) (n : ℕ) (line : List ℕ) (words : List (List ℕ)) → IsWorded old line words → Hears old n (words_say words) mid →
     IsNext old n line (record { config = mid.config; begun = true; acted = mid.acted; lines = mid.lines; race = mid.race })
 taken-next old mid n line words is h =
     let what = sym (said-worded old line words is) in
@@ -169,7 +169,7 @@ taken-next old mid n line words is h =
     }
 
 -- the draft of all lines, behind the last of which no line follows
-pub all-drafted : (races : Bool) (lines : List (List ℕ)) (i : ℕ) (d : Draft) → i < length lines → [] ≡ drop (i + 1) lines → IsDraftOf races lines (i + 1) d →
+pub all-drafted : (races : Bool) (lines : List (List ℕ)) (i : ℕ) (d : ScriptBuilder) → i < length lines → [] ≡ drop (i + 1) lines → IsDraftOf races lines (i + 1) d →
     IsDraftOf races lines (length lines) d
 all-drafted races lines i d less e h =
     let none : 0 ≡ length (drop (i + 1) lines) = ap length e in

@@ -21,14 +21,14 @@ use script_rows::race::{Race, race_row};
 use script_rows::settings::{Setting, configure, setting_row};
 use script_rows::words::{LineFault, LineRule, is_name};
 use std::alloc::{AllocError, Global};
-use supply::Supply;
+use memory::Supply;
 
 /// How many bytes a line has with its line feed, as it is thought when room is made: where they are fewer it grows.
 const COMMON: usize = 8;
 
 /// What the lines so far have made.
 #[derive(Drop)]
-pub struct Draft {
+pub struct ScriptBuilder {
     pub config: Config,
     pub begun: bool,
     pub acted: bool,
@@ -70,7 +70,7 @@ fn begins(line: &[u8]) -> bool
 }
 
 /// Takes a setting.
-fn set<S: Supply>(supply: &mut S, draft: &mut Draft, setting: &Setting) -> Result<(), LineFault>
+fn set<S: Supply>(supply: &mut S, draft: &mut ScriptBuilder, setting: &Setting) -> Result<(), LineFault>
     ensures ok { OnOk result ((number : ℕ) (may : Bool) → (spec.broken_by (context draft.old) may (Ok (Sets setting.now)) ≡ None) ×
         Hears draft.old number (Ok (Sets setting.now)) draft.new) }
     ensures err { IfErr result (λ f. (may : Bool) → BreaksRule f (spec.broken_by (context draft.old) may (Ok (Sets setting.now)))) }
@@ -96,7 +96,7 @@ fn may_race(given: &GivenLine<'_>) -> bool
 
 /// Takes the race of a line, or the rule that its words break.
 fn race(
-    draft: &mut Draft,
+    draft: &mut ScriptBuilder,
     given: &GivenLine<'_>,
     said: Result<Race, LineRule>,
 ) -> Result<(), LineFault>
@@ -124,7 +124,7 @@ fn race(
 #[inline(always)]
 fn act<S: Supply>(
     supply: &mut S,
-    draft: &mut Draft,
+    draft: &mut ScriptBuilder,
     place: &ActionPlace,
     number: u64,
     said: Result<(), LineRule>,
@@ -148,7 +148,7 @@ fn act<S: Supply>(
 /// Takes what the words of a line ask the machine for, by the first of them; the action is written to a place.
 fn drive<S: Supply>(
     supply: &mut S,
-    draft: &mut Draft,
+    draft: &mut ScriptBuilder,
     place: &mut ActionPlace,
     number: u64,
     word: &[u8],
@@ -172,7 +172,7 @@ fn drive<S: Supply>(
 fn hear_other<S: Supply>(
     alloc: Global,
     supply: &mut S,
-    draft: &mut Draft,
+    draft: &mut ScriptBuilder,
     place: &mut ActionPlace,
     given: &GivenLine<'_>,
     said: &Sentence<'_, '_>,
@@ -198,7 +198,7 @@ fn hear_other<S: Supply>(
 fn hear<S: Supply>(
     alloc: Global,
     supply: &mut S,
-    draft: &mut Draft,
+    draft: &mut ScriptBuilder,
     place: &mut ActionPlace,
     given: &GivenLine<'_>,
     words: &[&[u8]],
@@ -229,7 +229,7 @@ fn hear<S: Supply>(
 fn take_words<'a, S: Supply>(
     alloc: Global,
     supply: &mut S,
-    draft: &mut Draft,
+    draft: &mut ScriptBuilder,
     desk: &mut Desk<'a>,
     given: &GivenLine<'a>,
 ) -> Result<(), LineFault>
@@ -264,7 +264,7 @@ fn take_words<'a, S: Supply>(
 fn take_line<'a, S: Supply>(
     alloc: Global,
     supply: &mut S,
-    draft: &mut Draft,
+    draft: &mut ScriptBuilder,
     desk: &mut Desk<'a>,
     given: &GivenLine<'a>,
 ) -> Result<(), LineFault>
@@ -297,13 +297,13 @@ fn bad_line(number: u64, fault: LineFault) -> ScriptBad
 }
 
 /// What no lines have made, with room for those of a text.
-fn opening<S: Supply>(alloc: Global, supply: &mut S, text: &[u8]) -> Result<Draft, AllocError>
+fn opening<S: Supply>(alloc: Global, supply: &mut S, text: &[u8]) -> Result<ScriptBuilder, AllocError>
     ensures made { IfOk result (λ d. (races : Bool) (lines : List (List ℕ)) → IsDraftOf races lines 0 d) }
     ensures given { OnOk result (S.refused supply.new ≡ S.refused supply.old) }
     ensures memory { OnErr result (S.refused supply.new ≡ true) }
 {
     let lines = Lines::with_room(alloc, supply, text.len() / COMMON + 1)?;
-    Ok(Draft {
+    Ok(ScriptBuilder {
         config: Config::new(alloc),
         begun: false,
         acted: false,
@@ -319,7 +319,7 @@ pub fn draft_of<S: Supply>(
     races: bool,
     plain: bool,
     text: &[u8],
-) -> Result<Draft, ScriptBad>
+) -> Result<ScriptBuilder, ScriptBad>
     requires { plain ≡ true → is_ascii text.now ≡ true }
     ensures good { IfOk result (λ d. IsDraftOf races (lines_of text.now) (length (lines_of text.now)) d) }
     ensures bad { IfErr result (λ b. BadIn b races (lines_of text.now)) }

@@ -23,7 +23,7 @@ use script_rows::race::Race;
 use script_rows::words::LineRule;
 use std::alloc::Global;
 use std::marker::Model;
-use supply::{Given, Supply};
+use memory::{Given, Supply};
 
 /// One action, and the number of its line, from 1.
 #[derive(Drop)]

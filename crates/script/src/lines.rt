@@ -8,7 +8,7 @@ use crate::kept::{KeptLine, push};
 use script_rows::places::{ActionPlace, KeptAction};
 use std::alloc::{AllocError, Global};
 use std::marker::Model;
-use supply::{Supply, extend, make_room};
+use memory::{Supply, extend, make_room};
 
 /// A line with its action, whose bytes stand beside it.
 #[derive(Drop)]

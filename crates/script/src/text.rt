@@ -9,7 +9,7 @@ use crate::pieces::{STEP, find, marked_words_to, marks, short_pieces_to};
 use crate::said::has_words;
 use std::alloc::AllocError;
 use std::marker::Model;
-use supply::Supply;
+use memory::Supply;
 
 /// A line, and those that follow it: the text from its first byte on, and how many bytes it has.
 #[derive(Drop)]

@@ -11,7 +11,7 @@ use crate::words::{
 use channel_config::config::{Config, ConfigFault};
 use channel_config::parts::UnitKind;
 use std::alloc::Global;
-use supply::Supply;
+use memory::Supply;
 
 /// What a line says of the configuration.
 #[derive(Drop)]

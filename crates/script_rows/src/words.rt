@@ -8,7 +8,7 @@ ghost use Rattle.script_rows.specs.Faults.{FaultOf, rule_number};
 use chan_model::chunk::Chunk;
 use std::alloc::{AllocError, Global};
 use std::marker::Model;
-use supply::{Supply, push};
+use memory::{Supply, push};
 
 /// The rules of lines (own), each named by what breaks it, in the order of their numbers.
 #[derive(Clone, Copy, Debug, PartialEq, Eq)]

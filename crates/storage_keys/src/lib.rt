@@ -3,7 +3,7 @@
 
 ghost use Rattle.std.specs.Prelude.{◌≡◌, ℕ, ◌+◌, ◌-◌, ◌%◌, ◌^◌, ◌<◌, ◌≤◌, length, IsTrue, IfOk, IfErr, OnOk, OnErr, Ok, Err, min, map, replicate, slice_index, slice_range, true};
 ghost use Rattle.storage_keys.specs.Storage as spec;
-ghost use Rattle.supply.specs.Requests.{IsModest};
+ghost use Rattle.memory.specs.Requests.{IsModest};
 
 pub mod key;
 pub mod law;
@@ -11,7 +11,7 @@ pub mod law;
 use key::Key;
 use std::alloc::{AllocError, Global};
 use std::marker::Model;
-use supply::{Given, Supply};
+use memory::{Given, Supply};
 
 /// How many bytes have one key.
 const BLOCK: usize = 4096;

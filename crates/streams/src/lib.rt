@@ -9,7 +9,7 @@ ghost use Rattle.std.specs.Io.KnownBytes.{Appends, IsAtEnd, Keeps};
 
 use std::alloc::Global;
 use std::io::{ErrorKind, Read, Write};
-use supply::{Given, Supply, extend};
+use memory::{Given, Supply, extend};
 
 /// Why there is no text.
 #[derive(Clone, Copy, Debug, PartialEq, Eq)]
@@ -74,26 +74,26 @@ pub trait Sink {
 
 /// A writer, and whether it failed.
 #[derive(Drop)]
-pub struct Watched<W: Write + Drop> {
+pub struct CheckedWriter<W: Write + Drop> {
     pub writer: W,
     /// The writer did not take all of a text.
     pub failed: bool,
 }
 
-impl<W: Write + Drop> Watched<W> {
+impl<W: Write + Drop> CheckedWriter<W> {
     /// A writer that has not failed yet.
-    pub fn new(writer: W) -> Watched<W>
+    pub fn new(writer: W) -> CheckedWriter<W>
         ensures writer { result.writer ≡ writer }
         ensures failed { result.failed ≡ false }
     {
-        Watched {
+        CheckedWriter {
             writer,
             failed: false,
         }
     }
 }
 
-impl<W: Write + Drop> Sink for Watched<W> {
+impl<W: Write + Drop> Sink for CheckedWriter<W> {
     ghost seen = { λ w. record { bytes = W.contents w.writer; failed = w.failed } };
 
     #[inline(always)]
@@ -108,7 +108,7 @@ impl<W: Write + Drop> Sink for Watched<W> {
     }
 }
 
-impl<W: Write + Drop> Watched<W> {
+impl<W: Write + Drop> CheckedWriter<W> {
     /// Writes what is left of a text: apart, as the writer takes most texts at once.
     #[cold]
     #[inline(never)]
@@ -215,26 +215,26 @@ pub trait Source {
 
 /// A reader, and whether it failed.
 #[derive(Drop)]
-pub struct Heard<R: Read + Drop> {
+pub struct CheckedReader<R: Read + Drop> {
     pub reader: R,
     /// The reader failed.
     pub broken: bool,
 }
 
-impl<R: Read + Drop> Heard<R> {
+impl<R: Read + Drop> CheckedReader<R> {
     /// A reader that has not failed yet.
-    pub fn new(reader: R) -> Heard<R>
+    pub fn new(reader: R) -> CheckedReader<R>
         ensures reader { result.reader ≡ reader }
         ensures broken { result.broken ≡ false }
     {
-        Heard {
+        CheckedReader {
             reader,
             broken: false,
         }
     }
 }
 
-impl<R: Read + Drop> Source for Heard<R> {
+impl<R: Read + Drop> Source for CheckedReader<R> {
     ghost left = { λ h. R.remaining h.reader };
 
     ghost broken = { λ h. h.broken };

@@ -13,7 +13,7 @@ use Rattle.chan_model.specs.Loads.{load_length}
 use Rattle.chan_model.specs.UnitReports.{is_last_end, is_outward, has_device_end}
 use Rattle.ccw_walk.specs.Places.{WalkPlace}
 use Rattle.data_move.specs.Moving.{residual}
-use Rattle.working.specs.Sent.{sent_path}
+use Rattle.active_program.specs.Sent.{sent_path}
 use Rattle.data_move.specs.declared.transfer.Beginning.{Beginning}
 use Rattle.data_move.specs.declared.transfer.CommandStart.{CommandStart}
 use Rattle.data_move.specs.declared.transfer.CommandStart.TheVariants as came

@@ -6,7 +6,7 @@ use Rattle.chan_model.specs.Signals.{Load}
 use Rattle.chan_model.specs.Signals.{Up}
 use Rattle.chan_model.specs.declared.signal.Up.TheVariants as up
 use Rattle.chan_model.specs.UnitReports.{is_outward}
-use Rattle.working.specs.Sent.{sent_path}
+use Rattle.active_program.specs.Sent.{sent_path}
 use Rattle.data_move.specs.ChunkNumbers.{is_answered}
 use Rattle.subchannel_model.specs.declared.signals.DataSignal.{DataSignal}
 use Rattle.subchannel_model.specs.declared.state.ActiveProgram.{ActiveProgram}
@@ -15,7 +15,7 @@ use Rattle.subchannel_model.specs.Outcomes.{SignalOutcome}
 use Rattle.subchannel_model.specs.Data.{takes_data}
 use Rattle.subchannel_model.specs.Taking.{takes_up}
 use Rattle.subchannel.specs.Answering.{is_data}
-use Rattle.working.specs.Working.{Moved, moved_of, moved_at, moved_by, data_met}
+use Rattle.active_program.specs.Working.{Moved, moved_of, moved_at, moved_by, data_met}
 use Rattle.subchannel.proofs.Working.{data_takes}
 
 abbrev answers : SignalOutcome → Option ℕ

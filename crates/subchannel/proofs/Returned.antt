@@ -4,12 +4,12 @@ use Rattle.chan_model.specs.Signals.{Down}
 use Rattle.chan_model.specs.declared.signal.OnPath.{OnPath}
 use Rattle.chan_model.specs.declared.signal.Taken.{Taken}
 use Rattle.chan_model.specs.HoldTable.{HoldStep, hold_after, came_of}
-use Rattle.working.specs.Sent.{came_so}
+use Rattle.active_program.specs.Sent.{came_so}
 use Rattle.subchannel_model.specs.declared.state.SubchannelState.{SubchannelState}
 use Rattle.subchannel_model.specs.declared.state.UpStep.{UpStep}
 use Rattle.subchannel_model.specs.Back.{takes_back, is_granted, with_granted_path}
 use Rattle.subchannel_model.specs.Outcomes.{hold_outcome}
-use Rattle.working.specs.Stepping.{subchannel_stepped}
+use Rattle.active_program.specs.Stepping.{subchannel_stepped}
 
 ungranted : (s : SubchannelState) (came : Taken Down) (p : ℕ) (b : Bool) → b ≡ false → subchannel_stepped s came ≡ subchannel_stepped (with_granted_path s p b) came
 ungranted s came p false e = refl

@@ -17,7 +17,7 @@ use Rattle.subchannel_model.specs.Data.{moves_data, takes_data}
 use Rattle.subchannel_model.specs.End.{ends_at_work, takes_end}
 use Rattle.subchannel_model.specs.Taking.{takes_up}
 use Rattle.subchannel.specs.Answering.{is_data}
-use Rattle.working.specs.Working.{moved_of, moved_at, data_by, data_taken, data_met, ended_of, ended_at, end_met}
+use Rattle.active_program.specs.Working.{moved_of, moved_at, data_by, data_taken, data_met, ended_of, ended_at, end_met}
 use Rattle.chan_model.specs.Signals.{load_of}
 
 either : {A : Type 0} {B : Type 0} (f : A → B) (b : Bool) (x y : A) → (if b then f x else f y) ≡ f (if b then x else y)

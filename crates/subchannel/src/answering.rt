@@ -3,11 +3,11 @@
 ghost use Rattle.std.specs.Prelude.{◌≡◌, ◌<◌, ◌^◌, false, is_some, ℕ, Bool};
 ghost use Rattle.chan_model.specs.Lent.{lent_up};
 ghost use Rattle.chan_model.specs.Signals as signals;
-ghost use Rattle.working.specs.Sent.{sent_path};
+ghost use Rattle.active_program.specs.Sent.{sent_path};
 ghost use Rattle.subchannel_model.specs.Taking as taking_spec;
 ghost use Rattle.subchannel_model.specs.Command as command_spec;
 ghost use Rattle.subchannel.specs.Answering as spec;
-ghost use Rattle.working.specs.Working as working_spec;
+ghost use Rattle.active_program.specs.Working as working_spec;
 ghost use Rattle.storage_keys.specs.Storage.{Contents};
 ghost use Rattle.subchannel_model.specs.declared.state.SubchannelState.{SubchannelState};
 
@@ -20,8 +20,8 @@ use hold::Hold;
 use storage_keys::Storage;
 use functions::PackedState;
 use data_move::chunks::is_answered;
-use working::moving::data_by;
-use working::sent::SentDown;
+use active_program::moving::data_by;
+use active_program::sent::SentDown;
 
 /// The path of the program that is offered or connected.
 pub fn standing_path(hold: &HoldState) -> Option<Path>

@@ -3,9 +3,9 @@
 ghost use Rattle.std.specs.Prelude.{◌≡◌, ◌<◌, ◌^◌};
 ghost use Rattle.chan_model.specs.HoldTable.{hold_takes};
 ghost use Rattle.chan_model.specs.Lent.{lent_up};
-ghost use Rattle.working.specs.Sent.{came_so};
+ghost use Rattle.active_program.specs.Sent.{came_so};
 ghost use Rattle.subchannel_model.specs.Attention as on_attention;
-ghost use Rattle.working.specs.Stepping.{subchannel_stepped};
+ghost use Rattle.active_program.specs.Stepping.{subchannel_stepped};
 
 use chan_model::lent::LentUp;
 use chan_model::names::Path;
@@ -18,8 +18,8 @@ use scsw_irb::words::ScswWords;
 use status::make_pending;
 use subchannel_model::cause::StatusCause;
 use functions::PackedState;
-use working::answers::by_hold;
-use working::sent::SentDown;
+use active_program::answers::by_hold;
+use active_program::sent::SentDown;
 
 /// The activity control, but for start pending.
 const BUSY: u32 = RESUME_PENDING

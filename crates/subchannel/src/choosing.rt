@@ -17,7 +17,7 @@ use chan_model::lent::PlainDown;
 use chan_model::names::Path;
 use chan_model::paths::PathSet;
 use chan_model::signal::OnPath;
-use finding::engines::Served;
+use lookup::engines::Served;
 use hold::Hold;
 use scsw_irb::bits::{
     CLEAR_PENDING, HALT_PENDING, PATH_NOT_OPERATIONAL, RESUME_PENDING, START_PENDING,

@@ -8,7 +8,7 @@ ghost use Rattle.subchannel_model.specs.Choosing as spec;
 use allegiance::path_use::PathUse;
 use chan_model::names::Path;
 use chan_model::paths::PathSet;
-use finding::engines::Served;
+use lookup::engines::Served;
 use functions::Subchannel;
 
 /// What decides which paths the subchannel may use.

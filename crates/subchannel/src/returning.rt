@@ -3,16 +3,16 @@
 ghost use Rattle.std.specs.Prelude.{◌≡◌, Some};
 ghost use Rattle.chan_model.specs.HoldTable.{hold_takes};
 ghost use Rattle.chan_model.specs.Lent.{lent_up};
-ghost use Rattle.working.specs.Sent.{came_so};
+ghost use Rattle.active_program.specs.Sent.{came_so};
 ghost use Rattle.subchannel_model.specs.Back as on_back;
-ghost use Rattle.working.specs.Stepping.{subchannel_stepped};
+ghost use Rattle.active_program.specs.Stepping.{subchannel_stepped};
 
 use chan_model::lent::LentUp;
 use chan_model::names::Path;
 use chan_model::signal::Down;
 use functions::PackedState;
-use working::answers::by_hold;
-use working::sent::SentDown;
+use active_program::answers::by_hold;
+use active_program::sent::SentDown;
 
 /// Back: the path of a Grant is the one that was used last (SA22-7832, chapter 15: last-path-used mask), and the one that was
 /// chosen last.

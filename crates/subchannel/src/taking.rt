@@ -3,9 +3,9 @@
 ghost use Rattle.std.specs.Prelude.{◌≡◌, ◌<◌, ◌^◌, false};
 ghost use Rattle.chan_model.specs.HoldTable.{hold_takes};
 ghost use Rattle.chan_model.specs.Lent.{lent_up};
-ghost use Rattle.working.specs.Sent.{came_so};
+ghost use Rattle.active_program.specs.Sent.{came_so};
 ghost use Rattle.subchannel.specs.Answering.{is_data};
-ghost use Rattle.working.specs.Stepping.{subchannel_stepped};
+ghost use Rattle.active_program.specs.Stepping.{subchannel_stepped};
 ghost use Rattle.subchannel_model.specs.Cleared as on_cleared;
 ghost use Rattle.subchannel_model.specs.Notice as on_notice;
 ghost use Rattle.subchannel_model.specs.Command as command;
@@ -25,11 +25,11 @@ use status::make_pending;
 use storage_keys::Storage;
 use subchannel_model::cause::StatusCause;
 use functions::PackedState;
-use working::accepting::accept;
-use working::answers::{by_hold, ignored, quiet, take_by};
-use working::ending::end_command;
-use working::moving::take_data;
-use working::sent::SentDown;
+use active_program::accepting::accept;
+use active_program::answers::{by_hold, ignored, quiet, take_by};
+use active_program::ending::end_command;
+use active_program::moving::take_data;
+use active_program::sent::SentDown;
 
 /// A clear that is pending is performed.
 fn do_clear(state: &mut PackedState)

@@ -21,7 +21,7 @@ use Rattle.run_laws.specs.Agreeing.{AllAgree}
 use Rattle.run_laws.specs.Beginnings.{IsBegunOnce}
 use Rattle.run_laws.specs.StateClaims.{IsClearedOnce}
 use Rattle.run_laws.proofs.Signals.HolderRuns.{opening-set_up}
-use Rattle.machine_steps.specs.Postable.{IsPostable}
+use Rattle.machine.specs.Postable.{IsPostable}
 use Rattle.machine_model.specs.State.{State, configured_paths, opening_of, idle_of}
 use Rattle.machine_model.specs.Setups.{IsSetUp}
 use Rattle.subsystem.specs.Keeping.{StaysSetUp}

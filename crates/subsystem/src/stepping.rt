@@ -4,18 +4,18 @@ ghost use Rattle.std.specs.Prelude.{◌≡◌, ◌≢◌, ◌⊎◌, ◌+◌, �
 ghost use Rattle.chan_events.specs.declared.reply.Reply.TheVariants as reply_spec;
 ghost use Rattle.chan_model.specs.declared.fault.Fault.TheVariants as fault_spec;
 ghost use Rattle.machine_model.specs.Steps.{HasRun};
-ghost use Rattle.finding.specs.Tables.{Fits};
+ghost use Rattle.lookup.specs.Tables.{Fits};
 ghost use Rattle.subsystem.specs.Keeping.{IsStep, answer_of, past_of};
 
 use chan_events::event::Event;
 use chan_model::fault::Fault;
 use event_log::logs::Log;
-use finding::tables::Places;
+use lookup::tables::SubchannelIndex;
 use run_laws::answers::codes;
 use run_laws::states::{numbers, setups, steps};
-use machine_steps::machine::Machine;
+use machine::machine::Machine;
 use path_select::PathChoice;
-use supply::Supply;
+use memory::Supply;
 
 /// One event at a machine, and its entry in the history that led there.
 #[inline(never)]
@@ -24,7 +24,7 @@ pub fn keep_step<S: Supply, P: PathChoice + Drop>(
     machine: &mut Machine,
     history: &mut Log,
     supply: &mut S,
-    places: &Places,
+    places: &SubchannelIndex,
     choice: &P,
     event: &Event,
 ) -> Result<(), Fault>

@@ -8,9 +8,9 @@ ghost use Rattle.machine_model.specs.Setups.{IsSetUp};
 ghost use Rattle.machine_model.specs.Steps.{HasRun};
 ghost use Rattle.machine_model.specs.Answering.{HasAnswered, HasBegun};
 ghost use Rattle.std.specs.Bool.{OnTrue, OnFalse};
-ghost use Rattle.finding.specs.Tables.{Fits};
+ghost use Rattle.lookup.specs.Tables.{Fits};
 ghost use Rattle.machine_model.specs.UnitTurns.{lent_turns};
-ghost use Rattle.subchannel_steps.specs.PathTurns as path_spec;
+ghost use Rattle.signal_step.specs.PathTurns as path_spec;
 ghost use Rattle.run_laws.specs.Agreeing.{AllAgree};
 ghost use Rattle.subsystem.specs.Headline.{HasHeld};
 ghost use Rattle.subsystem.specs.Keeping.{IsOrdered, IsStep, StaysSetUp, all_serials, answer_of};
@@ -28,26 +28,26 @@ use chan_model::report::LentWork;
 use channel_config::config::Config;
 use event_log::history::{History, LentReply};
 use event_log::logs::Log;
-use finding::tables::Places;
+use lookup::tables::SubchannelIndex;
 use run_laws::answers::codes;
 use run_laws::states::{agreements, numbers};
 use run_laws::beginnings::beginnings;
 use run_laws::clearing::serials;
 use machine_model::state::UnitTurn;
-use machine_steps::machine::Machine;
-use machine_steps::opening::opened_machine;
+use machine::machine::Machine;
+use machine::opening::opened_machine;
 use path_select::PathChoice;
 use run_laws::programs::programs;
 use scsw_irb::serials::Serials;
 use std::alloc::Global;
 use std::marker::Model;
-use supply::{Given, Supply, make_room};
+use memory::{Given, Supply, make_room};
 
 /// A channel subsystem with its subchannels, units and storage (SA22-7832, chapters 13 to 17).
 #[derive(Drop)]
 pub struct Subsystem<P: Drop> {
     choice: P,
-    places: Places,
+    places: SubchannelIndex,
     machine: Machine,
     history: Log,
 }
@@ -57,7 +57,7 @@ impl<P: Drop> Model for Subsystem<P> {
     ghost use Rattle.chan_events.specs.declared.reply.Reply.TheVariants as reply_spec;
     ghost use Rattle.machine_model.specs.State.{Past};
     ghost use Rattle.machine_model.specs.Steps.{HasRun};
-    ghost use Rattle.finding.specs.Tables.{Fits};
+    ghost use Rattle.lookup.specs.Tables.{Fits};
 
     ghost Value = { Past };
 

@@ -4,8 +4,8 @@ use Rattle.chan_model.specs.declared.names.Side.{Side}
 use Rattle.chan_model.specs.Signals.{Down, map_sent}
 use Rattle.chan_model.specs.declared.signal.OnPath.{OnPath}
 use Rattle.chan_model.specs.declared.signal.Down.TheVariants.{Select, Command, Grant, Refuse, Took, Give, Halt, Release, Reset, Got}
-use Rattle.chan_model.specs.declared.unit_state.Place.{Place}
-use Rattle.chan_model.specs.declared.unit_state.Place.TheVariants.{On, Ask, Away}
+use Rattle.chan_model.specs.declared.unit_state.Connection.{Connection}
+use Rattle.chan_model.specs.declared.unit_state.Connection.TheVariants.{On, Ask, Away}
 use Rattle.chan_model.specs.declared.unit_state.Own.{Own}
 use Rattle.chan_model.specs.declared.unit_state.Own.TheVariants.{Idle, Owned}
 use Rattle.chan_model.specs.declared.unit_state.UnitState.{UnitState}
@@ -32,7 +32,7 @@ sends_one-selected u Idle side p t true = refl
 sends_one-selected u Idle side p t false = refl
 sends_one-selected u (Owned k v place) side p t may = refl
 
-pub sends_one-granted_at : (u : UnitState) (side : Side) (t : ℕ) (place : Place) (p q c : ℕ)
+pub sends_one-granted_at : (u : UnitState) (side : Side) (t : ℕ) (place : Connection) (p q c : ℕ)
     → sends_one (granted_at u side t place p c) ≡ sends_one (granted_at u side t place q c)
 sends_one-granted_at u side t (Ask r d) p q c =
     sends_one-if (c == d) _ _ _ _ refl (sends_one-if (nat_lt c d) _ _ _ _ refl refl)

@@ -4,8 +4,8 @@ use Rattle.std.proofs.lemmas.Bool.{both_ways}
 use Rattle.chan_model.specs.declared.names.Side.{Side}
 use Rattle.chan_model.specs.declared.names.Side.TheVariants.{First, Second}
 use Rattle.chan_model.specs.Signals.{Down}
-use Rattle.chan_model.specs.declared.unit_state.Place.{Place}
-use Rattle.chan_model.specs.declared.unit_state.Place.TheVariants.{On, Ask, Away}
+use Rattle.chan_model.specs.declared.unit_state.Connection.{Connection}
+use Rattle.chan_model.specs.declared.unit_state.Connection.TheVariants.{On, Ask, Away}
 use Rattle.chan_model.specs.declared.unit_state.Own.{Own}
 use Rattle.chan_model.specs.declared.unit_state.Own.TheVariants.{Idle, Owned}
 use Rattle.chan_model.specs.declared.unit_state.SideState.{SideState}
@@ -82,10 +82,10 @@ pub leaves-changed : (side : Side) (u v : UnitState) → owns u.own side ≡ tru
 leaves-changed side u v e first second own =
     leaves-program side u v first second (owns-other u.own side e) (ap (λ o. owns o (other_of side)) own ∙ owns-other u.own side e)
 
-owns-at : (u : UnitState) (side : Side) (t : ℕ) (place : Place) → IsAt u side t place → owns u.own side ≡ true
+owns-at : (u : UnitState) (side : Side) (t : ℕ) (place : Connection) → IsAt u side t place → owns u.own side ≡ true
 owns-at u side t place is = ap (λ own. owns own side) is ∙ same-side side
 
-leaves-place : (side : Side) (u : UnitState) (t : ℕ) (place new : Place) → IsAt u side t place → LeavesOther side u (record u { own = Owned side t new })
+leaves-place : (side : Side) (u : UnitState) (t : ℕ) (place new : Connection) → IsAt u side t place → LeavesOther side u (record u { own = Owned side t new })
 leaves-place side u t place new is = leaves-program side u _ refl refl (owns-other u.own side (owns-at u side t place is)) (same_side-other side)
 
 -- Release, Reset

@@ -5,11 +5,11 @@ use Rattle.chan_model.specs.declared.names.Side.TheVariants.{First, Second}
 use Rattle.chan_model.specs.Signals.{Down, KeptUp, Load, Up, load_bytes, map_taken, up_in, up_length}
 use Rattle.chan_model.specs.declared.signal.Down.TheVariants as down
 use Rattle.chan_model.specs.declared.signal.Taken.{Taken}
-use Rattle.chan_model.specs.declared.unit_state.Place.{Place}
-use Rattle.chan_model.specs.declared.unit_state.Place.TheVariants.{On, Ask, Away}
+use Rattle.chan_model.specs.declared.unit_state.Connection.{Connection}
+use Rattle.chan_model.specs.declared.unit_state.Connection.TheVariants.{On, Ask, Away}
 use Rattle.chan_model.specs.declared.unit_state.Own.{Own}
 use Rattle.chan_model.specs.declared.unit_state.Own.TheVariants.{Idle, Owned}
-use Rattle.chan_model.specs.declared.unit_state.AtHand.{AtHand}
+use Rattle.chan_model.specs.declared.unit_state.CurrentCommand.{CurrentCommand}
 use Rattle.chan_model.specs.declared.unit_state.UnitState.{UnitState}
 use Rattle.chan_model.specs.Reports.{Report}
 use Rattle.chan_model.specs.UnitReports.{report_on}
@@ -26,7 +26,7 @@ is_of_command u side (down.Give bytes t c n s) = is_owner_on u.own side t c && (
 is_of_command u side signal = false
 
 -- the number of the last connection of the program that holds the device
-abbrev pub connection_of : Place → ℕ
+abbrev pub connection_of : Connection → ℕ
 connection_of (On p c) = c
 connection_of (Ask p c) = c
 connection_of (Away c) = c
@@ -36,7 +36,7 @@ last_connection Idle = 0
 last_connection (Owned side t place) = connection_of place
 
 -- the number of the last chunk of the command at hand
-abbrev pub last_sequence : Option AtHand → ℕ
+abbrev pub last_sequence : Option CurrentCommand → ℕ
 last_sequence None = 0
 last_sequence (Some x) = x.sequence
 
@@ -45,15 +45,15 @@ abbrev pub bytes_of : Option Load → List ℕ
 bytes_of None = []
 bytes_of (Some load) = load_bytes load
 
-abbrev pub unanswered_bytes : Option AtHand → List ℕ
+abbrev pub unanswered_bytes : Option CurrentCommand → List ℕ
 unanswered_bytes None = []
 unanswered_bytes (Some x) = bytes_of x.unanswered
 
 -- what came of a report: the bytes of its Data are those that are not answered, which are as many
-abbrev pub reported : Option AtHand → Taken KeptUp → Taken Up
+abbrev pub reported : Option CurrentCommand → Taken KeptUp → Taken Up
 reported at_hand came = map_taken (λ signal. up_in signal (unanswered_bytes at_hand)) came
 
-abbrev pub AreAtHand : Option AtHand → Taken KeptUp → Type 0
+abbrev pub AreAtHand : Option CurrentCommand → Taken KeptUp → Type 0
 AreAtHand at_hand came = IfSome came.sent (λ sent. up_length sent.signal ≤ length (unanswered_bytes at_hand))
 
 -- a report of the program that is connected is neither stale nor against the law of devices

@@ -10,7 +10,7 @@ use crate::parts::{Sent, free, side_of};
 use chan_model::lent::PlainUp;
 use chan_model::names::{Path, Side};
 use chan_model::signal::{OnPath, Up};
-use chan_model::unit_state::{AtHand, Attention, Own, Place, UnitState};
+use chan_model::unit_state::{CurrentCommand, Attention, Own, Connection, UnitState};
 use scsw_irb::status::DeviceStatus;
 
 /// Leave: the program that is connected works on without the path.
@@ -29,16 +29,16 @@ pub fn leaving(unit: &mut UnitState) -> Sent
 }
 
 /// Leave from a place of the program that holds the device.
-fn leaving_from(unit: &mut UnitState, side: Side, number: u64, place: Place) -> Sent
+fn leaving_from(unit: &mut UnitState, side: Side, number: u64, place: Connection) -> Sent
     ensures state { unit.new ≡ table.unit_after unit.old (table.leaving_from unit.old side number place) }
     ensures sent { map_sent plain_up result ≡ (table.came_of (table.leaving_from unit.old side number place)).sent }
 {
     match place {
-        Place::On { path, connection } => {
+        Connection::On { path, connection } => {
             unit.own = Own::Owned {
                 side,
                 number,
-                place: Place::Away { connection },
+                place: Connection::Away { connection },
             };
             mark_again(&mut unit.at_hand);
             Some(OnPath {
@@ -51,7 +51,7 @@ fn leaving_from(unit: &mut UnitState, side: Side, number: u64, place: Place) -> 
 }
 
 /// A Data that is not answered will be sent again.
-fn mark_again(at_hand: &mut Option<AtHand>)
+fn mark_again(at_hand: &mut Option<CurrentCommand>)
     ensures { at_hand.new ≡ table.marked_again at_hand.old }
 {
     if let Some(command) = at_hand {
@@ -69,13 +69,13 @@ pub fn asking(unit: &mut UnitState, path: Path) -> Sent
         Own::Owned {
             side,
             number,
-            place: Place::Ask { connection, .. } | Place::Away { connection },
+            place: Connection::Ask { connection, .. } | Connection::Away { connection },
         } => {
             let connection = connection + 1;
             unit.own = Own::Owned {
                 side,
                 number,
-                place: Place::Ask { path, connection },
+                place: Connection::Ask { path, connection },
             };
             Some(OnPath {
                 path,

@@ -11,7 +11,7 @@ use chan_model::chunk::Chunk;
 use chan_model::lent::LentDown;
 use chan_model::names::Side;
 use chan_model::signal::{Down, Taken};
-use chan_model::unit_state::{AtHand, Progress, UnitState};
+use chan_model::unit_state::{CurrentCommand, Progress, UnitState};
 
 /// Command: the next of the program that holds the device.
 pub fn commanded(
@@ -35,10 +35,10 @@ pub fn commanded(
 }
 
 /// A command that is not begun.
-fn new_command(code: u8, room: u16) -> AtHand
+fn new_command(code: u8, room: u16) -> CurrentCommand
     ensures { result ≡ table.new_command code room }
 {
-    AtHand {
+    CurrentCommand {
         code,
         room,
         progress: Progress::New,
@@ -88,7 +88,7 @@ pub fn given(unit: &mut UnitState, sequence: u64, bytes: &[u8]) -> Came
 }
 
 /// The command has these bytes; none stop the transfer.
-fn give(command: &mut AtHand, sequence: u64, bytes: &[u8])
+fn give(command: &mut CurrentCommand, sequence: u64, bytes: &[u8])
     requires { length bytes.now ≤ 256 }
     ensures { command.new ≡ table.with_given command.old sequence bytes.now }
 {
@@ -136,7 +136,7 @@ pub fn answered(unit: &mut UnitState, sequence: u64, room: u16) -> Came
 }
 
 /// The Data that was not answered is answered: no room, or fewer bytes than were asked for, stop the transfer.
-fn settle(command: &mut AtHand, room: u16)
+fn settle(command: &mut CurrentCommand, room: u16)
     ensures { IfSome command.old.unanswered (λ load. command.new ≡ table.at_hand_answered command.old load room) }
 {
     let asked = usize::from(command.asked);

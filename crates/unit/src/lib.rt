@@ -20,7 +20,7 @@ use chan_model::lent::{LentDown, LentUp, PlainUp};
 use chan_model::names::{Path, Side};
 use chan_model::report::{LentWork, Report, ReportPath, Work};
 use chan_model::signal::{KeptUp, OnPath, Taken};
-use chan_model::unit_state::{Own, Place, SideState, UnitState};
+use chan_model::unit_state::{Own, Connection, SideState, UnitState};
 use std::marker::Model;
 
 /// A unit: whom its device is held by, what it keeps of each side, and the command at hand.
@@ -134,7 +134,7 @@ impl Unit {
 
     /// Where the program of a report stands, asked before the report is taken; None where the report is stale or against the
     /// law of devices.
-    pub fn reporting(&self, report: &Report) -> Option<Place>
+    pub fn reporting(&self, report: &Report) -> Option<Connection>
         ensures place { MatchOption result (reports.unit_reports self.now report.now ≡ None)
             (λ place. reports.unit_reports self.now report.now ≡ reports.report_on self.now report.now.number place self.now.at_hand report.now) }
         ensures allowed { IfSome result (λ place. words.IsAllowed self.now report.now) }
@@ -143,7 +143,7 @@ impl Unit {
     }
 
     /// The path that the signal of a report is sent on whose program stands there.
-    pub fn path_from(&self, place: &Place, report: &Report) -> ReportPath
+    pub fn path_from(&self, place: &Connection, report: &Report) -> ReportPath
         requires { words.IsAllowed self.now report.now }
         ensures { (number : ℕ) → result ≡ reports.report_path (reports.report_on self.now number place.now self.now.at_hand report.now) }
     {
@@ -151,7 +151,7 @@ impl Unit {
     }
 
     /// Takes the device's answer, as `report` does, of a report whose program stands there.
-    pub fn report_from(&mut self, place: &Place, report: &Report) -> Taken<KeptUp>
+    pub fn report_from(&mut self, place: &Connection, report: &Report) -> Taken<KeptUp>
         requires below { words.last_sequence self.old.at_hand < 2 ^ 63 }
         requires allowed { words.IsAllowed self.old report.now }
         ensures state { self.new ≡ table.unit_after self.old (reports.report_on self.old report.now.number place.now self.old.at_hand report.now) }

@@ -6,7 +6,7 @@ ghost use Rattle.chan_model.specs.UnitTable as table;
 use chan_model::lent::PlainUp;
 use chan_model::names::{Path, Side};
 use chan_model::signal::{OnPath, Taken};
-use chan_model::unit_state::{Own, Place, SideState, UnitState};
+use chan_model::unit_state::{Own, Connection, SideState, UnitState};
 
 /// What came of a signal; none of those that the unit answers with has bytes.
 pub type Came = Taken<PlainUp>;
@@ -63,11 +63,11 @@ pub fn is_owner_on(unit: &UnitState, side: Side, number: u64, connection: u64) -
 }
 
 /// Whether a place is on a path by this connection.
-fn is_place_on(place: Place, connection: u64) -> bool
+fn is_place_on(place: Connection, connection: u64) -> bool
     ensures { result ≡ table.is_place_on place connection }
 {
     match place {
-        Place::On {
+        Connection::On {
             connection: last,
             ..
         } => connection == last,

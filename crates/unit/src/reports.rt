@@ -7,7 +7,7 @@ ghost use Rattle.chan_model.specs.Lent.{lent_up};
 ghost use Rattle.chan_model.specs.Signals.{kept_length, load_bytes, load_in, map_taken};
 ghost use Rattle.chan_model.specs.UnitTable as table;
 ghost use Rattle.chan_model.specs.declared.signal.Up.TheVariants as up;
-ghost use Rattle.chan_model.specs.declared.unit_state.Place.TheVariants.{On};
+ghost use Rattle.chan_model.specs.declared.unit_state.Connection.TheVariants.{On};
 ghost use Rattle.unit.specs.UnitWords as words;
 
 use crate::commands::forget;
@@ -17,7 +17,7 @@ use chan_model::lent::LentUp;
 use chan_model::names::{Path, Side};
 use chan_model::report::{DeviceAnswer, Report, ReportPath};
 use chan_model::signal::{KeptUp, Load, OnPath, Taken, Up};
-use chan_model::unit_state::{AtHand, Own, Place, Progress, UnitState};
+use chan_model::unit_state::{CurrentCommand, Own, Connection, Progress, UnitState};
 use scsw_irb::status::DeviceStatus;
 
 /// What came of a report; the bytes of its Data are those that are not answered.
@@ -52,7 +52,7 @@ fn is_initial(status: DeviceStatus) -> bool
 }
 
 /// How many bytes of a read are asked for at once.
-pub fn most_of(command: &AtHand) -> u16
+pub fn most_of(command: &CurrentCommand) -> u16
     ensures { result ≡ reports.most_of command.now }
 {
     if command.room > 256 {
@@ -63,28 +63,28 @@ pub fn most_of(command: &AtHand) -> u16
 }
 
 /// Whether no more bytes will be moved.
-pub fn is_over(command: &AtHand) -> bool
+pub fn is_over(command: &CurrentCommand) -> bool
     ensures { result ≡ reports.is_over command.now }
 {
     command.stopped || (!is_outward(command.code) && command.room == 0)
 }
 
 /// Whether no bytes wait at the device, and no Data is unanswered.
-fn is_settled(command: &AtHand) -> bool
+fn is_settled(command: &CurrentCommand) -> bool
     ensures { result ≡ reports.is_settled command.now }
 {
     command.given.is_none() && command.unanswered.is_none()
 }
 
 /// Whether the device is to supply bytes of a read.
-fn is_to_supply(command: &AtHand) -> bool
+fn is_to_supply(command: &CurrentCommand) -> bool
     ensures { result ≡ reports.is_to_supply command.now }
 {
     !(is_outward(command.code) || is_over(command)) && is_settled(command)
 }
 
 /// Whether the command may end with this status.
-fn may_end(halted: bool, command: &AtHand, status: DeviceStatus, more: bool) -> bool
+fn may_end(halted: bool, command: &CurrentCommand, status: DeviceStatus, more: bool) -> bool
     ensures { result ≡ reports.may_end halted command.now command.now.progress status more }
 {
     match command.progress {
@@ -129,7 +129,7 @@ fn is_allowed(unit: &UnitState, report: &Report) -> bool
 }
 
 /// Whether the device may answer so, as far as it is with the command.
-fn is_answer_allowed(unit: &UnitState, command: &AtHand, answer: &DeviceAnswer) -> bool
+fn is_answer_allowed(unit: &UnitState, command: &CurrentCommand, answer: &DeviceAnswer) -> bool
     ensures { result ≡ is_some (reports.answer_taken unit.now 0 0 0 command.now command.now.progress answer.now) }
 {
     match (command.progress, answer) {
@@ -158,7 +158,7 @@ fn is_of(unit: &UnitState, side: Side, number: u64, report: &Report) -> bool
 }
 
 /// Where the program of a report stands. None where the report is stale or against the law of devices.
-pub fn reporting(unit: &UnitState, report: &Report) -> Option<Place>
+pub fn reporting(unit: &UnitState, report: &Report) -> Option<Connection>
     ensures place { MatchOption result (reports.unit_reports unit.now report.now ≡ None)
         (λ place. reports.unit_reports unit.now report.now ≡ reports.report_on unit.now report.now.number place unit.now.at_hand report.now) }
     ensures allowed { IfSome result (λ place. is_some (reports.report_on unit.now 0 (On 0 0) unit.now.at_hand report.now) ≡ true) }
@@ -197,11 +197,11 @@ pub fn report_path(unit: &UnitState, report: &Report) -> ReportPath
 }
 
 /// The path of a report that is allowed.
-pub fn path_from(unit: &UnitState, place: Place, report: &Report) -> ReportPath
+pub fn path_from(unit: &UnitState, place: Connection, report: &Report) -> ReportPath
     requires { is_some (reports.report_on unit.now 0 (On 0 0) unit.now.at_hand report.now) ≡ true }
     ensures { (number : ℕ) → result ≡ reports.report_path (reports.report_on unit.now number place unit.now.at_hand report.now) }
 {
-    let Place::On { path, .. } = place else {
+    let Connection::On { path, .. } = place else {
         return ReportPath::Refused;
     };
     match (&unit.at_hand, &report.answer) {
@@ -213,14 +213,14 @@ pub fn path_from(unit: &UnitState, place: Place, report: &Report) -> ReportPath
 }
 
 /// What a report does that is allowed: Data or End is sent on the path of the program, or a read is begun.
-pub fn report_on(unit: &mut UnitState, place: Place, report: &Report) -> Reported
+pub fn report_on(unit: &mut UnitState, place: Connection, report: &Report) -> Reported
     requires below { words.last_sequence unit.old.at_hand < 2 ^ 63 }
     requires allowed { is_some (reports.report_on unit.old 0 (On 0 0) unit.old.at_hand report.now) ≡ true }
     ensures state { unit.new ≡ table.unit_after unit.old (reports.report_on unit.old report.now.number place unit.old.at_hand report.now) }
     ensures came { words.reported unit.new.at_hand result ≡ table.came_of (reports.report_on unit.old report.now.number place unit.old.at_hand report.now) }
     ensures bytes { words.AreAtHand unit.new.at_hand result }
 {
-    let Place::On { path, connection } = place else {
+    let Connection::On { path, connection } = place else {
         return Taken::ignored();
     };
     let program = Program {
@@ -262,7 +262,7 @@ pub fn report_on(unit: &mut UnitState, place: Place, report: &Report) -> Reporte
 }
 
 /// The device absorbed so many bytes of a write.
-fn absorb(command: &mut AtHand, count: u16)
+fn absorb(command: &mut CurrentCommand, count: u16)
     ensures { command.new ≡ reports.with_absorbed command.old count }
 {
     command.progress = Progress::Working;
@@ -271,7 +271,7 @@ fn absorb(command: &mut AtHand, count: u16)
 }
 
 /// The device supplied the next chunk of a read.
-fn supply(command: &mut AtHand, bytes: &Chunk)
+fn supply(command: &mut CurrentCommand, bytes: &Chunk)
     requires { command.old.sequence < 2 ^ 63 }
     ensures { command.new ≡ reports.with_supplied command.old bytes.now }
 {
@@ -325,7 +325,7 @@ struct Program {
 
 impl Program {
     /// The Data of the last chunk, which is not answered.
-    fn data(&self, command: &AtHand) -> Reported
+    fn data(&self, command: &CurrentCommand) -> Reported
         ensures sent { IfSome command.now.unanswered (λ load. words.reported (Some command.now) result ≡ record {
           taken = true;
           sent = Some (record {

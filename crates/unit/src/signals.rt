@@ -13,7 +13,7 @@ use crate::parts::{Came, free, is_owner, keep_side, owns, side_of};
 use chan_model::lent::{LentDown, PlainUp};
 use chan_model::names::{Path, Side};
 use chan_model::signal::{Down, Taken, Up};
-use chan_model::unit_state::{Own, Place, SideState, UnitState};
+use chan_model::unit_state::{Own, Connection, SideState, UnitState};
 
 /// A signal of a side that came by a path.
 pub fn takes(unit: &mut UnitState, side: Side, path: Path, signal: &LentDown<'_>, may: bool) -> Came
@@ -120,7 +120,7 @@ fn hold(unit: &mut UnitState, side: Side, path: Path, number: u64)
     unit.own = Own::Owned {
         side,
         number,
-        place: Place::On {
+        place: Connection::On {
             path,
             connection: 0,
         },
@@ -150,7 +150,7 @@ fn granted_at(
     unit: &mut UnitState,
     side: Side,
     number: u64,
-    place: Place,
+    place: Connection,
     path: Path,
     connection: u64,
 ) -> Came
@@ -158,7 +158,7 @@ fn granted_at(
     ensures came { map_taken plain_up result ≡ table.came_of (table.granted_at unit.old side number place path connection) }
 {
     match place {
-        Place::Ask {
+        Connection::Ask {
             path: asked,
             connection: last,
         } => {
@@ -166,7 +166,7 @@ fn granted_at(
                 unit.own = Own::Owned {
                     side,
                     number,
-                    place: Place::On {
+                    place: Connection::On {
                         path: asked,
                         connection: last,
                     },
@@ -176,11 +176,11 @@ fn granted_at(
                 granted_late(number, path, connection, last)
             }
         }
-        Place::On {
+        Connection::On {
             connection: last,
             ..
         }
-        | Place::Away { connection: last } => granted_late(number, path, connection, last),
+        | Connection::Away { connection: last } => granted_late(number, path, connection, last),
     }
 }
 
@@ -206,7 +206,7 @@ fn refused(unit: &mut UnitState, side: Side, number: u64, connection: u64) -> Ca
         Own::Owned {
             side: owner,
             number: held,
-            place: Place::Ask {
+            place: Connection::Ask {
                 connection: last,
                 ..
             },
@@ -214,7 +214,7 @@ fn refused(unit: &mut UnitState, side: Side, number: u64, connection: u64) -> Ca
             unit.own = Own::Owned {
                 side: owner,
                 number: held,
-                place: Place::Away { connection: last },
+                place: Connection::Away { connection: last },
             };
             Taken::quietly()
         }
@@ -334,15 +334,15 @@ fn is_granted_late(unit: &UnitState, side: Side, number: u64, connection: u64) -
         Own::Owned {
             side: owner,
             number: held,
-            place: Place::On {
+            place: Connection::On {
                 connection: last,
                 ..
             }
-            | Place::Ask {
+            | Connection::Ask {
                 connection: last,
                 ..
             }
-            | Place::Away { connection: last },
+            | Connection::Away { connection: last },
         } => owner.same(side) && number == held && connection < last,
     }
 }

@@ -8,7 +8,7 @@ use crate::reports::{is_outward, is_over, most_of};
 use chan_model::chunk::Bytes;
 use chan_model::names::Side;
 use chan_model::report::{Call, DeviceAnswer, LentCall, LentWork, Report, Work};
-use chan_model::unit_state::{AtHand, Own, Place, Progress, UnitState};
+use chan_model::unit_state::{CurrentCommand, Own, Connection, Progress, UnitState};
 use scsw_irb::status::DeviceStatus;
 
 /// While its program is connected: a call of the device, or a report without a call.
@@ -20,7 +20,7 @@ pub fn work(unit: &UnitState) -> Option<LentWork<'_>>
             Own::Owned {
                 side,
                 number,
-                place: Place::On { .. },
+                place: Connection::On { .. },
             },
             Some(command),
         ) => work_at(unit, side, number, command),
@@ -33,7 +33,7 @@ fn work_at<'a>(
     unit: &UnitState,
     side: Side,
     number: u64,
-    command: &'a AtHand,
+    command: &'a CurrentCommand,
 ) -> Option<LentWork<'a>>
     ensures { lent_works result ≡ reports.work_at unit.now side number command.now command.now.progress }
 {
@@ -60,7 +60,7 @@ fn work_on_data<'a>(
     unit: &UnitState,
     side: Side,
     number: u64,
-    command: &'a AtHand,
+    command: &'a CurrentCommand,
 ) -> Option<LentWork<'a>>
     ensures { lent_works result ≡ reports.work_on_data unit.now side number command.now command.now.unanswered }
 {
@@ -82,7 +82,7 @@ fn work_on_bytes<'a>(
     unit: &UnitState,
     side: Side,
     number: u64,
-    command: &'a AtHand,
+    command: &'a CurrentCommand,
 ) -> Option<LentWork<'a>>
     ensures { lent_works result ≡ reports.work_on_bytes unit.now side number command.now command.now.given }
 {
@@ -105,7 +105,7 @@ fn work_on_transfer<'a>(
     unit: &UnitState,
     side: Side,
     number: u64,
-    command: &'a AtHand,
+    command: &'a CurrentCommand,
 ) -> Option<LentWork<'a>>
     ensures { lent_works result ≡ reports.work_on_transfer unit.now side number command.now }
 {
@@ -124,7 +124,7 @@ fn calling<'a>(
     unit: &UnitState,
     side: Side,
     number: u64,
-    command: &AtHand,
+    command: &CurrentCommand,
     call: LentCall<'a>,
 ) -> LentWork<'a>
     ensures { Some (lent_work result) ≡ reports.calling unit.now side number command.now (lent_call call.entry) }
@@ -143,7 +143,7 @@ fn reporting<'a>(
     unit: &UnitState,
     side: Side,
     number: u64,
-    command: &'a AtHand,
+    command: &'a CurrentCommand,
     answer: DeviceAnswer<Bytes<'a>>,
 ) -> LentWork<'a>
     ensures { Some (lent_work result) ≡ reports.reporting unit.now side number command.now (lent_answer answer.entry) }
@@ -158,7 +158,7 @@ fn reporting<'a>(
 }
 
 /// The report of a command that was halted before it began.
-fn halted_report<'a>(unit: &UnitState, side: Side, number: u64, command: &'a AtHand) -> LentWork<'a>
+fn halted_report<'a>(unit: &UnitState, side: Side, number: u64, command: &'a CurrentCommand) -> LentWork<'a>
     ensures { Some (lent_work result) ≡ reports.halted_report unit.now side number command.now }
 {
     let answer = DeviceAnswer::Ended {

@@ -8,7 +8,7 @@ use chan_model::lent::LentDown;
 use chan_model::slots::DownSlot;
 use std::alloc::{AllocError, Global};
 use std::marker::Model;
-use supply::{Supply, make_room, push};
+use memory::{Supply, make_room, push};
 
 /// A ring of eight places, which stay where they are: sending writes the one behind the last signal, and nothing else is
 /// touched.

@@ -23,7 +23,7 @@ use chan_model::lent::{LentDown, LentUp};
 use chan_model::names::Path;
 use std::alloc::{AllocError, Global};
 use std::marker::Model;
-use supply::{Given, Supply};
+use memory::{Given, Supply};
 
 /// The signals that wait, for each path down to the unit and up to the subchannel. A wire holds at most 8.
 #[derive(Drop)]

@@ -5,11 +5,11 @@ use crate::serve;
 use crate::tests::memory::{Short, Slow};
 use crate::tests::scenes::Scene;
 use crate::tests::{UNWRITTEN, ends};
-use serving::Ending;
+use script_runner::Ending;
 use std::sync::Wait;
 use std::thread::Threads;
-use streams::{Heard, Watched};
-use supply::Given;
+use streams::{CheckedReader, CheckedWriter};
+use memory::Given;
 
 /// More bytes than a line of the texts has, and than a line that is printed of them.
 pub const LONGEST: usize = 52;
@@ -65,8 +65,8 @@ pub fn command<'a, R: Threads + Wait + Sync + AllocGlobal>(
     reader: Slow<'a>,
     writer: Short,
 ) -> Left<'a> {
-    let mut reader = Heard::new(reader);
-    let mut sink = Watched::new(writer);
+    let mut reader = CheckedReader::new(reader);
+    let mut sink = CheckedWriter::new(writer);
     let mut supply = Given { refused: false };
     let outcome = serve(
         rt,

@@ -5,7 +5,7 @@ use crate::tests::commands::{LONGEST, cases, command};
 use crate::tests::first_write::{LINES, SETTINGS, first_write, raced_write, refused_write};
 use crate::tests::memory::{Short, Slow};
 use crate::tests::scenes::Scene;
-use serving::Ending;
+use script_runner::Ending;
 use std::sync::Wait;
 use std::thread::Threads;
 

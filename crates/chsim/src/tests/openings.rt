@@ -3,7 +3,7 @@
 use crate::outcome::Outcome;
 use crate::tests::first_write::{LINES, first_lines, first_write};
 use crate::tests::served_with;
-use serving::Ending;
+use script_runner::Ending;
 use std::sync::Wait;
 use std::thread::Threads;
 

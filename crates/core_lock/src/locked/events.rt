@@ -11,7 +11,7 @@ use chan_events::event::Event;
 use chan_events::reply::Reply;
 use chan_model::fault::Fault;
 use path_select::PathChoice;
-use supply::{Given, Supply};
+use memory::{Given, Supply};
 
 impl<J: Naming, P: PathChoice + Drop> Core<J, P> {
     /// One step, entered from a seat: its reply, with the entry in the history and in the seat's log. Where it is refused all

@@ -13,14 +13,14 @@ use core_lock::naming::Naming;
 use core_lock::parts::Parts;
 use path_select::Rotating;
 use std::alloc::Global;
-use supply::Refusing;
+use memory::FailingMemory;
 
 /// More requests than there are.
 const MANY: u64 = 100;
 
 /// Grants so many requests, and no more.
-pub fn granting(left: u64) -> Refusing {
-    Refusing {
+pub fn granting(left: u64) -> FailingMemory {
+    FailingMemory {
         left,
         refused: false,
     }

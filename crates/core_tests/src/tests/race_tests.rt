@@ -13,14 +13,14 @@ use core_lock::naming::Naming;
 use core_lock::parts::Parts;
 use event_log::history::History;
 use path_select::Rotating;
-use serving::racers::{Racers, one_seat};
+use script_runner::racers::{Racers, one_seat};
 use script_rows::race::Race;
 use std::alloc::Global;
 use std::marker::Brand;
 use std::sync::Wait;
 use std::thread::Threads;
 use subsystem::subsystem::Subsystem;
-use supply::Given;
+use memory::Given;
 
 /// Four CPUs, each with 10,000 instructions.
 const RACE: Race = Race {

@@ -2,7 +2,7 @@
 
 use command_words::{Refused, Wanted, command_of};
 use std::alloc::Global;
-use supply::{Given, Refusing};
+use memory::{Given, FailingMemory};
 
 fn text_has<'a>(alloc: Global, words: &'a [&'a str], part: &str) -> bool {
     match command_of(alloc, &mut Given { refused: false }, words) {
@@ -37,7 +37,7 @@ fn other_words_give_a_text(rt: HostRuntime) {
 
 #[test]
 fn a_text_without_memory_is_refused(rt: HostRuntime) {
-    let mut supply = Refusing {
+    let mut supply = FailingMemory {
         left: 0,
         refused: false,
     };

@@ -3,7 +3,7 @@
 use control_units::ControlUnit;
 use control_units::sharing::Sharing;
 use std::alloc::Global;
-use supply::{Given, Refusing, Supply};
+use memory::{Given, FailingMemory, Supply};
 
 /// The groups of five units.
 const GROUPS: [u16; 5] = [0, 1, 0, 1, 4];
@@ -63,7 +63,7 @@ fn is_made<S: Supply>(alloc: Global, supply: &mut S) -> bool {
 #[test]
 fn each_request_for_room_is_refused_in_turn(rt: HostRuntime) {
     for left in 0..=REQUESTS {
-        let mut supply = Refusing {
+        let mut supply = FailingMemory {
             left,
             refused: false,
         };

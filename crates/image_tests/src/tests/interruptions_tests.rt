@@ -3,7 +3,7 @@
 use interruptions::Pending;
 use scsw_irb::code::IntCode;
 use std::alloc::{AllocError, Global};
-use supply::{Given, Refusing};
+use memory::{Given, FailingMemory};
 
 /// A request of a subchannel of set 0.
 fn request(number: u16, subclass: u8) -> Option<IntCode> {
@@ -91,7 +91,7 @@ fn a_subchannel_has_one_request(rt: HostRuntime) -> Result<(), AllocError> {
 
 /// Whether room for such numbers is refused where so many requests for room are granted.
 fn is_refused(alloc: Global, left: u64, numbers: u16) -> bool {
-    let mut supply = Refusing {
+    let mut supply = FailingMemory {
         left,
         refused: false,
     };

@@ -3,7 +3,7 @@
 use std::alloc::Global;
 use storage_keys::key::Key;
 use storage_keys::{Storage, StorageFault};
-use supply::{Given, Refusing, Supply};
+use memory::{Given, FailingMemory, Supply};
 
 const ADDRESSING: StorageFault = StorageFault::Addressing;
 
@@ -33,7 +33,7 @@ fn is_made<S: Supply>(alloc: Global, supply: &mut S) -> bool {
 #[test]
 fn each_request_for_room_is_refused_in_turn(rt: HostRuntime) {
     for left in 0..4 {
-        let mut supply = Refusing {
+        let mut supply = FailingMemory {
             left,
             refused: false,
         };

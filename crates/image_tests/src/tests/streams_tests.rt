@@ -2,8 +2,8 @@
 
 use std::io;
 use std::io::{ErrorKind, Read, Write};
-use streams::{Heard, NoText, Sink, Source, Watched, put_all, put_both, read_all, read_all_with};
-use supply::{Given, Refusing};
+use streams::{CheckedReader, NoText, Sink, Source, CheckedWriter, put_all, put_both, read_all, read_all_with};
+use memory::{Given, FailingMemory};
 
 const TEXT: &[u8] = b"storage 10\npath 10\n";
 
@@ -118,7 +118,7 @@ fn each_growth_is_refused_in_turn(rt: HostRuntime) {
             interrupted_at: 1,
             fails_at: 0,
         };
-        let mut supply = Refusing {
+        let mut supply = FailingMemory {
             left,
             refused: false,
         };
@@ -136,7 +136,7 @@ fn each_growth_is_refused_in_turn(rt: HostRuntime) {
 #[test]
 fn a_source_shows_that_it_failed(rt: HostRuntime) {
     for (fails_at, broken) in [(0, false), (2, true)] {
-        let mut source = Heard::new(Slow {
+        let mut source = CheckedReader::new(Slow {
             rest: TEXT,
             most: 10,
             calls: 0,
@@ -156,7 +156,7 @@ fn a_source_shows_that_it_failed(rt: HostRuntime) {
 #[test]
 fn a_sink_shows_that_it_failed(rt: HostRuntime) {
     for (fails_at, taken) in [(0, 19), (2, 0), (3, 10), (4, 19)] {
-        let mut sink = Watched::new(Short {
+        let mut sink = CheckedWriter::new(Short {
             text: Vec::new(rt.alloc()),
             most: 10,
             calls: 0,
@@ -169,7 +169,7 @@ fn a_sink_shows_that_it_failed(rt: HostRuntime) {
         drop(sink);
         assert!(rt; all_put == (taken == 19) && failed == (taken < 19) && is_kept);
     }
-    let mut sink = Watched::new(Vec::new(rt.alloc()));
+    let mut sink = CheckedWriter::new(Vec::new(rt.alloc()));
     let both_put = put_both(&mut sink, b"storage ", b"10\n");
     let are_kept = sink.writer.as_slice() == b"storage 10\n".as_slice();
     drop(sink);

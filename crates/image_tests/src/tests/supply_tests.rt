@@ -1,7 +1,7 @@
 //! Each request refused in turn.
 
 use std::alloc::{AllocError, Global};
-use supply::{Given, Refusing, Supply, extend, make_room, push};
+use memory::{Given, FailingMemory, Supply, extend, make_room, push};
 
 /// Three requests: two bytes one by one, and two together.
 fn fill<S: Supply>(alloc: Global, supply: &mut S) -> Result<Vec<u8>, AllocError> {
@@ -15,7 +15,7 @@ fn fill<S: Supply>(alloc: Global, supply: &mut S) -> Result<Vec<u8>, AllocError>
 #[test]
 fn each_request_is_refused_in_turn(rt: HostRuntime) {
     for left in 0..5 {
-        let mut supply = Refusing {
+        let mut supply = FailingMemory {
             left,
             refused: false,
         };
@@ -34,7 +34,7 @@ fn each_request_is_refused_in_turn(rt: HostRuntime) {
 #[test]
 fn what_was_there_stays_where_a_request_is_refused(rt: HostRuntime) {
     let mut list = Vec::new(rt.alloc());
-    let mut supply = Refusing {
+    let mut supply = FailingMemory {
         left: 1,
         refused: false,
     };
@@ -54,7 +54,7 @@ fn each_portion_of_room_is_refused_in_turn(rt: HostRuntime) {
     for left in 0..5 {
         let mut list = Vec::new(rt.alloc());
         let pushed = push(&mut Given { refused: false }, &mut list, 7);
-        let mut refusing = Refusing {
+        let mut refusing = FailingMemory {
             left,
             refused: false,
         };
@@ -77,7 +77,7 @@ fn each_portion_of_room_is_refused_in_turn(rt: HostRuntime) {
 #[test]
 fn room_for_nothing_is_not_asked_for(rt: HostRuntime) {
     let mut list = Vec::<u8>::new(rt.alloc());
-    let mut supply = Refusing {
+    let mut supply = FailingMemory {
         left: 0,
         refused: false,
     };

@@ -1,16 +1,16 @@
-//! Places and engines of a few subchannels, looked up.
+//! SubchannelIndex and engines of a few subchannels, looked up.
 
 use crate::tests::setups::idle_state;
 use chan_model::hold_state::HoldPhase;
 use chan_model::names::{Path, Side};
 use channel_config::names::SubchannelId;
 use channel_config::parts::{ChpidList, SubchannelSetup};
-use finding::engines::engaged;
-use finding::tables::Places;
+use lookup::engines::engaged;
+use lookup::tables::SubchannelIndex;
 use std::alloc::{AllocError, Global};
 use subchannel_model::state::SubchannelState;
 use functions::{PackedState, Subchannel};
-use supply::{Given, Refusing, Supply};
+use memory::{Given, FailingMemory, Supply};
 use wires::Wires;
 
 fn state(phase: HoldPhase) -> SubchannelState {
@@ -89,7 +89,7 @@ fn four(alloc: Global) -> Result<Vec<Subchannel>, AllocError> {
 #[test]
 fn the_first_subchannel_of_a_name_is_found(rt: HostRuntime) -> Result<(), AllocError> {
     let subs = four(rt.alloc())?;
-    let places = Places::of(rt.alloc(), &mut Given { refused: false }, 2, 3, &subs)?;
+    let places = SubchannelIndex::of(rt.alloc(), &mut Given { refused: false }, 2, 3, &subs)?;
     for (set, number, place) in [
         (0, 5, Some(0)),
         (1, 0, Some(1)),
@@ -108,7 +108,7 @@ fn the_first_subchannel_of_a_name_is_found(rt: HostRuntime) -> Result<(), AllocE
 #[test]
 fn a_name_beyond_the_tables_is_found(rt: HostRuntime) -> Result<(), AllocError> {
     let subs = four(rt.alloc())?;
-    let places = Places::of(rt.alloc(), &mut Given { refused: false }, 1, 0, &subs)?;
+    let places = SubchannelIndex::of(rt.alloc(), &mut Given { refused: false }, 1, 0, &subs)?;
     let id = SubchannelId { set: 1, number: 0 };
     assert!(rt;
         places.place_in(id, &subs) == Some(1) && places.reached_in(2, Side::First, &subs) == Some(0)
@@ -119,7 +119,7 @@ fn a_name_beyond_the_tables_is_found(rt: HostRuntime) -> Result<(), AllocError> 
 #[test]
 fn the_subchannel_of_a_side_is_found(rt: HostRuntime) -> Result<(), AllocError> {
     let subs = four(rt.alloc())?;
-    let places = Places::of(rt.alloc(), &mut Given { refused: false }, 2, 3, &subs)?;
+    let places = SubchannelIndex::of(rt.alloc(), &mut Given { refused: false }, 2, 3, &subs)?;
     for (unit, first, second) in [
         (0, Some(1), Some(2)),
         (1, None, None),
@@ -155,7 +155,7 @@ fn a_subchannel_engages_the_engine_of_its_path(rt: HostRuntime) -> Result<(), Al
 /// Whether there are places of the four subchannels, by which the second of them is found.
 fn are_made<S: Supply>(alloc: Global, supply: &mut S, units: usize, subs: &[Subchannel]) -> bool {
     let id = SubchannelId { set: 1, number: 0 };
-    match Places::of(alloc, supply, 2, units, subs) {
+    match SubchannelIndex::of(alloc, supply, 2, units, subs) {
         Ok(places) => places.place_in(id, subs) == Some(1),
         Err(_) => false,
     }
@@ -173,7 +173,7 @@ fn are_made_of_four<S: Supply>(
 
 /// Whether the places are made where so many requests are granted, and whether one was refused.
 fn refusing(alloc: Global, left: u64, units: usize) -> Result<(bool, bool), AllocError> {
-    let mut supply = Refusing {
+    let mut supply = FailingMemory {
         left,
         refused: false,
     };

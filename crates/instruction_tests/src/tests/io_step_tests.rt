@@ -1,7 +1,7 @@
 //! Each instruction once, and each refusal.
 
 ghost use Rattle.std.specs.Bool.{OnTrue};
-ghost use Rattle.machine_model.specs.Bounds.{IsRoomy};
+ghost use Rattle.machine_model.specs.Bounds.{CanCount};
 
 use crate::tests::setups::idle_state;
 use chan_events::event::{Instruction, OtherInstruction};
@@ -73,7 +73,7 @@ fn made(alloc: Global) -> Option<Lent> {
 }
 
 fn is_roomy(sub: &Subchannel) -> bool
-    ensures { OnTrue result (IsRoomy sub.now) }
+    ensures { OnTrue result (CanCount sub.now) }
 {
     let rest = sub.state.rest();
     rest.drawn <= LIMIT

@@ -4,7 +4,7 @@ use chan_model::chunk::Chunk;
 use chan_model::lent::PlainDown;
 use chan_model::names::Path;
 use chan_model::signal::{Down, OnPath};
-use working::sent::SentDown;
+use active_program::sent::SentDown;
 
 /// A Give of these bytes is put there.
 fn put_give(sent: &mut SentDown, path: Path, sequence: u64, bytes: Chunk) {

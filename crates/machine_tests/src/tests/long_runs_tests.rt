@@ -9,7 +9,7 @@ use event_log::logs::Log;
 use path_select::Lowest;
 use std::alloc::Global;
 use subsystem::subsystem::Subsystem;
-use supply::Refusing;
+use memory::FailingMemory;
 
 /// As many entries as a history and a log are to keep.
 const ENTRIES: usize = 300_000;
@@ -81,7 +81,7 @@ fn run(alloc: Global, count: usize) -> Option<(usize, usize)> {
 /// before another was refused it.
 fn requests_of(subsystem: &mut Subsystem<Lowest>, event: &Event) -> Option<u64> {
     for left in 0..MANY {
-        let mut supply = Refusing {
+        let mut supply = FailingMemory {
             left,
             refused: false,
         };

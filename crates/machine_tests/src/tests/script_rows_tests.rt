@@ -9,7 +9,7 @@ use script_rows::places::ActionPlace;
 use script_rows::settings::{Setting, configure, setting_row};
 use script_rows::words::{LineFault, LineRule};
 use std::alloc::{AllocError, Global};
-use supply::Given;
+use memory::Given;
 
 /// The words of a line.
 fn words_of(alloc: Global, line: &[u8]) -> Result<Vec<&[u8]>, AllocError> {

@@ -6,7 +6,7 @@ use script::lines::Lines;
 use script::{Script, ScriptBad};
 use script_rows::Action;
 use std::alloc::Global;
-use supply::Given;
+use memory::Given;
 
 const RIGHT: [&[u8]; 26] = [
     b"# a machine",

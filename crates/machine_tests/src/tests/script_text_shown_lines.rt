@@ -7,7 +7,7 @@ use script_text::{ActionResult, put_bad_line, put_event_line};
 use scsw_irb::serials::Serials;
 use std::io;
 use std::io::Write;
-use streams::{Sink, Watched};
+use streams::{Sink, CheckedWriter};
 
 /// Four lines.
 fn put_lines<S: Sink>(sink: &mut S) -> bool {
@@ -25,7 +25,7 @@ const LINES: &[u8] = b"5 done\n6 made 12 cleared 9\n1000 refused 11\nbad line 9 
 
 #[test]
 fn lines_are_shown(rt: HostRuntime) {
-    let mut sink = Watched::new(Vec::new(rt.alloc()));
+    let mut sink = CheckedWriter::new(Vec::new(rt.alloc()));
     assert!(rt; put_lines(&mut sink) && sink.writer.as_slice() == LINES);
 }
 
@@ -52,7 +52,7 @@ impl Write for Brief {
 #[test]
 fn a_sink_that_fails_has_a_beginning(rt: HostRuntime) {
     for left in 0..LINES.len() {
-        let mut sink = Watched::new(Brief {
+        let mut sink = CheckedWriter::new(Brief {
             text: Vec::new(rt.alloc()),
             left,
         });
@@ -81,7 +81,7 @@ impl Write for Counting {
 
 #[test]
 fn a_line_is_written_at_once(rt: HostRuntime) {
-    let mut sink = Watched::new(Counting { calls: 0 });
+    let mut sink = CheckedWriter::new(Counting { calls: 0 });
     let shown = Reply::Shown {
         bytes: Chunk::of(&[0xC1; 64]),
     };

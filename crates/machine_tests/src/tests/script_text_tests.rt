@@ -14,7 +14,7 @@ use scsw_irb::scsw::{ActivityControl, DeferredCode, FunctionControl, Scsw, Statu
 use scsw_irb::serials::Serials;
 use scsw_irb::status::{DeviceStatus, SubchannelStatus};
 use storage_keys::StorageFault;
-use streams::Watched;
+use streams::CheckedWriter;
 
 fn ended() -> Scsw {
     Scsw {
@@ -96,7 +96,7 @@ fn replies_are_shown(rt: HostRuntime) {
         (up(Up::Notice { restarts: 1 }), b"took notice"),
     ];
     for (reply, text) in &rows {
-        let mut sink = Watched::new(Vec::new(rt.alloc()));
+        let mut sink = CheckedWriter::new(Vec::new(rt.alloc()));
         assert!(rt; put_reply(&mut sink, reply) && sink.writer.as_slice() == *text);
     }
 }
@@ -146,7 +146,7 @@ fn replies_of_instructions_without_a_subchannel_are_shown(rt: HostRuntime) {
         (paths(0), b"paths -"),
     ];
     for (reply, text) in &rows {
-        let mut sink = Watched::new(Vec::new(rt.alloc()));
+        let mut sink = CheckedWriter::new(Vec::new(rt.alloc()));
         assert!(rt; put_reply(&mut sink, reply) && sink.writer.as_slice() == *text);
     }
 }
@@ -176,7 +176,7 @@ fn replies_with_a_path_are_shown(rt: HostRuntime) {
         (halt, b"halt 7"),
     ];
     for (reply, text) in &rows {
-        let mut sink = Watched::new(Vec::new(rt.alloc()));
+        let mut sink = CheckedWriter::new(Vec::new(rt.alloc()));
         assert!(rt; put_reply(&mut sink, reply) && sink.writer.as_slice() == *text);
     }
 }
@@ -208,7 +208,7 @@ fn refusals_are_shown(rt: HostRuntime) {
         (Fault::Operand, b"refused 11"),
     ];
     for (refusal, text) in rows {
-        let mut sink = Watched::new(Vec::new(rt.alloc()));
+        let mut sink = CheckedWriter::new(Vec::new(rt.alloc()));
         assert!(rt; put_refusal(&mut sink, &refusal) && sink.writer.as_slice() == text);
     }
 }

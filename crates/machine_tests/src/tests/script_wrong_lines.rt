@@ -4,7 +4,7 @@ use crate::tests::script_lines::text_of;
 use script::{Script, ScriptBad};
 use script_rows::words::LineRule;
 use std::alloc::{AllocError, Global};
-use supply::{Given, Refusing, Supply};
+use memory::{Given, FailingMemory, Supply};
 
 const WRONG: [(&[u8], u64, LineRule); 7] = [
     (b"", 1, LineRule::StorageNotFirst),
@@ -171,7 +171,7 @@ const GROWING: [&[u8]; 9] = [
 
 /// How many growths the reading of a text meets; None where it is not read.
 fn growths_of(alloc: Global, text: &[u8]) -> Option<u64> {
-    let mut supply = Refusing {
+    let mut supply = FailingMemory {
         left: 1_000,
         refused: false,
     };
@@ -184,7 +184,7 @@ fn growths_of(alloc: Global, text: &[u8]) -> Option<u64> {
 
 /// What is wrong where so many growths are given and no more, and whether one was refused.
 fn read_short(alloc: Global, text: &[u8], left: u64) -> (Option<ScriptBad>, bool) {
-    let mut supply = Refusing {
+    let mut supply = FailingMemory {
         left,
         refused: false,
     };

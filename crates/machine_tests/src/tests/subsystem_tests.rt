@@ -16,7 +16,7 @@ use path_select::Rotating;
 use scsw_irb::status::DeviceStatus;
 use std::alloc::Global;
 use subsystem::subsystem::{NotMade, Subsystem};
-use supply::Refusing;
+use memory::FailingMemory;
 
 pub const WORD: u32 = 0x0001_0000;
 
@@ -307,8 +307,8 @@ pub fn begun(alloc: Global, count: usize) -> Option<Subsystem<Rotating>> {
 const REQUESTS: u64 = 34;
 
 /// Grants so many requests, and no more.
-pub fn granting(left: u64) -> Refusing {
-    Refusing {
+pub fn granting(left: u64) -> FailingMemory {
+    FailingMemory {
         left,
         refused: false,
     }
@@ -348,7 +348,7 @@ fn each_request_of_an_opening_is_refused_in_turn(rt: HostRuntime) {
 fn run_rest(
     alloc: Global,
     subsystem: &mut Subsystem<Rotating>,
-    supply: &mut Refusing,
+    supply: &mut FailingMemory,
 ) -> Result<usize, Fault> {
     let events = script(alloc);
     if events.len() < 6 {

@@ -6,9 +6,9 @@ use chan_model::fault::Fault;
 use chan_model::hold_state::HoldPhase;
 use chan_model::names::{Path, Side};
 use chan_model::report::{DeviceAnswer, Report};
-use chan_model::unit_state::{Own, Place};
+use chan_model::unit_state::{Own, Connection};
 use hold::Hold;
-use supply::Refusing;
+use memory::FailingMemory;
 
 /// More requests for room than an event makes.
 const MANY: u64 = 10;
@@ -61,7 +61,7 @@ fn owned_by(world: &World) -> Option<usize> {
     let Own::Owned { place, .. } = world.own() else {
         return None;
     };
-    let Place::On { path, .. } = place else {
+    let Connection::On { path, .. } = place else {
         return None;
     };
     Some(path.index())
@@ -157,7 +157,7 @@ fn a_repeated_select_is_accepted_once(rt: HostRuntime) {
 /// given before another was refused it.
 fn requests_of(world: &mut World, event: &WorldEvent) -> Option<u64> {
     for left in 0..MANY {
-        let mut supply = Refusing {
+        let mut supply = FailingMemory {
             left,
             refused: false,
         };

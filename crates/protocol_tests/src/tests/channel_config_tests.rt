@@ -5,7 +5,7 @@ use channel_config::config::{Config, ConfigFault, ConfigRule};
 use channel_config::names::{SubchannelId, subchannel_named};
 use channel_config::parts::UnitKind;
 use std::alloc::Global;
-use supply::{Given, Refusing, Supply};
+use memory::{Given, FailingMemory, Supply};
 
 #[test]
 fn words_name_subchannels(rt: HostRuntime) {
@@ -133,7 +133,7 @@ fn are_grouped(alloc: Global, config: &Config) -> Option<bool> {
 fn are_groups_refused(alloc: Global, config: &Config) -> bool {
     let mut all = true;
     for left in 0..8 {
-        let mut supply = Refusing {
+        let mut supply = FailingMemory {
             left,
             refused: false,
         };
@@ -272,7 +272,7 @@ fn fill<S: Supply>(config: &mut Config, supply: &mut S) -> Result<(), ConfigFaul
 /// Whether a configuration to which so many requests are granted has what they were asked for, and no more.
 fn fills_as_granted(alloc: Global, left: u64) -> bool {
     let mut config = Config::new(alloc);
-    let mut supply = Refusing {
+    let mut supply = FailingMemory {
         left,
         refused: false,
     };

@@ -3,7 +3,7 @@
 use chan_model::lent::PlainUp;
 use chan_model::report::{Call, DeviceAnswer, Report, ReportPath, Work};
 use chan_model::signal::{Load, OnPath, Taken, Up};
-use chan_model::unit_state::{Own, Place};
+use chan_model::unit_state::{Own, Connection};
 use unit::Unit;
 
 /// The code of the command that the device is to begin.
@@ -139,7 +139,7 @@ pub(crate) fn connected_path(unit: &Unit) -> Option<usize> {
     let Own::Owned { place, .. } = unit.own() else {
         return None;
     };
-    let Place::On { path, .. } = place else {
+    let Connection::On { path, .. } = place else {
         return None;
     };
     Some(path.index())

@@ -9,7 +9,7 @@ use chan_model::lent::{PlainDown, PlainUp};
 use chan_model::names::{Path, Side};
 use chan_model::report::{DeviceAnswer, Report, ReportPath};
 use chan_model::signal::{Down, OnPath, Taken, Up};
-use chan_model::unit_state::{Own, Place};
+use chan_model::unit_state::{Own, Connection};
 use scsw_irb::status::DeviceStatus;
 use unit::Unit;
 
@@ -118,7 +118,7 @@ fn asked_for(unit: &mut Unit, path: Path) -> Option<OnPath<PlainUp>> {
     let Own::Owned { place, .. } = unit.own() else {
         return None;
     };
-    let Place::Away { connection } = place else {
+    let Connection::Away { connection } = place else {
         return None;
     };
     if connection < 8 { unit.ask(path) } else { None }

@@ -10,7 +10,7 @@ use Rattle.chan_events.specs.declared.reply.Reply.TheVariants as reply
 use Rattle.chan_model.specs.Signals.{Down, Load, Up}
 use Rattle.chan_model.specs.declared.signal.Down.TheVariants as down
 use Rattle.chan_model.specs.declared.signal.OnPath.{OnPath}
-use Rattle.chan_model.specs.declared.unit_state.AtHand.{AtHand}
+use Rattle.chan_model.specs.declared.unit_state.CurrentCommand.{CurrentCommand}
 use Rattle.chan_model.specs.declared.unit_state.UnitState.{UnitState}
 use Rattle.chan_model.specs.Sides.{same_side}
 use Rattle.chan_model.specs.UnitTable.{UnitStep, came_of, unit_takes, unit_after}
@@ -69,7 +69,7 @@ over-course side s (Some k) downs ups u h c = course-over side s.begun k downs u
 
 -- wires and a unit that carry it
 pub course-carried : (side : Side) (begun : Option ActiveProgram) (k : Option ProgramTrace) (downs downs' : List (List Down)) (ups ups' : List (List Up)) (u v : UnitState) →
-    ((P : Option AtHand → Type 0) (Q : ℕ → List ℕ → Type 0) (R : ℕ → Load → Type 0) → IsFit P Q → IsWired side (number_of k) (length (took_of k)) P Q R downs ups u →
+    ((P : Option CurrentCommand → Type 0) (Q : ℕ → List ℕ → Type 0) (R : ℕ → Load → Type 0) → IsFit P Q → IsWired side (number_of k) (length (took_of k)) P Q R downs ups u →
     IsWired side (number_of k) (length (took_of k)) P Q R downs' ups' v) →
     CourseOf side begun k downs ups u → CourseOf side begun k downs' ups' v
 course-carried side begun None downs downs' ups ups' u v f c = f HandClosed AnyGive AnyData fit-closed c
@@ -141,7 +141,7 @@ course-down may side drawn k downs ups u path o begun d last q i (Cut e b w m) =
     (mode-down side drawn k downs ups u path o may (Some b) d (λ c f. same-last k b c w f) q i m)
 
 -- Report
-absorbs-work : (b : ActiveProgram) (k : ProgramTrace) (count : ℕ) (x : Option AtHand) → HasWork (Some b) k → HasWork (Some b) (absorbs count x k)
+absorbs-work : (b : ActiveProgram) (k : ProgramTrace) (count : ℕ) (x : Option CurrentCommand) → HasWork (Some b) k → HasWork (Some b) (absorbs count x k)
 absorbs-work b k count None w = w
 absorbs-work b k count (Some x) w = by x.given
   where
@@ -149,7 +149,7 @@ absorbs-work b k count (Some x) w = by x.given
     by None = w
     by (Some bytes) = w
 
-report-if : (b : ActiveProgram) (k : ProgramTrace) (count : ℕ) (x : Option AtHand) (c : Bool) → HasWork (Some b) k → HasWork (Some b) (if c then absorbs count x k else k)
+report-if : (b : ActiveProgram) (k : ProgramTrace) (count : ℕ) (x : Option CurrentCommand) (c : Bool) → HasWork (Some b) k → HasWork (Some b) (if c then absorbs count x k else k)
 report-if b k count x true w = absorbs-work b k count x w
 report-if b k count x false w = w
 

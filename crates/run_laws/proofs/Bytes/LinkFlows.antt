@@ -12,9 +12,9 @@ use Rattle.chan_model.specs.declared.signal.Up.TheVariants as up
 use Rattle.chan_model.specs.Signals.{Down, Up}
 use Rattle.chan_model.specs.declared.signal.Down.TheVariants as down
 use Rattle.chan_model.specs.declared.signal.OnPath.{OnPath}
-use Rattle.chan_model.specs.declared.unit_state.AtHand.{AtHand}
+use Rattle.chan_model.specs.declared.unit_state.CurrentCommand.{CurrentCommand}
 use Rattle.chan_model.specs.declared.unit_state.Own.{Own}
-use Rattle.chan_model.specs.declared.unit_state.Place.TheVariants.{On}
+use Rattle.chan_model.specs.declared.unit_state.Connection.TheVariants.{On}
 use Rattle.chan_model.specs.declared.unit_state.UnitState.{UnitState}
 use Rattle.chan_model.specs.Sides.{same_side}
 use Rattle.chan_model.specs.UnitTable.{UnitStep, came_of, is_owner, unit_takes, unit_after}
@@ -270,7 +270,7 @@ down-flows may sub path u k h l a =
     (Err fault.NoSuchPath) (down_front-flows may sub path u (slice_get (queue sub.wires.down path) 0) k refl h l a) tt
 
 -- Report
-none-told : (u : UnitState) (p t c : ℕ) (x : AtHand) (a : DeviceAnswer) (y : UnitStep) (number m : ℕ) (E : Type 0) → IsTold u p t c x a y → IsOfCommand number m t u.last_command E →
+none-told : (u : UnitState) (p t c : ℕ) (x : CurrentCommand) (a : DeviceAnswer) (y : UnitStep) (number m : ℕ) (E : Type 0) → IsTold u p t c x a y → IsOfCommand number m t u.last_command E →
     IfSome y.sent (λ z. IsTelling number m AnyData E z.signal)
 none-told u p t c x _ _ number m E (Begins_in o n) f = tt
 none-told u p t c x _ _ number m E (Tells_again l e w) f = (f.0, λ e. ((f.1 e).0, λ i. tt))

@@ -10,7 +10,7 @@ use Rattle.chan_events.specs.declared.reply.Reply.TheVariants as reply
 use Rattle.chan_model.specs.Signals.{Down, Load, Up}
 use Rattle.chan_model.specs.declared.signal.Down.TheVariants as down
 use Rattle.chan_model.specs.declared.signal.OnPath.{OnPath}
-use Rattle.chan_model.specs.declared.unit_state.AtHand.{AtHand}
+use Rattle.chan_model.specs.declared.unit_state.CurrentCommand.{CurrentCommand}
 use Rattle.chan_model.specs.declared.unit_state.UnitState.{UnitState}
 use Rattle.chan_model.specs.UnitTable.{UnitStep, came_of, changes, new_command, side_of, is_owner, unit_takes, unit_after, telling}
 use Rattle.chan_model.specs.UnitReports.{is_outward}
@@ -41,12 +41,12 @@ abbrev pub AnyData : ℕ → Load → Type 0
 AnyData s l = Unit {0}
 
 -- a command that brings bytes in is given none
-abbrev pub HandPlain : Option AtHand → Type 0
+abbrev pub HandPlain : Option CurrentCommand → Type 0
 HandPlain None = Unit {0}
 HandPlain (Some x) = x.given ≡ None
 
 -- a command that takes bytes to the device is moved so far
-abbrev pub HandFlow : ℕ → View → Option ℕ → Option AtHand → Type 0
+abbrev pub HandFlow : ℕ → View → Option ℕ → Option CurrentCommand → Type 0
 HandFlow code v lead None = Unit {0}
 HandFlow code v lead (Some x) = (x.code ≡ code) × Hand v lead x
 
@@ -67,7 +67,7 @@ ModeOf side begun None downs ups u = IsWired side 0 0 HandClosed AnyGive AnyData
 ModeOf side begun (Some k) downs ups u = Mode side begun k downs ups u
 
 -- what is claimed of the command at hand fits what a signal does to it, and what is done as its program leaves its path
-pub record IsFit (P : Option AtHand → Type 0) (Q : ℕ → List ℕ → Type 0) : Type 0 where
+pub record IsFit (P : Option CurrentCommand → Type 0) (Q : ℕ → List ℕ → Type 0) : Type 0 where
   pub none : P None
   pub answered : StaysAnswered P
   pub gives : (s : ℕ) (bytes : List ℕ) → Q s bytes → TakesGive P s bytes
@@ -96,7 +96,7 @@ fit-flow code v lead = record {
 }
 
 pub mode-carried : (side : Side) (begun : Option ActiveProgram) (k : ProgramTrace) (downs downs' : List (List Down)) (ups ups' : List (List Up)) (u v : UnitState) →
-    ((P : Option AtHand → Type 0) (Q : ℕ → List ℕ → Type 0) (R : ℕ → Load → Type 0) → IsFit P Q → IsWired side k.number (length k.taken) P Q R downs ups u →
+    ((P : Option CurrentCommand → Type 0) (Q : ℕ → List ℕ → Type 0) (R : ℕ → Load → Type 0) → IsFit P Q → IsWired side k.number (length k.taken) P Q R downs ups u →
     IsWired side k.number (length k.taken) P Q R downs' ups' v) →
     Mode side begun k downs ups u → Mode side begun k downs' ups' v
 mode-carried side begun k downs downs' ups ups' u v f (Waits b e n s m a w) = Waits b e n s m a (f HandClosed AnyGive AnyData fit-closed w)
@@ -175,7 +175,7 @@ module _ (side : Side) (drawn : ℕ) (k : ProgramTrace) (downs : List (List Down
   abbrev next_story : ℕ → ProgramTrace
   next_story code = record k { taken = code ∷ k.taken; absorbed = [] }
 
-  taken-wires : (P : Option AtHand → Type 0) (Q : ℕ → List ℕ → Type 0) (R : ℕ → Load → Type 0) (code n room : ℕ) → P (Some (new_command code room)) →
+  taken-wires : (P : Option CurrentCommand → Type 0) (Q : ℕ → List ℕ → Type 0) (R : ℕ → Load → Type 0) (code n room : ℕ) → P (Some (new_command code room)) →
       IsWired side k.number (length k.taken) HandClosed AnyGive AnyData downs ups u →
       IsWired side k.number (length (code ∷ k.taken)) P Q R (taken downs path) ups (record u { last_command = n; at_hand = Some (new_command code room) })
   taken-wires P Q R code n room p w =

@@ -7,7 +7,7 @@ use Rattle.std.proofs.lemmas.List.Elements.{All-nil, All-push, All-weaker}
 use Rattle.std.proofs.lemmas.Grind.{flat_map-append}
 use Rattle.std.proofs.Math.Seq.{take-length}
 use Rattle.chan_model.specs.Signals.{Load}
-use Rattle.chan_model.specs.declared.unit_state.AtHand.{AtHand}
+use Rattle.chan_model.specs.declared.unit_state.CurrentCommand.{CurrentCommand}
 use Rattle.chan_model.specs.declared.unit_state.Progress.{Progress}
 use Rattle.chan_model.specs.declared.unit_state.Progress.TheVariants as progress
 use Rattle.chan_model.specs.Loads.{load_length}
@@ -55,7 +55,7 @@ IsStarted progress.New = ⊥
 IsStarted other = Unit {0}
 
 -- the command at hand
-pub data Hand (v : View) (lead : Option ℕ) (x : AtHand) : Type 0 where
+pub data Hand (v : View) (lead : Option ℕ) (x : CurrentCommand) : Type 0 where
   Level : x.sequence ≡ v.seq → x.given ≡ None → lead ≡ None → Hand v lead x
   Pending : x.sequence ≡ v.seq + 1 → x.unanswered ≡ None → lead ≡ None → ((bytes : List ℕ) → x.given ≡ Some bytes → IsGood v bytes) → Hand v lead x
   Ahead : x.sequence ≡ v.seq + 1 → x.given ≡ None → (j : ℕ) → lead ≡ Some j → ((l : Load) → x.unanswered ≡ Some l → load_length l ≡ j) → IsStarted x.progress → Hand v lead x
@@ -81,7 +81,7 @@ kept-good v [] bytes g e = absurd (cc e)
 kept-good v (b ∷ bs) bytes (inl z) e = absurd (cc z)
 kept-good v (b ∷ bs) bytes (inr g) e = let same : (b ∷ bs) ≡ bytes = cc e in subst (IsGood v) same g
 
-pub give-hand : (v : View) (lead : Option ℕ) (x : AtHand) (s : ℕ) (bytes : List ℕ) → Hand v lead x → IsGive v s bytes → s ≡ x.sequence + 1 → Hand v lead (with_given x s bytes)
+pub give-hand : (v : View) (lead : Option ℕ) (x : CurrentCommand) (s : ℕ) (bytes : List ℕ) → Hand v lead x → IsGive v s bytes → s ≡ x.sequence + 1 → Hand v lead (with_given x s bytes)
 give-hand v lead x s bytes (Level q g l) k e =
     let at : s ≡ v.seq + 1 = e ∙ ap (λ (n : ℕ). n + 1) q in
     Pending at refl l (λ bs h. kept-good v bytes bs (k.1 at) h)
@@ -89,13 +89,13 @@ give-hand v lead x s bytes (Pending q a l p) k e = absurd (omega (arith, k.0, e,
 give-hand v lead x s bytes (Ahead q g j l a b) k e = absurd (omega (arith, k.0, e, q))
 
 -- Took
-pub answer-hand : (v : View) (lead : Option ℕ) (x : AtHand) (l : Load) (room : ℕ) → Hand v lead x → Hand v lead (at_hand_answered x l room)
+pub answer-hand : (v : View) (lead : Option ℕ) (x : CurrentCommand) (l : Load) (room : ℕ) → Hand v lead x → Hand v lead (at_hand_answered x l room)
 answer-hand v lead x l room (Level q g m) = Level q g m
 answer-hand v lead x l room (Pending q a m p) = Pending q refl m p
 answer-hand v lead x l room (Ahead q g j m a b) = Ahead q g j m (λ y e. absurd (cc e)) b
 
 -- Leave: what is not answered is to be sent again
-pub again-hand : (v : View) (lead : Option ℕ) (x : AtHand) (again : Bool) → Hand v lead x → Hand v lead (record x { again = again })
+pub again-hand : (v : View) (lead : Option ℕ) (x : CurrentCommand) (again : Bool) → Hand v lead x → Hand v lead (record x { again = again })
 again-hand v lead x again (Level q g m) = Level q g m
 again-hand v lead x again (Pending q a m p) = Pending q a m p
 again-hand v lead x again (Ahead q g j m a b) = Ahead q g j m a b
@@ -139,7 +139,7 @@ pub none-data : (v : View) (lead : Option ℕ) (j : ℕ) (s : ℕ) (x : Load) �
 none-data v lead j s x e k = (k.0, λ h. absurd (cc (sym e ∙ k.1 h)))
 
 -- the subsystem is answered
-pub answered-hand : (v w : View) (j : ℕ) (x : AtHand) → w.seq ≡ v.seq + 1 → Hand v (Some j) x → Hand w None x
+pub answered-hand : (v w : View) (j : ℕ) (x : CurrentCommand) → w.seq ≡ v.seq + 1 → Hand v (Some j) x → Hand w None x
 answered-hand v w j x e (Level q g l) = absurd (cc l)
 answered-hand v w j x e (Pending q a l p) = absurd (cc l)
 answered-hand v w j x e (Ahead q g i l a b) = Level (q ∙ sym e) g refl
@@ -184,7 +184,7 @@ located-give v w s bytes l k = (
 pub located-data : (v w : View) (lead : Option ℕ) (s : ℕ) (x : Load) → IsLocated v w → IsData v lead s x → IsData w lead s x
 located-data v w lead s x l k = (subst (λ (n : ℕ). s ≤ n + 1) (sym l.seq) k.0, λ e. k.1 (e ∙ ap (λ (n : ℕ). n + 1) l.seq))
 
-pub located-hand : (v w : View) (lead : Option ℕ) (x : AtHand) → IsLocated v w → Hand v lead x → Hand w lead x
+pub located-hand : (v w : View) (lead : Option ℕ) (x : CurrentCommand) → IsLocated v w → Hand v lead x → Hand w lead x
 located-hand v w lead x l (Level q g m) = Level (q ∙ sym l.seq) g m
 located-hand v w lead x l (Pending q a m p) = Pending (q ∙ ap (λ (n : ℕ). n + 1) (sym l.seq)) a m (λ bytes e. located-good v w bytes l (p bytes e))
 located-hand v w lead x l (Ahead q g j m a b) = Ahead (q ∙ ap (λ (n : ℕ). n + 1) (sym l.seq)) g j m a b

@@ -12,7 +12,7 @@ use Rattle.chan_events.specs.declared.reply.Reply.TheVariants as reply
 use Rattle.chan_model.specs.Signals.{Down, Up}
 use Rattle.chan_model.specs.declared.signal.Down.TheVariants as down
 use Rattle.chan_model.specs.declared.signal.OnPath.{OnPath}
-use Rattle.chan_model.specs.declared.unit_state.AtHand.{AtHand}
+use Rattle.chan_model.specs.declared.unit_state.CurrentCommand.{CurrentCommand}
 use Rattle.chan_model.specs.declared.unit_state.UnitState.{UnitState}
 use Rattle.chan_model.specs.HoldTable.{is_on}
 use Rattle.chan_model.specs.Sides.{same_side}
@@ -314,7 +314,7 @@ pub gentle-linked : (side : Side) (drawn : ℕ) (wires : List (List Down)) (k : 
 gentle-linked side drawn wires k u v g l = ordered-gentle side drawn (number_of k) (sent_of k) (all_codes k) (took_of k) wires u v g l
 
 -- Report
-absorbs-same : (side : Side) (drawn : ℕ) (wires : List (List Down)) (v : UnitState) (k : ProgramTrace) (count : ℕ) (x : Option AtHand) → IsLinked side drawn wires (Some k) v →
+absorbs-same : (side : Side) (drawn : ℕ) (wires : List (List Down)) (v : UnitState) (k : ProgramTrace) (count : ℕ) (x : Option CurrentCommand) → IsLinked side drawn wires (Some k) v →
     IsLinked side drawn wires (Some (absorbs count x k)) v
 absorbs-same side drawn wires v k count None l = l
 absorbs-same side drawn wires v k count (Some x) l = by x.given

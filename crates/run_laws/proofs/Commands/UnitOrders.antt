@@ -11,11 +11,11 @@ use Rattle.chan_model.specs.Signals.{Down}
 use Rattle.chan_model.specs.declared.signal.Down.TheVariants as down
 use Rattle.chan_model.specs.declared.signal.OnPath.{OnPath}
 use Rattle.chan_model.specs.declared.signal.Up.TheVariants as up
-use Rattle.chan_model.specs.declared.unit_state.AtHand.{AtHand}
+use Rattle.chan_model.specs.declared.unit_state.CurrentCommand.{CurrentCommand}
 use Rattle.chan_model.specs.declared.unit_state.Own.{Own}
 use Rattle.chan_model.specs.declared.unit_state.Own.TheVariants as own
-use Rattle.chan_model.specs.declared.unit_state.Place.{Place}
-use Rattle.chan_model.specs.declared.unit_state.Place.TheVariants.{On}
+use Rattle.chan_model.specs.declared.unit_state.Connection.{Connection}
+use Rattle.chan_model.specs.declared.unit_state.Connection.TheVariants.{On}
 use Rattle.chan_model.specs.declared.unit_state.SideState.{SideState}
 use Rattle.chan_model.specs.declared.unit_state.UnitState.{UnitState}
 use Rattle.chan_model.specs.Sides.{same_side}
@@ -198,7 +198,7 @@ ordered-still side drawn number sent codes took wires u v s k =
     record { later = k.later; order = k.order; most = k.most; downs = k.downs; kept = numbered-still side drawn number took u v s k.kept }
 
 -- Select
-same-owner : (side : Side) (t n : ℕ) (place : Place) → is_owner (own.Owned side t place) side n ≡ true → n ≡ t
+same-owner : (side : Side) (t n : ℕ) (place : Connection) → is_owner (own.Owned side t place) side n ≡ true → n ≡ t
 same-owner First t n place e = eqb-true n t e
 same-owner Second t n place e = eqb-true n t e
 
@@ -271,7 +271,7 @@ takes-next codes took n code o k e =
     (k.later, k.list ∙ ap (λ xs. k.later ++ (code ∷ xs)) same)
 
 -- the unit's state with the next command
-abbrev pub next_commanded : UnitState → ℕ → Option AtHand → UnitState
+abbrev pub next_commanded : UnitState → ℕ → Option CurrentCommand → UnitState
 next_commanded u n x = record u { last_command = n; at_hand = x }
 
 pub one-number : (o : Own) (side : Side) (t n : ℕ) → is_owner o side t ≡ true → is_owner o side n ≡ true → t ≡ n
@@ -281,7 +281,7 @@ one-number (own.Owned k v place) side t n e f =
     let b : (n == v) ≡ true = (and_parts (same_side k side) (n == v) f).1 in
     eqb-true t v a ∙ sym (eqb-true n v b)
 
-commanded-here : (side : Side) (drawn number sent : ℕ) (codes took : List ℕ) (wires : List (List Down)) (u : UnitState) (t n code : ℕ) (x : Option AtHand) (same : Bool) →
+commanded-here : (side : Side) (drawn number sent : ℕ) (codes took : List ℕ) (wires : List (List Down)) (u : UnitState) (t n code : ℕ) (x : Option CurrentCommand) (same : Bool) →
     (t == number) ≡ same → is_owner u.own side t ≡ true → n ≡ u.last_command + 1 → IsCommanded number sent codes t n code →
     IsOrdered side drawn number sent codes took wires u → IsOrdered side drawn number sent codes (if same then code ∷ took else took) wires (next_commanded u n x)
 commanded-here side drawn number sent codes took wires u t n code x true e o m h k =
@@ -331,7 +331,7 @@ took_after number false d took = took
 abbrev pub IsTaken : Side → ℕ → ℕ → ℕ → List ℕ → List ℕ → List (List Down) → UnitState → Down → Option UnitStep → Type 0
 IsTaken side drawn number sent codes took wires u d step = IsOrdered side drawn number sent codes (took_after number (silent (came_of step)) d took) wires (unit_after u step)
 
-commanded-if : (side : Side) (drawn number sent : ℕ) (codes took : List ℕ) (wires : List (List Down)) (u : UnitState) (t n code room : ℕ) (x : Option AtHand) (owner next : Bool) →
+commanded-if : (side : Side) (drawn number sent : ℕ) (codes took : List ℕ) (wires : List (List Down)) (u : UnitState) (t n code room : ℕ) (x : Option CurrentCommand) (owner next : Bool) →
     is_owner u.own side t ≡ owner → (n == u.last_command + 1) ≡ next → IsCommanded number sent codes t n code → IsOrdered side drawn number sent codes took wires u →
     IsTaken side drawn number sent codes took wires u (down.Command t n code room) (if owner && next then changes (next_commanded u n x) else None)
 commanded-if side drawn number sent codes took wires u t n code room x true true o e h k =

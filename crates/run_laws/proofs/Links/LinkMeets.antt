@@ -14,7 +14,7 @@ use Rattle.chan_model.specs.Signals.{Down, Load, Up, load_bytes}
 use Rattle.chan_model.specs.declared.signal.Down.TheVariants as down
 use Rattle.chan_model.specs.declared.signal.OnPath.{OnPath}
 use Rattle.chan_model.specs.declared.signal.Up.TheVariants as up
-use Rattle.chan_model.specs.declared.unit_state.AtHand.{AtHand}
+use Rattle.chan_model.specs.declared.unit_state.CurrentCommand.{CurrentCommand}
 use Rattle.chan_model.specs.declared.unit_state.UnitState.{UnitState}
 use Rattle.chan_model.specs.HoldTable as hold_table
 use Rattle.chan_model.specs.HoldTable.{HoldStep, hold_after, came_of, is_connected, is_on, letting_go, left, asked_back, found_busy, released, reset_cleared, attended}
@@ -107,7 +107,7 @@ module _ (laws : AreLaws) (accesses : AreAccesses) (storage : Contents) (side : 
   abbrev Closed : List (List Down) → List (List Up) → Type 0
   Closed d x = IsWired side k.number m HandClosed AnyGive AnyData d x u
 
-  closed-holds : (P : Option AtHand → Type 0) (Q : ℕ → List ℕ → Type 0) (R : ℕ → Load → Type 0) (one : Option (OnPath Down)) → IsClosed side k.number u → IfSome one (λ d. IsGiving k.number m AnyGive d.signal) →
+  closed-holds : (P : Option CurrentCommand → Type 0) (Q : ℕ → List ℕ → Type 0) (R : ℕ → Load → Type 0) (one : Option (OnPath Down)) → IsClosed side k.number u → IfSome one (λ d. IsGiving k.number m AnyGive d.signal) →
       IsWired side k.number m P Q R downs ups u → Closed (with_any_sent downs one) (taken ups path)
   closed-holds P Q R one c h w =
       let n : IsWired side k.number m (λ h. Unit {0}) AnyGive AnyData (with_any_sent downs one) (taken ups path) u =
@@ -212,7 +212,7 @@ module _ (laws : AreLaws) (accesses : AreAccesses) (storage : Contents) (side : 
   abbrev with_now : CommandTrace → ProgramTrace
   with_now now = record k { now = now }
 
-  now-wires : (P W : Option AtHand → Type 0) (Q X : ℕ → List ℕ → Type 0) (R Y : ℕ → Load → Type 0) (one : Option (OnPath Down)) → ((h : Option AtHand) → P h → W h) → ((i : ℕ) (bytes : List ℕ) → Q i bytes → X i bytes) → ((i : ℕ) (l : Load) → R i l → Y i l) →
+  now-wires : (P W : Option CurrentCommand → Type 0) (Q X : ℕ → List ℕ → Type 0) (R Y : ℕ → Load → Type 0) (one : Option (OnPath Down)) → ((h : Option CurrentCommand) → P h → W h) → ((i : ℕ) (bytes : List ℕ) → Q i bytes → X i bytes) → ((i : ℕ) (l : Load) → R i l → Y i l) →
       IfSome one (λ d. IsGiving k.number m X d.signal) → IsWired side k.number m P Q R downs ups u → IsWired side k.number m W X Y (with_any_sent downs one) (taken ups path) u
   now-wires P W Q X R Y one f g h d w = wired-holds side k.number m P W Q X R Y downs ups u one path f g h d w
 
@@ -233,7 +233,7 @@ module _ (laws : AreLaws) (accesses : AreAccesses) (storage : Contents) (side : 
       IsGiving k.number m (IsGive w) (down.Give bytes t c n (seq + 1))
   given-signal w t c n seq bytes z l q g = (omega (arith, z), λ e. (l, λ i. (omega (arith, q), λ j. g)))
 
-  same-hand : (c d : ℕ) (v w : View) (lead after : Option ℕ) → d ≡ c → ((x : AtHand) → flows.Hand v lead x → flows.Hand w after x) → (h : Option AtHand) → HandFlow c v lead h → HandFlow d w after h
+  same-hand : (c d : ℕ) (v w : View) (lead after : Option ℕ) → d ≡ c → ((x : CurrentCommand) → flows.Hand v lead x → flows.Hand w after x) → (h : Option CurrentCommand) → HandFlow c v lead h → HandFlow d w after h
   same-hand c d v w lead after e f None r = tt
   same-hand c d v w lead after e f (Some x) r = (r.0 ∙ sym e, f x r.1)
 
@@ -293,7 +293,7 @@ module _ (laws : AreLaws) (accesses : AreAccesses) (storage : Contents) (side : 
 
   -- by the direction
   moves-goes : (b : ActiveProgram) (signal : DataSignal) (l : Load) → s.begun ≡ Some b → signal.number ≡ k.number → signal.command ≡ b.transfer.command → (signal.sequence ≡ b.transfer.sequence) ⊎ (signal.sequence ≡ b.transfer.sequence + 1) →
-      ((P : Option AtHand → Type 0) (Q : ℕ → List ℕ → Type 0) (R : ℕ → Load → Type 0) → IsWired side k.number m P Q R downs ups u → Front R (up.Data l signal.number signal.connection signal.command signal.sequence)) →
+      ((P : Option CurrentCommand → Type 0) (Q : ℕ → List ℕ → Type 0) (R : ℕ → Load → Type 0) → IsWired side k.number m P Q R downs ups u → Front R (up.Data l signal.number signal.connection signal.command signal.sequence)) →
       Goes (on_data.moves_bytes storage s b signal l).step (stories.moves storage b.transfer signal.sequence l k)
   moves-goes b signal l e z i at f = by mode
     where
@@ -320,7 +320,7 @@ module _ (laws : AreLaws) (accesses : AreAccesses) (storage : Contents) (side : 
           (if x then with_now (gives storage b.transfer signal.sequence (load_length l) k.now) else with_now (takes_in storage b.transfer signal.sequence (load_bytes l) k.now))) (sym out)
           (writes-goes b signal l lead e z r.0 g out at (r.1 (r.2 ∙ sym g)) y' w')
 
-  module _ (signal : DataSignal) (l : Load) (front : (P : Option AtHand → Type 0) (Q : ℕ → List ℕ → Type 0) (R : ℕ → Load → Type 0) → IsWired side k.number m P Q R downs ups u → Front R (up.Data l signal.number signal.connection signal.command signal.sequence)) where
+  module _ (signal : DataSignal) (l : Load) (front : (P : Option CurrentCommand → Type 0) (Q : ℕ → List ℕ → Type 0) (R : ℕ → Load → Type 0) → IsWired side k.number m P Q R downs ups u → Front R (up.Data l signal.number signal.connection signal.command signal.sequence)) where
     answers-goes : (begun : Option ActiveProgram) → s.begun ≡ begun → signal.number ≡ k.number → Goes (on_data.moves_data storage s begun signal l).step (stories.answers storage begun signal.command signal.sequence l k)
     answers-goes None e z = quiet s.begun None refl tt
     answers-goes (Some b) e z = by (is_answered b.transfer signal.command signal.sequence) refl
@@ -353,7 +353,7 @@ module _ (laws : AreLaws) (accesses : AreAccesses) (storage : Contents) (side : 
       absurd (omega (arith, l.count, l.at, z))
 
   is-over : (b : ActiveProgram) (t n : ℕ) (status : DeviceStatus) (more : Bool) → s.begun ≡ Some b → t ≡ k.number → n ≡ b.transfer.command →
-      ((P : Option AtHand → Type 0) (Q : ℕ → List ℕ → Type 0) (R : ℕ → Load → Type 0) → IsWired side k.number m P Q R downs ups u → Front R (up.End t n status more)) → IsOver b
+      ((P : Option CurrentCommand → Type 0) (Q : ℕ → List ℕ → Type 0) (R : ℕ → Load → Type 0) → IsWired side k.number m P Q R downs ups u → Front R (up.End t n status more)) → IsOver b
   is-over b t n status more e z i f = by mode
     where
       at : n ≡ k.sent
@@ -463,7 +463,7 @@ module _ (laws : AreLaws) (accesses : AreAccesses) (storage : Contents) (side : 
           (marked b (has_shown b) x.begun None e (end-begun b signal false l) (record { code = refl; command = refl; sequence = refl; moving = refl }) tt)
 
   module _ (signal : EndSignal)
-      (front : (P : Option AtHand → Type 0) (Q : ℕ → List ℕ → Type 0) (R : ℕ → Load → Type 0) → IsWired side k.number m P Q R downs ups u → Front R (up.End signal.number signal.command signal.status signal.more)) where
+      (front : (P : Option CurrentCommand → Type 0) (Q : ℕ → List ℕ → Type 0) (R : ℕ → Load → Type 0) → IsWired side k.number m P Q R downs ups u → Front R (up.End signal.number signal.command signal.status signal.more)) where
     ended-goes : (begun : Option ActiveProgram) → s.begun ≡ begun → signal.number ≡ k.number → Goes (on_end.ends_at_work storage s begun signal) (stories.trace_ends storage s begun signal.command signal.status signal.more k)
     ended-goes None e z = quiet s.begun None refl tt
     ended-goes (Some b) e z = by (signal.command == b.transfer.command) refl
@@ -487,7 +487,7 @@ module _ (laws : AreLaws) (accesses : AreAccesses) (storage : Contents) (side : 
       quiet (on_cleared.clear_performed (record s { hold = step.state })).begun (came_of (Some step)).sent (clear-begun (record s { hold = step.state })) h
 
   -- any signal
-  pub mode-meets : (returns : Bool) → (x : Up) → ((P : Option AtHand → Type 0) (Q : ℕ → List ℕ → Type 0) (R : ℕ → Load → Type 0) → IsWired side k.number m P Q R downs ups u → Front R x) → IsNoNotice x →
+  pub mode-meets : (returns : Bool) → (x : Up) → ((P : Option CurrentCommand → Type 0) (Q : ℕ → List ℕ → Type 0) (R : ℕ → Load → Type 0) → IsWired side k.number m P Q R downs ups u → Front R x) → IsNoNotice x →
       Goes (takes_up returns storage s path x).step (trace_meets storage s path x k)
   mode-meets returns (up.Accept t) f other = accepts-goes s.hold s.hold.phase t (takes_device s) held.phase
   mode-meets returns (up.Data l t c n seq) f other = data-goes (record { path = path; number = t; connection = c; command = n; sequence = seq }) l f

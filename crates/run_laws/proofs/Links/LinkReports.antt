@@ -11,10 +11,10 @@ use Rattle.chan_model.specs.declared.report.DeviceAnswer.TheVariants as answer
 use Rattle.chan_model.specs.Signals.{Down, Load, Up}
 use Rattle.chan_model.specs.declared.signal.Load.TheVariants as load
 use Rattle.chan_model.specs.declared.signal.Up.TheVariants as up
-use Rattle.chan_model.specs.declared.unit_state.AtHand.{AtHand}
+use Rattle.chan_model.specs.declared.unit_state.CurrentCommand.{CurrentCommand}
 use Rattle.chan_model.specs.declared.unit_state.Own.{Own}
 use Rattle.chan_model.specs.declared.unit_state.Own.TheVariants as own
-use Rattle.chan_model.specs.declared.unit_state.Place.TheVariants.{On}
+use Rattle.chan_model.specs.declared.unit_state.Connection.TheVariants.{On}
 use Rattle.chan_model.specs.declared.unit_state.Progress.{Progress}
 use Rattle.chan_model.specs.declared.unit_state.Progress.TheVariants as progress
 use Rattle.chan_model.specs.declared.unit_state.UnitState.{UnitState}
@@ -54,7 +54,7 @@ not-new p e h = subst IsEnded e h
 not-working : (p : Progress) → p ≡ progress.Working → IsEnded p → ⊥
 not-working p e h = subst IsEnded e h
 
-pub told-closed : (u : UnitState) (p t c : ℕ) (x : AtHand) (a : DeviceAnswer) (y : UnitStep) → IsTold u p t c x a y → IsEnded x.progress → HandClosed y.state.at_hand
+pub told-closed : (u : UnitState) (p t c : ℕ) (x : CurrentCommand) (a : DeviceAnswer) (y : UnitStep) → IsTold u p t c x a y → IsEnded x.progress → HandClosed y.state.at_hand
 told-closed u p t c x _ _ (Begins_out n) h = absurd (not-new x.progress n h)
 told-closed u p t c x _ _ (Begins_in o n) h = absurd (not-new x.progress n h)
 told-closed u p t c x _ _ (Absorbs bytes count w g l) h = absurd (not-working x.progress w h)
@@ -63,13 +63,13 @@ told-closed u p t c x _ _ (Tells_again l e w) h = absurd (not-working x.progress
 told-closed u p t c x _ _ (Ends given shown more) h = ended-after shown
 
 -- the report is of another number
-module _ (u : UnitState) (p t c : ℕ) (x : AtHand) (number m : ℕ) (R : ℕ → Load → Type 0) (E : Type 0) (le : t ≤ number) (other : t ≡ number → ⊥) where
+module _ (u : UnitState) (p t c : ℕ) (x : CurrentCommand) (number m : ℕ) (R : ℕ → Load → Type 0) (E : Type 0) (le : t ≤ number) (other : t ≡ number → ⊥) where
   told-other : (a : DeviceAnswer) (y : UnitStep) → IsTold u p t c x a y → IfSome y.sent (λ z. IsTelling number m R E z.signal)
   told-other _ _ (Begins_in o n) = tt
   told-other _ _ (Tells_again l e w) = (le, λ e. absurd (other e))
   told-other _ _ x = (le, λ e. absurd (other e))
 
-pub told-own : (u : UnitState) (p t c : ℕ) (x : AtHand) (a : DeviceAnswer) (y : UnitStep) → IsTold u p t c x a y → y.state.own ≡ u.own
+pub told-own : (u : UnitState) (p t c : ℕ) (x : CurrentCommand) (a : DeviceAnswer) (y : UnitStep) → IsTold u p t c x a y → y.state.own ≡ u.own
 told-own u p t c x _ _ (Begins_out n) = refl
 told-own u p t c x _ _ other = refl
 
@@ -78,17 +78,17 @@ reported-other : (u : UnitState) (report : Report) (a : DeviceAnswer) (k : Progr
 reported-other u report (answer.Absorbed count) k e = ap (λ (b : Bool). if b then absorbs count u.at_hand k else k) e
 reported-other u report other k e = refl
 
-absorbed-here : (u : UnitState) (report : Report) (count : ℕ) (k : ProgramTrace) (x : AtHand) (bytes : List ℕ) → (report.number == k.number) ≡ true → u.at_hand ≡ Some x → x.given ≡ Some bytes →
+absorbed-here : (u : UnitState) (report : Report) (count : ℕ) (k : ProgramTrace) (x : CurrentCommand) (bytes : List ℕ) → (report.number == k.number) ≡ true → u.at_hand ≡ Some x → x.given ≡ Some bytes →
     reported u report (answer.Absorbed count) k ≡ record k { absorbed = k.absorbed ++ take count bytes }
 absorbed-here u report count k x bytes e h g =
-    ap (λ (b : Bool). if b then absorbs count u.at_hand k else k) e ∙ ap (λ (z : Option AtHand). absorbs count z k) h
+    ap (λ (b : Bool). if b then absorbs count u.at_hand k else k) e ∙ ap (λ (z : Option CurrentCommand). absorbs count z k) h
     ∙ ap (λ (z : Option (List ℕ)). absorbs count (Some (record x { given = z })) k) g
 
 some-none : (o : Option (List ℕ)) (bytes : List ℕ) → o ≡ Some bytes → o ≡ None → ⊥
 some-none o bytes e f = absurd (cc (sym e ∙ f))
 
 -- at the unit, of the side's program
-module _ (side : Side) (begun : Option ActiveProgram) (k : ProgramTrace) (downs : List (List Down)) (ups : List (List Up)) (u : UnitState) (p c : ℕ) (x : AtHand)
+module _ (side : Side) (begun : Option ActiveProgram) (k : ProgramTrace) (downs : List (List Down)) (ups : List (List Up)) (u : UnitState) (p c : ℕ) (x : CurrentCommand)
     (report : Report) (same : (report.number == k.number) ≡ true) (owner : is_owner u.own side k.number ≡ true) (hand : u.at_hand ≡ Some x) (last : u.last_command ≡ length k.taken) where
   abbrev m : ℕ
   m = length k.taken

@@ -6,7 +6,7 @@ use Rattle.chan_model.specs.Signals.{Down, Load, Up}
 use Rattle.chan_model.specs.declared.signal.Down.TheVariants as down
 use Rattle.chan_model.specs.declared.signal.OnPath.{OnPath}
 use Rattle.chan_model.specs.declared.signal.Up.TheVariants as up
-use Rattle.chan_model.specs.declared.unit_state.AtHand.{AtHand}
+use Rattle.chan_model.specs.declared.unit_state.CurrentCommand.{CurrentCommand}
 use Rattle.chan_model.specs.declared.unit_state.Progress.{Progress}
 use Rattle.chan_model.specs.declared.unit_state.Progress.TheVariants as progress
 use Rattle.chan_model.specs.declared.unit_state.UnitState.{UnitState}
@@ -26,7 +26,7 @@ IsEnded progress.Working = ⊥
 IsEnded progress.ChannelEnded = Unit {0}
 IsEnded progress.Ended = Unit {0}
 
-abbrev pub HandClosed : Option AtHand → Type 0
+abbrev pub HandClosed : Option CurrentCommand → Type 0
 HandClosed None = Unit {0}
 HandClosed (Some x) = IsEnded x.progress
 
@@ -46,7 +46,7 @@ IsTelling number m R E (up.Data l t c n s) = IsOfCommand number m t n (R s l)
 IsTelling number m R E (up.End t n status more) = IsOfCommand number m t n E
 IsTelling number m R E x = Unit {0}
 
-pub record IsWired (side : Side) (number m : ℕ) (P : Option AtHand → Type 0) (Q : ℕ → List ℕ → Type 0) (R : ℕ → Load → Type 0) (down_wires : List (List Down)) (up_wires : List (List Up)) (u : UnitState) : Type 0 where
+pub record IsWired (side : Side) (number m : ℕ) (P : Option CurrentCommand → Type 0) (Q : ℕ → List ℕ → Type 0) (R : ℕ → Load → Type 0) (down_wires : List (List Down)) (up_wires : List (List Up)) (u : UnitState) : Type 0 where
   pub hand : IsHeld side number P u
   pub gives : AreOn (IsGiving number m Q) down_wires
   pub tells : AreOn (IsTelling number m R (IsClosed side number u)) up_wires
@@ -76,8 +76,8 @@ next-program : (number after m i t n : ℕ) (A B : Type 0) → number < after �
 next-program number after m i t n A B l h = (omega (arith, h.0, l), λ e. absurd (omega (arith, h.0, l, e)))
 
 -- the subsystem does something: its claims change
-pub wired-holds : (side : Side) (number m : ℕ) (P W : Option AtHand → Type 0) (Q X : ℕ → List ℕ → Type 0) (R Y : ℕ → Load → Type 0) (downs : List (List Down)) (ups : List (List Up)) (u : UnitState)
-    (one : Option (OnPath Down)) (path : ℕ) → ((h : Option AtHand) → P h → W h) → ((s : ℕ) (bytes : List ℕ) → Q s bytes → X s bytes) → ((s : ℕ) (l : Load) → R s l → Y s l) →
+pub wired-holds : (side : Side) (number m : ℕ) (P W : Option CurrentCommand → Type 0) (Q X : ℕ → List ℕ → Type 0) (R Y : ℕ → Load → Type 0) (downs : List (List Down)) (ups : List (List Up)) (u : UnitState)
+    (one : Option (OnPath Down)) (path : ℕ) → ((h : Option CurrentCommand) → P h → W h) → ((s : ℕ) (bytes : List ℕ) → Q s bytes → X s bytes) → ((s : ℕ) (l : Load) → R s l → Y s l) →
     IfSome one (λ d. IsGiving number m X d.signal) → IsWired side number m P Q R downs ups u → IsWired side number m W X Y (with_any_sent downs one) (taken ups path) u
 wired-holds side number m P W Q X R Y downs ups u one path f g h s k = record {
   hand = λ o. f u.at_hand (k.hand o);
@@ -90,12 +90,12 @@ wired-holds side number m P W Q X R Y downs ups u one path f g h s k = record {
 }
 
 -- the subsystem sends something of itself
-pub wired-sends : (side : Side) (number m : ℕ) (P : Option AtHand → Type 0) (Q : ℕ → List ℕ → Type 0) (R : ℕ → Load → Type 0) (downs : List (List Down)) (ups : List (List Up)) (u : UnitState)
+pub wired-sends : (side : Side) (number m : ℕ) (P : Option CurrentCommand → Type 0) (Q : ℕ → List ℕ → Type 0) (R : ℕ → Load → Type 0) (downs : List (List Down)) (ups : List (List Up)) (u : UnitState)
     (one : Option (OnPath Down)) → IfSome one (λ d. IsGiving number m Q d.signal) → IsWired side number m P Q R downs ups u → IsWired side number m P Q R (with_any_sent downs one) ups u
 wired-sends side number m P Q R downs ups u one s k = record { hand = k.hand; gives = on-sent (IsGiving number m Q) downs one k.gives s; tells = k.tells }
 
 -- a greater number is drawn
-pub wired-offers : (side : Side) (drawn number after m : ℕ) (took : List ℕ) (P W : Option AtHand → Type 0) (Q X : ℕ → List ℕ → Type 0) (R Y : ℕ → Load → Type 0) (downs : List (List Down)) (ups : List (List Up))
+pub wired-offers : (side : Side) (drawn number after m : ℕ) (took : List ℕ) (P W : Option CurrentCommand → Type 0) (Q X : ℕ → List ℕ → Type 0) (R Y : ℕ → Load → Type 0) (downs : List (List Down)) (ups : List (List Up))
     (u : UnitState) (path : ℕ) → number ≤ drawn → drawn < after → IsNumbered side drawn number took u → IsWired side number m P Q R downs ups u →
     IsWired side after 0 W X Y (with_any_sent downs (Some (record { path = path; signal = down.Select after }))) ups u
 wired-offers side drawn number after m took P W Q X R Y downs ups u path le lt n k = record {
@@ -108,7 +108,7 @@ wired-offers side drawn number after m took P W Q X R Y downs ups u path le lt n
 }
 
 -- the unit is calm
-pub wired-calm : (side : Side) (number m : ℕ) (P : Option AtHand → Type 0) (Q : ℕ → List ℕ → Type 0) (R : ℕ → Load → Type 0) (downs : List (List Down)) (ups : List (List Up)) (u v : UnitState) →
+pub wired-calm : (side : Side) (number m : ℕ) (P : Option CurrentCommand → Type 0) (Q : ℕ → List ℕ → Type 0) (R : ℕ → Load → Type 0) (downs : List (List Down)) (ups : List (List Up)) (u v : UnitState) →
     IsCalm side u v → IsWired side number m P Q R downs ups u → IsWired side number m P Q R downs ups v
 wired-calm side number m P Q R downs ups u v c k = record {
   hand = calm-held side number P u v c k.hand;
@@ -133,7 +133,7 @@ pub closed-marked : StaysMarked HandClosed
 closed-marked None h = h
 closed-marked (Some x) h = h
 
-pub wired-gentle : (side : Side) (number m : ℕ) (P : Option AtHand → Type 0) (Q : ℕ → List ℕ → Type 0) (R : ℕ → Load → Type 0) (downs : List (List Down)) (ups : List (List Up)) (u v : UnitState)
+pub wired-gentle : (side : Side) (number m : ℕ) (P : Option CurrentCommand → Type 0) (Q : ℕ → List ℕ → Type 0) (R : ℕ → Load → Type 0) (downs : List (List Down)) (ups : List (List Up)) (u v : UnitState)
     (one : Option (OnPath Up)) → IsGentle side u v → StaysMarked P → IfSome one (λ x. IsQuiet x.signal) → IsWired side number m P Q R downs ups u →
     IsWired side number m P Q R downs (with_any_sent ups one) v
 wired-gentle side number m P Q R downs ups u v one g marked q k = record {
@@ -160,11 +160,11 @@ IsNoNext number d came = Unit {0}
 abbrev pub IsAnswered : (may : Bool) → Side → ℕ → UnitState → ℕ → Down → Type 0
 IsAnswered may side number u p d = IsNoNext number d (silent (came_of (unit_takes u side p d may)))
 
-easy-held : (may : Bool) → (side : Side) (number : ℕ) (P : Option AtHand → Type 0) (u : UnitState) (p : ℕ) (d : Down) → IsEasy d → IsHeld side number P u →
+easy-held : (may : Bool) → (side : Side) (number : ℕ) (P : Option CurrentCommand → Type 0) (u : UnitState) (p : ℕ) (d : Down) → IsEasy d → IsHeld side number P u →
     IsHeld side number P (unit_after u (unit_takes u side p d may))
 easy-held may side number P u p d m h = calm-held side number P u (unit_after u (unit_takes u side p d may)) (easy-calm may side u side p d m) h
 
-module _ (side : Side) (drawn number m sent : ℕ) (codes : List ℕ) (P : Option AtHand → Type 0) (Q : ℕ → List ℕ → Type 0) where
+module _ (side : Side) (drawn number m sent : ℕ) (codes : List ℕ) (P : Option CurrentCommand → Type 0) (Q : ℕ → List ℕ → Type 0) where
   down-held : (may : Bool) → (u : UnitState) (p : ℕ) (d : Down) → P None → StaysAnswered P → ((s : ℕ) (bytes : List ℕ) → Q s bytes → TakesGive P s bytes) →
       (is_owner u.own side number ≡ true → u.last_command ≡ m) → IsGiving number m Q d → IsDown drawn number sent codes d → IsAnswered may side number u p d → IsHeld side number P u →
       IsHeld side number P (unit_after u (unit_takes u side p d may))
@@ -174,7 +174,7 @@ module _ (side : Side) (drawn number m sent : ℕ) (codes : List ℕ) (P : Optio
   down-held may u p (down.Give bytes t c e s) z a g l q i n h = give-held may side number P u p t c e s bytes (λ j w o. g s bytes ((q.1 j).1 (w ∙ l o))) h
   down-held may u p d z a g l q i n h = easy-held may side number P u p d tt h
 
-pub wired-takes : (may : Bool) → (side : Side) (drawn number m sent : ℕ) (codes : List ℕ) (P : Option AtHand → Type 0) (Q : ℕ → List ℕ → Type 0) (R : ℕ → Load → Type 0) (downs : List (List Down)) (ups : List (List Up))
+pub wired-takes : (may : Bool) → (side : Side) (drawn number m sent : ℕ) (codes : List ℕ) (P : Option CurrentCommand → Type 0) (Q : ℕ → List ℕ → Type 0) (R : ℕ → Load → Type 0) (downs : List (List Down)) (ups : List (List Up))
     (u : UnitState) (path : ℕ) (d : Down) → slice_get (queue downs path) 0 ≡ Some d → IsDown drawn number sent codes d → P None → StaysAnswered P →
     ((s : ℕ) (bytes : List ℕ) → Q s bytes → TakesGive P s bytes) → (is_owner u.own side number ≡ true → u.last_command ≡ m) →
     IsAnswered may side number u path d → IsWired side number m P Q R downs ups u →
@@ -196,7 +196,7 @@ wired-takes may side drawn number m sent codes P Q R downs ups u path d e i z a 
     }
 
 -- the next Command of the program is taken
-pub wired-next : (side : Side) (number m : ℕ) (P W : Option AtHand → Type 0) (Q X : ℕ → List ℕ → Type 0) (R Y : ℕ → Load → Type 0) (downs : List (List Down)) (ups : List (List Up))
+pub wired-next : (side : Side) (number m : ℕ) (P W : Option CurrentCommand → Type 0) (Q X : ℕ → List ℕ → Type 0) (R Y : ℕ → Load → Type 0) (downs : List (List Down)) (ups : List (List Up))
     (u v : UnitState) (path : ℕ) → W v.at_hand → IsWired side number m P Q R downs ups u → IsWired side number (m + 1) W X Y (taken downs path) ups v
 wired-next side number m P W Q X R Y downs ups u v path w k = record {
   hand = λ o. w;
@@ -208,7 +208,7 @@ wired-next side number m P W Q X R Y downs ups u v path w k = record {
 }
 
 -- the unit tells of its command
-pub wired-tells : (side : Side) (number m : ℕ) (P W : Option AtHand → Type 0) (Q : ℕ → List ℕ → Type 0) (R Y : ℕ → Load → Type 0) (downs : List (List Down)) (ups : List (List Up))
+pub wired-tells : (side : Side) (number m : ℕ) (P W : Option CurrentCommand → Type 0) (Q : ℕ → List ℕ → Type 0) (R Y : ℕ → Load → Type 0) (downs : List (List Down)) (ups : List (List Up))
     (u v : UnitState) (one : Option (OnPath Up)) → IsHeld side number W v → ((s : ℕ) (l : Load) → R s l → Y s l) → (IsClosed side number u → IsClosed side number v) →
     IfSome one (λ x. IsTelling number m Y (IsClosed side number v) x.signal) → IsWired side number m P Q R downs ups u → IsWired side number m W Q Y downs (with_any_sent ups one) v
 wired-tells side number m P W Q R Y downs ups u v one w h c s k = record {
@@ -220,7 +220,7 @@ wired-tells side number m P W Q R Y downs ups u v one w h c s k = record {
       (λ t n. same-command number m t n (IsClosed side number u) (IsClosed side number v) c)) k.tells) s;
 }
 
-pub first-tells : (side : Side) (number m : ℕ) (P : Option AtHand → Type 0) (Q : ℕ → List ℕ → Type 0) (R : ℕ → Load → Type 0) (downs : List (List Down)) (ups : List (List Up)) (u : UnitState)
+pub first-tells : (side : Side) (number m : ℕ) (P : Option CurrentCommand → Type 0) (Q : ℕ → List ℕ → Type 0) (R : ℕ → Load → Type 0) (downs : List (List Down)) (ups : List (List Up)) (u : UnitState)
     (path : ℕ) (x : Up) → slice_get (queue ups path) 0 ≡ Some x → IsWired side number m P Q R downs ups u → IsTelling number m R (IsClosed side number u) x
 first-tells side number m P Q R downs ups u path x e k = on-first (IsTelling number m R (IsClosed side number u)) ups path x k.tells e
 

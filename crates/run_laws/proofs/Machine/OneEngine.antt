@@ -10,7 +10,7 @@ use Rattle.chan_events.specs.Replies.{Reply}
 use Rattle.chan_model.specs.declared.names.Side.{Side}
 use Rattle.chan_model.specs.declared.unit_state.Own.{Own}
 use Rattle.chan_model.specs.declared.unit_state.Own.TheVariants as own
-use Rattle.chan_model.specs.declared.unit_state.Place.{Place}
+use Rattle.chan_model.specs.declared.unit_state.Connection.{Connection}
 use Rattle.chan_model.specs.Agreement.{device_path}
 use Rattle.chan_model.specs.UnitTable.{path_of_place}
 use Rattle.chan_model.specs.ResetCauses.{engaged_path, is_path}
@@ -203,7 +203,7 @@ one-engine c d x e f =
     let same : k.path ≡ l.path = cc (sym k.engaged ∙ l.engaged) in
     cc (sym k.is ∙ ap (slice_get x.setup.paths) same ∙ l.is)
 
-placed-one : (k a b : Side) (at : Place) (p q : ℕ) (c d : Bool) → same_side k a ≡ c → same_side k b ≡ d → (if c then path_of_place at else None) ≡ Some p →
+placed-one : (k a b : Side) (at : Connection) (p q : ℕ) (c d : Bool) → same_side k a ≡ c → same_side k b ≡ d → (if c then path_of_place at else None) ≡ Some p →
     (if d then path_of_place at else None) ≡ Some q → (a ≡ b) × (p ≡ q)
 placed-one k a b at p q false d e f g h = absurd (cc g)
 placed-one k a b at p q true false e f g h = absurd (cc h)

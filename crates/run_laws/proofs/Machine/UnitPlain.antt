@@ -8,11 +8,11 @@ use Rattle.scsw_irb.specs.declared.status.DeviceStatus.{DeviceStatus}
 use Rattle.chan_model.specs.Reports.{DeviceAnswer, Report}
 use Rattle.chan_model.specs.declared.report.DeviceAnswer.TheVariants as answer
 use Rattle.chan_model.specs.Signals.{Down, Load}
-use Rattle.chan_model.specs.declared.unit_state.AtHand.{AtHand}
+use Rattle.chan_model.specs.declared.unit_state.CurrentCommand.{CurrentCommand}
 use Rattle.chan_model.specs.declared.unit_state.Own.{Own}
 use Rattle.chan_model.specs.declared.unit_state.Own.TheVariants as own
-use Rattle.chan_model.specs.declared.unit_state.Place.{Place}
-use Rattle.chan_model.specs.declared.unit_state.Place.TheVariants.{On, Ask, Away}
+use Rattle.chan_model.specs.declared.unit_state.Connection.{Connection}
+use Rattle.chan_model.specs.declared.unit_state.Connection.TheVariants.{On, Ask, Away}
 use Rattle.chan_model.specs.declared.unit_state.Progress.{Progress}
 use Rattle.chan_model.specs.declared.unit_state.Progress.TheVariants as progress
 use Rattle.chan_model.specs.declared.unit_state.SideState.{SideState}
@@ -37,11 +37,11 @@ pub record IsPlain (old new : UnitState) : Type 0 where
 abbrev pub IsPlainStep : UnitState → Option UnitStep → Type 0
 IsPlainStep u step = IsPlain u (unit_after u step)
 
-at-later : (n : ℕ) (x : Option AtHand) → IsAtWithin n x → IsAtWithin (n + 1) x
+at-later : (n : ℕ) (x : Option CurrentCommand) → IsAtWithin n x → IsAtWithin (n + 1) x
 at-later n None w = tt
 at-later n (Some x) w = omega (arith, w)
 
-place-later : (n : ℕ) (place : Place) → IsPlaceWithin n place → IsPlaceWithin (n + 1) place
+place-later : (n : ℕ) (place : Connection) → IsPlaceWithin n place → IsPlaceWithin (n + 1) place
 place-later n (On p c) w = omega (arith, w)
 place-later n (Ask p c) w = omega (arith, w)
 place-later n (Away c) w = omega (arith, w)
@@ -94,7 +94,7 @@ side-hand u First s = refl
 side-hand u Second s = refl
 
 -- with another command at hand
-with-hand : (u : UnitState) (x : AtHand) → ((n : ℕ) → IsAtWithin n u.at_hand → x.sequence ≤ n + 1) → IsPlain u (record u { at_hand = Some x })
+with-hand : (u : UnitState) (x : CurrentCommand) → ((n : ℕ) → IsAtWithin n u.at_hand → x.sequence ≤ n + 1) → IsPlain u (record u { at_hand = Some x })
 with-hand u x f = plain u (record u { at_hand = Some x }) refl refl (λ n w. own-later n u.own w) f
 
 without-restarts : (u : UnitState) (c : Bool) → (if c then freed u else u).restarts ≡ u.restarts
@@ -123,7 +123,7 @@ reset-plain u side r =
     (λ n w. subst (IsOwnWithin (n + 1)) (sym (side-own (without_side u side) side _)) (without-own u (owns u.own side) n w))
     (λ n w. subst (IsAtWithin (n + 1)) (sym (side-hand (without_side u side) side _)) (without-hand u (owns u.own side) n w))
 
-next-hand : (u : UnitState) (x y : AtHand) → u.at_hand ≡ Some x → y.sequence ≤ x.sequence + 1 → IsPlain u (record u { at_hand = Some y })
+next-hand : (u : UnitState) (x y : CurrentCommand) → u.at_hand ≡ Some x → y.sequence ≤ x.sequence + 1 → IsPlain u (record u { at_hand = Some y })
 next-hand u x y hand le = with-hand u y (λ n w. let w : x.sequence ≤ n = subst (IsAtWithin n) hand w in omega (arith, w, le))
 
 taken-plain : (u : UnitState) (side : Side) (p : ℕ) (d : Down) (step : Option UnitStep) → Takes u side p d step → IsPlainStep u step
@@ -146,31 +146,31 @@ pub takes-plain : (u : UnitState) (side : Side) (p : ℕ) (d : Down) (may : Bool
 takes-plain u side p d may = taken-plain u side p d _ (takes-by u side p d may)
 
 -- reports
-hand-same : (u : UnitState) (x y : AtHand) → u.at_hand ≡ Some x → y.sequence ≡ x.sequence → IsPlain u (record u { at_hand = Some y })
+hand-same : (u : UnitState) (x y : CurrentCommand) → u.at_hand ≡ Some x → y.sequence ≡ x.sequence → IsPlain u (record u { at_hand = Some y })
 hand-same u x y h e = with-hand u y (λ n w. let w : x.sequence ≤ n = subst (IsAtWithin n) h w in omega (arith, w, e))
 
-absorbed-plain : (u : UnitState) (p t c : ℕ) (x : AtHand) (given : Option (List ℕ)) (count : ℕ) → u.at_hand ≡ Some x → IsPlainStep u (report_absorbed u p t c x given count)
+absorbed-plain : (u : UnitState) (p t c : ℕ) (x : CurrentCommand) (given : Option (List ℕ)) (count : ℕ) → u.at_hand ≡ Some x → IsPlainStep u (report_absorbed u p t c x given count)
 absorbed-plain u p t c x None count h = stays u
 absorbed-plain u p t c x (Some bytes) count h = if-plain u (nat_le count (length bytes)) _ None (hand-same u x _ h refl) (stays u)
 
-again-plain : (u : UnitState) (p t c : ℕ) (x : AtHand) (load : Option Load) → u.at_hand ≡ Some x → IsPlainStep u (sent_again u p t c x load)
+again-plain : (u : UnitState) (p t c : ℕ) (x : CurrentCommand) (load : Option Load) → u.at_hand ≡ Some x → IsPlainStep u (sent_again u p t c x load)
 again-plain u p t c x None h = stays u
 again-plain u p t c x (Some load) h = if-plain u x.again _ None (hand-same u x _ h refl) (stays u)
 
-supplied-plain : (u : UnitState) (p t c : ℕ) (x : AtHand) (bytes : List ℕ) → u.at_hand ≡ Some x → IsPlainStep u (report_supplied u p t c x bytes)
+supplied-plain : (u : UnitState) (p t c : ℕ) (x : CurrentCommand) (bytes : List ℕ) → u.at_hand ≡ Some x → IsPlainStep u (report_supplied u p t c x bytes)
 supplied-plain u p t c x bytes h =
     if-plain u (is_to_supply x && nat_le (length bytes) (most_of x)) _ None
     (with-hand u (with_supplied x bytes) (λ n w. let w : x.sequence ≤ n = subst (IsAtWithin n) h w in omega (arith, w))) (stays u)
 
-begun-plain : (u : UnitState) (p t c : ℕ) (x : AtHand) → u.at_hand ≡ Some x → IsPlainStep u (command_begun u p t c x)
+begun-plain : (u : UnitState) (p t c : ℕ) (x : CurrentCommand) → u.at_hand ≡ Some x → IsPlainStep u (command_begun u p t c x)
 begun-plain u p t c x h = if-plain u (is_outward x.code) _ _ (hand-same u x _ h refl) (hand-same u x _ h refl)
 
-ended-plain : (u : UnitState) (p t : ℕ) (x : AtHand) (may : Bool) (status : DeviceStatus) (more : Bool) → u.at_hand ≡ Some x →
+ended-plain : (u : UnitState) (p t : ℕ) (x : CurrentCommand) (may : Bool) (status : DeviceStatus) (more : Bool) → u.at_hand ≡ Some x →
     IsPlainStep u (if may then end_sent u p t x status more else None)
 ended-plain u p t x true status more h = hand-same u x _ h refl
 ended-plain u p t x false status more h = stays u
 
-answer-plain : (u : UnitState) (p t c : ℕ) (x : AtHand) (at : Progress) (a : DeviceAnswer) → u.at_hand ≡ Some x → IsPlainStep u (answer_taken u p t c x at a)
+answer-plain : (u : UnitState) (p t c : ℕ) (x : CurrentCommand) (at : Progress) (a : DeviceAnswer) → u.at_hand ≡ Some x → IsPlainStep u (answer_taken u p t c x at a)
 answer-plain u p t c x progress.New answer.Begins h = begun-plain u p t c x h
 answer-plain u p t c x progress.Working answer.Begins h = stays u
 answer-plain u p t c x progress.ChannelEnded answer.Begins h = stays u
@@ -189,7 +189,7 @@ answer-plain u p t c x progress.ChannelEnded answer.Again h = stays u
 answer-plain u p t c x progress.Ended answer.Again h = stays u
 answer-plain u p t c x other (answer.Ended status more) h = ended-plain u p t x (may_end u.halted x other status more) (shown_end other status) more h
 
-report_on-plain : (u : UnitState) (t : ℕ) (place : Place) (x : Option AtHand) (r : Report) → u.at_hand ≡ x → IsPlainStep u (report_on u t place x r)
+report_on-plain : (u : UnitState) (t : ℕ) (place : Connection) (x : Option CurrentCommand) (r : Report) → u.at_hand ≡ x → IsPlainStep u (report_on u t place x r)
 report_on-plain u t (On p c) (Some x) r h = if-plain u (r.sequence == x.sequence) _ None (answer-plain u p t c x x.progress r.answer h) (stays u)
 report_on-plain u t (On p c) None r h = stays u
 report_on-plain u t (Ask p c) x r h = stays u
@@ -204,11 +204,11 @@ pub report-plain : (u : UnitState) (r : Report) → IsPlainStep u (unit_reports 
 report-plain u r = report_of-plain u u.own r
 
 -- acts of the unit of itself
-again-within : (n : ℕ) (x : Option AtHand) → IsAtWithin n x → IsAtWithin (n + 1) (marked_again x)
+again-within : (n : ℕ) (x : Option CurrentCommand) → IsAtWithin n x → IsAtWithin (n + 1) (marked_again x)
 again-within n None w = tt
 again-within n (Some x) w = omega (arith, w)
 
-leaving_from-plain : (u : UnitState) (side : Side) (t : ℕ) (place : Place) → u.own ≡ own.Owned side t place → IsPlainStep u (leaving_from u side t place)
+leaving_from-plain : (u : UnitState) (side : Side) (t : ℕ) (place : Connection) → u.own ≡ own.Owned side t place → IsPlainStep u (leaving_from u side t place)
 leaving_from-plain u side t (On p c) e =
     plain u _ refl refl (λ n w. let at : c ≤ n = subst (IsOwnWithin n) e w in omega (arith, at)) (λ n w. again-within n u.at_hand w)
 leaving_from-plain u side t (Ask p c) e = stays u
@@ -218,7 +218,7 @@ leaving-plain : (u : UnitState) (o : Own) → u.own ≡ o → IsPlainStep u (lea
 leaving-plain u own.Idle e = stays u
 leaving-plain u (own.Owned side t place) e = leaving_from-plain u side t place e
 
-asking_from-plain : (u : UnitState) (side : Side) (t : ℕ) (place : Place) (p : ℕ) → u.own ≡ own.Owned side t place → IsPlainStep u (asking_from u side t place p)
+asking_from-plain : (u : UnitState) (side : Side) (t : ℕ) (place : Connection) (p : ℕ) → u.own ≡ own.Owned side t place → IsPlainStep u (asking_from u side t place p)
 asking_from-plain u side t (On q c) p e = stays u
 asking_from-plain u side t (Ask q c) p e = moved-on u _ _ refl refl refl e (λ n w. omega (arith, w))
 asking_from-plain u side t (Away c) p e = moved-on u _ _ refl refl refl e (λ n w. omega (arith, w))

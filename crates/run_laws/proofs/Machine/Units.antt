@@ -7,11 +7,11 @@ use Rattle.chan_model.specs.Signals.{Down, Load, Up}
 use Rattle.chan_model.specs.declared.signal.Down.TheVariants as down
 use Rattle.chan_model.specs.declared.signal.OnPath.{OnPath}
 use Rattle.chan_model.specs.declared.signal.Up.TheVariants as up
-use Rattle.chan_model.specs.declared.unit_state.AtHand.{AtHand}
+use Rattle.chan_model.specs.declared.unit_state.CurrentCommand.{CurrentCommand}
 use Rattle.chan_model.specs.declared.unit_state.Own.{Own}
 use Rattle.chan_model.specs.declared.unit_state.Own.TheVariants as own
-use Rattle.chan_model.specs.declared.unit_state.Place.{Place}
-use Rattle.chan_model.specs.declared.unit_state.Place.TheVariants as place
+use Rattle.chan_model.specs.declared.unit_state.Connection.{Connection}
+use Rattle.chan_model.specs.declared.unit_state.Connection.TheVariants as place
 use Rattle.chan_model.specs.declared.unit_state.Progress.{Progress}
 use Rattle.chan_model.specs.declared.unit_state.Progress.TheVariants as progress
 use Rattle.chan_model.specs.declared.unit_state.UnitState.{UnitState}
@@ -85,18 +85,18 @@ pub takes-echo : (u : UnitState) (side : Side) (p : ℕ) (d : Down) (may : Bool)
 takes-echo u side p d may = taken-echo u side p d _ (takes-by u side p d may)
 
 -- its reports
-begun-sends : (u : UnitState) (p t c : ℕ) (x : AtHand) → Sends (command_begun u p t c x)
+begun-sends : (u : UnitState) (p t c : ℕ) (x : CurrentCommand) → Sends (command_begun u p t c x)
 begun-sends u p t c x = if-sends (is_outward x.code) _ _ tt tt
 
-absorbed-sends : (u : UnitState) (p t c : ℕ) (x : AtHand) (given : Option (List ℕ)) (count : ℕ) → Sends (report_absorbed u p t c x given count)
+absorbed-sends : (u : UnitState) (p t c : ℕ) (x : CurrentCommand) (given : Option (List ℕ)) (count : ℕ) → Sends (report_absorbed u p t c x given count)
 absorbed-sends u p t c x None count = tt
 absorbed-sends u p t c x (Some bytes) count = if-sends (nat_le count (length bytes)) _ None tt tt
 
-again-sends : (u : UnitState) (p t c : ℕ) (x : AtHand) (load : Option Load) → Sends (sent_again u p t c x load)
+again-sends : (u : UnitState) (p t c : ℕ) (x : CurrentCommand) (load : Option Load) → Sends (sent_again u p t c x load)
 again-sends u p t c x None = tt
 again-sends u p t c x (Some load) = if-sends x.again _ None tt tt
 
-answer-sends : (u : UnitState) (p t c : ℕ) (x : AtHand) (at : Progress) (a : DeviceAnswer) → Sends (answer_taken u p t c x at a)
+answer-sends : (u : UnitState) (p t c : ℕ) (x : CurrentCommand) (at : Progress) (a : DeviceAnswer) → Sends (answer_taken u p t c x at a)
 answer-sends u p t c x at (answer.Ended status more) = if-sends (may_end u.halted x at status more) _ None tt tt
 answer-sends u p t c x progress.New answer.Begins = begun-sends u p t c x
 answer-sends u p t c x progress.New (answer.Absorbed count) = tt
@@ -112,7 +112,7 @@ answer-sends u p t c x progress.Ended (answer.Supplied bytes) = tt
 answer-sends u p t c x progress.Ended answer.Again = tt
 answer-sends u p t c x progress.ChannelEnded other = tt
 
-report_on-sends : (u : UnitState) (t : ℕ) (at : Place) (x : Option AtHand) (r : Report) → Sends (report_on u t at x r)
+report_on-sends : (u : UnitState) (t : ℕ) (at : Connection) (x : Option CurrentCommand) (r : Report) → Sends (report_on u t at x r)
 report_on-sends u t (place.On p c) None r = tt
 report_on-sends u t (place.On p c) (Some x) r =
     if-sends (r.sequence == x.sequence) (answer_taken u p t c x x.progress r.answer) None (answer-sends u p t c x x.progress r.answer) tt
@@ -129,7 +129,7 @@ pub reports-send : (u : UnitState) (r : Report) → AreOthers (came_of (unit_rep
 reports-send u r = report_of-sends u u.own r
 
 -- its acts
-leaving_from-sends : (u : UnitState) (side : Side) (t : ℕ) (at : Place) → Sends (leaving_from u side t at)
+leaving_from-sends : (u : UnitState) (side : Side) (t : ℕ) (at : Connection) → Sends (leaving_from u side t at)
 leaving_from-sends u side t (place.On p c) = tt
 leaving_from-sends u side t (place.Ask p c) = tt
 leaving_from-sends u side t (place.Away c) = tt
@@ -138,7 +138,7 @@ leaving-sends : (u : UnitState) (o : Own) → Sends (leaving u o)
 leaving-sends u own.Idle = tt
 leaving-sends u (own.Owned k t at) = leaving_from-sends u k t at
 
-asking_from-sends : (u : UnitState) (side : Side) (t : ℕ) (at : Place) (p : ℕ) → Sends (asking_from u side t at p)
+asking_from-sends : (u : UnitState) (side : Side) (t : ℕ) (at : Connection) (p : ℕ) → Sends (asking_from u side t at p)
 asking_from-sends u side t (place.On q c) p = tt
 asking_from-sends u side t (place.Ask q c) p = tt
 asking_from-sends u side t (place.Away c) p = tt

@@ -14,7 +14,7 @@ use Rattle.chan_model.specs.declared.signal.Down.TheVariants as down
 use Rattle.chan_model.specs.declared.signal.OnPath.{OnPath}
 use Rattle.chan_model.specs.Reports.{DeviceAnswer, Report}
 use Rattle.chan_model.specs.declared.report.DeviceAnswer.TheVariants as answer
-use Rattle.chan_model.specs.declared.unit_state.AtHand.{AtHand}
+use Rattle.chan_model.specs.declared.unit_state.CurrentCommand.{CurrentCommand}
 use Rattle.chan_model.specs.declared.unit_state.UnitState.{UnitState}
 use Rattle.chan_model.specs.UnitTable as unit_table
 use Rattle.chan_model.specs.UnitTable.{UnitStep, unit_takes}
@@ -293,7 +293,7 @@ sunk-offers may sub path u t k e o =
     (if-ok (λ t. OffersBy t.sub.state (taken_at t.reply k)) (nat_lt path (length sub.setup.paths)) (down_front may sub path u (slice_get (queue sub.wires.down path) 0)) (Err fault.NoSuchPath)
     (down_front-offers may sub path u (slice_get (queue sub.wires.down path) 0) k o) tt)
 
-absorbs-offers : (s : SubchannelState) (count : ℕ) (x : Option AtHand) (k : ProgramTrace) → OffersBy s (Some k) → OffersBy s (Some (absorbs count x k))
+absorbs-offers : (s : SubchannelState) (count : ℕ) (x : Option CurrentCommand) (k : ProgramTrace) → OffersBy s (Some k) → OffersBy s (Some (absorbs count x k))
 absorbs-offers s count None k o = o
 absorbs-offers s count (Some x) k o = by x.given
   where
@@ -301,7 +301,7 @@ absorbs-offers s count (Some x) k o = by x.given
     by None = o
     by (Some bytes) = untaken-offers s k k.taken (k.absorbed ++ take count bytes) o
 
-report-if : (s : SubchannelState) (count : ℕ) (x : Option AtHand) (k : ProgramTrace) (b : Bool) → OffersBy s (Some k) → OffersBy s (Some (if b then absorbs count x k else k))
+report-if : (s : SubchannelState) (count : ℕ) (x : Option CurrentCommand) (k : ProgramTrace) (b : Bool) → OffersBy s (Some k) → OffersBy s (Some (if b then absorbs count x k else k))
 report-if s count x k true o = absorbs-offers s count x k o
 report-if s count x k false o = o
 

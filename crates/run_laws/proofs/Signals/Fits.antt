@@ -11,8 +11,8 @@ use Rattle.chan_model.specs.declared.signal.Down.TheVariants as down
 use Rattle.chan_model.specs.declared.signal.Up.TheVariants as up
 use Rattle.chan_model.specs.declared.unit_state.Own.{Own}
 use Rattle.chan_model.specs.declared.unit_state.Own.TheVariants as own
-use Rattle.chan_model.specs.declared.unit_state.Place.{Place}
-use Rattle.chan_model.specs.declared.unit_state.Place.TheVariants as place
+use Rattle.chan_model.specs.declared.unit_state.Connection.{Connection}
+use Rattle.chan_model.specs.declared.unit_state.Connection.TheVariants as place
 use Rattle.chan_model.specs.declared.unit_state.UnitState.{UnitState}
 use Rattle.chan_model.specs.Sides.{same_side}
 use Rattle.chan_model.specs.UnitTable.{side_of, owns}
@@ -55,12 +55,12 @@ placed-paired (hold.Offer u q) s f t p c m = λ e. joined q 0 0 p c m.1
 placed-paired (hold.On u q d) s f t p c m = λ e. joined q d s p c m.1
 placed-paired other s f t p c m = tt
 
-placed-place : (phase : HoldPhase) (s f t : ℕ) (at : Place) → IsPaired phase s f t at → IsPlaced phase (on_place t at)
+placed-place : (phase : HoldPhase) (s f t : ℕ) (at : Connection) → IsPaired phase s f t at → IsPlaced phase (on_place t at)
 placed-place phase s f t (place.On p c) m = placed-paired phase s f t p c m
 placed-place phase s f t (place.Ask p c) m = placed-none phase
 placed-place phase s f t (place.Away c) m = placed-none phase
 
-placed-owned : (e : Ends) (t : ℕ) (at : Place) (fresh same : Bool) → (fresh ≡ true → same ≡ false) → IsMatched e (if fresh then SideSeen.Fresh else (if same then Owns t at else SideSeen.Idle)) →
+placed-owned : (e : Ends) (t : ℕ) (at : Connection) (fresh same : Bool) → (fresh ≡ true → same ≡ false) → IsMatched e (if fresh then SideSeen.Fresh else (if same then Owns t at else SideSeen.Idle)) →
     IsPlaced e.phase (if same then on_place t at else None)
 placed-owned e t at true true free m = absurd (cc (free refl))
 placed-owned e t at false true free m = placed-place e.phase e.last e.floor t at m

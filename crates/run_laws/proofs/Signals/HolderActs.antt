@@ -10,11 +10,11 @@ use Rattle.chan_model.specs.Reports.{DeviceAnswer, Report}
 use Rattle.chan_model.specs.declared.report.DeviceAnswer.TheVariants as answer
 use Rattle.chan_model.specs.Signals.{Load}
 use Rattle.chan_model.specs.declared.signal.Load.TheVariants as load
-use Rattle.chan_model.specs.declared.unit_state.AtHand.{AtHand}
+use Rattle.chan_model.specs.declared.unit_state.CurrentCommand.{CurrentCommand}
 use Rattle.chan_model.specs.declared.unit_state.Own.{Own}
 use Rattle.chan_model.specs.declared.unit_state.Own.TheVariants as own
-use Rattle.chan_model.specs.declared.unit_state.Place.{Place}
-use Rattle.chan_model.specs.declared.unit_state.Place.TheVariants as place
+use Rattle.chan_model.specs.declared.unit_state.Connection.{Connection}
+use Rattle.chan_model.specs.declared.unit_state.Connection.TheVariants as place
 use Rattle.chan_model.specs.declared.unit_state.Progress.{Progress}
 use Rattle.chan_model.specs.declared.unit_state.Progress.TheVariants as progress
 use Rattle.chan_model.specs.declared.unit_state.UnitState.{UnitState}
@@ -52,27 +52,27 @@ if-hands : (u : UnitState) (a : DeviceAnswer) (b : Bool) (x y : Option UnitStep)
 if-hands u a true x y e f = e
 if-hands u a false x y e f = f
 
-absorbed-hands : (u : UnitState) (p t c : ℕ) (x : AtHand) (given : Option (List ℕ)) (count : ℕ) → u.at_hand ≡ Some x → Hands u (answer.Absorbed count) (report_absorbed u p t c x given count)
+absorbed-hands : (u : UnitState) (p t c : ℕ) (x : CurrentCommand) (given : Option (List ℕ)) (count : ℕ) → u.at_hand ≡ Some x → Hands u (answer.Absorbed count) (report_absorbed u p t c x given count)
 absorbed-hands u p t c x None count e = tt
 absorbed-hands u p t c x (Some bytes) count e =
     if-hands u (answer.Absorbed count) (nat_le count (length bytes)) _ None (hand-next u x (with_absorbed x count) (reported (answer.Absorbed count)) e refl) tt
 
-again-hands : (u : UnitState) (p t c : ℕ) (x : AtHand) (load : Option Load) → u.at_hand ≡ Some x → Hands u answer.Again (sent_again u p t c x load)
+again-hands : (u : UnitState) (p t c : ℕ) (x : CurrentCommand) (load : Option Load) → u.at_hand ≡ Some x → Hands u answer.Again (sent_again u p t c x load)
 again-hands u p t c x None e = tt
 again-hands u p t c x (Some load) e = if-hands u answer.Again x.again _ None (hand-next u x (record x { again = false }) (reported answer.Again) e refl) tt
 
-begun-outward : (x : AtHand) → is_outward x.code ≡ true → transfer_of (with_absorbed x 0) ≡ reported answer.Begins (transfer_of x)
+begun-outward : (x : CurrentCommand) → is_outward x.code ≡ true → transfer_of (with_absorbed x 0) ≡ reported answer.Begins (transfer_of x)
 begun-outward x e = ap (λ (b : Bool). record { sequence = x.sequence; unanswered = b || is_some x.unanswered; outward = is_outward x.code }) (sym e)
 
-begun-inward : (x : AtHand) → is_outward x.code ≡ false → transfer_of x ≡ reported answer.Begins (transfer_of x)
+begun-inward : (x : CurrentCommand) → is_outward x.code ≡ false → transfer_of x ≡ reported answer.Begins (transfer_of x)
 begun-inward x e = ap (λ (b : Bool). record { sequence = x.sequence; unanswered = b || is_some x.unanswered; outward = is_outward x.code }) (sym e)
 
-begun-hands : (u : UnitState) (p t c : ℕ) (x : AtHand) (b : Bool) → is_outward x.code ≡ b → u.at_hand ≡ Some x →
+begun-hands : (u : UnitState) (p t c : ℕ) (x : CurrentCommand) (b : Bool) → is_outward x.code ≡ b → u.at_hand ≡ Some x →
     Hands u answer.Begins (if b then data_sent u p t c (with_absorbed x 0) (load.Absorbed 0) else changes (record u { at_hand = Some (record x { progress = progress.Working }) }))
 begun-hands u p t c x true e h = hand-next u x (with_absorbed x 0) (reported answer.Begins) h (begun-outward x e)
 begun-hands u p t c x false e h = hand-next u x (record x { progress = progress.Working }) (reported answer.Begins) h (begun-inward x e)
 
-answer-hands : (u : UnitState) (p t c : ℕ) (x : AtHand) (at : Progress) (a : DeviceAnswer) → u.at_hand ≡ Some x → Hands u a (answer_taken u p t c x at a)
+answer-hands : (u : UnitState) (p t c : ℕ) (x : CurrentCommand) (at : Progress) (a : DeviceAnswer) → u.at_hand ≡ Some x → Hands u a (answer_taken u p t c x at a)
 answer-hands u p t c x at (answer.Ended status more) e =
     if-hands u (answer.Ended status more) (may_end u.halted x at status more) _ None (hand-next u x (record x { progress = progress_after_end (shown_end at status) }) (reported (answer.Ended status more)) e refl) tt
 answer-hands u p t c x progress.New answer.Begins e = begun-hands u p t c x (is_outward x.code) refl e
@@ -90,7 +90,7 @@ answer-hands u p t c x progress.Ended (answer.Supplied bytes) e = tt
 answer-hands u p t c x progress.Ended answer.Again e = tt
 answer-hands u p t c x progress.ChannelEnded other e = tt
 
-report_on-hands : (u : UnitState) (t : ℕ) (at : Place) (x : Option AtHand) (r : Report) → u.at_hand ≡ x → Hands u r.answer (report_on u t at x r)
+report_on-hands : (u : UnitState) (t : ℕ) (at : Connection) (x : Option CurrentCommand) (r : Report) → u.at_hand ≡ x → Hands u r.answer (report_on u t at x r)
 report_on-hands u t (place.On p c) None r e = tt
 report_on-hands u t (place.On p c) (Some x) r e = if-hands u r.answer (r.sequence == x.sequence) (answer_taken u p t c x x.progress r.answer) None (answer-hands u p t c x x.progress r.answer e) tt
 report_on-hands u t (place.Ask p c) x r e = tt
@@ -105,7 +105,7 @@ pub reports-hand : (u : UnitState) (r : Report) → Hands u r.answer (unit_repor
 reports-hand u r = report_of-hands u u.own r
 
 -- and are of the program that holds the device
-report_on-right : (u : UnitState) (t : ℕ) (at : Place) (x : Option AtHand) (r : Report) (C : Type 0) → (is_connected (place_of at) ≡ true → C) → IfStep (report_on u t at x r) (λ v. C)
+report_on-right : (u : UnitState) (t : ℕ) (at : Connection) (x : Option CurrentCommand) (r : Report) (C : Type 0) → (is_connected (place_of at) ≡ true → C) → IfStep (report_on u t at x r) (λ v. C)
 report_on-right u t (place.On p c) x r C f = any-step (report_on u t (place.On p c) x r) (λ v. C) (λ v. f refl)
 report_on-right u t (place.Ask p c) x r C f = tt
 report_on-right u t (place.Away c) x r C f = tt
@@ -137,11 +137,11 @@ IsActed u what v = IsActRight (holding_of u) what × (holding_of v ≡ acted_aft
 held-is : (u : UnitState) (o : Own) (test : Held → Bool) (b : Bool) → u.own ≡ o → is_held_and test (holder_in u o) ≡ b → is_held_and test (holding_of u).holder ≡ b
 held-is u o test b e f = ap (λ (x : Own). is_held_and test (holder_in u x)) e ∙ f
 
-marked-transfer : (o : Option AtHand) → transfer_in (marked_again o) ≡ transfer_in o
+marked-transfer : (o : Option CurrentCommand) → transfer_in (marked_again o) ≡ transfer_in o
 marked-transfer None = refl
 marked-transfer (Some x) = refl
 
-leaving_from-acted : (u : UnitState) (side : Side) (t : ℕ) (at : Place) → u.own ≡ own.Owned side t at → IfStep (leaving_from u side t at) (IsActed u act.Leave)
+leaving_from-acted : (u : UnitState) (side : Side) (t : ℕ) (at : Connection) → u.own ≡ own.Owned side t at → IfStep (leaving_from u side t at) (IsActed u act.Leave)
 leaving_from-acted u side t (place.On p c) e = (
   held-is u (own.Owned side t (place.On p c)) (λ h. is_connected h.place) true e refl,
   ap (λ (y : Option Transfer). held_with u (Some (record { side = side; number = t; place = Apart c; command = u.last_command; transfer = y; halted = u.halted }))) (marked-transfer u.at_hand)
@@ -154,7 +154,7 @@ leaving-acted : (u : UnitState) (o : Own) → u.own ≡ o → IfStep (leaving u 
 leaving-acted u own.Idle e = tt
 leaving-acted u (own.Owned k t at) e = leaving_from-acted u k t at e
 
-asking_from-acted : (u : UnitState) (side : Side) (t : ℕ) (at : Place) (p : ℕ) → u.own ≡ own.Owned side t at → IfStep (asking_from u side t at p) (IsActed u (act.Ask p))
+asking_from-acted : (u : UnitState) (side : Side) (t : ℕ) (at : Connection) (p : ℕ) → u.own ≡ own.Owned side t at → IfStep (asking_from u side t at p) (IsActed u (act.Ask p))
 asking_from-acted u side t (place.On q c) p e = tt
 asking_from-acted u side t other p e =
     (held-is u (own.Owned side t other) (λ h. not (is_connected h.place)) true e refl, changed-next u (own.Owned side t other) (moved (seen.asking p)) _ e refl)

@@ -9,12 +9,12 @@ use Rattle.chan_model.specs.declared.names.Side.TheVariants.{First, Second}
 use Rattle.chan_model.specs.Signals.{Down, Load, Up}
 use Rattle.chan_model.specs.declared.signal.Down.TheVariants as down
 use Rattle.chan_model.specs.declared.signal.Up.TheVariants as up
-use Rattle.chan_model.specs.declared.unit_state.AtHand.{AtHand}
+use Rattle.chan_model.specs.declared.unit_state.CurrentCommand.{CurrentCommand}
 use Rattle.chan_model.specs.declared.unit_state.Attention.{Attention}
 use Rattle.chan_model.specs.declared.unit_state.Own.{Own}
 use Rattle.chan_model.specs.declared.unit_state.Own.TheVariants as own
-use Rattle.chan_model.specs.declared.unit_state.Place.{Place}
-use Rattle.chan_model.specs.declared.unit_state.Place.TheVariants as place
+use Rattle.chan_model.specs.declared.unit_state.Connection.{Connection}
+use Rattle.chan_model.specs.declared.unit_state.Connection.TheVariants as place
 use Rattle.chan_model.specs.declared.unit_state.SideState.{SideState}
 use Rattle.chan_model.specs.declared.unit_state.UnitState.{UnitState}
 use Rattle.chan_model.specs.Sides.{same_side}
@@ -29,15 +29,15 @@ use Rattle.run_laws.proofs.Signals.UnitMoves.{floor_of}
 use Rattle.agreement_laws.proofs.SeenSignals.{IsResetAbove}
 
 -- what a unit keeps of it
-abbrev pub place_of : Place → seen.Place
+abbrev pub place_of : Connection → seen.Connection
 place_of (place.On p c) = Connected p c
 place_of (place.Ask p c) = Asking p c
 place_of (place.Away c) = Apart c
 
-abbrev pub transfer_of : AtHand → Transfer
+abbrev pub transfer_of : CurrentCommand → Transfer
 transfer_of x = record { sequence = x.sequence; unanswered = is_some x.unanswered; outward = is_outward x.code }
 
-abbrev pub transfer_in : Option AtHand → Option Transfer
+abbrev pub transfer_in : Option CurrentCommand → Option Transfer
 transfer_in None = None
 transfer_in (Some x) = Some (record { sequence = x.sequence; unanswered = is_some x.unanswered; outward = is_outward x.code })
 
@@ -118,16 +118,16 @@ halt-holder : (u : UnitState) (o : Own) → holder_in (record u { halted = true 
 halt-holder u own.Idle = refl
 halt-holder u (own.Owned k v at) = refl
 
-hand-holder : (u : UnitState) (o : Own) (x : AtHand) (f : Transfer → Transfer) → transfer_in (Some x) ≡ option_map f (transfer_in u.at_hand) →
+hand-holder : (u : UnitState) (o : Own) (x : CurrentCommand) (f : Transfer → Transfer) → transfer_in (Some x) ≡ option_map f (transfer_in u.at_hand) →
     holder_in (record u { at_hand = Some x }) o ≡ option_map (with_transfer f) (holder_in u o)
 hand-holder u own.Idle x f e = refl
 hand-holder u (own.Owned k v at) x f e =
     ap (λ (y : Option Transfer). Some (record { side = k; number = v; place = place_of at; command = u.last_command; transfer = y; halted = u.halted })) e
 
-pub hand-next : (u : UnitState) (x y : AtHand) (f : Transfer → Transfer) → u.at_hand ≡ Some x → transfer_of y ≡ f (transfer_of x) →
+pub hand-next : (u : UnitState) (x y : CurrentCommand) (f : Transfer → Transfer) → u.at_hand ≡ Some x → transfer_of y ≡ f (transfer_of x) →
     holding_of (record u { at_hand = Some y }) ≡ with_holder (with_transfer f) (holding_of u)
 hand-next u x y f e g =
-    ap (held_with u) (hand-holder u u.own y f (ap (λ (z : Transfer). Some z) g ∙ sym (ap (λ (o : Option AtHand). option_map f (transfer_in o)) e)))
+    ap (held_with u) (hand-holder u u.own y f (ap (λ (z : Transfer). Some z) g ∙ sym (ap (λ (o : Option CurrentCommand). option_map f (transfer_in o)) e)))
 
 -- tests of it
 next-command : (u : UnitState) (o : Own) (side : Side) (t n : ℕ) → (is_owner o side t && (n == u.last_command + 1)) ≡ holds_and (λ h. n == h.command + 1) (holder_in u o) side t
@@ -170,7 +170,7 @@ asked-turns : (u : UnitState) (side k : Side) (p t v c q d : ℕ) (b : Bool) →
 asked-turns u side k p t v c q d true e n = record { replies = refl; numbered = tt; next = changed-next u (own.Owned k v (place.Ask q d)) (moved seen.granted) _ e refl }
 asked-turns u side k p t v c q d false e n = older-turns u side p t v c (nat_lt c d) n
 
-granted_at-turns : (u : UnitState) (side k : Side) (at : Place) (p t v c : ℕ) (b : Bool) → u.own ≡ own.Owned k v at → (b ≡ true → t ≡ v) →
+granted_at-turns : (u : UnitState) (side k : Side) (at : Connection) (p t v c : ℕ) (b : Bool) → u.own ≡ own.Owned k v at → (b ≡ true → t ≡ v) →
     Turns u side p (down.Grant t c) (if b then granted_at u k v at p c else None)
     (if b && is_asking (place_of at) c then takes_if true (down.Grant t c) else answers_if (b && nat_lt c (connection_of (place_of at))) p (down.Grant t c) (up.Leave t c))
 granted_at-turns u side k at p t v c false e n = none-turns u side p (down.Grant t c)
@@ -183,7 +183,7 @@ granted-turns u side own.Idle p t c e = none-turns u side p (down.Grant t c)
 granted-turns u side (own.Owned k v at) p t c e =
     granted_at-turns u side k at p t v c (same_side k side && (t == v)) e (λ f. eqb-true t v (and_parts (same_side k side) (t == v) f).1)
 
-refused_at-turns : (u : UnitState) (side k : Side) (at : Place) (p t v c : ℕ) (b : Bool) → u.own ≡ own.Owned k v at →
+refused_at-turns : (u : UnitState) (side k : Side) (at : Connection) (p t v c : ℕ) (b : Bool) → u.own ≡ own.Owned k v at →
     Turns u side p (down.Refuse t c) (if b then grant_refused_at u k v at c else None) (takes_if (b && is_asking (place_of at) c) (down.Refuse t c))
 refused_at-turns u side k at p t v c false e = none-turns u side p (down.Refuse t c)
 refused_at-turns u side k (place.Ask q d) p t v c true e =
@@ -197,13 +197,13 @@ refused-turns u side own.Idle p t c e = none-turns u side p (down.Refuse t c)
 refused-turns u side (own.Owned k v at) p t c e = refused_at-turns u side k at p t v c (same_side k side && (t == v)) e
 
 -- Took
-took-load : (u : UnitState) (side : Side) (p t n s room : ℕ) (x : AtHand) (load : Option Load) (b : Bool) → u.at_hand ≡ Some x →
+took-load : (u : UnitState) (side : Side) (p t n s room : ℕ) (x : CurrentCommand) (load : Option Load) (b : Bool) → u.at_hand ≡ Some x →
     Turns u side p (down.Took t n s room) (if b then answered_load u x load room else None) (takes_if (b && is_some load) (down.Took t n s room))
 took-load u side p t n s room x load false e = none-turns u side p (down.Took t n s room)
 took-load u side p t n s room x None true e = none-turns u side p (down.Took t n s room)
 took-load u side p t n s room x (Some load) true e = record { replies = refl; numbered = tt; next = hand-next u x (at_hand_answered x load room) answered e refl }
 
-took-last : (u : UnitState) (side : Side) (p t n s room : ℕ) (hand : Option AtHand) (b c : Bool) → u.at_hand ≡ hand →
+took-last : (u : UnitState) (side : Side) (p t n s room : ℕ) (hand : Option CurrentCommand) (b c : Bool) → u.at_hand ≡ hand →
     Turns u side p (down.Took t n s room) (if b && c then answered_last u hand s room else None) (takes_if (b && (c && is_unanswered (transfer_in hand) s)) (down.Took t n s room))
 took-last u side p t n s room hand false c e = none-turns u side p (down.Took t n s room)
 took-last u side p t n s room hand true false e = none-turns u side p (down.Took t n s room)
@@ -217,11 +217,11 @@ took-turns u side own.Idle p t n s room = none-turns u side p (down.Took t n s r
 took-turns u side (own.Owned k v at) p t n s room = took-last u side p t n s room u.at_hand (same_side k side && (t == v)) (n == u.last_command) refl
 
 -- Give
-give-chunk : (u : UnitState) (side : Side) (p t c n s : ℕ) (bytes : List ℕ) (x : AtHand) (b : Bool) → u.at_hand ≡ Some x →
+give-chunk : (u : UnitState) (side : Side) (p t c n s : ℕ) (bytes : List ℕ) (x : CurrentCommand) (b : Bool) → u.at_hand ≡ Some x →
     Turns u side p (down.Give bytes t c n s) (if b then changes (record u { at_hand = Some (with_given x s bytes) }) else None) (takes_if b (down.Give bytes t c n s))
 give-chunk u side p t c n s bytes x b e = takes-if u side p (down.Give bytes t c n s) b _ (λ f. hand-next u x (with_given x s bytes) (given s) e refl)
 
-give-last : (u : UnitState) (side : Side) (p t c n s : ℕ) (bytes : List ℕ) (hand : Option AtHand) (b on last : Bool) → u.at_hand ≡ hand →
+give-last : (u : UnitState) (side : Side) (p t c n s : ℕ) (bytes : List ℕ) (hand : Option CurrentCommand) (b on last : Bool) → u.at_hand ≡ hand →
     Turns u side p (down.Give bytes t c n s) (if (b && on) && last then given_next u hand s bytes else None)
     (takes_if (b && (on && (last && is_next (transfer_in hand) s))) (down.Give bytes t c n s))
 give-last u side p t c n s bytes hand false on last e = none-turns u side p (down.Give bytes t c n s)
@@ -230,7 +230,7 @@ give-last u side p t c n s bytes hand true true false e = none-turns u side p (d
 give-last u side p t c n s bytes None true true true e = none-turns u side p (down.Give bytes t c n s)
 give-last u side p t c n s bytes (Some x) true true true e = give-chunk u side p t c n s bytes x (s == x.sequence + 1) e
 
-connected-by : (at : Place) (c : ℕ) → elim at [ place.On p d ↦ c == d | other ↦ false ] ≡ is_connected_by (place_of at) c
+connected-by : (at : Connection) (c : ℕ) → elim at [ place.On p d ↦ c == d | other ↦ false ] ≡ is_connected_by (place_of at) c
 connected-by (place.On p d) c = refl
 connected-by (place.Ask p d) c = refl
 connected-by (place.Away d) c = refl

@@ -6,11 +6,11 @@ use Rattle.chan_model.specs.declared.report.DeviceAnswer.TheVariants as answer
 use Rattle.chan_model.specs.Signals.{Down, Load, Up}
 use Rattle.chan_model.specs.declared.signal.Down.TheVariants as down
 use Rattle.chan_model.specs.declared.signal.OnPath.{OnPath}
-use Rattle.chan_model.specs.declared.unit_state.AtHand.{AtHand}
+use Rattle.chan_model.specs.declared.unit_state.CurrentCommand.{CurrentCommand}
 use Rattle.chan_model.specs.declared.unit_state.Own.{Own}
 use Rattle.chan_model.specs.declared.unit_state.Own.TheVariants as own
-use Rattle.chan_model.specs.declared.unit_state.Place.{Place}
-use Rattle.chan_model.specs.declared.unit_state.Place.TheVariants as place
+use Rattle.chan_model.specs.declared.unit_state.Connection.{Connection}
+use Rattle.chan_model.specs.declared.unit_state.Connection.TheVariants as place
 use Rattle.chan_model.specs.declared.unit_state.Progress.{Progress}
 use Rattle.chan_model.specs.declared.unit_state.Progress.TheVariants as progress
 use Rattle.chan_model.specs.declared.unit_state.UnitState.{UnitState}
@@ -59,18 +59,18 @@ pub takes-seen : (n : ℕ) (u : UnitState) (side : Side) (p : ℕ) (d : Down) (m
 takes-seen n u side p d may seen = taken-seen n u side p d _ seen (takes-by u side p d may)
 
 -- none sends Cleared of itself
-begun-sends : (n : ℕ) (u : UnitState) (p t c : ℕ) (x : AtHand) → Sends n (command_begun u p t c x)
+begun-sends : (n : ℕ) (u : UnitState) (p t c : ℕ) (x : CurrentCommand) → Sends n (command_begun u p t c x)
 begun-sends n u p t c x = if-sends n (is_outward x.code) _ _ tt tt
 
-absorbed-sends : (n : ℕ) (u : UnitState) (p t c : ℕ) (x : AtHand) (given : Option (List ℕ)) (count : ℕ) → Sends n (report_absorbed u p t c x given count)
+absorbed-sends : (n : ℕ) (u : UnitState) (p t c : ℕ) (x : CurrentCommand) (given : Option (List ℕ)) (count : ℕ) → Sends n (report_absorbed u p t c x given count)
 absorbed-sends n u p t c x None count = tt
 absorbed-sends n u p t c x (Some bytes) count = if-sends n (nat_le count (length bytes)) _ None tt tt
 
-again-sends : (n : ℕ) (u : UnitState) (p t c : ℕ) (x : AtHand) (load : Option Load) → Sends n (sent_again u p t c x load)
+again-sends : (n : ℕ) (u : UnitState) (p t c : ℕ) (x : CurrentCommand) (load : Option Load) → Sends n (sent_again u p t c x load)
 again-sends n u p t c x None = tt
 again-sends n u p t c x (Some load) = if-sends n x.again _ None tt tt
 
-answer-sends : (n : ℕ) (u : UnitState) (p t c : ℕ) (x : AtHand) (at : Progress) (a : DeviceAnswer) → Sends n (answer_taken u p t c x at a)
+answer-sends : (n : ℕ) (u : UnitState) (p t c : ℕ) (x : CurrentCommand) (at : Progress) (a : DeviceAnswer) → Sends n (answer_taken u p t c x at a)
 answer-sends n u p t c x at (answer.Ended status more) = if-sends n (may_end u.halted x at status more) _ None tt tt
 answer-sends n u p t c x progress.New answer.Begins = begun-sends n u p t c x
 answer-sends n u p t c x progress.New (answer.Absorbed count) = tt
@@ -86,7 +86,7 @@ answer-sends n u p t c x progress.Ended (answer.Supplied bytes) = tt
 answer-sends n u p t c x progress.Ended answer.Again = tt
 answer-sends n u p t c x progress.ChannelEnded other = tt
 
-report_on-sends : (n : ℕ) (u : UnitState) (t : ℕ) (at : Place) (x : Option AtHand) (r : Report) → Sends n (report_on u t at x r)
+report_on-sends : (n : ℕ) (u : UnitState) (t : ℕ) (at : Connection) (x : Option CurrentCommand) (r : Report) → Sends n (report_on u t at x r)
 report_on-sends n u t (place.On p c) None r = tt
 report_on-sends n u t (place.On p c) (Some x) r =
     if-sends n (r.sequence == x.sequence) (answer_taken u p t c x x.progress r.answer) None (answer-sends n u p t c x x.progress r.answer) tt
@@ -102,7 +102,7 @@ report_of-sends n u (own.Owned k t at) r =
 pub reports-seen : (n : ℕ) (u : UnitState) (r : Report) → AreSeenUp n (came_of (unit_reports u r)).sent
 reports-seen n u r = report_of-sends n u u.own r
 
-leaving_from-sends : (n : ℕ) (u : UnitState) (side : Side) (t : ℕ) (at : Place) → Sends n (leaving_from u side t at)
+leaving_from-sends : (n : ℕ) (u : UnitState) (side : Side) (t : ℕ) (at : Connection) → Sends n (leaving_from u side t at)
 leaving_from-sends n u side t (place.On p c) = tt
 leaving_from-sends n u side t (place.Ask p c) = tt
 leaving_from-sends n u side t (place.Away c) = tt
@@ -111,7 +111,7 @@ leaving-sends : (n : ℕ) (u : UnitState) (o : Own) → Sends n (leaving u o)
 leaving-sends n u own.Idle = tt
 leaving-sends n u (own.Owned k t at) = leaving_from-sends n u k t at
 
-asking_from-sends : (n : ℕ) (u : UnitState) (side : Side) (t : ℕ) (at : Place) (p : ℕ) → Sends n (asking_from u side t at p)
+asking_from-sends : (n : ℕ) (u : UnitState) (side : Side) (t : ℕ) (at : Connection) (p : ℕ) → Sends n (asking_from u side t at p)
 asking_from-sends n u side t (place.On q c) p = tt
 asking_from-sends n u side t (place.Ask q c) p = tt
 asking_from-sends n u side t (place.Away c) p = tt

@@ -6,11 +6,11 @@ use Rattle.chan_model.specs.declared.names.Side.TheVariants.{First, Second}
 use Rattle.chan_model.specs.Reports.{DeviceAnswer, Report}
 use Rattle.chan_model.specs.declared.report.DeviceAnswer.TheVariants as answer
 use Rattle.chan_model.specs.Signals.{Down, Load}
-use Rattle.chan_model.specs.declared.unit_state.AtHand.{AtHand}
+use Rattle.chan_model.specs.declared.unit_state.CurrentCommand.{CurrentCommand}
 use Rattle.chan_model.specs.declared.unit_state.Own.{Own}
 use Rattle.chan_model.specs.declared.unit_state.Own.TheVariants as own
-use Rattle.chan_model.specs.declared.unit_state.Place.{Place}
-use Rattle.chan_model.specs.declared.unit_state.Place.TheVariants as place
+use Rattle.chan_model.specs.declared.unit_state.Connection.{Connection}
+use Rattle.chan_model.specs.declared.unit_state.Connection.TheVariants as place
 use Rattle.chan_model.specs.declared.unit_state.Progress.{Progress}
 use Rattle.chan_model.specs.declared.unit_state.Progress.TheVariants as progress
 use Rattle.chan_model.specs.declared.unit_state.SideState.{SideState}
@@ -27,7 +27,7 @@ use Rattle.run_laws.proofs.Signals.Ties.{linked}
 use Rattle.step_laws.specs.Walks.{IsOfSide}
 
 -- where the program of a side is connected
-abbrev pub on_place : ℕ → Place → Option Connected
+abbrev pub on_place : ℕ → Connection → Option Connected
 on_place t (place.On p c) = Some (linked t p c)
 on_place t (place.Ask p c) = None
 on_place t (place.Away c) = None
@@ -50,7 +50,7 @@ pub record IsLess (u v : UnitState) (side : Side) : Type 0 where
 
 -- what a step at one side leaves of the other
 abbrev pub IsKeptOwn : UnitState → UnitState → Side → Type 0
-IsKeptOwn u v side = (v.own ≡ u.own) ⊎ ((v.own ≡ own.Idle) ⊎ ((t : ℕ) × (at : Place) × (v.own ≡ own.Owned side t at)))
+IsKeptOwn u v side = (v.own ≡ u.own) ⊎ ((v.own ≡ own.Idle) ⊎ ((t : ℕ) × (at : Connection) × (v.own ≡ own.Owned side t at)))
 
 pub record IsOther (u v : UnitState) (side : Side) : Type 0 where
   pub floor : (j : Side) → same_side side j ≡ false → floor_of v j ≡ floor_of u j
@@ -149,18 +149,18 @@ pub takes-others : (u : UnitState) (side : Side) (p : ℕ) (d : Down) (may : Boo
 takes-others u side p d may = taken-others u side p d _ (takes-by u side p d may)
 
 -- reports change what is at hand
-data-others : (u : UnitState) (side : Side) (x : AtHand) → IsOther u (record u { at_hand = Some x }) side
+data-others : (u : UnitState) (side : Side) (x : CurrentCommand) → IsOther u (record u { at_hand = Some x }) side
 data-others u side x = same-own u _ side refl refl refl
 
-absorbed-others : (u : UnitState) (side : Side) (p t c : ℕ) (x : AtHand) (given : Option (List ℕ)) (count : ℕ) → Others u side (report_absorbed u p t c x given count)
+absorbed-others : (u : UnitState) (side : Side) (p t c : ℕ) (x : CurrentCommand) (given : Option (List ℕ)) (count : ℕ) → Others u side (report_absorbed u p t c x given count)
 absorbed-others u side p t c x None count = stays u side
 absorbed-others u side p t c x (Some bytes) count = if-others u side (nat_le count (length bytes)) _ None (λ e. data-others u side _) (stays u side)
 
-again-others : (u : UnitState) (side : Side) (p t c : ℕ) (x : AtHand) (load : Option Load) → Others u side (sent_again u p t c x load)
+again-others : (u : UnitState) (side : Side) (p t c : ℕ) (x : CurrentCommand) (load : Option Load) → Others u side (sent_again u p t c x load)
 again-others u side p t c x None = stays u side
 again-others u side p t c x (Some load) = if-others u side x.again _ None (λ e. data-others u side _) (stays u side)
 
-answer-others : (u : UnitState) (side : Side) (p t c : ℕ) (x : AtHand) (at : Progress) (a : DeviceAnswer) → Others u side (answer_taken u p t c x at a)
+answer-others : (u : UnitState) (side : Side) (p t c : ℕ) (x : CurrentCommand) (at : Progress) (a : DeviceAnswer) → Others u side (answer_taken u p t c x at a)
 answer-others u side p t c x at (answer.Ended status more) = if-others u side (may_end u.halted x at status more) _ None (λ e. data-others u side _) (stays u side)
 answer-others u side p t c x progress.New answer.Begins = if-others u side (is_outward x.code) _ _ (λ e. data-others u side _) (data-others u side _)
 answer-others u side p t c x progress.New (answer.Absorbed count) = stays u side
@@ -177,7 +177,7 @@ answer-others u side p t c x progress.Ended (answer.Supplied bytes) = stays u si
 answer-others u side p t c x progress.Ended answer.Again = stays u side
 answer-others u side p t c x progress.ChannelEnded other = stays u side
 
-report_on-others : (u : UnitState) (side : Side) (t : ℕ) (at : Place) (x : Option AtHand) (r : Report) → Others u side (report_on u t at x r)
+report_on-others : (u : UnitState) (side : Side) (t : ℕ) (at : Connection) (x : Option CurrentCommand) (r : Report) → Others u side (report_on u t at x r)
 report_on-others u side t (place.On p c) None r = stays u side
 report_on-others u side t (place.On p c) (Some x) r =
     if-others u side (r.sequence == x.sequence) (answer_taken u p t c x x.progress r.answer) None (λ e. answer-others u side p t c x x.progress r.answer) (stays u side)
@@ -194,25 +194,25 @@ pub reports-others : (u : UnitState) (side : Side) (r : Report) → Others u sid
 reports-others u side r = report_of-others u side u.own r
 
 -- acts
-leaving_from-others : (u : UnitState) (side : Side) (t : ℕ) (at : Place) → Others u side (leaving_from u side t at)
+leaving_from-others : (u : UnitState) (side : Side) (t : ℕ) (at : Connection) → Others u side (leaving_from u side t at)
 leaving_from-others u side t (place.On p c) = owns-now u _ side refl refl (inr (inr (t, place.Away c, refl)))
 leaving_from-others u side t (place.Ask p c) = stays u side
 leaving_from-others u side t (place.Away c) = stays u side
 
-leaving-others : (u : UnitState) (o : Own) (side : Side) → ((k : Side) (t : ℕ) (at : Place) → o ≡ own.Owned k t at → k ≡ side) → Others u side (leaving u o)
+leaving-others : (u : UnitState) (o : Own) (side : Side) → ((k : Side) (t : ℕ) (at : Connection) → o ≡ own.Owned k t at → k ≡ side) → Others u side (leaving u o)
 leaving-others u own.Idle side f = stays u side
 leaving-others u (own.Owned k t at) side f = subst (λ (j : Side). IsOther u (unit_after u (leaving_from u k t at)) j) (f k t at refl) (leaving_from-others u k t at)
 
-asking_from-others : (u : UnitState) (side : Side) (t : ℕ) (at : Place) (p : ℕ) → Others u side (asking_from u side t at p)
+asking_from-others : (u : UnitState) (side : Side) (t : ℕ) (at : Connection) (p : ℕ) → Others u side (asking_from u side t at p)
 asking_from-others u side t (place.On q c) p = stays u side
 asking_from-others u side t (place.Ask q c) p = owns-now u _ side refl refl (inr (inr (t, place.Ask p (c + 1), refl)))
 asking_from-others u side t (place.Away c) p = owns-now u _ side refl refl (inr (inr (t, place.Ask p (c + 1), refl)))
 
-asking-others : (u : UnitState) (o : Own) (side : Side) (p : ℕ) → ((k : Side) (t : ℕ) (at : Place) → o ≡ own.Owned k t at → k ≡ side) → Others u side (asking u o p)
+asking-others : (u : UnitState) (o : Own) (side : Side) (p : ℕ) → ((k : Side) (t : ℕ) (at : Connection) → o ≡ own.Owned k t at → k ≡ side) → Others u side (asking u o p)
 asking-others u own.Idle side p f = stays u side
 asking-others u (own.Owned k t at) side p f = subst (λ (j : Side). IsOther u (unit_after u (asking_from u k t at p)) j) (f k t at refl) (asking_from-others u k t at p)
 
-pub owner-of-act : (o : Own) (side : Side) → elim o [ own.Idle ↦ None | own.Owned k t at ↦ Some k ] ≡ Some side → (k : Side) (t : ℕ) (at : Place) → o ≡ own.Owned k t at → k ≡ side
+pub owner-of-act : (o : Own) (side : Side) → elim o [ own.Idle ↦ None | own.Owned k t at ↦ Some k ] ≡ Some side → (k : Side) (t : ℕ) (at : Connection) → o ≡ own.Owned k t at → k ≡ side
 owner-of-act own.Idle side e k t at h = absurd (cc e)
 owner-of-act (own.Owned j v x) side e k t at h = cc (sym (ap (λ (o : Own). elim o [ own.Idle ↦ None | own.Owned j v x ↦ Some j ]) h) ∙ e)
 

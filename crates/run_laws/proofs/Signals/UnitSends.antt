@@ -11,12 +11,12 @@ use Rattle.chan_model.specs.Signals.{Down, Load, Up}
 use Rattle.chan_model.specs.declared.signal.Down.TheVariants as down
 use Rattle.chan_model.specs.declared.signal.OnPath.{OnPath}
 use Rattle.chan_model.specs.declared.signal.Up.TheVariants as up
-use Rattle.chan_model.specs.declared.unit_state.AtHand.{AtHand}
+use Rattle.chan_model.specs.declared.unit_state.CurrentCommand.{CurrentCommand}
 use Rattle.chan_model.specs.declared.unit_state.Attention.{Attention}
 use Rattle.chan_model.specs.declared.unit_state.Own.{Own}
 use Rattle.chan_model.specs.declared.unit_state.Own.TheVariants as own
-use Rattle.chan_model.specs.declared.unit_state.Place.{Place}
-use Rattle.chan_model.specs.declared.unit_state.Place.TheVariants as place
+use Rattle.chan_model.specs.declared.unit_state.Connection.{Connection}
+use Rattle.chan_model.specs.declared.unit_state.Connection.TheVariants as place
 use Rattle.chan_model.specs.declared.unit_state.Progress.{Progress}
 use Rattle.chan_model.specs.declared.unit_state.Progress.TheVariants as progress
 use Rattle.chan_model.specs.declared.unit_state.UnitState.{UnitState}
@@ -84,7 +84,7 @@ less u v side o f = record { floor = omega (arith, f); off = inl (ap (λ (x : Ow
 off : (u v : UnitState) (side : Side) → floor_of v side ≡ floor_of u side → on_side v.own side ≡ None → IsLess u v side
 off u v side f o = record { floor = omega (arith, f); off = inr o }
 
-hand-floor : (u : UnitState) (x : Option AtHand) (side : Side) → floor_of (record u { at_hand = x }) side ≡ floor_of u side
+hand-floor : (u : UnitState) (x : Option CurrentCommand) (side : Side) → floor_of (record u { at_hand = x }) side ≡ floor_of u side
 hand-floor u x First = refl
 hand-floor u x Second = refl
 
@@ -95,10 +95,10 @@ own-floor : (u : UnitState) (o : Own) (side : Side) → floor_of (record u { own
 own-floor u o First = refl
 own-floor u o Second = refl
 
-on-owned : (side : Side) (t : ℕ) (at : Place) → on_side (own.Owned side t at) side ≡ on_place t at
+on-owned : (side : Side) (t : ℕ) (at : Connection) → on_side (own.Owned side t at) side ≡ on_place t at
 on-owned side t at = ap (λ (b : Bool). if b then on_place t at else None) (same-side side)
 
-commanded-floor : (u : UnitState) (n : ℕ) (x : Option AtHand) (side : Side) → floor_of (record u { last_command = n; at_hand = x }) side ≡ floor_of u side
+commanded-floor : (u : UnitState) (n : ℕ) (x : Option CurrentCommand) (side : Side) → floor_of (record u { last_command = n; at_hand = x }) side ≡ floor_of u side
 commanded-floor u n x First = refl
 commanded-floor u n x Second = refl
 
@@ -153,25 +153,25 @@ takes-takes side u p d may above = taken-takes side u p d _ above (taken.takes-b
 abbrev IsOn : UnitState → Side → ℕ → ℕ → ℕ → Type 0
 IsOn u side t p c = on_side u.own side ≡ Some (linked t p c)
 
-data-sends : (side : Side) (u : UnitState) (p t c n s : ℕ) (x : AtHand) (load : Load) → IsOn u side t p c → Acts side u (sends_up p (up.Data load t c n s)) (record u { at_hand = Some x })
+data-sends : (side : Side) (u : UnitState) (p t c n s : ℕ) (x : CurrentCommand) (load : Load) → IsOn u side t p c → Acts side u (sends_up p (up.Data load t c n s)) (record u { at_hand = Some x })
 data-sends side u p t c n s x load on = Sends t p c (up.Data load t c n s) _ (refl, refl) on (hand-floor u (Some x) side) refl
 
-hand-acts : (side : Side) (u : UnitState) (x : AtHand) → Acts side u None (record u { at_hand = Some x })
+hand-acts : (side : Side) (u : UnitState) (x : CurrentCommand) → Acts side u None (record u { at_hand = Some x })
 hand-acts side u x = Idles None _ tt (less u _ side refl (hand-floor u (Some x) side))
 
-absorbed-acts : (side : Side) (u : UnitState) (p t c : ℕ) (x : AtHand) (given : Option (List ℕ)) (count : ℕ) → IsOn u side t p c → ActsOut side u (report_absorbed u p t c x given count)
+absorbed-acts : (side : Side) (u : UnitState) (p t c : ℕ) (x : CurrentCommand) (given : Option (List ℕ)) (count : ℕ) → IsOn u side t p c → ActsOut side u (report_absorbed u p t c x given count)
 absorbed-acts side u p t c x None count on = idles side u
 absorbed-acts side u p t c x (Some bytes) count on = if-acts side u (nat_le count (length bytes)) _ None (λ e. data-sends side u p t c _ _ _ _ on) (idles side u)
 
-again-acts : (side : Side) (u : UnitState) (p t c : ℕ) (x : AtHand) (load : Option Load) → IsOn u side t p c → ActsOut side u (sent_again u p t c x load)
+again-acts : (side : Side) (u : UnitState) (p t c : ℕ) (x : CurrentCommand) (load : Option Load) → IsOn u side t p c → ActsOut side u (sent_again u p t c x load)
 again-acts side u p t c x None on = idles side u
 again-acts side u p t c x (Some load) on = if-acts side u x.again _ None (λ e. data-sends side u p t c _ _ _ _ on) (idles side u)
 
-end-acts : (side : Side) (u : UnitState) (p t c : ℕ) (x : AtHand) (n : ℕ) (status : DeviceStatus) (more : Bool) → IsOn u side t p c →
+end-acts : (side : Side) (u : UnitState) (p t c : ℕ) (x : CurrentCommand) (n : ℕ) (status : DeviceStatus) (more : Bool) → IsOn u side t p c →
     Acts side u (sends_up p (up.End t n status more)) (record u { at_hand = Some x })
 end-acts side u p t c x n status more on = Sends t p c (up.End t n status more) _ refl on (hand-floor u (Some x) side) refl
 
-answer-acts : (side : Side) (u : UnitState) (p t c : ℕ) (x : AtHand) (at : Progress) (a : DeviceAnswer) → IsOn u side t p c → ActsOut side u (answer_taken u p t c x at a)
+answer-acts : (side : Side) (u : UnitState) (p t c : ℕ) (x : CurrentCommand) (at : Progress) (a : DeviceAnswer) → IsOn u side t p c → ActsOut side u (answer_taken u p t c x at a)
 answer-acts side u p t c x at (answer.Ended status more) on = if-acts side u (may_end u.halted x at status more) _ None (λ e. end-acts side u p t c _ _ _ _ on) (idles side u)
 answer-acts side u p t c x progress.New answer.Begins on = if-acts side u (is_outward x.code) _ _ (λ e. data-sends side u p t c _ _ _ _ on) (hand-acts side u _)
 answer-acts side u p t c x progress.New (answer.Absorbed count) on = idles side u
@@ -188,10 +188,10 @@ answer-acts side u p t c x progress.Ended (answer.Supplied bytes) on = idles sid
 answer-acts side u p t c x progress.Ended answer.Again on = idles side u
 answer-acts side u p t c x progress.ChannelEnded other on = idles side u
 
-owned-on : (u : UnitState) (side k : Side) (t : ℕ) (at : Place) → u.own ≡ own.Owned k t at → same_side k side ≡ true → on_side u.own side ≡ on_place t at
+owned-on : (u : UnitState) (side k : Side) (t : ℕ) (at : Connection) → u.own ≡ own.Owned k t at → same_side k side ≡ true → on_side u.own side ≡ on_place t at
 owned-on u side k t at e s = ap (λ (o : Own). on_side o side) e ∙ ap (λ (b : Bool). if b then on_place t at else None) s
 
-report_on-acts : (side : Side) (u : UnitState) (t : ℕ) (at : Place) (x : Option AtHand) (r : Report) → on_side u.own side ≡ on_place t at → ActsOut side u (report_on u t at x r)
+report_on-acts : (side : Side) (u : UnitState) (t : ℕ) (at : Connection) (x : Option CurrentCommand) (r : Report) → on_side u.own side ≡ on_place t at → ActsOut side u (report_on u t at x r)
 report_on-acts side u t (place.On p c) None r on = idles side u
 report_on-acts side u t (place.On p c) (Some x) r on =
     if-acts side u (r.sequence == x.sequence) (answer_taken u p t c x x.progress r.answer) None (λ e. answer-acts side u p t c x x.progress r.answer on) (idles side u)
@@ -209,28 +209,28 @@ pub reports-acts : (u : UnitState) (r : Report) → ActsOut r.side u (unit_repor
 reports-acts u r = report_of-acts u u.own r refl
 
 -- acts
-leaving-floor : (u : UnitState) (o : Own) (x : Option AtHand) (side : Side) → floor_of (record u { own = o; at_hand = x }) side ≡ floor_of u side
+leaving-floor : (u : UnitState) (o : Own) (x : Option CurrentCommand) (side : Side) → floor_of (record u { own = o; at_hand = x }) side ≡ floor_of u side
 leaving-floor u o x First = refl
 leaving-floor u o x Second = refl
 
-leaving_from-acts : (side : Side) (u : UnitState) (t : ℕ) (at : Place) → u.own ≡ own.Owned side t at → ActsOut side u (leaving_from u side t at)
+leaving_from-acts : (side : Side) (u : UnitState) (t : ℕ) (at : Connection) → u.own ≡ own.Owned side t at → ActsOut side u (leaving_from u side t at)
 leaving_from-acts side u t (place.On p c) e =
     Leaves t p c _ (owned-on u side side t (place.On p c) e (same-side side)) (leaving-floor u (own.Owned side t (place.Away c)) (marked_again u.at_hand) side) (on-owned side t (place.Away c))
 leaving_from-acts side u t (place.Ask p c) e = idles side u
 leaving_from-acts side u t (place.Away c) e = idles side u
 
-leaving-acts : (side : Side) (u : UnitState) (o : Own) → u.own ≡ o → ((k : Side) (t : ℕ) (at : Place) → o ≡ own.Owned k t at → k ≡ side) → ActsOut side u (leaving u o)
+leaving-acts : (side : Side) (u : UnitState) (o : Own) → u.own ≡ o → ((k : Side) (t : ℕ) (at : Connection) → o ≡ own.Owned k t at → k ≡ side) → ActsOut side u (leaving u o)
 leaving-acts side u own.Idle e f = idles side u
 leaving-acts side u (own.Owned k t at) e f = subst (λ (j : Side). ActsOut j u (leaving_from u k t at)) (f k t at refl) (leaving_from-acts k u t at e)
 
-asking_from-acts : (side : Side) (u : UnitState) (t : ℕ) (at : Place) (p : ℕ) → ActsOut side u (asking_from u side t at p)
+asking_from-acts : (side : Side) (u : UnitState) (t : ℕ) (at : Connection) (p : ℕ) → ActsOut side u (asking_from u side t at p)
 asking_from-acts side u t (place.On q c) p = idles side u
 asking_from-acts side u t (place.Ask q c) p =
     Idles _ _ tt (off u _ side (own-floor u (own.Owned side t (place.Ask p (c + 1))) side) (on-owned side t (place.Ask p (c + 1))))
 asking_from-acts side u t (place.Away c) p =
     Idles _ _ tt (off u _ side (own-floor u (own.Owned side t (place.Ask p (c + 1))) side) (on-owned side t (place.Ask p (c + 1))))
 
-asking-acts : (side : Side) (u : UnitState) (o : Own) (p : ℕ) → ((k : Side) (t : ℕ) (at : Place) → o ≡ own.Owned k t at → k ≡ side) → ActsOut side u (asking u o p)
+asking-acts : (side : Side) (u : UnitState) (o : Own) (p : ℕ) → ((k : Side) (t : ℕ) (at : Connection) → o ≡ own.Owned k t at → k ≡ side) → ActsOut side u (asking u o p)
 asking-acts side u own.Idle p f = idles side u
 asking-acts side u (own.Owned k t at) p f = subst (λ (j : Side). ActsOut j u (asking_from u k t at p)) (f k t at refl) (asking_from-acts k u t at p)
 

@@ -14,11 +14,11 @@ use Rattle.chan_model.specs.Signals.{Down, Load, Up}
 use Rattle.chan_model.specs.declared.signal.Down.TheVariants as down
 use Rattle.chan_model.specs.declared.signal.OnPath.{OnPath}
 use Rattle.chan_model.specs.declared.signal.Up.TheVariants as up
-use Rattle.chan_model.specs.declared.unit_state.AtHand.{AtHand}
+use Rattle.chan_model.specs.declared.unit_state.CurrentCommand.{CurrentCommand}
 use Rattle.chan_model.specs.declared.unit_state.Own.{Own}
 use Rattle.chan_model.specs.declared.unit_state.Own.TheVariants as own
-use Rattle.chan_model.specs.declared.unit_state.Place.{Place}
-use Rattle.chan_model.specs.declared.unit_state.Place.TheVariants as place
+use Rattle.chan_model.specs.declared.unit_state.Connection.{Connection}
+use Rattle.chan_model.specs.declared.unit_state.Connection.TheVariants as place
 use Rattle.chan_model.specs.declared.unit_state.Progress.{Progress}
 use Rattle.chan_model.specs.declared.unit_state.Progress.TheVariants as progress
 use Rattle.chan_model.specs.declared.unit_state.UnitState.{UnitState}
@@ -187,7 +187,7 @@ abbrev taken_in : Reply → Bool
 taken_in (reply.Down d taken sent) = taken
 taken_in r = false
 
-connected-is : (at : seen.Place) (c : ℕ) → is_connected_by at c ≡ true → (p : ℕ) × (at ≡ Connected p c)
+connected-is : (at : seen.Connection) (c : ℕ) → is_connected_by at c ≡ true → (p : ℕ) × (at ≡ Connected p c)
 connected-is (Connected p d) c e = (p, ap (λ (n : ℕ). Connected p n) (sym (eqb-true c d e)))
 connected-is (Asking p d) c e = absurd (cc e)
 connected-is (Apart d) c e = absurd (cc e)
@@ -195,7 +195,7 @@ connected-is (Apart d) c e = absurd (cc e)
 same-way : (a b : ℕ) (o : Option ℕ) → o ≡ Some a → o ≡ Some b → a ≡ b
 same-way a b o e f = cc (sym e ∙ f)
 
-placed-is : (ways : Ways) (t p q c : ℕ) (at : seen.Place) → at ≡ Connected q c → IsPlaced ways t at → ways t c ≡ Some p → at ≡ Connected p c
+placed-is : (ways : Ways) (t p q c : ℕ) (at : seen.Connection) → at ≡ Connected q c → IsPlaced ways t at → ways t c ≡ Some p → at ≡ Connected p c
 placed-is ways t p q c at e w f = e ∙ ap (λ (n : ℕ). Connected n c) (same-way q p (ways t c) (subst (IsPlaced ways t) e w) f)
 
 given-held : (ways : Ways) (f : ℕ) (o : Option Held) (side : Side) (p t c n s : ℕ) → OwnWay ways f o side → ways t c ≡ Some p →
@@ -281,15 +281,15 @@ if-sends : (ways : Ways) (k : Holding) (side : Side) (b : Bool) (x y : Option Un
 if-sends ways k side true x y e f = e
 if-sends ways k side false x y e f = f
 
-absorbed-sends : (ways : Ways) (k : Holding) (side : Side) (u : UnitState) (p t c : ℕ) (x : AtHand) (given : Option (List ℕ)) (count : ℕ) → OnWay ways k side p t c → Sends ways k side (report_absorbed u p t c x given count)
+absorbed-sends : (ways : Ways) (k : Holding) (side : Side) (u : UnitState) (p t c : ℕ) (x : CurrentCommand) (given : Option (List ℕ)) (count : ℕ) → OnWay ways k side p t c → Sends ways k side (report_absorbed u p t c x given count)
 absorbed-sends ways k side u p t c x None count w = tt
 absorbed-sends ways k side u p t c x (Some bytes) count w = if-sends ways k side (nat_le count (length bytes)) _ None w tt
 
-again-sends : (ways : Ways) (k : Holding) (side : Side) (u : UnitState) (p t c : ℕ) (x : AtHand) (load : Option Load) → OnWay ways k side p t c → Sends ways k side (sent_again u p t c x load)
+again-sends : (ways : Ways) (k : Holding) (side : Side) (u : UnitState) (p t c : ℕ) (x : CurrentCommand) (load : Option Load) → OnWay ways k side p t c → Sends ways k side (sent_again u p t c x load)
 again-sends ways k side u p t c x None w = tt
 again-sends ways k side u p t c x (Some load) w = if-sends ways k side x.again _ None w tt
 
-answer-sends : (ways : Ways) (k : Holding) (side : Side) (u : UnitState) (p t c : ℕ) (x : AtHand) (at : Progress) (a : DeviceAnswer) → OnWay ways k side p t c → Sends ways k side (answer_taken u p t c x at a)
+answer-sends : (ways : Ways) (k : Holding) (side : Side) (u : UnitState) (p t c : ℕ) (x : CurrentCommand) (at : Progress) (a : DeviceAnswer) → OnWay ways k side p t c → Sends ways k side (answer_taken u p t c x at a)
 answer-sends ways k side u p t c x at (answer.Ended status more) w = if-sends ways k side (may_end u.halted x at status more) _ None tt tt
 answer-sends ways k side u p t c x progress.New answer.Begins w = if-sends ways k side (is_outward x.code) _ _ w tt
 answer-sends ways k side u p t c x progress.New (answer.Absorbed count) w = tt
@@ -305,7 +305,7 @@ answer-sends ways k side u p t c x progress.Ended (answer.Supplied bytes) w = tt
 answer-sends ways k side u p t c x progress.Ended answer.Again w = tt
 answer-sends ways k side u p t c x progress.ChannelEnded other w = tt
 
-report_on-sends : (ways : Ways) (side j : Side) (u : UnitState) (t : ℕ) (at : Place) (x : Option AtHand) (r : Report) → u.own ≡ own.Owned j t at → same_side j side ≡ true →
+report_on-sends : (ways : Ways) (side j : Side) (u : UnitState) (t : ℕ) (at : Connection) (x : Option CurrentCommand) (r : Report) → u.own ≡ own.Owned j t at → same_side j side ≡ true →
     OwnWay ways (side_seen (holding_of u) side).number (holding_of u).holder side → Sends ways (holding_of u) side (report_on u t at x r)
 report_on-sends ways side j u t (place.On p c) None r e s w = tt
 report_on-sends ways side j u t (place.On p c) (Some x) r e s w =
@@ -335,7 +335,7 @@ acted-own : (ways : Ways) (u : UnitState) (side : Side) (what : UnitAct) → Own
     OwnWay (way_acted side what (holding_of u).holder ways) (side_seen (acted_after what (holding_of u)) side).number (acted_after what (holding_of u)).holder side
 acted-own ways u side what w = (act-follows (holding_of u) side what ways).own w
 
-leaving_from-sends : (ways : Ways) (u : UnitState) (side : Side) (t : ℕ) (at : Place) → u.own ≡ own.Owned side t at → OwnWay ways (side_seen (holding_of u) side).number (holding_of u).holder side →
+leaving_from-sends : (ways : Ways) (u : UnitState) (side : Side) (t : ℕ) (at : Connection) → u.own ≡ own.Owned side t at → OwnWay ways (side_seen (holding_of u) side).number (holding_of u).holder side →
     ActsBy ways u side act.Leave (leaving_from u side t at)
 leaving_from-sends ways u side t (place.On p c) e w =
     (act-follows (holding_of u) side act.Leave ways).way p t c
@@ -343,13 +343,13 @@ leaving_from-sends ways u side t (place.On p c) e w =
 leaving_from-sends ways u side t (place.Ask p c) e w = tt
 leaving_from-sends ways u side t (place.Away c) e w = tt
 
-leaving-sends : (ways : Ways) (u : UnitState) (side : Side) (o : Own) → u.own ≡ o → ((k : Side) (t : ℕ) (at : Place) → o ≡ own.Owned k t at → k ≡ side) →
+leaving-sends : (ways : Ways) (u : UnitState) (side : Side) (o : Own) → u.own ≡ o → ((k : Side) (t : ℕ) (at : Connection) → o ≡ own.Owned k t at → k ≡ side) →
     OwnWay ways (side_seen (holding_of u) side).number (holding_of u).holder side → ActsBy ways u side act.Leave (leaving u o)
 leaving-sends ways u side own.Idle e f w = tt
 leaving-sends ways u side (own.Owned k t at) e f w =
     subst (λ (j : Side). ActsBy ways u side act.Leave (leaving_from u j t at)) (sym (f k t at refl)) (leaving_from-sends ways u side t at (e ∙ ap (λ (j : Side). own.Owned j t at) (f k t at refl)) w)
 
-asking_from-sends : (ways : Ways) (u : UnitState) (side : Side) (t : ℕ) (at : Place) (p : ℕ) → u.own ≡ own.Owned side t at → OwnWay ways (side_seen (holding_of u) side).number (holding_of u).holder side →
+asking_from-sends : (ways : Ways) (u : UnitState) (side : Side) (t : ℕ) (at : Connection) (p : ℕ) → u.own ≡ own.Owned side t at → OwnWay ways (side_seen (holding_of u) side).number (holding_of u).holder side →
     ActsBy ways u side (act.Ask p) (asking_from u side t at p)
 asking_from-sends ways u side t (place.On q c) p e w = tt
 asking_from-sends ways u side t (place.Ask q c) p e w =
@@ -361,7 +361,7 @@ asking_from-sends ways u side t (place.Away c) p e w =
     (record { side = side; number = t; place = Asking p (c + 1); command = u.last_command; transfer = transfer_in u.at_hand; halted = u.halted }) p (c + 1)
     (ap (λ (o : Own). option_map (moved (seen.asking p)) (holder_in u o)) e) (same-side side) refl (λ y. y) (acted-own ways u side (act.Ask p) w)
 
-asking-sends : (ways : Ways) (u : UnitState) (side : Side) (o : Own) (p : ℕ) → u.own ≡ o → ((k : Side) (t : ℕ) (at : Place) → o ≡ own.Owned k t at → k ≡ side) →
+asking-sends : (ways : Ways) (u : UnitState) (side : Side) (o : Own) (p : ℕ) → u.own ≡ o → ((k : Side) (t : ℕ) (at : Connection) → o ≡ own.Owned k t at → k ≡ side) →
     OwnWay ways (side_seen (holding_of u) side).number (holding_of u).holder side → ActsBy ways u side (act.Ask p) (asking u o p)
 asking-sends ways u side own.Idle p e f w = tt
 asking-sends ways u side (own.Owned k t at) p e f w =

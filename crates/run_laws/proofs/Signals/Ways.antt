@@ -13,7 +13,7 @@ use Rattle.chan_model.specs.declared.signal.OnPath.{OnPath}
 use Rattle.chan_model.specs.declared.signal.Up.TheVariants as up
 use Rattle.chan_model.specs.Sides.{same_side}
 use Rattle.step_laws.proofs.Places.{same-or-not}
-use Rattle.run_laws.specs.Devices.{Place, Connected, Asking, Apart, Transfer, Held, Asked, commanded, with_transfer, answered, given, Holding, SideSeen, side_seen, with_seen, with_answered, let_go, is_held_by, with_holder, granted, parted, asking, moved, with_restart, held_after, quiet_after, acted_after, held_met}
+use Rattle.run_laws.specs.Devices.{Connection, Connected, Asking, Apart, Transfer, Held, Asked, commanded, with_transfer, answered, given, Holding, SideSeen, side_seen, with_seen, with_answered, let_go, is_held_by, with_holder, granted, parted, asking, moved, with_restart, held_after, quiet_after, acted_after, held_met}
 use Rattle.run_laws.specs.OneHolder.{connection_of, IsHigher, IsNumbered, IsAnswerNumbered}
 use Rattle.run_laws.specs.DevicePaths.{Ways, with_way, way_answered, way_met, way_asked}
 
@@ -29,7 +29,7 @@ pub record OnWay (ways : Ways) (k : Holding) (side : Side) (p t c : ℕ) : Type 
   pub past : IsPast k.holder side t c
 
 -- and so is the program that holds the device
-abbrev pub IsPlaced : Ways → ℕ → Place → Type 0
+abbrev pub IsPlaced : Ways → ℕ → Connection → Type 0
 IsPlaced ways t (Connected p c) = ways t c ≡ Some p
 IsPlaced ways t (Asking p c) = ways t c ≡ Some p
 IsPlaced ways t (Apart c) = Unit {0}
@@ -206,22 +206,22 @@ moved-follows k side ways f m =
     follows-by k (with_holder f k) side ways (rises-to k (with_holder f k) side (side_seen k side) (held-seen k (option_map f k.holder) side) (omega arith))
     (λ t c x. moved-past ways f k.holder side t c m x) (λ g x. moved-own ways f g k.holder side m x)
 
-granted-connection : (at : Place) → connection_of (granted at) ≡ connection_of at
+granted-connection : (at : Connection) → connection_of (granted at) ≡ connection_of at
 granted-connection (Connected p c) = refl
 granted-connection (Asking p c) = refl
 granted-connection (Apart c) = refl
 
-granted-placed : (ways : Ways) (t : ℕ) (at : Place) → IsPlaced ways t at → IsPlaced ways t (granted at)
+granted-placed : (ways : Ways) (t : ℕ) (at : Connection) → IsPlaced ways t at → IsPlaced ways t (granted at)
 granted-placed ways t (Connected p c) x = x
 granted-placed ways t (Asking p c) x = x
 granted-placed ways t (Apart c) x = x
 
-parted-connection : (at : Place) → connection_of (parted at) ≡ connection_of at
+parted-connection : (at : Connection) → connection_of (parted at) ≡ connection_of at
 parted-connection (Connected p c) = refl
 parted-connection (Asking p c) = refl
 parted-connection (Apart c) = refl
 
-parted-placed : (ways : Ways) (t : ℕ) (at : Place) → IsPlaced ways t (parted at)
+parted-placed : (ways : Ways) (t : ℕ) (at : Connection) → IsPlaced ways t (parted at)
 parted-placed ways t (Connected p c) = tt
 parted-placed ways t (Asking p c) = tt
 parted-placed ways t (Apart c) = tt
@@ -295,7 +295,7 @@ asked-way : (o : Option Held) (side : Side) (path : ℕ) (ways : Ways) (p t c : 
 asked-way None side path ways p t c e past = e
 asked-way (Some h) side path ways p t c e past = asked-if (same_side h.side side) h path ways p t c e past
 
-asking-connection : (path : ℕ) (at : Place) → connection_of (asking path at) ≡ connection_of at + 1
+asking-connection : (path : ℕ) (at : Connection) → connection_of (asking path at) ≡ connection_of at + 1
 asking-connection path (Connected p c) = refl
 asking-connection path (Asking p c) = refl
 asking-connection path (Apart c) = refl
@@ -307,7 +307,7 @@ asked-past (Some h) side path t c x = λ s e.
     let n : connection_of (asking path h.place) ≡ connection_of h.place + 1 = asking-connection path h.place in
     omega (arith, l, n)
 
-asking-placed : (path t : ℕ) (at : Place) (ways : Ways) → ways t (connection_of at + 1) ≡ Some path → IsPlaced ways t (asking path at)
+asking-placed : (path t : ℕ) (at : Connection) (ways : Ways) → ways t (connection_of at + 1) ≡ Some path → IsPlaced ways t (asking path at)
 asking-placed path t (Connected p c) ways e = e
 asking-placed path t (Asking p c) ways e = e
 asking-placed path t (Apart c) ways e = e

@@ -15,7 +15,7 @@ use Rattle.chan_events.specs.declared.reply.Entry.{Entry}
 use Rattle.chan_events.specs.declared.reply.Reply.TheVariants as reply
 use Rattle.chan_model.specs.Reports.{DeviceAnswer, Report}
 use Rattle.chan_model.specs.declared.report.DeviceAnswer.TheVariants as answer
-use Rattle.chan_model.specs.declared.unit_state.AtHand.{AtHand}
+use Rattle.chan_model.specs.declared.unit_state.CurrentCommand.{CurrentCommand}
 use Rattle.chan_model.specs.declared.unit_state.UnitState.{UnitState}
 use Rattle.chan_model.specs.UnitTable as unit_table
 use Rattle.chan_model.specs.UnitTable.{UnitStep, unit_takes}
@@ -261,7 +261,7 @@ sunk-held may sub path u t k e h =
     (if-ok (λ t. KeptBy t.sub.state (taken_at t.reply k)) (nat_lt path (length sub.setup.paths)) (down_front may sub path u (slice_get (queue sub.wires.down path) 0)) (Err fault.NoSuchPath)
     (down_front-held may sub path u (slice_get (queue sub.wires.down path) 0) k h) tt)
 
-absorbs-held : (s : SubchannelState) (count : ℕ) (x : Option AtHand) (k : ProgramTrace) → IsKept s k → IsKept s (absorbs count x k)
+absorbs-held : (s : SubchannelState) (count : ℕ) (x : Option CurrentCommand) (k : ProgramTrace) → IsKept s k → IsKept s (absorbs count x k)
 absorbs-held s count None k h = h
 absorbs-held s count (Some x) k h = by x.given
   where
@@ -269,7 +269,7 @@ absorbs-held s count (Some x) k h = by x.given
     by None = h
     by (Some bytes) = untaken-held s k k.taken (k.absorbed ++ take count bytes) h
 
-report-if : (s : SubchannelState) (count : ℕ) (x : Option AtHand) (k : ProgramTrace) (b : Bool) → IsKept s k → IsKept s (if b then absorbs count x k else k)
+report-if : (s : SubchannelState) (count : ℕ) (x : Option CurrentCommand) (k : ProgramTrace) (b : Bool) → IsKept s k → IsKept s (if b then absorbs count x k else k)
 report-if s count x k true h = absorbs-held s count x k h
 report-if s count x k false h = h
 

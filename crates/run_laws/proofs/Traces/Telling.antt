@@ -12,7 +12,7 @@ use Rattle.chan_model.specs.Signals.{Down, Up}
 use Rattle.chan_model.specs.declared.signal.Down.TheVariants as down
 use Rattle.chan_model.specs.declared.signal.OnPath.{OnPath}
 use Rattle.chan_model.specs.declared.signal.Up.TheVariants as up
-use Rattle.chan_model.specs.declared.unit_state.AtHand.{AtHand}
+use Rattle.chan_model.specs.declared.unit_state.CurrentCommand.{CurrentCommand}
 use Rattle.chan_model.specs.declared.unit_state.UnitState.{UnitState}
 use Rattle.chan_model.specs.PathSets.{has_path}
 use Rattle.chan_events.specs.Events.{Event}
@@ -260,7 +260,7 @@ offers-by old (reply.Offered t p true) a k after e i o by = let on = by t p true
 offers-by old r a k after e i o by = ap (told a) e
 
 -- a report
-absorbed-by : (count : ℕ) (x : Option AtHand) (k : ProgramTrace) → (absorbed : List ℕ) × (absorbs count x k ≡ record k { absorbed = absorbed })
+absorbed-by : (count : ℕ) (x : Option CurrentCommand) (k : ProgramTrace) → (absorbed : List ℕ) × (absorbs count x k ≡ record k { absorbed = absorbed })
 absorbed-by count None k = (k.absorbed, refl)
 absorbed-by count (Some x) k = by x.given
   where
@@ -268,7 +268,7 @@ absorbed-by count (Some x) k = by x.given
     by None = (k.absorbed, refl)
     by (Some bytes) = (_, refl)
 
-absorbed-if : (b : Bool) (count : ℕ) (x : Option AtHand) (k : ProgramTrace) → (absorbed : List ℕ) × ((if b then absorbs count x k else k) ≡ record k { absorbed = absorbed })
+absorbed-if : (b : Bool) (count : ℕ) (x : Option CurrentCommand) (k : ProgramTrace) → (absorbed : List ℕ) × ((if b then absorbs count x k else k) ≡ record k { absorbed = absorbed })
 absorbed-if true count x k = absorbed-by count x k
 absorbed-if false count x k = (k.absorbed, refl)
 

@@ -7,11 +7,11 @@ use Rattle.chan_model.specs.declared.names.Side.{Side}
 use Rattle.chan_model.specs.declared.names.Side.TheVariants.{First, Second}
 use Rattle.chan_model.specs.Signals.{Down, Up}
 use Rattle.chan_model.specs.declared.signal.OnPath.{OnPath}
-use Rattle.chan_model.specs.declared.unit_state.AtHand.{AtHand}
+use Rattle.chan_model.specs.declared.unit_state.CurrentCommand.{CurrentCommand}
 use Rattle.chan_model.specs.declared.unit_state.Own.{Own}
 use Rattle.chan_model.specs.declared.unit_state.Own.TheVariants as own
-use Rattle.chan_model.specs.declared.unit_state.Place.{Place}
-use Rattle.chan_model.specs.declared.unit_state.Place.TheVariants.{On, Ask, Away}
+use Rattle.chan_model.specs.declared.unit_state.Connection.{Connection}
+use Rattle.chan_model.specs.declared.unit_state.Connection.TheVariants.{On, Ask, Away}
 use Rattle.chan_model.specs.declared.unit_state.SideState.{SideState}
 use Rattle.chan_model.specs.declared.unit_state.UnitState.{UnitState}
 use Rattle.chan_model.specs.UnitTable.{UnitStep, unit_after, side_of, is_owner, is_idle, marked_again, leaving_from, leaving, asking_from, asking, restarted}
@@ -51,11 +51,11 @@ of-still side u v s h = record {
 still-gentle : (side : Side) (u : UnitState) → IsGentle side u u
 still-gentle side u = of-still side u u (still side u) (inl refl)
 
-placed-gentle : (side k : Side) (n : ℕ) (place to : Place) (u : UnitState) → u.own ≡ own.Owned k n place → IsGentle side u (record u { own = own.Owned k n to })
+placed-gentle : (side k : Side) (n : ℕ) (place to : Connection) (u : UnitState) → u.own ≡ own.Owned k n place → IsGentle side u (record u { own = own.Owned k n to })
 placed-gentle side k n place to u o = of-still side u (record u { own = own.Owned k n to }) (same-program side k n place to u o) (inl refl)
 
 -- acts
-leaving_from-gentle : (side : Side) (u : UnitState) (k : Side) (n : ℕ) (place : Place) → u.own ≡ own.Owned k n place → IsGentleStep side u (leaving_from u k n place)
+leaving_from-gentle : (side : Side) (u : UnitState) (k : Side) (n : ℕ) (place : Connection) → u.own ≡ own.Owned k n place → IsGentleStep side u (leaving_from u k n place)
 leaving_from-gentle side u k n (On p c) o =
     let v : UnitState = record u { own = own.Owned k n (Away c); at_hand = marked_again u.at_hand } in
     of-still side u v
@@ -67,7 +67,7 @@ leaving-gentle : (side : Side) (u : UnitState) (o : Own) → u.own ≡ o → IsG
 leaving-gentle side u own.Idle e = still-gentle side u
 leaving-gentle side u (own.Owned k n place) e = leaving_from-gentle side u k n place e
 
-asking_from-gentle : (side : Side) (u : UnitState) (k : Side) (n : ℕ) (place : Place) (p : ℕ) → u.own ≡ own.Owned k n place → IsGentleStep side u (asking_from u k n place p)
+asking_from-gentle : (side : Side) (u : UnitState) (k : Side) (n : ℕ) (place : Connection) (p : ℕ) → u.own ≡ own.Owned k n place → IsGentleStep side u (asking_from u k n place p)
 asking_from-gentle side u k n (On q c) p o = still-gentle side u
 asking_from-gentle side u k n (Ask q c) p o = placed-gentle side k n (Ask q c) _ u o
 asking_from-gentle side u k n (Away c) p o = placed-gentle side k n (Away c) _ u o
@@ -94,7 +94,7 @@ act-gentle side u at (act.Attention p named) = if-gentle side u (is_idle u.own &
 act-gentle side u at (act.Notice p named) = if-gentle side u (side_of u at).fresh _ None (still-gentle side u) (still-gentle side u)
 
 -- what an act sends tells nothing of a command
-leaving_from-quiet : (u : UnitState) (k : Side) (n : ℕ) (place : Place) → IsQuietStep (leaving_from u k n place)
+leaving_from-quiet : (u : UnitState) (k : Side) (n : ℕ) (place : Connection) → IsQuietStep (leaving_from u k n place)
 leaving_from-quiet u k n (On p c) = tt
 leaving_from-quiet u k n (Ask p c) = tt
 leaving_from-quiet u k n (Away c) = tt
@@ -103,7 +103,7 @@ leaving-quiet : (u : UnitState) (o : Own) → IsQuietStep (leaving u o)
 leaving-quiet u own.Idle = tt
 leaving-quiet u (own.Owned k n place) = leaving_from-quiet u k n place
 
-asking_from-quiet : (u : UnitState) (k : Side) (n : ℕ) (place : Place) (p : ℕ) → IsQuietStep (asking_from u k n place p)
+asking_from-quiet : (u : UnitState) (k : Side) (n : ℕ) (place : Connection) (p : ℕ) → IsQuietStep (asking_from u k n place p)
 asking_from-quiet u k n (On q c) p = tt
 asking_from-quiet u k n (Ask q c) p = tt
 asking_from-quiet u k n (Away c) p = tt
@@ -169,10 +169,10 @@ ordered-gentle side drawn number sent codes took wires u v g k =
     record { later = k.later; order = k.order; most = k.most; downs = k.downs; kept = numbered-gentle side drawn number took u v g k.kept }
 
 -- what is claimed of the command at hand, where it stays so as a Data is to be sent again
-abbrev pub StaysMarked : (Option AtHand → Type 0) → Type 0
-StaysMarked P = (x : Option AtHand) → P x → P (marked_again x)
+abbrev pub StaysMarked : (Option CurrentCommand → Type 0) → Type 0
+StaysMarked P = (x : Option CurrentCommand) → P x → P (marked_again x)
 
-pub gentle-held : (side : Side) (number : ℕ) (P : Option AtHand → Type 0) (u v : UnitState) → IsGentle side u v → StaysMarked P → IsHeld side number P u → IsHeld side number P v
+pub gentle-held : (side : Side) (number : ℕ) (P : Option CurrentCommand → Type 0) (u v : UnitState) → IsGentle side u v → StaysMarked P → IsHeld side number P u → IsHeld side number P v
 gentle-held side number P u v g marked h e =
     let o : StaysOwner side number u v = g.owner number e in
     elim o.hand [

@@ -7,11 +7,11 @@ use Rattle.chan_model.specs.declared.names.Side.TheVariants.{First, Second}
 use Rattle.chan_model.specs.Signals.{Down, Load, Up}
 use Rattle.chan_model.specs.declared.signal.Down.TheVariants as down
 use Rattle.chan_model.specs.declared.signal.Up.TheVariants as up
-use Rattle.chan_model.specs.declared.unit_state.AtHand.{AtHand}
+use Rattle.chan_model.specs.declared.unit_state.CurrentCommand.{CurrentCommand}
 use Rattle.chan_model.specs.declared.unit_state.Own.{Own}
 use Rattle.chan_model.specs.declared.unit_state.Own.TheVariants as own
-use Rattle.chan_model.specs.declared.unit_state.Place.{Place}
-use Rattle.chan_model.specs.declared.unit_state.Place.TheVariants.{On, Ask, Away}
+use Rattle.chan_model.specs.declared.unit_state.Connection.{Connection}
+use Rattle.chan_model.specs.declared.unit_state.Connection.TheVariants.{On, Ask, Away}
 use Rattle.chan_model.specs.declared.unit_state.SideState.{SideState}
 use Rattle.chan_model.specs.declared.unit_state.UnitState.{UnitState}
 use Rattle.chan_model.specs.Sides.{same_side}
@@ -34,7 +34,7 @@ calm side u t e = (e, refl)
 calm-own : (side : Side) (u v : UnitState) → v.own ≡ u.own → v.at_hand ≡ u.at_hand → IsCalm side u v
 calm-own side u v o h t e = (ap (λ (x : Own). is_owner x side t) (sym o) ∙ e, h)
 
-calm-place : (side k : Side) (n : ℕ) (place to : Place) (u : UnitState) → u.own ≡ own.Owned k n place → IsCalm side u (record u { own = own.Owned k n to })
+calm-place : (side k : Side) (n : ℕ) (place to : Connection) (u : UnitState) → u.own ≡ own.Owned k n place → IsCalm side u (record u { own = own.Owned k n to })
 calm-place side k n place to u o t e = (ap (λ (x : Own). is_owner x side t) o ∙ e, refl)
 
 calm-idle : (side : Side) (u v : UnitState) → v.own ≡ own.Idle → IsCalm side u v
@@ -63,7 +63,7 @@ IsEasy (down.Give bytes t c n s) = ⊥
 IsEasy d = Unit {0}
 
 -- what a program that holds the device does is no matter of the other side
-owner-calm : (side k : Side) (u v : UnitState) (t : ℕ) (place : Place) → same_side k side ≡ false → IsAt u k t place → v.own ≡ u.own → IsCalm side u v
+owner-calm : (side k : Side) (u v : UnitState) (t : ℕ) (place : Connection) → same_side k side ≡ false → IsAt u k t place → v.own ≡ u.own → IsCalm side u v
 owner-calm side k u v t place e is o n f = absurd (other-owner side k t n place e (ap (λ (x : Own). is_owner x side n) (sym (o ∙ is)) ∙ f))
 
 taken-calm : (side : Side) (u : UnitState) (k : Side) (p : ℕ) (d : Down) (step : Option UnitStep) → IsEasy d ⊎ (same_side k side ≡ false) → Takes u k p d step → IsCalmStep side u step
@@ -98,64 +98,64 @@ is-owner-on own.Idle side t c e = absurd (cc e)
 is-owner-on (own.Owned k v place) side t c e = (and_parts (same_side k side && (t == v)) (is_place_on place c) e).0
 
 -- what holds of the command at hand of a program
-abbrev pub IsHeld : Side → ℕ → (Option AtHand → Type 0) → UnitState → Type 0
+abbrev pub IsHeld : Side → ℕ → (Option CurrentCommand → Type 0) → UnitState → Type 0
 IsHeld side number P u = is_owner u.own side number ≡ true → P u.at_hand
 
-pub calm-held : (side : Side) (number : ℕ) (P : Option AtHand → Type 0) (u v : UnitState) → IsCalm side u v → IsHeld side number P u → IsHeld side number P v
+pub calm-held : (side : Side) (number : ℕ) (P : Option CurrentCommand → Type 0) (u v : UnitState) → IsCalm side u v → IsHeld side number P u → IsHeld side number P v
 calm-held side number P u v c h e = let f = c number e in subst P (sym f.1) (h f.0)
 
-abbrev pub IsHeldStep : Side → ℕ → (Option AtHand → Type 0) → UnitState → Option UnitStep → Type 0
+abbrev pub IsHeldStep : Side → ℕ → (Option CurrentCommand → Type 0) → UnitState → Option UnitStep → Type 0
 IsHeldStep side number P u step = IsHeld side number P (unit_after u step)
 
-if-held : (side : Side) (number : ℕ) (P : Option AtHand → Type 0) (u : UnitState) (c : Bool) (x y : Option UnitStep) → IsHeldStep side number P u x → IsHeldStep side number P u y →
+if-held : (side : Side) (number : ℕ) (P : Option CurrentCommand → Type 0) (u : UnitState) (c : Bool) (x y : Option UnitStep) → IsHeldStep side number P u x → IsHeldStep side number P u y →
     IsHeldStep side number P u (if c then x else y)
 if-held side number P u true x y e f = e
 if-held side number P u false x y e f = f
 
-fresh-held : (side : Side) (number : ℕ) (P : Option AtHand → Type 0) (u : UnitState) (p : ℕ) (step : Option UnitStep) → IsHeld side number P u → IsHeldStep side number P u step →
+fresh-held : (side : Side) (number : ℕ) (P : Option CurrentCommand → Type 0) (u : UnitState) (p : ℕ) (step : Option UnitStep) → IsHeld side number P u → IsHeldStep side number P u step →
     IsHeldStep side number P u (if (side_of u side).fresh then telling u p else step)
 fresh-held side number P u p step h k = if-held side number P u (side_of u side).fresh (telling u p) step h k
 
 -- Select
-raised-held : (side : Side) (number : ℕ) (P : Option AtHand → Type 0) (u : UnitState) (t : ℕ) → IsHeld side number P u → IsHeld side number P (raised u side t)
+raised-held : (side : Side) (number : ℕ) (P : Option CurrentCommand → Type 0) (u : UnitState) (t : ℕ) → IsHeld side number P u → IsHeld side number P (raised u side t)
 raised-held side number P u t h = calm-held side number P u (raised u side t) (calm-side side side u _) h
 
-selected-held : (may : Bool) → (side : Side) (number : ℕ) (P : Option AtHand → Type 0) (u : UnitState) (o : Own) (p t : ℕ) → P None → IsHeld side number P u →
+selected-held : (may : Bool) → (side : Side) (number : ℕ) (P : Option CurrentCommand → Type 0) (u : UnitState) (o : Own) (p t : ℕ) → P None → IsHeld side number P u →
     IsHeldStep side number P u (selected (raised u side t) o side p t may)
 selected-held false side number P u own.Idle p t z h = raised-held side number P u t h
 selected-held true side number P u own.Idle p t z h = λ e. z
 selected-held may side number P u (own.Owned j v place) p t z h = raised-held side number P u t h
 
-pub select-held : (may : Bool) → (side : Side) (number : ℕ) (P : Option AtHand → Type 0) (u : UnitState) (p t : ℕ) → P None → IsHeld side number P u →
+pub select-held : (may : Bool) → (side : Side) (number : ℕ) (P : Option CurrentCommand → Type 0) (u : UnitState) (p t : ℕ) → P None → IsHeld side number P u →
     IsHeldStep side number P u (unit_takes u side p (down.Select t) may)
 select-held may side number P u p t z h =
     fresh-held side number P u p _ h (if-held side number P u (nat_lt (side_of u side).floor t) _ None (selected-held may side number P u u.own p t z h) h)
 
 -- Took
-abbrev pub StaysAnswered : (Option AtHand → Type 0) → Type 0
-StaysAnswered P = (x : AtHand) (l : Load) (room : ℕ) → P (Some x) → P (Some (at_hand_answered x l room))
+abbrev pub StaysAnswered : (Option CurrentCommand → Type 0) → Type 0
+StaysAnswered P = (x : CurrentCommand) (l : Load) (room : ℕ) → P (Some x) → P (Some (at_hand_answered x l room))
 
-load-held : (side : Side) (number : ℕ) (P : Option AtHand → Type 0) (u : UnitState) (x : AtHand) (l : Option Load) (room : ℕ) → StaysAnswered P → u.at_hand ≡ Some x →
+load-held : (side : Side) (number : ℕ) (P : Option CurrentCommand → Type 0) (u : UnitState) (x : CurrentCommand) (l : Option Load) (room : ℕ) → StaysAnswered P → u.at_hand ≡ Some x →
     IsHeld side number P u → IsHeldStep side number P u (answered_load u x l room)
 load-held side number P u x None room f e h = h
 load-held side number P u x (Some l) room f e h = λ o. f x l room (subst P e (h o))
 
-last-held : (side : Side) (number : ℕ) (P : Option AtHand → Type 0) (u : UnitState) (x : Option AtHand) (s room : ℕ) → StaysAnswered P → u.at_hand ≡ x →
+last-held : (side : Side) (number : ℕ) (P : Option CurrentCommand → Type 0) (u : UnitState) (x : Option CurrentCommand) (s room : ℕ) → StaysAnswered P → u.at_hand ≡ x →
     IsHeld side number P u → IsHeldStep side number P u (answered_last u x s room)
 last-held side number P u None s room f e h = h
 last-held side number P u (Some x) s room f e h = if-held side number P u (s == x.sequence) _ None (load-held side number P u x x.unanswered room f e h) h
 
-pub took-held : (may : Bool) → (side : Side) (number : ℕ) (P : Option AtHand → Type 0) (u : UnitState) (p t n s room : ℕ) → StaysAnswered P → IsHeld side number P u →
+pub took-held : (may : Bool) → (side : Side) (number : ℕ) (P : Option CurrentCommand → Type 0) (u : UnitState) (p t n s room : ℕ) → StaysAnswered P → IsHeld side number P u →
     IsHeldStep side number P u (unit_takes u side p (down.Took t n s room) may)
 took-held may side number P u p t n s room f h =
     fresh-held side number P u p _ h
     (if-held side number P u (is_owner u.own side t && (n == u.last_command)) _ None (last-held side number P u u.at_hand s room f refl h) h)
 
 -- Give
-abbrev pub TakesGive : (Option AtHand → Type 0) → ℕ → List ℕ → Type 0
-TakesGive P s bytes = (x : AtHand) → s ≡ x.sequence + 1 → P (Some x) → P (Some (with_given x s bytes))
+abbrev pub TakesGive : (Option CurrentCommand → Type 0) → ℕ → List ℕ → Type 0
+TakesGive P s bytes = (x : CurrentCommand) → s ≡ x.sequence + 1 → P (Some x) → P (Some (with_given x s bytes))
 
-next-held : (side : Side) (number : ℕ) (P : Option AtHand → Type 0) (u : UnitState) (x : Option AtHand) (s : ℕ) (bytes : List ℕ) →
+next-held : (side : Side) (number : ℕ) (P : Option CurrentCommand → Type 0) (u : UnitState) (x : Option CurrentCommand) (s : ℕ) (bytes : List ℕ) →
     (is_owner u.own side number ≡ true → TakesGive P s bytes) → u.at_hand ≡ x → IsHeld side number P u → IsHeldStep side number P u (given_next u x s bytes)
 next-held side number P u None s bytes f e h = h
 next-held side number P u (Some x) s bytes f e h = by (s == x.sequence + 1) refl
@@ -164,7 +164,7 @@ next-held side number P u (Some x) s bytes f e h = by (s == x.sequence + 1) refl
     by true q = λ o. f o x (eqb-true s (x.sequence + 1) q) (subst P e (h o))
     by false q = h
 
-pub give-held : (may : Bool) → (side : Side) (number : ℕ) (P : Option AtHand → Type 0) (u : UnitState) (p t c n s : ℕ) (bytes : List ℕ) →
+pub give-held : (may : Bool) → (side : Side) (number : ℕ) (P : Option CurrentCommand → Type 0) (u : UnitState) (p t c n s : ℕ) (bytes : List ℕ) →
     (t ≡ number → n ≡ u.last_command → is_owner u.own side number ≡ true → TakesGive P s bytes) → IsHeld side number P u →
     IsHeldStep side number P u (unit_takes u side p (down.Give bytes t c n s) may)
 give-held may side number P u p t c n s bytes f h = fresh-held side number P u p _ h (by (is_owner_on u.own side t c) (n == u.last_command) refl refl)
@@ -177,7 +177,7 @@ give-held may side number P u p t c n s bytes f h = fresh-held side number P u p
     by false b i j = h
 
 -- Command, of another number, or not taken
-pub command-held : (may : Bool) → (side : Side) (number : ℕ) (P : Option AtHand → Type 0) (u : UnitState) (p t n code room : ℕ) → IsHeld side number P u →
+pub command-held : (may : Bool) → (side : Side) (number : ℕ) (P : Option CurrentCommand → Type 0) (u : UnitState) (p t n code room : ℕ) → IsHeld side number P u →
     (t ≡ number → silent (came_of (unit_takes u side p (down.Command t n code room) may)) ≡ false) →
     IsHeldStep side number P u (unit_takes u side p (down.Command t n code room) may)
 command-held may side number P u p t n code room h f =

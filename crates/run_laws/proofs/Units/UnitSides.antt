@@ -9,11 +9,11 @@ use Rattle.chan_model.specs.Reports.{DeviceAnswer, Report}
 use Rattle.chan_model.specs.declared.report.DeviceAnswer.TheVariants as answer
 use Rattle.chan_model.specs.Signals.{Down, Load}
 use Rattle.chan_model.specs.declared.signal.Down.TheVariants as down
-use Rattle.chan_model.specs.declared.unit_state.AtHand.{AtHand}
+use Rattle.chan_model.specs.declared.unit_state.CurrentCommand.{CurrentCommand}
 use Rattle.chan_model.specs.declared.unit_state.Own.{Own}
 use Rattle.chan_model.specs.declared.unit_state.Own.TheVariants as own
-use Rattle.chan_model.specs.declared.unit_state.Place.{Place}
-use Rattle.chan_model.specs.declared.unit_state.Place.TheVariants.{On, Ask, Away}
+use Rattle.chan_model.specs.declared.unit_state.Connection.{Connection}
+use Rattle.chan_model.specs.declared.unit_state.Connection.TheVariants.{On, Ask, Away}
 use Rattle.chan_model.specs.declared.unit_state.Progress.{Progress}
 use Rattle.chan_model.specs.declared.unit_state.Progress.TheVariants as progress
 use Rattle.chan_model.specs.declared.unit_state.SideState.{SideState}
@@ -47,7 +47,7 @@ same-sides First u v e f = e
 same-sides Second u v e f = f
 
 -- the place alone is another
-pub same-program : (side k : Side) (n : ℕ) (place to : Place) (u : UnitState) → u.own ≡ own.Owned k n place → IsStill side u (record u { own = own.Owned k n to })
+pub same-program : (side k : Side) (n : ℕ) (place to : Connection) (u : UnitState) → u.own ≡ own.Owned k n place → IsStill side u (record u { own = own.Owned k n to })
 same-program side k n place to u o = record {
   side_state = same-sides side u (record u { own = own.Owned k n to }) refl refl;
   owner = λ t e. (ap (λ (x : Own). is_owner x side t) o ∙ e, refl);
@@ -58,7 +58,7 @@ no-owner : (side : Side) (u v : UnitState) → side_of v side ≡ side_of u side
 no-owner side u v s o = record { side_state = s; owner = λ t e. absurd (cc (sym (ap (λ (x : Own). is_owner x side t) o) ∙ e)) }
 
 -- with another command at hand
-with-hand : (side : Side) (u : UnitState) (x : Option AtHand) → IsStill side u (record u { at_hand = x })
+with-hand : (side : Side) (u : UnitState) (x : Option CurrentCommand) → IsStill side u (record u { at_hand = x })
 with-hand side u x = same-own side u (record u { at_hand = x }) (same-sides side u (record u { at_hand = x }) refl refl) refl refl
 
 -- the other side is changed
@@ -79,7 +79,7 @@ side-last Second u s = refl
 pub same-raised : (side k : Side) (u : UnitState) (s : SideState) → same_side k side ≡ false → IsStill side u (with_side u k s)
 same-raised side k u s e = same-own side u (with_side u k s) (other-side side k u s e) (side-own k u s) (side-last k u s)
 
-pub other-owner : (side k : Side) (n t : ℕ) (place : Place) → same_side k side ≡ false → is_owner (own.Owned k n place) side t ≡ true → ⊥
+pub other-owner : (side k : Side) (n t : ℕ) (place : Connection) → same_side k side ≡ false → is_owner (own.Owned k n place) side t ≡ true → ⊥
 other-owner First First n t place e f = absurd (cc e)
 other-owner First Second n t place e f = absurd (cc f)
 other-owner Second First n t place e f = absurd (cc f)
@@ -122,7 +122,7 @@ begun-other side k u t p e = record { side_state = held-side side k e; owner = �
     held-side Second First e = refl
     held-side Second Second e = absurd (cc e)
 
-commanded-other : (side k : Side) (u : UnitState) (t n : ℕ) (place : Place) (x : Option AtHand) → same_side k side ≡ false → IsAt u k t place → IsStill side u (record u { last_command = n; at_hand = x })
+commanded-other : (side k : Side) (u : UnitState) (t n : ℕ) (place : Connection) (x : Option CurrentCommand) → same_side k side ≡ false → IsAt u k t place → IsStill side u (record u { last_command = n; at_hand = x })
 commanded-other side k u t n place x e is = record {
   side_state = same-sides side u (record u { last_command = n; at_hand = x }) refl refl;
   owner = λ m f. absurd (other-owner side k t m place e (sym (ap (λ (o : Own). is_owner o side m) is) ∙ f));
@@ -156,24 +156,24 @@ pub other-still : (side : Side) (u : UnitState) (k : Side) (p : ℕ) (d : Down) 
 other-still side u k p d may e = taken-still side u k p d _ (inr e) (takes-by u k p d may)
 
 -- a report is of the command at hand alone
-begun-still : (side : Side) (u : UnitState) (p t c : ℕ) (x : AtHand) → IsStillStep side u (command_begun u p t c x)
+begun-still : (side : Side) (u : UnitState) (p t c : ℕ) (x : CurrentCommand) → IsStillStep side u (command_begun u p t c x)
 begun-still side u p t c x = if-still side u (is_outward x.code) _ _ (with-hand side u _) (with-hand side u _)
 
-absorbed-still : (side : Side) (u : UnitState) (p t c : ℕ) (x : AtHand) (bytes : Option (List ℕ)) (count : ℕ) → IsStillStep side u (report_absorbed u p t c x bytes count)
+absorbed-still : (side : Side) (u : UnitState) (p t c : ℕ) (x : CurrentCommand) (bytes : Option (List ℕ)) (count : ℕ) → IsStillStep side u (report_absorbed u p t c x bytes count)
 absorbed-still side u p t c x None count = still side u
 absorbed-still side u p t c x (Some bytes) count = if-still side u (nat_le count (length bytes)) _ None (with-hand side u _) (still side u)
 
-supplied-still : (side : Side) (u : UnitState) (p t c : ℕ) (x : AtHand) (bytes : List ℕ) → IsStillStep side u (report_supplied u p t c x bytes)
+supplied-still : (side : Side) (u : UnitState) (p t c : ℕ) (x : CurrentCommand) (bytes : List ℕ) → IsStillStep side u (report_supplied u p t c x bytes)
 supplied-still side u p t c x bytes = if-still side u (is_to_supply x && nat_le (length bytes) (most_of x)) _ None (with-hand side u _) (still side u)
 
-again-still : (side : Side) (u : UnitState) (p t c : ℕ) (x : AtHand) (load : Option Load) → IsStillStep side u (sent_again u p t c x load)
+again-still : (side : Side) (u : UnitState) (p t c : ℕ) (x : CurrentCommand) (load : Option Load) → IsStillStep side u (sent_again u p t c x load)
 again-still side u p t c x None = still side u
 again-still side u p t c x (Some load) = if-still side u x.again _ None (with-hand side u _) (still side u)
 
-ended-still : (side : Side) (u : UnitState) (p t : ℕ) (x : AtHand) (may : Bool) (status : DeviceStatus) (more : Bool) → IsStillStep side u (if may then end_sent u p t x status more else None)
+ended-still : (side : Side) (u : UnitState) (p t : ℕ) (x : CurrentCommand) (may : Bool) (status : DeviceStatus) (more : Bool) → IsStillStep side u (if may then end_sent u p t x status more else None)
 ended-still side u p t x may status more = if-still side u may (end_sent u p t x status more) None (with-hand side u _) (still side u)
 
-answer-still : (side : Side) (u : UnitState) (p t c : ℕ) (x : AtHand) (at : Progress) (a : DeviceAnswer) → IsStillStep side u (answer_taken u p t c x at a)
+answer-still : (side : Side) (u : UnitState) (p t c : ℕ) (x : CurrentCommand) (at : Progress) (a : DeviceAnswer) → IsStillStep side u (answer_taken u p t c x at a)
 answer-still side u p t c x progress.New answer.Begins = begun-still side u p t c x
 answer-still side u p t c x progress.Working answer.Begins = still side u
 answer-still side u p t c x progress.ChannelEnded answer.Begins = still side u
@@ -192,7 +192,7 @@ answer-still side u p t c x progress.ChannelEnded answer.Again = still side u
 answer-still side u p t c x progress.Ended answer.Again = still side u
 answer-still side u p t c x other (answer.Ended status more) = ended-still side u p t x (may_end u.halted x other status more) (shown_end other status) more
 
-report_on-still : (side : Side) (u : UnitState) (t : ℕ) (place : Place) (x : Option AtHand) (r : Report) → IsStillStep side u (report_on u t place x r)
+report_on-still : (side : Side) (u : UnitState) (t : ℕ) (place : Connection) (x : Option CurrentCommand) (r : Report) → IsStillStep side u (report_on u t place x r)
 report_on-still side u t (On p c) (Some x) r = if-still side u (r.sequence == x.sequence) _ None (answer-still side u p t c x x.progress r.answer) (still side u)
 report_on-still side u t (On p c) None r = still side u
 report_on-still side u t (Ask p c) x r = still side u

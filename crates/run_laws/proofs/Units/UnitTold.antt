@@ -9,11 +9,11 @@ use Rattle.chan_model.specs.declared.report.DeviceAnswer.TheVariants as answer
 use Rattle.chan_model.specs.Signals.{Load}
 use Rattle.chan_model.specs.declared.signal.Load.TheVariants as load
 use Rattle.chan_model.specs.declared.signal.Up.TheVariants as up
-use Rattle.chan_model.specs.declared.unit_state.AtHand.{AtHand}
+use Rattle.chan_model.specs.declared.unit_state.CurrentCommand.{CurrentCommand}
 use Rattle.chan_model.specs.declared.unit_state.Own.{Own}
 use Rattle.chan_model.specs.declared.unit_state.Own.TheVariants as own
-use Rattle.chan_model.specs.declared.unit_state.Place.{Place}
-use Rattle.chan_model.specs.declared.unit_state.Place.TheVariants.{On, Ask, Away}
+use Rattle.chan_model.specs.declared.unit_state.Connection.{Connection}
+use Rattle.chan_model.specs.declared.unit_state.Connection.TheVariants.{On, Ask, Away}
 use Rattle.chan_model.specs.declared.unit_state.Progress.{Progress}
 use Rattle.chan_model.specs.declared.unit_state.Progress.TheVariants as progress
 use Rattle.chan_model.specs.declared.unit_state.UnitState.{UnitState}
@@ -22,13 +22,13 @@ use Rattle.chan_model.specs.UnitTable.{UnitStep}
 use Rattle.chan_model.specs.UnitReports.{is_outward, is_over, is_settled, is_to_supply, most_of, may_end, shown_end, end_sent, with_absorbed, with_supplied, answer_taken, progress_after_end, report_on, report_of, unit_reports, report_absorbed, sent_again}
 
 -- with another command at hand, and a signal sent
-abbrev pub with_hand : UnitState → AtHand → UnitState
+abbrev pub with_hand : UnitState → CurrentCommand → UnitState
 with_hand u x = record u { at_hand = Some x }
 
-abbrev pub telling_data : UnitState → ℕ → ℕ → ℕ → AtHand → Load → UnitStep
+abbrev pub telling_data : UnitState → ℕ → ℕ → ℕ → CurrentCommand → Load → UnitStep
 telling_data u p t c x l = record { state = with_hand u x; sent = Some (record { path = p; signal = up.Data l t c u.last_command x.sequence }) }
 
-pub data IsTold (u : UnitState) (p t c : ℕ) (x : AtHand) : DeviceAnswer → UnitStep → Type 0 where
+pub data IsTold (u : UnitState) (p t c : ℕ) (x : CurrentCommand) : DeviceAnswer → UnitStep → Type 0 where
   Begins_out : x.progress ≡ progress.New → IsTold u p t c x answer.Begins (telling_data u p t c (with_absorbed x 0) (load.Absorbed 0))
   Begins_in : is_outward x.code ≡ false → x.progress ≡ progress.New → IsTold u p t c x answer.Begins (record { state = with_hand u (record x { progress = progress.Working }); sent = None })
   Absorbs : (bytes : List ℕ) (count : ℕ) → x.progress ≡ progress.Working → x.given ≡ Some bytes → count ≤ length bytes →
@@ -40,27 +40,27 @@ pub data IsTold (u : UnitState) (p t c : ℕ) (x : AtHand) : DeviceAnswer → Un
       IsTold u p t c x (answer.Ended given more)
       (record { state = with_hand u (record x { progress = progress_after_end shown }); sent = Some (record { path = p; signal = up.End t u.last_command shown more }) })
 
-abbrev AreTold : UnitState → ℕ → ℕ → ℕ → AtHand → DeviceAnswer → Option UnitStep → Type 0
+abbrev AreTold : UnitState → ℕ → ℕ → ℕ → CurrentCommand → DeviceAnswer → Option UnitStep → Type 0
 AreTold u p t c x a step = (y : UnitStep) → step ≡ Some y → IsTold u p t c x a y
 
-none-told : (u : UnitState) (p t c : ℕ) (x : AtHand) (a : DeviceAnswer) → AreTold u p t c x a None
+none-told : (u : UnitState) (p t c : ℕ) (x : CurrentCommand) (a : DeviceAnswer) → AreTold u p t c x a None
 none-told u p t c x a y e = absurd (cc e)
 
-one-told : (u : UnitState) (p t c : ℕ) (x : AtHand) (a : DeviceAnswer) (z : UnitStep) → IsTold u p t c x a z → AreTold u p t c x a (Some z)
+one-told : (u : UnitState) (p t c : ℕ) (x : CurrentCommand) (a : DeviceAnswer) (z : UnitStep) → IsTold u p t c x a z → AreTold u p t c x a (Some z)
 one-told u p t c x a z k y e = let same : z ≡ y = cc e in subst (IsTold u p t c x a) same k
 
-ended-told : (u : UnitState) (p t c : ℕ) (x : AtHand) (given shown : DeviceStatus) (more may : Bool) →
+ended-told : (u : UnitState) (p t c : ℕ) (x : CurrentCommand) (given shown : DeviceStatus) (more may : Bool) →
     AreTold u p t c x (answer.Ended given more) (if may then end_sent u p t x shown more else None)
 ended-told u p t c x given shown more true = one-told u p t c x (answer.Ended given more) _ (Ends given shown more)
 ended-told u p t c x given shown more false = none-told u p t c x (answer.Ended given more)
 
-begun-told : (u : UnitState) (p t c : ℕ) (x : AtHand) (out : Bool) → is_outward x.code ≡ out → x.progress ≡ progress.New →
+begun-told : (u : UnitState) (p t c : ℕ) (x : CurrentCommand) (out : Bool) → is_outward x.code ≡ out → x.progress ≡ progress.New →
     AreTold u p t c x answer.Begins
     (if out then Some (telling_data u p t c (with_absorbed x 0) (load.Absorbed 0)) else Some (record { state = with_hand u (record x { progress = progress.Working }); sent = None }))
 begun-told u p t c x true o e = one-told u p t c x answer.Begins _ (Begins_out e)
 begun-told u p t c x false o e = one-told u p t c x answer.Begins _ (Begins_in o e)
 
-absorbed-told : (u : UnitState) (p t c : ℕ) (x : AtHand) (given : Option (List ℕ)) (count : ℕ) → x.given ≡ given → x.progress ≡ progress.Working →
+absorbed-told : (u : UnitState) (p t c : ℕ) (x : CurrentCommand) (given : Option (List ℕ)) (count : ℕ) → x.given ≡ given → x.progress ≡ progress.Working →
     AreTold u p t c x (answer.Absorbed count) (report_absorbed u p t c x given count)
 absorbed-told u p t c x None count g e = none-told u p t c x (answer.Absorbed count)
 absorbed-told u p t c x (Some bytes) count g e = by (nat_le count (length bytes)) refl
@@ -74,14 +74,14 @@ not-outward : (out over settled : Bool) → (not (out || over) && settled) ≡ t
 not-outward true over settled e = absurd (cc e)
 not-outward false over settled e = refl
 
-supplied-told : (u : UnitState) (p t c : ℕ) (x : AtHand) (bytes : List ℕ) (b : Bool) → (is_to_supply x && nat_le (length bytes) (most_of x)) ≡ b → x.progress ≡ progress.Working →
+supplied-told : (u : UnitState) (p t c : ℕ) (x : CurrentCommand) (bytes : List ℕ) (b : Bool) → (is_to_supply x && nat_le (length bytes) (most_of x)) ≡ b → x.progress ≡ progress.Working →
     AreTold u p t c x (answer.Supplied bytes) (if b then Some (telling_data u p t c (with_supplied x bytes) (load.Bytes bytes)) else None)
 supplied-told u p t c x bytes true h e =
     let is : is_to_supply x ≡ true = (and_parts (is_to_supply x) (nat_le (length bytes) (most_of x)) h).0 in
     one-told u p t c x (answer.Supplied bytes) _ (Supplies bytes (not-outward (is_outward x.code) (is_over x) (is_settled x) is) e)
 supplied-told u p t c x bytes false h e = none-told u p t c x (answer.Supplied bytes)
 
-again-told : (u : UnitState) (p t c : ℕ) (x : AtHand) (l : Option Load) → x.unanswered ≡ l → x.progress ≡ progress.Working → AreTold u p t c x answer.Again (sent_again u p t c x l)
+again-told : (u : UnitState) (p t c : ℕ) (x : CurrentCommand) (l : Option Load) → x.unanswered ≡ l → x.progress ≡ progress.Working → AreTold u p t c x answer.Again (sent_again u p t c x l)
 again-told u p t c x None h e = none-told u p t c x answer.Again
 again-told u p t c x (Some l) h e = by x.again
   where
@@ -89,7 +89,7 @@ again-told u p t c x (Some l) h e = by x.again
     by true = one-told u p t c x answer.Again _ (Tells_again l h e)
     by false = none-told u p t c x answer.Again
 
-answer-told : (u : UnitState) (p t c : ℕ) (x : AtHand) (at : Progress) (a : DeviceAnswer) → x.progress ≡ at → AreTold u p t c x a (answer_taken u p t c x at a)
+answer-told : (u : UnitState) (p t c : ℕ) (x : CurrentCommand) (at : Progress) (a : DeviceAnswer) → x.progress ≡ at → AreTold u p t c x a (answer_taken u p t c x at a)
 answer-told u p t c x progress.New answer.Begins e = begun-told u p t c x (is_outward x.code) refl e
 answer-told u p t c x progress.Working answer.Begins e = none-told u p t c x answer.Begins
 answer-told u p t c x progress.ChannelEnded answer.Begins e = none-told u p t c x answer.Begins
@@ -113,13 +113,13 @@ pub record IsReportTaken (u : UnitState) (r : Report) (y : UnitStep) : Type 0 wh
   pub side : Side
   pub path : ℕ
   pub connection : ℕ
-  pub hand : AtHand
+  pub hand : CurrentCommand
   pub own : u.own ≡ own.Owned side r.number (On path connection)
   pub same : same_side side r.side ≡ true
   pub at_hand : u.at_hand ≡ Some hand
   pub told : IsTold u path r.number connection hand r.answer y
 
-on-taken : (u : UnitState) (k : Side) (t : ℕ) (place : Place) (x : Option AtHand) (r : Report) (y : UnitStep) → u.own ≡ own.Owned k t place → same_side k r.side ≡ true → r.number ≡ t →
+on-taken : (u : UnitState) (k : Side) (t : ℕ) (place : Connection) (x : Option CurrentCommand) (r : Report) (y : UnitStep) → u.own ≡ own.Owned k t place → same_side k r.side ≡ true → r.number ≡ t →
     u.at_hand ≡ x → report_on u t place x r ≡ Some y → IsReportTaken u r y
 on-taken u k t (On p c) (Some x) r y o s n h e = by (r.sequence == x.sequence) e
   where

@@ -4,7 +4,7 @@ use Rattle.chan_events.specs.declared.reply.Entry.{Entry}
 use Rattle.event_log.specs.Logs.{last_reply}
 use Rattle.scsw_irb.specs.declared.serials.Serials.{Serials}
 use Rattle.subsystem.specs.Keeping.{IsOrdered, all_serials}
-use Rattle.core_lock.specs.declared.touching.Touched.{Touched}
+use Rattle.core_lock.specs.declared.touching.ChangedSerials.{ChangedSerials}
 use Rattle.core_lock.specs.Named.{shown}
 use Rattle.core_lock.specs.Seats.{entry}
 use Rattle.core_lock.specs.Touching.{Changes, touched}
@@ -20,7 +20,7 @@ publish-requires-clause-changes g c =
     let e = c.args.event.now in
     let step = accepted g.P.PathChoice.picks s new e c.perform_with.result c.counted-2.result c.in_ok-counted-2.field-0 c.perform_with.ensures.answered c.counted-2.ensures.same c.in_ok-counted-2.was in
     let base = c.touches.ensures s.state e (last_reply new.history) new.state step.step in
-    subst (λ (t : Touched). Changes t (shown c.args.writers.now.items) (all_serials new.state)) (sym c.touched_by-touched.ensures.value)
+    subst (λ (t : ChangedSerials). Changes t (shown c.args.writers.now.items) (all_serials new.state)) (sym c.touched_by-touched.ensures.value)
     (subst (λ (l : List Serials). Changes (touched s.state e) l (all_serials new.state)) (sym c.requires.shown) base)
 
 pub invariant_of-seat-2 : goal.invariant_of-seat-2

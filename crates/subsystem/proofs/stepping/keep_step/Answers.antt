@@ -3,7 +3,7 @@ use Rattle.chan_events.specs.declared.reply.Entry.{Entry}
 use Rattle.chan_model.specs.declared.fault.Fault.{Fault}
 use Rattle.chan_model.specs.declared.fault.Fault.TheVariants.{NoMemory}
 use Rattle.machine_model.specs.Steps.{IsRefused, Performs}
-use Rattle.finding.proofs.Keeping.{fits-kept}
+use Rattle.lookup.proofs.Keeping.{fits-kept}
 use Rattle.subsystem.specs.Keeping.{past_of}
 use Rattle.subsystem.proofs.Accepting.{accepted, declined}
 use Rattle.subsystem.proofs.Never.{never}

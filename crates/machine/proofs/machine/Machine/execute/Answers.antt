@@ -1,0 +1,68 @@
+use Rattle.std.proofs.Common.{◌≡◌, ℕ, refl, ap, sym, ◌∙◌, subst, None, Some}
+use Rattle.channel_config.specs.SubchannelWords.{subchannel_named}
+use Rattle.chan_events.specs.declared.event.Event.TheVariants as event
+use Rattle.machine_model.specs.State.{State, with_sub}
+use Rattle.machine_model.specs.Steps.{Performs}
+use Rattle.subchannel_model.specs.Places.{place_in}
+use Rattle.machine_model.specs.InstructionSteps.{subchannel_word}
+use Rattle.chan_events.specs.Replies.{plain_outcome}
+use Rattle.signal_step.specs.Giving.{posted_since}
+use Rattle.machine.specs.contracts.machine.Machine.{the_view}
+use Rattle.machine.proofs.Lifting.{at_seen, executes, executes-absent, executes-unnamed, gets}
+use Rattle.machine.proofs.Serving.{served-performed}
+use Rattle.machine.proofs.machine.Machine.execute.Goals as goal
+
+pub returns-in_default : goal.returns-in_default
+returns-in_default c =
+    let old = the_view c.self.inside in
+    let named : subchannel_named old.sets (subchannel_word c.args.instruction.now) ≡ None =
+    ap (subchannel_named old.sets) (sym c.word_of.ensures) ∙ (sym c.subchannel_named.ensures.value ∙ c.in_default.is) in
+    rw (← c.self.view_is) (executes-unnamed old c.args.cpu c.args.instruction.now named)
+
+pub returns-in_default-place_in : goal.returns-in_default-place_in
+returns-in_default-place_in c =
+    let old = the_view c.self.inside in
+    let named : subchannel_named old.sets (subchannel_word c.args.instruction.now) ≡ Some c.in-Some.id =
+    ap (subchannel_named old.sets) (sym c.word_of.ensures) ∙ (sym c.subchannel_named.ensures.value ∙ c.in-Some.is) in
+    let placed : place_in c.in-Some.id old.subs ≡ None =
+    ap (place_in c.in-Some.id) (sym c.as_slice.ensures.value) ∙ (sym c.place_in.ensures.place ∙ c.in_default-place_in.is) in
+    subst (λ (s : State). Performs s (event.Execute c.args.cpu c.args.instruction.now) (plain_outcome c.execute_absent.result) (record old { storage = c.execute_absent.new.storage })) c.self.view_is
+    (executes-absent old c.args.cpu c.args.instruction.now c.in-Some.id c.execute_absent.new.storage (plain_outcome c.execute_absent.result) named placed c.execute_absent.ensures)
+
+pub returns : goal.returns
+returns c =
+    let old = the_view c.self.inside in
+    let subs : c.as_slice.result.now ≡ old.subs = c.as_slice.ensures.value in
+    let named : subchannel_named old.sets (subchannel_word c.args.instruction.now) ≡ Some c.in-Some.id =
+    ap (subchannel_named old.sets) (sym c.word_of.ensures) ∙ (sym c.subchannel_named.ensures.value ∙ c.in-Some.is) in
+    let placed : place_in c.in-Some.id old.subs ≡ Some c.in-Some-place_in.place =
+    ap (place_in c.in-Some.id) (sym subs) ∙ (sym c.place_in.ensures.place ∙ c.in-Some-place_in.is) in
+    let stands = at_seen old.subs c.as_slice.result.now c.in-Some-place_in.place c.index_mut-sub.result.now (sym subs) c.in-Some-place_in.ensures.bound c.index_mut-sub.ensures.value in
+    subst (λ (s : State). Performs s (event.Execute c.args.cpu c.args.instruction.now) (plain_outcome c.perform_provided-answer.result)
+    (record (with_sub (record old { storage = c.perform_provided-answer.new.storage }) c.in-Some-place_in.place c.perform_provided-answer.new.sub) { requests = c.post.new.pending })) c.self.view_is
+    (executes old c.args.cpu c.in-Some-place_in.place c.args.instruction.now c.in-Some.id c.index_mut-sub.result.now c.perform_provided-answer.new.sub c.perform_provided-answer.new.storage
+    c.perform_provided-answer.new.pending c.post.new.pending (plain_outcome c.perform_provided-answer.result) named placed stands c.perform_provided-answer.ensures.done
+    (c.post.ensures ∙ ap (λ (n : ℕ). posted_since n c.perform_provided-answer.new.sub c.perform_provided-answer.new.pending) c.made_by-made.ensures))
+
+pub invariant_of-self-2 : goal.invariant_of-self-2
+invariant_of-self-2 c =
+    let old = the_view c.self.inside in
+    let subs : c.as_slice.result.now ≡ old.subs = c.as_slice.ensures.value in
+    let named : subchannel_named old.sets (subchannel_word c.args.instruction.now) ≡ Some c.in-Some.id =
+    ap (subchannel_named old.sets) (sym c.word_of.ensures) ∙ (sym c.subchannel_named.ensures.value ∙ c.in-Some.is) in
+    let placed : place_in c.in-Some.id old.subs ≡ Some c.in-Some-place_in.place =
+    ap (place_in c.in-Some.id) (sym subs) ∙ (sym c.place_in.ensures.place ∙ c.in-Some-place_in.is) in
+    let place = c.in-Some-place_in.place in
+    let sub = c.index_mut-sub.result.now in
+    let after = c.perform_provided-answer.new.sub in
+    let stands = at_seen old.subs c.as_slice.result.now place sub (sym subs) c.in-Some-place_in.ensures.bound c.index_mut-sub.ensures.value in
+    let new : State = record (with_sub (record old { storage = c.perform_provided-answer.new.storage }) place after) { requests = c.post.new.pending } in
+    let done : Performs old (event.Execute c.args.cpu c.args.instruction.now) (plain_outcome c.perform_provided-answer.result) new =
+    executes old c.args.cpu place c.args.instruction.now c.in-Some.id sub after c.perform_provided-answer.new.storage
+    c.perform_provided-answer.new.pending c.post.new.pending (plain_outcome c.perform_provided-answer.result) named placed stands c.perform_provided-answer.ensures.done
+    (c.post.ensures ∙ ap (λ (n : ℕ). posted_since n c.perform_provided-answer.new.sub c.perform_provided-answer.new.pending) c.made_by-made.ensures) in (
+      served-performed c.engines.ensures.alone c.self.inside.engines c.change.new.self old new (event.Execute c.args.cpu c.args.instruction.now)
+          (plain_outcome c.perform_provided-answer.result) place sub after c.engaged-before.result c.engaged-after.result
+          (gets old.subs place sub stands) c.self.invariant.0 done refl c.engaged-before.ensures.value c.engaged-after.ensures.value c.change.ensures,
+      c.self.invariant.1,
+    )

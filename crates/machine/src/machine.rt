@@ -1,0 +1,483 @@
+//! A channel subsystem without its history: what each event does to the whole.
+
+ghost use Rattle.std.specs.Prelude.{◌≡◌, ◌<◌, ◌≤◌, All, OnErr, None, Some, IfSome, length, slice_get};
+ghost use Rattle.subchannel_model.specs.declared.state.Subchannel.{Subchannel};
+ghost use Rattle.machine_model.specs.State as state_spec;
+ghost use Rattle.machine_model.specs.Ruled.{GoesByRule};
+ghost use Rattle.machine_model.specs.InstructionSteps as instruction_steps;
+ghost use Rattle.machine_model.specs.Steps as spec;
+ghost use Rattle.machine_model.specs.Bounds.{CanCount, CanUnitCount};
+ghost use Rattle.machine.specs.Postable.{IsPostable};
+ghost use Rattle.chan_events.specs.declared.event.Event.TheVariants as event_spec;
+ghost use Rattle.lookup.specs.Tables.{Fits};
+ghost use Rattle.chan_events.specs.declared.reply.Reply.TheVariants as reply_spec;
+ghost use Rattle.event_log.specs.Logs.{IsKept, answer_in};
+ghost use Rattle.chan_events.specs.Replies.{plain_outcome};
+
+use chan_events::event::{Event, Instruction, OtherInstruction, UnitAct};
+use chan_events::reply::{PlainReply, Reply};
+use chan_model::fault::Fault;
+use chan_model::names::{Cpu, Path};
+use chan_model::report::Report;
+use channel_config::names::subchannel_named;
+use channel_reports::Reports;
+use control_units::sharing::Sharing;
+use event_log::logs::Log;
+use lookup::engines::{Engines, Served, engaged};
+use lookup::tables::SubchannelIndex;
+use interruptions::Pending;
+use io_step::{ChannelPaths, PathTable, execute_absent, perform_other, perform_provided};
+use run_laws::engines::engines;
+use path_select::PathChoice;
+use scsw_irb::serials::Serials;
+use std::marker::Model;
+use storage_keys::Storage;
+use subchannel::choosing::{chosen, paths_to_choose};
+use signal_step::acts::{act_sub, not_held, side_of_act};
+use signal_step::posting::{made_by, post};
+use signal_step::sharing::restart;
+use signal_step::tables::engaged_for;
+use signal_step::turns::{
+    choose_sub, down_sub, path_of, reached_unit, report_sub, returns_at, up_sub,
+};
+use functions::Subchannel;
+use unit::Unit;
+use active_program::sent::SentDown;
+
+/// General register 1: the word that names the subchannel of an instruction.
+fn word_of(instruction: Instruction) -> u32
+    ensures { result ≡ instruction_steps.subchannel_word instruction }
+{
+    match instruction {
+        Instruction::Ssch { subchannel, .. }
+        | Instruction::Tsch { subchannel, .. }
+        | Instruction::Stsch { subchannel, .. }
+        | Instruction::Msch { subchannel, .. }
+        | Instruction::Rsch { subchannel }
+        | Instruction::Hsch { subchannel }
+        | Instruction::Csch { subchannel }
+        | Instruction::Xsch { subchannel }
+        | Instruction::Enable { subchannel, .. } => subchannel,
+    }
+}
+
+/// The path of the last offer, Reset or Grant.
+fn last_path_of(sub: &Subchannel) -> Option<Path>
+    ensures { result ≡ sub.now.state.last_path }
+{
+    sub.state.rest().last_path
+}
+
+/// Storage, channel paths, subchannels and units, and what waits for the program.
+#[derive(Drop)]
+pub struct Machine {
+    pub(crate) storage: Storage,
+    pub(crate) sets: u8,
+    pub(crate) chpids: Vec<u8>,
+    /// Of each channel path, whether it is configured and not down.
+    pub(crate) up: PathTable,
+    pub(crate) subs: Vec<Subchannel>,
+    pub(crate) units: Vec<Unit>,
+    pub(crate) sharing: Sharing,
+    pub(crate) pending: Pending,
+    pub(crate) reports: Reports,
+    pub(crate) engines: Engines,
+    /// What a subchannel sends for a signal, before it is on its wire.
+    pub(crate) sent: SentDown,
+}
+
+impl Model for Machine {
+    ghost use Rattle.std.specs.Prelude.{◌≤◌, length};
+    ghost use Rattle.machine_model.specs.State.{State};
+    ghost use Rattle.lookup.specs.Tables.{Serves};
+
+    ghost Value = { State };
+
+    ghost view = { λ m. record {
+      storage = m.storage;
+      sets = m.sets;
+      chpids = m.chpids.items;
+      up = m.up;
+      subs = m.subs.items;
+      units = m.units.items;
+      members = m.sharing;
+      requests = m.pending;
+      reports = m.reports;
+    } };
+
+    ghost invariant = { λ m. Serves m.engines m.subs.items × (length m.units.items ≤ 0x10000) };
+}
+
+impl Machine {
+    /// How many subchannels there are.
+    pub fn count(&self) -> usize
+        ensures { result ≡ length self.now.subs }
+    {
+        self.subs.len()
+    }
+
+    /// The place of the subchannel that a subsystem-identification word names.
+    pub fn place_of(&self, places: &SubchannelIndex, word: u32) -> Option<usize>
+        requires fits { Fits places.now self.now.subs }
+        ensures place { result ≡ state_spec.place_of self.now word }
+        ensures bound { IfSome result (λ place. place < length self.now.subs) }
+    {
+        match subchannel_named(self.sets, word) {
+            None => None,
+            Some(id) => places.place_in(id, self.subs.as_slice()),
+        }
+    }
+
+    /// The serials of the subchannel that a word names.
+    pub fn serials(&self, places: &SubchannelIndex, word: u32) -> Option<Serials>
+        requires fits { Fits places.now self.now.subs }
+        ensures { result ≡ state_spec.serials_in (state_spec.sub_of self.now word) }
+    {
+        match self.place_of(places, word) {
+            None => None,
+            Some(place) => self.serials_at(place),
+        }
+    }
+
+    /// The serials of the subchannel at a place.
+    pub fn serials_at(&self, place: usize) -> Option<Serials>
+        ensures { result ≡ state_spec.serials_in (slice_get self.now.subs place) }
+    {
+        let sub = self.subs.get(place)?;
+        Some(sub.state.rest().serials)
+    }
+
+    #[inline(always)]
+    fn execute(
+        &mut self,
+        places: &SubchannelIndex,
+        cpu: Cpu,
+        instruction: &Instruction,
+    ) -> Result<PlainReply, Fault>
+        requires fits { Fits places.now self.old.subs }
+        requires roomy { All CanCount self.old.subs }
+        requires postable { All IsPostable self.old.subs }
+        requires requests { self.old.requests.numbers ≡ 0x100 }
+        ensures { spec.Performs self.old (event_spec.Execute cpu instruction.now) (plain_outcome result) self.new }
+    {
+        engines();
+        let instruction = *instruction;
+        let Some(id) = subchannel_named(self.sets, word_of(instruction)) else {
+            return Err(Fault::Operand);
+        };
+        let Some(place) = places.place_in(id, self.subs.as_slice()) else {
+            return execute_absent(&mut self.storage, cpu, instruction);
+        };
+        let sub = &mut self.subs[place];
+        let before = engaged(sub);
+        let made = made_by(sub);
+        let answer = perform_provided(&mut self.storage, sub, &mut self.pending, cpu, instruction);
+        post(&mut self.pending, sub, made);
+        let after = engaged(sub);
+        self.engines.change(place, before, after);
+        answer
+    }
+
+    #[inline(never)]
+    fn execute_other(
+        &mut self,
+        cpu: Cpu,
+        instruction: OtherInstruction,
+    ) -> Result<PlainReply, Fault>
+        ensures { spec.Performs self.old (event_spec.ExecuteOther cpu instruction) (plain_outcome result) self.new }
+    {
+        let served = Served::of(self.subs.as_slice(), &self.engines);
+        let paths = ChannelPaths {
+            up: self.up,
+            engaged: engaged_for(&served, instruction),
+        };
+        perform_other(
+            &mut self.storage,
+            &mut self.pending,
+            &mut self.reports,
+            &paths,
+            cpu,
+            instruction,
+        )
+    }
+
+    #[inline(always)]
+    fn choose<P: PathChoice>(
+        &mut self,
+        places: &SubchannelIndex,
+        choice: &P,
+        word: u32,
+    ) -> Result<PlainReply, Fault>
+        requires fits { Fits places.now self.old.subs }
+        requires roomy { All CanCount self.old.subs }
+        requires postable { All IsPostable self.old.subs }
+        requires requests { self.old.requests.numbers ≡ 0x100 }
+        ensures performs { spec.Performs self.old (event_spec.Choose word) (plain_outcome result) self.new }
+        ensures ruled { GoesByRule P.picks self.old (event_spec.Choose word) (plain_outcome result) self.new }
+    {
+        engines();
+        let Some(place) = self.place_of(places, word) else {
+            return Err(Fault::NoSuchSubchannel);
+        };
+        let served = Served::of(self.subs.as_slice(), &self.engines);
+        let paths = paths_to_choose(&served, &self.subs[place]);
+        let sub = &mut self.subs[place];
+        let path = choice.choose(&paths, last_path_of(sub));
+        let what = chosen(sub, path);
+        let before = engaged(sub);
+        let made = made_by(sub);
+        let answer = choose_sub(sub, &path, what);
+        let after = engaged(sub);
+        self.engines.change(place, before, after);
+        post(&mut self.pending, sub, made);
+        answer
+    }
+
+    #[inline(never)]
+    fn up(&mut self, places: &SubchannelIndex, word: u32, path: u32, log: &mut Log) -> Result<(), Fault>
+        requires fits { Fits places.now self.old.subs }
+        requires roomy { All CanCount self.old.subs }
+        requires postable { All IsPostable self.old.subs }
+        requires requests { self.old.requests.numbers ≡ 0x100 }
+        requires room { 1 ≤ log.old.room }
+        requires fresh { log.old.reply ≡ reply_spec.Done }
+        ensures performs { spec.Performs self.old (event_spec.Up word path) (answer_in result log.new) self.new }
+        ensures kept { IsKept log.old log.new }
+        ensures refused { OnErr result (log.new ≡ log.old) }
+    {
+        engines();
+        let Some(place) = self.place_of(places, word) else {
+            return Err(Fault::NoSuchSubchannel);
+        };
+        let Some(path) = path_of(&self.subs[place], path) else {
+            return Err(Fault::NoSuchPath);
+        };
+        let served = Served::of(self.subs.as_slice(), &self.engines);
+        let returns = returns_at(&served, &self.subs[place], path);
+        let sub = &mut self.subs[place];
+        let before = engaged(sub);
+        let made = made_by(sub);
+        let answer = up_sub(&mut self.storage, sub, path, returns, &mut self.sent, log);
+        post(&mut self.pending, sub, made);
+        let after = engaged(sub);
+        self.engines.change(place, before, after);
+        answer
+    }
+
+    #[inline(never)]
+    fn down(&mut self, places: &SubchannelIndex, word: u32, path: u32, log: &mut Log) -> Result<(), Fault>
+        requires fits { Fits places.now self.old.subs }
+        requires room { 1 ≤ log.old.room }
+        requires fresh { log.old.reply ≡ reply_spec.Done }
+        ensures performs { spec.Performs self.old (event_spec.Down word path) (answer_in result log.new) self.new }
+        ensures kept { IsKept log.old log.new }
+        ensures refused { OnErr result (log.new ≡ log.old) }
+    {
+        let Some(place) = self.place_of(places, word) else {
+            return Err(Fault::NoSuchSubchannel);
+        };
+        let number = usize::from(reached_unit(&self.subs[place]));
+        if number >= self.units.len() {
+            return Err(Fault::NoSuchUnit);
+        }
+        let sub = &mut self.subs[place];
+        let unit = &mut self.units[number];
+        down_sub(sub, unit, &mut self.sharing, path, log)
+    }
+
+    #[inline(always)]
+    fn report(&mut self, places: &SubchannelIndex, number: u32, report: &Report) -> Result<PlainReply, Fault>
+        requires fits { Fits places.now self.old.subs }
+        requires roomy { All CanUnitCount self.old.units }
+        ensures { spec.Performs self.old (event_spec.Report number report.now) (plain_outcome result) self.new }
+    {
+        let number = number as usize;
+        if number >= self.units.len() {
+            return Err(Fault::NoSuchUnit);
+        }
+        let Some(place) = places.reached_in(number, report.side, self.subs.as_slice()) else {
+            return Err(Fault::NotNow);
+        };
+        let sub = &mut self.subs[place];
+        let unit = &mut self.units[number];
+        report_sub(sub, unit, report)
+    }
+
+    /// `execute`, with its reply in the log.
+    #[inline(never)]
+    fn tell_code(
+        &mut self,
+        places: &SubchannelIndex,
+        cpu: Cpu,
+        instruction: &Instruction,
+        log: &mut Log,
+    ) -> Result<(), Fault>
+        requires fits { Fits places.now self.old.subs }
+        requires roomy { All CanCount self.old.subs }
+        requires postable { All IsPostable self.old.subs }
+        requires requests { self.old.requests.numbers ≡ 0x100 }
+        requires room { 1 ≤ log.old.room }
+        requires fresh { log.old.reply ≡ reply_spec.Done }
+        ensures performs { spec.Performs self.old (event_spec.Execute cpu instruction.now) (answer_in result log.new) self.new }
+        ensures kept { IsKept log.old log.new }
+        ensures refused { OnErr result (log.new ≡ log.old) }
+    {
+        log.tell(&self.execute(places, cpu, instruction))
+    }
+
+    /// `choose`, with its reply in the log.
+    #[inline(never)]
+    fn tell_choice<P: PathChoice>(
+        &mut self,
+        places: &SubchannelIndex,
+        choice: &P,
+        word: u32,
+        log: &mut Log,
+    ) -> Result<(), Fault>
+        requires fits { Fits places.now self.old.subs }
+        requires roomy { All CanCount self.old.subs }
+        requires postable { All IsPostable self.old.subs }
+        requires requests { self.old.requests.numbers ≡ 0x100 }
+        requires room { 1 ≤ log.old.room }
+        requires fresh { log.old.reply ≡ reply_spec.Done }
+        ensures performs { spec.Performs self.old (event_spec.Choose word) (answer_in result log.new) self.new }
+        ensures ruled { GoesByRule P.picks self.old (event_spec.Choose word) (answer_in result log.new) self.new }
+        ensures kept { IsKept log.old log.new }
+        ensures refused { OnErr result (log.new ≡ log.old) }
+    {
+        log.tell(&self.choose(places, choice, word))
+    }
+
+    /// `report`, with its reply in the log.
+    #[inline(never)]
+    fn tell_report(
+        &mut self,
+        places: &SubchannelIndex,
+        number: u32,
+        report: &Report,
+        log: &mut Log,
+    ) -> Result<(), Fault>
+        requires fits { Fits places.now self.old.subs }
+        requires roomy { All CanUnitCount self.old.units }
+        requires room { 1 ≤ log.old.room }
+        requires fresh { log.old.reply ≡ reply_spec.Done }
+        ensures performs { spec.Performs self.old (event_spec.Report number report.now) (answer_in result log.new) self.new }
+        ensures kept { IsKept log.old log.new }
+        ensures refused { OnErr result (log.new ≡ log.old) }
+    {
+        log.tell(&self.report(places, number, report))
+    }
+
+    #[inline(never)]
+    fn act(&mut self, places: &SubchannelIndex, number: u32, act: UnitAct) -> Result<PlainReply, Fault>
+        requires fits { Fits places.now self.old.subs }
+        requires roomy { All CanUnitCount self.old.units }
+        ensures { spec.Performs self.old (event_spec.Act number act) (plain_outcome result) self.new }
+    {
+        let number = number as usize;
+        if number >= self.units.len() {
+            return Err(Fault::NoSuchUnit);
+        }
+        let Some(side) = side_of_act(&self.units[number], act) else {
+            return Err(not_held(places, number, act, self.subs.as_slice()));
+        };
+        let Some(place) = places.reached_in(number, side, self.subs.as_slice()) else {
+            return Err(Fault::NotNow);
+        };
+        let sub = &mut self.subs[place];
+        let unit = &mut self.units[number];
+        act_sub(sub, unit, act)
+    }
+
+    #[inline(never)]
+    fn restart(&mut self, number: u32) -> Result<PlainReply, Fault>
+        requires { All CanUnitCount self.old.units }
+        ensures { spec.Performs self.old (event_spec.Restart number) (plain_outcome result) self.new }
+    {
+        if number as usize >= self.units.len() {
+            return Err(Fault::NoSuchUnit);
+        }
+        let unit = &mut self.units[number as usize];
+        restart(&mut self.sharing, number as u16, unit);
+        Ok(Reply::Done)
+    }
+
+    /// Performs one event, with its reply in the log, where it begins an entry; a refusal changes nothing. Those of a channel program
+    /// are told apart here.
+    #[inline(always)]
+    pub fn perform<P: PathChoice>(
+        &mut self,
+        places: &SubchannelIndex,
+        choice: &P,
+        event: &Event,
+        log: &mut Log,
+    ) -> Result<(), Fault>
+        requires fits { Fits places.now self.old.subs }
+        requires subs { All CanCount self.old.subs }
+        requires units { All CanUnitCount self.old.units }
+        requires postable { All IsPostable self.old.subs }
+        requires requests { self.old.requests.numbers ≡ 0x100 }
+        requires room { 1 ≤ log.old.room }
+        requires fresh { log.old.reply ≡ reply_spec.Done }
+        ensures performs { spec.Performs self.old event.now (answer_in result log.new) self.new }
+        ensures ruled { GoesByRule P.picks self.old event.now (answer_in result log.new) self.new }
+        ensures kept { IsKept log.old log.new }
+        ensures refused { OnErr result (log.new ≡ log.old) }
+    {
+        match event {
+            Event::Up { subchannel, path } => self.up(places, *subchannel, *path, log),
+            Event::Down { subchannel, path } => self.down(places, *subchannel, *path, log),
+            Event::Report { unit, report } => self.tell_report(places, *unit, report, log),
+            Event::Choose { subchannel } => self.tell_choice(places, choice, *subchannel, log),
+            Event::Execute { cpu, instruction } => self.tell_code(places, *cpu, instruction, log),
+            _ => self.perform_other(places, choice, event, log),
+        }
+    }
+
+    /// Performs any event.
+    #[inline(never)]
+    #[tactic(auto, using(crate::proofs::Storing::put_performs, crate::proofs::Storing::key_performs, crate::proofs::Storing::prefix_performs, crate::proofs::Storing::show_performs))]
+    fn perform_other<P: PathChoice>(
+        &mut self,
+        places: &SubchannelIndex,
+        choice: &P,
+        event: &Event,
+        log: &mut Log,
+    ) -> Result<(), Fault>
+        requires fits { Fits places.now self.old.subs }
+        requires subs { All CanCount self.old.subs }
+        requires units { All CanUnitCount self.old.units }
+        requires postable { All IsPostable self.old.subs }
+        requires requests { self.old.requests.numbers ≡ 0x100 }
+        requires room { 1 ≤ log.old.room }
+        requires fresh { log.old.reply ≡ reply_spec.Done }
+        ensures performs { spec.Performs self.old event.now (answer_in result log.new) self.new }
+        ensures ruled { GoesByRule P.picks self.old event.now (answer_in result log.new) self.new }
+        ensures kept { IsKept log.old log.new }
+        ensures refused { OnErr result (log.new ≡ log.old) }
+    {
+        let answer = match event {
+            Event::Up { subchannel, path } => return self.up(places, *subchannel, *path, log),
+            Event::Down { subchannel, path } => return self.down(places, *subchannel, *path, log),
+            Event::Show { address, length } => return self.show(*address, *length, log),
+            Event::Execute { cpu, instruction } => {
+                return self.tell_code(places, *cpu, instruction, log);
+            }
+            Event::Choose { subchannel } => {
+                return self.tell_choice(places, choice, *subchannel, log);
+            }
+            Event::Report { unit, report } => return self.tell_report(places, *unit, report, log),
+            Event::Act { unit, act } => self.act(places, *unit, *act),
+            Event::Put { address, bytes } => self.put(*address, bytes),
+            Event::SetKey { address, key } => self.set_key(*address, *key),
+            Event::SetPrefix { cpu, address } => self.set_prefix(*cpu, *address),
+            Event::ExecuteOther { cpu, instruction } => self.execute_other(*cpu, *instruction),
+            Event::Restart { unit } => self.restart(*unit),
+            Event::PathDown { chpid } => self.path_down(*chpid),
+            Event::PathUp { chpid } => self.path_up(*chpid),
+            Event::PathReset { chpid } => self.path_reset(*chpid),
+            Event::SystemReset => self.system_reset(),
+        };
+        log.tell(&answer)
+    }
+}

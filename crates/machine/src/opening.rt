@@ -1,0 +1,195 @@
+//! The machine at its opening.
+
+ghost use Rattle.std.specs.Prelude.{◌≡◌, IfOk, OnOk, OnErr, map, true, unwrap_or};
+ghost use Rattle.machine_model.specs.State as state_spec;
+ghost use Rattle.subchannel_model.specs.Opening as opening_spec;
+ghost use Rattle.channel_config.specs.Lawful.{IsLawful};
+ghost use Rattle.channel_config.specs.Setup as setup_spec;
+ghost use Rattle.control_units.specs.Units as members_spec;
+ghost use Rattle.lookup.specs.Tables.{Fits};
+ghost use Rattle.interruptions.specs.Requests.{no_requests_wait};
+ghost use Rattle.storage_keys.specs.Storage.{cleared_storage};
+
+use crate::machine::Machine;
+use channel_config::config::Config;
+use channel_config::parts::{SubchannelSetup, UnitKind};
+use channel_reports::Reports;
+use control_units::sharing::Sharing;
+use lookup::engines::Engines;
+use lookup::tables::SubchannelIndex;
+use interruptions::Pending;
+use std::alloc::{AllocError, Global};
+use storage_keys::Storage;
+use subchannel::opening;
+use signal_step::tables::configured;
+use functions::Subchannel;
+use memory::{Supply, push};
+use unit::Unit;
+use wires::Wires;
+use active_program::sent::SentDown;
+
+/// How many numbers a set of subchannels has.
+const NUMBERS_OF_A_SET: u16 = 0x100;
+
+/// A subchannel at the opening.
+fn opened<S: Supply>(
+    alloc: Global,
+    supply: &mut S,
+    setup: &SubchannelSetup,
+) -> Result<Subchannel, AllocError>
+    ensures opened { IfOk result (λ sub. sub ≡ opening_spec.opened setup.now) }
+    ensures given { OnOk result (S.refused supply.new ≡ S.refused supply.old) }
+    ensures memory { OnErr result (S.refused supply.new ≡ true) }
+{
+    Ok(Subchannel {
+        state: opening::opened(setup.copy()),
+        wires: Wires::new_with(alloc, supply)?,
+    })
+}
+
+fn opened_all<S: Supply>(
+    alloc: Global,
+    supply: &mut S,
+    setups: &[SubchannelSetup],
+) -> Result<Vec<Subchannel>, AllocError>
+    ensures opened { IfOk result (λ subs. subs.items ≡ map opening_spec.opened setups.now) }
+    ensures given { OnOk result (S.refused supply.new ≡ S.refused supply.old) }
+    ensures memory { OnErr result (S.refused supply.new ≡ true) }
+{
+    let mut subs = Vec::new(alloc);
+    for setup in setups {
+        let sub = opened(alloc, supply, setup)?;
+        push(supply, &mut subs, sub)?;
+    }
+    Ok(subs)
+}
+
+/// A unit at the opening.
+fn idle(kind: UnitKind) -> Unit
+    ensures { result ≡ state_spec.idle_of kind }
+{
+    match kind {
+        UnitKind::Block | UnitKind::Console | UnitKind::Rejecting => Unit::new(),
+    }
+}
+
+fn idle_units<S: Supply>(
+    alloc: Global,
+    supply: &mut S,
+    kinds: &[UnitKind],
+) -> Result<Vec<Unit>, AllocError>
+    ensures idle { IfOk result (λ units. units.items ≡ map state_spec.idle_of kinds.now) }
+    ensures given { OnOk result (S.refused supply.new ≡ S.refused supply.old) }
+    ensures memory { OnErr result (S.refused supply.new ≡ true) }
+{
+    let mut units = Vec::new(alloc);
+    for kind in kinds {
+        push(supply, &mut units, idle(*kind))?;
+    }
+    Ok(units)
+}
+
+/// The identifiers of the channel paths.
+fn copied<S: Supply>(alloc: Global, supply: &mut S, chpids: &[u8]) -> Result<Vec<u8>, AllocError>
+    ensures copied { IfOk result (λ copy. copy.items ≡ chpids.now) }
+    ensures given { OnOk result (S.refused supply.new ≡ S.refused supply.old) }
+    ensures memory { OnErr result (S.refused supply.new ≡ true) }
+{
+    let mut copy = Vec::new(alloc);
+    for chpid in chpids {
+        push(supply, &mut copy, *chpid)?;
+    }
+    Ok(copy)
+}
+
+/// What control units keep of the units of a configuration.
+fn shared<S: Supply>(alloc: Global, supply: &mut S, config: &Config) -> Result<Sharing, AllocError>
+    ensures shared { IfOk result (λ sharing. sharing ≡ map members_spec.idle_member (setup_spec.groups_of config.now)) }
+    ensures given { OnOk result (S.refused supply.new ≡ S.refused supply.old) }
+    ensures memory { OnErr result (S.refused supply.new ≡ true) }
+{
+    let groups = config.groups_with(alloc, supply)?;
+    Sharing::new_with(alloc, supply, groups.as_slice())
+}
+
+/// The units and the subchannels of a configuration at its opening, and the places of these.
+fn opened_sides<S: Supply>(
+    alloc: Global,
+    supply: &mut S,
+    config: &Config,
+) -> Result<(SubchannelIndex, Vec<Unit>, Vec<Subchannel>), AllocError>
+    ensures fits { IfOk result (λ sides. Fits sides.0 sides.2.items) }
+    ensures units { IfOk result (λ sides. sides.1.items ≡ map state_spec.idle_of config.now.units) }
+    ensures subs { IfOk result (λ sides. sides.2.items ≡ map opening_spec.opened config.now.subchannels) }
+    ensures lawful { OnOk result (IsLawful config.now) }
+    ensures given { OnOk result (S.refused supply.new ≡ S.refused supply.old) }
+    ensures memory { OnErr result (S.refused supply.new ≡ true) }
+{
+    let units = idle_units(alloc, supply, config.units())?;
+    let subs = opened_all(alloc, supply, config.subchannels())?;
+    let places = SubchannelIndex::of(
+        alloc,
+        supply,
+        config.set_count(),
+        units.len(),
+        subs.as_slice(),
+    )?;
+    Ok((places, units, subs))
+}
+
+/// What the subsystem keeps beside them at the opening: storage, the channel paths, what control units keep, and requests for
+/// interruptions.
+fn opened_rest<S: Supply>(
+    alloc: Global,
+    supply: &mut S,
+    config: &Config,
+) -> Result<(Storage, Vec<u8>, Sharing, Pending), AllocError>
+    ensures storage { IfOk result (λ rest. rest.0 ≡ cleared_storage (unwrap_or config.now.blocks 16)) }
+    ensures chpids { IfOk result (λ rest. rest.1.items ≡ config.now.paths) }
+    ensures sharing { IfOk result (λ rest. rest.2 ≡ map members_spec.idle_member (setup_spec.groups_of config.now)) }
+    ensures pending { IfOk result (λ rest. rest.3 ≡ no_requests_wait 0x100) }
+    ensures given { OnOk result (S.refused supply.new ≡ S.refused supply.old) }
+    ensures memory { OnErr result (S.refused supply.new ≡ true) }
+{
+    let blocks = match config.blocks() {
+        Some(blocks) => blocks,
+        None => 16,
+    };
+    let storage = Storage::new_with(alloc, supply, blocks)?;
+    let chpids = copied(alloc, supply, config.paths())?;
+    let sharing = shared(alloc, supply, config)?;
+    let pending = Pending::new_with(alloc, supply, NUMBERS_OF_A_SET)?;
+    Ok((storage, chpids, sharing, pending))
+}
+
+/// The machine of a configuration, with the places of its subchannels. It is refused only where the supply refuses a
+/// growth.
+pub fn opened_machine<S: Supply>(
+    alloc: Global,
+    supply: &mut S,
+    config: &Config,
+) -> Result<(SubchannelIndex, Machine), AllocError>
+    ensures opened { IfOk result (λ m. m.1 ≡ state_spec.opening_of config.now) }
+    ensures fits { IfOk result (λ m. Fits m.0 m.1.subs) }
+    ensures lawful { OnOk result (IsLawful config.now) }
+    ensures given { OnOk result (S.refused supply.new ≡ S.refused supply.old) }
+    ensures memory { OnErr result (S.refused supply.new ≡ true) }
+{
+    let (places, units, subs) = opened_sides(alloc, supply, config)?;
+    let (storage, chpids, sharing, pending) = opened_rest(alloc, supply, config)?;
+    let engines = Engines::new();
+    let machine = Machine {
+        storage,
+        sets: config.set_count(),
+        chpids,
+        up: configured(config.paths()),
+        subs,
+        units,
+        sharing,
+        pending,
+        reports: Reports::new(),
+        engines,
+        sent: SentDown::new(),
+    };
+    Ok((places, machine))
+}

@@ -1,5 +1,0 @@
-use Rattle.machine_steps.proofs.Choosable.{turn-chooses, turn-rests}
-use Rattle.machine_steps.proofs.law.path_turns.Goals as goal
-
-pub returns : goal.returns
-returns c = record { chooses = turn-chooses; rests = turn-rests }

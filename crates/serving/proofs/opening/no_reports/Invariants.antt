@@ -1,9 +1,0 @@
-use Rattle.std.proofs.Common.{◌≡◌, None}
-use Rattle.std.specs.Prelude.{replicate}
-use Rattle.serving.proofs.opening.no_reports.Given as goal
-
-abbrev pub invariant-loop : goal.invariant-loop
-invariant-loop g l = record {
-  none : l.kept.items ≡ replicate l.counter None;
-  given : g.S.Supply.refused l.supply ≡ g.S.Supply.refused l.fn.supply;
-}
