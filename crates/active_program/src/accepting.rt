@@ -24,6 +24,9 @@ use chan_model::hold_state::HoldPhase;
 use chan_model::lent::{LentUp, PlainDown};
 use chan_model::names::Path;
 use chan_model::signal::Down;
+use data_move::commands::{command_of, room_to_tell};
+use data_move::transfer::Transfer;
+use functions::{PackedState, Rest};
 use hold::Hold;
 use scsw_irb::bits::{
     DEVICE_ACTIVE, HALT_PENDING, RESUME_PENDING, START_PENDING, SUBCHANNEL_ACTIVE, SUSPENDED,
@@ -33,9 +36,6 @@ use status::make_pending;
 use storage_keys::Storage;
 use subchannel_model::cause::StatusCause;
 use subchannel_model::state::{ActiveProgram, Program, ProgramPosition};
-use functions::{PackedState, Rest};
-use data_move::transfer::Transfer;
-use data_move::commands::{command_of, room_to_tell};
 
 /// A program that waits, at its beginning.
 fn from_start(program: Program) -> ProgramPosition

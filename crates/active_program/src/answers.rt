@@ -12,8 +12,8 @@ use chan_model::lent::{LentDown, LentUp};
 use chan_model::lent_forms::lend_down;
 use chan_model::names::Path;
 use chan_model::signal::OnPath;
-use hold::Hold;
 use functions::PackedState;
+use hold::Hold;
 
 pub fn ignored(sent: &mut SentDown) -> bool
     ensures { came_so result sent.new ≡ not_taken }

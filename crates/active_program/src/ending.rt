@@ -26,6 +26,9 @@ use ccw_walk::check::Check;
 use chan_model::lent::{LentUp, PlainDown};
 use chan_model::names::Path;
 use chan_model::signal::{Down, Up};
+use data_move::commands::{begun_with_room, next_command};
+use data_move::transfer::{CommandStart, WithRoom};
+use functions::PackedState;
 use hold::Hold;
 use status::ends::{chains_command, is_last_end};
 use status::{make_end_pending, make_pending};
@@ -33,9 +36,6 @@ use storage_keys::Storage;
 use subchannel_model::cause::StatusCause;
 use subchannel_model::signals::EndSignal;
 use subchannel_model::state::{ActiveProgram, Program};
-use functions::PackedState;
-use data_move::commands::{begun_with_room, next_command};
-use data_move::transfer::{CommandStart, WithRoom};
 
 /// The numbers of an End. None where the signal is another.
 pub fn end_by(path: Path, signal: &LentUp<'_>) -> Option<EndSignal>

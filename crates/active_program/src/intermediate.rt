@@ -8,6 +8,7 @@ ghost use Rattle.subchannel_model.specs.Suspension as suspension_spec;
 ghost use Rattle.functions.specs.Unwired.{with_state};
 
 use ccw_walk::Walk;
+use functions::{PackedState, Rest};
 use scsw_irb::bits::{
     CLEAR_PENDING, DEVICE_ACTIVE, HALT_PENDING, RESUME_PENDING, START_PENDING, SUBCHANNEL_ACTIVE,
     SUSPENDED,
@@ -16,7 +17,6 @@ use scsw_irb::words::ScswWords;
 use status::make_pending;
 use subchannel_model::cause::StatusCause;
 use subchannel_model::state::{ActiveProgram, Program, ProgramPosition};
-use functions::{PackedState, Rest};
 
 fn drop_interruption(rest: &mut Rest)
     ensures { rest.new ≡ record rest.old { begun = option_map pci.without_pci rest.old.begun } }

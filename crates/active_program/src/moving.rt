@@ -22,14 +22,14 @@ use chan_model::chunk::ChunkLength;
 use chan_model::lent::{LentUp, PlainDown};
 use chan_model::names::Path;
 use chan_model::signal::{Down, Load, Up};
+use data_move::chunks::{absorb, bring, give_next, is_answered};
+use data_move::commands::{find_room, is_outward};
+use data_move::transfer::Transfer;
+use functions::PackedState;
 use hold::Hold;
 use storage_keys::Storage;
 use subchannel_model::signals::DataSignal;
 use subchannel_model::state::ActiveProgram;
-use functions::PackedState;
-use data_move::transfer::Transfer;
-use data_move::chunks::{absorb, bring, give_next, is_answered};
-use data_move::commands::{find_room, is_outward};
 
 /// The numbers of a Data. None where the signal is another.
 pub fn data_by(path: Path, signal: &LentUp<'_>) -> Option<DataSignal>

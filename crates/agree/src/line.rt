@@ -22,11 +22,11 @@ use chan_model::lent_forms::lend_down;
 use chan_model::names::{Path, Side};
 use chan_model::signal::{Down, OnPath, Up};
 use hold::Hold;
+use memory::{Supply, ensure_room};
 use program::{is_taken, may_send, met_by};
 use signals::{cut_downs, cut_ups, is_up, post, with_path};
 use std::alloc::{AllocError, Global};
 use std::marker::Model;
-use memory::{Supply, ensure_room};
 
 /// One side: how many numbers were drawn, the hold, the signals that may still arrive, the numbers that the unit accepted,
 /// and which paths are up.

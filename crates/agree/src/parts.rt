@@ -18,9 +18,9 @@ use chan_model::names::{Path, Side};
 use chan_model::report::Report;
 use chan_model::signal::Down;
 use chan_model::unit_state::Own;
+use memory::Supply;
 use std::alloc::{AllocError, Global};
 use std::marker::Model;
-use memory::Supply;
 use unit::Unit;
 
 /// A unit, both of its sides, and how many steps were made.

@@ -21,9 +21,9 @@ use chan_model::fault::Fault;
 use chan_model::hold_state::HoldState;
 use chan_model::names::Side;
 use chan_model::unit_state::Own;
+use memory::{Given, Supply};
 use std::alloc::Global;
 use std::marker::Model;
-use memory::{Given, Supply};
 
 /// A unit and both of its sides.
 #[derive(Drop)]

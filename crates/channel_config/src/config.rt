@@ -10,9 +10,9 @@ ghost use Rattle.channel_config.specs.declared.config.ConfigFault.TheVariants as
 use crate::names::{SubchannelId, subchannel_named};
 use crate::parts::{ChpidList, SubchannelSetup, UnitKind};
 use chan_model::names::Side;
+use memory::{Given, Supply, make_room, push};
 use std::alloc::{AllocError, Global};
 use std::marker::Model;
-use memory::{Given, Supply, make_room, push};
 
 /// Why a line of a configuration is refused.
 #[derive(Clone, Copy, Debug, PartialEq, Eq)]

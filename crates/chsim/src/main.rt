@@ -15,6 +15,7 @@ mod tests;
 use crate::outcome::Outcome;
 use command_words::{Refused, TextSupply, Wanted, command_of};
 use core_lock::supplies::CoreSupply;
+use memory::Given;
 use script_runner::{check_script_with, race_script_with, serve_script_with};
 use std::alloc::Global;
 use std::io::ErrorKind;
@@ -22,8 +23,7 @@ use std::process::ExitCode;
 use std::sync::Wait;
 use std::thread::Threads;
 use std::{env, io};
-use streams::{CheckedReader, Sink, Source, CheckedWriter};
-use memory::Given;
+use streams::{CheckedReader, CheckedWriter, Sink, Source};
 
 /// Serves the program's words, its own name being the first of them, and answers how it ended. Words that name no command
 /// write the text about them, which is help where they ask for it, before anything is read; nothing where there is no memory

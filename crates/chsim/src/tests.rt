@@ -20,11 +20,11 @@ use crate::outcome::Outcome;
 use crate::serve;
 use crate::tests::memory::{Short, Slow};
 use crate::tests::scenes::Scene;
+use memory::{FailingMemory, Given};
 use script_runner::Ending;
 use std::sync::Wait;
 use std::thread::Threads;
 use streams::{CheckedReader, CheckedWriter};
-use memory::{Given, FailingMemory};
 
 /// The output and the exit status of a command over a text.
 pub fn served<R: Threads + Wait + Sync + AllocGlobal>(

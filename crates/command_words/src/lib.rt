@@ -10,8 +10,8 @@ ghost use Rattle.command_words.specs.declared.Wanted.{Wanted};
 
 use clap::Command;
 use clap::error::{Error, ErrorKind};
+use memory::{FailingMemory, Given, Supply};
 use std::alloc::{AllocError, Global};
-use memory::{Given, FailingMemory, Supply};
 
 /// What the words ask for.
 #[derive(Clone, Copy, Debug, PartialEq, Eq)]

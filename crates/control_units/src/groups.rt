@@ -3,8 +3,8 @@
 ghost use Rattle.std.specs.Prelude.{◌≡◌, ◌<◌, ◌≤◌, ◌^◌, IfOk, IfSome, OnOk, OnErr, cond, replicate, slice_get, true};
 ghost use Rattle.control_units.specs.Groups as spec;
 
-use std::alloc::{AllocError, Global};
 use memory::{Supply, make_room};
+use std::alloc::{AllocError, Global};
 
 /// What is kept of a group.
 #[derive(Clone, Copy)]

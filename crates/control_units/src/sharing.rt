@@ -7,9 +7,9 @@ ghost use Rattle.control_units.specs.Units as spec;
 
 use crate::groups::{Group, change_begun, idle_groups, set_refused};
 use crate::{ControlUnit, Member};
+use memory::{Given, Supply, push};
 use std::alloc::{AllocError, Global};
 use std::marker::Model;
-use memory::{Given, Supply, push};
 
 /// Groups of units of which one is served at a time (own).
 #[derive(Drop)]

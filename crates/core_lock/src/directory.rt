@@ -7,9 +7,9 @@ ghost use Rattle.core_lock.specs.Directory.{directory_by};
 use channel_config::config::Config;
 use channel_config::names::{SubchannelId, subchannel_named};
 use channel_config::parts::SubchannelSetup;
+use memory::{Supply, push};
 use std::alloc::{AllocError, Global};
 use std::marker::Model;
-use memory::{Supply, push};
 
 /// The subchannels of a machine, in the order of the configuration.
 #[derive(Drop)]

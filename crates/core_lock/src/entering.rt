@@ -15,10 +15,10 @@ use chan_events::event::Event;
 use chan_model::fault::Fault;
 use event_log::logs::Log;
 use glance_cell::cell::Writer;
+use memory::{Supply, ensure_room};
 use path_select::PathChoice;
 use std::sync::ledger::Book;
 use subsystem::subsystem::Subsystem;
-use memory::{Supply, ensure_room};
 
 /// Makes room for one entry, beside a history and in the log of a seat.
 #[inline(always)]

@@ -14,8 +14,8 @@ use chan_events::event::{Event, Instruction, OtherInstruction};
 use chan_events::reply::Reply;
 use chan_model::fault::Fault;
 use chan_model::names::Cpu;
-use path_select::PathChoice;
 use memory::Given;
+use path_select::PathChoice;
 
 /// An I/O instruction of a CPU.
 #[derive(Clone, Copy, Debug)]

@@ -30,6 +30,7 @@ use chan_events::event::Event;
 use chan_events::reply::Reply;
 use chan_model::fault::Fault;
 use glance_cell::cell::{Reader, Writer};
+use memory::{Given, Supply};
 use path_select::PathChoice;
 use scsw_irb::serials::Serials;
 use std::alloc::{AllocError, Global};
@@ -37,7 +38,6 @@ use std::marker::Model;
 use std::sync::Arc;
 use std::sync::ledger::Book;
 use subsystem::subsystem::Subsystem;
-use memory::{Given, Supply};
 
 /// What the lock of a machine guards: its subsystem, the seat of each entry of its history, and the glance cells of its
 /// subchannels.

@@ -26,6 +26,7 @@ use crate::supplies::CoreSupply;
 use chan_model::fault::Fault;
 use event_log::logs::Log;
 use glance_cell::cell::Reader;
+use memory::Given;
 use path_select::PathChoice;
 use scsw_irb::serials::Serials;
 use std::alloc::Global;
@@ -33,7 +34,6 @@ use std::marker::Model;
 use std::sync::Arc;
 use std::sync::ledger::{Book, Share};
 use subsystem::subsystem::Subsystem;
-use memory::Given;
 use unit_driver::keeping::KeptReport;
 use unit_driver::turns::{OwedCall, TakenCommand};
 

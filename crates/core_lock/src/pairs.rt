@@ -18,11 +18,11 @@ use chan_model::answer::Answer;
 use event_log::history::LentReply;
 use glance_cell::cell::{Reader, Writer};
 use glance_cell::supplies::CellSupply;
+use memory::{Supply, push};
 use path_select::PathChoice;
 use scsw_irb::serials::Serials;
 use std::alloc::{AllocError, Global};
 use subsystem::subsystem::Subsystem;
-use memory::{Supply, push};
 
 /// Stores the serials that an event may have changed.
 pub fn publish<P: PathChoice + Drop>(

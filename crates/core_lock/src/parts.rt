@@ -11,11 +11,11 @@ use crate::supplies::CoreSupply;
 use channel_config::config::Config;
 use glance_cell::cell::Writer;
 use glance_cell::supplies::CellSupply;
+use memory::{Given, push};
 use std::alloc::{AllocError, Global};
 use std::marker::Model;
 use std::sync::Arc;
 use std::sync::ledger::Blank;
-use memory::{Given, push};
 
 /// The ledgers, the glance cells and the directory of a machine that is not made yet.
 #[derive(Drop)]

@@ -5,9 +5,9 @@ ghost use Rattle.std.specs.Arc.{arc_value};
 
 use crate::directory::Directory;
 use glance_cell::supplies::CellSupply;
+use memory::{FailingMemory, Given};
 use std::alloc::{AllocError, Global};
 use std::sync::Arc;
-use memory::{Given, FailingMemory};
 
 /// Memory for lists, for cells and their readers, and for the directory that a machine shares with its seats. That it refused
 /// something can be seen from then on.

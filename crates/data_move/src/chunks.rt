@@ -8,11 +8,11 @@ ghost use Rattle.data_move.specs.ChunkNumbers as chunk_numbers;
 ghost use Rattle.data_move.specs.ToDevice.{with_bytes};
 
 use crate::commands::{data_of, has_stopped, is_outward, locate};
+use crate::slices::ChunkSlice;
 use crate::transfer::{NextChunk, Transfer};
 use ccw_walk::Walk;
 use ccw_walk::check::Check;
 use ccw_walk::program::Advance;
-use crate::slices::ChunkSlice;
 use storage_keys::Storage;
 
 fn chains_data(transfer: &Transfer, count: u16) -> bool

@@ -4,13 +4,13 @@ ghost use Rattle.std.specs.Prelude.{◌≡◌, ◌<◌, ◌≤◌, ◌^◌};
 ghost use Rattle.chan_model.specs.UnitReports.{is_outward as is_outward_code};
 ghost use Rattle.data_move.specs.Commands as spec;
 
+use crate::moving::Move;
 use crate::transfer::{Beginning, CommandStart, Transfer, WithRoom};
 use ccw_codec::command::class;
 use ccw_codec::{Ccw, Class};
 use ccw_walk::Walk;
 use ccw_walk::check::Check;
 use ccw_walk::program::{Advance, Ended};
-use crate::moving::Move;
 use idaw::ListKind;
 use storage_keys::Storage;
 

@@ -1,10 +1,10 @@
 //! One command of a channel program at work: how it begins, how its bytes move, and what stops it (SA22-7832, chapter
 //! 15).
 
-use ccw_walk::Walk;
-use ccw_walk::check::Check;
 use crate::moving::Move;
 use crate::slices::ChunkSlice;
+use ccw_walk::Walk;
+use ccw_walk::check::Check;
 
 /// A command whose bytes are moved.
 #[derive(Clone, Copy)]

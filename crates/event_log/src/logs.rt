@@ -17,9 +17,9 @@ use chan_model::chunk::ChunkLength;
 use chan_model::fault::Fault;
 use chan_model::lent::{LentDown, LentUp};
 use chan_model::signal::OnPath;
+use memory::{Given, Supply, ensure_room};
 use std::alloc::{AllocError, Global};
 use std::marker::Model;
-use memory::{Given, Supply, ensure_room};
 
 /// As many bytes as an entry may have: a chunk of its event and two of its reply.
 pub const ENTRY_BYTES: usize = 768;

@@ -7,6 +7,7 @@
 //! prints something else.
 #![tactic(auto)]
 
+use memory::Given;
 use script_runner::{check_script_with, race_script_with, serve_script_with};
 use std::alloc::{AllocError, Global};
 use std::rt::Files;
@@ -14,7 +15,6 @@ use std::sync::Wait;
 use std::thread::Threads;
 use std::{env, fs, io, str};
 use streams::{CheckedReader, CheckedWriter};
-use memory::Given;
 
 /// Whether a line of the script is a race.
 fn races(script: &[u8]) -> bool {

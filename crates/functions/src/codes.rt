@@ -15,13 +15,13 @@ ghost use Rattle.subchannel_model.specs.Store as store_spec;
 ghost use Rattle.subchannel_model.specs.Test as test_spec;
 ghost use Rattle.subchannel_model.specs.Status as status_spec;
 
+use crate::PackedState;
 use chan_model::answer::ConditionCode;
 use scsw_irb::bits::{
     ALERT, CLEAR_FUNCTION, FUNCTIONS, HALT_FUNCTION, INTERMEDIATE, PRIMARY, RESUME_PENDING,
     SECONDARY, START_FUNCTION, START_PENDING, STATUS_PENDING, SUBCHANNEL_ACTIVE, SUSPENDED,
 };
 use scsw_irb::words::ScswWords;
-use crate::PackedState;
 
 /// 3 where the subchannel is not operational, otherwise 1, otherwise 2, otherwise 0.
 fn in_order(operational: bool, one: bool, two: bool) -> ConditionCode

@@ -15,6 +15,7 @@ ghost use Rattle.subchannel_model.specs.Start as start_spec;
 ghost use Rattle.functions.specs.Unwired.{with_state};
 
 use crate::codes::{is_intermediate_alone, is_pending};
+use crate::{PackedState, Rest};
 use allegiance::allegiances::{AllegianceCause, dedicated};
 use hold::Hold;
 use orb_block::Orb;
@@ -26,7 +27,6 @@ use scsw_irb::scsw::Scsw;
 use scsw_irb::serials::Serials;
 use scsw_irb::words::ScswWords;
 use subchannel_model::state::Program;
-use crate::{PackedState, Rest};
 
 /// What START SUBCHANNEL leaves of a status word of zeros.
 fn started_scsw(orb: &Orb) -> Scsw

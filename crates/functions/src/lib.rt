@@ -25,12 +25,11 @@ pub mod rest;
 pub mod state;
 pub mod subchannel;
 
+use chan_model::answer::ConditionCode;
+use orb_block::Orb;
 pub use rest::Rest;
 pub use state::PackedState;
 pub use subchannel::Subchannel;
-
-use chan_model::answer::ConditionCode;
-use orb_block::Orb;
 
 /// START SUBCHANNEL with an ORB that is allowed.
 pub fn ssch(state: &mut PackedState, orb: Orb) -> ConditionCode

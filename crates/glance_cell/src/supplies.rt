@@ -3,8 +3,8 @@
 ghost use Rattle.std.specs.Prelude.{◌≡◌, ◌+◌, Bool, true, IfOk, OnOk, OnErr};
 
 use crate::cell::{Reader, Writer};
+use memory::{FailingMemory, Given, Supply};
 use std::alloc::{AllocError, Global};
-use memory::{Given, FailingMemory, Supply};
 
 /// Memory for lists, and for cells and their readers. That it refused something can be seen from then on.
 pub trait CellSupply: Supply {

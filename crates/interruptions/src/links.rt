@@ -5,9 +5,9 @@ ghost use Rattle.std.specs.List.{range_with_len};
 ghost use Rattle.interruptions.specs.Circles as spec;
 ghost use Rattle.interruptions.specs.Paths as paths;
 
+use memory::{Supply, make_room};
 use std::alloc::{AllocError, Global};
 use std::marker::Model;
-use memory::{Supply, make_room};
 
 /// Each number below a count has one that is next and one that was before. A number that stands in no circle with others is
 /// alone: next to itself, and before itself. Some numbers may stand for circles, and be alone while these are empty.

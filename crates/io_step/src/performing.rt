@@ -17,9 +17,9 @@ use chan_model::answer::ConditionCode;
 use chan_model::fault::Fault;
 use chan_model::names::Cpu;
 use channel_reports::Reports;
+use functions::Subchannel;
 use interruptions::Pending;
 use storage_keys::Storage;
-use functions::Subchannel;
 
 /// Whether an instruction that set this code drops the request of its subchannel.
 fn drops(instruction: Instruction, code: Option<ConditionCode>) -> bool

@@ -19,11 +19,11 @@ use chan_events::event::Instruction;
 use chan_events::reply::PlainReply;
 use chan_model::fault::Fault;
 use chan_model::names::Cpu;
+use functions::Subchannel;
 use schib_block::SCHIB_BYTES;
 use schib_block::words::block_of;
 use scsw_irb::irb::IRB_BYTES;
 use storage_keys::Storage;
-use functions::Subchannel;
 
 fn start(
     storage: &Storage,

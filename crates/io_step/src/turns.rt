@@ -20,11 +20,10 @@ use chan_events::reply::{PlainReply, Reply};
 use chan_model::answer::{Answer, ConditionCode};
 use functions::codes::{stsch_code, tsch_code};
 use functions::law::modified;
-use functions::{csch, hsch, msch, rsch, ssch, xsch};
+use functions::{Subchannel, csch, hsch, msch, rsch, ssch, xsch};
 use orb_block::Orb;
 use scsw_irb::scsw::Scsw;
 use status::tsch;
-use functions::Subchannel;
 
 /// START SUBCHANNEL with an allowed ORB.
 pub fn start_sub(sub: &mut Subchannel, orb: Orb) -> PlainReply

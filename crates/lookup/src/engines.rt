@@ -4,9 +4,9 @@ ghost use Rattle.std.specs.Prelude.{◌≡◌, ◌<◌, IfSome, None, replicate}
 ghost use Rattle.subchannel_model.specs.Choosing as choosing_spec;
 ghost use Rattle.lookup.specs.Tables as spec;
 
+use functions::Subchannel;
 use hold::Hold;
 use std::marker::Model;
-use functions::Subchannel;
 
 /// The identifier of the channel path whose engine the subchannel engages: the path of its active allegiance (SA22-7832,
 /// chapter 15). None where it has none.

@@ -8,10 +8,10 @@ ghost use Rattle.memory.specs.Requests.{IsModest};
 use crate::walk::{place_in, reached_in};
 use chan_model::names::Side;
 use channel_config::names::SubchannelId;
-use std::alloc::{AllocError, Global};
-use std::marker::Model;
 use functions::Subchannel;
 use memory::Supply;
+use std::alloc::{AllocError, Global};
+use std::marker::Model;
 
 /// How many numbers of a set have entries in the table of names.
 const NUMBERS_OF_A_SET: usize = 0x100;

@@ -14,6 +14,7 @@ ghost use Rattle.chan_events.specs.declared.reply.Reply.TheVariants as reply_spe
 ghost use Rattle.event_log.specs.Logs.{IsKept, answer_in};
 ghost use Rattle.chan_events.specs.Replies.{plain_outcome};
 
+use active_program::sent::SentDown;
 use chan_events::event::{Event, Instruction, OtherInstruction, UnitAct};
 use chan_events::reply::{PlainReply, Reply};
 use chan_model::fault::Fault;
@@ -23,16 +24,14 @@ use channel_config::names::subchannel_named;
 use channel_reports::Reports;
 use control_units::sharing::Sharing;
 use event_log::logs::Log;
-use lookup::engines::{Engines, Served, engaged};
-use lookup::tables::SubchannelIndex;
+use functions::Subchannel;
 use interruptions::Pending;
 use io_step::{ChannelPaths, PathTable, execute_absent, perform_other, perform_provided};
-use run_laws::engines::engines;
+use lookup::engines::{Engines, Served, engaged};
+use lookup::tables::SubchannelIndex;
 use path_select::PathChoice;
+use run_laws::engines::engines;
 use scsw_irb::serials::Serials;
-use std::marker::Model;
-use storage_keys::Storage;
-use subchannel::choosing::{chosen, paths_to_choose};
 use signal_step::acts::{act_sub, not_held, side_of_act};
 use signal_step::posting::{made_by, post};
 use signal_step::sharing::restart;
@@ -40,9 +39,10 @@ use signal_step::tables::engaged_for;
 use signal_step::turns::{
     choose_sub, down_sub, path_of, reached_unit, report_sub, returns_at, up_sub,
 };
-use functions::Subchannel;
+use std::marker::Model;
+use storage_keys::Storage;
+use subchannel::choosing::{chosen, paths_to_choose};
 use unit::Unit;
-use active_program::sent::SentDown;
 
 /// General register 1: the word that names the subchannel of an instruction.
 fn word_of(instruction: Instruction) -> u32
@@ -234,7 +234,13 @@ impl Machine {
     }
 
     #[inline(never)]
-    fn up(&mut self, places: &SubchannelIndex, word: u32, path: u32, log: &mut Log) -> Result<(), Fault>
+    fn up(
+        &mut self,
+        places: &SubchannelIndex,
+        word: u32,
+        path: u32,
+        log: &mut Log,
+    ) -> Result<(), Fault>
         requires fits { Fits places.now self.old.subs }
         requires roomy { All CanCount self.old.subs }
         requires postable { All IsPostable self.old.subs }
@@ -265,7 +271,13 @@ impl Machine {
     }
 
     #[inline(never)]
-    fn down(&mut self, places: &SubchannelIndex, word: u32, path: u32, log: &mut Log) -> Result<(), Fault>
+    fn down(
+        &mut self,
+        places: &SubchannelIndex,
+        word: u32,
+        path: u32,
+        log: &mut Log,
+    ) -> Result<(), Fault>
         requires fits { Fits places.now self.old.subs }
         requires room { 1 ≤ log.old.room }
         requires fresh { log.old.reply ≡ reply_spec.Done }
@@ -286,7 +298,12 @@ impl Machine {
     }
 
     #[inline(always)]
-    fn report(&mut self, places: &SubchannelIndex, number: u32, report: &Report) -> Result<PlainReply, Fault>
+    fn report(
+        &mut self,
+        places: &SubchannelIndex,
+        number: u32,
+        report: &Report,
+    ) -> Result<PlainReply, Fault>
         requires fits { Fits places.now self.old.subs }
         requires roomy { All CanUnitCount self.old.units }
         ensures { spec.Performs self.old (event_spec.Report number report.now) (plain_outcome result) self.new }
@@ -369,7 +386,12 @@ impl Machine {
     }
 
     #[inline(never)]
-    fn act(&mut self, places: &SubchannelIndex, number: u32, act: UnitAct) -> Result<PlainReply, Fault>
+    fn act(
+        &mut self,
+        places: &SubchannelIndex,
+        number: u32,
+        act: UnitAct,
+    ) -> Result<PlainReply, Fault>
         requires fits { Fits places.now self.old.subs }
         requires roomy { All CanUnitCount self.old.units }
         ensures { spec.Performs self.old (event_spec.Act number act) (plain_outcome result) self.new }

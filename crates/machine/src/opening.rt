@@ -11,22 +11,22 @@ ghost use Rattle.interruptions.specs.Requests.{no_requests_wait};
 ghost use Rattle.storage_keys.specs.Storage.{cleared_storage};
 
 use crate::machine::Machine;
+use active_program::sent::SentDown;
 use channel_config::config::Config;
 use channel_config::parts::{SubchannelSetup, UnitKind};
 use channel_reports::Reports;
 use control_units::sharing::Sharing;
+use functions::Subchannel;
+use interruptions::Pending;
 use lookup::engines::Engines;
 use lookup::tables::SubchannelIndex;
-use interruptions::Pending;
+use memory::{Supply, push};
+use signal_step::tables::configured;
 use std::alloc::{AllocError, Global};
 use storage_keys::Storage;
 use subchannel::opening;
-use signal_step::tables::configured;
-use functions::Subchannel;
-use memory::{Supply, push};
 use unit::Unit;
 use wires::Wires;
-use active_program::sent::SentDown;
 
 /// How many numbers a set of subchannels has.
 const NUMBERS_OF_A_SET: u16 = 0x100;

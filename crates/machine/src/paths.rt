@@ -15,14 +15,14 @@ use crate::machine::Machine;
 use chan_events::reply::{PlainReply, Reply};
 use chan_model::fault::Fault;
 use channel_reports::Reports;
-use lookup::engines::{Engines, engaged};
+use functions::Subchannel;
 use interruptions::Pending;
+use lookup::engines::{Engines, engaged};
 use machine_model::state::Sweep;
-use subchannel::losing::{go_down, lose_path, show_path};
-use subchannel::system_reset::reset_by_system;
 use signal_step::posting::{made_by, post};
 use signal_step::tables::has_chpid;
-use functions::Subchannel;
+use subchannel::losing::{go_down, lose_path, show_path};
+use subchannel::system_reset::reset_by_system;
 
 /// The channel path of this identifier, where it is configured.
 fn chpid_of(chpids: &[u8], number: u32) -> Option<u8>

@@ -11,9 +11,9 @@ ghost use Rattle.run_laws.specs.BeginsItsOwn.{BeginsItsOwn};
 ghost use Rattle.run_laws.specs.Dedicated.{OffersOnDedicated};
 ghost use Rattle.run_laws.specs.Paths.{AreOffersLogical, ShowsLastUsed};
 
-use agreement_laws::{agreement, passing, resets};
 use crate::engines::offers;
 use crate::states::{setups, steps};
+use agreement_laws::{agreement, passing, resets};
 use step_laws::walks;
 
 /// Each START SUBCHANNEL (SA22-7832, chapter 14) begins at most one program at its device: after each run of a lawful

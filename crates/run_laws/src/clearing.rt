@@ -7,8 +7,8 @@ ghost use Rattle.run_laws.specs.StateClaims.{IsClearedOnce};
 ghost use Rattle.machine_model.specs.State.{State, opening_of};
 ghost use Rattle.machine_model.specs.Steps.{Run};
 
-use step_laws::walks;
 use data_move::law::command_numbers;
+use step_laws::walks;
 
 /// Of two TEST SUBCHANNEL instructions of one subchannel that answered condition code 0 (SA22-7832, chapter 14), the later
 /// brought a greater count of statuses made: each status is cleared by at most one of them.

@@ -10,9 +10,9 @@ ghost use Rattle.run_laws.specs.ByItsPath.{IsByItsPath};
 ghost use Rattle.run_laws.specs.DevicePaths.{HasOneWayEach};
 ghost use Rattle.run_laws.specs.Engines.{HasOneEngine};
 
-use agreement_laws::{agreement, passing, resets, rising};
 use crate::engines::engines;
 use crate::states::{reset_numbers, setups};
+use agreement_laws::{agreement, passing, resets, rising};
 use step_laws::walks;
 
 /// In each run of a lawful set-up what is taken of a subchannel's program, and what is sent to it in answer, goes by the path

@@ -9,8 +9,8 @@ ghost use Rattle.machine_model.specs.Steps.{Run};
 ghost use Rattle.run_laws.specs.ProgramTold.{AreProgramsTold};
 ghost use Rattle.run_laws.specs.Tells.{AllTold};
 
-use ccw_walk::law as place_laws;
 use crate::states::{reset_numbers, setups, steps};
+use ccw_walk::law as place_laws;
 use data_move::law as moves;
 use step_laws::walks;
 use storage_keys::law as storage;

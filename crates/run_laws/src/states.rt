@@ -16,8 +16,8 @@ ghost use Rattle.machine_model.specs.Steps.{Run, Step};
 ghost use Rattle.subchannel_model.specs.Losing.{loses};
 
 use agreement_laws::{agreement, passing, resets, rising};
-use step_laws::{stays_set_up, storage_blocks, walks};
 use data_move::law::command_numbers;
+use step_laws::{stays_set_up, storage_blocks, walks};
 
 /// After each run the numbers of each subchannel and of each unit (its chunks, connections, attentions and restarts) are at most
 /// as many as there were events, and status of a subchannel is pending exactly where some status that was made is not cleared.

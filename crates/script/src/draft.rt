@@ -15,13 +15,13 @@ use crate::said::{has_words, is_readable};
 use crate::text::{TextLine, some_have_words};
 use crate::{RaceLine, ScriptBad};
 use channel_config::config::{Config, ConfigFault};
+use memory::Supply;
 use script_rows::actions::{action_row, common_row};
 use script_rows::places::ActionPlace;
 use script_rows::race::{Race, race_row};
 use script_rows::settings::{Setting, configure, setting_row};
 use script_rows::words::{LineFault, LineRule, is_name};
 use std::alloc::{AllocError, Global};
-use memory::Supply;
 
 /// How many bytes a line has with its line feed, as it is thought when room is made: where they are fewer it grows.
 const COMMON: usize = 8;
@@ -70,7 +70,11 @@ fn begins(line: &[u8]) -> bool
 }
 
 /// Takes a setting.
-fn set<S: Supply>(supply: &mut S, draft: &mut ScriptBuilder, setting: &Setting) -> Result<(), LineFault>
+fn set<S: Supply>(
+    supply: &mut S,
+    draft: &mut ScriptBuilder,
+    setting: &Setting,
+) -> Result<(), LineFault>
     ensures ok { OnOk result ((number : ℕ) (may : Bool) → (spec.broken_by (context draft.old) may (Ok (Sets setting.now)) ≡ None) ×
         Hears draft.old number (Ok (Sets setting.now)) draft.new) }
     ensures err { IfErr result (λ f. (may : Bool) → BreaksRule f (spec.broken_by (context draft.old) may (Ok (Sets setting.now)))) }
@@ -297,7 +301,11 @@ fn bad_line(number: u64, fault: LineFault) -> ScriptBad
 }
 
 /// What no lines have made, with room for those of a text.
-fn opening<S: Supply>(alloc: Global, supply: &mut S, text: &[u8]) -> Result<ScriptBuilder, AllocError>
+fn opening<S: Supply>(
+    alloc: Global,
+    supply: &mut S,
+    text: &[u8],
+) -> Result<ScriptBuilder, AllocError>
     ensures made { IfOk result (λ d. (races : Bool) (lines : List (List ℕ)) → IsDraftOf races lines 0 d) }
     ensures given { OnOk result (S.refused supply.new ≡ S.refused supply.old) }
     ensures memory { OnErr result (S.refused supply.new ≡ true) }

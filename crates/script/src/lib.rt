@@ -18,12 +18,12 @@ use crate::lines::Lines;
 use crate::said::is_plain;
 use crate::text::some_have_words;
 use channel_config::config::Config;
+use memory::{Given, Supply};
 use script_rows::Action;
 use script_rows::race::Race;
 use script_rows::words::LineRule;
 use std::alloc::Global;
 use std::marker::Model;
-use memory::{Given, Supply};
 
 /// One action, and the number of its line, from 1.
 #[derive(Drop)]

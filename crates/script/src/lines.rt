@@ -5,10 +5,10 @@ ghost use Rattle.script_rows.specs.Places.{action_at, action_in, action_length};
 
 use crate::Line;
 use crate::kept::{KeptLine, push};
+use memory::{Supply, extend, make_room};
 use script_rows::places::{ActionPlace, KeptAction};
 use std::alloc::{AllocError, Global};
 use std::marker::Model;
-use memory::{Supply, extend, make_room};
 
 /// A line with its action, whose bytes stand beside it.
 #[derive(Drop)]

@@ -7,9 +7,9 @@ ghost use Rattle.script.specs.Saying.{has_words as words_stand};
 
 use crate::pieces::{STEP, find, marked_words_to, marks, short_pieces_to};
 use crate::said::has_words;
+use memory::Supply;
 use std::alloc::AllocError;
 use std::marker::Model;
-use memory::Supply;
 
 /// A line, and those that follow it: the text from its first byte on, and how many bytes it has.
 #[derive(Drop)]

@@ -10,8 +10,8 @@ use crate::words::{
 };
 use channel_config::config::{Config, ConfigFault};
 use channel_config::parts::UnitKind;
-use std::alloc::Global;
 use memory::Supply;
+use std::alloc::Global;
 
 /// What a line says of the configuration.
 #[derive(Drop)]

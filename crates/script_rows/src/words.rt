@@ -6,9 +6,9 @@ ghost use Rattle.script_rows.specs.Words as spec;
 ghost use Rattle.script_rows.specs.Faults.{FaultOf, rule_number};
 
 use chan_model::chunk::Chunk;
+use memory::{Supply, push};
 use std::alloc::{AllocError, Global};
 use std::marker::Model;
-use memory::{Supply, push};
 
 /// The rules of lines (own), each named by what breaks it, in the order of their numbers.
 #[derive(Clone, Copy, Debug, PartialEq, Eq)]

@@ -9,7 +9,6 @@ ghost use Rattle.script_runner.specs.declared.Ending.TheVariants as ending;
 ghost use Rattle.script_runner.specs.Serving.{Serves, ServesRace, Checks, HasNoScript, IsForMemory, IsApproved};
 ghost use Rattle.script_runner.specs.Serving.{IsBadLineOutput, TellsNoMemoryBy, status_of};
 
-pub mod scripted_machine;
 pub mod law;
 mod opening;
 pub mod performing;
@@ -17,9 +16,11 @@ pub mod places;
 pub mod racers;
 mod reports;
 mod running;
+pub mod scripted_machine;
 pub mod tally;
 
 use core_lock::supplies::CoreSupply;
+use memory::Supply;
 use script::{Script, ScriptBad};
 use script_rows::words::LineRule;
 use script_text::put_bad_line;
@@ -27,7 +28,6 @@ use std::alloc::Global;
 use std::sync::Wait;
 use std::thread::Threads;
 use streams::{NoText, Sink, Source};
-use memory::Supply;
 
 /// How the program ended.
 #[derive(Clone, Copy, Debug, PartialEq, Eq)]

@@ -9,6 +9,7 @@ ghost use Rattle.subsystem.specs.Keeping.{all_serials};
 ghost use Rattle.core_lock.specs.Directory.{directory_of};
 ghost use Rattle.device_models.specs.AnyDevices.{device_of};
 
+use crate::racers::{Racers, one_seat};
 use channel_config::config::Config;
 use channel_config::parts::UnitKind;
 use core_lock::locked::{Core, Seat};
@@ -16,11 +17,10 @@ use core_lock::naming::Naming;
 use core_lock::parts::Parts;
 use core_lock::supplies::CoreSupply;
 use device_models::any_device::AnyDevice;
+use memory::{Supply, push};
 use path_select::Rotating;
-use crate::racers::{Racers, one_seat};
 use std::alloc::{AllocError, Global};
 use subsystem::subsystem::Subsystem;
-use memory::{Supply, push};
 use unit_driver::keeping::KeptReport;
 
 /// A core at the opening of a configuration, of which no seat was made.

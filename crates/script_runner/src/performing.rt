@@ -9,16 +9,16 @@ ghost use Rattle.script_runner.specs.Acting.{outcome_of};
 ghost use Rattle.script_runner.specs.Performing.{IsDone, PerformsLines};
 ghost use Rattle.streams.specs.Sinks.{Puts};
 
-use crate::scripted_machine::{Acted, ScriptedMachine};
 use crate::places::Places;
+use crate::scripted_machine::{Acted, ScriptedMachine};
 use chan_events::reply::Reply;
 use chan_model::fault::Fault;
 use core_lock::naming::Naming;
+use memory::Supply;
 use script::lines::{LentLine, Lines};
 use script_text::held::Held;
 use script_text::{ActionResult, put_event_line_at_once, put_reply_line_at_once};
 use streams::Sink;
-use memory::Supply;
 
 /// What came of the line of an action.
 #[derive(Clone, Copy, Debug)]

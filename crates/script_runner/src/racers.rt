@@ -12,13 +12,13 @@ use core_lock::locked::{Core, Seat};
 use core_lock::naming::Naming;
 use core_lock::supplies::CoreSupply;
 use machine_lock::machine::Machine;
+use memory::{make_room, push};
 use path_select::Rotating;
 use script_rows::race::Race;
 use std::alloc::{AllocError, Global};
 use std::marker::Model;
 use std::sync::Wait;
 use std::thread::{Threads, for_each_mut};
-use memory::{make_room, push};
 
 /// A CPU with a seat of its own, and what came of its instructions.
 #[derive(Drop)]

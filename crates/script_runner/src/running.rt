@@ -9,14 +9,14 @@ ghost use Rattle.script_runner.specs.Serving as spec;
 ghost use Rattle.script_runner.specs.declared.Ending.TheVariants as ending;
 ghost use Rattle.script_runner.specs.Serving.{EndsBy, IsForMemory, IsRun, IsRunOf, IsRunOrRaced, IsRaceOf, PerformsAll, Races};
 
-use crate::scripted_machine::ScriptedMachine;
 use crate::performing::{PerformedLines, perform};
+use crate::racers::Racers;
+use crate::scripted_machine::ScriptedMachine;
 use crate::{Ending, no_memory};
 use channel_config::config::Config;
 use core_lock::naming::Naming;
 use core_lock::parts::Parts;
 use core_lock::supplies::CoreSupply;
-use crate::racers::Racers;
 use script::lines::Lines;
 use script::{RaceLine, Script};
 use script_text::{ActionResult, put_event_line};

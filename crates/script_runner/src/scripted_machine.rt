@@ -23,6 +23,7 @@ ghost use Rattle.chan_events.specs.declared.event.Event.TheVariants as event_spe
 
 use crate::opening::{opening_seats, opening_units};
 use crate::places::{Places, write_choose, write_down, write_execute, write_up};
+use crate::racers::Racers;
 use crate::reports::reported_by;
 use chan_events::event::{Event, KeptEvent};
 use chan_model::fault::Fault;
@@ -35,8 +36,8 @@ use core_lock::supplies::CoreSupply;
 use device_law::Device;
 use device_models::any_device::AnyDevice;
 use event_log::history::LentReply;
+use memory::Supply;
 use path_select::Rotating;
-use crate::racers::Racers;
 use script_rows::places::KeptAction;
 use script_rows::race::Race;
 use script_text::RaceCount;
@@ -46,7 +47,6 @@ use std::marker::Model;
 use std::sync::Wait;
 use std::thread::Threads;
 use subsystem::subsystem::Subsystem;
-use memory::Supply;
 use unit_driver::keeping::{KeptReport, forget, keep_refused};
 use unit_driver::reporting::no_report;
 

@@ -19,9 +19,9 @@ use chan_events::reply::{PlainReply, Reply};
 use chan_model::fault::Fault;
 use chan_model::lent_forms::lend_up;
 use chan_model::names::{Path, Side};
-use chan_model::unit_state::{Own, Connection};
-use lookup::tables::SubchannelIndex;
+use chan_model::unit_state::{Connection, Own};
 use functions::Subchannel;
+use lookup::tables::SubchannelIndex;
 use unit::Unit;
 
 /// The path of a place that has one: of a program that is connected.
@@ -175,7 +175,13 @@ pub fn side_of_act(unit: &Unit, act: UnitAct) -> Option<Side>
 }
 
 /// Whether the subchannel of a side has a path of this index.
-fn has_path_at(places: &SubchannelIndex, unit: usize, side: Side, path: u32, subs: &[Subchannel]) -> bool
+fn has_path_at(
+    places: &SubchannelIndex,
+    unit: usize,
+    side: Side,
+    path: u32,
+    subs: &[Subchannel],
+) -> bool
     requires { Fits places.now subs.now }
     ensures { result ≡ spec.has_path_at (place_spec.reached_sub «unit» side subs.now) path }
 {

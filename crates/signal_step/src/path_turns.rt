@@ -6,11 +6,11 @@ ghost use Rattle.signal_step.specs.PathTurns as spec;
 use chan_events::event::Event;
 use chan_model::names::Path;
 use chan_model::paths::PathSet;
+use functions::Subchannel;
 use lookup::engines::Served;
 use subchannel::choosing::{chosen, paths_to_choose};
 use subchannel::losing::path_index;
 use subchannel_model::state::Chosen;
-use functions::Subchannel;
 
 fn is_idle(chosen: &Chosen) -> bool
     ensures { result ≡ spec.is_idle chosen.now }

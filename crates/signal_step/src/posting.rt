@@ -4,9 +4,9 @@ ghost use Rattle.std.specs.Prelude.{◌≡◌, ◌<◌};
 ghost use Rattle.machine_model.specs.Requests as requests_spec;
 ghost use Rattle.signal_step.specs.Giving as giving_spec;
 
+use functions::Subchannel;
 use interruptions::Pending;
 use scsw_irb::code::IntCode;
-use functions::Subchannel;
 
 /// The request of a subchannel: its name, with the interruption parameter and the subclass that it has.
 fn request_of(sub: &Subchannel) -> IntCode

@@ -8,8 +8,8 @@ ghost use Rattle.machine_model.specs.OtherTurns.{LentWhole};
 ghost use Rattle.machine_model.specs.State as state_spec;
 
 use chan_events::event::OtherInstruction;
-use lookup::engines::Served;
 use io_step::PathTable;
+use lookup::engines::Served;
 
 /// Whether the path is among these.
 pub fn has_chpid(chpids: &[u8], chpid: usize) -> bool

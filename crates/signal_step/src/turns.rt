@@ -32,6 +32,7 @@ use crate::sending::{
     finds_down_full, finds_up_full, first_down, first_up, send_any_down, send_any_up,
 };
 use crate::sharing::take;
+use active_program::sent::SentDown;
 use chan_events::reply::{PlainReply, Reply};
 use chan_model::fault::Fault;
 use chan_model::lent::{LentDown, LentUp, PlainDown};
@@ -42,6 +43,7 @@ use chan_model::signal::{Down, OnPath, Up};
 use chan_model::unit_state::Connection;
 use control_units::sharing::Sharing;
 use event_log::logs::Log;
+use functions::Subchannel;
 use lookup::engines::Served;
 use status::make_pending;
 use storage_keys::Storage;
@@ -51,9 +53,7 @@ use subchannel::paths::is_granted;
 use subchannel::taking::take_up;
 use subchannel_model::cause::StatusCause;
 use subchannel_model::state::{Candidate, Chosen};
-use functions::Subchannel;
 use unit::Unit;
-use active_program::sent::SentDown;
 
 /// Whether what was chosen is a signal that finds its wire full.
 fn chosen_finds_full(sub: &Subchannel, chosen: &Chosen) -> bool

@@ -15,11 +15,11 @@ ghost use Rattle.machine_model.specs.declared.state.UnitTurn.TheVariants as turn
 use chan_model::names::{Path, Side};
 use chan_model::paths::PathSet;
 use chan_model::report::LentWork;
-use chan_model::unit_state::{Own, Connection};
+use chan_model::unit_state::{Connection, Own};
 use channel_config::names::SubchannelId;
+use functions::Subchannel;
 use lookup::tables::SubchannelIndex;
 use machine_model::state::UnitTurn;
-use functions::Subchannel;
 use unit::Unit;
 use wires::Wires;
 
@@ -81,7 +81,12 @@ struct Waiting {
 }
 
 /// The signal that waits for a side of a unit.
-fn taken_from(places: &SubchannelIndex, unit: usize, side: Side, subs: &[Subchannel]) -> Option<Waiting>
+fn taken_from(
+    places: &SubchannelIndex,
+    unit: usize,
+    side: Side,
+    subs: &[Subchannel],
+) -> Option<Waiting>
     requires { Fits places.now subs.now }
     ensures { MatchOption result (state_spec.takes_from (place_spec.reached_sub «unit» side subs.now) ≡ None)
         (λ w. state_spec.takes_from (place_spec.reached_sub «unit» side subs.now) ≡ Some (turn.Takes w.subchannel w.path)) }

@@ -13,6 +13,7 @@ use crate::ends::{end_shown, is_last_end, show_primary};
 use crate::shown::{add_status, check_status, conditions, shows_primary};
 use ccw_walk::check::Check;
 use functions::effects::end_programs;
+use functions::{PackedState, Rest};
 use scsw_irb::bits::{CLEAR_FUNCTION, INTERMEDIATE};
 use scsw_irb::scsw::{ActivityControl, DeferredCode, StatusControl};
 use scsw_irb::status::{DeviceStatus, SubchannelStatus};
@@ -20,7 +21,6 @@ use scsw_irb::words::ScswWords;
 use subchannel_model::cause::StatusCause;
 use subchannel_model::state::{ActiveProgram, Program};
 use subchannel_model::status::Shown;
-use functions::{PackedState, Rest};
 
 /// Status is pending, and nothing else is shown.
 fn plain_shown(command_address: u32, count: u16) -> Shown

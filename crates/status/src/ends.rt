@@ -6,12 +6,12 @@ ghost use Rattle.subchannel_model.specs.Ends as spec;
 
 use crate::shown::{check_status, conditions, shows_primary};
 use crate::testing::is_halted;
+use functions::PackedState;
 use scsw_irb::scsw::{ActivityControl, DeferredCode};
 use scsw_irb::status::{DeviceStatus, SubchannelStatus};
 use scsw_irb::words::ScswWords;
 use subchannel_model::state::{ActiveProgram, Program};
 use subchannel_model::status::Shown;
-use functions::PackedState;
 
 /// Whether an End is the last of its program: it has device end or unit check, or no channel end.
 pub fn is_last_end(status: DeviceStatus) -> bool

@@ -17,10 +17,10 @@ pub mod shown;
 pub mod testing;
 
 use chan_model::answer::ConditionCode;
+use functions::PackedState;
 use functions::codes::tsch_code;
 use scsw_irb::status::DeviceStatus;
 use subchannel_model::cause::StatusCause;
-use functions::PackedState;
 
 /// Makes the status of a cause pending. A subchannel that is not enabled gets none (own), but its activity and its programs
 /// change. The request for an interruption is the caller's.

@@ -6,12 +6,12 @@ ghost use Rattle.subchannel_model.specs.Status as spec;
 ghost use Rattle.functions.specs.Unwired.{with_state};
 
 use ccw_walk::check::Check;
+use functions::PackedState;
 use scsw_irb::bits::{CLEAR_FUNCTION, START_FUNCTION};
 use scsw_irb::scsw::{Scsw, StatusControl};
 use scsw_irb::status::{DeviceStatus, SubchannelStatus};
 use scsw_irb::words::ScswWords;
 use subchannel_model::status::Shown;
-use functions::PackedState;
 
 /// A status is made pending. A subchannel that is not enabled gets none, but its activity changes.
 pub(crate) fn add_status(state: &mut PackedState, shown: &Shown)

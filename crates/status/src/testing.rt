@@ -4,11 +4,11 @@ ghost use Rattle.std.specs.Prelude.{◌≡◌};
 ghost use Rattle.subchannel_model.specs.Test as test_spec;
 ghost use Rattle.functions.specs.Unwired.{with_state};
 
+use functions::PackedState;
 use functions::codes::{is_intermediate_alone, is_pending};
 use functions::effects::{clear_serials, drop_scsw, end_programs};
 use scsw_irb::bits::{HALT_FUNCTION, SUSPENDED};
 use scsw_irb::words::ScswWords;
-use functions::PackedState;
 
 /// What is cleared where status is pending that is not intermediate status alone, or where a suspended program is halted: the
 /// deferred code, N, the functions, the status control, and of the activity all but subchannel active and device active.

@@ -9,9 +9,9 @@ pub mod key;
 pub mod law;
 
 use key::Key;
+use memory::{Given, Supply};
 use std::alloc::{AllocError, Global};
 use std::marker::Model;
-use memory::{Given, Supply};
 
 /// How many bytes have one key.
 const BLOCK: usize = 4096;

@@ -7,9 +7,9 @@ ghost use Rattle.streams.specs.declared.NoText.TheVariants as no_text;
 ghost use Rattle.std.specs.Prelude.{Err, true, ◌≡◌, ◌≤◌, ◌++◌, false, take, length, IfOk, OnOk, IfSome, IfNone};
 ghost use Rattle.std.specs.Io.KnownBytes.{Appends, IsAtEnd, Keeps};
 
+use memory::{Given, Supply, extend};
 use std::alloc::Global;
 use std::io::{ErrorKind, Read, Write};
-use memory::{Given, Supply, extend};
 
 /// Why there is no text.
 #[derive(Clone, Copy, Debug, PartialEq, Eq)]

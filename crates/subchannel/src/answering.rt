@@ -12,16 +12,16 @@ ghost use Rattle.storage_keys.specs.Storage.{Contents};
 ghost use Rattle.subchannel_model.specs.declared.state.SubchannelState.{SubchannelState};
 
 use crate::taking::take_unmoved;
+use active_program::moving::data_by;
+use active_program::sent::SentDown;
 use chan_model::hold_state::{HoldPhase, HoldState};
 use chan_model::lent::LentUp;
 use chan_model::names::Path;
 use chan_model::signal::Up;
+use data_move::chunks::is_answered;
+use functions::PackedState;
 use hold::Hold;
 use storage_keys::Storage;
-use functions::PackedState;
-use data_move::chunks::is_answered;
-use active_program::moving::data_by;
-use active_program::sent::SentDown;
 
 /// The path of the program that is offered or connected.
 pub fn standing_path(hold: &HoldState) -> Option<Path>

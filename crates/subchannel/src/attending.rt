@@ -7,8 +7,11 @@ ghost use Rattle.active_program.specs.Sent.{came_so};
 ghost use Rattle.subchannel_model.specs.Attention as on_attention;
 ghost use Rattle.active_program.specs.Stepping.{subchannel_stepped};
 
+use active_program::answers::by_hold;
+use active_program::sent::SentDown;
 use chan_model::lent::LentUp;
 use chan_model::names::Path;
+use functions::PackedState;
 use scsw_irb::bits::{
     CLEAR_PENDING, DEVICE_ACTIVE, HALT_PENDING, RESUME_PENDING, STATUS_PENDING, SUBCHANNEL_ACTIVE,
     SUSPENDED,
@@ -17,9 +20,6 @@ use scsw_irb::status::DeviceStatus;
 use scsw_irb::words::ScswWords;
 use status::make_pending;
 use subchannel_model::cause::StatusCause;
-use functions::PackedState;
-use active_program::answers::by_hold;
-use active_program::sent::SentDown;
 
 /// The activity control, but for start pending.
 const BUSY: u32 = RESUME_PENDING

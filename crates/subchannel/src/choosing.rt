@@ -17,14 +17,14 @@ use chan_model::lent::PlainDown;
 use chan_model::names::Path;
 use chan_model::paths::PathSet;
 use chan_model::signal::OnPath;
-use lookup::engines::Served;
+use functions::{PackedState, Subchannel};
 use hold::Hold;
+use lookup::engines::Served;
 use scsw_irb::bits::{
     CLEAR_PENDING, HALT_PENDING, PATH_NOT_OPERATIONAL, RESUME_PENDING, START_PENDING,
 };
 use scsw_irb::words::ScswWords;
 use subchannel_model::state::{Candidate, Chosen, Program, ProgramPosition};
-use functions::{PackedState, Subchannel};
 
 /// The number of a Reset that was not sent yet.
 fn unsent_reset(hold: &HoldState) -> Option<u64>

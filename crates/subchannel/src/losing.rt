@@ -9,10 +9,10 @@ ghost use Rattle.functions.specs.Unwired.{with_state};
 use chan_model::hold_state::HoldPhase;
 use chan_model::names::Path;
 use functions::effects::draw_reset;
+use functions::{PackedState, Rest, Subchannel};
 use hold::Hold;
 use status::make_pending;
 use subchannel_model::cause::StatusCause;
-use functions::{PackedState, Rest, Subchannel};
 use wires::Wires;
 
 fn is_offered_or_held(phase: HoldPhase) -> bool

@@ -5,11 +5,11 @@ ghost use Rattle.subchannel_model.specs.Opening as spec;
 
 use chan_model::paths::PathSet;
 use channel_config::parts::SubchannelSetup;
+use functions::PackedState;
 use hold::Hold;
 use scsw_irb::scsw::Scsw;
 use scsw_irb::serials::Serials;
 use subchannel_model::state::{PmcwState, SubchannelState};
-use functions::PackedState;
 
 /// A subchannel of this set-up at the opening; its wires are made apart.
 pub fn opened(setup: SubchannelSetup) -> PackedState

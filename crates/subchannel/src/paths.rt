@@ -8,8 +8,8 @@ ghost use Rattle.subchannel_model.specs.Choosing as spec;
 use allegiance::path_use::PathUse;
 use chan_model::names::Path;
 use chan_model::paths::PathSet;
-use lookup::engines::Served;
 use functions::Subchannel;
+use lookup::engines::Served;
 
 /// What decides which paths the subchannel may use.
 pub(crate) fn path_use(sub: &Subchannel) -> PathUse

@@ -7,12 +7,12 @@ ghost use Rattle.active_program.specs.Sent.{came_so};
 ghost use Rattle.subchannel_model.specs.Back as on_back;
 ghost use Rattle.active_program.specs.Stepping.{subchannel_stepped};
 
+use active_program::answers::by_hold;
+use active_program::sent::SentDown;
 use chan_model::lent::LentUp;
 use chan_model::names::Path;
 use chan_model::signal::Down;
 use functions::PackedState;
-use active_program::answers::by_hold;
-use active_program::sent::SentDown;
 
 /// Back: the path of a Grant is the one that was used last (SA22-7832, chapter 15: last-path-used mask), and the one that was
 /// chosen last.

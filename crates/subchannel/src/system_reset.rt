@@ -6,9 +6,9 @@ ghost use Rattle.functions.specs.Unwired.{with_state};
 
 use allegiance::allegiances::{AllegianceCause, dedicated};
 use functions::effects::{clear_serials, draw_reset, end_programs};
+use functions::{PackedState, Subchannel};
 use scsw_irb::bits::CONTROLS;
 use scsw_irb::words::ScswWords;
-use functions::{PackedState, Subchannel};
 
 /// Function, activity and status control are cleared.
 fn reset_scsw(scsw: &mut ScswWords)

@@ -16,20 +16,20 @@ ghost use Rattle.functions.specs.Unwired.{with_state};
 use crate::attending::attend;
 use crate::losing::reset_for;
 use crate::returning::come_back;
-use chan_model::lent::LentUp;
-use chan_model::names::Path;
-use chan_model::signal::Up;
-use hold::Hold;
-use scsw_irb::bits::CLEAR_PENDING;
-use status::make_pending;
-use storage_keys::Storage;
-use subchannel_model::cause::StatusCause;
-use functions::PackedState;
 use active_program::accepting::accept;
 use active_program::answers::{by_hold, ignored, quiet, take_by};
 use active_program::ending::end_command;
 use active_program::moving::take_data;
 use active_program::sent::SentDown;
+use chan_model::lent::LentUp;
+use chan_model::names::Path;
+use chan_model::signal::Up;
+use functions::PackedState;
+use hold::Hold;
+use scsw_irb::bits::CLEAR_PENDING;
+use status::make_pending;
+use storage_keys::Storage;
+use subchannel_model::cause::StatusCause;
 
 /// A clear that is pending is performed.
 fn do_clear(state: &mut PackedState)

@@ -8,10 +8,10 @@ use chan_model::names::Path;
 use chan_model::paths::PathSet;
 use chan_model::signal::{Down, Taken};
 use channel_config::parts::SubchannelSetup;
+use data_move::transfer::Transfer;
 use orb_block::Orb;
 use scsw_irb::scsw::Scsw;
 use scsw_irb::serials::Serials;
-use data_move::transfer::Transfer;
 use wires::Wires;
 
 /// What changes of a path-management-control word (SA22-7832, chapter 15).

@@ -10,16 +10,15 @@ ghost use Rattle.machine_model.specs.Steps.{Run};
 ghost use Rattle.run_laws.specs.Losses.{AreLossesShown};
 ghost use Rattle.subsystem.specs.Headline.{HeadlineHolds};
 
-use run_laws::beginnings::beginnings;
-use run_laws::programs::told_by_entries;
-use run_laws::beginnings::{begins_its_own, dedicated_offers};
 use run_laws::agreement::{both_agree, links, one_holder};
-use run_laws::paths::{by_its_path, device_paths, one_engine};
-use run_laws::codes::path_reports;
+use run_laws::beginnings::{
+    beginnings, begins_its_own, dedicated_offers, last_used, logical_offers,
+};
+use run_laws::codes::{codes, path_reports, requests};
 use run_laws::halts_and_losses::{halts, losses};
+use run_laws::paths::{by_its_path, device_paths, one_engine};
+use run_laws::programs::told_by_entries;
 use run_laws::status_word::{choices, deferred_codes, functions, serials, status_bytes};
-use run_laws::codes::{codes, requests};
-use run_laws::beginnings::{last_used, logical_offers};
 
 /// In each run of a lawful set-up the headline holds of the entries.
 pub fn headline()

@@ -11,11 +11,11 @@ use chan_events::event::Event;
 use chan_model::fault::Fault;
 use event_log::logs::Log;
 use lookup::tables::SubchannelIndex;
+use machine::machine::Machine;
+use memory::Supply;
+use path_select::PathChoice;
 use run_laws::answers::codes;
 use run_laws::states::{numbers, setups, steps};
-use machine::machine::Machine;
-use path_select::PathChoice;
-use memory::Supply;
 
 /// One event at a machine, and its entry in the history that led there.
 #[inline(never)]

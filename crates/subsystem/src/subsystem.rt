@@ -29,19 +29,19 @@ use channel_config::config::Config;
 use event_log::history::{History, LentReply};
 use event_log::logs::Log;
 use lookup::tables::SubchannelIndex;
-use run_laws::answers::codes;
-use run_laws::states::{agreements, numbers};
-use run_laws::beginnings::beginnings;
-use run_laws::clearing::serials;
-use machine_model::state::UnitTurn;
 use machine::machine::Machine;
 use machine::opening::opened_machine;
+use machine_model::state::UnitTurn;
+use memory::{Given, Supply, make_room};
 use path_select::PathChoice;
+use run_laws::answers::codes;
+use run_laws::beginnings::beginnings;
+use run_laws::clearing::serials;
 use run_laws::programs::programs;
+use run_laws::states::{agreements, numbers};
 use scsw_irb::serials::Serials;
 use std::alloc::Global;
 use std::marker::Model;
-use memory::{Given, Supply, make_room};
 
 /// A channel subsystem with its subchannels, units and storage (SA22-7832, chapters 13 to 17).
 #[derive(Drop)]

@@ -10,7 +10,7 @@ use crate::parts::{Sent, free, side_of};
 use chan_model::lent::PlainUp;
 use chan_model::names::{Path, Side};
 use chan_model::signal::{OnPath, Up};
-use chan_model::unit_state::{CurrentCommand, Attention, Own, Connection, UnitState};
+use chan_model::unit_state::{Attention, Connection, CurrentCommand, Own, UnitState};
 use scsw_irb::status::DeviceStatus;
 
 /// Leave: the program that is connected works on without the path.

@@ -20,7 +20,7 @@ use chan_model::lent::{LentDown, LentUp, PlainUp};
 use chan_model::names::{Path, Side};
 use chan_model::report::{LentWork, Report, ReportPath, Work};
 use chan_model::signal::{KeptUp, OnPath, Taken};
-use chan_model::unit_state::{Own, Connection, SideState, UnitState};
+use chan_model::unit_state::{Connection, Own, SideState, UnitState};
 use std::marker::Model;
 
 /// A unit: whom its device is held by, what it keeps of each side, and the command at hand.

@@ -6,7 +6,7 @@ ghost use Rattle.chan_model.specs.UnitTable as table;
 use chan_model::lent::PlainUp;
 use chan_model::names::{Path, Side};
 use chan_model::signal::{OnPath, Taken};
-use chan_model::unit_state::{Own, Connection, SideState, UnitState};
+use chan_model::unit_state::{Connection, Own, SideState, UnitState};
 
 /// What came of a signal; none of those that the unit answers with has bytes.
 pub type Came = Taken<PlainUp>;

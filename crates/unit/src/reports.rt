@@ -17,7 +17,7 @@ use chan_model::lent::LentUp;
 use chan_model::names::{Path, Side};
 use chan_model::report::{DeviceAnswer, Report, ReportPath};
 use chan_model::signal::{KeptUp, Load, OnPath, Taken, Up};
-use chan_model::unit_state::{CurrentCommand, Own, Connection, Progress, UnitState};
+use chan_model::unit_state::{Connection, CurrentCommand, Own, Progress, UnitState};
 use scsw_irb::status::DeviceStatus;
 
 /// What came of a report; the bytes of its Data are those that are not answered.

@@ -13,7 +13,7 @@ use crate::parts::{Came, free, is_owner, keep_side, owns, side_of};
 use chan_model::lent::{LentDown, PlainUp};
 use chan_model::names::{Path, Side};
 use chan_model::signal::{Down, Taken, Up};
-use chan_model::unit_state::{Own, Connection, SideState, UnitState};
+use chan_model::unit_state::{Connection, Own, SideState, UnitState};
 
 /// A signal of a side that came by a path.
 pub fn takes(unit: &mut UnitState, side: Side, path: Path, signal: &LentDown<'_>, may: bool) -> Came

@@ -8,7 +8,7 @@ use crate::reports::{is_outward, is_over, most_of};
 use chan_model::chunk::Bytes;
 use chan_model::names::Side;
 use chan_model::report::{Call, DeviceAnswer, LentCall, LentWork, Report, Work};
-use chan_model::unit_state::{CurrentCommand, Own, Connection, Progress, UnitState};
+use chan_model::unit_state::{Connection, CurrentCommand, Own, Progress, UnitState};
 use scsw_irb::status::DeviceStatus;
 
 /// While its program is connected: a call of the device, or a report without a call.
@@ -158,7 +158,12 @@ fn reporting<'a>(
 }
 
 /// The report of a command that was halted before it began.
-fn halted_report<'a>(unit: &UnitState, side: Side, number: u64, command: &'a CurrentCommand) -> LentWork<'a>
+fn halted_report<'a>(
+    unit: &UnitState,
+    side: Side,
+    number: u64,
+    command: &'a CurrentCommand,
+) -> LentWork<'a>
     ensures { Some (lent_work result) ≡ reports.halted_report unit.now side number command.now }
 {
     let answer = DeviceAnswer::Ended {

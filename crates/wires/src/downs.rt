@@ -6,9 +6,9 @@ ghost use Rattle.chan_model.specs.Lent.{lent_down};
 
 use chan_model::lent::LentDown;
 use chan_model::slots::DownSlot;
+use memory::{Supply, make_room, push};
 use std::alloc::{AllocError, Global};
 use std::marker::Model;
-use memory::{Supply, make_room, push};
 
 /// A ring of eight places, which stay where they are: sending writes the one behind the last signal, and nothing else is
 /// touched.

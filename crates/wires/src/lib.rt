@@ -21,9 +21,9 @@ use crate::downs::Downs;
 use crate::ups::Ups;
 use chan_model::lent::{LentDown, LentUp};
 use chan_model::names::Path;
+use memory::{Given, Supply};
 use std::alloc::{AllocError, Global};
 use std::marker::Model;
-use memory::{Given, Supply};
 
 /// The signals that wait, for each path down to the unit and up to the subchannel. A wire holds at most 8.
 #[derive(Drop)]

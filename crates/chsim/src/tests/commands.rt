@@ -5,11 +5,11 @@ use crate::serve;
 use crate::tests::memory::{Short, Slow};
 use crate::tests::scenes::Scene;
 use crate::tests::{UNWRITTEN, ends};
+use memory::Given;
 use script_runner::Ending;
 use std::sync::Wait;
 use std::thread::Threads;
 use streams::{CheckedReader, CheckedWriter};
-use memory::Given;
 
 /// More bytes than a line of the texts has, and than a line that is printed of them.
 pub const LONGEST: usize = 52;

@@ -10,8 +10,8 @@ use crate::naming::Naming;
 use chan_events::event::Event;
 use chan_events::reply::Reply;
 use chan_model::fault::Fault;
-use path_select::PathChoice;
 use memory::{Given, Supply};
+use path_select::PathChoice;
 
 impl<J: Naming, P: PathChoice + Drop> Core<J, P> {
     /// One step, entered from a seat: its reply, with the entry in the history and in the seat's log. Where it is refused all

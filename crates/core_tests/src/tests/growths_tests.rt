@@ -11,9 +11,9 @@ use chan_model::names::Cpu;
 use core_lock::locked::{Core, Seat};
 use core_lock::naming::Naming;
 use core_lock::parts::Parts;
+use memory::FailingMemory;
 use path_select::Rotating;
 use std::alloc::Global;
-use memory::FailingMemory;
 
 /// More requests than there are.
 const MANY: u64 = 100;

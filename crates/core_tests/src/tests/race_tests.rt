@@ -12,15 +12,15 @@ use core_lock::locked::Core;
 use core_lock::naming::Naming;
 use core_lock::parts::Parts;
 use event_log::history::History;
+use memory::Given;
 use path_select::Rotating;
-use script_runner::racers::{Racers, one_seat};
 use script_rows::race::Race;
+use script_runner::racers::{Racers, one_seat};
 use std::alloc::Global;
 use std::marker::Brand;
 use std::sync::Wait;
 use std::thread::Threads;
 use subsystem::subsystem::Subsystem;
-use memory::Given;
 
 /// Four CPUs, each with 10,000 instructions.
 const RACE: Race = Race {

@@ -1,8 +1,8 @@
 //! Words that a user may give, with what `clap` is known to say of them.
 
 use command_words::{Refused, Wanted, command_of};
+use memory::{FailingMemory, Given};
 use std::alloc::Global;
-use memory::{Given, FailingMemory};
 
 fn text_has<'a>(alloc: Global, words: &'a [&'a str], part: &str) -> bool {
     match command_of(alloc, &mut Given { refused: false }, words) {

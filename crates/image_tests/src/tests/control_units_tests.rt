@@ -2,8 +2,8 @@
 
 use control_units::ControlUnit;
 use control_units::sharing::Sharing;
+use memory::{FailingMemory, Given, Supply};
 use std::alloc::Global;
-use memory::{Given, FailingMemory, Supply};
 
 /// The groups of five units.
 const GROUPS: [u16; 5] = [0, 1, 0, 1, 4];

@@ -1,9 +1,9 @@
 //! Requests that wait, and those that are answered.
 
 use interruptions::Pending;
+use memory::{FailingMemory, Given};
 use scsw_irb::code::IntCode;
 use std::alloc::{AllocError, Global};
-use memory::{Given, FailingMemory};
 
 /// A request of a subchannel of set 0.
 fn request(number: u16, subclass: u8) -> Option<IntCode> {

@@ -1,9 +1,9 @@
 //! Accesses whose answers the manual gives (SA22-7832, chapter 3).
 
+use memory::{FailingMemory, Given, Supply};
 use std::alloc::Global;
 use storage_keys::key::Key;
 use storage_keys::{Storage, StorageFault};
-use memory::{Given, FailingMemory, Supply};
 
 const ADDRESSING: StorageFault = StorageFault::Addressing;
 

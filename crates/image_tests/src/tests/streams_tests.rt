@@ -1,9 +1,11 @@
 //! Readers and writers that give and take a few bytes a call, and fail at one.
 
+use memory::{FailingMemory, Given};
 use std::io;
 use std::io::{ErrorKind, Read, Write};
-use streams::{CheckedReader, NoText, Sink, Source, CheckedWriter, put_all, put_both, read_all, read_all_with};
-use memory::{Given, FailingMemory};
+use streams::{
+    CheckedReader, CheckedWriter, NoText, Sink, Source, put_all, put_both, read_all, read_all_with,
+};
 
 const TEXT: &[u8] = b"storage 10\npath 10\n";
 

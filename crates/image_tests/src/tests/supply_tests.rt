@@ -1,7 +1,7 @@
 //! Each request refused in turn.
 
+use memory::{FailingMemory, Given, Supply, extend, make_room, push};
 use std::alloc::{AllocError, Global};
-use memory::{Given, FailingMemory, Supply, extend, make_room, push};
 
 /// Three requests: two bytes one by one, and two together.
 fn fill<S: Supply>(alloc: Global, supply: &mut S) -> Result<Vec<u8>, AllocError> {

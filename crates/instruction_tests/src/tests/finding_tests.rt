@@ -5,12 +5,12 @@ use chan_model::hold_state::HoldPhase;
 use chan_model::names::{Path, Side};
 use channel_config::names::SubchannelId;
 use channel_config::parts::{ChpidList, SubchannelSetup};
+use functions::{PackedState, Subchannel};
 use lookup::engines::engaged;
 use lookup::tables::SubchannelIndex;
+use memory::{FailingMemory, Given, Supply};
 use std::alloc::{AllocError, Global};
 use subchannel_model::state::SubchannelState;
-use functions::{PackedState, Subchannel};
-use memory::{Given, FailingMemory, Supply};
 use wires::Wires;
 
 fn state(phase: HoldPhase) -> SubchannelState {

@@ -10,12 +10,11 @@ use chan_model::paths::PathSet;
 use functions::codes::{
     csch_code, hsch_code, msch_code, rsch_code, ssch_code, stsch_code, tsch_code, xsch_code,
 };
-use functions::{csch, hsch, law, msch, rsch, ssch, xsch};
+use functions::{PackedState, csch, hsch, law, msch, rsch, ssch, xsch};
 use orb_block::Orb;
 use scsw_irb::scsw::Scsw;
 use scsw_irb::serials::Serials;
 use subchannel_model::state::{PmcwState, Program, ProgramPosition, SubchannelState};
-use functions::PackedState;
 
 /// An enabled subchannel whose status word has these three words, and whose number 4 was drawn last.
 fn state(words: [u32; 3]) -> SubchannelState {

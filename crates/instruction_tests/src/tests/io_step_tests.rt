@@ -12,13 +12,13 @@ use chan_model::names::{Cpu, Side};
 use channel_config::names::SubchannelId;
 use channel_config::parts::{ChpidList, SubchannelSetup};
 use channel_reports::Reports;
+use functions::{PackedState, Subchannel};
 use interruptions::Pending;
 use io_step::{ChannelPaths, perform, perform_other, reply_code};
 use scsw_irb::code::IntCode;
 use std::alloc::Global;
 use storage_keys::{Storage, StorageFault};
 use subchannel_model::state::SubchannelState;
-use functions::{PackedState, Subchannel};
 use wires::Wires;
 
 const WORD: u32 = 0x0001_0001;

@@ -1,10 +1,10 @@
 //! What is written into a place stands there, bytes and all, whatever stood there before.
 
+use active_program::sent::SentDown;
 use chan_model::chunk::Chunk;
 use chan_model::lent::PlainDown;
 use chan_model::names::Path;
 use chan_model::signal::{Down, OnPath};
-use active_program::sent::SentDown;
 
 /// A Give of these bytes is put there.
 fn put_give(sent: &mut SentDown, path: Path, sequence: u64, bytes: Chunk) {

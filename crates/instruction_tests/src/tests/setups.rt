@@ -6,15 +6,15 @@ use chan_model::names::Side;
 use chan_model::paths::PathSet;
 use channel_config::names::SubchannelId;
 use channel_config::parts::{ChpidList, SubchannelSetup};
+use data_move::commands::first_command;
+use data_move::transfer::CommandStart;
+use functions::PackedState;
 use orb_block::Orb;
 use scsw_irb::scsw::Scsw;
 use scsw_irb::serials::Serials;
 use std::alloc::Global;
 use storage_keys::Storage;
 use subchannel_model::state::{ActiveProgram, PmcwState, Program, SubchannelState};
-use functions::PackedState;
-use data_move::transfer::CommandStart;
-use data_move::commands::first_command;
 
 /// An enabled subchannel of subclass 0 that holds no device and has no status.
 pub(crate) fn idle_state() -> SubchannelState {

@@ -6,6 +6,8 @@ use crate::tests::setups::{
 use ccw_walk::Walk;
 use ccw_walk::check::Check;
 use chan_model::answer::ConditionCode;
+use data_move::chunks::{absorbed, next_given};
+use functions::PackedState;
 use scsw_irb::scsw::Scsw;
 use scsw_irb::serials::Serials;
 use scsw_irb::status::DeviceStatus;
@@ -16,8 +18,6 @@ use std::alloc::Global;
 use storage_keys::Storage;
 use subchannel_model::cause::StatusCause;
 use subchannel_model::state::{ActiveProgram, ProgramPosition, SubchannelState};
-use functions::PackedState;
-use data_move::chunks::{absorbed, next_given};
 
 /// The same once its device has absorbed the four bytes.
 fn moved(alloc: Global) -> Option<ActiveProgram> {

@@ -5,12 +5,12 @@ use chan_model::hold_state::{HoldPhase, HoldState};
 use chan_model::lent::{PlainDown, PlainUp};
 use chan_model::names::Path;
 use chan_model::signal::{Down, Up};
+use functions::{PackedState, Subchannel};
 use std::alloc::{AllocError, Global};
 use subchannel::choosing::mark_lost_paths;
 use subchannel::losing::{go_down, lose_path, show_path};
 use subchannel::system_reset::reset_by_system;
 use subchannel_model::state::{PmcwState, SubchannelState};
-use functions::{PackedState, Subchannel};
 use wires::Wires;
 
 fn first_path() -> Path {

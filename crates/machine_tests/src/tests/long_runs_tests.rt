@@ -6,10 +6,10 @@ use chan_model::fault::Fault;
 use chan_model::names::Cpu;
 use channel_config::config::Config;
 use event_log::logs::Log;
+use memory::FailingMemory;
 use path_select::Lowest;
 use std::alloc::Global;
 use subsystem::subsystem::Subsystem;
-use memory::FailingMemory;
 
 /// As many entries as a history and a log are to keep.
 const ENTRIES: usize = 300_000;

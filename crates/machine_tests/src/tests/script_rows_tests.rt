@@ -3,13 +3,13 @@
 use chan_events::event::{Event, Instruction, OtherInstruction, UnitAct};
 use chan_model::names::Side;
 use channel_config::config::Config;
+use memory::Given;
 use script_rows::Action;
 use script_rows::actions::action_row;
 use script_rows::places::ActionPlace;
 use script_rows::settings::{Setting, configure, setting_row};
 use script_rows::words::{LineFault, LineRule};
 use std::alloc::{AllocError, Global};
-use memory::Given;
 
 /// The words of a line.
 fn words_of(alloc: Global, line: &[u8]) -> Result<Vec<&[u8]>, AllocError> {

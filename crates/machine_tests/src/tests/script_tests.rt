@@ -2,11 +2,11 @@
 
 use crate::tests::script_lines::text_of;
 use channel_config::config::Config;
+use memory::Given;
 use script::lines::Lines;
 use script::{Script, ScriptBad};
 use script_rows::Action;
 use std::alloc::Global;
-use memory::Given;
 
 const RIGHT: [&[u8]; 26] = [
     b"# a machine",

@@ -7,7 +7,7 @@ use script_text::{ActionResult, put_bad_line, put_event_line};
 use scsw_irb::serials::Serials;
 use std::io;
 use std::io::Write;
-use streams::{Sink, CheckedWriter};
+use streams::{CheckedWriter, Sink};
 
 /// Four lines.
 fn put_lines<S: Sink>(sink: &mut S) -> bool {

@@ -1,10 +1,10 @@
 //! Scripts with a bad line: its number, and the first rule that it breaks.
 
 use crate::tests::script_lines::text_of;
+use memory::{FailingMemory, Given, Supply};
 use script::{Script, ScriptBad};
 use script_rows::words::LineRule;
 use std::alloc::{AllocError, Global};
-use memory::{Given, FailingMemory, Supply};
 
 const WRONG: [(&[u8], u64, LineRule); 7] = [
     (b"", 1, LineRule::StorageNotFirst),

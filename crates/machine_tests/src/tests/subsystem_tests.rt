@@ -12,11 +12,11 @@ use channel_config::config::Config;
 use channel_config::names::SubchannelId;
 use channel_config::parts::UnitKind;
 use machine_model::state::UnitTurn;
+use memory::FailingMemory;
 use path_select::Rotating;
 use scsw_irb::status::DeviceStatus;
 use std::alloc::Global;
 use subsystem::subsystem::{NotMade, Subsystem};
-use memory::FailingMemory;
 
 pub const WORD: u32 = 0x0001_0000;
 

@@ -2,13 +2,13 @@
 
 use ccw_walk::Walk;
 use ccw_walk::check::Check;
-use orb_block::Orb;
-use std::alloc::Global;
-use storage_keys::Storage;
 use data_move::chunks::{absorbed, brought, is_answered, next_given};
 use data_move::commands::{begun_with_room, first_command, next_command, with_room};
 use data_move::law::command_numbers;
 use data_move::transfer::{Beginning, CommandStart, Transfer};
+use orb_block::Orb;
+use std::alloc::Global;
+use storage_keys::Storage;
 
 /// Storage of 64K with a program at 1000 and bytes at 2000.
 fn storage_of(alloc: Global, program: &[u8]) -> Option<Storage> {

@@ -6,7 +6,7 @@ use chan_model::fault::Fault;
 use chan_model::hold_state::HoldPhase;
 use chan_model::names::{Path, Side};
 use chan_model::report::{DeviceAnswer, Report};
-use chan_model::unit_state::{Own, Connection};
+use chan_model::unit_state::{Connection, Own};
 use hold::Hold;
 use memory::FailingMemory;
 

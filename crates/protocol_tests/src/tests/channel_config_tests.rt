@@ -4,8 +4,8 @@ use chan_model::names::Side;
 use channel_config::config::{Config, ConfigFault, ConfigRule};
 use channel_config::names::{SubchannelId, subchannel_named};
 use channel_config::parts::UnitKind;
+use memory::{FailingMemory, Given, Supply};
 use std::alloc::Global;
-use memory::{Given, FailingMemory, Supply};
 
 #[test]
 fn words_name_subchannels(rt: HostRuntime) {

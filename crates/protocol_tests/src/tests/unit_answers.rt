@@ -3,7 +3,7 @@
 use chan_model::lent::PlainUp;
 use chan_model::report::{Call, DeviceAnswer, Report, ReportPath, Work};
 use chan_model::signal::{Load, OnPath, Taken, Up};
-use chan_model::unit_state::{Own, Connection};
+use chan_model::unit_state::{Connection, Own};
 use unit::Unit;
 
 /// The code of the command that the device is to begin.

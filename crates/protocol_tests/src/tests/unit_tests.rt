@@ -9,7 +9,7 @@ use chan_model::lent::{PlainDown, PlainUp};
 use chan_model::names::{Path, Side};
 use chan_model::report::{DeviceAnswer, Report, ReportPath};
 use chan_model::signal::{Down, OnPath, Taken, Up};
-use chan_model::unit_state::{Own, Connection};
+use chan_model::unit_state::{Connection, Own};
 use scsw_irb::status::DeviceStatus;
 use unit::Unit;
 
