@@ -3,8 +3,6 @@
 use chan_events::event::Event;
 use chan_events::reply::Reply;
 use chan_model::chunk::CHUNK_BYTES;
-use chan_model::names::Side;
-use chan_model::report::{DeviceAnswer, Report, Work};
 use core_lock::guarded::Guarded;
 use core_lock::locked::Seat;
 use core_lock::naming::Naming;
@@ -12,9 +10,9 @@ use core_lock::stock::SeatStock;
 use device_law::answering::answer_to;
 use device_models::any_device::AnyDevice;
 use event_log::history::LentReply;
-use machine_model::state::UnitTurn;
 use path_select::Rotating;
 use subsystem::subsystem::Subsystem;
+use unit_driver::reporting::{NextReport, next_report, no_report};
 
 /// What events are performed at.
 pub trait Floor {
@@ -41,13 +39,7 @@ impl ReportPlace {
         ReportPlace {
             event: Event::Report {
                 unit: 0,
-                report: Report {
-                    side: Side::First,
-                    number: 0,
-                    command: 0,
-                    sequence: 0,
-                    answer: DeviceAnswer::Begins,
-                },
+                report: no_report(),
             },
         }
     }
@@ -55,30 +47,21 @@ impl ReportPlace {
     /// Writes the report of a unit's next work, its device having been called where the work is a call; false where it has
     /// none.
     fn write(&mut self, subsystem: &Subsystem<Rotating>, of: u32, device: &mut AnyDevice) -> bool {
-        let Some(UnitTurn::Works(work)) = subsystem.lent_turn(of) else {
+        let Some(turn) = subsystem.lent_turn(of) else {
             return false;
         };
         let Event::Report { unit, report } = &mut self.event else {
             return false;
         };
         *unit = of;
-        match &work {
-            Work::Call {
-                side,
-                number,
-                command,
-                sequence,
-                call,
-            } => {
-                report.side = *side;
-                report.number = *number;
-                report.command = *command;
-                report.sequence = *sequence;
-                answer_to(device, call, &mut report.answer);
+        match next_report(&None, &turn, report) {
+            NextReport::Told(()) => true,
+            NextReport::Asked(call) => {
+                answer_to(device, &call, &mut report.answer);
+                true
             }
-            Work::Report(told) => *report = told.own(),
+            NextReport::Nothing => false,
         }
-        true
     }
 }
 
