@@ -9,10 +9,10 @@ ghost use Rattle.script_runner.specs.declared.Ending.TheVariants as ending;
 ghost use Rattle.script_runner.specs.Serving.{Serves, ServesRace, Checks, HasNoScript, IsForMemory, IsApproved};
 ghost use Rattle.script_runner.specs.Serving.{IsBadLineOutput, TellsNoMemoryBy, status_of};
 
+pub mod buffers;
 pub mod law;
 mod opening;
 pub mod performing;
-pub mod places;
 pub mod racers;
 mod reports;
 mod running;

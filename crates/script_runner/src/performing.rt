@@ -9,7 +9,7 @@ ghost use Rattle.script_runner.specs.Acting.{outcome_of};
 ghost use Rattle.script_runner.specs.Performing.{IsDone, PerformsLines};
 ghost use Rattle.streams.specs.Sinks.{Puts};
 
-use crate::places::Places;
+use crate::buffers::EventBuffers;
 use crate::scripted_machine::{Acted, ScriptedMachine};
 use chan_events::reply::Reply;
 use chan_model::fault::Fault;
@@ -96,20 +96,20 @@ fn write<J: Naming, S: Sink>(
     }
 }
 
-/// Performs one line and writes what it prints, through places of their own.
+/// Performs one line and writes what it prints, through buffers of its own.
 fn perform_one<J: Naming, M: Supply, S: Sink>(
     installation: &mut ScriptedMachine<J>,
     supply: &mut M,
     line: &LentLine<'_>,
-    places: &mut Places,
+    buffers: &mut EventBuffers,
     sink: &mut S,
 ) -> Written
     requires { action_length line.now.action.now ≤ length line.now.bytes.now }
     ensures { IsDone (M.refused supply.old) (M.refused supply.new) installation.old (record { number = line.now.number; action = action_in line.now.action.now line.now.bytes.now })
         (S.seen sink.old) (S.seen sink.new) result installation.new }
 {
-    let acted = installation.act(supply, line.action, line.bytes, places);
-    write(installation, acted, line.number, &mut places.held, sink)
+    let acted = installation.act(supply, line.action, line.bytes, buffers);
+    write(installation, acted, line.number, &mut buffers.held, sink)
 }
 
 /// Performs the lines in order, up to the first whose print is not written whole. Room for what is entered is from a supply: a line
@@ -123,13 +123,13 @@ pub fn perform<J: Naming, M: Supply, S: Sink>(
     ensures performs { PerformsLines (M.refused supply.new) installation.old lines.now (S.seen sink.old) (S.seen sink.new) result installation.new }
     ensures given { result.refused ≡ false → M.refused supply.new ≡ M.refused supply.old }
 {
-    let mut places = Places::new();
+    let mut buffers = EventBuffers::new();
     let mut refused = false;
     for place in 0..lines.len() {
         let Some(line) = lines.kept(place) else {
             break;
         };
-        let written = perform_one(installation, supply, &line, &mut places, sink);
+        let written = perform_one(installation, supply, &line, &mut buffers, sink);
         refused = refused | written.refused;
         if !written.whole {
             return PerformedLines {

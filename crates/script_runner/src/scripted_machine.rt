@@ -21,8 +21,8 @@ ghost use Rattle.chan_events.specs.Events.{event_in, event_length};
 ghost use Rattle.script_rows.specs.Places.{action_in, action_length};
 ghost use Rattle.chan_events.specs.declared.event.Event.TheVariants as event_spec;
 
+use crate::buffers::{EventBuffers, write_choose, write_down, write_execute, write_up};
 use crate::opening::{opening_seats, opening_units};
-use crate::places::{Places, write_choose, write_down, write_execute, write_up};
 use crate::racers::Racers;
 use crate::reports::reported_by;
 use chan_events::event::{Event, KeptEvent};
@@ -125,7 +125,7 @@ impl<J: Naming> ScriptedMachine<J> {
         supply: &mut M,
         action: &KeptAction,
         bytes: &[u8],
-        places: &mut Places,
+        buffers: &mut EventBuffers,
     ) -> Result<Acted, Fault>
         requires { action_length action.now ≤ length bytes.now }
         ensures performs { PerformsAction self.old (action_in action.now bytes.now) (outcome_of result self.new.past.history) self.new }
@@ -134,11 +134,11 @@ impl<J: Naming> ScriptedMachine<J> {
     {
         match action {
             KeptAction::Event(event) => {
-                self.perform(supply, event, bytes, places)?;
+                self.perform(supply, event, bytes, buffers)?;
                 Ok(Acted::Replied)
             }
             KeptAction::Dev(unit) => {
-                self.take_turn(supply, *unit, &mut places.report)?;
+                self.take_turn(supply, *unit, &mut buffers.report)?;
                 Ok(Acted::Replied)
             }
             KeptAction::Glance(subchannel) => match self.look(*subchannel) {
@@ -162,7 +162,7 @@ impl<J: Naming> ScriptedMachine<J> {
         supply: &mut M,
         event: &KeptEvent,
         bytes: &[u8],
-        places: &mut Places,
+        buffers: &mut EventBuffers,
     ) -> Result<(), Fault>
         requires { event_length event.now ≤ length bytes.now }
         ensures happens { Happens self.old (event_in event.now bytes.now) (answer_of result self.new.past.history) self.new }
@@ -171,42 +171,42 @@ impl<J: Naming> ScriptedMachine<J> {
     {
         match event {
             Event::Up { subchannel, path } => {
-                write_up(&mut places.up, *subchannel, *path);
-                self.enter_plain(supply, &places.up)
+                write_up(&mut buffers.up, *subchannel, *path);
+                self.enter_plain(supply, &buffers.up)
             }
             Event::Down { subchannel, path } => {
-                write_down(&mut places.down, *subchannel, *path);
-                self.enter_plain(supply, &places.down)
+                write_down(&mut buffers.down, *subchannel, *path);
+                self.enter_plain(supply, &buffers.down)
             }
             Event::Choose { subchannel } => {
-                write_choose(&mut places.choose, *subchannel);
-                self.enter_plain(supply, &places.choose)
+                write_choose(&mut buffers.choose, *subchannel);
+                self.enter_plain(supply, &buffers.choose)
             }
             Event::Execute { cpu, instruction } => {
-                write_execute(&mut places.execute, *cpu, *instruction);
-                self.enter_plain(supply, &places.execute)
+                write_execute(&mut buffers.execute, *cpu, *instruction);
+                self.enter_plain(supply, &buffers.execute)
             }
-            _ => self.perform_other(supply, event, bytes, places),
+            _ => self.enter_owned(supply, event, bytes, buffers),
         }
     }
 
-    /// The same, apart, as it is rare.
+    /// Cold path: every other event, which is made anew with its bytes.
     #[cold]
     #[inline(never)]
-    fn perform_other<M: Supply>(
+    fn enter_owned<M: Supply>(
         &mut self,
         supply: &mut M,
         event: &KeptEvent,
         bytes: &[u8],
-        places: &mut Places,
+        buffers: &mut EventBuffers,
     ) -> Result<(), Fault>
         requires { event_length event.now ≤ length bytes.now }
         ensures happens { Happens self.old (event_in event.now bytes.now) (answer_of result self.new.past.history) self.new }
         ensures given { result ≢ Err fault_spec.NoMemory → M.refused supply.new ≡ M.refused supply.old }
         ensures memory { result ≡ Err fault_spec.NoMemory → (M.refused supply.new ≡ true) ⊎ spec.IsUsedUp self.old.past }
     {
-        places.event = event.own(bytes);
-        self.enter(supply, &places.event)
+        buffers.event = event.own(bytes);
+        self.enter(supply, &buffers.event)
     }
 
     /// Whether the seat's log is what the history has of it.
@@ -439,7 +439,7 @@ fn restart_device(devices: &mut Vec<AnyDevice>, event: &Event)
     }
 }
 
-/// The device of a unit is put back to its opening: apart, as it is rare.
+/// Cold path: the device of a unit is put back to its opening.
 #[cold]
 #[inline(never)]
 fn put_back(devices: &mut Vec<AnyDevice>, unit: u32)

@@ -118,7 +118,7 @@ pub fn put_reply_line_at_once<S: Sink>(
     }
 }
 
-/// The line of one event that is longer: apart, as it is rare.
+/// Cold path: the line of one event that is longer.
 #[cold]
 #[inline(never)]
 fn put_long<S: Sink>(sink: &mut S, line: u64, reply: &LentReply<'_>) -> bool

@@ -74,7 +74,7 @@ impl LineNumber {
         true
     }
 
-    /// It becomes this number, whose digits are written anew: apart, as it is rare.
+    /// Cold path: it becomes this number, whose digits are written anew.
     #[cold]
     #[inline(never)]
     fn write(&mut self, number: u64)

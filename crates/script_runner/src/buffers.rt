@@ -1,4 +1,4 @@
-//! Places for the events that are entered and for the lines that are written, made once.
+//! Buffers for the events that are entered and for the lines that are written, made once.
 
 ghost use Rattle.std.specs.Prelude.{◌≡◌, ◌≤◌, length};
 ghost use Rattle.chan_events.specs.declared.event.Event.TheVariants as event_spec;
@@ -8,10 +8,10 @@ use chan_model::names::Cpu;
 use script_text::held::Held;
 use unit_driver::reporting::no_report;
 
-/// Places for the events of lines, by what is common among them, one for the event of a report, and one for the line that is
+/// Buffers for the events of lines, by what is common among them, one for the event of a report, and one for the line that is
 /// written. An event that is of the kind that stood in its place moves no more than its numbers.
 #[derive(Drop)]
-pub struct Places {
+pub struct EventBuffers {
     pub up: Event,
     pub down: Event,
     pub choose: Event,
@@ -21,10 +21,10 @@ pub struct Places {
     pub held: Held,
 }
 
-impl Places {
-    /// Places, with what no one asked for.
+impl EventBuffers {
+    /// Buffers, with a reset of the subsystem, or a report that no one made, where no event stands yet.
     pub fn new() -> Self {
-        Places {
+        EventBuffers {
             up: Event::SystemReset,
             down: Event::SystemReset,
             choose: Event::SystemReset,
