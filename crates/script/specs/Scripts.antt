@@ -1,6 +1,7 @@
 -- What a script is, and where it is bad (own).
 use Rattle.std.specs.Prelude.{◌≡◌, ℕ, ◌+◌, ◌<◌, Bool, true, false, not, ◌&&◌, List, [], ◌∷◌, ◌++◌, length, take, drop, slice_index_or, Option, Some, None, Result, Ok, Err, ◌⊎◌, if◌then◌else◌}
 use Rattle.std.specs.List.{list_any, flat_map}
+use Rattle.channel_config.specs.declared.config.ConfigRule.{ConfigRule}
 use Rattle.channel_config.specs.Setup.{Setup, no_setup}
 use Rattle.script_rows.specs.declared.settings.Setting.{Setting}
 use Rattle.script_rows.specs.declared.words.LineRule.{LineRule}
@@ -44,7 +45,7 @@ is_action (Ok (Races race)) = true
 is_action (Err rule) = false
 
 -- the set-up as these settings make it one by one
-abbrev pub setup_kept : Setup → Result Setup ℕ → Setup
+abbrev pub setup_kept : Setup → Result Setup ConfigRule → Setup
 setup_kept old (Ok new) = new
 setup_kept old (Err rule) = old
 
@@ -80,7 +81,7 @@ context_of before = record {
 }
 
 -- whichever rule of configurations is broken
-abbrev pub refused_setting : Result Setup ℕ → Option LineRule
+abbrev pub refused_setting : Result Setup ConfigRule → Option LineRule
 refused_setting (Ok s) = None
 refused_setting (Err rule) = Some BreaksConfiguration
 

@@ -1,6 +1,7 @@
 -- The rows of the lines that configure a machine (own).
 use Rattle.std.specs.Prelude.{ℕ, List, [], ◌∷◌, Option, Some, None, Result, Err, codes, if◌then◌else◌}
 use Rattle.std.specs.Str.{bytes_eq}
+use Rattle.channel_config.specs.declared.config.ConfigRule.{ConfigRule}
 use Rattle.channel_config.specs.declared.parts.UnitKind.{UnitKind}
 use Rattle.channel_config.specs.declared.parts.UnitKind.TheVariants.{Block, Console, Rejecting}
 use Rattle.channel_config.specs.Setup.{Setup, with_storage, with_sets, with_path, with_unit, with_share, with_subchannel}
@@ -57,7 +58,7 @@ setting_row w ws = if bytes_eq w (codes "storage") then Some (storage_setting_ro
     else None)))))
 
 -- the set-up with one more setting, or the rule of configurations that it breaks
-abbrev pub configured : Setup → Setting → Result Setup ℕ
+abbrev pub configured : Setup → Setting → Result Setup ConfigRule
 configured s (Storage blocks) = with_storage s blocks
 configured s (Sets count) = with_sets s count
 configured s (Path chpid) = with_path s chpid
