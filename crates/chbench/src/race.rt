@@ -8,7 +8,7 @@ use chan_model::names::Cpu;
 use core_lock::executing::CpuInstruction;
 use core_lock::locked::{Core, Seat, audit};
 use core_lock::naming::Naming;
-use machine_lock::machine::Machine;
+use machine_lock::locked_machine::Machine;
 use path_select::Rotating;
 use std::alloc::{AllocError, Global};
 use std::sync::Wait;

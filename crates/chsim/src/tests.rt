@@ -8,13 +8,13 @@ mod failures;
 mod first_write;
 mod full_wires;
 mod losses;
-mod memory;
 mod openings;
 mod paths;
 mod programs;
 mod rules;
 mod scenes;
 mod stops;
+mod want_of_memory;
 
 use crate::outcome::Outcome;
 use crate::serve;

@@ -7,5 +7,5 @@
 //! which takes the lock returns is not promised, nor any order between seats.
 #![tactic(auto)]
 
-pub mod machine;
+pub mod locked_machine;
 mod workers;

@@ -5,7 +5,7 @@ ghost use Rattle.core_lock.specs.Turns as turn_spec;
 ghost use Rattle.core_lock.specs.Turns.{Grew, IsCalled, IsOfPath, IsOfWorker, WorksUnit};
 ghost use Rattle.machine_lock.specs.Working.{ArePathTurns, AreUnitTurns, IsWholeTurn, MakesOwed};
 
-use crate::machine::Machine;
+use crate::locked_machine::Machine;
 use chan_model::fault::Fault;
 use core_lock::gate::{Gate, Gated};
 use core_lock::locked::Seat;

@@ -11,7 +11,7 @@ use core_lock::executing::CpuInstruction;
 use core_lock::locked::{Core, Seat};
 use core_lock::naming::Naming;
 use core_lock::supplies::CoreSupply;
-use machine_lock::machine::Machine;
+use machine_lock::locked_machine::Machine;
 use memory::{make_room, push};
 use path_select::Rotating;
 use script_rows::race::Race;

@@ -14,7 +14,7 @@ use core_lock::locked::{Core, Seat};
 use core_lock::naming::Naming;
 use crossbeam_utils::Backoff;
 use event_log::history::History;
-use machine_lock::machine::Machine;
+use machine_lock::locked_machine::Machine;
 use path_select::Rotating;
 use std::alloc::Global;
 use std::sync::Wait;

@@ -8,7 +8,7 @@ use core_lock::gate::Gate;
 use core_lock::locked::{Core, Seat};
 use core_lock::naming::Naming;
 use device_models::any_device::AnyDevice;
-use machine_lock::machine::Machine;
+use machine_lock::locked_machine::Machine;
 use path_select::Rotating;
 use std::alloc::{AllocError, Global};
 use std::sync::Wait;

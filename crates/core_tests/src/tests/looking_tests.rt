@@ -13,7 +13,7 @@ use chan_model::names::Cpu;
 use core_lock::executing::CpuInstruction;
 use core_lock::locked::{Core, Seat};
 use core_lock::naming::Naming;
-use machine_lock::machine::Machine;
+use machine_lock::locked_machine::Machine;
 use path_select::Rotating;
 use std::alloc::Global;
 use std::sync::Wait;

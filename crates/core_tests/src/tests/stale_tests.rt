@@ -19,7 +19,7 @@ use core_lock::naming::Naming;
 use crossbeam_utils::Backoff;
 use device_models::any_device::AnyDevice;
 use event_log::history::History;
-use machine_lock::machine::Machine;
+use machine_lock::locked_machine::Machine;
 use machine_model::state::UnitTurn;
 use path_select::Rotating;
 use std::alloc::Global;

@@ -23,7 +23,7 @@ use channel_config::config::Config;
 use core_lock::locked::{Core, NotMade, Seat, audit};
 use core_lock::naming::Naming;
 use core_lock::parts::Parts;
-use machine_lock::machine::Machine;
+use machine_lock::locked_machine::Machine;
 use path_select::Rotating;
 use std::alloc::Global;
 use std::marker::Brand;

@@ -12,7 +12,7 @@ use core_lock::gate::Open;
 use core_lock::locked::{Core, Seat};
 use core_lock::naming::Naming;
 use event_log::history::History;
-use machine_lock::machine::Machine;
+use machine_lock::locked_machine::Machine;
 use path_select::Rotating;
 use scsw_irb::scsw::Scsw;
 use std::alloc::Global;

@@ -3,7 +3,7 @@ use Rattle.core_lock.specs.Turns as turn_spec
 use Rattle.core_lock.specs.Turns.{WorksUnit}
 use Rattle.core_lock.proofs.Growing.{works_more}
 use Rattle.machine_lock.proofs.Chaining.{unit_more}
-use Rattle.machine_lock.proofs.machine.Machine.device_worker.Goals as goal
+use Rattle.machine_lock.proofs.locked_machine.Machine.device_worker.Goals as goal
 
 pub loop-turn-preserved : goal.loop-turn-preserved
 loop-turn-preserved g c =

@@ -3,7 +3,7 @@ use Rattle.core_lock.specs.Turns as turn_spec
 use Rattle.core_lock.specs.Turns.{WorksPath}
 use Rattle.core_lock.proofs.Growing.{paths_more}
 use Rattle.machine_lock.proofs.Chaining.{path_more}
-use Rattle.machine_lock.proofs.machine.Machine.path_worker.Goals as goal
+use Rattle.machine_lock.proofs.locked_machine.Machine.path_worker.Goals as goal
 
 pub loop-turn-preserved : goal.loop-turn-preserved
 loop-turn-preserved g c =

@@ -1,6 +1,6 @@
 use Rattle.core_lock.specs.Turns as turn_spec
 use Rattle.machine_lock.proofs.Calling.{works_called}
-use Rattle.machine_lock.proofs.machine.Machine.whole_turn.Goals as goal
+use Rattle.machine_lock.proofs.locked_machine.Machine.whole_turn.Goals as goal
 
 pub returns-clause-turn : goal.returns-clause-turn
 returns-clause-turn g c = record {

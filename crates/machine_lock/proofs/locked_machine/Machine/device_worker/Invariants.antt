@@ -1,7 +1,7 @@
 use Rattle.std.proofs.Common.{◌≡◌, ◌+◌, ◌≤◌, None}
 use Rattle.core_lock.specs.Turns.{WorksUnit}
 use Rattle.machine_lock.specs.Working.{AreUnitTurns}
-use Rattle.machine_lock.proofs.machine.Machine.device_worker.Given as goal
+use Rattle.machine_lock.proofs.locked_machine.Machine.device_worker.Given as goal
 
 abbrev pub invariant-loop-turn : goal.invariant-loop-turn
 invariant-loop-turn g l = record {

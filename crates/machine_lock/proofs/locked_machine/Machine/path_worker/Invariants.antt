@@ -1,7 +1,7 @@
 use Rattle.std.proofs.Common.{◌≡◌, ◌+◌, ◌≤◌}
 use Rattle.core_lock.specs.Turns.{WorksPath}
 use Rattle.machine_lock.specs.Working.{ArePathTurns}
-use Rattle.machine_lock.proofs.machine.Machine.path_worker.Given as goal
+use Rattle.machine_lock.proofs.locked_machine.Machine.path_worker.Given as goal
 
 abbrev pub invariant-loop-turn : goal.invariant-loop-turn
 invariant-loop-turn g l = record {
