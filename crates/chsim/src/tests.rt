@@ -18,7 +18,7 @@ mod want_of_memory;
 
 use crate::outcome::Outcome;
 use crate::serve;
-use crate::tests::memory::{Short, Slow};
+use crate::tests::want_of_memory::{Short, Slow};
 use crate::tests::scenes::Scene;
 use memory::{FailingMemory, Given};
 use script_runner::Ending;

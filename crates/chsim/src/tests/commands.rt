@@ -2,7 +2,7 @@
 
 use crate::outcome::Outcome;
 use crate::serve;
-use crate::tests::memory::{Short, Slow};
+use crate::tests::want_of_memory::{Short, Slow};
 use crate::tests::scenes::Scene;
 use crate::tests::{UNWRITTEN, ends};
 use memory::Given;
