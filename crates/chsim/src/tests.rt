@@ -18,8 +18,8 @@ mod want_of_memory;
 
 use crate::outcome::Outcome;
 use crate::serve;
-use crate::tests::want_of_memory::{Short, Slow};
 use crate::tests::scenes::Scene;
+use crate::tests::want_of_memory::{Short, Slow};
 use memory::{FailingMemory, Given};
 use script_runner::Ending;
 use std::sync::Wait;

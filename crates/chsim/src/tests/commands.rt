@@ -2,8 +2,8 @@
 
 use crate::outcome::Outcome;
 use crate::serve;
-use crate::tests::want_of_memory::{Short, Slow};
 use crate::tests::scenes::Scene;
+use crate::tests::want_of_memory::{Short, Slow};
 use crate::tests::{UNWRITTEN, ends};
 use memory::Given;
 use script_runner::Ending;

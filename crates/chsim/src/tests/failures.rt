@@ -3,8 +3,8 @@
 use crate::outcome::Outcome;
 use crate::tests::commands::{LONGEST, cases, command};
 use crate::tests::first_write::{LINES, SETTINGS, first_write, raced_write, refused_write};
-use crate::tests::want_of_memory::{Short, Slow};
 use crate::tests::scenes::Scene;
+use crate::tests::want_of_memory::{Short, Slow};
 use script_runner::Ending;
 use std::sync::Wait;
 use std::thread::Threads;
