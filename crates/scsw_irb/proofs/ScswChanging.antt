@@ -14,7 +14,7 @@ use Rattle.scsw_irb.specs.declared.scsw.DeferredCode.TheVariants.{Zero}
 use Rattle.zbits.specs.Flags.{flag_of}
 use Rattle.zbits.proofs.Flags.{field-kept, field-none, field-set, field-stays, field-taken, field-zero, flag-changed, flag-chosen}
 use Rattle.scsw_irb.specs.ScswWords.{AreScswWords, code_of_number, key-lt, scsw_of, scsw_of_words}
-use Rattle.scsw_irb.specs.ScswChanges.{changed_code, changed_scsw, chosen_key, chosen_scsw, is_change, is_keep}
+use Rattle.scsw_irb.specs.ScswChanges.{changed_code, changed_scsw, chosen_key, chosen_scsw, flags_by, is_change, is_keep}
 
 -- a status word by its flags, each at its bit, and its other parts
 abbrev scsw_by : (ℕ → Bool) → (key : ℕ) → key < 16 → DeferredCode → ℕ → ℕ → Scsw
@@ -153,53 +153,16 @@ chosen-code keep old given fits k =
           ap code_of_number (field-kept old given keep (bit_not w32 keep) 6 7 all take) ∙ ap f (sym all)
     ]
 
--- the same with the key of one of the two
+-- a status word by its flags, with the key of one of two others
+abbrev keyed_by : (ℕ → Bool) → DeferredCode → Scsw → Scsw → Bool → Scsw
+keyed_by flag code old given kept = chosen_key kept old (record (flags_by (λ bit x y. flag bit) old given) { deferred = code })
+
 chosen-key : (keep old given b c y z : ℕ) (flag : ℕ → Bool) (code : DeferredCode) → keep < 2 ^ 32 → (field_of keep 0 3 ≡ 0) ⊎ (field_of keep 0 3 ≡ 15)
     → scsw_by flag (field_of (chosen keep old given) 0 3) (key-lt (chosen keep old given)) code y z
-    ≡ (let r : Scsw = record (chosen_key (field_of keep 0 3 == 15) (scsw_of old b c) (scsw_of given y z)) {
-      suspend = flag 4;
-      deferred = code;
-      format_one = flag 8;
-      prefetch = flag 9;
-      initial_status = flag 10;
-      address_limit = flag 11;
-      suppress_suspended = flag 12;
-      path_not_operational = flag 15;
-      functions = record { start = flag 17; halt = flag 18; clear = flag 19 };
-      activity = record {
-        resume_pending = flag 20;
-        start_pending = flag 21;
-        halt_pending = flag 22;
-        clear_pending = flag 23;
-        subchannel_active = flag 24;
-        device_active = flag 25;
-        suspended = flag 26;
-      };
-      status = record { alert = flag 27; intermediate = flag 28; primary = flag 29; secondary = flag 30; pending = flag 31 };
-    } in r)
+    ≡ keyed_by flag code (scsw_of old b c) (scsw_of given y z) (field_of keep 0 3 == 15)
 chosen-key keep old given b c y z flag code fits k =
     let w = chosen keep old given in
-    let by = λ (t : Bool). let r : Scsw = record (chosen_key t (scsw_of old b c) (scsw_of given y z)) {
-      suspend = flag 4;
-      deferred = code;
-      format_one = flag 8;
-      prefetch = flag 9;
-      initial_status = flag 10;
-      address_limit = flag 11;
-      suppress_suspended = flag 12;
-      path_not_operational = flag 15;
-      functions = record { start = flag 17; halt = flag 18; clear = flag 19 };
-      activity = record {
-        resume_pending = flag 20;
-        start_pending = flag 21;
-        halt_pending = flag 22;
-        clear_pending = flag 23;
-        subchannel_active = flag 24;
-        device_active = flag 25;
-        suspended = flag 26;
-      };
-      status = record { alert = flag 27; intermediate = flag 28; primary = flag 29; secondary = flag 30; pending = flag 31 };
-    } in r in
+    let by = keyed_by flag code (scsw_of old b c) (scsw_of given y z) in
     elim k [
       | inl none ↦
           let take : field_of (bit_not w32 keep) 0 3 ≡ 15 = omega (arith, none, fits) in

@@ -4,9 +4,6 @@ use Rattle.std.specs.Prelude.{ℕ, ◌==◌, Bool, true, false, ◌&&◌, ◌||�
 use Rattle.zbits.specs.Bits.{field_of}
 use Rattle.zbits.specs.Flags.{changed_flag, flag_of}
 use Rattle.scsw_irb.specs.declared.scsw.Scsw.{Scsw}
-use Rattle.scsw_irb.specs.declared.scsw.FunctionControl.{FunctionControl}
-use Rattle.scsw_irb.specs.declared.scsw.ActivityControl.{ActivityControl}
-use Rattle.scsw_irb.specs.declared.scsw.StatusControl.{StatusControl}
 use Rattle.scsw_irb.specs.declared.scsw.DeferredCode.{DeferredCode}
 use Rattle.scsw_irb.specs.declared.scsw.DeferredCode.TheVariants.{Zero}
 
@@ -19,43 +16,42 @@ is_change clear set =
 abbrev pub changed_code : ℕ → DeferredCode → DeferredCode
 changed_code clear code = if field_of clear 6 7 == 3 then Zero else code
 
-abbrev pub changed_functions : ℕ → ℕ → FunctionControl → FunctionControl
-changed_functions clear set f = record { start = changed_flag clear set 17 f.start; halt = changed_flag clear set 18 f.halt; clear = changed_flag clear set 19 f.clear }
-
-abbrev pub changed_activity : ℕ → ℕ → ActivityControl → ActivityControl
-changed_activity clear set a = record {
-  resume_pending = changed_flag clear set 20 a.resume_pending;
-  start_pending = changed_flag clear set 21 a.start_pending;
-  halt_pending = changed_flag clear set 22 a.halt_pending;
-  clear_pending = changed_flag clear set 23 a.clear_pending;
-  subchannel_active = changed_flag clear set 24 a.subchannel_active;
-  device_active = changed_flag clear set 25 a.device_active;
-  suspended = changed_flag clear set 26 a.suspended;
-}
-
-abbrev pub changed_status : ℕ → ℕ → StatusControl → StatusControl
-changed_status clear set s = record {
-  alert = changed_flag clear set 27 s.alert;
-  intermediate = changed_flag clear set 28 s.intermediate;
-  primary = changed_flag clear set 29 s.primary;
-  secondary = changed_flag clear set 30 s.secondary;
-  pending = changed_flag clear set 31 s.pending;
+-- a status word of which each flag is by a rule, told by its bit of word 0, from those of two others; the rest is the second's
+abbrev pub flags_by : (ℕ → Bool → Bool → Bool) → Scsw → Scsw → Scsw
+flags_by rule x y = record y {
+  suspend = rule 4 x.suspend y.suspend;
+  format_one = rule 8 x.format_one y.format_one;
+  prefetch = rule 9 x.prefetch y.prefetch;
+  initial_status = rule 10 x.initial_status y.initial_status;
+  address_limit = rule 11 x.address_limit y.address_limit;
+  suppress_suspended = rule 12 x.suppress_suspended y.suppress_suspended;
+  path_not_operational = rule 15 x.path_not_operational y.path_not_operational;
+  functions = record {
+    start = rule 17 x.functions.start y.functions.start;
+    halt = rule 18 x.functions.halt y.functions.halt;
+    clear = rule 19 x.functions.clear y.functions.clear;
+  };
+  activity = record {
+    resume_pending = rule 20 x.activity.resume_pending y.activity.resume_pending;
+    start_pending = rule 21 x.activity.start_pending y.activity.start_pending;
+    halt_pending = rule 22 x.activity.halt_pending y.activity.halt_pending;
+    clear_pending = rule 23 x.activity.clear_pending y.activity.clear_pending;
+    subchannel_active = rule 24 x.activity.subchannel_active y.activity.subchannel_active;
+    device_active = rule 25 x.activity.device_active y.activity.device_active;
+    suspended = rule 26 x.activity.suspended y.activity.suspended;
+  };
+  status = record {
+    alert = rule 27 x.status.alert y.status.alert;
+    intermediate = rule 28 x.status.intermediate y.status.intermediate;
+    primary = rule 29 x.status.primary y.status.primary;
+    secondary = rule 30 x.status.secondary y.status.secondary;
+    pending = rule 31 x.status.pending y.status.pending;
+  };
 }
 
 abbrev pub changed_scsw : ℕ → ℕ → Scsw → Scsw
-changed_scsw clear set scsw = record scsw {
-  suspend = changed_flag clear set 4 scsw.suspend;
-  deferred = changed_code clear scsw.deferred;
-  format_one = changed_flag clear set 8 scsw.format_one;
-  prefetch = changed_flag clear set 9 scsw.prefetch;
-  initial_status = changed_flag clear set 10 scsw.initial_status;
-  address_limit = changed_flag clear set 11 scsw.address_limit;
-  suppress_suspended = changed_flag clear set 12 scsw.suppress_suspended;
-  path_not_operational = changed_flag clear set 15 scsw.path_not_operational;
-  functions = changed_functions clear set scsw.functions;
-  activity = changed_activity clear set scsw.activity;
-  status = changed_status clear set scsw.status;
-}
+changed_scsw clear set scsw =
+    record (flags_by (λ bit flag same. changed_flag clear set bit flag) scsw scsw) { deferred = changed_code clear scsw.deferred }
 
 -- the flags from bit 8 of word 0 on; Z, E and bit 16 are zero
 abbrev pub flags_from_8 : Scsw → List Bool
@@ -73,49 +69,12 @@ is_keep keep = (field_of keep 0 3 == 0 || field_of keep 0 3 == 15) && (field_of 
 abbrev pub chosen_flag : ℕ → ℕ → Bool → Bool → Bool
 chosen_flag keep bit old given = if flag_of keep bit then old else given
 
-abbrev pub chosen_functions : ℕ → FunctionControl → FunctionControl → FunctionControl
-chosen_functions keep old given = record {
-  start = chosen_flag keep 17 old.start given.start;
-  halt = chosen_flag keep 18 old.halt given.halt;
-  clear = chosen_flag keep 19 old.clear given.clear;
-}
-
-abbrev pub chosen_activity : ℕ → ActivityControl → ActivityControl → ActivityControl
-chosen_activity keep old given = record {
-  resume_pending = chosen_flag keep 20 old.resume_pending given.resume_pending;
-  start_pending = chosen_flag keep 21 old.start_pending given.start_pending;
-  halt_pending = chosen_flag keep 22 old.halt_pending given.halt_pending;
-  clear_pending = chosen_flag keep 23 old.clear_pending given.clear_pending;
-  subchannel_active = chosen_flag keep 24 old.subchannel_active given.subchannel_active;
-  device_active = chosen_flag keep 25 old.device_active given.device_active;
-  suspended = chosen_flag keep 26 old.suspended given.suspended;
-}
-
-abbrev pub chosen_status : ℕ → StatusControl → StatusControl → StatusControl
-chosen_status keep old given = record {
-  alert = chosen_flag keep 27 old.alert given.alert;
-  intermediate = chosen_flag keep 28 old.intermediate given.intermediate;
-  primary = chosen_flag keep 29 old.primary given.primary;
-  secondary = chosen_flag keep 30 old.secondary given.secondary;
-  pending = chosen_flag keep 31 old.pending given.pending;
-}
-
 abbrev pub chosen_key : Bool → Scsw → Scsw → Scsw
 chosen_key true old given = record given { key = old.key; key_fits = old.key_fits }
 chosen_key false old given = given
 
 -- the given status word, but for the bits of word 0 that are kept of the old one
 abbrev pub chosen_scsw : ℕ → Scsw → Scsw → Scsw
-chosen_scsw keep old given = record (chosen_key (field_of keep 0 3 == 15) old given) {
-  suspend = chosen_flag keep 4 old.suspend given.suspend;
-  deferred = if field_of keep 6 7 == 3 then old.deferred else given.deferred;
-  format_one = chosen_flag keep 8 old.format_one given.format_one;
-  prefetch = chosen_flag keep 9 old.prefetch given.prefetch;
-  initial_status = chosen_flag keep 10 old.initial_status given.initial_status;
-  address_limit = chosen_flag keep 11 old.address_limit given.address_limit;
-  suppress_suspended = chosen_flag keep 12 old.suppress_suspended given.suppress_suspended;
-  path_not_operational = chosen_flag keep 15 old.path_not_operational given.path_not_operational;
-  functions = chosen_functions keep old.functions given.functions;
-  activity = chosen_activity keep old.activity given.activity;
-  status = chosen_status keep old.status given.status;
-}
+chosen_scsw keep old given =
+    let deferred = if field_of keep 6 7 == 3 then old.deferred else given.deferred in
+    chosen_key (field_of keep 0 3 == 15) old (record (flags_by (chosen_flag keep) old given) { deferred = deferred })
