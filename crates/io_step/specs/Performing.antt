@@ -9,7 +9,7 @@ use Rattle.chan_model.specs.declared.fault.Fault.{Fault}
 use Rattle.chan_events.specs.Replies.{Reply}
 use Rattle.subchannel_model.specs.declared.state.Subchannel.{Subchannel}
 use Rattle.interruptions.specs.Requests as requests
-use Rattle.machine_model.specs.OtherTurns.{LentWhole, OtherTurn, other_turn}
+use Rattle.machine_model.specs.OtherSteps.{LentWhole, OtherTurn, other_turn}
 use Rattle.machine_model.specs.Requests.{requests_after}
 use Rattle.io_step.specs.declared.instruction.ChannelPaths.{ChannelPaths}
 use Rattle.io_step.specs.Executing.{Executed, Executed_absent}

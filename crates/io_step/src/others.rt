@@ -2,8 +2,11 @@
 
 ghost use Rattle.std.specs.Prelude.{◌≡◌, ◌≤◌, ◌<◌, ◌+◌, Ok, Err, IfOk, IfErr, OnErr, OnOk, Some, length};
 ghost use Rattle.io_step.specs.Operands.{from_storage};
+ghost use Rattle.chan_events.specs.declared.reply.Reply.TheVariants as reply;
+ghost use Rattle.channel_reports.specs.Queue.{WaitingReports};
+ghost use Rattle.interruptions.specs.Requests.{WaitingRequests};
 ghost use Rattle.machine_model.specs.OtherSteps as spec;
-ghost use Rattle.machine_model.specs.OtherTurns as turns;
+ghost use Rattle.storage_keys.specs.Storage.{Contents};
 
 use crate::operands::{WORD, check_operand};
 use chan_events::reply::{PATH_STATUS_BYTES, report_word};
@@ -38,7 +41,7 @@ pub type PathTable = [bool; 256];
 /// Whether the interruption code may be stored at an address.
 fn check_code(storage: &Storage, cpu: Cpu, address: u32) -> Result<(), Fault>
     ensures checked { result ≡ from_storage (spec.code_check storage.now cpu address) }
-    ensures inside { OnOk result (spec.code_place address + turns.code_size address ≤ length storage.now.bytes) }
+    ensures inside { OnOk result (spec.code_place address + spec.code_size address ≤ length storage.now.bytes) }
 {
     if address == 0 {
         check_operand(storage, cpu, CODE, LONG_CODE_BYTES, WORD)
@@ -49,7 +52,7 @@ fn check_code(storage: &Storage, cpu: Cpu, address: u32) -> Result<(), Fault>
 
 /// The interruption code is stored at an address.
 fn store_code(storage: &mut Storage, cpu: Cpu, address: u32, code: IntCode)
-    requires inside { spec.code_place address + turns.code_size address ≤ length storage.old.bytes }
+    requires inside { spec.code_place address + spec.code_size address ≤ length storage.old.bytes }
     ensures { storage.new ≡ spec.code_stored storage.old cpu address (Some code) }
 {
     let [identification, parameter, interruption] = code.words();
@@ -73,9 +76,9 @@ pub fn tpi(
     mask: u8,
     address: u32,
 ) -> Result<Option<IntCode>, Fault>
-    ensures done { IfOk result (λ found. turns.tpi_turn storage.old pending.old cpu mask address ≡
-        Ok (record { found = found; storage = storage.new; requests = pending.new })) }
-    ensures refused { IfErr result (λ f. turns.tpi_turn storage.old pending.old cpu mask address ≡ Err f) }
+    ensures done { IfOk result (λ found. (queue : WaitingReports) → spec.tpi_turn (spec.lent_whole storage.old pending.old queue) cpu mask address ≡
+        spec.answers (reply.Interruption found) (spec.lent_whole storage.new pending.new queue)) }
+    ensures refused { IfErr result (λ f. (queue : WaitingReports) → spec.tpi_turn (spec.lent_whole storage.old pending.old queue) cpu mask address ≡ Err f) }
     ensures storage_kept { OnErr result (storage.new ≡ storage.old) }
     ensures pending_kept { OnErr result (pending.new ≡ pending.old) }
 {
@@ -95,9 +98,9 @@ pub fn stcrw(
     cpu: Cpu,
     address: u32,
 ) -> Result<Option<Crw>, Fault>
-    ensures done { IfOk result (λ report. turns.stcrw_turn storage.old reports.old cpu address ≡
-        Ok (record { report = report; storage = storage.new; reports = reports.new })) }
-    ensures refused { IfErr result (λ f. turns.stcrw_turn storage.old reports.old cpu address ≡ Err f) }
+    ensures done { IfOk result (λ report. (waiting : WaitingRequests) → spec.stcrw_turn (spec.lent_whole storage.old waiting reports.old) cpu address ≡
+        spec.answers (reply.ChannelReport report) (spec.lent_whole storage.new waiting reports.new)) }
+    ensures refused { IfErr result (λ f. (waiting : WaitingRequests) → spec.stcrw_turn (spec.lent_whole storage.old waiting reports.old) cpu address ≡ Err f) }
     ensures storage_kept { OnErr result (storage.new ≡ storage.old) }
     ensures reports_kept { OnErr result (reports.new ≡ reports.old) }
 {
@@ -111,9 +114,9 @@ pub fn stcrw(
 /// RESET CHANNEL PATH of the path that the last byte of general register 1 names; its other bits must be zero. `up` has
 /// the channel paths that are configured and not down.
 pub fn rchp(reports: &mut Reports, up: &PathTable, path: u32) -> Result<ConditionCode, Fault>
-    ensures done { IfOk result (λ code. turns.rchp_turn reports.old up.now path ≡
-        Ok (record { code = code; reports = reports.new })) }
-    ensures refused { IfErr result (λ f. turns.rchp_turn reports.old up.now path ≡ Err f) }
+    ensures done { IfOk result (λ code. (storage : Contents) (waiting : WaitingRequests) → spec.rchp_turn (spec.lent_whole storage waiting reports.old) up.now path ≡
+        spec.answers (reply.PathReset code) (spec.lent_whole storage waiting reports.new)) }
+    ensures refused { IfErr result (λ f. (storage : Contents) (waiting : WaitingRequests) → spec.rchp_turn (spec.lent_whole storage waiting reports.old) up.now path ≡ Err f) }
     ensures kept { OnErr result (reports.new ≡ reports.old) }
 {
     if field(path, 0, 23) != 0 {
@@ -153,9 +156,9 @@ pub fn stcps(
     cpu: Cpu,
     address: u32,
 ) -> Result<[u8; PATH_STATUS_BYTES], Fault>
-    ensures done { IfOk result (λ stored. turns.stcps_turn storage.old engaged.now cpu address ≡
-        Ok (record { engaged = stored; storage = storage.new })) }
-    ensures refused { IfErr result (λ f. turns.stcps_turn storage.old engaged.now cpu address ≡ Err f) }
+    ensures done { IfOk result (λ stored. (waiting : WaitingRequests) (queue : WaitingReports) → spec.stcps_turn (spec.lent_whole storage.old waiting queue) engaged.now cpu address ≡
+        spec.answers (reply.Paths stored) (spec.lent_whole storage.new waiting queue)) }
+    ensures refused { IfErr result (λ f. (waiting : WaitingRequests) (queue : WaitingReports) → spec.stcps_turn (spec.lent_whole storage.old waiting queue) engaged.now cpu address ≡ Err f) }
     ensures kept { OnErr result (storage.new ≡ storage.old) }
 {
     check_operand(

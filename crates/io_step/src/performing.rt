@@ -4,7 +4,7 @@ ghost use Rattle.std.specs.Prelude.{◌≡◌, IfSome, Some};
 ghost use Rattle.machine_model.specs.Bounds.{CanCount};
 ghost use Rattle.chan_events.specs.Replies.{plain_outcome};
 ghost use Rattle.io_step.specs.Performing as spec;
-ghost use Rattle.machine_model.specs.OtherTurns.{lent_whole};
+ghost use Rattle.machine_model.specs.OtherSteps.{lent_whole};
 ghost use Rattle.machine_model.specs.Requests as requests_spec;
 
 use crate::absent::execute_absent;

@@ -45,8 +45,7 @@ use Rattle.machine_model.specs.UpSteps.{up_at, up_sub, up_front, returns_at}
 use Rattle.machine_model.specs.DownSteps.{at_shared, down_at, down_shared, down_unit}
 use Rattle.machine_model.specs.ReportSteps.{report_at, report_to, report_sub}
 use Rattle.machine_model.specs.ActSteps.{act_at, act_on, act_sub, side_of_act, act_to}
-use Rattle.machine_model.proofs.Others.{other-turned}
-use Rattle.machine_model.specs.OtherTurns.{LentWhole, OtherTurn, lent_whole, with_lent, other_done, other_turn}
+use Rattle.machine_model.specs.OtherSteps.{LentWhole, OtherTurn, lent_whole, with_lent, other_done, other_turn}
 use Rattle.machine_model.specs.OtherSteps.{engaged_chpids}
 use Rattle.machine_model.specs.RestartSteps.{restart_at, restart_with}
 use Rattle.machine_model.specs.InstructionSteps.{Executes_at, subchannel_word, Executes_on}
@@ -381,7 +380,7 @@ other-performs s cpu i engaged r after waiting queue alike g =
     let turn = other_turn lent s.up (engaged_chpids s.subs 0x100) cpu i in
     let left = lent_whole after waiting queue in
     let given : Comes lent turn r left = subst (λ (t : Result OtherTurn Fault). Comes lent t r left) (alike lent s.up cpu) g in
-    unchanged s (event.ExecuteOther cpu i) (other_done s turn) r (with_lent s left) (sym (other-turned s cpu i)) (other-gives s turn r left given) refl (λ x w. refl)
+    unchanged s (event.ExecuteOther cpu i) (other_done s turn) r (with_lent s left) refl (other-gives s turn r left given) refl (λ x w. refl)
 
 -- an instruction on a subchannel that is provided, and on one that is not
 abbrev IsExecuted : State → ℕ → Instruction → Option Found → Type 0

@@ -5,7 +5,6 @@ pub mod Turns
 pub mod StorageSteps
 pub mod InstructionSteps
 pub mod OtherSteps
-pub mod OtherTurns
 pub mod ChooseSteps
 pub mod UpSteps
 pub mod Sharing

@@ -3,8 +3,7 @@
 ghost use Rattle.std.specs.Prelude.{◌≡◌, ℕ, Bool, List};
 ghost use Rattle.channel_config.specs.Setup as setup_spec;
 ghost use Rattle.machine_model.specs.OtherSteps as other_spec;
-ghost use Rattle.machine_model.specs.OtherTurns as turns;
-ghost use Rattle.machine_model.specs.OtherTurns.{LentWhole};
+ghost use Rattle.machine_model.specs.OtherSteps.{LentWhole};
 ghost use Rattle.machine_model.specs.State as state_spec;
 
 use chan_events::event::OtherInstruction;
@@ -42,8 +41,8 @@ fn engaged(subs: &Served<'_>) -> PathTable
 
 /// The same where the instruction asks for it, STORE CHANNEL PATH STATUS alone; else no channel path.
 pub fn engaged_for(subs: &Served<'_>, instruction: OtherInstruction) -> PathTable
-    ensures { (lent : LentWhole) (up : List Bool) (cpu : ℕ) → turns.other_turn lent up result cpu instruction
-        ≡ turns.other_turn lent up (other_spec.engaged_chpids subs.now 0x100) cpu instruction }
+    ensures { (lent : LentWhole) (up : List Bool) (cpu : ℕ) → other_spec.other_turn lent up result cpu instruction
+        ≡ other_spec.other_turn lent up (other_spec.engaged_chpids subs.now 0x100) cpu instruction }
 {
     match instruction {
         OtherInstruction::Stcps { .. } => engaged(subs),

@@ -32,7 +32,7 @@ use Rattle.subchannel_model.specs.declared.state.Subchannel.{Subchannel}
 use Rattle.subchannel_model.specs.Places.{Found, found_at, place_in, reached_in}
 use Rattle.subchannel_model.specs.Choosing.{chosen, marked_sub, paths_to_choose}
 use Rattle.machine_model.specs.State.{State, place_of, found_of, with_sub, state_with_unit}
-use Rattle.machine_model.specs.Turns.{Outcome, Turn, SubTurn, UpTurn, DownTurn, at_sub, at_storage, at_unit, does, where_tested}
+use Rattle.machine_model.specs.Turns.{Outcome, Turn, SubTurn, UpTurn, DownTurn, at_sub, at_storage, at_unit, does}
 use Rattle.machine_model.specs.InstructionSteps.{subchannel_word, Executes_on}
 use Rattle.machine_model.specs.ChooseSteps.{choose_sub, Chooses}
 use Rattle.machine_model.specs.UpSteps.{returns_at, up_sub, up_at}
@@ -43,7 +43,7 @@ use Rattle.machine_model.specs.Requests.{settled, requests_settled}
 use Rattle.machine_model.specs.StorageSteps.{storage_turn, show_turn_of}
 use Rattle.machine_model.specs.Steps.{Does, Step}
 use Rattle.machine_model.specs.Sharing.{may_take, is_let_go, members_over, owing_after, members_after}
-use Rattle.machine_model.specs.OtherSteps.{code_check, code_stored, engaged_bytes, engaged_chpids, is_up, other_at}
+use Rattle.machine_model.specs.OtherSteps.{LentWhole, answers, code_check, code_stored, engaged_bytes, engaged_chpids, is_up, other_at, other_done, where_stored, with_lent}
 use Rattle.machine_model.specs.PathSteps.{down_path, up_path, reset_path, reset_system}
 use Rattle.machine_model.specs.ActSteps.{side_of_act, act_sub, act_on, act_at, act_to}
 use Rattle.step_laws.proofs.Places.{found-there}
@@ -153,13 +153,15 @@ module _ (s : State) where
       (executes-done s cpu i (place_in id s.subs) (found_at s.subs (place_in id s.subs)) o refl w)
 
   -- those that name no subchannel
-  tested-turn : (e : Event) (check : Result (Unit {0}) StorageFault) (r : Reply) (new : State) → TurnOf s e r new → OkTurn e (where_tested check (does r new))
-  tested-turn e (Ok u) r new k = k
-  tested-turn e (Err x) r new k = tt
+  tested-turn : (e : Event) (check : Result (Unit {0}) StorageFault) (r : Reply) (left : LentWhole) → TurnOf s e r (with_lent s left) →
+      OkTurn e (other_done s (where_stored check (answers r left)))
+  tested-turn e (Ok u) r left k = k
+  tested-turn e (Err x) r left k = tt
 
-  right-turn : (e : Event) (right : Bool) (r : Reply) (new : State) → TurnOf s e r new → OkTurn e (if right then does r new else Err fault.Operand)
-  right-turn e true r new k = k
-  right-turn e false r new k = tt
+  right-turn : (e : Event) (right : Bool) (r : Reply) (left : LentWhole) → TurnOf s e r (with_lent s left) →
+      OkTurn e (other_done s (if right then answers r left else Err fault.Operand))
+  right-turn e true r left k = k
+  right-turn e false r left k = tt
 
   others-turn : (cpu : ℕ) (i : OtherInstruction) → OkTurn (event.ExecuteOther cpu i) (other_at s cpu i)
   others-turn cpu (other.Tpi mask address) = tested-turn _ (code_check s.storage cpu address) _ _ (Interrupts cpu mask address)

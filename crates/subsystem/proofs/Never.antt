@@ -52,8 +52,6 @@ use Rattle.machine_model.specs.DownSteps as down_spec
 use Rattle.machine_model.specs.ReportSteps as report_spec
 use Rattle.machine_model.specs.ActSteps as act_spec
 use Rattle.machine_model.specs.OtherSteps as other_spec
-use Rattle.machine_model.specs.OtherTurns as turned_spec
-use Rattle.machine_model.proofs.Others.{other-turned}
 use Rattle.machine_model.specs.Requests as requests_spec
 use Rattle.machine_model.specs.RestartSteps as restart_spec
 use Rattle.machine_model.specs.PathSteps as path_spec
@@ -294,51 +292,25 @@ restart_at s place None = λ g. cc g
 restart_at s place (Some u) = tt
 
 -- instructions that name no subchannel
-where_stored : {A : Type 0} (x : Result (Unit {0}) StorageFault) (done : A) → Sound (turned_spec.where_stored x done)
-where_stored (Ok u) done = tt
-where_stored (Err f) done = λ g. cc g
+where_stored : (x : Result (Unit {0}) StorageFault) (answer : Reply) (left : other_spec.LentWhole) → Sound (other_spec.where_stored x (other_spec.answers answer left))
+where_stored (Ok u) answer left = tt
+where_stored (Err f) answer left = λ g. cc g
 
-tpi : (old : turned_spec.LentWhole) (x : Result turned_spec.TpiTurn Fault) → Sound x → Sound (turned_spec.tpi_lent old x)
-tpi old (Ok t) sound = tt
-tpi old (Err f) sound = sound
+other_turn : (old : other_spec.LentWhole) (up engaged : List Bool) (cpu : ℕ) (i : OtherInstruction) → Sound (other_spec.other_turn old up engaged cpu i)
+other_turn old up engaged cpu (others.Tpi mask address) = where_stored (other_spec.code_check old.storage cpu address) _ _
+other_turn old up engaged cpu (others.Rchp path) = cond_both (field_of path 0 23 == 0) (other_spec.answers _ _) (Err Operand) (λ r. Sound r) (λ e. tt) (λ e g. cc g)
+other_turn old up engaged cpu (others.Stcrw address) = where_stored (operand_check old.storage cpu address 4 4) _ _
+other_turn old up engaged cpu (others.Stcps address) = where_stored (operand_check old.storage cpu address 32 32) _ _
 
-stcrw : (old : turned_spec.LentWhole) (x : Result turned_spec.StcrwTurn Fault) → Sound x → Sound (turned_spec.stcrw_lent old x)
-stcrw old (Ok t) sound = tt
-stcrw old (Err f) sound = sound
-
-rchp : (old : turned_spec.LentWhole) (x : Result turned_spec.RchpTurn Fault) → Sound x → Sound (turned_spec.rchp_lent old x)
-rchp old (Ok t) sound = tt
-rchp old (Err f) sound = sound
-
-stcps : (old : turned_spec.LentWhole) (x : Result turned_spec.StcpsTurn Fault) → Sound x → Sound (turned_spec.stcps_lent old x)
-stcps old (Ok t) sound = tt
-stcps old (Err f) sound = sound
-
-rchp_turn : (reports : WaitingReports) (up : List Bool) (path : ℕ) → Sound (turned_spec.rchp_turn reports up path)
-rchp_turn reports up path =
-    cond_both (field_of path 0 23 == 0) (Ok (turned_spec.rchp_of reports up (field_of path 24 31))) (Err Operand) (λ r. Sound r) (λ e. tt) (λ e g. cc g)
-
-other_turn : (old : turned_spec.LentWhole) (up engaged : List Bool) (cpu : ℕ) (i : OtherInstruction) → Sound (turned_spec.other_turn old up engaged cpu i)
-other_turn old up engaged cpu (others.Tpi mask address) =
-    tpi old (turned_spec.tpi_turn old.storage old.requests cpu mask address)
-    (where_stored (other_spec.code_check old.storage cpu address) (turned_spec.tpi_done old.storage old.requests cpu address (answer old.requests mask)))
-other_turn old up engaged cpu (others.Rchp path) = rchp old (turned_spec.rchp_turn old.reports up path) (rchp_turn old.reports up path)
-other_turn old up engaged cpu (others.Stcrw address) =
-    stcrw old (turned_spec.stcrw_turn old.storage old.reports cpu address)
-    (where_stored (operand_check old.storage cpu address 4 4) (turned_spec.stcrw_done old.storage old.reports cpu address))
-other_turn old up engaged cpu (others.Stcps address) =
-    stcps old (turned_spec.stcps_turn old.storage engaged cpu address)
-    (where_stored (operand_check old.storage cpu address 32 32) (turned_spec.stcps_done old.storage cpu address (other_spec.engaged_bytes engaged 32)))
-
-other_done : (s : State) (x : Result turned_spec.OtherTurn Fault) → Sound x → Sound (turned_spec.other_done s x)
+other_done : (s : State) (x : Result other_spec.OtherTurn Fault) → Sound x → Sound (other_spec.other_done s x)
 other_done s (Ok t) sound = tt
 other_done s (Err f) sound = sound
 
 other_at : (s : State) (cpu : ℕ) (i : OtherInstruction) → Sound (other_spec.other_at s cpu i)
 other_at s cpu i =
-    let lent = turned_spec.lent_whole s.storage s.requests s.reports in
+    let lent = other_spec.lent_whole s.storage s.requests s.reports in
     let engaged = other_spec.engaged_chpids s.subs 0x100 in
-    subst Sound (sym (other-turned s cpu i)) (other_done s (turned_spec.other_turn lent s.up engaged cpu i) (other_turn lent s.up engaged cpu i))
+    other_done s (other_spec.other_turn lent s.up engaged cpu i) (other_turn lent s.up engaged cpu i)
 
 -- channel paths
 where_path : (s : State) (chpid : ℕ) (right : Bool) (turn : Outcome) → Sound turn → Sound (path_spec.where_path s chpid right turn)
