@@ -37,6 +37,20 @@ use storage_keys::Storage;
 use subchannel_model::cause::StatusCause;
 use subchannel_model::state::{ActiveProgram, Program, ProgramPosition};
 
+/// Where the program that was offered goes on: the number of its start, and the path that its device is reached by.
+#[derive(Clone, Copy)]
+struct Connection {
+    number: u64,
+    path: Path,
+}
+
+/// What the first block of a program came to, and where its walk stands then.
+#[derive(Clone, Copy)]
+struct FirstBlock {
+    walk: Walk,
+    advance: Option<Advance>,
+}
+
 /// A program that waits, at its beginning.
 fn from_start(program: Program) -> ProgramPosition
     ensures { result ≡ on_accept.position_at_start program }
@@ -155,20 +169,19 @@ fn tell_first(storage: &Storage, begun: &mut ActiveProgram, number: u64) -> Plai
 fn send_first(
     storage: &Storage,
     state: &mut PackedState,
-    path: Path,
-    number: u64,
+    connection: Connection,
     program: Program,
     first: Transfer,
     sent: &mut SentDown,
 ) -> bool
     requires { state.old.state.serials.made < 2 ^ 63 }
-    ensures step { subchannel_stepped state.new.state (came_so result sent.new) ≡ on_accept.sends_first_command state.old.state path number program (transfer_spec.begun_with_room storage.now first) }
+    ensures step { subchannel_stepped state.new.state (came_so result sent.new) ≡ on_accept.sends_first_command state.old.state connection.path connection.number program (transfer_spec.begun_with_room storage.now first) }
     ensures setup { state.new.setup ≡ state.old.setup }
 {
     take_over(state, program, first);
     if let Some(begun) = &mut state.rest_mut().begun {
-        let signal = tell_first(storage, begun, number);
-        sent.put(path, &signal.lend());
+        let signal = tell_first(storage, begun, connection.number);
+        sent.put(connection.path, &signal.lend());
     }
     interrupt(state);
     true
@@ -216,26 +229,26 @@ fn check_first(
     let_go(state, sent)
 }
 
-/// The program begins by what its first block, from which its walk stands here, comes to.
+/// The program begins by what its first block came to.
 fn begin_as(
     storage: &Storage,
     state: &mut PackedState,
-    path: Path,
-    number: u64,
+    connection: Connection,
     standing: &ProgramPosition,
-    walk: Walk,
-    advance: Option<Advance>,
+    first: FirstBlock,
     sent: &mut SentDown,
 ) -> bool
     requires { state.old.state.serials.made < 2 ^ 63 }
     ensures step { subchannel_stepped state.new.state (came_so result sent.new) ≡
-        on_accept.first_ccw_outcome storage.now state.old.state path number standing.now walk (transfer_spec.command_begins walk 1 advance) }
+        on_accept.first_ccw_outcome storage.now state.old.state connection.path connection.number standing.now first.walk
+        (transfer_spec.command_begins first.walk 1 first.advance) }
     ensures setup { state.new.setup ≡ state.old.setup }
 {
-    match advance {
+    let walk = first.walk;
+    match first.advance {
         Some(Advance::Takes(ccw)) => {
-            let first = command_of(walk, 1, ccw);
-            send_first(storage, state, path, number, standing.program, first, sent)
+            let command = command_of(walk, 1, ccw);
+            send_first(storage, state, connection, standing.program, command, sent)
         }
         Some(Advance::Suspends) => suspend_first(state, standing, walk, sent),
         Some(Advance::Stops(check)) => {
@@ -248,34 +261,33 @@ fn begin_as(
 fn begin_with(
     storage: &Storage,
     state: &mut PackedState,
-    path: Path,
-    number: u64,
+    connection: Connection,
     standing: &ProgramPosition,
     sent: &mut SentDown,
 ) -> bool
     requires { state.old.state.serials.made < 2 ^ 63 }
-    ensures step { subchannel_stepped state.new.state (came_so result sent.new) ≡ on_accept.begins_with storage.now state.old.state path number standing.now (transfer_spec.first_command storage.now standing.now.walk) }
+    ensures step { subchannel_stepped state.new.state (came_so result sent.new) ≡ on_accept.begins_with storage.now state.old.state connection.path connection.number standing.now (transfer_spec.first_command storage.now standing.now.walk) }
     ensures setup { state.new.setup ≡ state.old.setup }
 {
     let mut walk = standing.walk;
     let advance = walk.advance(storage);
-    begin_as(storage, state, path, number, standing, walk, advance, sent)
+    let first = FirstBlock { walk, advance };
+    begin_as(storage, state, connection, standing, first, sent)
 }
 
 fn begin_standing(
     storage: &Storage,
     state: &mut PackedState,
-    path: Path,
-    number: u64,
+    connection: Connection,
     sent: &mut SentDown,
 ) -> bool
     requires { state.old.state.serials.made < 2 ^ 63 }
-    ensures step { subchannel_stepped state.new.state (came_so result sent.new) ≡ on_accept.begins_at storage.now state.old.state path number (on_accept.offered_position state.old.state) }
+    ensures step { subchannel_stepped state.new.state (came_so result sent.new) ≡ on_accept.begins_at storage.now state.old.state connection.path connection.number (on_accept.offered_position state.old.state) }
     ensures setup { state.new.setup ≡ state.old.setup }
 {
     match standing(state) {
         None => quiet(sent),
-        Some(standing) => begin_with(storage, state, path, number, &standing, sent),
+        Some(standing) => begin_with(storage, state, connection, &standing, sent),
     }
 }
 
@@ -299,7 +311,7 @@ fn accepted_by(storage: &Storage, state: &mut PackedState, taken: bool, sent: &m
     match phase {
         HoldPhase::On { number, path, .. } => {
             state.use_path(path);
-            begin_standing(storage, state, path, number, sent)
+            begin_standing(storage, state, Connection { number, path }, sent)
         }
         HoldPhase::Letting { path, .. } => {
             state.use_path(path);
