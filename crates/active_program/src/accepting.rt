@@ -16,6 +16,7 @@ ghost use Rattle.data_move.specs.Commands as transfer_spec;
 
 use crate::answers::{ignored, let_go, quiet, take_by};
 use crate::intermediate::{interrupt, suspend};
+use crate::met::Met;
 use crate::sent::SentDown;
 use ccw_walk::Walk;
 use ccw_walk::check::Check;
@@ -173,7 +174,7 @@ fn send_first(
     program: Program,
     first: Transfer,
     sent: &mut SentDown,
-) -> bool
+) -> Met
     requires { state.old.state.serials.made < 2 ^ 63 }
     ensures step { subchannel_stepped state.new.state (came_so result sent.new) ≡ on_accept.sends_first_command state.old.state connection.path connection.number program (transfer_spec.begun_with_room storage.now first) }
     ensures setup { state.new.setup ≡ state.old.setup }
@@ -184,7 +185,7 @@ fn send_first(
         sent.put(connection.path, &signal.lend());
     }
     interrupt(state);
-    true
+    Met::Taken
 }
 
 /// The program is suspended before its first command.
@@ -194,7 +195,7 @@ fn suspend_first(
     standing: &ProgramPosition,
     walk: Walk,
     sent: &mut SentDown,
-) -> bool
+) -> Met
     requires { state.old.state.serials.made < 2 ^ 63 }
     ensures step { subchannel_stepped state.new.state (came_so result sent.new) ≡
         outcomes.device_released (suspension.program_suspended state.old.state standing.now.program walk standing.now.count) }
@@ -212,7 +213,7 @@ fn check_first(
     check: Check,
     count: u16,
     sent: &mut SentDown,
-) -> bool
+) -> Met
     requires { state.old.state.serials.made < 2 ^ 63 }
     ensures step { subchannel_stepped state.new.state (came_so result sent.new) ≡
         outcomes.device_released (with_cause state.old.state (cause.FetchFault tried check count)) }
@@ -237,7 +238,7 @@ fn begin_as(
     standing: &ProgramPosition,
     first: FirstBlock,
     sent: &mut SentDown,
-) -> bool
+) -> Met
     requires { state.old.state.serials.made < 2 ^ 63 }
     ensures step { subchannel_stepped state.new.state (came_so result sent.new) ≡
         on_accept.first_ccw_outcome storage.now state.old.state connection.path connection.number standing.now first.walk
@@ -264,7 +265,7 @@ fn begin_with(
     connection: Connection,
     standing: &ProgramPosition,
     sent: &mut SentDown,
-) -> bool
+) -> Met
     requires { state.old.state.serials.made < 2 ^ 63 }
     ensures step { subchannel_stepped state.new.state (came_so result sent.new) ≡ on_accept.begins_with storage.now state.old.state connection.path connection.number standing.now (transfer_spec.first_command storage.now standing.now.walk) }
     ensures setup { state.new.setup ≡ state.old.setup }
@@ -280,7 +281,7 @@ fn begin_standing(
     state: &mut PackedState,
     connection: Connection,
     sent: &mut SentDown,
-) -> bool
+) -> Met
     requires { state.old.state.serials.made < 2 ^ 63 }
     ensures step { subchannel_stepped state.new.state (came_so result sent.new) ≡ on_accept.begins_at storage.now state.old.state connection.path connection.number (on_accept.offered_position state.old.state) }
     ensures setup { state.new.setup ≡ state.old.setup }
@@ -302,9 +303,9 @@ fn do_halt(state: &mut PackedState)
 }
 
 /// What comes of an Accept that the hold took as `sent` says.
-fn accepted_by(storage: &Storage, state: &mut PackedState, taken: bool, sent: &mut SentDown) -> bool
+fn accepted_by(storage: &Storage, state: &mut PackedState, met: Met, sent: &mut SentDown) -> Met
     requires { state.old.state.serials.made < 2 ^ 63 }
-    ensures step { subchannel_stepped state.new.state (came_so result sent.new) ≡ on_accept.accepted_in_phase storage.now state.old.state state.old.state.hold.phase (came_so taken sent.old) }
+    ensures step { subchannel_stepped state.new.state (came_so result sent.new) ≡ on_accept.accepted_in_phase storage.now state.old.state state.old.state.hold.phase (came_so met sent.old) }
     ensures setup { state.new.setup ≡ state.old.setup }
 {
     let phase = state.rest().hold.phase;
@@ -316,9 +317,9 @@ fn accepted_by(storage: &Storage, state: &mut PackedState, taken: bool, sent: &m
         HoldPhase::Letting { path, .. } => {
             state.use_path(path);
             do_halt(state);
-            taken
+            met
         }
-        _ => taken,
+        _ => met,
     }
 }
 
@@ -329,16 +330,16 @@ pub fn accept(
     path: Path,
     signal: &LentUp<'_>,
     sent: &mut SentDown,
-) -> bool
+) -> Met
     requires { state.old.state.serials.made < 2 ^ 63 }
     ensures step { subchannel_stepped state.new.state (came_so result sent.new) ≡ on_accept.takes_accept storage.now state.old.state (hold_takes state.old.state.hold path (lent_up signal.now) (on_accept.takes_device state.old.state)) }
     ensures setup { state.new.setup ≡ state.old.setup }
 {
     let mut hold = Hold::of(state.rest().hold);
-    let taken = take_by(&mut hold, path, signal, goes_ahead(state), sent);
-    if !taken {
+    let met = take_by(&mut hold, path, signal, goes_ahead(state), sent);
+    if !met.is_taken() {
         return ignored(sent);
     }
     state.rest_mut().hold = hold.state();
-    accepted_by(storage, state, taken, sent)
+    accepted_by(storage, state, met, sent)
 }
