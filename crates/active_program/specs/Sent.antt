@@ -1,7 +1,9 @@
 -- Signals in places that are made beforehand, and what stands there.
-use Rattle.std.specs.Prelude.{ℕ, Bool, Option, None, Some}
+use Rattle.std.specs.Prelude.{ℕ, Bool, true, false, Option, None, Some}
 use Rattle.chan_model.specs.declared.signal.OnPath.{OnPath}
 use Rattle.chan_model.specs.declared.signal.Taken.{Taken}
+use Rattle.active_program.specs.declared.met.Met.{Met}
+use Rattle.active_program.specs.declared.met.Met.TheVariants as done
 
 -- a signal that is sent on a path, where there is one
 abbrev pub sent_on : {A : Type 0} → Option ℕ → A → Option (OnPath A)
@@ -9,8 +11,12 @@ sent_on None signal = None
 sent_on (Some path) signal = Some (record { path = path; signal = signal })
 
 -- what came of a signal: whether it was taken, and what was sent
-abbrev pub came_so : {A : Type 0} → Bool → Option (OnPath A) → Taken A
-came_so taken sent = record { taken = taken; sent = sent }
+abbrev pub is_taken : Met → Bool
+is_taken done.Ignored = false
+is_taken done.Taken = true
+
+abbrev pub came_so : {A : Type 0} → Met → Option (OnPath A) → Taken A
+came_so met sent = record { taken = is_taken met; sent = sent }
 
 -- the path of a signal that is sent
 abbrev pub sent_path : {A : Type 0} → Option (OnPath A) → Option ℕ

@@ -16,6 +16,7 @@ ghost use Rattle.data_move.specs.Commands as transfer_spec;
 
 use crate::answers::{ignored, let_go, quiet, take_by};
 use crate::intermediate::{interrupt, suspend};
+use crate::met::Met;
 use crate::sent::SentDown;
 use ccw_walk::Walk;
 use ccw_walk::check::Check;
@@ -36,6 +37,20 @@ use status::make_pending;
 use storage_keys::Storage;
 use subchannel_model::cause::StatusCause;
 use subchannel_model::state::{ActiveProgram, Program, ProgramPosition};
+
+/// Where the program that was offered goes on: the number of its start, and the path that its device is reached by.
+#[derive(Clone, Copy)]
+struct Connection {
+    number: u64,
+    path: Path,
+}
+
+/// What the first block of a program came to, and where its walk stands then.
+#[derive(Clone, Copy)]
+struct FirstBlock {
+    walk: Walk,
+    advance: Option<Advance>,
+}
 
 /// A program that waits, at its beginning.
 fn from_start(program: Program) -> ProgramPosition
@@ -155,23 +170,22 @@ fn tell_first(storage: &Storage, begun: &mut ActiveProgram, number: u64) -> Plai
 fn send_first(
     storage: &Storage,
     state: &mut PackedState,
-    path: Path,
-    number: u64,
+    connection: Connection,
     program: Program,
     first: Transfer,
     sent: &mut SentDown,
-) -> bool
+) -> Met
     requires { state.old.state.serials.made < 2 ^ 63 }
-    ensures step { subchannel_stepped state.new.state (came_so result sent.new) ≡ on_accept.sends_first_command state.old.state path number program (transfer_spec.begun_with_room storage.now first) }
+    ensures step { subchannel_stepped state.new.state (came_so result sent.new) ≡ on_accept.sends_first_command state.old.state connection.path connection.number program (transfer_spec.begun_with_room storage.now first) }
     ensures setup { state.new.setup ≡ state.old.setup }
 {
     take_over(state, program, first);
     if let Some(begun) = &mut state.rest_mut().begun {
-        let signal = tell_first(storage, begun, number);
-        sent.put(path, &signal.lend());
+        let signal = tell_first(storage, begun, connection.number);
+        sent.put(connection.path, &signal.lend());
     }
     interrupt(state);
-    true
+    Met::Taken
 }
 
 /// The program is suspended before its first command.
@@ -181,7 +195,7 @@ fn suspend_first(
     standing: &ProgramPosition,
     walk: Walk,
     sent: &mut SentDown,
-) -> bool
+) -> Met
     requires { state.old.state.serials.made < 2 ^ 63 }
     ensures step { subchannel_stepped state.new.state (came_so result sent.new) ≡
         outcomes.device_released (suspension.program_suspended state.old.state standing.now.program walk standing.now.count) }
@@ -199,7 +213,7 @@ fn check_first(
     check: Check,
     count: u16,
     sent: &mut SentDown,
-) -> bool
+) -> Met
     requires { state.old.state.serials.made < 2 ^ 63 }
     ensures step { subchannel_stepped state.new.state (came_so result sent.new) ≡
         outcomes.device_released (with_cause state.old.state (cause.FetchFault tried check count)) }
@@ -216,26 +230,26 @@ fn check_first(
     let_go(state, sent)
 }
 
-/// The program begins by what its first block, from which its walk stands here, comes to.
+/// The program begins by what its first block came to.
 fn begin_as(
     storage: &Storage,
     state: &mut PackedState,
-    path: Path,
-    number: u64,
+    connection: Connection,
     standing: &ProgramPosition,
-    walk: Walk,
-    advance: Option<Advance>,
+    first: FirstBlock,
     sent: &mut SentDown,
-) -> bool
+) -> Met
     requires { state.old.state.serials.made < 2 ^ 63 }
     ensures step { subchannel_stepped state.new.state (came_so result sent.new) ≡
-        on_accept.first_ccw_outcome storage.now state.old.state path number standing.now walk (transfer_spec.command_begins walk 1 advance) }
+        on_accept.first_ccw_outcome storage.now state.old.state connection.path connection.number standing.now first.walk
+        (transfer_spec.command_begins first.walk 1 first.advance) }
     ensures setup { state.new.setup ≡ state.old.setup }
 {
-    match advance {
+    let walk = first.walk;
+    match first.advance {
         Some(Advance::Takes(ccw)) => {
-            let first = command_of(walk, 1, ccw);
-            send_first(storage, state, path, number, standing.program, first, sent)
+            let command = command_of(walk, 1, ccw);
+            send_first(storage, state, connection, standing.program, command, sent)
         }
         Some(Advance::Suspends) => suspend_first(state, standing, walk, sent),
         Some(Advance::Stops(check)) => {
@@ -248,34 +262,33 @@ fn begin_as(
 fn begin_with(
     storage: &Storage,
     state: &mut PackedState,
-    path: Path,
-    number: u64,
+    connection: Connection,
     standing: &ProgramPosition,
     sent: &mut SentDown,
-) -> bool
+) -> Met
     requires { state.old.state.serials.made < 2 ^ 63 }
-    ensures step { subchannel_stepped state.new.state (came_so result sent.new) ≡ on_accept.begins_with storage.now state.old.state path number standing.now (transfer_spec.first_command storage.now standing.now.walk) }
+    ensures step { subchannel_stepped state.new.state (came_so result sent.new) ≡ on_accept.begins_with storage.now state.old.state connection.path connection.number standing.now (transfer_spec.first_command storage.now standing.now.walk) }
     ensures setup { state.new.setup ≡ state.old.setup }
 {
     let mut walk = standing.walk;
     let advance = walk.advance(storage);
-    begin_as(storage, state, path, number, standing, walk, advance, sent)
+    let first = FirstBlock { walk, advance };
+    begin_as(storage, state, connection, standing, first, sent)
 }
 
 fn begin_standing(
     storage: &Storage,
     state: &mut PackedState,
-    path: Path,
-    number: u64,
+    connection: Connection,
     sent: &mut SentDown,
-) -> bool
+) -> Met
     requires { state.old.state.serials.made < 2 ^ 63 }
-    ensures step { subchannel_stepped state.new.state (came_so result sent.new) ≡ on_accept.begins_at storage.now state.old.state path number (on_accept.offered_position state.old.state) }
+    ensures step { subchannel_stepped state.new.state (came_so result sent.new) ≡ on_accept.begins_at storage.now state.old.state connection.path connection.number (on_accept.offered_position state.old.state) }
     ensures setup { state.new.setup ≡ state.old.setup }
 {
     match standing(state) {
         None => quiet(sent),
-        Some(standing) => begin_with(storage, state, path, number, &standing, sent),
+        Some(standing) => begin_with(storage, state, connection, &standing, sent),
     }
 }
 
@@ -290,23 +303,23 @@ fn do_halt(state: &mut PackedState)
 }
 
 /// What comes of an Accept that the hold took as `sent` says.
-fn accepted_by(storage: &Storage, state: &mut PackedState, taken: bool, sent: &mut SentDown) -> bool
+fn accepted_by(storage: &Storage, state: &mut PackedState, met: Met, sent: &mut SentDown) -> Met
     requires { state.old.state.serials.made < 2 ^ 63 }
-    ensures step { subchannel_stepped state.new.state (came_so result sent.new) ≡ on_accept.accepted_in_phase storage.now state.old.state state.old.state.hold.phase (came_so taken sent.old) }
+    ensures step { subchannel_stepped state.new.state (came_so result sent.new) ≡ on_accept.accepted_in_phase storage.now state.old.state state.old.state.hold.phase (came_so met sent.old) }
     ensures setup { state.new.setup ≡ state.old.setup }
 {
     let phase = state.rest().hold.phase;
     match phase {
         HoldPhase::On { number, path, .. } => {
             state.use_path(path);
-            begin_standing(storage, state, path, number, sent)
+            begin_standing(storage, state, Connection { number, path }, sent)
         }
         HoldPhase::Letting { path, .. } => {
             state.use_path(path);
             do_halt(state);
-            taken
+            met
         }
-        _ => taken,
+        _ => met,
     }
 }
 
@@ -317,16 +330,16 @@ pub fn accept(
     path: Path,
     signal: &LentUp<'_>,
     sent: &mut SentDown,
-) -> bool
+) -> Met
     requires { state.old.state.serials.made < 2 ^ 63 }
     ensures step { subchannel_stepped state.new.state (came_so result sent.new) ≡ on_accept.takes_accept storage.now state.old.state (hold_takes state.old.state.hold path (lent_up signal.now) (on_accept.takes_device state.old.state)) }
     ensures setup { state.new.setup ≡ state.old.setup }
 {
     let mut hold = Hold::of(state.rest().hold);
-    let taken = take_by(&mut hold, path, signal, goes_ahead(state), sent);
-    if !taken {
+    let met = take_by(&mut hold, path, signal, goes_ahead(state), sent);
+    if !met.is_taken() {
         return ignored(sent);
     }
     state.rest_mut().hold = hold.state();
-    accepted_by(storage, state, taken, sent)
+    accepted_by(storage, state, met, sent)
 }

@@ -7,6 +7,7 @@ ghost use Rattle.active_program.specs.Sent.{came_so};
 ghost use Rattle.subchannel_model.specs.Outcomes as outcomes;
 ghost use Rattle.active_program.specs.Stepping.{not_taken, subchannel_stepped, taken_with};
 
+use crate::met::Met;
 use crate::sent::SentDown;
 use chan_model::lent::{LentDown, LentUp};
 use chan_model::lent_forms::lend_down;
@@ -15,35 +16,35 @@ use chan_model::signal::OnPath;
 use functions::PackedState;
 use hold::Hold;
 
-pub fn ignored(sent: &mut SentDown) -> bool
+pub fn ignored(sent: &mut SentDown) -> Met
     ensures { came_so result sent.new ≡ not_taken }
 {
     sent.clear();
-    false
+    Met::Ignored
 }
 
-pub fn quiet(sent: &mut SentDown) -> bool
+pub fn quiet(sent: &mut SentDown) -> Met
     ensures { came_so result sent.new ≡ taken_with None }
 {
     sent.clear();
-    true
+    Met::Taken
 }
 
-pub(crate) fn send(sent: &mut SentDown, path: Path, signal: &LentDown<'_>) -> bool
+pub(crate) fn send(sent: &mut SentDown, path: Path, signal: &LentDown<'_>) -> Met
     ensures { came_so result sent.new ≡ taken_with (Some (record { path = path; signal = lent_down signal.now })) }
 {
     sent.put(path, signal);
-    true
+    Met::Taken
 }
 
-/// The hold takes a signal, with what it sends in a place: whether it was taken.
+/// The hold takes a signal, with what it sends in a place.
 pub fn take_by(
     hold: &mut Hold,
     path: Path,
     signal: &LentUp<'_>,
     may: bool,
     sent: &mut SentDown,
-) -> bool
+) -> Met
     ensures state { hold.new ≡ hold_after hold.old (hold_takes hold.old path (lent_up signal.now) may) }
     ensures came { came_so result sent.new ≡ came_of (hold_takes hold.old path (lent_up signal.now) may) }
 {
@@ -52,10 +53,10 @@ pub fn take_by(
         None => sent.clear(),
         Some(OnPath { path, signal }) => sent.put(*path, &signal.lend()),
     }
-    came.taken
+    Met::of(came.taken)
 }
 
-pub(crate) fn let_go(state: &mut PackedState, sent: &mut SentDown) -> bool
+pub(crate) fn let_go(state: &mut PackedState, sent: &mut SentDown) -> Met
     ensures step { subchannel_stepped state.new.state (came_so result sent.new) ≡ outcomes.device_released state.old.state }
     ensures setup { state.new.setup ≡ state.old.setup }
 {
@@ -63,7 +64,7 @@ pub(crate) fn let_go(state: &mut PackedState, sent: &mut SentDown) -> bool
     let released = hold.let_go();
     state.rest_mut().hold = hold.state();
     sent.put_any(&lend_down(&released));
-    true
+    Met::Taken
 }
 
 /// What the hold does with a signal; `may`: it may be taken, as the hold's table asks.
@@ -73,12 +74,12 @@ pub fn by_hold(
     signal: &LentUp<'_>,
     may: bool,
     sent: &mut SentDown,
-) -> bool
+) -> Met
     ensures step { subchannel_stepped state.new.state (came_so result sent.new) ≡ outcomes.hold_outcome state.old.state (hold_takes state.old.state.hold path (lent_up signal.now) may) }
     ensures setup { state.new.setup ≡ state.old.setup }
 {
     let mut hold = Hold::of(state.rest().hold);
-    let taken = take_by(&mut hold, path, signal, may, sent);
+    let met = take_by(&mut hold, path, signal, may, sent);
     state.rest_mut().hold = hold.state();
-    taken
+    met
 }

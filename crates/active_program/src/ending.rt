@@ -17,6 +17,7 @@ ghost use Rattle.functions.specs.Unwired.{with_state};
 
 use crate::answers::{ignored, let_go, quiet, send};
 use crate::intermediate::suspend;
+use crate::met::Met;
 use crate::moving::move_on;
 use crate::sent::SentDown;
 use allegiance::allegiances;
@@ -94,7 +95,7 @@ fn send_next(
     end: &EndSignal,
     command: WithRoom,
     sent: &mut SentDown,
-) -> bool
+) -> Met
     requires { state.old.state.serials.made < 2 ^ 63 }
     ensures step { IfSome state.old.state.begun (λ b. subchannel_stepped state.new.state (came_so result sent.new) ≡
         on_end.sends_next_command state.old.state (on_end.with_first_end b) end.now command) }
@@ -119,7 +120,7 @@ fn suspend_at(
     walk: Walk,
     count: u16,
     sent: &mut SentDown,
-) -> bool
+) -> Met
     requires { state.old.state.serials.made < 2 ^ 63 }
     ensures step { subchannel_stepped state.new.state (came_so result sent.new) ≡
         outcomes.device_released (suspension.program_suspended (on_end.with_allegiance_after_end state.old.state end.now) program walk count) }
@@ -138,7 +139,7 @@ fn check_at(
     check: Check,
     count: u16,
     sent: &mut SentDown,
-) -> bool
+) -> Met
     requires { state.old.state.serials.made < 2 ^ 63 }
     ensures step { subchannel_stepped state.new.state (came_so result sent.new) ≡
         outcomes.device_released (with_cause (on_end.with_allegiance_after_end state.old.state end.now) (cause.FetchFault tried check count)) }
@@ -156,7 +157,7 @@ fn check_at(
     let_go(state, sent)
 }
 
-fn chain(storage: &Storage, state: &mut PackedState, end: &EndSignal, sent: &mut SentDown) -> bool
+fn chain(storage: &Storage, state: &mut PackedState, end: &EndSignal, sent: &mut SentDown) -> Met
     requires made { state.old.state.serials.made < 2 ^ 63 }
     requires below { command_spec.AreNumbersBelow state.old.state.begun }
     ensures step { IfSome state.old.state.begun (λ b. subchannel_stepped state.new.state (came_so result sent.new) ≡
@@ -185,7 +186,7 @@ fn note_end(begun: &mut ActiveProgram)
     begun.transfer.ended = true;
 }
 
-fn go_on(storage: &Storage, state: &mut PackedState, end: &EndSignal, sent: &mut SentDown) -> bool
+fn go_on(storage: &Storage, state: &mut PackedState, end: &EndSignal, sent: &mut SentDown) -> Met
     requires made { state.old.state.serials.made < 2 ^ 63 }
     requires below { command_spec.AreNumbersBelow state.old.state.begun }
     ensures step { IfSome state.old.state.begun (λ b. subchannel_stepped state.new.state (came_so result sent.new) ≡
@@ -213,7 +214,7 @@ fn show_end(state: &mut PackedState, end: &EndSignal)
     state.rest_mut().dedicated = dedicated_by_end(before, *end);
 }
 
-fn stop_at(state: &mut PackedState, end: &EndSignal, sent: &mut SentDown) -> bool
+fn stop_at(state: &mut PackedState, end: &EndSignal, sent: &mut SentDown) -> Met
     requires { state.old.state.serials.made < 2 ^ 63 }
     ensures step { IfSome state.old.state.begun (λ b. subchannel_stepped state.new.state (came_so result sent.new) ≡ on_end.concludes state.old.state b end.now) }
     ensures setup { state.new.setup ≡ state.old.setup }
@@ -241,7 +242,7 @@ fn command_ended(
     state: &mut PackedState,
     end: &EndSignal,
     sent: &mut SentDown,
-) -> bool
+) -> Met
     requires made { state.old.state.serials.made < 2 ^ 63 }
     requires below { command_spec.AreNumbersBelow state.old.state.begun }
     ensures step { IfSome state.old.state.begun (λ b. subchannel_stepped state.new.state (came_so result sent.new) ≡ on_end.ends_command storage.now state.old.state b end.now) }
@@ -261,7 +262,7 @@ pub fn end_command(
     path: Path,
     signal: &LentUp<'_>,
     sent: &mut SentDown,
-) -> bool
+) -> Met
     requires made { state.old.state.serials.made < 2 ^ 63 }
     requires below { command_spec.AreNumbersBelow state.old.state.begun }
     ensures step { subchannel_stepped state.new.state (came_so result sent.new) ≡ working_spec.end_taken_by storage.now state.old.state (working_spec.end_by path (lent_up signal.now)) }

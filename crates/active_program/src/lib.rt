@@ -5,5 +5,6 @@ pub mod accepting;
 pub mod answers;
 pub mod ending;
 mod intermediate;
+pub mod met;
 pub mod moving;
 pub mod sent;

@@ -16,6 +16,7 @@ ghost use Rattle.functions.specs.Unwired.{with_state};
 
 use crate::answers::ignored;
 use crate::intermediate::interrupt;
+use crate::met::Met;
 use crate::sent::SentDown;
 use allegiance::allegiances::{AllegianceCause, dedicated};
 use chan_model::chunk::ChunkLength;
@@ -169,7 +170,7 @@ fn give_bytes(
     moved: &DataSignal,
     count: usize,
     sent: &mut SentDown,
-) -> bool
+) -> Met
     requires made { state.old.state.serials.made < 2 ^ 63 }
     requires sequence { moved.now.sequence < 2 ^ 63 }
     requires below { command_spec.AreNumbersBelow state.old.state.begun }
@@ -181,7 +182,7 @@ fn give_bytes(
         give(storage, begun, moved, count, sent);
     }
     follow(state);
-    true
+    Met::Taken
 }
 
 fn take_bytes(
@@ -190,7 +191,7 @@ fn take_bytes(
     moved: &DataSignal,
     bytes: &[u8],
     sent: &mut SentDown,
-) -> bool
+) -> Met
     requires made { state.old.state.serials.made < 2 ^ 63 }
     requires below { command_spec.AreNumbersBelow state.old.state.begun }
     ensures step { IfSome state.old.state.begun (λ b. outcomes.with_storage storage.new (subchannel_stepped state.new.state (came_so result sent.new)) ≡
@@ -201,7 +202,7 @@ fn take_bytes(
         take_in(storage, begun, moved, bytes, sent);
     }
     follow(state);
-    true
+    Met::Taken
 }
 
 fn move_bytes(
@@ -210,7 +211,7 @@ fn move_bytes(
     moved: &DataSignal,
     signal: &LentUp<'_>,
     sent: &mut SentDown,
-) -> bool
+) -> Met
     requires made { state.old.state.serials.made < 2 ^ 63 }
     requires sequence { moved.now.sequence < 2 ^ 63 }
     requires below { command_spec.AreNumbersBelow state.old.state.begun }
@@ -232,7 +233,7 @@ pub fn take_data(
     path: Path,
     signal: &LentUp<'_>,
     sent: &mut SentDown,
-) -> bool
+) -> Met
     requires made { state.old.state.serials.made < 2 ^ 63 }
     requires below { command_spec.AreNumbersBelow state.old.state.begun }
     ensures step { outcomes.with_storage storage.new (subchannel_stepped state.new.state (came_so result sent.new)) ≡ working_spec.data_taken storage.old state.old.state (load_of (lent_up signal.now)) (working_spec.data_by path (lent_up signal.now)) }

@@ -32,10 +32,10 @@ program_begun h t p goes_on =
     if goes_on then hold_quietly (record h { phase = On t p 0; seen = 0; first_path = Some p })
     else hold_sending (record h { phase = Letting t p; seen = 0; first_path = Some p }) p (down.Release t)
 
--- Accept: at the offer of its number; may: the program goes on
+-- Accept: at the offer of its number
 abbrev pub offer_accepted : HoldState → HoldPhase → ℕ → Bool → Option HoldStep
-offer_accepted h (Offer t p) u may = if u == t then Some (program_begun h t p may) else None
-offer_accepted h phase u may = None
+offer_accepted h (Offer t p) u goes_on = if u == t then Some (program_begun h t p goes_on) else None
+offer_accepted h phase u goes_on = None
 
 -- Busy: at the offer of its number the program waits again
 abbrev pub found_busy : HoldState → HoldPhase → ℕ → Option HoldStep
@@ -54,12 +54,12 @@ refusing h p t c = hold_sending (record h { seen = c }) p (down.Refuse t c)
 abbrev pub granting : HoldState → ℕ → ℕ → ℕ → HoldStep
 granting h p t c = hold_sending (record h { phase = On t p c; seen = c }) p (down.Grant t c)
 
--- Back: under a number above the last seen; granted where the program is away; may: its path is allowed, and the engine free
+-- Back: under a number above the last seen; granted where the program is away; path_allowed: the path is, and its engine free
 abbrev pub asked_back : HoldState → HoldPhase → ℕ → ℕ → ℕ → Bool → Option HoldStep
-asked_back h (On t q d) p u c may = if (u == t) && nat_lt h.seen c then Some (refusing h p t c) else None
-asked_back h (Away t) p u c may =
-    if (u == t) && nat_lt h.seen c then (if may then Some (granting h p t c) else Some (refusing h p t c)) else None
-asked_back h phase p u c may = None
+asked_back h (On t q d) p u c path_allowed = if (u == t) && nat_lt h.seen c then Some (refusing h p t c) else None
+asked_back h (Away t) p u c path_allowed =
+    if (u == t) && nat_lt h.seen c then (if path_allowed then Some (granting h p t c) else Some (refusing h p t c)) else None
+asked_back h phase p u c path_allowed = None
 
 -- Released: of the number that is let go
 abbrev pub released : HoldState → HoldPhase → ℕ → Option HoldStep
@@ -75,10 +75,10 @@ reset_cleared h phase u = None
 abbrev pub noticed : HoldState → ℕ → Option HoldStep
 noticed h b = if nat_lt h.known b then Some (hold_quietly (record h { known = b })) else None
 
--- Attn: where nothing holds the device; may: no status is pending, and at most a start waits
+-- Attn: where nothing holds the device; can_be_shown: no status is pending, and at most a start waits
 abbrev pub attended : HoldState → HoldPhase → ℕ → ℕ → Bool → Option HoldStep
-attended h Free p a may = if may then Some (hold_sending h p (down.Got a)) else None
-attended h phase p a may = None
+attended h Free p a can_be_shown = if can_be_shown then Some (hold_sending h p (down.Got a)) else None
+attended h phase p a can_be_shown = None
 
 -- What the hold does with a signal that came by path p. Data and End leave it as it is: they are the program's.
 abbrev pub hold_takes : HoldState → ℕ → Up → Bool → Option HoldStep

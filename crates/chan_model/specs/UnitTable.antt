@@ -81,14 +81,14 @@ freed u = record u { own = Idle; last_command = 0; at_hand = None; halted = fals
 abbrev pub held : UnitState → Side → ℕ → ℕ → UnitState
 held u side t p = record (freed u) { own = Owned side t (On p 0) }
 
--- Select: above the floor of its side, which becomes its number whether it is accepted or not; may: the control unit may
--- serve the unit
+-- Select: above the floor of its side, which becomes its number whether it is accepted or not; may_serve: the control
+-- unit may serve the unit
 abbrev pub raised : UnitState → Side → ℕ → UnitState
 raised u side t = with_side u side (record (side_of u side) { floor = t })
 
 abbrev pub selected : UnitState → Own → Side → ℕ → ℕ → Bool → Option UnitStep
-selected u Idle side p t may = if may then sends (held u side t p) p (up.Accept t) else sends u p (up.Busy t)
-selected u (Owned k v place) side p t may = sends u p (up.Busy t)
+selected u Idle side p t may_serve = if may_serve then sends (held u side t p) p (up.Accept t) else sends u p (up.Busy t)
+selected u (Owned k v place) side p t may_serve = sends u p (up.Busy t)
 
 -- Command: the next of the program that holds the device
 abbrev pub new_command : ℕ → ℕ → CurrentCommand

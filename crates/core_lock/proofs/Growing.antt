@@ -9,14 +9,14 @@ use Rattle.chan_events.specs.declared.event.Event.TheVariants as event
 use Rattle.chan_events.specs.declared.event.UnitAct.TheVariants as act
 use Rattle.chan_events.specs.declared.reply.Entry.{Entry}
 use Rattle.chan_events.specs.Replies.{Reply}
-use Rattle.unit_driver.specs.declared.keeping.KeptReport.{KeptReport}
+use Rattle.unit_driver.specs.declared.waiting.WaitingReport.{WaitingReport}
 use Rattle.unit_driver.specs.declared.turns.Turn.{Turn}
 use Rattle.unit_driver.specs.declared.turns.Turn.TheVariants.{Enters, Leaves, Owes, Rests}
 use Rattle.channel_config.specs.Setup.{Setup}
 use Rattle.path_select.specs.Choice.{Rule}
 use Rattle.core_lock.specs.Seats.{Guarded, GuardedCore, HeldSeat, Seated, entry}
 use Rattle.core_lock.specs.Entering.{entered}
-use Rattle.unit_driver.specs.Keeping.{report_event, kept_after}
+use Rattle.unit_driver.specs.Waiting.{report_event, waits_after}
 use Rattle.unit_driver.specs.Turns.{turn_of}
 use Rattle.core_lock.specs.Turns.{turned_seat, emptied_seat, turn_of_path, with_left, with_owed, Tries, Passes, HandsIn, TakesTurn, TakesUnitTurn, TakesPathTurn, MayStand, MayTurn, IsOfPath, IsOfWorker, Grew, IsKeptFrom, IsOwedBy, WorksPath, WorksUnit, count_in}
 
@@ -89,13 +89,13 @@ path_turns picks old seat (Some e) result new after t = tries_same (λ (s : Seat
 
 -- what turns of a unit's worker leave
 module _ (d : Setup) (roam : Bool) (at : ℕ) where
-  none_kept : (old now : Option KeptReport) → now ≡ None → IsKeptFrom d roam at old now
-  none_kept old now is = subst (λ (o : Option KeptReport). IsKeptFrom d roam at old o) (sym is) tt
+  none_kept : (old now : Option WaitingReport) → now ≡ None → IsKeptFrom d roam at old now
+  none_kept old now is = subst (λ (o : Option WaitingReport). IsKeptFrom d roam at old o) (sym is) tt
 
-  some_kept : (old now : Option KeptReport) (kept : KeptReport) → old ≡ Some kept → now ≡ Some kept → IsKeptFrom d roam at old now
-  some_kept old now kept was is = subst (λ (o : Option KeptReport). IsKeptFrom d roam at old o) (sym is) (inr was)
+  some_kept : (old now : Option WaitingReport) (kept : WaitingReport) → old ≡ Some kept → now ≡ Some kept → IsKeptFrom d roam at old now
+  some_kept old now kept was is = subst (λ (o : Option WaitingReport). IsKeptFrom d roam at old o) (sym is) (inr was)
 
-  kept_by : (kept : KeptReport) (f : Fault) (now : Option KeptReport) → now ≡ kept_after kept f → IsKeptFrom d roam at (Some kept) now
+  kept_by : (kept : WaitingReport) (f : Fault) (now : Option WaitingReport) → now ≡ waits_after (report_event kept) f → IsKeptFrom d roam at (Some kept) now
   kept_by kept fault.NoMemory now is = some_kept (Some kept) now kept refl is
   kept_by kept fault.WireFull now is = some_kept (Some kept) now kept refl is
   kept_by kept fault.NotSent now is = none_kept (Some kept) now is
@@ -108,12 +108,12 @@ module _ (d : Setup) (roam : Bool) (at : ℕ) where
   kept_by kept (fault.Storage kind) now is = none_kept (Some kept) now is
   kept_by kept fault.Operand now is = none_kept (Some kept) now is
 
-  kept_on : (a b c : Option KeptReport) → IsKeptFrom d roam at a b → IsKeptFrom d roam at b c → IsKeptFrom d roam at a c
+  kept_on : (a b c : Option WaitingReport) → IsKeptFrom d roam at a b → IsKeptFrom d roam at b c → IsKeptFrom d roam at a c
   kept_on a b None p q = tt
   kept_on a b (Some k) p (inl same) = inl same
-  kept_on a b (Some k) p (inr is) = subst (λ (o : Option KeptReport). IsKeptFrom d roam at a o) is p
+  kept_on a b (Some k) p (inr is) = subst (λ (o : Option WaitingReport). IsKeptFrom d roam at a o) is p
 
-  of_worker : (a b : Option KeptReport) (e : Event) → IsKeptFrom d roam at a b → IsOfWorker d roam at b e → IsOfWorker d roam at a e
+  of_worker : (a b : Option WaitingReport) (e : Event) → IsKeptFrom d roam at a b → IsOfWorker d roam at b e → IsOfWorker d roam at a e
   of_worker a b e p (inl is) = inl is
   of_worker a b e p (inr (kept, from, is)) = inr (kept, kept_on a b (Some kept) p from, is)
 
@@ -151,7 +151,7 @@ takes_turn picks old seat roam at Rests result new after may none t = record {
 }
 
 -- what is handed in
-pub record Handed (roam : Bool) (at : ℕ) (report : KeptReport) (seat after : Seated) (count : ℕ) : Type 0 where
+pub record Handed (roam : Bool) (at : ℕ) (report : WaitingReport) (seat after : Seated) (count : ℕ) : Type 0 where
   pub number : after.number ≡ seat.number
   pub setup : after.setup ≡ seat.setup
   pub directory : after.directory ≡ seat.directory
@@ -159,7 +159,7 @@ pub record Handed (roam : Bool) (at : ℕ) (report : KeptReport) (seat after : S
   pub kept : IsKeptFrom seat.setup roam at (Some report) after.kept
   pub log : Grew (IsOfWorker seat.setup roam at (Some report)) seat.log after.log count
 
-handed : (picks : Rule) (old : GuardedCore) (seat : HeldSeat) (roam : Bool) (at : ℕ) (kept : KeptReport) (result : Result Bool Fault) (new : Guarded) (after : Seated) → seat.value.kept ≡ None → HandsIn picks old seat kept result new after → Handed roam at kept seat.value after (count_in result)
+handed : (picks : Rule) (old : GuardedCore) (seat : HeldSeat) (roam : Bool) (at : ℕ) (kept : WaitingReport) (result : Result Bool Fault) (new : Guarded) (after : Seated) → seat.value.kept ≡ None → HandsIn picks old seat kept result new after → Handed roam at kept seat.value after (count_in result)
 handed picks old seat roam at kept (Ok true) new after none (r, enters) = record {
   number = ap (λ (s : Seated). s.number) enters.0.3;
   setup = ap (λ (s : Seated). s.setup) enters.0.3;
@@ -185,7 +185,7 @@ handed picks old seat roam at kept (Err f) new after none (other, may, core, is)
   log = grew_none (IsOfWorker seat.value.setup roam at (Some kept)) seat.value.log after.log (ap (λ (s : Seated). s.log) is);
 }
 
-unit_turn_works : (picks : Rule) (old : GuardedCore) (seat : HeldSeat) (k : Option KeptReport) (at : ℕ) (roam : Bool) (result : Result Bool Fault) (new : Guarded) (after : Seated) → MayStand seat.value.setup old.value.state → seat.value.kept ≡ k → TakesUnitTurn picks old (turned_seat seat) k at roam result new after → WorksUnit roam at seat.value after (count_in result)
+unit_turn_works : (picks : Rule) (old : GuardedCore) (seat : HeldSeat) (k : Option WaitingReport) (at : ℕ) (roam : Bool) (result : Result Bool Fault) (new : Guarded) (after : Seated) → MayStand seat.value.setup old.value.state → seat.value.kept ≡ k → TakesUnitTurn picks old (turned_seat seat) k at roam result new after → WorksUnit roam at seat.value after (count_in result)
 unit_turn_works picks old seat None at roam result new after stands is t =
     let w = takes_turn picks old (turned_seat seat) roam at (turn_of roam seat.value.left at old.value.state) result new after (old.value.state, stands, seat.value.left, refl) is t in
     record { number = w.number; setup = w.setup; directory = w.directory; kept = w.kept; log = w.log }
@@ -195,8 +195,8 @@ unit_turn_works picks old seat (Some kept) at roam result new after stands is t 
       number = w.number;
       setup = w.setup;
       directory = w.directory;
-      kept = subst (λ (o : Option KeptReport). IsKeptFrom seat.value.setup roam at o after.kept) (sym is) w.kept;
-      log = subst (λ (o : Option KeptReport). Grew (IsOfWorker seat.value.setup roam at o) seat.value.log after.log (count_in result)) (sym is) w.log;
+      kept = subst (λ (o : Option WaitingReport). IsKeptFrom seat.value.setup roam at o after.kept) (sym is) w.kept;
+      log = subst (λ (o : Option WaitingReport). Grew (IsOfWorker seat.value.setup roam at o) seat.value.log after.log (count_in result)) (sym is) w.log;
     }
 
 pub unit_works : (picks : Rule) (old : GuardedCore) (seat : HeldSeat) (at : ℕ) (roam : Bool) (result : Result Bool Fault) (new : Guarded) (after : Seated) → MayStand seat.value.setup old.value.state → TakesUnitTurn picks old (turned_seat seat) seat.value.kept at roam result new after → WorksUnit roam at seat.value after (count_in result)
@@ -211,7 +211,7 @@ turn_owed picks old seat roam at (Leaves command) result new after may none t =
 turn_owed picks old seat roam at (Owes owed) result new after may none t = subst (IsOwedBy seat.value.setup roam at) (sym (ap (λ (s : Seated). s.owed) t.2)) may
 turn_owed picks old seat roam at Rests result new after may none t = subst (IsOwedBy seat.value.setup roam at) (sym (ap (λ (s : Seated). s.owed) t.2 ∙ none)) tt
 
-unit_turn_owed : (picks : Rule) (old : GuardedCore) (seat : HeldSeat) (k : Option KeptReport) (at : ℕ) (roam : Bool) (result : Result Bool Fault) (new : Guarded) (after : Seated) → MayStand seat.value.setup old.value.state → seat.value.owed ≡ None → TakesUnitTurn picks old seat k at roam result new after → IsOwedBy seat.value.setup roam at after.owed
+unit_turn_owed : (picks : Rule) (old : GuardedCore) (seat : HeldSeat) (k : Option WaitingReport) (at : ℕ) (roam : Bool) (result : Result Bool Fault) (new : Guarded) (after : Seated) → MayStand seat.value.setup old.value.state → seat.value.owed ≡ None → TakesUnitTurn picks old seat k at roam result new after → IsOwedBy seat.value.setup roam at after.owed
 unit_turn_owed picks old seat None at roam result new after stands none t =
     turn_owed picks old seat roam at (turn_of roam seat.value.left at old.value.state) result new after (old.value.state, stands, seat.value.left, refl) none t
 unit_turn_owed picks old seat (Some kept) at roam result new after stands none t =
@@ -228,12 +228,12 @@ takes_turns picks old seat (Leaves command) result new after t =
 takes_turns picks old seat (Owes owed) result new after t = ap (λ (s : Seated). s.turns) t.2
 takes_turns picks old seat Rests result new after t = ap (λ (s : Seated). s.turns) t.2
 
-hands_turns : (picks : Rule) (old : GuardedCore) (seat : HeldSeat) (kept : KeptReport) (result : Result Bool Fault) (new : Guarded) (after : Seated) → HandsIn picks old seat kept result new after → after.turns ≡ seat.value.turns
+hands_turns : (picks : Rule) (old : GuardedCore) (seat : HeldSeat) (kept : WaitingReport) (result : Result Bool Fault) (new : Guarded) (after : Seated) → HandsIn picks old seat kept result new after → after.turns ≡ seat.value.turns
 hands_turns picks old seat kept (Ok true) new after (r, enters) = ap (λ (s : Seated). s.turns) enters.0.3
 hands_turns picks old seat kept (Ok false) new after (may, core, is) = ap (λ (s : Seated). s.turns) is
 hands_turns picks old seat kept (Err f) new after (other, may, core, is) = ap (λ (s : Seated). s.turns) is
 
-pub unit_turns : (picks : Rule) (old : GuardedCore) (seat : HeldSeat) (k : Option KeptReport) (at : ℕ) (roam : Bool) (result : Result Bool Fault) (new : Guarded) (after : Seated) → TakesUnitTurn picks old seat k at roam result new after → after.turns ≡ seat.value.turns
+pub unit_turns : (picks : Rule) (old : GuardedCore) (seat : HeldSeat) (k : Option WaitingReport) (at : ℕ) (roam : Bool) (result : Result Bool Fault) (new : Guarded) (after : Seated) → TakesUnitTurn picks old seat k at roam result new after → after.turns ≡ seat.value.turns
 unit_turns picks old seat None at roam result new after t = takes_turns picks old seat (turn_of roam seat.value.left at old.value.state) result new after t
 unit_turns picks old seat (Some kept) at roam result new after t = hands_turns picks old (emptied_seat seat) kept result new after t
 

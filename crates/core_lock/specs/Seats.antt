@@ -12,7 +12,7 @@ use Rattle.subsystem.specs.Keeping.{serials_brought}
 use Rattle.glance_cell.specs.Shown.{Words}
 use Rattle.machine_model.specs.State.{State}
 use Rattle.unit_driver.specs.declared.turns.OwedCall.{OwedCall}
-use Rattle.unit_driver.specs.declared.keeping.KeptReport.{KeptReport}
+use Rattle.unit_driver.specs.declared.waiting.WaitingReport.{WaitingReport}
 use Rattle.unit_driver.specs.declared.turns.TakenCommand.{TakenCommand}
 use Rattle.core_lock.specs.Directory.{Directory, place_named}
 use Rattle.core_lock.specs.Named.{serials}
@@ -43,7 +43,7 @@ pub record Seated : Type 0 where
   pub turns : ℕ
   pub calls : ℕ
   pub owed : Option OwedCall
-  pub kept : Option KeptReport
+  pub kept : Option WaitingReport
   pub left : Option TakenCommand
 
 -- a machine under its lock, and for how many more entries there is room, in its history and beside it

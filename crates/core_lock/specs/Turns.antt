@@ -16,13 +16,13 @@ use Rattle.machine_model.specs.State.{State}
 use Rattle.machine_model.specs.Steps.{HasRun, IsRefused}
 use Rattle.path_select.specs.Choice.{Rule}
 use Rattle.unit_driver.specs.declared.turns.OwedCall.{OwedCall}
-use Rattle.unit_driver.specs.declared.keeping.KeptReport.{KeptReport}
+use Rattle.unit_driver.specs.declared.waiting.WaitingReport.{WaitingReport}
 use Rattle.unit_driver.specs.declared.turns.TakenCommand.{TakenCommand}
 use Rattle.unit_driver.specs.declared.turns.Turn.{Turn}
 use Rattle.unit_driver.specs.declared.turns.Turn.TheVariants.{Enters, Leaves, Owes, Rests}
 use Rattle.core_lock.specs.Directory.{directory_of}
 use Rattle.core_lock.specs.Seats.{Guarded, GuardedCore, HeldSeat, Seated}
-use Rattle.unit_driver.specs.Keeping.{kept_after, report_event}
+use Rattle.unit_driver.specs.Waiting.{waits_after, report_event}
 use Rattle.unit_driver.specs.Reporting.{report_of}
 use Rattle.unit_driver.specs.Turns.{turn_of}
 use Rattle.core_lock.specs.PathTurns.{path_turn_among}
@@ -33,7 +33,7 @@ use Rattle.core_lock.specs.Entering.{IsExhausted}
 abbrev pub turned : Seated → Seated
 turned seat = record seat { turns = seat.turns + 1 }
 
-abbrev pub with_kept : Seated → Option KeptReport → Seated
+abbrev pub with_kept : Seated → Option WaitingReport → Seated
 with_kept seat kept = record seat { kept = kept }
 
 abbrev pub with_owed : Seated → Option OwedCall → Seated
@@ -74,12 +74,12 @@ abbrev pub Passes : GuardedCore → Seated → Result Bool Fault → Guarded →
 Passes core seat result new after = (result ≡ Ok false) × (new ≡ core.value) × (after ≡ seat)
 
 -- a report that is kept is handed in: it is entered, or refused; a stale one is dropped then
-abbrev pub HandsIn : Rule → GuardedCore → HeldSeat → KeptReport → Result Bool Fault → Guarded → Seated → Type 0
+abbrev pub HandsIn : Rule → GuardedCore → HeldSeat → WaitingReport → Result Bool Fault → Guarded → Seated → Type 0
 HandsIn picks core seat kept (Ok true) new after = (r : Reply) × EntersBy picks core.value seat.value (report_event kept) r new after
 HandsIn picks core seat kept (Ok false) new after =
     IsRefusedBy picks core seat (report_event kept) fault.NotNow × (new ≡ core.value) × (after ≡ with_kept seat.value None)
 HandsIn picks core seat kept (Err f) new after =
-    (f ≢ fault.NotNow) × IsRefusedBy picks core seat (report_event kept) f × (new ≡ core.value) × (after ≡ with_kept seat.value (kept_after kept f))
+    (f ≢ fault.NotNow) × IsRefusedBy picks core seat (report_event kept) f × (new ≡ core.value) × (after ≡ with_kept seat.value (waits_after (report_event kept) f))
 
 abbrev pub TakesTurn : Rule → GuardedCore → HeldSeat → Turn → Result Bool Fault → Guarded → Seated → Type 0
 TakesTurn picks core seat (Enters e) result new after = Tries picks core seat seat.value e result new after
@@ -89,7 +89,7 @@ TakesTurn picks core seat (Owes call) result new after = Passes core (with_owed 
 TakesTurn picks core seat Rests result new after = Passes core seat.value result new after
 
 -- a turn of a unit's worker, by a seat with one turn more
-abbrev pub TakesUnitTurn : Rule → GuardedCore → HeldSeat → Option KeptReport → ℕ → Bool → Result Bool Fault → Guarded → Seated → Type 0
+abbrev pub TakesUnitTurn : Rule → GuardedCore → HeldSeat → Option WaitingReport → ℕ → Bool → Result Bool Fault → Guarded → Seated → Type 0
 TakesUnitTurn picks core seat (Some kept) at roam result new after = HandsIn picks core (emptied_seat seat) kept result new after
 TakesUnitTurn picks core seat None at roam result new after =
     TakesTurn picks core seat (turn_of roam seat.value.left at core.value.state) result new after
@@ -139,12 +139,12 @@ IsEnteredBy (Leaves command) e = e ≡ event.Act command.«unit» act.Leave
 IsEnteredBy turn e = ⊥
 
 -- the report of what a device answered to a call that such a turn owed
-abbrev pub IsAnswer : Setup → Bool → ℕ → KeptReport → Type 0
+abbrev pub IsAnswer : Setup → Bool → ℕ → WaitingReport → Type 0
 IsAnswer setup roam at kept =
     (owed : OwedCall) × (answer : DeviceAnswer) × MayTurn setup roam at (Owes owed) × (kept ≡ report_of owed answer)
 
 -- a report that is kept in the end was kept before, or answers a call of such a turn; a call that is owed is of such a turn
-abbrev pub IsKeptFrom : Setup → Bool → ℕ → Option KeptReport → Option KeptReport → Type 0
+abbrev pub IsKeptFrom : Setup → Bool → ℕ → Option WaitingReport → Option WaitingReport → Type 0
 IsKeptFrom setup roam at old None = Unit {0}
 IsKeptFrom setup roam at old (Some kept) = IsAnswer setup roam at kept ⊎ (old ≡ Some kept)
 
@@ -156,10 +156,10 @@ IsOwedBy setup roam at (Some owed) = MayTurn setup roam at (Owes owed)
 abbrev pub IsTurnEvent : Setup → Bool → ℕ → Event → Type 0
 IsTurnEvent setup roam at e = (turn : Turn) × MayTurn setup roam at turn × IsEnteredBy turn e
 
-abbrev pub IsHandedIn : Setup → Bool → ℕ → Option KeptReport → Event → Type 0
-IsHandedIn setup roam at old e = (kept : KeptReport) × IsKeptFrom setup roam at old (Some kept) × (e ≡ report_event kept)
+abbrev pub IsHandedIn : Setup → Bool → ℕ → Option WaitingReport → Event → Type 0
+IsHandedIn setup roam at old e = (kept : WaitingReport) × IsKeptFrom setup roam at old (Some kept) × (e ≡ report_event kept)
 
-abbrev pub IsOfWorker : Setup → Bool → ℕ → Option KeptReport → Event → Type 0
+abbrev pub IsOfWorker : Setup → Bool → ℕ → Option WaitingReport → Event → Type 0
 IsOfWorker setup roam at kept e = IsTurnEvent setup roam at e ⊎ IsHandedIn setup roam at kept e
 
 -- the log grew by so many entries, whose events are such
@@ -182,7 +182,7 @@ pub record WorksUnit (roam : Bool) (at : ℕ) (old new : Seated) (count : ℕ) :
   pub log : Grew (IsOfWorker old.setup roam at old.kept) old.log new.log count
 
 -- what a call that is made leaves, where one is owed: a report of it
-abbrev pub IsAnswered : Option OwedCall → Option KeptReport → Option KeptReport → Type 0
+abbrev pub IsAnswered : Option OwedCall → Option WaitingReport → Option WaitingReport → Type 0
 IsAnswered None old new = new ≡ old
 IsAnswered (Some owed) old new = (answer : DeviceAnswer) × (new ≡ Some (report_of owed answer))
 

@@ -20,6 +20,13 @@ use path_select::PathChoice;
 use std::sync::ledger::Book;
 use subsystem::subsystem::Subsystem;
 
+/// By which seat each entry of a history was entered, and the ledger of how many each seat entered.
+#[derive(Drop)]
+pub(crate) struct EntrySeats<J: Naming> {
+    pub by: Vec<u16>,
+    pub entries: Book<Entries<J>>,
+}
+
 /// Makes room for one entry, beside a history and in the log of a seat.
 #[inline(always)]
 fn make_room<S: Supply>(supply: &mut S, by: &mut Vec<u16>, log: &mut Log) -> Result<(), Fault>
@@ -57,34 +64,36 @@ fn counted(answer: Result<(), Fault>, starved: &mut u64) -> Result<(), Fault>
 #[inline(always)]
 pub(crate) fn keep_entry<S: Supply, J: Naming, P: PathChoice + Drop>(
     subsystem: &mut Subsystem<P>,
-    by: &mut Vec<u16>,
+    entry_seats: &mut EntrySeats<J>,
     writers: &mut Vec<Writer>,
-    entries: &mut Book<Entries<J>>,
     supply: &mut S,
     seat: &mut Seat<J>,
     event: &Event,
 ) -> Result<(), Fault>
-    requires beside { length by.old.items ≡ length subsystem.old.history }
-    requires entries { entries.old.total ≡ length subsystem.old.history }
+    requires beside { length entry_seats.old.by.items ≡ length subsystem.old.history }
+    requires entries { entry_seats.old.entries.total ≡ length subsystem.old.history }
     requires shown { shown writers.old.items ≡ all_serials subsystem.old.state }
-    ensures beside { length by.new.items ≡ length subsystem.new.history }
-    ensures entries { entries.new.total ≡ length subsystem.new.history }
+    ensures beside { length entry_seats.new.by.items ≡ length subsystem.new.history }
+    ensures entries { entry_seats.new.entries.total ≡ length subsystem.new.history }
     ensures shown { shown writers.new.items ≡ all_serials subsystem.new.state }
     ensures cells { cells_of writers.new.items ≡ cells_of writers.old.items }
     ensures set_up { StaysSetUp subsystem.old.state subsystem.new.state }
-    ensures entered { IsEntered P.picks (core_of subsystem.old by.old) seat.old event.now (answer_of result subsystem.new.history)
-        (core_of subsystem.new by.new) seat.new }
+    ensures entered { IsEntered P.picks (core_of subsystem.old entry_seats.old.by) seat.old event.now (answer_of result subsystem.new.history)
+        (core_of subsystem.new entry_seats.new.by) seat.new }
     ensures given { result ≢ Err fault_spec.NoMemory → S.refused supply.new ≡ S.refused supply.old }
     ensures memory { result ≡ Err fault_spec.NoMemory →
         (S.refused supply.new ≡ true) ⊎ (2 ^ 62 ≤ length subsystem.old.history + 1) }
 {
     let touched = touched_by(subsystem, event);
-    counted(make_room(supply, by, &mut seat.log), &mut seat.starved)?;
+    counted(
+        make_room(supply, &mut entry_seats.by, &mut seat.log),
+        &mut seat.starved,
+    )?;
     touches();
     counted(subsystem.perform_with(supply, event), &mut seat.starved)?;
     publish(writers, subsystem, touched);
-    entries.add(&mut seat.share, 1);
-    by.push_reserved(seat.number);
+    entry_seats.entries.add(&mut seat.share, 1);
+    entry_seats.by.push_reserved(seat.number);
     raise(&mut seat.pairs, &seat.directory, event, subsystem);
     subsystem.add_last(&mut seat.log);
     Ok(())

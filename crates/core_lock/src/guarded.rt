@@ -18,7 +18,7 @@ ghost use Rattle.core_lock.specs.Entering.{IsEntered};
 ghost use Rattle.core_lock.specs.Turns as turn_spec;
 
 use crate::directory::Directory;
-use crate::entering::keep_entry;
+use crate::entering::{EntrySeats, keep_entry};
 use crate::locked::Seat;
 use crate::naming::{Entries, Naming, Turns};
 use crate::pairs::{first_pairs, watch};
@@ -44,10 +44,9 @@ use subsystem::subsystem::Subsystem;
 #[derive(Drop)]
 pub struct Guarded<J: Naming, P: PathChoice + Drop> {
     pub(crate) subsystem: Subsystem<P>,
-    by: Vec<u16>,
+    entry_seats: EntrySeats<J>,
     pub(crate) writers: Vec<Writer>,
     pub(crate) directory: Arc<Directory>,
-    entries: Book<Entries<J>>,
     pub(crate) turns: Book<Turns<J>>,
 }
 
@@ -59,9 +58,9 @@ impl<J: Naming, P: PathChoice + Drop> Model for Guarded<J, P> {
 
     ghost Value = { GuardedCore };
 
-    ghost view = { λ c. core_of c.subsystem c.by };
+    ghost view = { λ c. core_of c.subsystem c.entry_seats.by };
 
-    ghost invariant = { λ c. IsGuarded c.subsystem c.by.items c.entries.total c.writers.items (arc_value c.directory) J.setup J.name };
+    ghost invariant = { λ c. IsGuarded c.subsystem c.entry_seats.by.items c.entry_seats.entries.total c.writers.items (arc_value c.directory) J.setup J.name };
 }
 
 /// What a new seat sees of a machine.
@@ -100,10 +99,9 @@ pub(crate) fn open<J: Naming, P: PathChoice + Drop>(
     let (turns, turns_left) = turns.open::<Turns<J>>();
     let guarded = Guarded {
         subsystem,
-        by,
+        entry_seats: EntrySeats { by, entries },
         writers,
         directory,
-        entries,
         turns,
     };
     (guarded, SeatStock::new(alloc, rest, turns_left))
@@ -158,7 +156,7 @@ impl<J: Naming, P: PathChoice + Drop> Guarded<J, P> {
     {
         is_log(
             seat.number,
-            self.by.as_slice(),
+            self.entry_seats.by.as_slice(),
             &self.subsystem.history(),
             &seat.log.history(),
         )
@@ -169,15 +167,15 @@ impl<J: Naming, P: PathChoice + Drop> Guarded<J, P> {
         ensures count { result.0 ≡ length self.value.history }
         ensures entries { result.1.total ≡ length self.value.history }
     {
-        let count = self.by.len() as u64;
+        let count = self.entry_seats.by.len() as u64;
         let Guarded {
             subsystem: _,
-            by: _,
+            entry_seats,
             writers: _,
             directory: _,
-            entries,
             turns: _,
         } = self;
+        let EntrySeats { by: _, entries } = entry_seats;
         (count, entries)
     }
 
@@ -197,9 +195,8 @@ impl<J: Naming, P: PathChoice + Drop> Guarded<J, P> {
     {
         keep_entry(
             &mut self.subsystem,
-            &mut self.by,
+            &mut self.entry_seats,
             &mut self.writers,
-            &mut self.entries,
             supply,
             seat,
             event,

@@ -34,8 +34,8 @@ use std::marker::Model;
 use std::sync::Arc;
 use std::sync::ledger::{Book, Share};
 use subsystem::subsystem::Subsystem;
-use unit_driver::keeping::KeptReport;
 use unit_driver::turns::{OwedCall, TakenCommand};
+use unit_driver::waiting::WaitingReport;
 
 /// The most seats of one machine.
 pub const MOST_SEATS: u16 = 1024;
@@ -79,7 +79,7 @@ pub struct Seat<J: Naming> {
     /// How often an event was refused it for want of memory.
     pub(crate) starved: u64,
     pub(crate) owed: Option<OwedCall>,
-    pub(crate) kept: Option<KeptReport>,
+    pub(crate) kept: Option<WaitingReport>,
     pub(crate) left: Option<TakenCommand>,
 }
 

@@ -3,8 +3,8 @@
 ghost use Rattle.std.specs.Prelude.{◌≡◌, ◌+◌, None};
 ghost use Rattle.core_lock.specs.Outside.{IsPathTurn, IsUnitTurn};
 ghost use Rattle.core_lock.specs.Turns as turn_spec;
-ghost use Rattle.unit_driver.specs.Keeping as kept_spec;
 ghost use Rattle.unit_driver.specs.Turns as unit_spec;
+ghost use Rattle.unit_driver.specs.Waiting as waiting_spec;
 
 use crate::guarded::Guarded;
 use crate::locked::Seat;
@@ -13,8 +13,8 @@ use crate::path_turns::path_turn_of;
 use chan_events::event::{Event, UnitAct};
 use chan_model::fault::Fault;
 use path_select::PathChoice;
-use unit_driver::keeping::{KeptReport, kept_after, refusal_of};
 use unit_driver::turns::{TakenCommand, Turn, turn_by};
+use unit_driver::waiting::{WaitingReport, keep_refused, refusal_of};
 
 impl<J: Naming, P: PathChoice + Drop> Guarded<J, P> {
     /// One turn of the worker of a channel path: the first event that there is for a subchannel of that path is entered. False
@@ -92,14 +92,14 @@ impl<J: Naming, P: PathChoice + Drop> Guarded<J, P> {
     }
 
     /// Hands in a report that was kept.
-    fn hand_in(&mut self, seat: &mut Seat<J>, kept: KeptReport) -> Result<bool, Fault>
+    fn hand_in(&mut self, seat: &mut Seat<J>, kept: WaitingReport) -> Result<bool, Fault>
         ensures { turn_spec.HandsIn P.picks self.old seat.old kept result self.new.value seat.new.value }
     {
         let event = kept.event();
         let came = self.try_enter(seat, &event);
         match came {
             Ok(entered) => Ok(entered),
-            Err(fault) => seat.keep(kept, fault),
+            Err(fault) => seat.keep(&event, fault),
         }
     }
 
@@ -142,13 +142,13 @@ impl<J: Naming, P: PathChoice + Drop> Guarded<J, P> {
 }
 
 impl<J: Naming> Seat<J> {
-    /// Keeps a report that was refused, where it is to be kept. A stale one is no refusal.
-    fn keep(&mut self, kept: KeptReport, fault: Fault) -> Result<bool, Fault>
-        ensures result { result ≡ kept_spec.refusal_of fault }
-        ensures seat { self.new.value ≡ turn_spec.with_kept self.old.value (kept_spec.kept_after kept fault) }
+    /// Keeps the report of an event that was refused, where it is to be kept. A stale one is no refusal.
+    fn keep(&mut self, event: &Event, fault: Fault) -> Result<bool, Fault>
+        ensures result { result ≡ waiting_spec.refusal_of fault }
+        ensures seat { self.new.value ≡ turn_spec.with_kept self.old.value (waiting_spec.waits_after event.now fault) }
         ensures room { self.new.room ≡ self.old.room }
     {
-        self.kept = kept_after(kept, fault);
+        keep_refused(&mut self.kept, event, fault);
         refusal_of(fault)
     }
 }

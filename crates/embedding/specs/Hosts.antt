@@ -10,7 +10,7 @@ use Rattle.chan_events.specs.Replies.{Reply}
 use Rattle.chan_events.specs.declared.reply.Reply.TheVariants as reply
 use Rattle.machine_model.specs.State.{State, Past, IsAsBefore, IsSpent}
 use Rattle.machine_model.specs.Steps.{Step, IsRefused}
-use Rattle.unit_driver.specs.declared.keeping.KeptReport.{KeptReport}
+use Rattle.unit_driver.specs.declared.waiting.WaitingReport.{WaitingReport}
 use Rattle.embedding.specs.Clocks.{Clocks}
 use Rattle.embedding.specs.declared.host.Turn.{Turn}
 use Rattle.embedding.specs.declared.host.Turn.TheVariants.{Moved, Quiet, Refused}
@@ -19,7 +19,7 @@ use Rattle.embedding.specs.declared.host.Turn.TheVariants.{Moved, Quiet, Refused
 pub record Hosted : Type 0 where
   pub past : Past
   pub clock : Clocks
-  pub kept : Option KeptReport
+  pub kept : Option WaitingReport
 
 -- an event is refused for want of memory only where the history has no room, or no number is left, and else as the machine refuses it
 abbrev pub MayRefuse : Past → Event → Fault → Type 0

@@ -20,8 +20,8 @@ use std::alloc::Global;
 use std::marker::Model;
 use storage_keys::StorageFault;
 use subsystem::subsystem::Subsystem;
-use unit_driver::keeping::{KeptReport, forget, keep_refused};
 use unit_driver::reporting::reported;
+use unit_driver::waiting::{WaitingReport, forget, keep_refused};
 
 /// The subsystem-identification word of the one subchannel.
 pub const SUBCHANNEL: u32 = 0x0001_0000;
@@ -45,7 +45,7 @@ pub enum Turn {
 pub struct Host {
     subsystem: Subsystem<Rotating>,
     clock: Clock,
-    kept: Option<KeptReport>,
+    kept: Option<WaitingReport>,
 }
 
 impl Model for Host {

@@ -33,16 +33,16 @@ pub fn takes(hold: &mut HoldState, path: Path, signal: &LentUp<'_>, may: bool) -
 }
 
 /// Accept of the number that is offered: the program goes on, or lets the device go at once.
-fn accepted(hold: &mut HoldState, number: u64, may: bool) -> Came
-    ensures state { hold.new ≡ table.hold_after hold.old (table.offer_accepted hold.old hold.old.phase number may) }
-    ensures came { map_taken plain_down result ≡ table.came_of (table.offer_accepted hold.old hold.old.phase number may) }
+fn accepted(hold: &mut HoldState, number: u64, goes_on: bool) -> Came
+    ensures state { hold.new ≡ table.hold_after hold.old (table.offer_accepted hold.old hold.old.phase number goes_on) }
+    ensures came { map_taken plain_down result ≡ table.came_of (table.offer_accepted hold.old hold.old.phase number goes_on) }
 {
     let phase = hold.phase;
     match phase {
         HoldPhase::Offer {
             number: offered,
             path,
-        } if number == offered => begun(hold, offered, path, may),
+        } if number == offered => begun(hold, offered, path, goes_on),
         _ => Taken::ignored(),
     }
 }
@@ -103,16 +103,22 @@ fn left(hold: &mut HoldState, number: u64, connection: u64) -> Came
 }
 
 /// Back under a connection above the last seen: granted where the program is away and may come, refused elsewhere.
-fn asked_back(hold: &mut HoldState, path: Path, number: u64, connection: u64, may: bool) -> Came
-    ensures state { hold.new ≡ table.hold_after hold.old (table.asked_back hold.old hold.old.phase path number connection may) }
-    ensures came { map_taken plain_down result ≡ table.came_of (table.asked_back hold.old hold.old.phase path number connection may) }
+fn asked_back(
+    hold: &mut HoldState,
+    path: Path,
+    number: u64,
+    connection: u64,
+    path_allowed: bool,
+) -> Came
+    ensures state { hold.new ≡ table.hold_after hold.old (table.asked_back hold.old hold.old.phase path number connection path_allowed) }
+    ensures came { map_taken plain_down result ≡ table.came_of (table.asked_back hold.old hold.old.phase path number connection path_allowed) }
 {
     match hold.phase {
         HoldPhase::On { number: held, .. } if number == held && hold.seen < connection => {
             refusing(hold, path, held, connection)
         }
         HoldPhase::Away { number: held } if number == held && hold.seen < connection => {
-            if may {
+            if path_allowed {
                 granting(hold, path, held, connection)
             } else {
                 refusing(hold, path, held, connection)
@@ -188,12 +194,15 @@ fn noticed(hold: &mut HoldState, restarts: u64) -> Came
 }
 
 /// Attn where nothing holds the device: answered where the subchannel can show it.
-fn attended(hold: &mut HoldState, path: Path, attention: u64, may: bool) -> Came
-    ensures state { hold.new ≡ table.hold_after hold.old (table.attended hold.old hold.old.phase path attention may) }
-    ensures came { map_taken plain_down result ≡ table.came_of (table.attended hold.old hold.old.phase path attention may) }
+fn attended(hold: &mut HoldState, path: Path, attention: u64, can_be_shown: bool) -> Came
+    ensures state { hold.new ≡ table.hold_after hold.old (table.attended hold.old hold.old.phase path attention can_be_shown) }
+    ensures came { map_taken plain_down result ≡ table.came_of (table.attended hold.old hold.old.phase path attention can_be_shown) }
 {
     match hold.phase {
-        HoldPhase::Free if may => Taken::sending(path, PlainDown::of(Down::Got { attention })),
+        HoldPhase::Free if can_be_shown => Taken::sending(
+            path,
+            PlainDown::of(Down::Got { attention }),
+        ),
         _ => Taken::ignored(),
     }
 }

@@ -2,6 +2,7 @@
 
 mod finding_tests;
 mod functions_tests;
+mod instruction_bench;
 mod io_step_tests;
 mod sent_tests;
 mod setups;

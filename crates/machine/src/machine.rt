@@ -424,42 +424,10 @@ impl Machine {
         Ok(Reply::Done)
     }
 
-    /// Performs one event, with its reply in the log, where it begins an entry; a refusal changes nothing. Those of a channel program
-    /// are told apart here.
+    /// Performs one event, with its reply in the log, where it begins an entry; a refusal changes nothing.
     #[inline(always)]
-    pub fn perform<P: PathChoice>(
-        &mut self,
-        places: &SubchannelIndex,
-        choice: &P,
-        event: &Event,
-        log: &mut Log,
-    ) -> Result<(), Fault>
-        requires fits { Fits places.now self.old.subs }
-        requires subs { All CanCount self.old.subs }
-        requires units { All CanUnitCount self.old.units }
-        requires postable { All IsPostable self.old.subs }
-        requires requests { self.old.requests.numbers ≡ 0x100 }
-        requires room { 1 ≤ log.old.room }
-        requires fresh { log.old.reply ≡ reply_spec.Done }
-        ensures performs { spec.Performs self.old event.now (answer_in result log.new) self.new }
-        ensures ruled { GoesByRule P.picks self.old event.now (answer_in result log.new) self.new }
-        ensures kept { IsKept log.old log.new }
-        ensures refused { OnErr result (log.new ≡ log.old) }
-    {
-        match event {
-            Event::Up { subchannel, path } => self.up(places, *subchannel, *path, log),
-            Event::Down { subchannel, path } => self.down(places, *subchannel, *path, log),
-            Event::Report { unit, report } => self.tell_report(places, *unit, report, log),
-            Event::Choose { subchannel } => self.tell_choice(places, choice, *subchannel, log),
-            Event::Execute { cpu, instruction } => self.tell_code(places, *cpu, instruction, log),
-            _ => self.perform_other(places, choice, event, log),
-        }
-    }
-
-    /// Performs any event.
-    #[inline(never)]
     #[tactic(auto, using(crate::proofs::Storing::put_performs, crate::proofs::Storing::key_performs, crate::proofs::Storing::prefix_performs, crate::proofs::Storing::show_performs))]
-    fn perform_other<P: PathChoice>(
+    pub fn perform<P: PathChoice>(
         &mut self,
         places: &SubchannelIndex,
         choice: &P,
@@ -481,14 +449,14 @@ impl Machine {
         let answer = match event {
             Event::Up { subchannel, path } => return self.up(places, *subchannel, *path, log),
             Event::Down { subchannel, path } => return self.down(places, *subchannel, *path, log),
-            Event::Show { address, length } => return self.show(*address, *length, log),
-            Event::Execute { cpu, instruction } => {
-                return self.tell_code(places, *cpu, instruction, log);
-            }
+            Event::Report { unit, report } => return self.tell_report(places, *unit, report, log),
             Event::Choose { subchannel } => {
                 return self.tell_choice(places, choice, *subchannel, log);
             }
-            Event::Report { unit, report } => return self.tell_report(places, *unit, report, log),
+            Event::Execute { cpu, instruction } => {
+                return self.tell_code(places, *cpu, instruction, log);
+            }
+            Event::Show { address, length } => return self.show(*address, *length, log),
             Event::Act { unit, act } => self.act(places, *unit, *act),
             Event::Put { address, bytes } => self.put(*address, bytes),
             Event::SetKey { address, key } => self.set_key(*address, *key),

@@ -5,7 +5,7 @@ use Rattle.chan_model.specs.Reports.{Call}
 use Rattle.chan_model.specs.Reports.{DeviceAnswer}
 use Rattle.chan_events.specs.declared.reply.Entry.{Entry}
 use Rattle.unit_driver.specs.declared.turns.OwedCall.{OwedCall}
-use Rattle.unit_driver.specs.declared.keeping.KeptReport.{KeptReport}
+use Rattle.unit_driver.specs.declared.waiting.WaitingReport.{WaitingReport}
 use Rattle.channel_config.specs.Setup.{Setup}
 use Rattle.core_lock.specs.Seats.{Seated}
 use Rattle.machine_lock.specs.Working.{MakesOwed}
@@ -40,7 +40,7 @@ called old new owed answer was is = record {
   kept = subst (λ (o : Option OwedCall). IsAnswered o old.kept new.kept) (sym was) (answer, ap (λ (s : Seated). s.kept) is);
 }
 
-kept_called : (d : Setup) (roam : Bool) (at : ℕ) (first old new : Option KeptReport) (o : Option OwedCall) → IsOwedBy d roam at o → IsAnswered o old new → IsKeptFrom d roam at first old → IsKeptFrom d roam at first new
+kept_called : (d : Setup) (roam : Bool) (at : ℕ) (first old new : Option WaitingReport) (o : Option OwedCall) → IsOwedBy d roam at o → IsAnswered o old new → IsKeptFrom d roam at first old → IsKeptFrom d roam at first new
 kept_called d roam at first old new None by is from = subst (IsKeptFrom d roam at first) (sym is) from
 kept_called d roam at first old new (Some owed) by (answer, is) from = subst (IsKeptFrom d roam at first) (sym is) (inl (owed, answer, by, refl))
 

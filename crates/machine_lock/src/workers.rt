@@ -13,6 +13,13 @@ use core_lock::naming::Naming;
 use path_select::PathChoice;
 use std::sync::Wait;
 
+/// The worker of a unit, and whether the unit leaves its path once after each command.
+#[derive(Clone, Copy)]
+struct UnitWorker {
+    unit: u32,
+    roam: bool,
+}
+
 impl<J: Naming, P: PathChoice + Drop> Machine<J, P> {
     /// So many turns of the worker of a channel path, each under the lock. How many entries they added.
     pub fn path_worker<R: Wait>(&self, rt: &R, seat: &mut Seat<J>, chpid: u8, turns: u64) -> u64
@@ -54,7 +61,7 @@ impl<J: Naming, P: PathChoice + Drop> Machine<J, P> {
     {
         let mut added = 0;
         for _turn in 0..turns {
-            let entered = self.whole_turn(rt, seat, unit, device, gate, roam);
+            let entered = self.whole_turn(rt, seat, UnitWorker { unit, roam }, device, gate);
             added += count_of(entered);
         }
         added
@@ -66,18 +73,17 @@ impl<J: Naming, P: PathChoice + Drop> Machine<J, P> {
         &self,
         rt: &R,
         seat: &mut Seat<J>,
-        unit: u32,
+        worker: UnitWorker,
         device: &mut D,
         gate: &G,
-        roam: bool,
     ) -> Result<bool, Fault>
         requires { seat.old.value.owed ≡ None }
         ensures turns { seat.new.value.turns ≡ seat.old.value.turns + 1 }
         ensures owes { seat.new.value.owed ≡ None }
-        ensures turn { IsWholeTurn P.picks (G.passes gate.now) D.answers roam «unit» seat.old device.old result seat.new.value device.new }
-        ensures works { WorksUnit roam «unit» seat.old.value seat.new.value (turn_spec.count_in result) }
+        ensures turn { IsWholeTurn P.picks (G.passes gate.now) D.answers worker.roam worker.«unit» seat.old device.old result seat.new.value device.new }
+        ensures works { WorksUnit worker.roam worker.«unit» seat.old.value seat.new.value (turn_spec.count_in result) }
     {
-        let entered = self.unit_turn(rt, seat, unit, roam);
+        let entered = self.unit_turn(rt, seat, worker.unit, worker.roam);
         call_owed(seat, device, gate);
         entered
     }

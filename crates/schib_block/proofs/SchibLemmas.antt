@@ -1,5 +1,7 @@
 -- The words of a block, one by one.
-use Rattle.std.proofs.Common.{◌≡◌, ◌<◌, ℕ, List, [], ◌∷◌, slice_index, lit<}
+use Rattle.std.proofs.Common.{◌≡◌, ◌<◌, ℕ, List, [], ◌∷◌, slice_index, length, lit<, arith}
+use Rattle.zbits.specs.declared.layout.BitField.{BitField}
+use Rattle.zbits.specs.Layout.{AllShow}
 use Rattle.zbits.specs.Words.{word_at, words_from, words_of}
 
 -- the first seven of the words
@@ -25,3 +27,17 @@ status_three image words same =
     let b = same 8 (lit< tt) in
     let c = same 9 (lit< tt) in
     cc
+
+-- seven words show what their items show
+pub seven_shown : (xs : List ℕ) (tables : List (List BitField)) → length xs ≡ 7
+    → AllShow (slice_index xs 0 ∷ slice_index xs 1 ∷ slice_index xs 2 ∷ slice_index xs 3 ∷ slice_index xs 4 ∷ slice_index xs 5 ∷ slice_index xs 6 ∷ []) tables
+    → AllShow xs tables
+seven_shown (a ∷ b ∷ c ∷ d ∷ e ∷ f ∷ g ∷ []) tables n shown = shown
+seven_shown [] tables n shown = absurd (omega (arith, n))
+seven_shown (a ∷ []) tables n shown = absurd (omega (arith, n))
+seven_shown (a ∷ b ∷ []) tables n shown = absurd (omega (arith, n))
+seven_shown (a ∷ b ∷ c ∷ []) tables n shown = absurd (omega (arith, n))
+seven_shown (a ∷ b ∷ c ∷ d ∷ []) tables n shown = absurd (omega (arith, n))
+seven_shown (a ∷ b ∷ c ∷ d ∷ e ∷ []) tables n shown = absurd (omega (arith, n))
+seven_shown (a ∷ b ∷ c ∷ d ∷ e ∷ f ∷ []) tables n shown = absurd (omega (arith, n))
+seven_shown (a ∷ b ∷ c ∷ d ∷ e ∷ f ∷ g ∷ h ∷ xs) tables n shown = absurd (omega (arith, n))

@@ -65,7 +65,7 @@ impl Pmcw {
         ensures value { result ≡ pmcw_of_image image.now }
     {
         let [parameter, controls, masks, block, front, back, last, ..] = be_words::<13>(image);
-        Pmcw::of_words(parameter, controls, masks, block, front, back, last)
+        Pmcw::of_words(&[parameter, controls, masks, block, front, back, last])
     }
 
     /// Whether MODIFY SUBCHANNEL takes the word: LM and MM are zero (own).
@@ -117,18 +117,12 @@ impl Pmcw {
         ]
     }
 
-    fn of_words(
-        parameter: u32,
-        controls: u32,
-        masks: u32,
-        block: u32,
-        front: u32,
-        back: u32,
-        last: u32,
-    ) -> Pmcw
-        ensures shown { AllShow (parameter ∷ controls ∷ masks ∷ block ∷ front ∷ back ∷ last ∷ []) (pmcw_tables result) }
-        ensures value { result ≡ pmcw_of_words (parameter ∷ controls ∷ masks ∷ block ∷ front ∷ back ∷ last ∷ []) }
+    /// The word that seven words are.
+    fn of_words(words: &[u32; 7]) -> Pmcw
+        ensures shown { AllShow words.now (pmcw_tables result) }
+        ensures value { result ≡ pmcw_of_words words.now }
     {
+        let [parameter, controls, masks, block, front, back, last] = *words;
         Pmcw {
             parameter,
             subclass: field(controls, 2, 4) as u8,

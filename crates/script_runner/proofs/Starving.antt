@@ -16,7 +16,7 @@ use Rattle.script_rows.specs.declared.Action.{Action}
 use Rattle.script_rows.specs.declared.Action.TheVariants as action
 use Rattle.script_runner.specs.Acting.{ActionOutcome, Enters, Follows, Installed, IsUsedUp, PerformsAction, device_turn_of, answer_by, is_starved, outcome_of, report_with, turn_by, turn_by_next}
 use Rattle.unit_driver.specs.Reporting.{AskedCall, next_of}
-use Rattle.unit_driver.specs.declared.keeping.KeptReport.{KeptReport}
+use Rattle.unit_driver.specs.declared.waiting.WaitingReport.{WaitingReport}
 use Rattle.unit_driver.specs.declared.reporting.NextReport.{NextReport}
 use Rattle.unit_driver.specs.declared.reporting.NextReport.TheVariants.{Told, Asked, Nothing}
 use Rattle.script_runner.specs.declared.scripted_machine.Acted.{Acted}
@@ -89,7 +89,7 @@ next_lacks devices place (Asked asks) is = with_lacks asks (answer_by (slice_get
 next_lacks devices place Nothing is = absurd (cc)
 
 -- a unit has a report, or not, whatever memory there is
-pub turn_lacks : (devices : List AnyDevice) (place : ℕ) (kept : Option (Option KeptReport)) (turn : Option UnitTurn) → (turn_by devices place kept turn).report ≢ lacking
+pub turn_lacks : (devices : List AnyDevice) (place : ℕ) (kept : Option (Option WaitingReport)) (turn : Option UnitTurn) → (turn_by devices place kept turn).report ≢ lacking
 turn_lacks devices place None turn is = absurd (cc)
 turn_lacks devices place (Some kept) None is = absurd (cc)
 turn_lacks devices place (Some kept) (Some turn) is = next_lacks devices place (next_of kept turn) is
@@ -124,5 +124,5 @@ abbrev no_report : Fault → Result Report Fault
 no_report f = Err f
 
 -- where a unit has no report, its turn is not refused for want of memory
-pub turn_has_memory : (devices : List AnyDevice) (place : ℕ) (kept : Option (Option KeptReport)) (turn : Option UnitTurn) (f : Fault) → (turn_by devices place kept turn).report ≡ no_report f → refusal f ≢ refusal fault.NoMemory
+pub turn_has_memory : (devices : List AnyDevice) (place : ℕ) (kept : Option (Option WaitingReport)) (turn : Option UnitTurn) (f : Fault) → (turn_by devices place kept turn).report ≡ no_report f → refusal f ≢ refusal fault.NoMemory
 turn_has_memory devices place kept turn f is same = turn_lacks devices place kept turn (is ∙ ap no_report (ap fault_in same))

@@ -27,9 +27,9 @@ use Rattle.script_text.specs.declared.ActionResult.TheVariants as told
 use Rattle.script_text.specs.Text.{told_of}
 use Rattle.script_runner.specs.Race.{IsNewSeat}
 use Rattle.event_log.specs.Logs.{last_reply}
-use Rattle.unit_driver.specs.Keeping.{kept_by}
+use Rattle.unit_driver.specs.Waiting.{waits_by}
 use Rattle.unit_driver.specs.Reporting.{AskedCall, answered, next_of}
-use Rattle.unit_driver.specs.declared.keeping.KeptReport.{KeptReport}
+use Rattle.unit_driver.specs.declared.waiting.WaitingReport.{WaitingReport}
 use Rattle.unit_driver.specs.declared.reporting.NextReport.{NextReport}
 use Rattle.unit_driver.specs.declared.reporting.NextReport.TheVariants.{Told, Asked, Nothing}
 use Rattle.script_runner.specs.declared.scripted_machine.Acted.{Acted}
@@ -50,7 +50,7 @@ pub record Installed : Type 0 where
   pub past : Past
   pub books : Books
   pub devices : List AnyDevice
-  pub kept : List (Option KeptReport)
+  pub kept : List (Option WaitingReport)
 
 -- a machine that no lock guards and its one seat, as a past and its books
 abbrev pub past_of : LockedCore → HeldSeat → Past
@@ -146,7 +146,7 @@ turn_by_next devices place (Asked asks) = asked devices place asks
 turn_by_next devices place Nothing = turn_refused devices fault.NotNow
 
 -- the report that is kept for a unit, else the one of its work
-abbrev pub turn_by : List AnyDevice → ℕ → Option (Option KeptReport) → Option UnitTurn → DeviceTurn
+abbrev pub turn_by : List AnyDevice → ℕ → Option (Option WaitingReport) → Option UnitTurn → DeviceTurn
 turn_by devices place None turn = turn_refused devices fault.NoSuchUnit
 turn_by devices place (Some kept) None = turn_refused devices fault.NoSuchUnit
 turn_by devices place (Some kept) (Some turn) = turn_by_next devices place (next_of kept turn)
@@ -169,15 +169,12 @@ IsWritten place (Ok done) e r = (report : Report) × (e ≡ event.Report place r
 IsWritten place (Err f) e r = r ≡ Err f
 
 -- a report is kept where it was refused for want of memory or of room on a wire, and only there
-abbrev pub report_at : ℕ → Report → KeptReport
-report_at place report = record { «unit» = place; report = report }
-
 abbrev pub HandsIn : Installed → ℕ → Report → Result Reply Fault → Installed → Type 0
 HandsIn old place report r new =
     Enters old.past (event.Report place report) r new.past
     × (new.books ≡ booked old.books (event.Report place report) r)
     × (new.devices ≡ old.devices)
-    × (new.kept ≡ slice_set old.kept place (kept_by (report_at place report) r))
+    × (new.kept ≡ slice_set old.kept place (waits_by (event.Report place report) r))
 
 -- a turn of the device of a unit: its report is handed in, or it has none and nothing changes
 abbrev pub Follows : Installed → ℕ → Result Report Fault → Result Reply Fault → Installed → Type 0

@@ -21,7 +21,7 @@ use memory::{Supply, push};
 use path_select::Rotating;
 use std::alloc::{AllocError, Global};
 use subsystem::subsystem::Subsystem;
-use unit_driver::keeping::KeptReport;
+use unit_driver::waiting::WaitingReport;
 
 /// A core at the opening of a configuration, of which no seat was made.
 fn opening_core<J: Naming, S: CoreSupply>(
@@ -98,7 +98,7 @@ fn no_reports<S: Supply>(
     alloc: Global,
     supply: &mut S,
     count: usize,
-) -> Result<Vec<Option<KeptReport>>, AllocError>
+) -> Result<Vec<Option<WaitingReport>>, AllocError>
     ensures none { IfOk result (λ kept. kept.items ≡ replicate count None) }
     ensures given { OnOk result (S.refused supply.new ≡ S.refused supply.old) }
     ensures memory { OnErr result (S.refused supply.new ≡ true) }
@@ -115,7 +115,7 @@ pub(crate) fn opening_units<S: Supply>(
     alloc: Global,
     supply: &mut S,
     kinds: &[UnitKind],
-) -> Result<(Vec<AnyDevice>, Vec<Option<KeptReport>>), AllocError>
+) -> Result<(Vec<AnyDevice>, Vec<Option<WaitingReport>>), AllocError>
     ensures devices { IfOk result (λ both. both.0.items ≡ map device_of kinds.now) }
     ensures kept { IfOk result (λ both. both.1.items ≡ replicate (length kinds.now) None) }
     ensures given { OnOk result (S.refused supply.new ≡ S.refused supply.old) }

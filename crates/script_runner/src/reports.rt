@@ -10,15 +10,15 @@ use chan_model::report::{DeviceAnswer, LentCall, LentWork, Report};
 use device_law::answering::answer_to;
 use device_models::any_device::AnyDevice;
 use machine_model::state::UnitTurn;
-use unit_driver::keeping::KeptReport;
 use unit_driver::reporting::{NextReport, next_report};
+use unit_driver::waiting::WaitingReport;
 
 /// The report that is kept for a unit, else the one of its next work where this is its turn, written into a place. Where there is
 /// a call of its device, it is made.
 pub(crate) fn reported_by(
     devices: &mut Vec<AnyDevice>,
     unit: u32,
-    kept: &Option<KeptReport>,
+    kept: &Option<WaitingReport>,
     turn: &UnitTurn<LentWork<'_>>,
     report: &mut Report,
 ) -> Result<(), Fault>

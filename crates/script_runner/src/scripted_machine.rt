@@ -47,8 +47,8 @@ use std::marker::Model;
 use std::sync::Wait;
 use std::thread::Threads;
 use subsystem::subsystem::Subsystem;
-use unit_driver::keeping::{KeptReport, forget, keep_refused};
 use unit_driver::reporting::no_report;
+use unit_driver::waiting::{WaitingReport, forget, keep_refused};
 
 /// A channel subsystem that no lock guards, with the seat from which its events are entered, a device for each unit, and by
 /// unit the report that is still to be handed in: one for which there was no memory or no room on a wire.
@@ -57,7 +57,7 @@ pub struct ScriptedMachine<J: Naming> {
     core: Core<J, Rotating>,
     seat: Seat<J>,
     devices: Vec<AnyDevice>,
-    kept: Vec<Option<KeptReport>>,
+    kept: Vec<Option<WaitingReport>>,
 }
 
 /// What an action came to that was not refused.
@@ -354,7 +354,7 @@ impl<J: Naming> ScriptedMachine<J> {
 fn report_among<J: Naming>(
     core: &Core<J, Rotating>,
     devices: &mut Vec<AnyDevice>,
-    kept: &[Option<KeptReport>],
+    kept: &[Option<WaitingReport>],
     unit: u32,
     report: &mut Report,
 ) -> Result<(), Fault>

@@ -277,9 +277,9 @@ pub fn up_sub(
     may_come_up(storage, sub, path, returns)?;
     let available = sub.state.up();
     let first = first_up(&sub.wires, path);
-    let taken = take_up(storage, &mut sub.state, path, &first, returns, sent);
+    let met = take_up(storage, &mut sub.state, path, &first, returns, sent);
     let answer = sent.get();
-    log.meet_up(&first, taken, &answer);
+    log.meet_up(&first, met.is_taken(), &answer);
     sub.wires.drop_up(path);
     send_any_down(&mut sub.wires, &available, &answer);
     Ok(())

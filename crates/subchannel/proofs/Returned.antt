@@ -4,6 +4,7 @@ use Rattle.chan_model.specs.Signals.{Down}
 use Rattle.chan_model.specs.declared.signal.OnPath.{OnPath}
 use Rattle.chan_model.specs.declared.signal.Taken.{Taken}
 use Rattle.chan_model.specs.HoldTable.{HoldStep, hold_after, came_of}
+use Rattle.active_program.specs.declared.met.Met.{Met}
 use Rattle.active_program.specs.Sent.{came_so}
 use Rattle.subchannel_model.specs.declared.state.SubchannelState.{SubchannelState}
 use Rattle.subchannel_model.specs.declared.state.UpStep.{UpStep}
@@ -15,10 +16,10 @@ ungranted : (s : SubchannelState) (came : Taken Down) (p : ℕ) (b : Bool) → b
 ungranted s came p false e = refl
 ungranted s came p true e = absurd (cc e)
 
-pub back_refused : (s : SubchannelState) (p : ℕ) (step : Option HoldStep) (next : SubchannelState) (taken : Bool) (sent : Option (OnPath Down)) →
-    subchannel_stepped next (came_so taken sent) ≡ hold_outcome s step → is_granted sent ≡ false →
-    subchannel_stepped next (came_so taken sent) ≡ takes_back s p step
-back_refused s p step next taken sent e g =
+pub back_refused : (s : SubchannelState) (p : ℕ) (step : Option HoldStep) (next : SubchannelState) (met : Met) (sent : Option (OnPath Down)) →
+    subchannel_stepped next (came_so met sent) ≡ hold_outcome s step → is_granted sent ≡ false →
+    subchannel_stepped next (came_so met sent) ≡ takes_back s p step
+back_refused s p step next met sent e g =
     e
     ∙ ungranted (record s { hold = hold_after s.hold step }) (came_of step) p (is_granted (came_of step).sent)
     (ap (λ (n : UpStep). is_granted n.came.sent) (sym e) ∙ g)

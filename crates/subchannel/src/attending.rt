@@ -8,6 +8,7 @@ ghost use Rattle.subchannel_model.specs.Attention as on_attention;
 ghost use Rattle.active_program.specs.Stepping.{subchannel_stepped};
 
 use active_program::answers::by_hold;
+use active_program::met::Met;
 use active_program::sent::SentDown;
 use chan_model::lent::LentUp;
 use chan_model::names::Path;
@@ -51,15 +52,15 @@ pub(crate) fn attend(
     signal: &LentUp<'_>,
     status: DeviceStatus,
     sent: &mut SentDown,
-) -> bool
+) -> Met
     requires { state.old.state.serials.made < 2 ^ 63 }
     ensures step { subchannel_stepped state.new.state (came_so result sent.new) ≡ on_attention.takes_attention state.old.state status (hold_takes state.old.state.hold path (lent_up signal.now) (on_attention.may_take_attention state.old.state)) }
     ensures setup { state.new.setup ≡ state.old.setup }
 {
     let may = may_attend(state);
-    let taken = by_hold(state, path, signal, may, sent);
-    if taken && status != DeviceStatus::CONTROL_UNIT_END {
+    let met = by_hold(state, path, signal, may, sent);
+    if met.is_taken() && status != DeviceStatus::CONTROL_UNIT_END {
         make_pending(state, &StatusCause::Attention);
     }
-    taken
+    met
 }

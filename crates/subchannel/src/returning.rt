@@ -8,6 +8,7 @@ ghost use Rattle.subchannel_model.specs.Back as on_back;
 ghost use Rattle.active_program.specs.Stepping.{subchannel_stepped};
 
 use active_program::answers::by_hold;
+use active_program::met::Met;
 use active_program::sent::SentDown;
 use chan_model::lent::LentUp;
 use chan_model::names::Path;
@@ -22,16 +23,16 @@ pub(crate) fn come_back(
     signal: &LentUp<'_>,
     returns: bool,
     sent: &mut SentDown,
-) -> bool
+) -> Met
     ensures step { subchannel_stepped state.new.state (came_so result sent.new) ≡ on_back.takes_back state.old.state path (hold_takes state.old.state.hold path (lent_up signal.now) returns) }
     ensures setup { state.new.setup ≡ state.old.setup }
 {
-    let taken = by_hold(state, path, signal, returns, sent);
+    let met = by_hold(state, path, signal, returns, sent);
     if is_granted(sent) {
         state.mark_last_used(path);
         state.rest_mut().last_path = Some(path);
     }
-    taken
+    met
 }
 
 /// Whether an answer is a Grant.

@@ -19,6 +19,7 @@ use crate::returning::come_back;
 use active_program::accepting::accept;
 use active_program::answers::{by_hold, ignored, quiet, take_by};
 use active_program::ending::end_command;
+use active_program::met::Met;
 use active_program::moving::take_data;
 use active_program::sent::SentDown;
 use chan_model::lent::LentUp;
@@ -42,28 +43,23 @@ fn do_clear(state: &mut PackedState)
 }
 
 /// Cleared: the device was reset.
-fn reset_taken(
-    state: &mut PackedState,
-    path: Path,
-    signal: &LentUp<'_>,
-    sent: &mut SentDown,
-) -> bool
+fn reset_taken(state: &mut PackedState, path: Path, signal: &LentUp<'_>, sent: &mut SentDown) -> Met
     requires { state.old.state.serials.made < 2 ^ 63 }
     ensures step { subchannel_stepped state.new.state (came_so result sent.new) ≡ on_cleared.takes_cleared state.old.state (hold_takes state.old.state.hold path (lent_up signal.now) false) }
     ensures setup { state.new.setup ≡ state.old.setup }
 {
     let mut hold = Hold::of(state.rest().hold);
-    let taken = take_by(&mut hold, path, signal, false, sent);
-    if !taken {
+    let met = take_by(&mut hold, path, signal, false, sent);
+    if !met.is_taken() {
         return ignored(sent);
     }
     state.rest_mut().hold = hold.state();
     do_clear(state);
-    taken
+    met
 }
 
 /// Notice: the unit restarted. A count above the one known becomes known, and the hold is to be reset.
-fn notice(state: &mut PackedState, restarts: u64, sent: &mut SentDown) -> bool
+fn notice(state: &mut PackedState, restarts: u64, sent: &mut SentDown) -> Met
     requires made { state.old.state.serials.made < 2 ^ 63 }
     requires drawn { state.old.state.drawn < 2 ^ 63 }
     ensures step { subchannel_stepped state.new.state (came_so result sent.new) ≡ on_notice.takes_notice state.old.state restarts }
@@ -87,7 +83,7 @@ pub fn take_unmoved(
     signal: &LentUp<'_>,
     returns: bool,
     sent: &mut SentDown,
-) -> bool
+) -> Met
     requires made { state.old.state.serials.made < 2 ^ 63 }
     requires drawn { state.old.state.drawn < 2 ^ 63 }
     requires below { command.AreNumbersBelow state.old.state.begun }
@@ -115,7 +111,7 @@ pub fn take_up(
     signal: &LentUp<'_>,
     returns: bool,
     sent: &mut SentDown,
-) -> bool
+) -> Met
     requires made { state.old.state.serials.made < 2 ^ 63 }
     requires drawn { state.old.state.drawn < 2 ^ 63 }
     requires below { command.AreNumbersBelow state.old.state.begun }

@@ -70,14 +70,14 @@ fn telling(unit: &UnitState, path: Path) -> Came
 }
 
 /// Select: ignored at or below the floor of its side.
-fn offered(unit: &mut UnitState, side: Side, path: Path, number: u64, may: bool) -> Came
-    ensures state { unit.new ≡ table.unit_after unit.old (table.unit_works unit.old side path (down.Select number) may) }
-    ensures came { map_taken plain_up result ≡ table.came_of (table.unit_works unit.old side path (down.Select number) may) }
+fn offered(unit: &mut UnitState, side: Side, path: Path, number: u64, may_serve: bool) -> Came
+    ensures state { unit.new ≡ table.unit_after unit.old (table.unit_works unit.old side path (down.Select number) may_serve) }
+    ensures came { map_taken plain_up result ≡ table.came_of (table.unit_works unit.old side path (down.Select number) may_serve) }
 {
     let own = unit.own;
     if side_of(unit, side).floor < number {
         raise(unit, side, number);
-        selected(unit, own, side, path, number, may)
+        selected(unit, own, side, path, number, may_serve)
     } else {
         Taken::ignored()
     }
@@ -99,12 +99,19 @@ fn raise(unit: &mut UnitState, side: Side, number: u64)
 }
 
 /// Select above the floor: accepted where nothing holds the device and the control unit may serve it.
-fn selected(unit: &mut UnitState, own: Own, side: Side, path: Path, number: u64, may: bool) -> Came
-    ensures state { unit.new ≡ table.unit_after unit.old (table.selected unit.old own side path number may) }
-    ensures came { map_taken plain_up result ≡ table.came_of (table.selected unit.old own side path number may) }
+fn selected(
+    unit: &mut UnitState,
+    own: Own,
+    side: Side,
+    path: Path,
+    number: u64,
+    may_serve: bool,
+) -> Came
+    ensures state { unit.new ≡ table.unit_after unit.old (table.selected unit.old own side path number may_serve) }
+    ensures came { map_taken plain_up result ≡ table.came_of (table.selected unit.old own side path number may_serve) }
 {
     match own {
-        Own::Idle if may => {
+        Own::Idle if may_serve => {
             hold(unit, side, path, number);
             Taken::sending(path, PlainUp::of(Up::Accept { number }))
         }

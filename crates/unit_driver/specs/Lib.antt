@@ -1,3 +1,3 @@
-pub mod Keeping
+pub mod Waiting
 pub mod Turns
 pub mod Reporting

@@ -7,13 +7,13 @@ use Rattle.chan_model.specs.declared.names.Side.{Side}
 use Rattle.chan_model.specs.declared.report.Work.TheVariants as work
 use Rattle.machine_model.specs.UnitTurns.{UnitTurn}
 use Rattle.machine_model.specs.declared.state.UnitTurn.TheVariants.{Takes, Works, Away, Rests}
-use Rattle.unit_driver.specs.declared.keeping.KeptReport.{KeptReport}
+use Rattle.unit_driver.specs.declared.waiting.WaitingReport.{WaitingReport}
 use Rattle.unit_driver.specs.declared.reporting.NextReport.{NextReport}
 use Rattle.unit_driver.specs.declared.reporting.NextReport.TheVariants.{Told, Asked, Nothing}
 use Rattle.unit_driver.specs.declared.turns.OwedCall.{OwedCall}
 
 -- the report of what a device answered to a call that was owed, of the place of the call
-abbrev pub report_of : OwedCall → DeviceAnswer → KeptReport
+abbrev pub report_of : OwedCall → DeviceAnswer → WaitingReport
 report_of owed answer = record {
   «unit» = owed.«unit»;
   report = record { side = owed.side; number = owed.number; command = owed.command; sequence = owed.sequence; answer = answer };
@@ -21,7 +21,7 @@ report_of owed answer = record {
 
 -- the call that is owed is made, by the relation of the device between the device before it, the call, its answer and the device after
 -- it; this is the report
-abbrev pub IsMade : {D : Type 0} → (D → Call → DeviceAnswer → D → Type 0) → OwedCall → D → KeptReport → D → Type 0
+abbrev pub IsMade : {D : Type 0} → (D → Call → DeviceAnswer → D → Type 0) → OwedCall → D → WaitingReport → D → Type 0
 IsMade answers owed old kept new = (answer : DeviceAnswer) × answers old owed.call answer new × (kept ≡ report_of owed answer)
 
 -- a call of a unit's device that is asked for, with the place that it is of
@@ -43,7 +43,7 @@ next_by_work (work.Call side number command sequence call) =
     Asked (record { side = side; number = number; command = command; sequence = sequence; call = call })
 
 -- what a unit is to report next: what is kept for it, else that of its work; nothing where it is to take a signal, is away or rests
-abbrev pub next_of : Option KeptReport → UnitTurn → NextReport Report AskedCall
+abbrev pub next_of : Option WaitingReport → UnitTurn → NextReport Report AskedCall
 next_of (Some kept) turn = Told kept.report
 next_of None (Takes id path) = Nothing
 next_of None (Works w) = next_by_work w

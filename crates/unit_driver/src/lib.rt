@@ -1,4 +1,4 @@
-//! What drives a unit: the report that is kept for it until it is entered, what its turn is for, and the call of its device
+//! What drives a unit: the report that waits for it until it is entered, what its turn is for, and the call of its device
 //! (own).
 //!
 //! Used alone, this crate promises: a turn of a unit is what its definition gives for what the subsystem says of the unit; what
@@ -8,6 +8,6 @@
 //! the events. Nothing here takes memory.
 #![tactic(auto)]
 
-pub mod keeping;
 pub mod reporting;
 pub mod turns;
+pub mod waiting;

@@ -5,8 +5,8 @@ ghost use Rattle.chan_model.specs.Reports.{lent_work};
 ghost use Rattle.machine_model.specs.UnitTurns.{lent_turn};
 ghost use Rattle.unit_driver.specs.Reporting as spec;
 
-use crate::keeping::KeptReport;
 use crate::turns::OwedCall;
+use crate::waiting::WaitingReport;
 use chan_model::names::Side;
 use chan_model::report::{DeviceAnswer, LentCall, LentWork, Report, Work};
 use device_law::Device;
@@ -26,10 +26,10 @@ pub enum NextReport<R, C> {
 
 impl OwedCall {
     /// The report of what the device answered to it.
-    pub fn report(&self, answer: DeviceAnswer) -> KeptReport
+    pub fn report(&self, answer: DeviceAnswer) -> WaitingReport
         ensures { result ≡ spec.report_of self.now answer }
     {
-        KeptReport {
+        WaitingReport {
             unit: self.unit,
             report: Report {
                 side: self.side,
@@ -42,7 +42,7 @@ impl OwedCall {
     }
 
     /// Makes the call: the report of what the device answered.
-    pub fn make<D: Device>(&self, device: &mut D) -> KeptReport
+    pub fn make<D: Device>(&self, device: &mut D) -> WaitingReport
         ensures made { spec.IsMade D.answers self.now device.old result device.new }
         ensures opening { D.opening device.new ≡ D.opening device.old }
     {
@@ -53,7 +53,7 @@ impl OwedCall {
 /// Writes the report that a unit hands in next into a place: the one that is kept for it, else that of its work. Where it is
 /// what the device answers to a call, the call is answered, and the place lacks the answer alone.
 pub fn next_report<'a>(
-    kept: &Option<KeptReport>,
+    kept: &Option<WaitingReport>,
     turn: &UnitTurn<LentWork<'a>>,
     report: &mut Report,
 ) -> NextReport<(), LentCall<'a>>
@@ -74,7 +74,7 @@ pub fn next_report<'a>(
 /// The report that a unit hands in next, with the call of its device where there is one. None where there is no report now.
 pub fn reported<D: Device>(
     device: &mut D,
-    kept: &Option<KeptReport>,
+    kept: &Option<WaitingReport>,
     turn: &UnitTurn<LentWork<'_>>,
 ) -> Option<Report>
     ensures reported { spec.IsReported D.answers (spec.next_of kept.now (lent_turn turn.now)) device.old result device.new }

@@ -88,6 +88,14 @@ pub fn add_worker<J: Naming>(
     }
 }
 
+/// What the workers of units are to do: from which unit on, whether the units leave their paths, and how many turns.
+#[derive(Clone, Copy)]
+struct Shift {
+    first: u32,
+    roam: bool,
+    turns: u64,
+}
+
 impl<J: Naming> Hand<J> {
     /// Its seat.
     fn into_seat(self) -> Seat<J> {
@@ -113,16 +121,12 @@ impl<J: Naming> Hand<J> {
             Task::Program(_) | Task::Looks | Task::Operator => 0,
             Task::Path(chpid) => machine.path_worker(rt, &mut self.seat, *chpid, turns),
             Task::Units { first, devices } => {
-                unit_turns(
-                    rt,
-                    machine,
-                    &mut self.seat,
-                    *first,
-                    devices,
-                    gate,
+                let shift = Shift {
+                    first: *first,
                     roam,
                     turns,
-                )
+                };
+                unit_turns(rt, machine, &mut self.seat, devices, gate, shift)
             }
         }
     }
@@ -133,20 +137,18 @@ fn unit_turns<J: Naming, G: Gate, R: Wait>(
     rt: &R,
     machine: &Machine<J, Rotating>,
     seat: &mut Seat<J>,
-    first: u32,
     devices: &mut Vec<AnyDevice>,
     gate: &G,
-    roam: bool,
-    turns: u64,
+    shift: Shift,
 ) -> u64
     requires { seat.old.value.owed ≡ None }
     ensures { seat.new.value.owed ≡ None }
 {
     let mut added = 0u64;
-    let mut unit = first;
+    let mut unit = shift.first;
     for place in 0..devices.len() {
         let device = &mut devices[place];
-        let more = machine.device_worker(rt, seat, unit, device, gate, roam, turns);
+        let more = machine.device_worker(rt, seat, unit, device, gate, shift.roam, shift.turns);
         added = added.saturating_add(more);
         unit = unit.saturating_add(1);
     }

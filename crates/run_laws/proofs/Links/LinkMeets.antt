@@ -41,7 +41,6 @@ use Rattle.subchannel_model.specs.declared.state.ProgramPosition.{ProgramPositio
 use Rattle.subchannel_model.specs.declared.state.SubchannelState.{SubchannelState}
 use Rattle.subchannel_model.specs.declared.state.UpStep.{UpStep}
 use Rattle.subchannel_model.specs.Ends.{has_status_modifier, has_shown, chains_command}
-use Rattle.subchannel_model.specs.Causes as causes
 use Rattle.subchannel_model.specs.Causes.{with_cause}
 use Rattle.subchannel_model.specs.declared.cause.StatusCause.TheVariants as cause
 use Rattle.subchannel_model.specs.Outcomes as outcomes
@@ -69,7 +68,7 @@ use Rattle.run_laws.proofs.Bytes.Accesses.{AreAccesses}
 use Rattle.run_laws.proofs.Traces.Parts.{IsSame, absorbed-same, next_chunk-same, located-same, brought-same, room-seq, WentOn}
 use Rattle.run_laws.proofs.Traces.Holds.{IsPhase, IsHeld, HasWork}
 use Rattle.run_laws.proofs.Traces.HoldMeets.{chains-facts, next-went}
-use Rattle.run_laws.proofs.Traces.Caused.{IsUninterrupted, suspending-workless, fault-begun, halt-begun, clear-begun, attention-begun}
+use Rattle.run_laws.proofs.Traces.Caused.{IsUninterrupted, suspending-workless, fault-begun, end-begun, halt-begun, clear-begun, attention-begun}
 use Rattle.run_laws.proofs.Bytes.UnitFlows.{View, Flow, IsGive, IsData, IsGood, answered-hand, answered-flow, answered-give, answered-data, located-give, located-data, located-hand, located-flow}
 use Rattle.run_laws.proofs.Bytes.UnitFlows as flows
 use Rattle.run_laws.proofs.Commands.UnitGrowth.{codes_of}
@@ -433,14 +432,6 @@ module _ (laws : AreLaws) (accesses : AreAccesses) (storage : Contents) (side : 
           next-over b (with_cause (on_end.with_allegiance_after_end s signal) (cause.FetchFault walk.tried check (residual (with_first_end b).transfer.moving))) (with_acts k.now acts)
           (fault-begun (on_end.with_allegiance_after_end s signal) s.begun refl) o refl (subst Went c went).1
 
-  end-begun : (b : ActiveProgram) (signal : EndSignal) (last : Bool) → is_last_end signal.status ≡ last →
-      (on_end.with_end_status s b signal).begun ≡ (if last then None else Some (has_shown b))
-  end-begun b signal last e = ap (λ (x : Bool). (causes.programs_after_end s b x).begun) e ∙ by last
-    where
-      by : (x : Bool) → (causes.programs_after_end s b x).begun ≡ (if x then None else Some (has_shown b))
-      by true = refl
-      by false = refl
-
   ends-by : (b : ActiveProgram) (signal : EndSignal) (x y : Bool) → chains_command s.scsw b signal.status signal.more ≡ x → s.begun ≡ Some b → IsOver b →
       Goes
       (if x then (if y then on_end.chains_with storage s (with_first_end b) signal (next_command storage (with_first_end b).transfer (has_status_modifier signal.status))
@@ -457,10 +448,10 @@ module _ (laws : AreLaws) (accesses : AreAccesses) (storage : Contents) (side : 
       x = on_end.with_end_status s b signal
 
       stops : (last : Bool) → is_last_end signal.status ≡ last → Goes (if last then outcomes.device_released x else outcomes.signal_taken x) (stories.ends_alone signal.status k)
-      stops true l = next-over b x (stories.ends_alone signal.status k).now (end-begun b signal true l) o refl refl
+      stops true l = next-over b x (stories.ends_alone signal.status k).now (end-begun s b signal true l) o refl refl
       stops false l =
           mode-ended signal.status side x.begun k downs (taken ups path) u
-          (marked b (has_shown b) x.begun None e (end-begun b signal false l) (record { code = refl; command = refl; sequence = refl; moving = refl }) tt)
+          (marked b (has_shown b) x.begun None e (end-begun s b signal false l) (record { code = refl; command = refl; sequence = refl; moving = refl }) tt)
 
   module _ (signal : EndSignal)
       (front : (P : Option CurrentCommand → Type 0) (Q : ℕ → List ℕ → Type 0) (R : ℕ → Load → Type 0) → IsWired side k.number m P Q R downs ups u → Front R (up.End signal.number signal.command signal.status signal.more)) where

@@ -1,15 +1,18 @@
 -- What a cause of status keeps of a subchannel, and the command at work after its block's interruption.
-use Rattle.std.proofs.Common.{◌≡◌, refl, ℕ, Bool, true, false, Option, None, Some, inl, inr}
+use Rattle.std.proofs.Common.{◌≡◌, refl, ap, ◌∙◌, ℕ, Bool, true, false, Option, None, Some, inl, inr}
 use Rattle.std.specs.Prelude.{◌⊎◌, if◌then◌else◌}
 use Rattle.chan_model.specs.UnitReports.{is_last_end}
 use Rattle.ccw_walk.specs.Places.{WalkPlace}
 use Rattle.data_move.specs.Moving.{residual}
 use Rattle.subchannel_model.specs.declared.cause.StatusCause.{StatusCause}
 use Rattle.subchannel_model.specs.declared.cause.StatusCause.TheVariants as cause
+use Rattle.subchannel_model.specs.declared.signals.EndSignal.{EndSignal}
 use Rattle.subchannel_model.specs.declared.state.ActiveProgram.{ActiveProgram}
 use Rattle.subchannel_model.specs.declared.state.Program.{Program}
 use Rattle.subchannel_model.specs.declared.state.SubchannelState.{SubchannelState}
 use Rattle.subchannel_model.specs.Causes.{row_of, with_cause, without_begun, without_waiting, programs_after_end}
+use Rattle.subchannel_model.specs.Ends.{has_shown}
+use Rattle.subchannel_model.specs.End.{with_end_status}
 use Rattle.subchannel_model.specs.Programs.{without_programs}
 use Rattle.subchannel_model.specs.Halt.{halt_begun, drops_status, status_dropped, halted}
 use Rattle.subchannel_model.specs.Test.{ends_suspended, tested_wholly, tested}
@@ -55,6 +58,15 @@ cause-kept s c = let k : IsHoldKept s (row_of s c).left = programs-kept s c in r
 pub path-begun : (s : SubchannelState) (p : Option Program) → (without_waiting p s).begun ≡ s.begun
 path-begun s None = refl
 path-begun s (Some p) = refl
+
+-- an end leaves the program at work, its status shown, unless it is the last
+pub end-begun : (s : SubchannelState) (b : ActiveProgram) (signal : EndSignal) (last : Bool) → is_last_end signal.status ≡ last →
+    (with_end_status s b signal).begun ≡ (if last then None else Some (has_shown b))
+end-begun s b signal last e = ap (λ (x : Bool). (programs_after_end s b x).begun) e ∙ by last
+  where
+    by : (x : Bool) → (programs_after_end s b x).begun ≡ (if x then None else Some (has_shown b))
+    by true = refl
+    by false = refl
 
 -- a check ends the program at work, or the one that was to begin
 pub fault-begun : (s : SubchannelState) (b : Option ActiveProgram) → s.begun ≡ b → (without_begun b s).begun ≡ None

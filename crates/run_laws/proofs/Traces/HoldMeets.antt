@@ -67,7 +67,7 @@ use Rattle.run_laws.proofs.Bytes.Accesses.{AreAccesses}
 use Rattle.run_laws.proofs.Traces.Ties.{AreLaws, Tied, changed, spot-counts}
 use Rattle.run_laws.proofs.Traces.Parts.{IsDone, IsAtWork, HasArrived, done-of, arrived-none, gives-work, takes_in-work, WentOn, goes-on, IsSame, absorbed-same, next_chunk-same, located-same, brought-same, room-same}
 use Rattle.subchannel_model.specs.Losing.{is_offered_or_held, reset_with, reset_for}
-use Rattle.run_laws.proofs.Traces.Holds.{IsPhase, IsDrawn, fresh-marked, IsMarked, HasWork, IsStanding, IsHeld, IsHold, done-held, phase-some, phase-none, busy-phase, left-phase, back-phase, released-phase, attended-phase, hold_outcome-held, back-held, attention-held, device_released-held, standing-some, none-stands, halt_performed-held, takes_cleared-held, nothing-done, past-done}
+use Rattle.run_laws.proofs.Traces.Holds.{IsPhase, IsDrawn, fresh-marked, IsMarked, HasWork, IsStanding, IsHeld, IsHold, done-held, phase-some, phase-none, unshown-begun, busy-phase, left-phase, back-phase, released-phase, attended-phase, hold_outcome-held, back-held, attention-held, device_released-held, standing-some, none-stands, halt_performed-held, takes_cleared-held, nothing-done, past-done}
 use Rattle.run_laws.proofs.Traces.Endings.{ended-work, with_ended-work}
 use Rattle.run_laws.proofs.Traces.Standing.{suspended-unchecked}
 
@@ -447,18 +447,6 @@ module _ (laws : AreLaws) (accesses : AreAccesses) where
   on-held storage s k signal false h = h
 
   -- the hold is to be reset: no program is begun any more
-  unshown-begun : (phase : HoldPhase) (n sent : ℕ) (w : Option Program) (b : Option ActiveProgram) (d : Option ProgramPosition) → (is_offered_or_held phase && has_any w b d) ≡ false →
-      IsPhase phase n b sent → b ≡ None
-  unshown-begun phase n sent w None d f k = refl
-  unshown-begun hold.Free n sent w (Some b) d f k = k
-  unshown-begun (hold.Offer t p) n sent w (Some b) d f k = k.1
-  unshown-begun (hold.On t p c) n sent None (Some b) d f k = absurd (cc f)
-  unshown-begun (hold.On t p c) n sent (Some w) (Some b) d f k = absurd (cc f)
-  unshown-begun (hold.Away t) n sent None (Some b) d f k = absurd (cc f)
-  unshown-begun (hold.Away t) n sent (Some w) (Some b) d f k = absurd (cc f)
-  unshown-begun (hold.Letting t p) n sent w (Some b) d f k = k.1
-  unshown-begun (hold.Reset r) n sent w (Some b) d f k = k.0
-
   pub reset-held : (s : SubchannelState) (k : ProgramTrace) (shows : Bool) → (is_offered_or_held s.hold.phase && has_any s.waiting s.begun s.suspended) ≡ shows → IsHeld s k → IsHeld (reset_with s shows) k
   reset-held s k true e h =
       let n : k.number ≤ s.drawn = h.number in

@@ -20,7 +20,8 @@ use Rattle.subchannel_model.specs.declared.state.SubchannelState.{SubchannelStat
 use Rattle.subchannel_model.specs.declared.state.ProgramPosition.{ProgramPosition}
 use Rattle.subchannel_model.specs.declared.cause.StatusCause.TheVariants as cause
 use Rattle.subchannel_model.specs.Causes.{with_cause}
-use Rattle.subchannel_model.specs.Programs.{without_programs}
+use Rattle.subchannel_model.specs.Programs.{has_any, without_programs}
+use Rattle.subchannel_model.specs.Losing.{is_offered_or_held}
 use Rattle.subchannel_model.specs.Attention.{with_attention}
 use Rattle.subchannel_model.specs.Outcomes.{device_released, hold_outcome}
 use Rattle.subchannel_model.specs.Back.{takes_back}
@@ -125,6 +126,19 @@ phase-none (hold.On t p d) n b sent k = k
 phase-none (hold.Away t) n b sent k = k
 phase-none (hold.Letting t p) n b sent k = (k.0, refl)
 phase-none (hold.Reset r) n b sent k = (refl, k.1)
+
+-- where the hold is reset and nothing is to be shown, no program is begun
+pub unshown-begun : (phase : HoldPhase) (n sent : ℕ) (w : Option Program) (b : Option ActiveProgram) (d : Option ProgramPosition) → (is_offered_or_held phase && has_any w b d) ≡ false →
+    IsPhase phase n b sent → b ≡ None
+unshown-begun phase n sent w None d f k = refl
+unshown-begun hold.Free n sent w (Some b) d f k = k
+unshown-begun (hold.Offer t p) n sent w (Some b) d f k = k.1
+unshown-begun (hold.On t p c) n sent None (Some b) d f k = absurd (cc f)
+unshown-begun (hold.On t p c) n sent (Some w) (Some b) d f k = absurd (cc f)
+unshown-begun (hold.Away t) n sent None (Some b) d f k = absurd (cc f)
+unshown-begun (hold.Away t) n sent (Some w) (Some b) d f k = absurd (cc f)
+unshown-begun (hold.Letting t p) n sent w (Some b) d f k = k.1
+unshown-begun (hold.Reset r) n sent w (Some b) d f k = k.0
 
 phase-free : (phase : HoldPhase) (n : ℕ) (b : Option ActiveProgram) (sent : ℕ) → phase ≡ hold.Free → IsPhase phase n b sent → b ≡ None
 phase-free phase n b sent e k = subst (λ (x : HoldPhase). IsPhase x n b sent) e k

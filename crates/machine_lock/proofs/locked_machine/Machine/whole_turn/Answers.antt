@@ -11,4 +11,4 @@ returns-clause-turn g c = record {
 
 pub returns-clause-works : goal.returns-clause-works
 returns-clause-works g c =
-    works_called c.args.roam c.args.«unit» c.args.seat.now.value c.unit_turn-entered.new.seat.value c.call_owed.new.seat.value (turn_spec.count_in c.unit_turn-entered.result) c.unit_turn-entered.ensures.works c.unit_turn-entered.ensures.owes c.call_owed.ensures.called
+    works_called c.args.worker.roam c.args.worker.«unit» c.args.seat.now.value c.unit_turn-entered.new.seat.value c.call_owed.new.seat.value (turn_spec.count_in c.unit_turn-entered.result) c.unit_turn-entered.ensures.works c.unit_turn-entered.ensures.owes c.call_owed.ensures.called
