@@ -4,6 +4,7 @@ use Rattle.orb_block.specs.declared.Orb.{Orb}
 use Rattle.ccw_codec.specs.declared.Ccw.{Ccw}
 use Rattle.ccw_walk.specs.declared.program.Reading.{Reading}
 use Rattle.ccw_walk.specs.declared.program.Reading.TheVariants.{Takes}
+use Rattle.ccw_walk.specs.Sequences.{Sequence, Nothing, ◌▸◌}
 use Rattle.ccw_walk.specs.Acts.{Act, Block, Word}
 use Rattle.ccw_walk.specs.Blocks.{reads}
 use Rattle.ccw_walk.specs.Programs.{Command, role_of, commands, code}
@@ -19,10 +20,10 @@ abbrev pub reach : ℕ → Ccw → Reach
 reach code ccw = record { ccw = ccw; skipped = ccw.skip && brings_in code; words = [] }
 
 -- data that is chained is of the command at work, whose code it has; otherwise a command begins
-abbrev pub reaches_with : Bool → List Command → List Reach → Ccw → List Reach
-reaches_with chained cs rs ccw = if chained then elim cs [ [] ↦ rs | command ∷ before ↦ reach (code command) ccw ∷ rs ] else reach ccw.command ccw ∷ []
+abbrev pub reaches_with : Bool → Sequence Command → List Reach → Ccw → List Reach
+reaches_with chained cs rs ccw = if chained then elim cs [ Nothing ↦ rs | before ▸ command ↦ reach (code command) ccw ∷ rs ] else reach ccw.command ccw ∷ []
 
-abbrev pub reaches_after : Bool → List Command → List Reach → Reading → List Reach
+abbrev pub reaches_after : Bool → Sequence Command → List Reach → Reading → List Reach
 reaches_after chained cs rs (Takes ccw) = reaches_with chained cs rs ccw
 reaches_after chained cs rs reading = rs
 
@@ -31,12 +32,12 @@ abbrev pub word_after : List Reach → ℕ → List Reach
 word_after areas word = elim areas [ [] ↦ [] | r ∷ rs ↦ reach_with_word r word ∷ rs ]
 
 -- the blocks of the command at work that took control, with the words fetched for them, the latest first
-abbrev pub data_areas : Orb → List Act → List Reach
-data_areas orb [] = []
-data_areas orb (Block address bytes ∷ before) =
+abbrev pub data_areas : Orb → Sequence Act → List Reach
+data_areas orb Nothing = []
+data_areas orb (before ▸ Block address bytes) =
     reaches_after (role_of orb before).chained (commands orb before) (data_areas orb before) (reads orb (role_of orb before) bytes)
-data_areas orb (Word word ∷ before) = word_after (data_areas orb before) word
-data_areas orb (act ∷ before) = data_areas orb before
+data_areas orb (before ▸ Word word) = word_after (data_areas orb before) word
+data_areas orb (before ▸ act) = data_areas orb before
 
 -- the sum of their counts
 abbrev pub counts : List Reach → ℕ

@@ -1,6 +1,6 @@
 -- What was done for the program that a subchannel offered last, and what offers, devices and their reports tell of it
 -- (SA22-7832, chapter 15).
-use Rattle.std.specs.Prelude.{ℕ, ◌==◌, Bool, true, false, if◌then◌else◌, Option, None, Some, option_map, List, [], ◌∷◌, ◌++◌, length, take, slice_get}
+use Rattle.std.specs.Prelude.{ℕ, ◌==◌, Bool, true, false, if◌then◌else◌, Option, None, Some, option_map, List, [], ◌∷◌, ◌++◌, take, slice_get}
 use Rattle.orb_block.specs.declared.Orb.{Orb}
 use Rattle.chan_model.specs.declared.signal.Down.TheVariants as down
 use Rattle.chan_model.specs.declared.report.DeviceAnswer.TheVariants.{Absorbed}
@@ -13,6 +13,7 @@ use Rattle.chan_events.specs.Events.{Event}
 use Rattle.chan_events.specs.declared.event.Event.TheVariants as event
 use Rattle.chan_events.specs.Replies.{Reply}
 use Rattle.chan_events.specs.declared.reply.Reply.TheVariants as reply
+use Rattle.ccw_walk.specs.Sequences.{Sequence, Nothing, count}
 use Rattle.ccw_walk.specs.Acts.{Act, PlacedBytes}
 use Rattle.ccw_walk.specs.Programs.{commands}
 use Rattle.subchannel_model.specs.declared.state.Program.{Program}
@@ -29,7 +30,7 @@ pub record Arrival : Type 0 where
 -- device and the bytes of a read that were stored, each list with the latest first; and the places of the bytes that
 -- were moved, in order
 pub record CommandTrace : Type 0 where
-  pub acts : List Act
+  pub acts : Sequence Act
   pub copied : List PlacedBytes
   pub arrived : List Arrival
   pub moved : List (Option ℕ)
@@ -44,7 +45,7 @@ pub record CommandTrace : Type 0 where
 
 abbrev pub no_trace : CommandTrace
 no_trace = record {
-  acts = [];
+  acts = Nothing;
   copied = [];
   arrived = [];
   moved = [];
@@ -81,7 +82,7 @@ abbrev pub past_part : CommandTrace → CommandTrace
 past_part p = record no_trace { acts = p.acts; moved = p.moved }
 
 abbrev pub trace_resumed : ℕ → ProgramTrace → ProgramTrace
-trace_resumed t k = record (trace_offered t k.orb) { earlier = length (commands k.orb k.now.acts); now = past_part k.now }
+trace_resumed t k = record (trace_offered t k.orb) { earlier = count (commands k.orb k.now.acts); now = past_part k.now }
 
 abbrev pub offered_for : Option Program → ℕ → Option ProgramTrace → Option ProgramTrace
 offered_for waiting t k = elim waiting [ None ↦ k | Some program ↦ Some (trace_offered t program.orb) ]

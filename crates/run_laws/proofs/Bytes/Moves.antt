@@ -1,5 +1,5 @@
 -- Which bytes a Data moves, gives and stores.
-use Rattle.std.proofs.Common.{◌≡◌, refl, sym, ◌∙◌, ap, subst, arith, ℕ, ◌+◌, ◌≤◌, ◌==◌, Bool, true, false, List, [], ◌∷◌, ◌++◌, length, map, take, Option, Some, None, Result, Ok, Err, inl, inr, append-nil, min}
+use Rattle.std.proofs.Common.{◌≡◌, refl, sym, ◌∙◌, ap, subst, arith, ℕ, ◌+◌, ◌≤◌, ◌==◌, Bool, true, false, List, [], ◌∷◌, ◌++◌, length, take, Option, Some, None, Result, Ok, Err, inl, inr, append-nil, min}
 use Rattle.std.proofs.lemmas.Bool.{eqb-true, eqb-false}
 use Rattle.std.proofs.Math.Nat.{min-le_left}
 use Rattle.std.specs.Prelude.{◌||◌, if◌then◌else◌, is_some}
@@ -7,6 +7,7 @@ use Rattle.orb_block.specs.declared.Orb.{Orb}
 use Rattle.storage_keys.specs.declared.StorageFault.{StorageFault}
 use Rattle.storage_keys.specs.Storage.{Contents, stored_bytes}
 use Rattle.ccw_walk.specs.declared.check.Check.{Check}
+use Rattle.ccw_walk.specs.Sequences.{Sequence, count, each}
 use Rattle.ccw_walk.specs.Acts.{Act}
 use Rattle.ccw_walk.specs.Programs.{Command, commands, code}
 use Rattle.ccw_walk.specs.Places.{WalkPlace}
@@ -39,21 +40,21 @@ given_by t = if has_stopped t || t.moving.skipped then 0 else room t.moving
 
 -- the same command is at work: none came to the program
 module _ (earlier : ℕ) where
-  used-codes : (orb : Orb) (used : Bool) (acts : List Act) → commands orb (acts_used used acts) ≡ commands orb acts
+  used-codes : (orb : Orb) (used : Bool) (acts : Sequence Act) → commands orb (acts_used used acts) ≡ commands orb acts
   used-codes orb true acts = refl
   used-codes orb false acts = refl
 
   pub work-codes : (storage : Contents) (orb : Orb) (p q : CommandTrace) (used : Bool) (t u : Transfer) (d e : Bool) → IsSame t u → IsAtWork earlier orb p t d → IsAtWork earlier orb q u e →
-      AddsFetched storage orb (acts_used used p.acts) q.acts → map code (commands orb q.acts) ≡ map code (commands orb p.acts)
+      AddsFetched storage orb (acts_used used p.acts) q.acts → each code (commands orb q.acts) ≡ each code (commands orb p.acts)
   work-codes storage orb p q used t u d e same k l a =
-      let before : List Act = acts_used used p.acts in
+      let before : Sequence Act = acts_used used p.acts in
       let same-before : commands orb before ≡ commands orb p.acts = used-codes orb used p.acts in
-      let was : length (commands orb p.acts) ≡ earlier + t.command = k.tied.number in
-      let is : length (commands orb q.acts) ≡ earlier + u.command = l.tied.number in
-      let many : length (commands orb q.acts) ≡ length (commands orb p.acts) = let n : u.command ≡ t.command = same.1 in omega (arith, was, is, n) in
-      ap (λ (acts : List Act). map code (commands orb acts)) a.1
-      ∙ same-codes orb a.0 before (ap (λ (acts : List Act). length (commands orb acts)) (sym a.1) ∙ many ∙ ap length (sym same-before))
-      ∙ ap (λ (cs : List Command). map code cs) same-before
+      let was : count (commands orb p.acts) ≡ earlier + t.command = k.tied.number in
+      let is : count (commands orb q.acts) ≡ earlier + u.command = l.tied.number in
+      let many : count (commands orb q.acts) ≡ count (commands orb p.acts) = let n : u.command ≡ t.command = same.1 in omega (arith, was, is, n) in
+      ap (λ (acts : Sequence Act). each code (commands orb acts)) a.1
+      ∙ same-codes orb a.0 before (ap (λ (acts : Sequence Act). count (commands orb acts)) (sym a.1) ∙ many ∙ ap count (sym same-before))
+      ∙ ap (λ (cs : Sequence Command). each code cs) same-before
 
   module _ (laws : AreLaws) (accesses : AreAccesses) where
     -- a write

@@ -1,5 +1,5 @@
 -- The commands that a device takes are those of the program, in order: what each kind of step keeps of this.
-use Rattle.std.proofs.Common.{◌<◌, ◌≡◌, refl, sym, ◌∙◌, ap, subst, ℕ, ◌+◌, ◌≤◌, Bool, true, false, ◌==◌, nat_lt, Option, None, Some, Err, List, [], ◌∷◌, length, map, inl, inr, arith}
+use Rattle.std.proofs.Common.{◌<◌, ◌≡◌, refl, sym, ◌∙◌, ap, subst, ℕ, ◌+◌, ◌≤◌, Bool, true, false, ◌==◌, nat_lt, Option, None, Some, Err, List, [], ◌∷◌, length, inl, inr, arith}
 use Rattle.std.specs.Prelude.{if◌then◌else◌, slice_get, IfOk, IfSome}
 use Rattle.storage_keys.specs.Storage.{Contents}
 use Rattle.chan_model.specs.declared.fault.Fault.TheVariants as fault
@@ -37,10 +37,10 @@ use Rattle.machine_model.specs.ReportSteps.{report_taken}
 use Rattle.step_laws.specs.Walks.{IsFound, Suits}
 use Rattle.run_laws.proofs.Traces.MachineTraces.{silent_by, trace_meets, met_with, met_at}
 use Rattle.run_laws.specs.Traces.{ProgramTrace, trace_offered, chosen_at, taken_at, absorbs, reported_at, offered_for, reported}
+use Rattle.ccw_walk.specs.Sequences.{Sequence, count, each}
 use Rattle.ccw_walk.specs.Programs.{Command, commands, code}
 use Rattle.run_laws.proofs.Traces.Caused.{cause-kept}
 use Rattle.run_laws.proofs.Traces.Holds.{IsUnheld, IsUntold}
-use Rattle.std.proofs.lemmas.List.{length-map}
 use Rattle.run_laws.proofs.Units.UnitSides.{IsStillStep, other-still, report-still}
 use Rattle.run_laws.proofs.Commands.UnitOrders.{IsAbove, IsDown, AreOn, IsOrdered, on-taken, on-first, hold-sends, hold-begins, hold-offers, hold-draws, ordered-still, took_after, unit-takes}
 use Rattle.run_laws.proofs.Links.LinkNeeds.{IsLast, IsNeeded, Needs, reset-needs}
@@ -50,6 +50,7 @@ use Rattle.run_laws.proofs.Units.UnitActs.{IsGentle, if-ok, ordered-gentle}
 use Rattle.run_laws.proofs.Commands.LinkSent.{IsOf, IsAtWork, up-sends}
 use Rattle.run_laws.proofs.Links.Vanishing.{Fewer, carried-fewer, send-ok}
 use Rattle.subchannel_model.specs.declared.state.UpStep.{UpStep}
+use Rattle.run_laws.proofs.Traces.Sequences.{count-each, backward, length-backward}
 
 -- the orders between the story and a unit
 abbrev pub number_of : Option ProgramTrace → ℕ
@@ -153,9 +154,9 @@ offered-linked sub path program true None u w n l = absurd (cc (sym n.suspended 
 offered-linked sub path program true (Some k) u w n l =
     let t : ℕ = sub.state.drawn + 1 in
     let wires : List (List Down) = with_any_sent sub.wires.down (Some (record { path = path; signal = down.Select t })) in
-    let cs : List Command = commands k.orb k.now.acts in
-    let none : later_codes (length cs) (map code cs) ≡ [] =
-    ap (λ (i : ℕ). later_codes i (map code cs)) (sym (length-map cs code)) ∙ later-none (map code cs) in
+    let cs : Sequence Command = commands k.orb k.now.acts in
+    let none : later_codes (count cs) (backward (each code cs)) ≡ [] =
+    ap (λ (i : ℕ). later_codes i (backward (each code cs))) (sym (length-backward (each code cs) ∙ count-each code cs)) ∙ later-none (backward (each code cs)) in
     subst (λ (xs : List ℕ). IsOrdered sub.setup.side t t 0 xs [] wires u) (sym none) (offer-linked sub.setup.side sub.state.drawn path sub.wires.down (Some k) u n.number l)
 
 -- whatever is chosen

@@ -1,5 +1,5 @@
 -- The bytes that a device absorbs for its command: what the subsystem does with a signal keeps what holds of them.
-use Rattle.std.proofs.Common.{◌≡◌, refl, sym, ◌∙◌, ap, subst, ℕ, ◌+◌, ◌≤◌, Bool, true, false, ◌==◌, ◌&&◌, ◌||◌, not, length, Option, None, Some, List, [], ◌∷◌, ◌++◌, inl, inr, arith}
+use Rattle.std.proofs.Common.{◌≡◌, refl, sym, ◌∙◌, ap, subst, ℕ, ◌+◌, ◌≤◌, Bool, true, false, ◌==◌, ◌&&◌, ◌||◌, not, length, Option, None, Some, List, [], ◌++◌, inl, inr, arith}
 use Rattle.std.specs.Prelude.{◌⊎◌, if◌then◌else◌, min, IfSome, is_some}
 use Rattle.std.proofs.lemmas.Bool.{eqb-true, eqb-false}
 use Rattle.std.proofs.Math.Nat.{min-eq_left}
@@ -20,6 +20,7 @@ use Rattle.chan_model.specs.HoldTable as hold_table
 use Rattle.chan_model.specs.HoldTable.{HoldStep, hold_after, came_of, is_connected, is_on, letting_go, left, asked_back, found_busy, released, reset_cleared, attended}
 use Rattle.chan_model.specs.Loads.{load_length}
 use Rattle.chan_model.specs.UnitReports.{is_outward, is_last_end, has_device_end}
+use Rattle.ccw_walk.specs.Sequences.{Sequence, ◌▸◌, ◌▸▸◌, count}
 use Rattle.ccw_walk.specs.Acts.{Act, End}
 use Rattle.ccw_walk.specs.Programs.{commands}
 use Rattle.ccw_walk.specs.Places.{WalkPlace, after_command_end}
@@ -126,7 +127,7 @@ module _ (laws : AreLaws) (accesses : AreAccesses) (storage : Contents) (side : 
   abbrev from : Orb → ℕ → CommandTrace → ProgramTrace
   from orb earlier part = record k { orb = orb; earlier = earlier; now = part }
 
-  device_released-goes : (x : SubchannelState) (orb : Orb) (earlier : ℕ) (part : CommandTrace) (acts : List Act) → x.begun ≡ None → s.begun ≡ None → k.sent ≡ 0 →
+  device_released-goes : (x : SubchannelState) (orb : Orb) (earlier : ℕ) (part : CommandTrace) (acts : Sequence Act) → x.begun ≡ None → s.begun ≡ None → k.sent ≡ 0 →
       Goes (outcomes.device_released x) (record (from orb earlier part) { now = with_acts part acts })
   device_released-goes x orb earlier part acts e n z =
       let f = over-facts s.begun mode n in
@@ -160,7 +161,7 @@ module _ (laws : AreLaws) (accesses : AreAccesses) (storage : Contents) (side : 
     where
       by : (b : Bool) → Goes (on_accept.begins_at storage r p t (if b then Some st else None)) (if b then stories.begins_again storage st k else k)
       by true =
-          begins-goes r p t st (first_command storage st.walk).walk (first_command storage st.walk).came k.orb (length (commands k.orb k.now.acts)) (traced.past_part k.now) refl e n z
+          begins-goes r p t st (first_command storage st.walk).walk (first_command storage st.walk).came k.orb (count (commands k.orb k.now.acts)) (traced.past_part k.now) refl e n z
       by false = quiet r.begun None e tt
 
   standing-goes : (r : SubchannelState) (p t start : ℕ) (waiting : Option Program) (suspended : Option ProgramPosition) → r.begun ≡ s.begun → s.begun ≡ None → k.sent ≡ 0 →
@@ -404,16 +405,16 @@ module _ (laws : AreLaws) (accesses : AreAccesses) (storage : Contents) (side : 
       Goes (on_end.next_ccw_outcome storage s (with_first_end b) signal walk c) (stories.trace_goes_on storage c (next_acts storage b.transfer (has_status_modifier signal.status)) k)
   chains-goes b signal walk c at is e o d f = by c is
     where
-      acts : List Act
+      acts : Sequence Act
       acts = next_acts storage b.transfer (has_status_modifier signal.status)
 
-      went : WentOn k.earlier laws storage k.orb (End (record { goes_on = true; modifier = has_status_modifier signal.status }) ∷ k.now.acts) (acts ++ k.now.acts) (b.transfer.command + 1)
+      went : WentOn k.earlier laws storage k.orb (k.now.acts ▸ End (record { goes_on = true; modifier = has_status_modifier signal.status })) (k.now.acts ▸▸ acts) (b.transfer.command + 1)
           (next_command storage b.transfer (has_status_modifier signal.status)).walk (next_command storage b.transfer (has_status_modifier signal.status)).came
       went = next-went laws accesses k.earlier storage k.orb k.now b.transfer (has_status_modifier signal.status) (at-work b e).0.tied d f
 
       Went : CommandStart → Type 0
       Went c =
-          WentOn k.earlier laws storage k.orb (End (record { goes_on = true; modifier = has_status_modifier signal.status }) ∷ k.now.acts) (acts ++ k.now.acts) (b.transfer.command + 1)
+          WentOn k.earlier laws storage k.orb (k.now.acts ▸ End (record { goes_on = true; modifier = has_status_modifier signal.status })) (k.now.acts ▸▸ acts) (b.transfer.command + 1)
           (next_command storage b.transfer (has_status_modifier signal.status)).walk c
 
       by : (c : CommandStart) → (next_command storage b.transfer (has_status_modifier signal.status)).came ≡ c → Goes (on_end.next_ccw_outcome storage s (with_first_end b) signal walk c) (stories.trace_goes_on storage c acts k)
