@@ -1,5 +1,5 @@
 -- What a program is made of is what storage held as it was fetched (SA22-7832, chapter 15).
-use Rattle.std.specs.Prelude.{◌≡◌, ◌⊎◌, ◌&&◌, ◌==◌, ◌%◌, ℕ, true, None, List, [], ◌∷◌, length, Ok, Err}
+use Rattle.std.specs.Prelude.{◌≡◌, ◌⊎◌, ◌&&◌, ◌==◌, ◌%◌, ℕ, true, None, length, Ok, Err}
 use Rattle.orb_block.specs.declared.Orb.{Orb}
 use Rattle.storage_keys.specs.Storage.{Contents, fetched}
 use Rattle.ccw_walk.specs.declared.check.Check.TheVariants.{Program}
@@ -14,9 +14,9 @@ use Rattle.run_laws.specs.DataAreas.{data_areas}
 
 -- an indirect word is the next of the list of the latest block, by the key of the operation-request block; the list is on a boundary of
 -- its words, and the word is right
-abbrev pub IsNextWord : Contents → Orb → List Reach → ℕ → Type 0
-IsNextWord storage orb [] word = ⊥
-IsNextWord storage orb (r ∷ rs) word =
+abbrev pub IsNextWord : Contents → Orb → Sequence Reach → ℕ → Type 0
+IsNextWord storage orb Nothing word = ⊥
+IsNextWord storage orb (before ▸ r) word =
     let kind = kind_of orb in
     (r.ccw.address % width kind ≡ 0)
     × (list_word_of kind (checked (fetched storage orb.key (address_of_word kind r.ccw.address (length r.words)) (width kind))) ≡ Ok word)

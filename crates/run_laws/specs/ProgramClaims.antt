@@ -1,17 +1,16 @@
 -- What is claimed of the program that a subchannel offered last (SA22-7832, chapter 15).
-use Rattle.std.specs.Prelude.{◌≡◌, ◌⊎◌, ◌||◌, ℕ, ◌==◌, Bool, true, false, Option, None, Some, List, [], ◌∷◌, ◌++◌, length, reverse, take, drop, slice_get, if◌then◌else◌, All, Contains}
+use Rattle.std.specs.Prelude.{◌≡◌, ◌⊎◌, ◌||◌, ℕ, ◌==◌, Bool, true, false, Option, None, Some, List, ◌++◌, length, take, drop, slice_get, if◌then◌else◌, All, Contains}
 use Rattle.std.specs.List.{flat_map}
 use Rattle.orb_block.specs.declared.Orb.{Orb}
 use Rattle.ccw_walk.specs.declared.program.Reading.{Reading}
 use Rattle.ccw_walk.specs.declared.program.Reading.TheVariants.{Suspends, Shows}
-use Rattle.ccw_walk.specs.Sequences.{Sequence, Nothing, ◌▸◌, each, in_order}
+use Rattle.ccw_walk.specs.Sequences.{Sequence, Nothing, ◌▸◌, count, each, in_order}
 use Rattle.ccw_walk.specs.Acts.{Act, Block, Unfetched, Word, PlacedBytes}
 use Rattle.ccw_walk.specs.Blocks.{reads}
 use Rattle.ccw_walk.specs.Programs.{IsProgram, role_of, next, commands, code}
 use Rattle.idaw.specs.Lists.{kind_of, block}
-use Rattle.idaw.specs.Places.{places_of_bytes}
 use Rattle.data_move.specs.Accesses.{bytes_at}
-use Rattle.run_laws.specs.DataAreas.{data_areas}
+use Rattle.run_laws.specs.DataAreas.{data_areas, places_of_bytes}
 use Rattle.run_laws.specs.Traces.{Arrival, CommandTrace, ProgramTrace}
 
 abbrev pub IsBeginning : {A : Type 0} → List A → List A → Type 0
@@ -29,8 +28,7 @@ pub record IsStored (a : Arrival) : Type 0 where
 
 -- the places at which bytes of a read were stored, in order
 abbrev pub places_arrived : List Arrival → List (Option ℕ)
-places_arrived [] = []
-places_arrived (a ∷ before) = places_arrived before ++ a.chunk.places
+places_arrived arrived = flat_map (λ a. a.chunk.places) arrived
 
 -- the first bytes of a chunk
 abbrev pub first_bytes : PlacedBytes → ℕ → PlacedBytes
@@ -52,7 +50,7 @@ AbsorbsInOrder orb part absorbed =
 
 -- the command that the device took last: the last that was sent, or the one before
 abbrev pub part_of : ProgramTrace → CommandTrace
-part_of k = if length k.taken == k.sent then k.now else k.before
+part_of k = if count k.taken == k.sent then k.now else k.before
 
 -- the program was suspended by its last block, before this took control
 abbrev pub IsSuspended : Orb → Sequence Act → Type 0
@@ -89,7 +87,7 @@ codes_after earlier orb acts = drop earlier (in_order (each code (commands orb a
 -- the commands that the device took under this number are consecutive commands of the program, each once, from the first on,
 -- or from the first after those that were sent earlier
 abbrev pub TakesInOrder : ProgramTrace → Type 0
-TakesInOrder k = IsBeginning (reverse k.taken) (codes_after k.earlier k.orb k.now.acts)
+TakesInOrder k = IsBeginning (in_order k.taken) (codes_after k.earlier k.orb k.now.acts)
 
 pub record TraceCorrect (k : ProgramTrace) : Type 0 where
   -- each block is where the blocks before it say

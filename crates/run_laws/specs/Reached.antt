@@ -3,7 +3,7 @@ use Rattle.std.specs.Prelude.{◌≡◌, ◌==◌, ◌&&◌, ◌-◌, ◌+◌, �
 use Rattle.orb_block.specs.declared.Orb.{Orb}
 use Rattle.ccw_codec.specs.Command.{class_of}
 use Rattle.storage_keys.specs.Storage.{Contents, fetched, stored_bytes}
-use Rattle.ccw_walk.specs.Sequences.{Sequence}
+use Rattle.ccw_walk.specs.Sequences.{Sequence, Nothing, ◌▸◌}
 use Rattle.ccw_walk.specs.Acts.{Act}
 use Rattle.idaw.specs.Lists.{kind_of, block}
 use Rattle.idaw.specs.Places.{Reach, covered}
@@ -13,9 +13,9 @@ use Rattle.run_laws.specs.DataAreas.{data_areas, counts}
 use Rattle.run_laws.specs.Fetches.{IsNextWord}
 
 -- how many bytes of the command's blocks the words that were fetched reach, where words name blocks of b bytes
-abbrev pub reached : ℕ → List Reach → ℕ
-reached b [] = 0
-reached b (r ∷ rs) = counts rs + (if r.ccw.indirect && not r.skipped then min (covered b r.words) r.ccw.count else r.ccw.count)
+abbrev pub reached : ℕ → Sequence Reach → ℕ
+reached b Nothing = 0
+reached b (before ▸ r) = counts before + (if r.ccw.indirect && not r.skipped then min (covered b r.words) r.ccw.count else r.ccw.count)
 
 -- how many of them did not move yet, and how many move at once
 abbrev pub left_of : Orb → Sequence Act → List (Option ℕ) → ℕ
@@ -28,10 +28,10 @@ room_of orb acts moved = min (left_of orb acts moved) 256
 abbrev pub is_short : Orb → Sequence Act → List (Option ℕ) → Bool
 is_short orb acts moved = (left_of orb acts moved == 0) && nat_lt (length moved) (counts (data_areas orb acts))
 
--- the bytes of the latest block are skipped
-abbrev pub skips : List Reach → Bool
-skips [] = false
-skips (r ∷ rs) = r.skipped
+-- the bytes of the last block are skipped
+abbrev pub skips : Sequence Reach → Bool
+skips Nothing = false
+skips (before ▸ r) = r.skipped
 
 -- the next bytes can't be reached: no right word is next
 abbrev pub CantReach : Contents → Orb → Sequence Act → List (Option ℕ) → Type 0

@@ -112,7 +112,7 @@ pub record Keeps (cause : Type 0) (storage : Contents) (orb : Orb) (k now : Comm
 abbrev pub IsGiven : Contents → Orb → List ℕ → CommandTrace → CommandTrace → Type 0
 IsGiven storage orb bytes k now =
     ((bytes ≡ []) × (now.copied ≡ k.copied))
-    ⊎ ((places : List (Option ℕ)) × (now.copied ≡ record { storage = storage.bytes; places = places; bytes = bytes } ∷ k.copied)
+    ⊎ ((places : List (Option ℕ)) × (now.copied ≡ k.copied ++ record { storage = storage.bytes; places = places; bytes = bytes } ∷ [])
     × IsBeginning (now.moved ++ places) (places_of orb now.acts))
 
 pub record Gives (storage : Contents) (orb : Orb) (count next : ℕ) (bytes : List ℕ) (k now : CommandTrace) : Type 0 where
@@ -129,7 +129,7 @@ abbrev pub Stores : Contents → Contents → Orb → ℕ → Bool → ℕ → L
 Stores former storage orb fits kept s bytes k now =
     ((s ≡ length k.arrived + 1 → (kept ≡ true) ⊎ CantStore former orb k.acts k.moved (take fits bytes)) × (storage ≡ former) × (now.arrived ≡ k.arrived) × (now.moved ≡ k.moved))
     ⊎ ((s ≡ length k.arrived + 1) × (places : List (Option ℕ))
-    × (now.arrived ≡ record { former = former.bytes; chunk = record { storage = storage.bytes; places = places; bytes = take fits bytes } } ∷ k.arrived)
+    × (now.arrived ≡ k.arrived ++ record { former = former.bytes; chunk = record { storage = storage.bytes; places = places; bytes = take fits bytes } } ∷ [])
     × (now.moved ≡ k.moved ++ places) × (storage ≡ record former { bytes = storage.bytes }))
 
 -- Data of a write: the next chunk is given; a device that absorbed fewer than were given stops the transfer

@@ -1,5 +1,5 @@
 -- Data chaining, and bytes that are moved.
-use Rattle.std.proofs.Common.{◌≡◌, refl, ap, sym, ◌∙◌, subst, ℕ, ◌+◌, ◌-◌, ◌≤◌, Bool, true, false, List, [], ◌∷◌, ◌++◌, Option, Some, None, arith}
+use Rattle.std.proofs.Common.{◌≡◌, refl, ap, sym, ◌∙◌, subst, ℕ, ◌+◌, ◌-◌, ◌≤◌, Bool, true, false, List, ◌++◌, Option, Some, None, arith}
 use Rattle.std.specs.Prelude.{◌&&◌, ◌==◌, not, is_some, is_none, if◌then◌else◌}
 use Rattle.std.proofs.lemmas.Bool.{and_parts, eqb-true}
 use Rattle.std.proofs.lemmas.List.{append-nil}
@@ -16,14 +16,14 @@ use Rattle.ccw_walk.specs.Programs.{IsProgram, Command, role_of, latest, next, t
 use Rattle.ccw_walk.specs.Advancing.{acts_from_next, advance_acts, advance_of_acts}
 use Rattle.ccw_walk.specs.Places.{after_count_used_up, WalkPlace, walk_place, after_acts}
 use Rattle.idaw.specs.Lists.{block, kind_of}
-use Rattle.idaw.specs.Places.{Reach, place_of_byte, each_below, places_of_bytes}
+use Rattle.idaw.specs.Places.{Reach, place_of_byte, each_below}
+use Rattle.run_laws.specs.DataAreas.{places_of_bytes, reach, data_areas, reaches_after, reaches_with}
 use Rattle.data_move.specs.Moving as movement
 use Rattle.data_move.specs.Moving.{Moving, next_place, residual, IsAt}
 use Rattle.data_move.specs.declared.transfer.Transfer.{Transfer}
 use Rattle.data_move.specs.Commands.{data_of}
 use Rattle.data_move.specs.DataChaining.{chains_data, with_next_ccw, chained_from, data_chained, with_bytes_moved, after_bytes_moved}
 use Rattle.run_laws.specs.ProgramClaims.{has_check, EndsAtCheck}
-use Rattle.run_laws.specs.DataAreas.{reach, data_areas, reaches_after, reaches_with}
 use Rattle.run_laws.proofs.Traces.MachineActs as doing
 use Rattle.run_laws.specs.Traces.{CommandTrace}
 use Rattle.run_laws.proofs.Traces.MachineActs.{chained_acts, with_acts, with_places}
@@ -35,9 +35,9 @@ use Rattle.run_laws.proofs.Traces.Sequences.{joined-in-order}
 
 module _ (laws : AreLaws) where
   -- where the count is used up, the places are all of them
-  whole : (orb : Orb) (rs : List Reach) (t : Transfer) (ps : List (Option ℕ)) → residual t.moving ≡ 0 → IsMovedTo orb rs t ps → ps ≡ places_of_bytes (block (kind_of orb)) rs
-  whole orb [] t ps z k = absurd k
-  whole orb (r ∷ rs) t ps z k =
+  whole : (orb : Orb) (rs : Sequence Reach) (t : Transfer) (ps : List (Option ℕ)) → residual t.moving ≡ 0 → IsMovedTo orb rs t ps → ps ≡ places_of_bytes (block (kind_of orb)) rs
+  whole orb Nothing t ps z k = absurd k
+  whole orb (rs ▸ r) t ps z k =
       let le : t.moving.done ≤ r.ccw.count = done-within r t k.0 in
       let same : t.moving.ccw.count ≡ r.ccw.count = ap (λ (x : Ccw). x.count) (ccw-of r t k.0) in
       let none : t.moving.ccw.count - t.moving.done ≡ 0 = z in
@@ -53,7 +53,7 @@ module _ (laws : AreLaws) where
   joined-length Nothing ccw = refl
   joined-length (xs ▸ x) ccw = refl
 
-  joined-spot : (orb : Orb) (cs : Sequence Command) (rs : List Reach) (t : Transfer) (walk : WalkPlace) (ps : List (Option ℕ)) (ccw : Ccw) → walk.orb ≡ orb → HasCode cs t.code →
+  joined-spot : (orb : Orb) (cs : Sequence Command) (rs : Sequence Reach) (t : Transfer) (walk : WalkPlace) (ps : List (Option ℕ)) (ccw : Ccw) → walk.orb ≡ orb → HasCode cs t.code →
       ps ≡ places_of_bytes (block (kind_of orb)) rs → IsMovedTo orb (reaches_with true cs rs ccw) (record t { walk = walk; moving = data_of walk t.code ccw; pci_pending = ccw.program_controlled }) ps
   joined-spot orb Nothing rs t walk ps ccw e h w = absurd h
   joined-spot orb (xs ▸ x) rs t walk ps ccw e h w =
@@ -81,7 +81,7 @@ module _ (laws : AreLaws) where
           coded = subst (λ (xs : Sequence Command). HasCode xs t.code) (sym commanded) (joined-code cs ccw t.code h);
           kind = ap (λ (x : WalkPlace). kind_of x.orb) w;
           spot =
-              subst (λ (rs : List Reach). IsMovedTo orb rs (record t { walk = walk; moving = data_of walk t.code ccw; pci_pending = ccw.program_controlled }) ps) (sym reached)
+              subst (λ (rs : Sequence Reach). IsMovedTo orb rs (record t { walk = walk; moving = data_of walk t.code ccw; pci_pending = ccw.program_controlled }) ps) (sym reached)
               (joined-spot orb cs (data_areas orb before) t walk ps ccw (ap (λ (x : WalkPlace). x.orb) w) h (whole orb (data_areas orb before) t ps z s));
           number = ap count commanded ∙ joined-length cs ccw ∙ l;
           ends = en;
@@ -101,7 +101,7 @@ module _ (laws : AreLaws) where
       coded = subst (λ (xs : Sequence Command). HasCode xs t.code) (sym f) h;
       kind = m;
       spot =
-          subst (λ (rs : List Reach). IsMovedTo orb rs (record t { walk = walk; fault = Some check }) ps) (sym g)
+          subst (λ (rs : Sequence Reach). IsMovedTo orb rs (record t { walk = walk; fault = Some check }) ps) (sym g)
           (spot-changed orb (data_areas orb before) t (record t { walk = walk; fault = Some check }) ps refl (λ x. refl) s);
       number = ap count f ∙ l;
       ends = en;

@@ -1,7 +1,7 @@
 -- What was copied for the device is as storage stood then.
-use Rattle.std.proofs.Common.{◌≡◌, refl, ℕ, ◌+◌, Bool, true, false, List, ◌∷◌, length, Option, Some, None, Result, Ok, Err}
+use Rattle.std.proofs.Common.{◌≡◌, refl, ℕ, ◌+◌, Bool, true, false, List, ◌∷◌, length, Option, Some, None, Result, Ok, Err, ◌++◌, []}
 use Rattle.std.specs.Prelude.{◌==◌, min, is_some, if◌then◌else◌, All}
-use Rattle.std.proofs.lemmas.List.Elements.{All-nil, All-cons}
+use Rattle.std.proofs.lemmas.List.Elements.{All-nil, All-push}
 use Rattle.storage_keys.specs.Storage.{Contents}
 use Rattle.scsw_irb.specs.declared.status.DeviceStatus.{DeviceStatus}
 use Rattle.chan_model.specs.declared.hold_state.HoldPhase.{HoldPhase}
@@ -48,7 +48,7 @@ abbrev pub AreCopied : ProgramTrace → Type 0
 AreCopied k = AllCopied k.now × AllCopied k.before
 
 pub copied-part : (k : ProgramTrace) → AreCopied k → AllCopied (part_of k)
-copied-part k c = by (length k.taken == k.sent)
+copied-part k c = by (count k.taken == k.sent)
   where
     by : (b : Bool) → AllCopied (if b then k.now else k.before)
     by true = c.0
@@ -69,7 +69,7 @@ answer-if storage t s count p false c = c
 
 arrival-copied : (storage : Contents) (t : Transfer) (bytes : List ℕ) (r : Result Contents Check) (p : CommandTrace) → AllCopied p → AllCopied (with_arrival storage t bytes r p)
 arrival-copied storage t bytes (Ok after) p c =
-    moved-copied after t (length bytes) (record p { arrived = record { former = storage.bytes; chunk = chunk_of after t.moving bytes } ∷ p.arrived }) c
+    moved-copied after t (length bytes) (record p { arrived = p.arrived ++ record { former = storage.bytes; chunk = chunk_of after t.moving bytes } ∷ [] }) c
 arrival-copied storage t bytes (Err check) p c = c
 
 store-if : (storage : Contents) (t : Transfer) (bytes : List ℕ) (r : Result Contents Check) (p : CommandTrace) (b : Bool) → AllCopied p →
@@ -90,7 +90,7 @@ module _ (accesses : AreAccesses) where
   copy-by : (storage : Contents) (t : Transfer) (r : Result (List ℕ) Check) (p : CommandTrace) → access.copied storage t.walk.orb.key t.moving ≡ r → AllCopied p →
       AllCopied (with_copy storage t r p)
   copy-by storage t (Ok bytes) p e c =
-      All-cons IsCopied (chunk_of storage t.moving bytes) p.copied (copied-bytes accesses storage t.walk.orb.key t.moving bytes e) c
+      All-push IsCopied p.copied (chunk_of storage t.moving bytes) c (copied-bytes accesses storage t.walk.orb.key t.moving bytes e)
   copy-by storage t (Err check) p e c = c
 
   copy-if : (storage : Contents) (t : Transfer) (p : CommandTrace) (b : Bool) → AllCopied p →

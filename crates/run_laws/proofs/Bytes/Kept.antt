@@ -20,7 +20,8 @@ use Rattle.idaw.specs.declared.ListKind.{ListKind}
 use Rattle.idaw.specs.declared.ListKind.TheVariants.{Short, LongByFourK, LongByTwoK}
 use Rattle.idaw.specs.declared.WordFault.{WordFault}
 use Rattle.idaw.specs.Lists.{block, kind_of, width, address_of_word, word_fault}
-use Rattle.idaw.specs.Places.{Reach, covered, each_below, place_of_byte, places_of_bytes}
+use Rattle.idaw.specs.Places.{Reach, covered, each_below, place_of_byte}
+use Rattle.run_laws.specs.DataAreas.{places_of_bytes, data_areas, counts}
 use Rattle.data_move.specs.Accesses as access
 use Rattle.data_move.specs.Accesses.{checked, list_word_of, where_right}
 use Rattle.data_move.specs.Moving.{Moving, with_piece, next_place, needs_word, residual, uses_list, room, IsAt}
@@ -29,7 +30,6 @@ use Rattle.data_move.specs.Commands.{located_transfer, with_located}
 use Rattle.data_move.specs.DataChaining.{chains_data, with_next_ccw, data_chained, with_bytes_moved, after_bytes_moved}
 use Rattle.data_move.specs.ToDevice.{with_bytes_offered, with_bytes_fetched}
 use Rattle.run_laws.specs.ProgramClaims.{IsBeginning, places_of, has_check}
-use Rattle.run_laws.specs.DataAreas.{data_areas, counts}
 use Rattle.run_laws.specs.Fetches.{IsNextWord}
 use Rattle.run_laws.specs.Reached.{reached, left_of, room_of, is_short, skips, CantReach, CantFetch}
 use Rattle.run_laws.specs.Traces.{CommandTrace}
@@ -59,9 +59,9 @@ module _ (earlier : ℕ) where
       rest : (c d l n x : ℕ) → n ≡ c + d → d + l ≡ x → l ≡ (c + x) - n
       rest c d l n x e f = omega (arith, e, f)
 
-      by : (rs : List Reach) → IsMovedTo orb rs t ps → t.moving.left ≡ reached b rs - length ps
-      by [] s = absurd s
-      by (r ∷ rs) s =
+      by : (rs : Sequence Reach) → IsMovedTo orb rs t ps → t.moving.left ≡ reached b rs - length ps
+      by Nothing s = absurd s
+      by (rs ▸ r) s =
           let m : Moving = t.moving in
           let x : Bool = r.ccw.indirect && not r.skipped in
           let long : length ps ≡ length (places_of_bytes b rs) + length (each_below (place_of_byte b r) m.done) =
@@ -81,9 +81,9 @@ module _ (earlier : ℕ) where
   pub skips-same : (orb : Orb) (acts : Sequence Act) (ps : List (Option ℕ)) (t : Transfer) → Tied earlier orb acts ps t → t.moving.skipped ≡ skips (data_areas orb acts)
   skips-same orb acts ps t k = by (data_areas orb acts) k.spot
     where
-      by : (rs : List Reach) → IsMovedTo orb rs t ps → t.moving.skipped ≡ skips rs
-      by [] s = absurd s
-      by (r ∷ rs) s = s.0.skipped
+      by : (rs : Sequence Reach) → IsMovedTo orb rs t ps → t.moving.skipped ≡ skips rs
+      by Nothing s = absurd s
+      by (rs ▸ r) s = s.0.skipped
 
   -- bytes are left where the words do not reach them
   less-same : (a b c d : ℕ) (x : Bool) → nat_lt c d ≡ x → c ≤ d → b ≡ a + (d - c) → nat_lt a b ≡ x
@@ -100,9 +100,9 @@ module _ (earlier : ℕ) where
   tied-within : (orb : Orb) (acts : Sequence Act) (ps : List (Option ℕ)) (t : Transfer) → Tied earlier orb acts ps t → t.moving.done ≤ t.moving.ccw.count
   tied-within orb acts ps t k = by (data_areas orb acts) k.spot
     where
-      by : (rs : List Reach) → IsMovedTo orb rs t ps → t.moving.done ≤ t.moving.ccw.count
-      by [] s = absurd s
-      by (r ∷ rs) s =
+      by : (rs : Sequence Reach) → IsMovedTo orb rs t ps → t.moving.done ≤ t.moving.ccw.count
+      by Nothing s = absurd s
+      by (rs ▸ r) s =
           let l : t.moving.done ≤ r.ccw.count = done-within r t s.0 in
           let e : t.moving.ccw.count ≡ r.ccw.count = ap (λ (c : Ccw). c.count) (ccw-of r t s.0) in
           omega (arith, l, e)
@@ -117,11 +117,11 @@ module _ (earlier : ℕ) where
       ∙ ap (λ (b : Bool). (m.left == 0) && b) more
 
   -- the next word, as the transfer fetches it
-  word-of : (storage : Contents) (orb : Orb) (rs : List Reach) (t : Transfer) (ps : List (Option ℕ)) (word : ℕ) → t.moving.kind ≡ kind_of orb → IsMovedTo orb rs t ps →
+  word-of : (storage : Contents) (orb : Orb) (rs : Sequence Reach) (t : Transfer) (ps : List (Option ℕ)) (word : ℕ) → t.moving.kind ≡ kind_of orb → IsMovedTo orb rs t ps →
       IsNextWord storage orb rs word →
       (_ : access.word_fetched storage orb.key t.moving ≡ Ok word) × (word_fault t.moving.kind (t.moving.words == 0) word (length storage.bytes) ≡ None)
-  word-of storage orb [] t ps word e s n = absurd n
-  word-of storage orb (r ∷ rs) t ps word e s n =
+  word-of storage orb Nothing t ps word e s n = absurd n
+  word-of storage orb (rs ▸ r) t ps word e s n =
       let m : Moving = t.moving in
       let aligned : (m.ccw.address % width m.kind == 0) ≡ true =
       eq-eqb (m.ccw.address % width m.kind) 0

@@ -138,7 +138,7 @@ module _ (earlier : ℕ) where
         IsGiven storage orb bytes p now
     given-from storage orb bytes p q now e m (inl x) = inl (x.0, x.1 ∙ e)
     given-from storage orb bytes p q now e m (inr x) =
-        inr (x.0, x.1 ∙ ap (λ cs. record { storage = storage.bytes; places = x.0; bytes = bytes } ∷ cs) e, x.2)
+        inr (x.0, x.1 ∙ ap (λ cs. cs ++ record { storage = storage.bytes; places = x.0; bytes = bytes } ∷ []) e, x.2)
 
     pub gives-told : (storage : Contents) (orb : Orb) (p : CommandTrace) (t : Transfer) (s count : ℕ) → IsAtWork earlier orb p t true →
         Gives storage orb (if s == t.sequence + 1 then min count (room t.moving) else 0) (given_by (next_chunk storage (chunk_absorbed storage t s count)).transfer)
@@ -197,7 +197,7 @@ module _ (earlier : ℕ) where
         × ((with_arrival storage t (take n bytes) r p).copied ≡ p.copied)
     arrival-told storage orb t bytes n (Ok after) p kept next e l k =
         let some : List ℕ = take n bytes in
-        let q : CommandTrace = record p { arrived = record { former = storage.bytes; chunk = chunk_of after t.moving some } ∷ p.arrived } in
+        let q : CommandTrace = record p { arrived = p.arrived ++ record { former = storage.bytes; chunk = chunk_of after t.moving some } ∷ [] } in
         let parts = after_bytes_moved-parts after t (length some) q (chains_data (with_bytes_moved t (length some)) (length some)) in (
           inr (next, each_below (next_place t.moving) (length some), parts.1, parts.0, (stored-bytes accesses storage after t.walk.orb.key t.moving some e).alone),
           after_bytes_moved-copied after t (length some) q (chains_data (with_bytes_moved t (length some)) (length some)),

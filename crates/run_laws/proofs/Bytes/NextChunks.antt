@@ -1,5 +1,5 @@
 -- What a Data leaves of a transfer is what is seen of it: its numbers, what is given next, and why a check is kept.
-use Rattle.std.proofs.Common.{◌≡◌, refl, sym, ◌∙◌, ap, subst, ℕ, ◌+◌, ◌≤◌, ◌==◌, Bool, true, false, List, [], ◌∷◌, length, take, Option, Some, None, Result, Ok, Err, inl, inr, min}
+use Rattle.std.proofs.Common.{◌≡◌, refl, sym, ◌∙◌, ap, subst, ℕ, ◌+◌, ◌≤◌, ◌==◌, Bool, true, false, List, [], ◌∷◌, length, take, Option, Some, None, Result, Ok, Err, inl, inr, min, ◌++◌}
 use Rattle.std.proofs.lemmas.Bool.{eqb-true}
 use Rattle.std.specs.Prelude.{◌||◌, ◌&&◌, ◌⊎◌, nat_lt, if◌then◌else◌, is_some}
 use Rattle.orb_block.specs.declared.Orb.{Orb}
@@ -198,7 +198,7 @@ module _ (laws : AreLaws) (accesses : AreAccesses) (earlier : ℕ) where
   arrival-kept : (storage : Contents) (orb : Orb) (p : CommandTrace) (t : Transfer) (bytes : List ℕ) (r : Result Contents Check) → access.stored_or_skipped storage t.walk.orb.key t.moving bytes ≡ r →
       length bytes ≤ t.moving.left → Tied earlier orb p.acts p.moved t → BroughtWhy storage orb p t bytes (after_store storage t (length bytes) r) (with_arrival storage t bytes r p)
   arrival-kept storage orb p t bytes (Ok after) e l k f =
-      let q : CommandTrace = record p { arrived = record { former = storage.bytes; chunk = chunk_of after t.moving bytes } ∷ p.arrived } in
+      let q : CommandTrace = record p { arrived = p.arrived ++ record { former = storage.bytes; chunk = chunk_of after t.moving bytes } ∷ [] } in
       elim (after_bytes_moved-kept earlier laws after orb q t (length bytes) l k f) [ inl x ↦ inl x | inr x ↦ inr (inl x) ]
   arrival-kept storage orb p t bytes (Err check) e l k f = inr (inr (cant-by earlier laws accesses storage orb p t bytes check t.moving.skipped refl e l k))
 

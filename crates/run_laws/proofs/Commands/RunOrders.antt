@@ -1,5 +1,5 @@
 -- After each run of a lawful set-up the commands that a device took are those of the program, in order.
-use Rattle.std.proofs.Common.{◌≡◌, refl, sym, ◌∙◌, ap, subst, ℕ, ◌<◌, zero, suc, Option, None, Some, List, [], ◌∷◌, length, map, arith}
+use Rattle.std.proofs.Common.{◌≡◌, refl, sym, ◌∙◌, ap, subst, ℕ, ◌<◌, zero, suc, Option, None, Some, List, [], ◌∷◌, length, map, arith, ◌++◌}
 use Rattle.std.specs.Prelude.{slice_get, option_map, replicate, reverse, drop, All}
 use Rattle.std.proofs.lemmas.List.{reverse-append, reverse-reverse}
 use Rattle.std.proofs.lemmas.List.Elements.{All-nil}
@@ -108,7 +108,7 @@ linked-takes : (side : Side) (drawn : ℕ) (wires : List (List Down)) (k : Progr
 linked-takes side drawn wires k None l = absurd l
 linked-takes side drawn wires k (Some u) l =
     let codes : Sequence ℕ = each code (commands k.orb k.now.acts) in
-    (reverse l.later, sym (reverse-append l.later k.taken) ∙ ap reverse (sym l.order) ∙ reverse-reverse (drop k.earlier (reverse (backward codes))) ∙ ap (drop k.earlier) (sym (in_order-backward codes)))
+    (reverse l.later, ap (λ (xs : List ℕ). xs ++ reverse l.later) (in_order-backward k.taken) ∙ sym (reverse-append l.later (backward k.taken)) ∙ ap reverse (sym l.order) ∙ reverse-reverse (drop k.earlier (reverse (backward codes))) ∙ ap (drop k.earlier) (sym (in_order-backward codes)))
 
 pub run-takes : AreWalks → (setup : Setup) → IsLawful setup → AllAbove setup → AllNeeds setup → (h : List Entry) (s : State) (run : Run (opening_of setup) h s) (place : ℕ) (sub : Subchannel) (k : ProgramTrace) →
     slice_get s.subs place ≡ Some sub → trace place (opening_of setup) h s run ≡ Some k → TakesInOrder k

@@ -43,7 +43,7 @@ use Rattle.run_laws.proofs.Traces.MachineActs.{with_acts, with_places, trace_mov
 use Rattle.run_laws.proofs.Traces.MachineTraces.{trace_goes_on, trace_begins, begins_anew, begins_again, again_as, begins_as, accepted_at, trace_accepted, moves, answers, ends_alone, with_ended, chains, trace_ends, trace_meets}
 use Rattle.run_laws.proofs.Traces.Sequences.{joined-in-order, backward}
 
--- the codes of the commands after the earlier ones, the latest first
+-- the codes of the commands after the earlier ones, the last first
 abbrev pub later_codes : ℕ → List ℕ → List ℕ
 later_codes earlier cs = reverse (drop earlier (reverse cs))
 
@@ -132,7 +132,7 @@ answered-on : (storage : Contents) (t : Transfer) (s count : ℕ) (k : CommandTr
 answered-on storage t s count k = if-on k (s == t.sequence + 1) _ k (after_bytes_moved-on storage (with_chunk_counted t s count) _ k) (on-same k k refl)
 
 with_copy-on : (storage : Contents) (t : Transfer) (r : Result (List ℕ) Check) (k : CommandTrace) → IsOn k (with_copy storage t r k)
-with_copy-on storage t (Ok bytes) k = on-same k (record k { copied = chunk_of storage t.moving bytes ∷ k.copied }) refl
+with_copy-on storage t (Ok bytes) k = on-same k (record k { copied = k.copied ++ chunk_of storage t.moving bytes ∷ [] }) refl
 with_copy-on storage t (Err check) k = on-same k k refl
 
 copying-on : (storage : Contents) (t : Transfer) (k : CommandTrace) → IsOn k (copying storage t k)
@@ -146,7 +146,7 @@ gives-on storage t s count k = on-then k (trace_answered storage t s count k) (g
 
 with_arrival-on : (storage : Contents) (t : Transfer) (bytes : List ℕ) (r : Result Contents Check) (k : CommandTrace) → IsOn k (with_arrival storage t bytes r k)
 with_arrival-on storage t bytes (Ok after) k =
-    let x : CommandTrace = record k { arrived = record { former = storage.bytes; chunk = chunk_of after t.moving bytes } ∷ k.arrived } in
+    let x : CommandTrace = record k { arrived = k.arrived ++ record { former = storage.bytes; chunk = chunk_of after t.moving bytes } ∷ [] } in
     on-then k x (trace_moved_on after t (length bytes) x) (on-same k x refl) (after_bytes_moved-on after t (length bytes) x)
 with_arrival-on storage t bytes (Err check) k = on-same k k refl
 

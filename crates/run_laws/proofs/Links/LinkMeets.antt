@@ -80,6 +80,7 @@ use Rattle.run_laws.proofs.Links.LinkViews.{view_of, answers-view, repeats-view,
 use Rattle.run_laws.proofs.Links.LinkWires.{HandClosed, IsClosed, IsGiving, IsTelling, IsWired, wired-holds, sent-hold}
 use Rattle.run_laws.proofs.Bytes.LinkCourses.{mode-marked, mode-ended, mode-with, interrupted-mode, flow-absorbs, absorbs-on}
 use Rattle.run_laws.proofs.Bytes.LinkModes.{AnyGive, NoGive, AnyData, HandPlain, HandFlow, Mode, Waits, Over, Reads, Writes, mode-carried, absorbs-none}
+use Rattle.run_laws.proofs.Traces.Sequences.{backward}
 
 -- any but a Notice, which may empty what is begun
 abbrev pub IsNoNotice : Up → Type 0
@@ -92,7 +93,7 @@ module _ (laws : AreLaws) (accesses : AreAccesses) (storage : Contents) (side : 
   Goes step new = Mode side step.state.begun new (with_any_sent downs step.came.sent) (taken ups path) u
 
   abbrev m : ℕ
-  m = length k.taken
+  m = length (backward k.taken)
 
   -- nothing is done for the program
   pub quiet : (begun : Option ActiveProgram) (one : Option (OnPath Down)) → begun ≡ s.begun → IfSome one (λ d. IsOfHold d.signal) → Mode side begun k (with_any_sent downs one) (taken ups path) u
@@ -117,7 +118,7 @@ module _ (laws : AreLaws) (accesses : AreAccesses) (storage : Contents) (side : 
 
   -- Accept
   over-facts : (begun : Option ActiveProgram) → Mode side begun k downs ups u → begun ≡ None →
-      (length k.taken ≡ k.sent) × (k.sent ≡ 0 → k.absorbed ≡ []) × Closed downs ups
+      (length (backward k.taken) ≡ k.sent) × (k.sent ≡ 0 → k.absorbed ≡ []) × Closed downs ups
   over-facts begun (Waits b e n q i a w) z = absurd (cc (sym e ∙ z))
   over-facts begun (Over e n q a w) z = (n, q, w)
   over-facts begun (Reads b e n o q w) z = absurd (cc (sym e ∙ z))
@@ -218,7 +219,7 @@ module _ (laws : AreLaws) (accesses : AreAccesses) (storage : Contents) (side : 
   now-wires P W Q X R Y one f g h d w = wired-holds side k.number m P W Q X R Y downs ups u one path f g h d w
 
   -- a read
-  reads-goes : (b : ActiveProgram) (signal : DataSignal) (x : StoredChunk) (now : CommandTrace) → IsSame b.transfer x.transfer → length k.taken ≡ k.sent → is_outward b.transfer.code ≡ false → k.absorbed ≡ [] →
+  reads-goes : (b : ActiveProgram) (signal : DataSignal) (x : StoredChunk) (now : CommandTrace) → IsSame b.transfer x.transfer → length (backward k.taken) ≡ k.sent → is_outward b.transfer.code ≡ false → k.absorbed ≡ [] →
       IsWired side k.number m HandPlain NoGive AnyData downs ups u → Goes (on_data.tells_room_after s b signal x).step (record k { now = now })
   reads-goes b signal x now same l out z w =
       let y : Transfer = (with_room x.storage x.transfer).transfer in
@@ -261,7 +262,7 @@ module _ (laws : AreLaws) (accesses : AreAccesses) (storage : Contents) (side : 
         interrupted-mode side (command_spec.with_transfer s b x.transfer) (record b { transfer = x.transfer }) (with_now now) (with_any_sent downs (Some (record { path = signal.path; signal = down.Give x.bytes signal.number signal.connection signal.command (signal.sequence + 1) })))
         (taken ups path) u refl g
 
-    writes-goes : (lead : Option ℕ) → s.begun ≡ Some b → signal.number ≡ k.number → signal.command ≤ m → length k.taken ≡ k.sent → is_outward b.transfer.code ≡ true →
+    writes-goes : (lead : Option ℕ) → s.begun ≡ Some b → signal.number ≡ k.number → signal.command ≤ m → length (backward k.taken) ≡ k.sent → is_outward b.transfer.code ≡ true →
         (signal.sequence ≡ b.transfer.sequence) ⊎ (signal.sequence ≡ b.transfer.sequence + 1) → IsData (view_of b.transfer k.now) lead signal.sequence l → Flow (view_of b.transfer k.now) k.absorbed lead →
         IsWired side k.number m (HandFlow b.transfer.code (view_of b.transfer k.now) lead) (IsGive (view_of b.transfer k.now)) (IsData (view_of b.transfer k.now) lead) downs ups u →
         Goes (on_data.gives_next_chunk storage s b signal (load_length l)) (with_now (gives storage b.transfer signal.sequence (load_length l) k.now))
@@ -343,7 +344,7 @@ module _ (laws : AreLaws) (accesses : AreAccesses) (storage : Contents) (side : 
 
   -- the device's command is over
   pub record IsOver (b : ActiveProgram) : Type 0 where
-    pub taken_all : length k.taken ≡ k.sent
+    pub taken_all : length (backward k.taken) ≡ k.sent
     pub absorbs : AbsorbsInOrder k.orb k.now k.absorbed
     pub some : k.sent ≡ 0 → k.absorbed ≡ []
     pub wires : (one : Option (OnPath Down)) → IfSome one (λ d. IsGiving k.number m AnyGive d.signal) → Closed (with_any_sent downs one) (taken ups path)

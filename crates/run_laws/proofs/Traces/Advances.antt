@@ -36,14 +36,14 @@ fetch_cases P storage orb role address b u = fetch_or_check P (role.first && is_
 
 -- where a block takes control it joins the commands and the data; otherwise these stay, and where the program is suspended
 -- the marks too
-abbrev pub Went : Bool → Sequence Command → Sequence Command → List Reach → List Reach → Option ℕ → Role → Option Advance → Type 0
+abbrev pub Went : Bool → Sequence Command → Sequence Command → Sequence Reach → Sequence Reach → Option ℕ → Role → Option Advance → Type 0
 Went c cs ds rs qs n role (Some (advance.Takes ccw)) =
     (ds ≡ commands_after c cs (Takes ccw)) × (qs ≡ reaches_after c cs rs (Takes ccw)) × (n ≡ None) × (role.chained ≡ ccw.chain_data)
 Went c cs ds rs qs n role (Some advance.Suspends) = (ds ≡ cs) × (qs ≡ rs) × (role.chained ≡ c)
 Went c cs ds rs qs n role (Some (advance.Stops check)) = (ds ≡ cs) × (qs ≡ rs)
 Went c cs ds rs qs n role None = (ds ≡ cs) × (qs ≡ rs)
 
-block-went : (cs : Sequence Command) (rs : List Reach) (address : ℕ) (role : Role) (r : Reading) →
+block-went : (cs : Sequence Command) (rs : Sequence Reach) (address : ℕ) (role : Role) (r : Reading) →
     Went role.chained cs (commands_after role.chained cs r) rs (reaches_after role.chained cs rs r) (next_after address r) (role_after role r) (advance_of_ccw r)
 block-went cs rs address role (Transfers target) = (refl, refl)
 block-went cs rs address role (Takes ccw) = (refl, refl, refl, refl)
@@ -65,18 +65,18 @@ WentTo orb before acts =
     Went (role_of orb before).chained (commands orb before) (commands orb (before ▸▸ acts)) (data_areas orb before) (data_areas orb (before ▸▸ acts))
     (next orb (before ▸▸ acts)) (role_of orb (before ▸▸ acts)) (advance_of_acts (walk_place orb before) acts)
 
-went-from : (c d : Bool) (cs ds es : Sequence Command) (rs qs ps : List Reach) (n : Option ℕ) (role : Role) (a : Option Advance) → d ≡ c → ds ≡ cs → qs ≡ rs →
+went-from : (c d : Bool) (cs ds es : Sequence Command) (rs qs ps : Sequence Reach) (n : Option ℕ) (role : Role) (a : Option Advance) → d ≡ c → ds ≡ cs → qs ≡ rs →
     Went d ds es qs ps n role a → Went c cs es rs ps n role a
 went-from c d cs ds es rs qs ps n role a e f g w =
     subst (λ (x : Bool). Went x cs es rs ps n role a) e
-    (subst (λ (x : Sequence Command). Went d x es rs ps n role a) f (subst (λ (x : List Reach). Went d ds es x ps n role a) g w))
+    (subst (λ (x : Sequence Command). Went d x es rs ps n role a) f (subst (λ (x : Sequence Reach). Went d ds es x ps n role a) g w))
 
 target-went : (storage : Contents) (orb : Orb) (before : Sequence Act) (address : ℕ) (bytes : List ℕ) (r : Reading) → reads orb (role_of orb before) bytes ≡ r →
     WentTo orb before (with_tic_target storage (after_block (walk_place orb before) address bytes) r (Nothing ▸ Block address bytes))
 target-went storage orb before address bytes (Transfers target) e =
     let role : Role = role_of orb before in
     let cs : Sequence Command = commands orb before in
-    let rs : List Reach = data_areas orb before in
+    let rs : Sequence Reach = data_areas orb before in
     let mid : Sequence Act = before ▸ Block address bytes in
     let same : (role_of orb mid).chained ≡ role.chained = ap (λ (r : Reading). (role_after role r).chained) e in
     let commanded : commands orb mid ≡ cs = ap (λ (r : Reading). commands_after role.chained cs r) e in

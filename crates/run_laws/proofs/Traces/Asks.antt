@@ -1,5 +1,5 @@
 -- A block that takes control with its PCI flag one leaves the interruption to the command at work, and status is made of it.
-use Rattle.std.proofs.Common.{◌≡◌, refl, ap, sym, ◌∙◌, subst, arith, ℕ, ◌+◌, ◌<◌, Bool, true, false, List, [], ◌∷◌, length, Option, Some, None, Result, Ok, Err}
+use Rattle.std.proofs.Common.{◌≡◌, refl, ap, sym, ◌∙◌, subst, arith, ℕ, ◌+◌, ◌<◌, Bool, true, false, List, [], ◌∷◌, length, Option, Some, None, Result, Ok, Err, ◌++◌}
 use Rattle.std.specs.Prelude.{◌||◌, ◌==◌, min, is_some, if◌then◌else◌, bit_or}
 use Rattle.std.specs.Int.RustNames.{bit_and}
 use Rattle.std.proofs.lemmas.Bool.{eq-eqb}
@@ -232,7 +232,7 @@ gives-asking storage orb p t s count e f =
 arrived-asking : (storage : Contents) (orb : Orb) (p : CommandTrace) (t : Transfer) (bytes : List ℕ) (r : Result Contents Check) → t.walk ≡ walk_place orb p.acts → t.pci_pending ≡ false →
     LeavesAsking orb p (with_arrival storage t bytes r p) (after_store storage t (length bytes) r).transfer
 arrived-asking storage orb p t bytes (Ok after) e f =
-    let q : CommandTrace = record p { arrived = record { former = storage.bytes; chunk = doing.chunk_of after t.moving bytes } ∷ p.arrived } in
+    let q : CommandTrace = record p { arrived = p.arrived ++ record { former = storage.bytes; chunk = doing.chunk_of after t.moving bytes } ∷ [] } in
     after_bytes_moved-asking after orb q t (length bytes) (chains_data (with_bytes_moved t (length bytes)) (length bytes)) e f
 arrived-asking storage orb p t bytes (Err check) e f = none-asking (asked orb p.acts) (asked orb p.acts) (record t { fault = Some check }) refl f
 

@@ -1,5 +1,5 @@
 -- What comes to a program, act by act, is what storage holds.
-use Rattle.std.proofs.Common.{◌≡◌, refl, ap, sym, ◌∙◌, subst, ℕ, ◌+◌, ◌≤◌, Bool, true, false, List, [], ◌∷◌, length, Option, Some, None, Result, Ok, Err, inl, inr, arith}
+use Rattle.std.proofs.Common.{◌≡◌, refl, ap, sym, ◌∙◌, subst, ℕ, ◌+◌, ◌≤◌, Bool, true, false, List, [], ◌∷◌, length, Option, Some, None, Result, Ok, Err, inl, inr, arith, ◌++◌}
 use Rattle.std.specs.Prelude.{◌==◌, ◌&&◌, ◌%◌, not, min, is_some, if◌then◌else◌}
 use Rattle.std.proofs.lemmas.Bool.{eqb-true}
 use Rattle.orb_block.specs.declared.Orb.{Orb}
@@ -119,8 +119,8 @@ aligned-word false x word e = absurd (cc e)
 abbrev list-word : Contents → ℕ → ListKind → ℕ → ℕ → Result ℕ Check
 list-word storage key kind list i = list_word_of kind (checked (fetched storage key (address_of_word kind list i) (width kind)))
 
-next-word : (storage : Contents) (orb : Orb) (r : Reach) (rs : List Reach) (m : Moving) (word : ℕ) → m.kind ≡ kind_of orb → m.ccw ≡ r.ccw → m.words ≡ length r.words →
-    access.word_fetched storage orb.key m ≡ Ok word → word_fault m.kind (m.words == 0) word (length storage.bytes) ≡ None → IsNextWord storage orb (r ∷ rs) word
+next-word : (storage : Contents) (orb : Orb) (r : Reach) (rs : Sequence Reach) (m : Moving) (word : ℕ) → m.kind ≡ kind_of orb → m.ccw ≡ r.ccw → m.words ≡ length r.words →
+    access.word_fetched storage orb.key m ≡ Ok word → word_fault m.kind (m.words == 0) word (length storage.bytes) ≡ None → IsNextWord storage orb (rs ▸ r) word
 next-word storage orb r rs m word k c n e f =
     let aligned = aligned-word (m.ccw.address % width m.kind == 0) (list-word storage orb.key m.kind m.ccw.address m.words) word e in (
       ap (λ (ccw : Ccw). ccw.address % width (kind_of orb)) (sym c) ∙ ap (λ (kind : ListKind). m.ccw.address % width kind) (sym k)
@@ -133,11 +133,11 @@ next-word storage orb r rs m word k c n e f =
           ∙ ap (λ (kind : ListKind). word_fault kind (m.words == 0) word (length storage.bytes)) (sym k) ∙ f,
     )
 
-spot-word : (storage : Contents) (orb : Orb) (rs : List Reach) (t : Transfer) (ps : List (Option ℕ)) (word : ℕ) → t.moving.kind ≡ kind_of orb →
+spot-word : (storage : Contents) (orb : Orb) (rs : Sequence Reach) (t : Transfer) (ps : List (Option ℕ)) (word : ℕ) → t.moving.kind ≡ kind_of orb →
     access.word_fetched storage orb.key t.moving ≡ Ok word → word_fault t.moving.kind (t.moving.words == 0) word (length storage.bytes) ≡ None → IsMovedTo orb rs t ps →
     IsNextWord storage orb rs word
-spot-word storage orb [] t ps word e w f k = k
-spot-word storage orb (r ∷ rs) t ps word e w f k = next-word storage orb r rs t.moving word e k.0.ccw k.0.words w f
+spot-word storage orb Nothing t ps word e w f k = k
+spot-word storage orb (rs ▸ r) t ps word e w f k = next-word storage orb r rs t.moving word e k.0.ccw k.0.words w f
 
 -- a chunk that is copied is no act
 copy-by : (storage : Contents) (t : Transfer) (r : Result (List ℕ) Check) (p : CommandTrace) →
@@ -260,7 +260,7 @@ module _ (earlier : ℕ) where
     arrival-adds : (storage : Contents) (orb : Orb) (p : CommandTrace) (t : Transfer) (bytes : List ℕ) (r : Result Contents Check) → length bytes ≤ t.moving.left → Tied earlier orb p.acts p.moved t →
         UsedAdds (after_store storage t (length bytes) r).storage orb (is_some t.fault) p (with_arrival storage t bytes r p)
     arrival-adds storage orb p t bytes (Ok after) l k =
-        after_bytes_moved-adds after orb p t (length bytes) (record { former = storage.bytes; chunk = doing.chunk_of after t.moving bytes } ∷ p.arrived) l k
+        after_bytes_moved-adds after orb p t (length bytes) (p.arrived ++ record { former = storage.bytes; chunk = doing.chunk_of after t.moving bytes } ∷ []) l k
     arrival-adds storage orb p t bytes (Err check) l k = unused-adds storage orb (is_some t.fault) p p refl refl
 
     store-if : (storage : Contents) (orb : Orb) (p : CommandTrace) (t : Transfer) (bytes : List ℕ) (r : Result Contents Check) (b : Bool) → length bytes ≤ t.moving.left →

@@ -24,7 +24,7 @@ use Rattle.ccw_walk.specs.Acts.{Act, End}
 use Rattle.ccw_walk.specs.Programs.{IsProgram, role_of, commands}
 use Rattle.ccw_walk.specs.Places.{WalkPlace, walk_place, after_command_end}
 use Rattle.idaw.specs.Lists.{block, kind_of}
-use Rattle.idaw.specs.Places.{places_of_bytes}
+use Rattle.run_laws.specs.DataAreas.{places_of_bytes, data_areas, counts}
 use Rattle.data_move.specs.Moving.{residual}
 use Rattle.data_move.specs.declared.transfer.Transfer.{Transfer}
 use Rattle.data_move.specs.declared.transfer.Beginning.{Beginning}
@@ -62,7 +62,6 @@ use Rattle.run_laws.proofs.Traces.MachineActs.{with_acts, goes_acts, first_acts,
 use Rattle.run_laws.proofs.Traces.MachineTraces as stories
 use Rattle.run_laws.proofs.Traces.MachineTraces.{trace_meets}
 use Rattle.run_laws.specs.ProgramClaims.{IsBeginning, places_of, places_arrived, IsSuspended, EndsAtCheck, IsWhole}
-use Rattle.run_laws.specs.DataAreas.{data_areas, counts}
 use Rattle.run_laws.specs.Shows.{IsRest}
 use Rattle.run_laws.proofs.Bytes.Accesses.{AreAccesses}
 use Rattle.run_laws.proofs.Traces.Ties.{AreLaws, Tied, changed, spot-counts}

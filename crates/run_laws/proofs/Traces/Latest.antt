@@ -1,5 +1,5 @@
 -- The block whose data are at hand is the last that took control, and says whether a command is chained to.
-use Rattle.std.proofs.Common.{◌≡◌, refl, sym, ◌∙◌, ap, subst, ℕ, ◌+◌, Bool, true, false, List, [], ◌∷◌, Option, Some, None}
+use Rattle.std.proofs.Common.{◌≡◌, refl, sym, ◌∙◌, ap, subst, ℕ, ◌+◌, Bool, true, false, List, Option, Some, None}
 use Rattle.std.specs.Prelude.{if◌then◌else◌, is_some, not, ◌&&◌, ◌||◌}
 use Rattle.orb_block.specs.declared.Orb.{Orb}
 use Rattle.ccw_codec.specs.declared.Ccw.{Ccw}
@@ -29,19 +29,19 @@ abbrev pub IsLatest : Option Latest → Ccw → Type 0
 IsLatest None ccw = ⊥
 IsLatest (Some last) ccw = last.ccw ≡ ccw
 
-abbrev HasLatest : Sequence Command → List Reach → Option Latest → Type 0
-HasLatest cs ds last = (r : Reach) (rs : List Reach) → ds ≡ r ∷ rs → HasBegun cs → IsLatest last r.ccw
+abbrev HasLatest : Sequence Command → Sequence Reach → Option Latest → Type 0
+HasLatest cs ds last = (r : Reach) (rs : Sequence Reach) → ds ≡ rs ▸ r → HasBegun cs → IsLatest last r.ccw
 
-block-latest : (address : ℕ) (chained : Bool) (cs : Sequence Command) (ds : List Reach) (last : Option Latest) (x : Reading) → HasLatest cs ds last →
+block-latest : (address : ℕ) (chained : Bool) (cs : Sequence Command) (ds : Sequence Reach) (last : Option Latest) (x : Reading) → HasLatest cs ds last →
     HasLatest (commands_after chained cs x) (reaches_after chained cs ds x) (latest_after last address x)
 block-latest address false cs ds last (Takes ccw) f = λ r rs e h. let same : reach ccw.command ccw ≡ r = cc e in ap (λ (x : Reach). x.ccw) same
 block-latest address true Nothing ds last (Takes ccw) f = λ r rs e h. absurd h
 block-latest address true (cs ▸ c) ds last (Takes ccw) f = λ r rs e h. let same : reach (code c) ccw ≡ r = cc e in ap (λ (x : Reach). x.ccw) same
 block-latest address chained cs ds last other f = f
 
-word-latest : (cs : Sequence Command) (ds : List Reach) (word : ℕ) (last : Option Latest) → HasLatest cs ds last → HasLatest cs (word_after ds word) last
-word-latest cs [] word last f r rs e h = absurd (cc e)
-word-latest cs (d ∷ ds) word last f r rs e h =
+word-latest : (cs : Sequence Command) (ds : Sequence Reach) (word : ℕ) (last : Option Latest) → HasLatest cs ds last → HasLatest cs (word_after ds word) last
+word-latest cs Nothing word last f r rs e h = absurd (cc e)
+word-latest cs (ds ▸ d) word last f r rs e h =
     let same : reach_with_word d word ≡ r = cc e in
     subst (λ (x : Reach). IsLatest last x.ccw) same (f d ds refl h)
 
@@ -54,10 +54,10 @@ has-latest orb (acts ▸ Used_up) = has-latest orb acts
 has-latest orb (acts ▸ End ended) = has-latest orb acts
 has-latest orb (acts ▸ Word word) = word-latest (commands orb acts) (data_areas orb acts) word (latest orb acts) (has-latest orb acts)
 
-moved-latest : (orb : Orb) (ds : List Reach) (cs : Sequence Command) (last : Option Latest) (t : Transfer) (ps : List (Option ℕ)) → IsMovedTo orb ds t ps → HasBegun cs →
+moved-latest : (orb : Orb) (ds : Sequence Reach) (cs : Sequence Command) (last : Option Latest) (t : Transfer) (ps : List (Option ℕ)) → IsMovedTo orb ds t ps → HasBegun cs →
     HasLatest cs ds last → IsLatest last t.moving.ccw
-moved-latest orb [] cs last t ps k h f = absurd k
-moved-latest orb (r ∷ rs) cs last t ps k h f = subst (λ (x : Ccw). IsLatest last x) (sym (ccw-of r t k.0)) (f r rs refl h)
+moved-latest orb Nothing cs last t ps k h f = absurd k
+moved-latest orb (rs ▸ r) cs last t ps k h f = subst (λ (x : Ccw). IsLatest last x) (sym (ccw-of r t k.0)) (f r rs refl h)
 
 pub latest-of : (earlier : ℕ) (orb : Orb) (acts : Sequence Act) (ps : List (Option ℕ)) (t : Transfer) → Tied earlier orb acts ps t → IsLatest (latest orb acts) t.moving.ccw
 latest-of earlier orb acts ps t k =

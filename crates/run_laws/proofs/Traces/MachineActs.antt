@@ -1,6 +1,6 @@
 -- What is done for a program, act by act, as the subsystem begins its commands and moves their bytes (SA22-7832, chapter
 -- 15).
-use Rattle.std.specs.Prelude.{ℕ, ◌+◌, ◌==◌, Bool, true, min, if◌then◌else◌, is_some, Option, None, Some, List, ◌∷◌, ◌++◌, length, Result, Ok, Err}
+use Rattle.std.specs.Prelude.{ℕ, ◌+◌, ◌==◌, Bool, true, min, if◌then◌else◌, is_some, Option, None, Some, List, ◌∷◌, ◌++◌, length, Result, Ok, Err, []}
 use Rattle.ccw_codec.specs.Command.{class_of}
 use Rattle.storage_keys.specs.Storage.{Contents}
 use Rattle.ccw_walk.specs.declared.check.Check.{Check}
@@ -82,7 +82,7 @@ trace_answered storage t s count k =
 
 -- the next chunk is copied for the device
 abbrev pub with_copy : Contents → Transfer → Result (List ℕ) Check → CommandTrace → CommandTrace
-with_copy storage t (Ok bytes) k = record k { copied = chunk_of storage t.moving bytes ∷ k.copied }
+with_copy storage t (Ok bytes) k = record k { copied = k.copied ++ chunk_of storage t.moving bytes ∷ [] }
 with_copy storage t (Err check) k = k
 
 abbrev pub copying : Contents → Transfer → CommandTrace → CommandTrace
@@ -103,7 +103,7 @@ gives storage t s count k =
 -- the bytes of chunk s of a read are stored
 abbrev pub with_arrival : Contents → Transfer → List ℕ → Result Contents Check → CommandTrace → CommandTrace
 with_arrival storage t bytes (Ok after) k =
-    trace_moved_on after t (length bytes) (record k { arrived = record { former = storage.bytes; chunk = chunk_of after t.moving bytes } ∷ k.arrived })
+    trace_moved_on after t (length bytes) (record k { arrived = k.arrived ++ record { former = storage.bytes; chunk = chunk_of after t.moving bytes } ∷ [] })
 with_arrival storage t bytes (Err check) k = k
 
 abbrev pub storing : Contents → Transfer → List ℕ → CommandTrace → CommandTrace

@@ -1,9 +1,10 @@
 -- What is done for a program with each signal, and what is kept of its transfer.
-use Rattle.std.proofs.Common.{◌≡◌, refl, ap, sym, ◌∙◌, subst, ℕ, suc, ◌+◌, ◌≤◌, Bool, true, false, List, [], ◌∷◌, ◌++◌, length, Option, Some, None, Result, Ok, Err, inl, inr, arith}
+use Rattle.std.proofs.Common.{◌≡◌, refl, ap, sym, ◌∙◌, subst, ℕ, ◌+◌, ◌≤◌, Bool, true, false, List, [], ◌∷◌, ◌++◌, length, Option, Some, None, Result, Ok, Err, inl, inr, arith, append-nil, length-append}
+use Rattle.std.proofs.lemmas.Grind.{flat_map-append}
 use Rattle.std.specs.Prelude.{◌&&◌, ◌||◌, not, ◌==◌, min, is_some, if◌then◌else◌, All, take}
 use Rattle.std.proofs.lemmas.Bool.{eqb-true}
 use Rattle.std.proofs.lemmas.List.{length-take}
-use Rattle.std.proofs.lemmas.List.Elements.{All-nil, All-cons}
+use Rattle.std.proofs.lemmas.List.Elements.{All-nil, All-push}
 use Rattle.std.proofs.Math.Nat.{min-le_left, min-le_right}
 use Rattle.orb_block.specs.declared.Orb.{Orb}
 use Rattle.ccw_codec.specs.Command.{class_of}
@@ -169,6 +170,9 @@ abbrev pub HasArrived : CommandTrace → Option Check → ℕ → Bool → Type 
 HasArrived p fault last true = p.arrived ≡ []
 HasArrived p fault last false = All IsStored p.arrived × (places_arrived p.arrived ≡ p.moved) × (fault ≡ None → last ≡ length p.arrived)
 
+places-arrived : (xs : List Arrival) (a : Arrival) → places_arrived (xs ++ a ∷ []) ≡ places_arrived xs ++ a.chunk.places
+places-arrived xs a = flat_map-append (λ (x : Arrival). x.chunk.places) xs (a ∷ []) ∙ ap (λ (ys : List (Option ℕ)). places_arrived xs ++ ys) (append-nil a.chunk.places)
+
 pub arrived-none : (p : CommandTrace) (fault : Option Check) (last : ℕ) (d : Bool) → p.arrived ≡ [] → p.moved ≡ [] → last ≡ 0 → HasArrived p fault last d
 arrived-none p fault last true e f z = e
 arrived-none p fault last false e f z =
@@ -313,17 +317,17 @@ module _ (earlier : ℕ) where
           IsAtWork orb (with_arrival storage t bytes r p) (after_store storage t (length bytes) r).transfer false
       arrival-by storage orb p t bytes (Ok after) e l k =
           let a : Arrival = record { former = storage.bytes; chunk = chunk_of after t.moving bytes } in
-          let q : CommandTrace = record p { arrived = a ∷ p.arrived } in
+          let q : CommandTrace = record p { arrived = p.arrived ++ a ∷ [] } in
           let parts : (_ : (doing.trace_moved_on after t (length bytes) q).moved ≡ p.moved ++ each_below (next_place t.moving) (length bytes))
-          × ((doing.trace_moved_on after t (length bytes) q).arrived ≡ a ∷ p.arrived) =
+          × ((doing.trace_moved_on after t (length bytes) q).arrived ≡ p.arrived ++ a ∷ []) =
           after_bytes_moved-parts after t (length bytes) q (chains_data (with_bytes_moved t (length bytes)) (length bytes)) in
           let x : IsThrough t (after_bytes_moved after t (length bytes)) = after_bytes_moved-through after t (length bytes) (chains_data (with_bytes_moved t (length bytes)) (length bytes)) in
           record {
             tied = after_bytes_moved-tied laws earlier after orb q t (length bytes) l k.tied;
             arrived = (
-              subst (λ (xs : List Arrival). All IsStored xs) (sym parts.1) (All-cons IsStored a p.arrived (arrival-stored storage after t bytes e) k.stored),
-              ap places_arrived parts.1 ∙ ap (λ (xs : List (Option ℕ)). xs ++ each_below (next_place t.moving) (length bytes)) k.places ∙ sym parts.0,
-              λ z. x.0 ∙ k.next (x.1 z) ∙ (let n : length p.arrived + 1 ≡ suc (length p.arrived) = omega arith in n) ∙ sym (ap length parts.1),
+              subst (λ (xs : List Arrival). All IsStored xs) (sym parts.1) (All-push IsStored p.arrived a k.stored (arrival-stored storage after t bytes e)),
+              ap places_arrived parts.1 ∙ places-arrived p.arrived a ∙ ap (λ (xs : List (Option ℕ)). xs ++ each_below (next_place t.moving) (length bytes)) k.places ∙ sym parts.0,
+              λ z. x.0 ∙ k.next (x.1 z) ∙ sym (length-append p.arrived (a ∷ [])) ∙ sym (ap length parts.1),
             );
           }
       arrival-by storage orb p t bytes (Err check) e l k = record {

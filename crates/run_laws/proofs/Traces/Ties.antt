@@ -1,5 +1,5 @@
 -- What is kept of a transfer agrees with what was done for its program, act by act.
-use Rattle.std.proofs.Common.{◌≡◌, refl, ap, sym, ◌∙◌, subst, ℕ, suc, ◌+◌, ◌%◌, ◌≤◌, ◌<◌, Bool, true, false, List, [], ◌∷◌, ◌++◌, length, Option, Some, None, Result, Ok, Err, inl, inr, arith, append_assoc, length-append}
+use Rattle.std.proofs.Common.{◌≡◌, refl, ap, sym, ◌∙◌, subst, ℕ, suc, ◌+◌, ◌%◌, ◌≤◌, ◌<◌, Bool, true, false, List, [], ◌++◌, length, Option, Some, None, Result, Ok, Err, inl, inr, arith, append_assoc, length-append}
 use Rattle.std.specs.Prelude.{◌⊎◌, ◌&&◌, ◌||◌, ◌==◌, not, min, nat_lt, is_some, IsSome, ◌↔◌, if◌then◌else◌}
 use Rattle.std.proofs.lemmas.Bool.{and_parts, eqb-true, eqb-false, ltb-true}
 use Rattle.std.proofs.Math.Nat.{min-le_right}
@@ -20,7 +20,8 @@ use Rattle.idaw.specs.declared.ListKind.{ListKind}
 use Rattle.idaw.specs.declared.WordFault.{WordFault}
 use Rattle.idaw.specs.declared.WordFault.TheVariants.{LeftmostBit, OffBlock, OutsideStorage}
 use Rattle.idaw.specs.Lists.{block, kind_of, word_fault, has_leftmost_bit, is_outside}
-use Rattle.idaw.specs.Places.{Reach, place_of_byte, each_below, places_of_bytes, reach_with_word, covered}
+use Rattle.idaw.specs.Places.{Reach, place_of_byte, each_below, reach_with_word, covered}
+use Rattle.run_laws.specs.DataAreas.{places_of_bytes, reach, brings_in, data_areas, reaches_after, counts, word_after, reaches_with}
 use Rattle.data_move.specs.Moving as movement
 use Rattle.data_move.specs.Moving.{Moving, moving_begun, with_piece, moved, next_place, needs_word, residual, uses_list, room, IsAt, MayFetch}
 use Rattle.data_move.specs.Accesses as access
@@ -38,7 +39,6 @@ use Rattle.channel_config.specs.Setup.{Setup}
 use Rattle.machine_model.specs.State.{State, opening_of}
 use Rattle.machine_model.specs.Steps.{Run}
 use Rattle.data_move.specs.Accesses.{where_right}
-use Rattle.run_laws.specs.DataAreas.{reach, brings_in, data_areas, reaches_after, counts, word_after, reaches_with}
 use Rattle.run_laws.proofs.Traces.MachineActs.{act_of_right, act_of_word, word_acts, located_acts, room_acts}
 use Rattle.run_laws.specs.ProgramClaims.{IsBeginning, IsSuspended, has_check, EndsAtCheck}
 use Rattle.run_laws.proofs.Bytes.Lists.{some-begin, length-places, length-each_below}
@@ -86,16 +86,16 @@ data-begins laws kind code ccw =
     (laws.begins kind ccw (is_skipped code ccw))
 
 -- the places of the bytes that were moved are those of the blocks before, and the first of the latest
-abbrev pub IsMovedTo : Orb → List Reach → Transfer → List (Option ℕ) → Type 0
-IsMovedTo orb [] t ps = ⊥
-IsMovedTo orb (r ∷ rs) t ps =
+abbrev pub IsMovedTo : Orb → Sequence Reach → Transfer → List (Option ℕ) → Type 0
+IsMovedTo orb Nothing t ps = ⊥
+IsMovedTo orb (rs ▸ r) t ps =
     IsAt r t.moving × (ps ≡ places_of_bytes (block (kind_of orb)) rs ++ each_below (place_of_byte (block (kind_of orb)) r) t.moving.done)
 
 -- a change of what isn't told of
-pub spot-changed : (orb : Orb) (rs : List Reach) (t u : Transfer) (ps : List (Option ℕ)) → u.moving ≡ t.moving → (is_some t.fault ≡ true → is_some u.fault ≡ true) →
+pub spot-changed : (orb : Orb) (rs : Sequence Reach) (t u : Transfer) (ps : List (Option ℕ)) → u.moving ≡ t.moving → (is_some t.fault ≡ true → is_some u.fault ≡ true) →
     IsMovedTo orb rs t ps → IsMovedTo orb rs u ps
-spot-changed orb [] t u ps m f k = k
-spot-changed orb (r ∷ rs) t u ps m f k = (
+spot-changed orb Nothing t u ps m f k = k
+spot-changed orb (rs ▸ r) t u ps m f k = (
   subst (λ (x : Moving). IsAt r x) (sym m) k.0,
   k.1 ∙ ap (λ (x : Moving). places_of_bytes (block (kind_of orb)) rs ++ each_below (place_of_byte (block (kind_of orb)) r) x.done) (sym m),
 )
@@ -121,13 +121,13 @@ pub ccw-of : (r : Reach) (t : Transfer) → IsAt r t.moving → t.moving.ccw ≡
 ccw-of r t a = a.ccw
 
 -- so the places are a beginning of the command's, and the count is right
-pub spot-begins : (orb : Orb) (rs : List Reach) (t : Transfer) (ps : List (Option ℕ)) → IsMovedTo orb rs t ps → IsBeginning ps (places_of_bytes (block (kind_of orb)) rs)
-spot-begins orb [] t ps k = absurd k
-spot-begins orb (r ∷ rs) t ps k = some-begin (block (kind_of orb)) r rs t.moving.done ps (done-within r t k.0) k.1
+pub spot-begins : (orb : Orb) (rs : Sequence Reach) (t : Transfer) (ps : List (Option ℕ)) → IsMovedTo orb rs t ps → IsBeginning ps (places_of_bytes (block (kind_of orb)) rs)
+spot-begins orb Nothing t ps k = absurd k
+spot-begins orb (rs ▸ r) t ps k = some-begin (block (kind_of orb)) r rs t.moving.done ps (done-within r t k.0) k.1
 
-pub spot-counts : (orb : Orb) (rs : List Reach) (t : Transfer) (ps : List (Option ℕ)) → IsMovedTo orb rs t ps → counts rs ≡ length ps + residual t.moving
-spot-counts orb [] t ps k = absurd k
-spot-counts orb (r ∷ rs) t ps k =
+pub spot-counts : (orb : Orb) (rs : Sequence Reach) (t : Transfer) (ps : List (Option ℕ)) → IsMovedTo orb rs t ps → counts rs ≡ length ps + residual t.moving
+spot-counts orb Nothing t ps k = absurd k
+spot-counts orb (rs ▸ r) t ps k =
     let b : ℕ = block (kind_of orb) in
     let e : length ps ≡ length (places_of_bytes b rs) + length (each_below (place_of_byte b r) t.moving.done) =
     ap length k.1 ∙ length-append (places_of_bytes b rs) (each_below (place_of_byte b r) t.moving.done) in
@@ -199,7 +199,7 @@ module _ (earlier : ℕ) where
         let cs : Sequence Command = commands orb before in
         let commanded : commands orb acts ≡ cs ▸ record { first = ccw; more = Nothing } =
         f ∙ ap (λ (x : Bool). if x then join_last cs ccw else cs ▸ record { first = ccw; more = Nothing }) c in
-        let reached : data_areas orb acts ≡ reach ccw.command ccw ∷ [] =
+        let reached : data_areas orb acts ≡ Nothing ▸ reach ccw.command ccw =
         g ∙ ap (λ (x : Bool). reaches_with x cs (data_areas orb before) ccw) c in (
           record {
             walk = w;
@@ -209,7 +209,7 @@ module _ (earlier : ℕ) where
             coded = subst (λ (xs : Sequence Command). HasCode xs ccw.command) (sym commanded) refl;
             kind = ap (λ (x : WalkPlace). kind_of x.orb) w;
             spot =
-                subst (λ (rs : List Reach). IsMovedTo orb rs (transfer_of walk n ccw) []) (sym reached)
+                subst (λ (rs : Sequence Reach). IsMovedTo orb rs (transfer_of walk n ccw) []) (sym reached)
                 (data-begins laws (kind_of walk.orb) ccw.command ccw, refl);
             number = ap count commanded ∙ (let z : suc (count cs) ≡ count cs + 1 = omega arith in z) ∙ l;
             ends = en;
@@ -296,11 +296,11 @@ module _ (earlier : ℕ) where
         subst (λ (x : ListKind). each_below (place_of_byte (block x) r) m.done ≡ each_below (place_of_byte (block x) (reach_with_word r word)) m.done) e
         (sym (laws.stays r m word a (list-used (uses_list m) r m refl a n)))
 
-    right-spot : (orb : Orb) (rs : List Reach) (t : Transfer) (ps : List (Option ℕ)) (word size : ℕ) → t.moving.kind ≡ kind_of orb → is_some t.fault ≡ false →
+    right-spot : (orb : Orb) (rs : Sequence Reach) (t : Transfer) (ps : List (Option ℕ)) (word size : ℕ) → t.moving.kind ≡ kind_of orb → is_some t.fault ≡ false →
         needs_word t.moving ≡ true → word_fault t.moving.kind (t.moving.words == 0) word size ≡ None → IsMovedTo orb rs t ps →
         IsMovedTo orb (word_after rs word) (record t { moving = with_piece t.moving word }) ps
-    right-spot orb [] t ps word size e f n w k = k
-    right-spot orb (r ∷ rs) t ps word size e f n w k = (
+    right-spot orb Nothing t ps word size e f n w k = k
+    right-spot orb (rs ▸ r) t ps word size e f n w k = (
       laws.word r t.moving word k.0 (may-fetch r t.moving word size k.0 n w),
       k.1 ∙ ap (λ (xs : List (Option ℕ)). places_of_bytes (block (kind_of orb)) rs ++ xs) (same-places orb r t.moving word e k.0 n),
     )
@@ -355,10 +355,10 @@ module _ (earlier : ℕ) where
     room-tied storage orb acts t k = room-by storage orb acts t (brings (class_of t.code)) k
 
     -- bytes are moved
-    moved-spot : (orb : Orb) (rs : List Reach) (t : Transfer) (ps : List (Option ℕ)) (n : ℕ) → t.moving.kind ≡ kind_of orb → n ≤ t.moving.left → IsMovedTo orb rs t ps →
+    moved-spot : (orb : Orb) (rs : Sequence Reach) (t : Transfer) (ps : List (Option ℕ)) (n : ℕ) → t.moving.kind ≡ kind_of orb → n ≤ t.moving.left → IsMovedTo orb rs t ps →
         IsMovedTo orb rs (with_bytes_moved t n) (ps ++ each_below (next_place t.moving) n)
-    moved-spot orb [] t ps n e l k = absurd k
-    moved-spot orb (r ∷ rs) t ps n e l k =
+    moved-spot orb Nothing t ps n e l k = absurd k
+    moved-spot orb (rs ▸ r) t ps n e l k =
         let b : ℕ = block (kind_of orb) in
         let m : Moving = t.moving in
         let more : each_below (place_of_byte b r) m.done ++ each_below (next_place m) n ≡ each_below (place_of_byte b r) (m.done + n) =
