@@ -1,4 +1,4 @@
--- What is done for one start, act by act (SA22-7832, chapter 15). A list of acts has the latest first.
+-- What is done for one start, act by act (SA22-7832, chapter 15).
 use Rattle.std.specs.Prelude.{ℕ, List, Option}
 use Rattle.ccw_walk.specs.declared.check.Check.{Check}
 use Rattle.ccw_walk.specs.declared.program.Ended.{Ended}

@@ -1,6 +1,6 @@
 -- How a channel program goes on where a CCW is to be fetched (SA22-7832, chapter 15): to a CCW that takes control, to a suspension, or to a
--- check. A list of acts has the latest first.
-use Rattle.std.specs.Prelude.{ℕ, List, [], ◌∷◌, Option, None, Some}
+-- check.
+use Rattle.std.specs.Prelude.{ℕ, Option, None, Some}
 use Rattle.storage_keys.specs.Storage.{Contents}
 use Rattle.ccw_walk.specs.declared.check.Check.TheVariants.{Program}
 use Rattle.ccw_walk.specs.declared.program.Reading.{Reading}
@@ -8,28 +8,29 @@ use Rattle.ccw_walk.specs.declared.program.Reading.TheVariants as reading
 use Rattle.ccw_walk.specs.declared.program.Advance.{Advance}
 use Rattle.ccw_walk.specs.declared.program.Advance.TheVariants.{Takes, Suspends, Stops}
 use Rattle.ccw_walk.specs.Blocks.{reads}
+use Rattle.ccw_walk.specs.Sequences.{Sequence, Nothing, ◌▸◌}
 use Rattle.ccw_walk.specs.Acts.{Act, Block, Unfetched}
 use Rattle.ccw_walk.specs.Places.{WalkPlace, after_block, after_acts}
 use Rattle.ccw_walk.specs.Fetching.{fetch_act}
 
 -- a transfer in channel (TIC): the CCW at its target is fetched too
-abbrev pub with_tic_target : Contents → WalkPlace → Reading → List Act → List Act
+abbrev pub with_tic_target : Contents → WalkPlace → Reading → Sequence Act → Sequence Act
 with_tic_target storage place read before =
-    elim read [ reading.Transfers target ↦ fetch_act storage place.orb place.role target ∷ before | other ↦ before ]
+    elim read [ reading.Transfers target ↦ before ▸ fetch_act storage place.orb place.role target | other ↦ before ]
 
 -- the acts from the fetch of a CCW on. The target of a TIC is no TIC, so there are at most two
-abbrev pub acts_from_fetch : Contents → WalkPlace → Act → List Act
+abbrev pub acts_from_fetch : Contents → WalkPlace → Act → Sequence Act
 acts_from_fetch storage old (Block address bytes) =
-    with_tic_target storage (after_block old address bytes) (reads old.orb old.role bytes) (Block address bytes ∷ [])
-acts_from_fetch storage old act = act ∷ []
+    with_tic_target storage (after_block old address bytes) (reads old.orb old.role bytes) (Nothing ▸ Block address bytes)
+acts_from_fetch storage old act = Nothing ▸ act
 
 -- the acts by which a program goes on: none where no CCW is next
-abbrev pub acts_from_next : Contents → WalkPlace → Option ℕ → List Act
+abbrev pub acts_from_next : Contents → WalkPlace → Option ℕ → Sequence Act
 acts_from_next storage old next =
-    elim next [ None ↦ [] | Some address ↦ acts_from_fetch storage old (fetch_act storage old.orb old.role address) ]
+    elim next [ None ↦ Nothing | Some address ↦ acts_from_fetch storage old (fetch_act storage old.orb old.role address) ]
 
 -- the acts by which a program goes on from its place
-abbrev pub advance_acts : Contents → WalkPlace → List Act
+abbrev pub advance_acts : Contents → WalkPlace → Sequence Act
 advance_acts storage old = acts_from_next storage old old.next
 
 -- what a CCW comes to: a TIC does not let the program stand still
@@ -44,7 +45,7 @@ advance_of_act old (Block address bytes) = advance_of_ccw (reads old.orb old.rol
 advance_of_act old (Unfetched address check) = Some (Stops check)
 advance_of_act old act = None
 
--- what some acts come to: the latest one tells it
-abbrev pub advance_of_acts : WalkPlace → List Act → Option Advance
-advance_of_acts old [] = None
-advance_of_acts old (act ∷ before) = advance_of_act (after_acts old before) act
+-- what some acts come to: the last one tells it
+abbrev pub advance_of_acts : WalkPlace → Sequence Act → Option Advance
+advance_of_acts old Nothing = None
+advance_of_acts old (before ▸ act) = advance_of_act (after_acts old before) act

@@ -1,5 +1,6 @@
 pub mod Checks
 pub mod Blocks
+pub mod Sequences
 pub mod Acts
 pub mod Programs
 pub mod Places

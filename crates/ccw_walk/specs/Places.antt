@@ -1,11 +1,12 @@
 -- Where a channel program stands (SA22-7832, chapter 15). `Programs` tells it from all acts since the start; here it is kept as a place,
--- which each act moves on. A list of acts has the latest first, as in `Acts`. A block is a CCW, eight bytes of the program.
-use Rattle.std.specs.Prelude.{ℕ, ◌+◌, List, [], ◌∷◌, Option, None}
+-- which each act moves on. A block is a CCW, eight bytes of the program.
+use Rattle.std.specs.Prelude.{ℕ, ◌+◌, List, Option, None}
 use Rattle.orb_block.specs.declared.Orb.{Orb}
 use Rattle.ccw_walk.specs.declared.program.Role.{Role}
 use Rattle.ccw_walk.specs.declared.program.Latest.{Latest}
 use Rattle.ccw_walk.specs.declared.program.Ended.{Ended}
 use Rattle.ccw_walk.specs.Blocks.{reads}
+use Rattle.ccw_walk.specs.Sequences.{Sequence, Nothing, ◌▸◌}
 use Rattle.ccw_walk.specs.Acts.{Act, Block, Unfetched, Used_up, End}
 use Rattle.ccw_walk.specs.Programs.{role_of, role_after, latest as latest_of, latest_after, next as next_of, next_after, next_used_up, next_ended, tried as tried_of}
 
@@ -22,7 +23,7 @@ pub record WalkPlace : Type 0 where
   pub tried : ℕ
 
 -- the place after these acts
-abbrev pub walk_place : Orb → List Act → WalkPlace
+abbrev pub walk_place : Orb → Sequence Act → WalkPlace
 walk_place orb acts = record { orb = orb; role = role_of orb acts; latest = latest_of orb acts; next = next_of orb acts; tried = tried_of orb acts }
 
 -- a CCW was fetched: it takes control, suspends the program, transfers in channel (TIC), or shows a program check
@@ -56,6 +57,6 @@ after_act old (End ended) = after_command_end old ended
 after_act old act = old
 
 -- the place some acts further
-abbrev pub after_acts : WalkPlace → List Act → WalkPlace
-after_acts old [] = old
-after_acts old (act ∷ before) = after_act (after_acts old before) act
+abbrev pub after_acts : WalkPlace → Sequence Act → WalkPlace
+after_acts old Nothing = old
+after_acts old (before ▸ act) = after_act (after_acts old before) act

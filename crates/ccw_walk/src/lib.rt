@@ -1,7 +1,8 @@
 //! The walk through a channel program, one block at a time (SA22-7832, chapter 15).
 #![tactic(auto)]
 
-ghost use Rattle.std.specs.Prelude.{◌≡◌, ◌+◌, ◌<◌, ◌^◌, ◌↔◌, [], ◌∷◌, Some, IsSome, IfOk, IfErr, OnOk};
+ghost use Rattle.std.specs.Prelude.{◌≡◌, ◌+◌, ◌<◌, ◌^◌, ◌↔◌, Some, IsSome, IfOk, IfErr, OnOk};
+ghost use Rattle.ccw_walk.specs.Sequences.{Nothing, ◌▸◌};
 ghost use Rattle.ccw_walk.specs.Acts.{Block, Unfetched, Used_up, End};
 ghost use Rattle.ccw_walk.specs.Blocks.{reads};
 ghost use Rattle.ccw_walk.specs.Places.{walk_place, after_act, after_acts};
@@ -53,7 +54,7 @@ impl Model for Walk {
 impl Walk {
     /// A program of which nothing was fetched: its first block is next.
     pub fn start(orb: Orb) -> Walk
-        ensures { result ≡ walk_place orb [] }
+        ensures { result ≡ walk_place orb Nothing }
     {
         Walk {
             orb,
@@ -106,7 +107,7 @@ impl Walk {
         requires inside { address < 2 ^ 31 }
         ensures reading { result ≡ reads self.old.orb self.old.role bytes.now }
         ensures after { self.new ≡ after_act self.old (Block address bytes.now) }
-        ensures goes_on { GoesOn self.old (Block address bytes.now ∷ []) self.new }
+        ensures goes_on { GoesOn self.old (Nothing ▸ Block address bytes.now) self.new }
     {
         let reading = reading(self.orb, self.role, bytes);
         self.tried = address + BLOCK;
@@ -138,7 +139,7 @@ impl Walk {
     pub fn unfetched(&mut self, address: u32, check: Check)
         requires { self.old.next ≡ Some address }
         ensures after { self.new ≡ after_act self.old (Unfetched address check) }
-        ensures goes_on { GoesOn self.old (Unfetched address check ∷ []) self.new }
+        ensures goes_on { GoesOn self.old (Nothing ▸ Unfetched address check) self.new }
     {
         let _ = check;
         self.next = None;
@@ -149,7 +150,7 @@ impl Walk {
     /// block is 8 bytes on.
     pub fn used_up(&mut self)
         ensures after { self.new ≡ after_act self.old Used_up }
-        ensures goes_on { GoesOn self.old (Used_up ∷ []) self.new }
+        ensures goes_on { GoesOn self.old (Nothing ▸ Used_up) self.new }
     {
         self.next = match self.latest {
             Some(latest) if latest.ccw.chain_data => Some(latest.address + BLOCK),
@@ -161,7 +162,7 @@ impl Walk {
     /// lets the program go on, the next block is 8 bytes on, or 16 with status modifier.
     pub fn device_end(&mut self, ended: Ended)
         ensures after { self.new ≡ after_act self.old (End ended) }
-        ensures goes_on { GoesOn self.old (End ended ∷ []) self.new }
+        ensures goes_on { GoesOn self.old (Nothing ▸ End ended) self.new }
     {
         self.next = match self.latest {
             Some(latest) if ended.goes_on && latest.ccw.chain_command && !latest.ccw.chain_data => {

@@ -1,4 +1,5 @@
 -- What is done for the program that a subchannel offered last, and how the entries tell it.
+pub mod Sequences
 pub mod MachineActs
 pub mod MachineTraces
 pub mod Sweeps

@@ -12,6 +12,7 @@ use Rattle.chan_model.specs.Signals.{Up}
 use Rattle.chan_model.specs.declared.signal.Up.TheVariants as up
 use Rattle.channel_config.specs.declared.names.SubchannelId.{SubchannelId}
 use Rattle.channel_config.specs.SubchannelWords.{subchannel_named}
+use Rattle.ccw_walk.specs.Sequences.{Sequence, Nothing, ◌▸◌}
 use Rattle.run_laws.specs.StateClaims.{is_id}
 
 -- a number under which a start was offered
@@ -19,22 +20,22 @@ pub record Offer : Type 0 where
   pub number : ℕ
   pub start : ℕ
 
--- how many starts of a subchannel were accepted, the numbers that were offered but for a resume, the latest first, and the
--- starts that began a program, in their order
+-- how many starts of a subchannel were accepted, the numbers that were offered but for a resume, and the starts that began a
+-- program, each in order
 pub record StartCounts : Type 0 where
   pub accepted : ℕ
-  pub offers : List Offer
+  pub offers : Sequence Offer
   pub begun : List ℕ
 
 -- an offer belongs to the latest start that was accepted before it
 abbrev pub with_offer : Reply → StartCounts → StartCounts
-with_offer (reply.Offered t p false) k = record k { offers = record { number = t; start = k.accepted } ∷ k.offers }
+with_offer (reply.Offered t p false) k = record k { offers = k.offers ▸ record { number = t; start = k.accepted } }
 with_offer r k = k
 
 -- the start that a number was offered for begins a program, where there is one
-abbrev pub with_begun : ℕ → List Offer → StartCounts → StartCounts
-with_begun t [] k = k
-with_begun t (x ∷ xs) k = if x.number == t then record k { begun = k.begun ++ x.start ∷ [] } else with_begun t xs k
+abbrev pub with_begun : ℕ → Sequence Offer → StartCounts → StartCounts
+with_begun t Nothing k = k
+with_begun t (before ▸ x) k = if x.number == t then record k { begun = k.begun ++ x.start ∷ [] } else with_begun t before k
 
 -- the unit takes a Select by an Accept
 abbrev pub starts_with_answer : ℕ → Up → StartCounts → StartCounts
@@ -56,7 +57,7 @@ starts_after sets id (event.Down word path) r k = if is_id (subchannel_named set
 starts_after sets id e r k = k
 
 abbrev pub no_starts : StartCounts
-no_starts = record { accepted = 0; offers = []; begun = [] }
+no_starts = record { accepted = 0; offers = Nothing; begun = [] }
 
 -- the starts of a subchannel after these entries
 abbrev pub starts_by : ℕ → SubchannelId → StartCounts → List Entry → StartCounts

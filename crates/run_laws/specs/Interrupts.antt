@@ -1,9 +1,10 @@
 -- Interruptions by the program (program-controlled interruption; SA22-7832, chapters 15 and 16).
-use Rattle.std.specs.Prelude.{◌≡◌, ℕ, ◌+◌, ◌<◌, true, if◌then◌else◌, List, [], ◌∷◌}
+use Rattle.std.specs.Prelude.{◌≡◌, ℕ, ◌+◌, ◌<◌, true, if◌then◌else◌}
 use Rattle.orb_block.specs.declared.Orb.{Orb}
 use Rattle.scsw_irb.specs.Status.{has}
 use Rattle.ccw_walk.specs.declared.program.Reading.{Reading}
 use Rattle.ccw_walk.specs.declared.program.Reading.TheVariants.{Takes}
+use Rattle.ccw_walk.specs.Sequences.{Sequence, Nothing, ◌▸◌}
 use Rattle.ccw_walk.specs.Acts.{Act, Block}
 use Rattle.ccw_walk.specs.Blocks.{reads}
 use Rattle.ccw_walk.specs.Programs.{role_of}
@@ -16,10 +17,10 @@ asks_by (Takes ccw) = if ccw.program_controlled then 1 else 0
 asks_by reading = 0
 
 -- how many blocks asked so far
-abbrev pub asked : Orb → List Act → ℕ
-asked orb [] = 0
-asked orb (Block address bytes ∷ before) = asked orb before + asks_by (reads orb (role_of orb before) bytes)
-asked orb (act ∷ before) = asked orb before
+abbrev pub asked : Orb → Sequence Act → ℕ
+asked orb Nothing = 0
+asked orb (before ▸ Block address bytes) = asked orb before + asks_by (reads orb (role_of orb before) bytes)
+asked orb (before ▸ act) = asked orb before
 
 -- where one asks, intermediate status with PCI is made at once, whatever status is pending, unless the subchannel is not enabled
 abbrev pub Interrupts : SubchannelState → SubchannelState → ProgramTrace → ProgramTrace → Type 0

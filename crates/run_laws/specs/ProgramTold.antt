@@ -36,6 +36,7 @@ use Rattle.run_laws.specs.Traces.{ProgramTrace, trace_offered, trace_resumed, ta
 use Rattle.run_laws.specs.Behind.{behind_after}
 use Rattle.run_laws.specs.StorageTold.{AreStored}
 use Rattle.run_laws.specs.StatusTold.{LastStored, stored_after, shown_by, IsStatusTold}
+use Rattle.ccw_walk.specs.Sequences.{◌▸◌}
 
 -- the operation-request block of the start that was accepted last, and what was done for the program that was offered last
 pub record Told : Type 0 where
@@ -123,7 +124,7 @@ abbrev pub Ends : Bool → Contents → DeviceStatus → Bool → Option (OnPath
 Ends halted storage status more sent k after =
     (IsChained true halted status more k × Chains storage status sent k after)
     ⊎ (IsChained false halted status more k × (command_sent sent ≡ None)
-    × (after ≡ record k { now = record k.now { acts = ended false status ∷ k.now.acts; ended = true; unchained = true } }))
+    × (after ≡ record k { now = record k.now { acts = k.now.acts ▸ ended false status; ended = true; unchained = true } }))
 
 -- a signal that is taken. Data: bytes are moved, and the next block is fetched where the counts so far are used up
 abbrev pub MeetsBy : Standing → Contents → Contents → Up → Option (OnPath Down) → ProgramTrace → ProgramTrace → Type 0

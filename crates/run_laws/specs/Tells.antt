@@ -1,6 +1,6 @@
 -- How what was done for a program goes on with each event, told by what is seen: the signals that are taken and sent, and what
 -- storage holds in that step (SA22-7832, chapter 15).
-use Rattle.std.specs.Prelude.{◌≡◌, ◌⊎◌, ◌&&◌, ◌||◌, not, ℕ, ◌==◌, ◌+◌, ◌<◌, nat_lt, min, Bool, true, false, is_none, is_some, if◌then◌else◌, Option, None, Some, List, [], ◌∷◌, ◌++◌, length, map, take, slice_get, IfSome}
+use Rattle.std.specs.Prelude.{◌≡◌, ◌⊎◌, ◌&&◌, ◌||◌, not, ℕ, ◌==◌, ◌+◌, ◌<◌, nat_lt, min, Bool, true, false, is_none, is_some, if◌then◌else◌, Option, None, Some, List, [], ◌∷◌, ◌++◌, length, take, slice_get, IfSome}
 use Rattle.orb_block.specs.declared.Orb.{Orb}
 use Rattle.ccw_codec.specs.declared.Ccw.{Ccw}
 use Rattle.scsw_irb.specs.declared.status.DeviceStatus.{DeviceStatus}
@@ -18,6 +18,7 @@ use Rattle.chan_events.specs.declared.event.Event.TheVariants as event
 use Rattle.chan_events.specs.declared.reply.Entry.{Entry}
 use Rattle.chan_events.specs.Replies.{Reply}
 use Rattle.chan_events.specs.declared.reply.Reply.TheVariants as reply
+use Rattle.ccw_walk.specs.Sequences.{Sequence, ◌▸◌, each}
 use Rattle.ccw_walk.specs.Acts.{Act, Used_up, End}
 use Rattle.ccw_walk.specs.Programs.{latest, next, next_used_up, commands, code}
 use Rattle.subchannel_model.specs.declared.state.Program.{Program}
@@ -53,17 +54,17 @@ command_sent (Some sent) =
 
 -- a program goes as far as these acts: the command that is sent is the one that came to it with them, or none is sent and none
 -- came
-abbrev pub GoesTo : Contents → Option SentCommand → List Act → ProgramTrace → ProgramTrace → Type 0
+abbrev pub GoesTo : Contents → Option SentCommand → Sequence Act → ProgramTrace → ProgramTrace → Type 0
 GoesTo storage (Some c) acts k after =
-    (c.number ≡ k.number) × (c.command ≡ k.sent + 1) × (map code (commands k.orb acts) ≡ c.sent_code ∷ map code (commands k.orb k.now.acts))
+    (c.number ≡ k.number) × (c.command ≡ k.sent + 1) × (each code (commands k.orb acts) ≡ each code (commands k.orb k.now.acts) ▸ c.sent_code)
     × (kept : Bool) × BeginsData storage k.orb c.sent_code c.room kept acts
     × (after ≡ record k { sent = k.sent + 1; now = record no_trace { acts = acts; kept = kept }; before = k.now })
 GoesTo storage None acts k after =
-    (map code (commands k.orb acts) ≡ map code (commands k.orb k.now.acts)) × (after ≡ record k { now = record k.now { acts = acts } })
+    (each code (commands k.orb acts) ≡ each code (commands k.orb k.now.acts)) × (after ≡ record k { now = record k.now { acts = acts } })
 
 -- from some acts on it is fetched from storage
-abbrev pub GoesOn : Contents → Option (OnPath Down) → List Act → ProgramTrace → ProgramTrace → Type 0
-GoesOn storage sent before k after = (acts : List Act) × AddsFetched storage k.orb before acts × GoesTo storage (command_sent sent) acts k after
+abbrev pub GoesOn : Contents → Option (OnPath Down) → Sequence Act → ProgramTrace → ProgramTrace → Type 0
+GoesOn storage sent before k after = (acts : Sequence Act) × AddsFetched storage k.orb before acts × GoesTo storage (command_sent sent) acts k after
 
 -- the start that was offered neither waits any more nor is suspended, or a halt is pending
 abbrev pub IsOver : SubchannelState → Type 0
@@ -111,7 +112,7 @@ pub record Keeps (cause : Type 0) (storage : Contents) (orb : Orb) (k now : Comm
 abbrev pub IsGiven : Contents → Orb → List ℕ → CommandTrace → CommandTrace → Type 0
 IsGiven storage orb bytes k now =
     ((bytes ≡ []) × (now.copied ≡ k.copied))
-    ⊎ ((places : List (Option ℕ)) × (now.copied ≡ record { storage = storage.bytes; places = places; bytes = bytes } ∷ k.copied)
+    ⊎ ((places : List (Option ℕ)) × (now.copied ≡ k.copied ++ record { storage = storage.bytes; places = places; bytes = bytes } ∷ [])
     × IsBeginning (now.moved ++ places) (places_of orb now.acts))
 
 pub record Gives (storage : Contents) (orb : Orb) (count next : ℕ) (bytes : List ℕ) (k now : CommandTrace) : Type 0 where
@@ -128,7 +129,7 @@ abbrev pub Stores : Contents → Contents → Orb → ℕ → Bool → ℕ → L
 Stores former storage orb fits kept s bytes k now =
     ((s ≡ length k.arrived + 1 → (kept ≡ true) ⊎ CantStore former orb k.acts k.moved (take fits bytes)) × (storage ≡ former) × (now.arrived ≡ k.arrived) × (now.moved ≡ k.moved))
     ⊎ ((s ≡ length k.arrived + 1) × (places : List (Option ℕ))
-    × (now.arrived ≡ record { former = former.bytes; chunk = record { storage = storage.bytes; places = places; bytes = take fits bytes } } ∷ k.arrived)
+    × (now.arrived ≡ k.arrived ++ record { former = former.bytes; chunk = record { storage = storage.bytes; places = places; bytes = take fits bytes } } ∷ [])
     × (now.moved ≡ k.moved ++ places) × (storage ≡ record former { bytes = storage.bytes }))
 
 -- Data of a write: the next chunk is given; a device that absorbed fewer than were given stops the transfer
@@ -162,8 +163,8 @@ is_used_up orb kept k now =
     nat_lt (length k.moved) (length now.moved)
     && ((length now.moved == counts (data_areas orb k.acts)) && (is_some (next_used_up (latest orb k.acts)) && not kept))
 
-abbrev pub acts_used : Bool → List Act → List Act
-acts_used used acts = if used then Used_up ∷ acts else acts
+abbrev pub acts_used : Bool → Sequence Act → Sequence Act
+acts_used used acts = if used then acts ▸ Used_up else acts
 
 -- and by its numbers: a Give has the number of the next chunk, and a Took that of its own
 abbrev pub IsAnswerTo : ℕ → ℕ → ℕ → ℕ → Option (OnPath Down) → Type 0
@@ -179,7 +180,7 @@ Moves former storage s load None k after = ⊥
 Moves former storage s load (Some sent) k after =
     (now : CommandTrace) × (after ≡ record k { now = now })
     × AddsFetched storage k.orb (acts_used (is_used_up k.orb k.now.kept k.now now) k.now.acts) now.acts
-    × (map code (commands k.orb now.acts) ≡ map code (commands k.orb k.now.acts)) × (now.ended ≡ k.now.ended) × (now.unchained ≡ k.now.unchained)
+    × (each code (commands k.orb now.acts) ≡ each code (commands k.orb k.now.acts)) × (now.ended ≡ k.now.ended) × (now.unchained ≡ k.now.unchained)
     × MovesBy former storage k.orb s load sent.signal k.now now
 
 -- End: a command is chained to where one is next by the program, nothing breaks the chain (chapter 16), and no earlier End of
@@ -202,18 +203,18 @@ breaks orb k halted status more =
     || (elim (latest orb k.acts) [ None ↦ false | Some last ↦ is_length_wrong orb k halted status more last.ccw ] || (k.kept || halted))))
 
 abbrev pub IsChained : Bool → Bool → DeviceStatus → Bool → ProgramTrace → Type 0
-IsChained chains halted status more k = (is_some (next k.orb (ended true status ∷ k.now.acts)) && not (breaks k.orb k.now halted status more)) ≡ chains
+IsChained chains halted status more k = (is_some (next k.orb (k.now.acts ▸ ended true status)) && not (breaks k.orb k.now halted status more)) ≡ chains
 
 -- the program goes on as device end comes; until then the command has not ended
 abbrev pub Chains : Contents → DeviceStatus → Option (OnPath Down) → ProgramTrace → ProgramTrace → Type 0
 Chains storage status sent k after =
-    ((has_device_end status ≡ true) × GoesOn storage sent (ended true status ∷ k.now.acts) k after)
+    ((has_device_end status ≡ true) × GoesOn storage sent (k.now.acts ▸ ended true status) k after)
     ⊎ ((has_device_end status ≡ false) × (sent ≡ None) × (after ≡ record k { now = record k.now { ended = true } }))
 
 -- or none is, and status is made; the last End of a program while a start waits leaves the address and the count of that start
 abbrev pub Ends : Contents → SubchannelState → SubchannelState → DeviceStatus → Bool → Option (OnPath Down) → ProgramTrace → ProgramTrace → Type 0
 Ends storage s next status more sent k after =
-    (IsChained false s.scsw.functions.halt status more k × (after ≡ record k { now = record k.now { acts = ended false status ∷ k.now.acts; ended = true; unchained = true } })
+    (IsChained false s.scsw.functions.halt status more k × (after ≡ record k { now = record k.now { acts = k.now.acts ▸ ended false status; ended = true; unchained = true } })
     × (command_sent sent ≡ None) × (s.pmcw.enabled ≡ true → s.serials.made < next.serials.made)
     × IsShownBy (is_none s.waiting || not (is_last_end status)) s next after)
     ⊎ (IsChained true s.scsw.functions.halt status more k × Chains storage status sent k after × IsProgramShown s next after

@@ -1,6 +1,6 @@
 -- What was done for the program that a subchannel offered last, and what offers, devices and their reports tell of it
 -- (SA22-7832, chapter 15).
-use Rattle.std.specs.Prelude.{ℕ, ◌==◌, Bool, true, false, if◌then◌else◌, Option, None, Some, option_map, List, [], ◌∷◌, ◌++◌, length, take, slice_get}
+use Rattle.std.specs.Prelude.{ℕ, ◌==◌, Bool, true, false, if◌then◌else◌, Option, None, Some, option_map, List, [], ◌++◌, take, slice_get}
 use Rattle.orb_block.specs.declared.Orb.{Orb}
 use Rattle.chan_model.specs.declared.signal.Down.TheVariants as down
 use Rattle.chan_model.specs.declared.report.DeviceAnswer.TheVariants.{Absorbed}
@@ -13,6 +13,7 @@ use Rattle.chan_events.specs.Events.{Event}
 use Rattle.chan_events.specs.declared.event.Event.TheVariants as event
 use Rattle.chan_events.specs.Replies.{Reply}
 use Rattle.chan_events.specs.declared.reply.Reply.TheVariants as reply
+use Rattle.ccw_walk.specs.Sequences.{Sequence, Nothing, ◌▸◌, count}
 use Rattle.ccw_walk.specs.Acts.{Act, PlacedBytes}
 use Rattle.ccw_walk.specs.Programs.{commands}
 use Rattle.subchannel_model.specs.declared.state.Program.{Program}
@@ -26,10 +27,9 @@ pub record Arrival : Type 0 where
   pub chunk : PlacedBytes
 
 -- what was done for the program as far as one of its commands, and for this command: the chunks that were copied for the
--- device and the bytes of a read that were stored, each list with the latest first; and the places of the bytes that
--- were moved, in order
+-- device, the bytes of a read that were stored, and the places of the bytes that were moved, all in order
 pub record CommandTrace : Type 0 where
-  pub acts : List Act
+  pub acts : Sequence Act
   pub copied : List PlacedBytes
   pub arrived : List Arrival
   pub moved : List (Option ℕ)
@@ -44,7 +44,7 @@ pub record CommandTrace : Type 0 where
 
 abbrev pub no_trace : CommandTrace
 no_trace = record {
-  acts = [];
+  acts = Nothing;
   copied = [];
   arrived = [];
   moved = [];
@@ -67,21 +67,21 @@ pub record ProgramTrace : Type 0 where
   pub sent : ℕ
   pub now : CommandTrace
   pub before : CommandTrace
-  -- the codes of the commands that the device took under this number, the latest first
-  pub taken : List ℕ
+  -- the codes of the commands that the device took under this number, in order
+  pub taken : Sequence ℕ
   -- the bytes that it absorbed for the last one, in order
   pub absorbed : List ℕ
 
 -- Choose: a program is offered from its beginning, or from where it was suspended
 abbrev pub trace_offered : ℕ → Orb → ProgramTrace
-trace_offered t orb = record { number = t; orb = orb; earlier = 0; sent = 0; now = no_trace; before = no_trace; taken = []; absorbed = [] }
+trace_offered t orb = record { number = t; orb = orb; earlier = 0; sent = 0; now = no_trace; before = no_trace; taken = Nothing; absorbed = [] }
 
 -- what was done before: the acts, and the places of the bytes that the last command moved
 abbrev pub past_part : CommandTrace → CommandTrace
 past_part p = record no_trace { acts = p.acts; moved = p.moved }
 
 abbrev pub trace_resumed : ℕ → ProgramTrace → ProgramTrace
-trace_resumed t k = record (trace_offered t k.orb) { earlier = length (commands k.orb k.now.acts); now = past_part k.now }
+trace_resumed t k = record (trace_offered t k.orb) { earlier = count (commands k.orb k.now.acts); now = past_part k.now }
 
 abbrev pub offered_for : Option Program → ℕ → Option ProgramTrace → Option ProgramTrace
 offered_for waiting t k = elim waiting [ None ↦ k | Some program ↦ Some (trace_offered t program.orb) ]
@@ -97,7 +97,7 @@ chosen_at sub r k = k
 -- the device takes a command of the program: one that is answered, as where its side is fresh, was not taken
 abbrev pub takes : Down → ProgramTrace → ProgramTrace
 takes signal k =
-    elim signal [ down.Command t n code room ↦ if t == k.number then record k { taken = code ∷ k.taken; absorbed = [] } else k | other ↦ k ]
+    elim signal [ down.Command t n code room ↦ if t == k.number then record k { taken = k.taken ▸ code; absorbed = [] } else k | other ↦ k ]
 
 abbrev pub taken_at : Reply → Option ProgramTrace → Option ProgramTrace
 taken_at (reply.Down signal true None) (Some k) = Some (takes signal k)

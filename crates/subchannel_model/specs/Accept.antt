@@ -11,6 +11,7 @@ use Rattle.chan_model.specs.declared.hold_state.HoldState.{HoldState}
 use Rattle.chan_model.specs.declared.signal.Taken.{Taken}
 use Rattle.chan_model.specs.Signals.{Down}
 use Rattle.chan_model.specs.HoldTable.{HoldStep, hold_after, came_of}
+use Rattle.ccw_walk.specs.Sequences.{Nothing}
 use Rattle.ccw_walk.specs.Places.{WalkPlace, walk_place}
 use Rattle.data_move.specs.declared.transfer.Beginning.{Beginning}
 use Rattle.data_move.specs.declared.transfer.CommandStart.{CommandStart}
@@ -31,7 +32,7 @@ use Rattle.subchannel_model.specs.Command.{sends_command}
 
 -- a program that waits begins with its first CCW
 abbrev pub position_at_start : Program → ProgramPosition
-position_at_start program = record { program = program; walk = walk_place program.orb []; count = 0 }
+position_at_start program = record { program = program; walk = walk_place program.orb Nothing; count = 0 }
 
 -- a program that is suspended goes on from where it stands, where it is the one of this start
 abbrev pub suspended_position : Option ProgramPosition → ℕ → Option ProgramPosition

@@ -1,7 +1,7 @@
 -- What was copied for the device is as storage stood then.
-use Rattle.std.proofs.Common.{◌≡◌, refl, ℕ, ◌+◌, Bool, true, false, List, [], ◌∷◌, length, Option, Some, None, Result, Ok, Err}
+use Rattle.std.proofs.Common.{◌≡◌, refl, ℕ, ◌+◌, Bool, true, false, List, ◌∷◌, length, Option, Some, None, Result, Ok, Err, ◌++◌, []}
 use Rattle.std.specs.Prelude.{◌==◌, min, is_some, if◌then◌else◌, All}
-use Rattle.std.proofs.lemmas.List.Elements.{All-nil, All-cons}
+use Rattle.std.proofs.lemmas.List.Elements.{All-nil, All-push}
 use Rattle.storage_keys.specs.Storage.{Contents}
 use Rattle.scsw_irb.specs.declared.status.DeviceStatus.{DeviceStatus}
 use Rattle.chan_model.specs.declared.hold_state.HoldPhase.{HoldPhase}
@@ -12,6 +12,7 @@ use Rattle.chan_model.specs.HoldTable.{HoldStep, hold_takes, hold_after, came_of
 use Rattle.chan_model.specs.Loads.{load_length}
 use Rattle.chan_model.specs.UnitReports.{is_outward, has_device_end}
 use Rattle.ccw_walk.specs.declared.check.Check.{Check}
+use Rattle.ccw_walk.specs.Sequences.{Sequence, Nothing, count}
 use Rattle.ccw_walk.specs.Acts.{Act}
 use Rattle.ccw_walk.specs.Programs.{commands}
 use Rattle.ccw_walk.specs.Places.{WalkPlace, walk_place}
@@ -47,7 +48,7 @@ abbrev pub AreCopied : ProgramTrace → Type 0
 AreCopied k = AllCopied k.now × AllCopied k.before
 
 pub copied-part : (k : ProgramTrace) → AreCopied k → AllCopied (part_of k)
-copied-part k c = by (length k.taken == k.sent)
+copied-part k c = by (count k.taken == k.sent)
   where
     by : (b : Bool) → AllCopied (if b then k.now else k.before)
     by true = c.0
@@ -68,7 +69,7 @@ answer-if storage t s count p false c = c
 
 arrival-copied : (storage : Contents) (t : Transfer) (bytes : List ℕ) (r : Result Contents Check) (p : CommandTrace) → AllCopied p → AllCopied (with_arrival storage t bytes r p)
 arrival-copied storage t bytes (Ok after) p c =
-    moved-copied after t (length bytes) (record p { arrived = record { former = storage.bytes; chunk = chunk_of after t.moving bytes } ∷ p.arrived }) c
+    moved-copied after t (length bytes) (record p { arrived = p.arrived ++ record { former = storage.bytes; chunk = chunk_of after t.moving bytes } ∷ [] }) c
 arrival-copied storage t bytes (Err check) p c = c
 
 store-if : (storage : Contents) (t : Transfer) (bytes : List ℕ) (r : Result Contents Check) (p : CommandTrace) (b : Bool) → AllCopied p →
@@ -89,7 +90,7 @@ module _ (accesses : AreAccesses) where
   copy-by : (storage : Contents) (t : Transfer) (r : Result (List ℕ) Check) (p : CommandTrace) → access.copied storage t.walk.orb.key t.moving ≡ r → AllCopied p →
       AllCopied (with_copy storage t r p)
   copy-by storage t (Ok bytes) p e c =
-      All-cons IsCopied (chunk_of storage t.moving bytes) p.copied (copied-bytes accesses storage t.walk.orb.key t.moving bytes e) c
+      All-push IsCopied p.copied (chunk_of storage t.moving bytes) c (copied-bytes accesses storage t.walk.orb.key t.moving bytes e)
   copy-by storage t (Err check) p e c = c
 
   copy-if : (storage : Contents) (t : Transfer) (p : CommandTrace) (b : Bool) → AllCopied p →
@@ -104,7 +105,7 @@ module _ (accesses : AreAccesses) where
       copy-if storage u (with_acts (trace_answered storage t s count p) (located_acts storage a)) (has_stopped u) (answer-if storage t s count p (s == t.sequence + 1) c)
 
   -- the story
-  goes-copied : (storage : Contents) (c : CommandStart) (acts : List Act) (k : ProgramTrace) → AreCopied k → AreCopied (stories.trace_goes_on storage c acts k)
+  goes-copied : (storage : Contents) (c : CommandStart) (acts : Sequence Act) (k : ProgramTrace) → AreCopied k → AreCopied (stories.trace_goes_on storage c acts k)
   goes-copied storage (came.Begins t) acts k c = (All-nil IsCopied, c.0)
   goes-copied storage came.Suspends acts k c = c
   goes-copied storage (came.Stops check) acts k c = c
@@ -113,7 +114,7 @@ module _ (accesses : AreAccesses) where
   begins-copied storage walk k c = goes-copied storage (first_command storage walk).came (first_acts storage walk) k c
 
   again-if : (storage : Contents) (st : ProgramPosition) (k : ProgramTrace) (b : Bool) → AreCopied k → AreCopied (if b then stories.begins_again storage st k else k)
-  again-if storage st k true c = begins-copied storage st.walk (record k { earlier = length (commands k.orb k.now.acts); now = past_part k.now }) (All-nil IsCopied, c.1)
+  again-if storage st k true c = begins-copied storage st.walk (record k { earlier = count (commands k.orb k.now.acts); now = past_part k.now }) (All-nil IsCopied, c.1)
   again-if storage st k false c = c
 
   again-copied : (storage : Contents) (suspended : Option ProgramPosition) (start : ℕ) (k : ProgramTrace) → AreCopied k → AreCopied (stories.again_as storage suspended start k)
@@ -123,7 +124,7 @@ module _ (accesses : AreAccesses) where
   anew-if : (storage : Contents) (program : Program) (suspended : Option ProgramPosition) (start : ℕ) (k : ProgramTrace) (b : Bool) → AreCopied k →
       AreCopied (if b then stories.begins_anew storage program k else stories.again_as storage suspended start k)
   anew-if storage program suspended start k true c =
-      begins-copied storage (walk_place program.orb []) (record k { orb = program.orb; earlier = 0; now = no_trace }) (All-nil IsCopied, c.1)
+      begins-copied storage (walk_place program.orb Nothing) (record k { orb = program.orb; earlier = 0; now = no_trace }) (All-nil IsCopied, c.1)
   anew-if storage program suspended start k false c = again-copied storage suspended start k c
 
   begins_as-copied : (storage : Contents) (waiting : Option Program) (suspended : Option ProgramPosition) (start : ℕ) (k : ProgramTrace) → AreCopied k →

@@ -1,5 +1,5 @@
 -- How far the data of a command is reached, and why a check is kept.
-use Rattle.std.proofs.Common.{◌≡◌, refl, sym, ◌∙◌, ap, subst, arith, ℕ, zero, suc, ◌+◌, ◌-◌, ◌%◌, ◌≤◌, ◌<◌, ◌==◌, Bool, true, false, List, [], ◌∷◌, ◌++◌, length, Option, Some, None, Result, Ok, Err, inl, inr, length-append, append_assoc}
+use Rattle.std.proofs.Common.{◌≡◌, refl, sym, ◌∙◌, ap, subst, arith, ℕ, zero, suc, ◌+◌, ◌-◌, ◌%◌, ◌≤◌, ◌<◌, ◌==◌, Bool, true, false, List, [], ◌∷◌, ◌++◌, length, Option, Some, None, Result, Ok, Err, inl, inr, length-append}
 use Rattle.std.specs.Prelude.{◌⊎◌, if◌then◌else◌, is_some, is_none, not, ◌&&◌, nat_lt, min}
 use Rattle.std.proofs.lemmas.Bool.{and_parts, eq-eqb, ne_eqb, ltb-true, ltb-false, lt-ltb}
 use Rattle.std.proofs.lemmas.Nat.{mod_below}
@@ -11,6 +11,7 @@ use Rattle.ccw_walk.specs.declared.check.Check.{Check}
 use Rattle.ccw_walk.specs.declared.check.Check.TheVariants.{Program}
 use Rattle.ccw_walk.specs.declared.program.Advance.{Advance}
 use Rattle.ccw_walk.specs.declared.program.Advance.TheVariants as advance
+use Rattle.ccw_walk.specs.Sequences.{Sequence, Nothing, ◌▸◌, ◌▸▸◌}
 use Rattle.ccw_walk.specs.Acts.{Act, Used_up}
 use Rattle.ccw_walk.specs.Programs.{role_of, commands, next}
 use Rattle.ccw_walk.specs.Places.{WalkPlace, walk_place, after_acts, after_count_used_up}
@@ -19,7 +20,8 @@ use Rattle.idaw.specs.declared.ListKind.{ListKind}
 use Rattle.idaw.specs.declared.ListKind.TheVariants.{Short, LongByFourK, LongByTwoK}
 use Rattle.idaw.specs.declared.WordFault.{WordFault}
 use Rattle.idaw.specs.Lists.{block, kind_of, width, address_of_word, word_fault}
-use Rattle.idaw.specs.Places.{Reach, covered, each_below, place_of_byte, places_of_bytes}
+use Rattle.idaw.specs.Places.{Reach, covered, each_below, place_of_byte}
+use Rattle.run_laws.specs.DataAreas.{places_of_bytes, data_areas, counts}
 use Rattle.data_move.specs.Accesses as access
 use Rattle.data_move.specs.Accesses.{checked, list_word_of, where_right}
 use Rattle.data_move.specs.Moving.{Moving, with_piece, next_place, needs_word, residual, uses_list, room, IsAt}
@@ -28,7 +30,6 @@ use Rattle.data_move.specs.Commands.{located_transfer, with_located}
 use Rattle.data_move.specs.DataChaining.{chains_data, with_next_ccw, data_chained, with_bytes_moved, after_bytes_moved}
 use Rattle.data_move.specs.ToDevice.{with_bytes_offered, with_bytes_fetched}
 use Rattle.run_laws.specs.ProgramClaims.{IsBeginning, places_of, has_check}
-use Rattle.run_laws.specs.DataAreas.{data_areas, counts}
 use Rattle.run_laws.specs.Fetches.{IsNextWord}
 use Rattle.run_laws.specs.Reached.{reached, left_of, room_of, is_short, skips, CantReach, CantFetch}
 use Rattle.run_laws.specs.Traces.{CommandTrace}
@@ -38,6 +39,7 @@ use Rattle.run_laws.proofs.Bytes.Lists.{length-places, length-each_below}
 use Rattle.run_laws.proofs.Traces.Advances.{Went, UnlessStops, advance-went, advance-ends}
 use Rattle.run_laws.proofs.Traces.Standing.{acts-stand, suspended-unchained}
 use Rattle.run_laws.proofs.Traces.Ties.{AreLaws, IsMovedTo, Tied, spot-begins, spot-counts, done-within, ccw-of, with_bytes_moved-tied}
+use Rattle.run_laws.proofs.Traces.Sequences.{joined-in-order}
 
 -- how many bytes are reached
 bound-by : (u : Bool) (r : Reach) (m : Moving) → uses_list m ≡ u → IsAt r m → m.done + m.left ≡ (if u then min (covered (block m.kind) r.words) m.ccw.count else m.ccw.count)
@@ -48,7 +50,7 @@ list-same : (r : Reach) (m : Moving) → IsAt r m → uses_list m ≡ (r.ccw.ind
 list-same r m a = ap (λ (c : Ccw). c.indirect && not m.skipped) a.ccw ∙ ap (λ (b : Bool). r.ccw.indirect && not b) a.skipped
 
 module _ (earlier : ℕ) where
-  pub left-same : (orb : Orb) (acts : List Act) (ps : List (Option ℕ)) (t : Transfer) → Tied earlier orb acts ps t → t.moving.left ≡ left_of orb acts ps
+  pub left-same : (orb : Orb) (acts : Sequence Act) (ps : List (Option ℕ)) (t : Transfer) → Tied earlier orb acts ps t → t.moving.left ≡ left_of orb acts ps
   left-same orb acts ps t k = by (data_areas orb acts) k.spot
     where
       b : ℕ
@@ -57,9 +59,9 @@ module _ (earlier : ℕ) where
       rest : (c d l n x : ℕ) → n ≡ c + d → d + l ≡ x → l ≡ (c + x) - n
       rest c d l n x e f = omega (arith, e, f)
 
-      by : (rs : List Reach) → IsMovedTo orb rs t ps → t.moving.left ≡ reached b rs - length ps
-      by [] s = absurd s
-      by (r ∷ rs) s =
+      by : (rs : Sequence Reach) → IsMovedTo orb rs t ps → t.moving.left ≡ reached b rs - length ps
+      by Nothing s = absurd s
+      by (rs ▸ r) s =
           let m : Moving = t.moving in
           let x : Bool = r.ccw.indirect && not r.skipped in
           let long : length ps ≡ length (places_of_bytes b rs) + length (each_below (place_of_byte b r) m.done) =
@@ -73,15 +75,15 @@ module _ (earlier : ℕ) where
           rest (counts rs) m.done m.left (length ps) (if x then min (covered b r.words) r.ccw.count else r.ccw.count)
           (long ∙ ap (λ (n : ℕ). n + length (each_below (place_of_byte b r) m.done)) before ∙ ap (λ (n : ℕ). counts rs + n) done) bound
 
-  pub room-same : (orb : Orb) (acts : List Act) (ps : List (Option ℕ)) (t : Transfer) → Tied earlier orb acts ps t → room t.moving ≡ room_of orb acts ps
+  pub room-same : (orb : Orb) (acts : Sequence Act) (ps : List (Option ℕ)) (t : Transfer) → Tied earlier orb acts ps t → room t.moving ≡ room_of orb acts ps
   room-same orb acts ps t k = ap (λ (n : ℕ). min n 256) (left-same orb acts ps t k)
 
-  pub skips-same : (orb : Orb) (acts : List Act) (ps : List (Option ℕ)) (t : Transfer) → Tied earlier orb acts ps t → t.moving.skipped ≡ skips (data_areas orb acts)
+  pub skips-same : (orb : Orb) (acts : Sequence Act) (ps : List (Option ℕ)) (t : Transfer) → Tied earlier orb acts ps t → t.moving.skipped ≡ skips (data_areas orb acts)
   skips-same orb acts ps t k = by (data_areas orb acts) k.spot
     where
-      by : (rs : List Reach) → IsMovedTo orb rs t ps → t.moving.skipped ≡ skips rs
-      by [] s = absurd s
-      by (r ∷ rs) s = s.0.skipped
+      by : (rs : Sequence Reach) → IsMovedTo orb rs t ps → t.moving.skipped ≡ skips rs
+      by Nothing s = absurd s
+      by (rs ▸ r) s = s.0.skipped
 
   -- bytes are left where the words do not reach them
   less-same : (a b c d : ℕ) (x : Bool) → nat_lt c d ≡ x → c ≤ d → b ≡ a + (d - c) → nat_lt a b ≡ x
@@ -95,17 +97,17 @@ module _ (earlier : ℕ) where
           by true e = let m : a < b = ltb-true a b e in absurd (omega (arith, l, m))
           by false e = refl
 
-  tied-within : (orb : Orb) (acts : List Act) (ps : List (Option ℕ)) (t : Transfer) → Tied earlier orb acts ps t → t.moving.done ≤ t.moving.ccw.count
+  tied-within : (orb : Orb) (acts : Sequence Act) (ps : List (Option ℕ)) (t : Transfer) → Tied earlier orb acts ps t → t.moving.done ≤ t.moving.ccw.count
   tied-within orb acts ps t k = by (data_areas orb acts) k.spot
     where
-      by : (rs : List Reach) → IsMovedTo orb rs t ps → t.moving.done ≤ t.moving.ccw.count
-      by [] s = absurd s
-      by (r ∷ rs) s =
+      by : (rs : Sequence Reach) → IsMovedTo orb rs t ps → t.moving.done ≤ t.moving.ccw.count
+      by Nothing s = absurd s
+      by (rs ▸ r) s =
           let l : t.moving.done ≤ r.ccw.count = done-within r t s.0 in
           let e : t.moving.ccw.count ≡ r.ccw.count = ap (λ (c : Ccw). c.count) (ccw-of r t s.0) in
           omega (arith, l, e)
 
-  pub short-same : (orb : Orb) (acts : List Act) (ps : List (Option ℕ)) (t : Transfer) → Tied earlier orb acts ps t → is_short orb acts ps ≡ needs_word t.moving
+  pub short-same : (orb : Orb) (acts : Sequence Act) (ps : List (Option ℕ)) (t : Transfer) → Tied earlier orb acts ps t → is_short orb acts ps ≡ needs_word t.moving
   short-same orb acts ps t k =
       let m : Moving = t.moving in
       let more : nat_lt (length ps) (counts (data_areas orb acts)) ≡ nat_lt m.done m.ccw.count =
@@ -115,11 +117,11 @@ module _ (earlier : ℕ) where
       ∙ ap (λ (b : Bool). (m.left == 0) && b) more
 
   -- the next word, as the transfer fetches it
-  word-of : (storage : Contents) (orb : Orb) (rs : List Reach) (t : Transfer) (ps : List (Option ℕ)) (word : ℕ) → t.moving.kind ≡ kind_of orb → IsMovedTo orb rs t ps →
+  word-of : (storage : Contents) (orb : Orb) (rs : Sequence Reach) (t : Transfer) (ps : List (Option ℕ)) (word : ℕ) → t.moving.kind ≡ kind_of orb → IsMovedTo orb rs t ps →
       IsNextWord storage orb rs word →
       (_ : access.word_fetched storage orb.key t.moving ≡ Ok word) × (word_fault t.moving.kind (t.moving.words == 0) word (length storage.bytes) ≡ None)
-  word-of storage orb [] t ps word e s n = absurd n
-  word-of storage orb (r ∷ rs) t ps word e s n =
+  word-of storage orb Nothing t ps word e s n = absurd n
+  word-of storage orb (rs ▸ r) t ps word e s n =
       let m : Moving = t.moving in
       let aligned : (m.ccw.address % width m.kind == 0) ≡ true =
       eq-eqb (m.ccw.address % width m.kind) 0
@@ -135,7 +137,7 @@ module _ (earlier : ℕ) where
             ∙ n.2,
       )
 
-  no-word : (storage : Contents) (orb : Orb) (acts : List Act) (ps : List (Option ℕ)) (t : Transfer) → Tied earlier orb acts ps t → needs_word t.moving ≡ true →
+  no-word : (storage : Contents) (orb : Orb) (acts : Sequence Act) (ps : List (Option ℕ)) (t : Transfer) → Tied earlier orb acts ps t → needs_word t.moving ≡ true →
       ((word : ℕ) → access.word_fetched storage t.walk.orb.key t.moving ≡ Ok word → word_fault t.moving.kind (t.moving.words == 0) word (length storage.bytes) ≡ None → ⊥) →
       CantReach storage orb acts ps
   no-word storage orb acts ps t k n f = (
@@ -146,9 +148,9 @@ module _ (earlier : ℕ) where
   )
 
   -- the next bytes are located, or they can't be reached
-  abbrev IsLocatedBy : Contents → Orb → List Act → List (Option ℕ) → Transfer → List Act → Transfer → Type 0
+  abbrev IsLocatedBy : Contents → Orb → Sequence Act → List (Option ℕ) → Transfer → Sequence Act → Transfer → Type 0
   IsLocatedBy storage orb acts ps t more u =
-      (is_some u.fault ≡ true → (is_some t.fault ≡ true) ⊎ CantReach storage orb (more ++ acts) ps) × (is_some u.fault ≡ false → needs_word u.moving ≡ false)
+      (is_some u.fault ≡ true → (is_some t.fault ≡ true) ⊎ CantReach storage orb (acts ▸▸ more) ps) × (is_some u.fault ≡ false → needs_word u.moving ≡ false)
 
   block-positive : (kind : ListKind) (word : ℕ) → word % block kind < block kind
   block-positive kind word = mod_below word (block kind) (some kind)
@@ -168,7 +170,7 @@ module _ (earlier : ℕ) where
       min-some : (a b : ℕ) → 0 < a → 0 < b → min a b ≡ 0 → ⊥
       min-some a b x y z = absurd (omega (arith, x, y, z))
 
-  right-located : (storage : Contents) (orb : Orb) (acts : List Act) (ps : List (Option ℕ)) (t : Transfer) (word : ℕ) (f : Option WordFault) → needs_word t.moving ≡ true →
+  right-located : (storage : Contents) (orb : Orb) (acts : Sequence Act) (ps : List (Option ℕ)) (t : Transfer) (word : ℕ) (f : Option WordFault) → needs_word t.moving ≡ true →
       access.word_fetched storage t.walk.orb.key t.moving ≡ Ok word → word_fault t.moving.kind (t.moving.words == 0) word (length storage.bytes) ≡ f → Tied earlier orb acts ps t →
       is_some t.fault ≡ false → IsLocatedBy storage orb acts ps t (act_of_right f word) (with_located t (where_right f (with_piece t.moving word)))
   right-located storage orb acts ps t word None n w e k g = ((λ x. absurd (cc (sym g ∙ x))), (λ x. piece-needs t.moving word n))
@@ -179,7 +181,7 @@ module _ (earlier : ℕ) where
     (λ x. absurd (cc x)),
   )
 
-  word-located : (storage : Contents) (orb : Orb) (acts : List Act) (ps : List (Option ℕ)) (t : Transfer) (w : Result ℕ Check) → needs_word t.moving ≡ true →
+  word-located : (storage : Contents) (orb : Orb) (acts : Sequence Act) (ps : List (Option ℕ)) (t : Transfer) (w : Result ℕ Check) → needs_word t.moving ≡ true →
       access.word_fetched storage t.walk.orb.key t.moving ≡ w → Tied earlier orb acts ps t → is_some t.fault ≡ false →
       IsLocatedBy storage orb acts ps t (act_of_word t.moving (length storage.bytes) w) (with_located t (access.piece_begun t.moving (length storage.bytes) w))
   word-located storage orb acts ps t (Ok word) n w k g =
@@ -189,39 +191,39 @@ module _ (earlier : ℕ) where
     (λ x. absurd (cc x)),
   )
 
-  need-located : (storage : Contents) (orb : Orb) (acts : List Act) (ps : List (Option ℕ)) (t : Transfer) (b : Bool) → needs_word t.moving ≡ b → Tied earlier orb acts ps t →
+  need-located : (storage : Contents) (orb : Orb) (acts : Sequence Act) (ps : List (Option ℕ)) (t : Transfer) (b : Bool) → needs_word t.moving ≡ b → Tied earlier orb acts ps t →
       is_some t.fault ≡ false →
-      IsLocatedBy storage orb acts ps t (if b then act_of_word t.moving (length storage.bytes) (access.word_fetched storage t.walk.orb.key t.moving) else [])
+      IsLocatedBy storage orb acts ps t (if b then act_of_word t.moving (length storage.bytes) (access.word_fetched storage t.walk.orb.key t.moving) else Nothing)
       (with_located t (if b then access.piece_begun t.moving (length storage.bytes) (access.word_fetched storage t.walk.orb.key t.moving) else Ok t.moving))
   need-located storage orb acts ps t true n k g = word-located storage orb acts ps t (access.word_fetched storage t.walk.orb.key t.moving) n refl k g
   need-located storage orb acts ps t false n k g = ((λ x. absurd (cc (sym g ∙ x))), (λ x. n))
 
-  fault-located : (storage : Contents) (orb : Orb) (acts : List Act) (ps : List (Option ℕ)) (t : Transfer) (b : Bool) → is_some t.fault ≡ b → Tied earlier orb acts ps t →
-      IsLocatedBy storage orb acts ps t (if b then [] else doing.word_acts storage t.walk.orb.key t.moving) (if b then t else with_located t (access.located storage t.walk.orb.key t.moving))
+  fault-located : (storage : Contents) (orb : Orb) (acts : Sequence Act) (ps : List (Option ℕ)) (t : Transfer) (b : Bool) → is_some t.fault ≡ b → Tied earlier orb acts ps t →
+      IsLocatedBy storage orb acts ps t (if b then Nothing else doing.word_acts storage t.walk.orb.key t.moving) (if b then t else with_located t (access.located storage t.walk.orb.key t.moving))
   fault-located storage orb acts ps t true f k = ((λ x. inl f), (λ x. absurd (cc (sym f ∙ x))))
   fault-located storage orb acts ps t false f k = need-located storage orb acts ps t (needs_word t.moving) refl k f
 
-  pub located-kept : (storage : Contents) (orb : Orb) (acts : List Act) (ps : List (Option ℕ)) (t : Transfer) → Tied earlier orb acts ps t →
+  pub located-kept : (storage : Contents) (orb : Orb) (acts : Sequence Act) (ps : List (Option ℕ)) (t : Transfer) → Tied earlier orb acts ps t →
       IsLocatedBy storage orb acts ps t (located_acts storage t) (located_transfer storage t)
   located-kept storage orb acts ps t k = fault-located storage orb acts ps t (is_some t.fault) refl k
 
   -- words are no checks
-  right-checks : (orb : Orb) (acts : List Act) (word : ℕ) (f : Option WordFault) → has_check orb (act_of_right f word ++ acts) ≡ has_check orb acts
+  right-checks : (orb : Orb) (acts : Sequence Act) (word : ℕ) (f : Option WordFault) → has_check orb (acts ▸▸ act_of_right f word) ≡ has_check orb acts
   right-checks orb acts word None = refl
   right-checks orb acts word (Some fault) = refl
 
-  located-by-checks : (storage : Contents) (orb : Orb) (acts : List Act) (t : Transfer) (b c : Bool) (w : Result ℕ Check) →
-      has_check orb ((if b then [] else (if c then act_of_word t.moving (length storage.bytes) w else [])) ++ acts) ≡ has_check orb acts
+  located-by-checks : (storage : Contents) (orb : Orb) (acts : Sequence Act) (t : Transfer) (b c : Bool) (w : Result ℕ Check) →
+      has_check orb (acts ▸▸ (if b then Nothing else (if c then act_of_word t.moving (length storage.bytes) w else Nothing))) ≡ has_check orb acts
   located-by-checks storage orb acts t true c w = refl
   located-by-checks storage orb acts t false false w = refl
   located-by-checks storage orb acts t false true (Ok word) = right-checks orb acts word (word_fault t.moving.kind (t.moving.words == 0) word (length storage.bytes))
   located-by-checks storage orb acts t false true (Err check) = refl
 
-  pub located-checks : (storage : Contents) (orb : Orb) (acts : List Act) (t : Transfer) → has_check orb (located_acts storage t ++ acts) ≡ has_check orb acts
+  pub located-checks : (storage : Contents) (orb : Orb) (acts : Sequence Act) (t : Transfer) → has_check orb (acts ▸▸ located_acts storage t) ≡ has_check orb acts
   located-checks storage orb acts t = located-by-checks storage orb acts t (is_some t.fault) (needs_word t.moving) (access.word_fetched storage t.walk.orb.key t.moving)
 
   -- data is chained to a block, which may show a check
-  with_next_ccw-kept : (orb : Orb) (acts : List Act) (t : Transfer) (walk : WalkPlace) (a : Option Advance) → UnlessStops a (has_check orb acts) → (a ≡ Some advance.Suspends → ⊥) →
+  with_next_ccw-kept : (orb : Orb) (acts : Sequence Act) (t : Transfer) (walk : WalkPlace) (a : Option Advance) → UnlessStops a (has_check orb acts) → (a ≡ Some advance.Suspends → ⊥) →
       is_some (with_next_ccw t walk a).fault ≡ true → (is_some t.fault ≡ true) ⊎ (has_check orb acts ≡ true)
   with_next_ccw-kept orb acts t walk (Some (advance.Takes ccw)) u n e = inl e
   with_next_ccw-kept orb acts t walk (Some advance.Suspends) u n e = absurd (n refl)
@@ -229,29 +231,29 @@ module _ (earlier : ℕ) where
   with_next_ccw-kept orb acts t walk None u n e = inl e
 
   module _ (laws : AreLaws) where
-    chained-kept : (storage : Contents) (orb : Orb) (acts : List Act) (ps : List (Option ℕ)) (t : Transfer) → is_some t.fault ≡ false → t.moving.ccw.chain_data ≡ true →
-        Tied earlier orb acts ps t → is_some (data_chained storage t).fault ≡ true → (is_some t.fault ≡ true) ⊎ (has_check orb (chained_acts storage t ++ acts) ≡ true)
+    chained-kept : (storage : Contents) (orb : Orb) (acts : Sequence Act) (ps : List (Option ℕ)) (t : Transfer) → is_some t.fault ≡ false → t.moving.ccw.chain_data ≡ true →
+        Tied earlier orb acts ps t → is_some (data_chained storage t).fault ≡ true → (is_some t.fault ≡ true) ⊎ (has_check orb (acts ▸▸ chained_acts storage t) ≡ true)
     chained-kept storage orb acts ps t f d k =
-        let used : List Act = Used_up ∷ acts in
+        let used : Sequence Act = acts ▸ Used_up in
         let old : WalkPlace = walk_place orb used in
-        let news : List Act = advance_acts storage old in
+        let news : Sequence Act = advance_acts storage old in
         let ends = advance-ends storage orb used (k.checked f) k.ends in
-        let by : is_some (with_next_ccw t (after_acts old news) (advance_of_acts old news)).fault ≡ true → (is_some t.fault ≡ true) ⊎ (has_check orb (news ++ used) ≡ true) =
-        with_next_ccw-kept orb (news ++ used) t (after_acts old news) (advance_of_acts old news) ends.1
+        let by : is_some (with_next_ccw t (after_acts old news) (advance_of_acts old news)).fault ≡ true → (is_some t.fault ≡ true) ⊎ (has_check orb (used ▸▸ news) ≡ true) =
+        with_next_ccw-kept orb (used ▸▸ news) t (after_acts old news) (advance_of_acts old news) ends.1
         (λ s. not-suspended storage orb acts (k.chained f ∙ d) s) in
         subst
         (λ (w : WalkPlace). is_some (with_next_ccw t (after_acts (after_count_used_up w) (advance_acts storage (after_count_used_up w))) (advance_of_acts (after_count_used_up w) (advance_acts storage (after_count_used_up w)))).fault ≡ true →
-        (is_some t.fault ≡ true) ⊎ (has_check orb ((advance_acts storage (after_count_used_up w) ++ Used_up ∷ []) ++ acts) ≡ true)) (sym k.walk)
-        (λ e. elim (by e) [ inl x ↦ inl x | inr x ↦ inr (ap (has_check orb) (append_assoc news (Used_up ∷ []) acts) ∙ x) ])
+        (is_some t.fault ≡ true) ⊎ (has_check orb (acts ▸▸ (Nothing ▸ Used_up ▸▸ advance_acts storage (after_count_used_up w))) ≡ true)) (sym k.walk)
+        (λ e. elim (by e) [ inl x ↦ inl x | inr x ↦ inr (ap (has_check orb) (joined-in-order acts (Nothing ▸ Used_up) news) ∙ x) ])
       where
-        not-suspended : (storage : Contents) (orb : Orb) (acts : List Act) → (role_of orb acts).chained ≡ true →
-            advance_of_acts (walk_place orb (Used_up ∷ acts)) (advance_acts storage (walk_place orb (Used_up ∷ acts))) ≡ Some advance.Suspends → ⊥
+        not-suspended : (storage : Contents) (orb : Orb) (acts : Sequence Act) → (role_of orb acts).chained ≡ true →
+            advance_of_acts (walk_place orb (acts ▸ Used_up)) (advance_acts storage (walk_place orb (acts ▸ Used_up))) ≡ Some advance.Suspends → ⊥
         not-suspended storage orb acts c s =
-            let used : List Act = Used_up ∷ acts in
-            let news : List Act = advance_acts storage (walk_place orb used) in
-            let went = subst (λ (a : Option Advance). Went (role_of orb used).chained (commands orb used) (commands orb (news ++ used)) (data_areas orb used) (data_areas orb (news ++ used)) (next orb (news ++ used))
-            (role_of orb (news ++ used)) a) s (advance-went storage orb used) in
-            cc (sym (went.2 ∙ c) ∙ suspended-unchained orb (news ++ used) (acts-stand orb used news advance.Suspends (laws.leads orb used) s))
+            let used : Sequence Act = acts ▸ Used_up in
+            let news : Sequence Act = advance_acts storage (walk_place orb used) in
+            let went = subst (λ (a : Option Advance). Went (role_of orb used).chained (commands orb used) (commands orb (used ▸▸ news)) (data_areas orb used) (data_areas orb (used ▸▸ news)) (next orb (used ▸▸ news))
+            (role_of orb (used ▸▸ news)) a) s (advance-went storage orb used) in
+            cc (sym (went.2 ∙ c) ∙ suspended-unchained orb (used ▸▸ news) (acts-stand orb used news advance.Suspends (laws.leads orb used) s))
 
     after_bytes_moved-by : (storage : Contents) (orb : Orb) (p : CommandTrace) (t : Transfer) (n : ℕ) (b : Bool) → chains_data (with_bytes_moved t n) n ≡ b → n ≤ t.moving.left → Tied earlier orb p.acts p.moved t →
         is_some (if b then data_chained storage (with_bytes_moved t n) else with_bytes_moved t n).fault ≡ true →
@@ -278,7 +280,7 @@ module _ (earlier : ℕ) where
     fetch-some storage key place zero check e = absurd (cc e)
     fetch-some storage key place (suc n) check e = omega arith
 
-    pub next-begins : (orb : Orb) (acts : List Act) (ps : List (Option ℕ)) (t : Transfer) → Tied earlier orb acts ps t → t.moving.skipped ≡ false → 1 ≤ t.moving.left →
+    pub next-begins : (orb : Orb) (acts : Sequence Act) (ps : List (Option ℕ)) (t : Transfer) → Tied earlier orb acts ps t → t.moving.skipped ≡ false → 1 ≤ t.moving.left →
         IsBeginning (ps ++ Some t.moving.piece ∷ []) (places_of orb acts)
     next-begins orb acts ps t k s l =
         let m : Moving = t.moving in
@@ -287,7 +289,7 @@ module _ (earlier : ℕ) where
         subst (λ (x : Option ℕ). IsBeginning (ps ++ x ∷ []) (places_of orb acts)) place
         (spot-begins orb (data_areas orb acts) (with_bytes_moved t 1) (ps ++ each_below (next_place m) 1) (with_bytes_moved-tied earlier laws orb acts ps t 1 l k).spot)
 
-    copy-by : (storage : Contents) (orb : Orb) (acts : List Act) (ps : List (Option ℕ)) (t : Transfer) (check : Check) (b : Bool) → t.moving.skipped ≡ b →
+    copy-by : (storage : Contents) (orb : Orb) (acts : Sequence Act) (ps : List (Option ℕ)) (t : Transfer) (check : Check) (b : Bool) → t.moving.skipped ≡ b →
         (if b then Ok [] else checked (fetched storage t.walk.orb.key t.moving.piece (room t.moving))) ≡ Err check → Tied earlier orb acts ps t → CantFetch storage orb acts ps
     copy-by storage orb acts ps t check true s e k = absurd (cc e)
     copy-by storage orb acts ps t check false s e k =
@@ -301,7 +303,7 @@ module _ (earlier : ℕ) where
               ∙ ap checked o),
         )
 
-    pub copy-kept : (storage : Contents) (orb : Orb) (acts : List Act) (ps : List (Option ℕ)) (t : Transfer) (b : Bool) (r : Result (List ℕ) Check) → access.copied storage t.walk.orb.key t.moving ≡ r →
+    pub copy-kept : (storage : Contents) (orb : Orb) (acts : Sequence Act) (ps : List (Option ℕ)) (t : Transfer) (b : Bool) (r : Result (List ℕ) Check) → access.copied storage t.walk.orb.key t.moving ≡ r →
         Tied earlier orb acts ps t → is_some (if b then with_bytes_offered t [] else with_bytes_fetched t r).transfer.fault ≡ true → (is_some t.fault ≡ true) ⊎ CantFetch storage orb acts ps
     copy-kept storage orb acts ps t true r e k f = inl f
     copy-kept storage orb acts ps t false (Ok bytes) e k f = inl f

@@ -1,5 +1,5 @@
 -- The bytes that a device absorbs for its command, also where its program is over before the command is.
-use Rattle.std.proofs.Common.{◌≡◌, refl, sym, ◌∙◌, ap, subst, ℕ, ◌≤◌, Bool, true, false, ◌==◌, length, Option, None, Some, List, [], ◌∷◌, ◌++◌, arith}
+use Rattle.std.proofs.Common.{◌≡◌, refl, sym, ◌∙◌, ap, subst, ℕ, ◌≤◌, Bool, true, false, ◌==◌, length, Option, None, Some, List, [], ◌++◌, arith}
 use Rattle.std.specs.Prelude.{if◌then◌else◌, slice_get, All}
 use Rattle.std.specs.List.{flat_map}
 use Rattle.std.proofs.Math.Nat.{min-le_left}
@@ -15,9 +15,11 @@ use Rattle.chan_model.specs.declared.unit_state.UnitState.{UnitState}
 use Rattle.chan_model.specs.Sides.{same_side}
 use Rattle.chan_model.specs.UnitTable.{UnitStep, came_of, unit_takes, unit_after}
 use Rattle.chan_model.specs.UnitReports.{is_outward}
+use Rattle.ccw_walk.specs.Sequences.{Sequence, ◌▸◌}
 use Rattle.ccw_walk.specs.Acts.{PlacedBytes}
 use Rattle.idaw.specs.Lists.{kind_of, block}
-use Rattle.idaw.specs.Places.{Reach, places_of_bytes, each_below}
+use Rattle.idaw.specs.Places.{Reach, each_below}
+use Rattle.run_laws.specs.DataAreas.{places_of_bytes, data_areas}
 use Rattle.data_move.specs.Moving.{Moving, room, next_place}
 use Rattle.data_move.specs.declared.transfer.Transfer.{Transfer}
 use Rattle.data_move.specs.DataChaining.{with_bytes_moved}
@@ -27,7 +29,6 @@ use Rattle.subchannel_model.specs.declared.state.ActiveProgram.{ActiveProgram}
 use Rattle.subchannel_model.specs.declared.state.SubchannelState.{SubchannelState}
 use Rattle.subchannel_model.specs.Sending.{carried, with_any_sent}
 use Rattle.run_laws.specs.Traces.{CommandTrace, ProgramTrace, taken_at, absorbs, takes, reported}
-use Rattle.run_laws.specs.DataAreas.{data_areas}
 use Rattle.run_laws.proofs.Traces.MachineTraces.{ends_alone, with_ended}
 use Rattle.run_laws.specs.ProgramClaims.{AbsorbsInOrder, IsBeginning, IsFirstOf, places_of}
 use Rattle.run_laws.proofs.Traces.Ties.{AreLaws, Tied, spot-begins, with_bytes_moved-tied}
@@ -45,6 +46,7 @@ use Rattle.run_laws.proofs.Links.LinkReports.{mode-reports}
 use Rattle.run_laws.proofs.Links.LinkViews.{view_of}
 use Rattle.run_laws.proofs.Links.LinkWires.{HandClosed, IsGiving, IsTelling, IsClosed, IsWired}
 use Rattle.run_laws.proofs.Bytes.LinkModes.{AnyGive, AnyData, HandFlow, Mode, Waits, Over, Reads, Writes, ModeOf, IsFit, fit-closed, mode-carried, mode-down}
+use Rattle.run_laws.proofs.Traces.Sequences.{backward}
 
 -- the command of the program that is at work or over; or one of a program that was over before the device was done with it
 pub data Course (side : Side) (begun : Option ActiveProgram) (k : ProgramTrace) (downs : List (List Down)) (ups : List (List Up)) (u : UnitState) : Type 0 where
@@ -104,7 +106,7 @@ abbrev pub WorkOf : ActiveProgram → Option ProgramTrace → Type 0
 WorkOf b None = Unit {0}
 WorkOf b (Some k) = HasWork (Some b) k
 
-takes-if : (b : ActiveProgram) (k : ProgramTrace) (code : ℕ) (c : Bool) → HasWork (Some b) k → HasWork (Some b) (if c then record k { taken = code ∷ k.taken; absorbed = [] } else k)
+takes-if : (b : ActiveProgram) (k : ProgramTrace) (code : ℕ) (c : Bool) → HasWork (Some b) k → HasWork (Some b) (if c then record k { taken = k.taken ▸ code; absorbed = [] } else k)
 takes-if b k code true w = w
 takes-if b k code false w = w
 
@@ -130,7 +132,7 @@ same-last : (k : ProgramTrace) (b c : ActiveProgram) → HasWork (Some b) k → 
 same-last k b c w e = let same : b ≡ c = cc e in subst (λ (x : ActiveProgram). IsLast (codes_of k) k.sent x.transfer) same (work-last b k w)
 
 -- Down
-pub course-down : (may : Bool) → (side : Side) (drawn : ℕ) (k : ProgramTrace) (downs : List (List Down)) (ups : List (List Up)) (u : UnitState) (path : ℕ) → IsOrdered side drawn k.number k.sent (codes_of k) k.taken downs u →
+pub course-down : (may : Bool) → (side : Side) (drawn : ℕ) (k : ProgramTrace) (downs : List (List Down)) (ups : List (List Up)) (u : UnitState) (path : ℕ) → IsOrdered side drawn k.number k.sent (codes_of k) (backward k.taken) downs u →
     (begun : Option ActiveProgram) (d : Down) → ((b : ActiveProgram) → begun ≡ Some b → IsLast (codes_of k) k.sent b.transfer) → slice_get (queue downs path) 0 ≡ Some d →
     IsDown drawn k.number k.sent (codes_of k) d → Course side begun k downs ups u →
     CourseOf side begun (taken_at (reply.Down d (came_of (unit_takes u side path d may)).taken (came_of (unit_takes u side path d may)).sent) (Some k)) (taken downs path)
@@ -158,7 +160,7 @@ reported-work b k u report (answer.Absorbed count) w = report-if b k count u.at_
 reported-work b k u report other w = w
 
 pub course-reports : (side : Side) (drawn : ℕ) (begun : Option ActiveProgram) (k : ProgramTrace) (downs : List (List Down)) (ups : List (List Up)) (u : UnitState) (report : Report) (y : UnitStep) →
-    same_side side report.side ≡ true → IsNumbered side drawn k.number k.taken u → IsReportTaken u report y → Course side begun k downs ups u →
+    same_side side report.side ≡ true → IsNumbered side drawn k.number (backward k.taken) u → IsReportTaken u report y → Course side begun k downs ups u →
     Course side begun (reported u report report.answer k) downs (with_any_sent ups y.sent) y.state
 course-reports side drawn begun k downs ups u report y s n t (Follows m) = Follows (mode-reports side drawn begun k downs ups u report y s n t m)
 course-reports side drawn begun k downs ups u report y s n t (Cut e b w m) =
@@ -178,7 +180,7 @@ mode-marked side b c k downs ups u i (Writes d e g o lead f w) =
     let views : view_of d.transfer k.now ≡ view_of c.transfer k.now =
     ap (λ (x : ActiveProgram). view_of x.transfer k.now) (sym same) ∙ sym (ap (λ (q : ℕ). V q c.transfer.moving) i.sequence ∙ ap (V b.transfer.sequence) i.moving) in
     let codes : d.transfer.code ≡ c.transfer.code = ap (λ (x : ActiveProgram). x.transfer.code) (sym same) ∙ sym i.code in
-    let P : View → ℕ → Type 0 = λ x y. IsWired side k.number (length k.taken) (HandFlow y x lead) (IsGive x) (IsData x lead) downs ups u in
+    let P : View → ℕ → Type 0 = λ x y. IsWired side k.number (length (backward k.taken)) (HandFlow y x lead) (IsGive x) (IsData x lead) downs ups u in
     Writes c refl g (ap is_outward (sym codes) ∙ o) lead (subst (λ (x : View). Flow x k.absorbed lead) views f)
     (subst (λ (x : View). P x c.transfer.code) views (subst (λ (y : ℕ). P (view_of d.transfer k.now) y) codes w))
 
@@ -222,5 +224,5 @@ module _ (laws : AreLaws) (k : ProgramTrace) where
     a.0,
     subst (λ (xs : List PlacedBytes). All (IsFirstOf xs) a.0) (sym c) a.1,
     a.2,
-    subst (λ (xs : List Reach). IsBeginning (flat_map (λ (x : PlacedBytes). x.places) a.0) (places_of_bytes (block (kind_of k.orb)) xs)) (sym r) a.3,
+    subst (λ (xs : Sequence Reach). IsBeginning (flat_map (λ (x : PlacedBytes). x.places) a.0) (places_of_bytes (block (kind_of k.orb)) xs)) (sym r) a.3,
   )

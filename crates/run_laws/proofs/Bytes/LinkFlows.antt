@@ -63,6 +63,8 @@ use Rattle.run_laws.proofs.Links.Vanishing.{send-ok}
 use Rattle.chan_model.proofs.OneSide.{one-side}
 use Rattle.run_laws.proofs.Links.LinkReports.{report-owner, told-closed, told-own}
 use Rattle.run_laws.proofs.Links.LinkMeets.{quiet, mode-meets}
+use Rattle.ccw_walk.specs.Sequences.{Sequence, Nothing}
+use Rattle.run_laws.proofs.Traces.Sequences.{backward}
 
 abbrev pub AtSub : Side → Subchannel → Option ProgramTrace → UnitState → Type 0
 AtSub side sub k u = CourseOf side sub.state.begun k sub.wires.down sub.wires.up u
@@ -72,13 +74,13 @@ mode-offer : (side : Side) (drawn : ℕ) (begun : Option ActiveProgram) (k : Pro
     IsNumbered side drawn k.number took u → Mode side begun k downs ups u →
     IsWired side (drawn + 1) 0 HandClosed AnyGive AnyData (with_any_sent downs (Some (record { path = path; signal = down.Select (drawn + 1) }))) ups u
 mode-offer side drawn begun k took downs ups u path l n (Waits b h g q y a w) =
-    wired-offers side drawn k.number (drawn + 1) (length k.taken) took HandClosed HandClosed AnyGive AnyGive AnyData AnyData downs ups u path l (omega arith) n w
+    wired-offers side drawn k.number (drawn + 1) (length (backward k.taken)) took HandClosed HandClosed AnyGive AnyGive AnyData AnyData downs ups u path l (omega arith) n w
 mode-offer side drawn begun k took downs ups u path l n (modes.Over h g q a w) =
-    wired-offers side drawn k.number (drawn + 1) (length k.taken) took HandClosed HandClosed AnyGive AnyGive AnyData AnyData downs ups u path l (omega arith) n w
+    wired-offers side drawn k.number (drawn + 1) (length (backward k.taken)) took HandClosed HandClosed AnyGive AnyGive AnyData AnyData downs ups u path l (omega arith) n w
 mode-offer side drawn begun k took downs ups u path l n (Reads b h g o q w) =
-    wired-offers side drawn k.number (drawn + 1) (length k.taken) took HandPlain HandClosed NoGive AnyGive AnyData AnyData downs ups u path l (omega arith) n w
+    wired-offers side drawn k.number (drawn + 1) (length (backward k.taken)) took HandPlain HandClosed NoGive AnyGive AnyData AnyData downs ups u path l (omega arith) n w
 mode-offer side drawn begun k took downs ups u path l n (Writes b h g o lead f w) =
-    wired-offers side drawn k.number (drawn + 1) (length k.taken) took (HandFlow b.transfer.code (view_of b.transfer k.now) lead) HandClosed (IsGive (view_of b.transfer k.now)) AnyGive
+    wired-offers side drawn k.number (drawn + 1) (length (backward k.taken)) took (HandFlow b.transfer.code (view_of b.transfer k.now) lead) HandClosed (IsGive (view_of b.transfer k.now)) AnyGive
     (IsData (view_of b.transfer k.now) lead) AnyData downs ups u path l (omega arith) n w
 
 offer-wires : (side : Side) (drawn : ℕ) (begun : Option ActiveProgram) (k : Option ProgramTrace) (took : List ℕ) (downs : List (List Down)) (ups : List (List Up)) (u : UnitState) (path : ℕ) → number_of k ≤ drawn →
@@ -92,16 +94,16 @@ offer-wires side drawn begun (Some k) took downs ups u path l n (Cut e b w m) = 
 -- the program is offered: nothing was sent of it under this number
 offers-over : (sub : Subchannel) (path : ℕ) (t : Subchannel) (k : Option ProgramTrace) (new : ProgramTrace) (u : UnitState) → HeldBy sub.state k → IsLinked sub.setup.side sub.state.drawn sub.wires.down k u →
     AtSub sub.setup.side sub k u → t.wires.down ≡ with_any_sent sub.wires.down (Some (record { path = path; signal = down.Select (sub.state.drawn + 1) })) → t.wires.up ≡ sub.wires.up →
-    t.state.begun ≡ None → new.number ≡ sub.state.drawn + 1 → new.sent ≡ 0 → new.taken ≡ [] → new.absorbed ≡ [] → AtSub sub.setup.side t (Some new) u
+    t.state.begun ≡ None → new.number ≡ sub.state.drawn + 1 → new.sent ≡ 0 → new.taken ≡ Nothing → new.absorbed ≡ [] → AtSub sub.setup.side t (Some new) u
 offers-over sub path t k new u h l a d x b i n g z =
     let w : IsWired sub.setup.side (sub.state.drawn + 1) 0 HandClosed AnyGive AnyData (with_any_sent sub.wires.down (Some (record { path = path; signal = down.Select (sub.state.drawn + 1) }))) sub.wires.up u =
     offer-wires sub.setup.side sub.state.drawn sub.state.begun k _ sub.wires.down sub.wires.up u path (number-drawn k sub.state (held-needs k sub.state h)) l.kept a in
     let P : ℕ → ℕ → List (List Down) → List (List Up) → Type 0 = λ i m downs ups. IsWired sub.setup.side i m HandClosed AnyGive AnyData downs ups u in
-    let v : P new.number (length new.taken) t.wires.down t.wires.up =
-    subst (λ (y : ℕ). P y (length new.taken) t.wires.down t.wires.up) (sym i)
-    (subst (λ (y : List ℕ). P (sub.state.drawn + 1) (length y) t.wires.down t.wires.up) (sym g)
+    let v : P new.number (length (backward new.taken)) t.wires.down t.wires.up =
+    subst (λ (y : ℕ). P y (length (backward new.taken)) t.wires.down t.wires.up) (sym i)
+    (subst (λ (y : Sequence ℕ). P (sub.state.drawn + 1) (length (backward y)) t.wires.down t.wires.up) (sym g)
     (subst (λ (y : List (List Down)). P (sub.state.drawn + 1) 0 y t.wires.up) (sym d) (subst (λ (y : List (List Up)). P (sub.state.drawn + 1) 0 (with_any_sent sub.wires.down (Some (record { path = path; signal = down.Select (sub.state.drawn + 1) }))) y) (sym x) w))) in
-    Follows (modes.Over b (ap length g ∙ sym n) (λ y. z) (absorbs-none new.orb new.now new.absorbed z) v)
+    Follows (modes.Over b (ap (λ (xs : Sequence ℕ). length (backward xs)) g ∙ sym n) (λ y. z) (absorbs-none new.orb new.now new.absorbed z) v)
 
 offered-begun : (s : SubchannelState) (n path : ℕ) (k : ProgramTrace) → s.hold.phase ≡ hold.Offer n path → IsHeld s k → s.begun ≡ None
 offered-begun s n path k e h = (subst (λ (x : HoldPhase). IsPhase x k.number s.begun k.sent) e h.phase).1
@@ -177,7 +179,7 @@ module _ (laws : AreLaws) (accesses : AreAccesses) where
       subst (λ (y : ProgramTrace). Course side (takes_up returns storage s path x).step.state.begun y (with_any_sent downs one) (taken ups path) u) (sym (i.same k))
       (Cut (i.begun ∙ e) b w
       (mode-carried side (Some b) k downs (with_any_sent downs one) ups (taken ups path) u u
-      (λ P Q R f v. wired-holds side k.number (length k.taken) P P Q Q R R downs ups u one path (λ z y. y) (λ j bytes y. y) (λ j l y. y) (sent-hold k.number (length k.taken) Q one i.sends) v) m))
+      (λ P Q R f v. wired-holds side k.number (length (backward k.taken)) P P Q Q R R downs ups u one path (λ z y. y) (λ j bytes y. y) (λ j l y. y) (sent-hold k.number (length (backward k.taken)) Q one i.sends) v) m))
 
   reset-course : (s : SubchannelState) (shows : Bool) (side : Side) (k : ProgramTrace) (downs : List (List Down)) (ups : List (List Up)) (u : UnitState) → IsHeld s k → Course side s.begun k downs ups u →
       Course side (reset_with s shows).begun k downs ups u
@@ -198,7 +200,7 @@ module _ (laws : AreLaws) (accesses : AreAccesses) where
       notice-course s b (nat_lt s.hold.known b) side k downs (taken ups path) u h (Follows (quiet laws accesses storage side s k downs ups u path h m s.begun None refl tt))
   course-meets returns storage side s k downs ups u path x e h (Cut z b w m) = cut-meets returns storage side s k downs ups u path x b h z w m
   course-meets returns storage side s k downs ups u path x e h (Follows m) =
-      Follows (mode-meets laws accesses storage side s k downs ups u path h m returns x (λ P Q R w. first-tells side k.number (length k.taken) P Q R downs ups u path x e w) tt)
+      Follows (mode-meets laws accesses storage side s k downs ups u path h m returns x (λ P Q R w. first-tells side k.number (length (backward k.taken)) P Q R downs ups u path x e w) tt)
 
   met-flows : (returns : Bool) → (storage : Contents) (sub : Subchannel) (path : ℕ) (x : Up) (k : Option ProgramTrace) (u : UnitState) → slice_get (queue sub.wires.up path) 0 ≡ Some x → HeldBy sub.state k →
       AtSub sub.setup.side sub k u →

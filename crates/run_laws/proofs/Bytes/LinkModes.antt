@@ -30,6 +30,8 @@ use Rattle.run_laws.proofs.Units.UnitHands.{StaysAnswered, TakesGive}
 use Rattle.run_laws.proofs.Units.UnitActs.{StaysMarked}
 use Rattle.run_laws.proofs.Links.LinkWires.{HandClosed, IsWired, closed-marked, IsNoNext, IsAnswered, wired-takes, wired-next}
 use Rattle.run_laws.proofs.Links.LinkNeeds.{IsLast}
+use Rattle.ccw_walk.specs.Sequences.{◌▸◌}
+use Rattle.run_laws.proofs.Traces.Sequences.{backward}
 
 abbrev pub AnyGive : ℕ → List ℕ → Type 0
 AnyGive s bytes = Unit {0}
@@ -52,14 +54,14 @@ HandFlow code v lead (Some x) = (x.code ≡ code) × Hand v lead x
 
 -- the device is to take the last command that was sent; or it took it, and the program is over, reads or writes
 pub data Mode (side : Side) (begun : Option ActiveProgram) (k : ProgramTrace) (downs : List (List Down)) (ups : List (List Up)) (u : UnitState) : Type 0 where
-  Waits : (b : ActiveProgram) → begun ≡ Some b → length k.taken + 1 ≡ k.sent → b.transfer.sequence ≡ 0 → k.now.moved ≡ [] → AbsorbsInOrder k.orb k.before k.absorbed →
-      IsWired side k.number (length k.taken) HandClosed AnyGive AnyData downs ups u → Mode side begun k downs ups u
-  Over : begun ≡ None → length k.taken ≡ k.sent → (k.sent ≡ 0 → k.absorbed ≡ []) → AbsorbsInOrder k.orb k.now k.absorbed →
-      IsWired side k.number (length k.taken) HandClosed AnyGive AnyData downs ups u → Mode side begun k downs ups u
-  Reads : (b : ActiveProgram) → begun ≡ Some b → length k.taken ≡ k.sent → is_outward b.transfer.code ≡ false → k.absorbed ≡ [] →
-      IsWired side k.number (length k.taken) HandPlain NoGive AnyData downs ups u → Mode side begun k downs ups u
-  Writes : (b : ActiveProgram) → begun ≡ Some b → length k.taken ≡ k.sent → is_outward b.transfer.code ≡ true → (lead : Option ℕ) → Flow (view_of b.transfer k.now) k.absorbed lead →
-      IsWired side k.number (length k.taken) (HandFlow b.transfer.code (view_of b.transfer k.now) lead) (IsGive (view_of b.transfer k.now)) (IsData (view_of b.transfer k.now) lead) downs ups u →
+  Waits : (b : ActiveProgram) → begun ≡ Some b → length (backward k.taken) + 1 ≡ k.sent → b.transfer.sequence ≡ 0 → k.now.moved ≡ [] → AbsorbsInOrder k.orb k.before k.absorbed →
+      IsWired side k.number (length (backward k.taken)) HandClosed AnyGive AnyData downs ups u → Mode side begun k downs ups u
+  Over : begun ≡ None → length (backward k.taken) ≡ k.sent → (k.sent ≡ 0 → k.absorbed ≡ []) → AbsorbsInOrder k.orb k.now k.absorbed →
+      IsWired side k.number (length (backward k.taken)) HandClosed AnyGive AnyData downs ups u → Mode side begun k downs ups u
+  Reads : (b : ActiveProgram) → begun ≡ Some b → length (backward k.taken) ≡ k.sent → is_outward b.transfer.code ≡ false → k.absorbed ≡ [] →
+      IsWired side k.number (length (backward k.taken)) HandPlain NoGive AnyData downs ups u → Mode side begun k downs ups u
+  Writes : (b : ActiveProgram) → begun ≡ Some b → length (backward k.taken) ≡ k.sent → is_outward b.transfer.code ≡ true → (lead : Option ℕ) → Flow (view_of b.transfer k.now) k.absorbed lead →
+      IsWired side k.number (length (backward k.taken)) (HandFlow b.transfer.code (view_of b.transfer k.now) lead) (IsGive (view_of b.transfer k.now)) (IsData (view_of b.transfer k.now) lead) downs ups u →
       Mode side begun k downs ups u
 
 abbrev pub ModeOf : Side → Option ActiveProgram → Option ProgramTrace → List (List Down) → List (List Up) → UnitState → Type 0
@@ -96,8 +98,8 @@ fit-flow code v lead = record {
 }
 
 pub mode-carried : (side : Side) (begun : Option ActiveProgram) (k : ProgramTrace) (downs downs' : List (List Down)) (ups ups' : List (List Up)) (u v : UnitState) →
-    ((P : Option CurrentCommand → Type 0) (Q : ℕ → List ℕ → Type 0) (R : ℕ → Load → Type 0) → IsFit P Q → IsWired side k.number (length k.taken) P Q R downs ups u →
-    IsWired side k.number (length k.taken) P Q R downs' ups' v) →
+    ((P : Option CurrentCommand → Type 0) (Q : ℕ → List ℕ → Type 0) (R : ℕ → Load → Type 0) → IsFit P Q → IsWired side k.number (length (backward k.taken)) P Q R downs ups u →
+    IsWired side k.number (length (backward k.taken)) P Q R downs' ups' v) →
     Mode side begun k downs ups u → Mode side begun k downs' ups' v
 mode-carried side begun k downs downs' ups ups' u v f (Waits b e n s m a w) = Waits b e n s m a (f HandClosed AnyGive AnyData fit-closed w)
 mode-carried side begun k downs downs' ups ups' u v f (Over e n z a w) = Over e n z a (f HandClosed AnyGive AnyData fit-closed w)
@@ -117,7 +119,7 @@ story-same d false None k n = refl
 story-same (down.Select t) true None k n = refl
 story-same (down.Command t c code room) true None k n = by (t == k.number) refl
   where
-    by : (b : Bool) → (t == k.number) ≡ b → Some (if b then record k { taken = code ∷ k.taken; absorbed = [] } else k) ≡ Some k
+    by : (b : Bool) → (t == k.number) ≡ b → Some (if b then record k { taken = k.taken ▸ code; absorbed = [] } else k) ≡ Some k
     by true e = absurd (cc (n (eqb-true t k.number e)))
     by false e = refl
 story-same (down.Grant t c) true None k n = refl
@@ -141,7 +143,7 @@ last-code codes sent n code t l k e =
     let same : (t.code ∷ l.before) ≡ (code ∷ k.mid) = ends-same [] k.later (t.code ∷ l.before) (code ∷ k.mid) list long in
     sym (cc same)
 
-module _ (side : Side) (drawn : ℕ) (k : ProgramTrace) (downs : List (List Down)) (ups : List (List Up)) (u : UnitState) (path : ℕ) (o : IsOrdered side drawn k.number k.sent (codes_of k) k.taken downs u) where
+module _ (side : Side) (drawn : ℕ) (k : ProgramTrace) (downs : List (List Down)) (ups : List (List Up)) (u : UnitState) (path : ℕ) (o : IsOrdered side drawn k.number k.sent (codes_of k) (backward k.taken) downs u) where
   abbrev After : (may : Bool) → Option ActiveProgram → Down → Type 0
   After may begun d =
       ModeOf side begun (taken_at (reply.Down d (came_of (unit_takes u side path d may)).taken (came_of (unit_takes u side path d may)).sent) (Some k)) (taken downs path)
@@ -154,37 +156,37 @@ module _ (side : Side) (drawn : ℕ) (k : ProgramTrace) (downs : List (List Down
       (λ (x : Option ProgramTrace). ModeOf side begun x (taken downs path) (with_any_sent ups (came_of (unit_takes u side path d may)).sent) (unit_after u (unit_takes u side path d may)))
       (sym (story-same d (came_of (unit_takes u side path d may)).taken (came_of (unit_takes u side path d may)).sent k n))
       (mode-carried side begun k downs (taken downs path) ups (with_any_sent ups (came_of (unit_takes u side path d may)).sent) u (unit_after u (unit_takes u side path d may))
-      (λ P Q R f w. wired-takes may side drawn k.number (length k.taken) k.sent (codes_of k) P Q R downs ups u path d e i f.none f.answered f.gives o.kept.last n w) m)
+      (λ P Q R f w. wired-takes may side drawn k.number (length (backward k.taken)) k.sent (codes_of k) P Q R downs ups u path d e i f.none f.answered f.gives o.kept.last n w) m)
 
-  full-answered : (t n code room : ℕ) → IsDown drawn k.number k.sent (codes_of k) (down.Command t n code room) → length k.taken ≡ k.sent → (fresh owner next : Bool) →
+  full-answered : (t n code room : ℕ) → IsDown drawn k.number k.sent (codes_of k) (down.Command t n code room) → length (backward k.taken) ≡ k.sent → (fresh owner next : Bool) →
       is_owner u.own side t ≡ owner → (n == u.last_command + 1) ≡ next → t ≡ k.number → silent (came_of (command_step u path n code room fresh owner next)) ≡ false
   full-answered t n code room i f true owner next a b e = refl
   full-answered t n code room i f false true true a b e =
-      let last : u.last_command ≡ length k.taken = o.kept.last (subst (λ (x : ℕ). is_owner u.own side x ≡ true) e a) in
+      let last : u.last_command ≡ length (backward k.taken) = o.kept.last (subst (λ (x : ℕ). is_owner u.own side x ≡ true) e a) in
       let is : n ≡ u.last_command + 1 = eqb-true n (u.last_command + 1) b in
       let le : n ≤ k.sent = (i.1 e).0 in
       absurd (omega (arith, last, is, le, f))
   full-answered t n code room i f false true false a b e = refl
   full-answered t n code room i f false false next a b e = refl
 
-  all-answered : (may : Bool) → (d : Down) → IsDown drawn k.number k.sent (codes_of k) d → length k.taken ≡ k.sent → IsAnswered may side k.number u path d
+  all-answered : (may : Bool) → (d : Down) → IsDown drawn k.number k.sent (codes_of k) d → length (backward k.taken) ≡ k.sent → IsAnswered may side k.number u path d
   all-answered may (down.Command t n code room) i f = full-answered t n code room i f (side_of u side).fresh (is_owner u.own side t) (n == u.last_command + 1) refl refl
   all-answered may d i f = tt
 
   -- the Command that it waits for
   abbrev next_story : ℕ → ProgramTrace
-  next_story code = record k { taken = code ∷ k.taken; absorbed = [] }
+  next_story code = record k { taken = k.taken ▸ code; absorbed = [] }
 
   taken-wires : (P : Option CurrentCommand → Type 0) (Q : ℕ → List ℕ → Type 0) (R : ℕ → Load → Type 0) (code n room : ℕ) → P (Some (new_command code room)) →
-      IsWired side k.number (length k.taken) HandClosed AnyGive AnyData downs ups u →
-      IsWired side k.number (length (code ∷ k.taken)) P Q R (taken downs path) ups (record u { last_command = n; at_hand = Some (new_command code room) })
+      IsWired side k.number (length (backward k.taken)) HandClosed AnyGive AnyData downs ups u →
+      IsWired side k.number (length (code ∷ backward k.taken)) P Q R (taken downs path) ups (record u { last_command = n; at_hand = Some (new_command code room) })
   taken-wires P Q R code n room p w =
-      let long : length k.taken + 1 ≡ length (code ∷ k.taken) = omega arith in
+      let long : length (backward k.taken) + 1 ≡ length (code ∷ backward k.taken) = omega arith in
       subst (λ (i : ℕ). IsWired side k.number i P Q R (taken downs path) ups (record u { last_command = n; at_hand = Some (new_command code room) })) long
-      (wired-next side k.number (length k.taken) HandClosed P AnyGive Q AnyData R downs ups u (record u { last_command = n; at_hand = Some (new_command code room) }) path p w)
+      (wired-next side k.number (length (backward k.taken)) HandClosed P AnyGive Q AnyData R downs ups u (record u { last_command = n; at_hand = Some (new_command code room) }) path p w)
 
-  takes-next : (begun : Option ActiveProgram) (b : ActiveProgram) (code n room : ℕ) (out : Bool) → is_outward b.transfer.code ≡ out → begun ≡ Some b → length k.taken + 1 ≡ k.sent → b.transfer.sequence ≡ 0 →
-      k.now.moved ≡ [] → code ≡ b.transfer.code → IsWired side k.number (length k.taken) HandClosed AnyGive AnyData downs ups u →
+  takes-next : (begun : Option ActiveProgram) (b : ActiveProgram) (code n room : ℕ) (out : Bool) → is_outward b.transfer.code ≡ out → begun ≡ Some b → length (backward k.taken) + 1 ≡ k.sent → b.transfer.sequence ≡ 0 →
+      k.now.moved ≡ [] → code ≡ b.transfer.code → IsWired side k.number (length (backward k.taken)) HandClosed AnyGive AnyData downs ups u →
       Mode side begun (next_story code) (taken downs path) ups (record u { last_command = n; at_hand = Some (new_command code room) })
   takes-next begun b code n room false z e l s m c w = Reads b e (omega (arith, l)) z refl (taken-wires HandPlain NoGive AnyData code n room refl w)
   takes-next begun b code n room true z e l s m c w =
@@ -203,9 +205,9 @@ module _ (side : Side) (drawn : ℕ) (k : ProgramTrace) (downs : List (List Down
         subst (λ (b : Bool). Mode side begun (if b then next_story code else k) (taken downs path) ups (record u { last_command = n; at_hand = Some (new_command code room) }))
         (sym (eq-eqb t k.number e)) m
 
-    waits-by : (may : Bool) → (b : ActiveProgram) → begun ≡ Some b → IsLast (codes_of k) k.sent b.transfer → length k.taken + 1 ≡ k.sent → b.transfer.sequence ≡ 0 → k.now.moved ≡ [] →
+    waits-by : (may : Bool) → (b : ActiveProgram) → begun ≡ Some b → IsLast (codes_of k) k.sent b.transfer → length (backward k.taken) + 1 ≡ k.sent → b.transfer.sequence ≡ 0 → k.now.moved ≡ [] →
         slice_get (queue downs path) 0 ≡ Some (down.Command t n code room) → IsDown drawn k.number k.sent (codes_of k) (down.Command t n code room) →
-        IsWired side k.number (length k.taken) HandClosed AnyGive AnyData downs ups u → Mode side begun k downs ups u → After may begun (down.Command t n code room)
+        IsWired side k.number (length (backward k.taken)) HandClosed AnyGive AnyData downs ups u → Mode side begun k downs ups u → After may begun (down.Command t n code room)
     waits-by may b e last l s m q i w mode =
         by (side_of u side).fresh (is_owner u.own side t) (n == u.last_command + 1) (t == k.number) refl refl refl refl
       where
@@ -235,7 +237,7 @@ module _ (side : Side) (drawn : ℕ) (k : ProgramTrace) (downs : List (List Down
         by true owner next same f g h j = other (λ fresh owner next a c d z. answers fresh owner next (sym a ∙ f))
         by false true true true f g h j =
             let here : t ≡ k.number = eqb-true t k.number j in
-            let took : u.last_command ≡ length k.taken = o.kept.last (subst (λ (x : ℕ). is_owner u.own side x ≡ true) here g) in
+            let took : u.last_command ≡ length (backward k.taken) = o.kept.last (subst (λ (x : ℕ). is_owner u.own side x ≡ true) here g) in
             let is : n ≡ u.last_command + 1 = eqb-true n (u.last_command + 1) h in
             let at : n ≡ k.sent = is ∙ ap (λ (x : ℕ). x + 1) took ∙ l in
             let made : Then false true true =
@@ -249,8 +251,8 @@ module _ (side : Side) (drawn : ℕ) (k : ProgramTrace) (downs : List (List Down
 
   -- any signal
   mode-next : (may : Bool) → (begun : Option ActiveProgram) (d : Down) → ((b : ActiveProgram) → begun ≡ Some b → IsLast (codes_of k) k.sent b.transfer) → slice_get (queue downs path) 0 ≡ Some d →
-      IsDown drawn k.number k.sent (codes_of k) d → Mode side begun k downs ups u → (b : ActiveProgram) → begun ≡ Some b → length k.taken + 1 ≡ k.sent → b.transfer.sequence ≡ 0 → k.now.moved ≡ [] →
-      IsWired side k.number (length k.taken) HandClosed AnyGive AnyData downs ups u → After may begun d
+      IsDown drawn k.number k.sent (codes_of k) d → Mode side begun k downs ups u → (b : ActiveProgram) → begun ≡ Some b → length (backward k.taken) + 1 ≡ k.sent → b.transfer.sequence ≡ 0 → k.now.moved ≡ [] →
+      IsWired side k.number (length (backward k.taken)) HandClosed AnyGive AnyData downs ups u → After may begun d
   mode-next may begun (down.Command t n code room) last q i m b e l s z w = waits-by begun t n code room may b e (last b e) l s z q i w m
   mode-next may begun d last q i m b e l s z w = carried-down may begun d q i tt m
 

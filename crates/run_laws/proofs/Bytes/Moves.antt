@@ -1,5 +1,5 @@
 -- Which bytes a Data moves, gives and stores.
-use Rattle.std.proofs.Common.{◌≡◌, refl, sym, ◌∙◌, ap, subst, arith, ℕ, ◌+◌, ◌≤◌, ◌==◌, Bool, true, false, List, [], ◌∷◌, ◌++◌, length, map, take, Option, Some, None, Result, Ok, Err, inl, inr, append-nil, min}
+use Rattle.std.proofs.Common.{◌≡◌, refl, sym, ◌∙◌, ap, subst, arith, ℕ, ◌+◌, ◌≤◌, ◌==◌, Bool, true, false, List, [], ◌∷◌, ◌++◌, length, take, Option, Some, None, Result, Ok, Err, inl, inr, append-nil, min}
 use Rattle.std.proofs.lemmas.Bool.{eqb-true, eqb-false}
 use Rattle.std.proofs.Math.Nat.{min-le_left}
 use Rattle.std.specs.Prelude.{◌||◌, if◌then◌else◌, is_some}
@@ -7,6 +7,7 @@ use Rattle.orb_block.specs.declared.Orb.{Orb}
 use Rattle.storage_keys.specs.declared.StorageFault.{StorageFault}
 use Rattle.storage_keys.specs.Storage.{Contents, stored_bytes}
 use Rattle.ccw_walk.specs.declared.check.Check.{Check}
+use Rattle.ccw_walk.specs.Sequences.{Sequence, count, each}
 use Rattle.ccw_walk.specs.Acts.{Act}
 use Rattle.ccw_walk.specs.Programs.{Command, commands, code}
 use Rattle.ccw_walk.specs.Places.{WalkPlace}
@@ -39,21 +40,21 @@ given_by t = if has_stopped t || t.moving.skipped then 0 else room t.moving
 
 -- the same command is at work: none came to the program
 module _ (earlier : ℕ) where
-  used-codes : (orb : Orb) (used : Bool) (acts : List Act) → commands orb (acts_used used acts) ≡ commands orb acts
+  used-codes : (orb : Orb) (used : Bool) (acts : Sequence Act) → commands orb (acts_used used acts) ≡ commands orb acts
   used-codes orb true acts = refl
   used-codes orb false acts = refl
 
   pub work-codes : (storage : Contents) (orb : Orb) (p q : CommandTrace) (used : Bool) (t u : Transfer) (d e : Bool) → IsSame t u → IsAtWork earlier orb p t d → IsAtWork earlier orb q u e →
-      AddsFetched storage orb (acts_used used p.acts) q.acts → map code (commands orb q.acts) ≡ map code (commands orb p.acts)
+      AddsFetched storage orb (acts_used used p.acts) q.acts → each code (commands orb q.acts) ≡ each code (commands orb p.acts)
   work-codes storage orb p q used t u d e same k l a =
-      let before : List Act = acts_used used p.acts in
+      let before : Sequence Act = acts_used used p.acts in
       let same-before : commands orb before ≡ commands orb p.acts = used-codes orb used p.acts in
-      let was : length (commands orb p.acts) ≡ earlier + t.command = k.tied.number in
-      let is : length (commands orb q.acts) ≡ earlier + u.command = l.tied.number in
-      let many : length (commands orb q.acts) ≡ length (commands orb p.acts) = let n : u.command ≡ t.command = same.1 in omega (arith, was, is, n) in
-      ap (λ (acts : List Act). map code (commands orb acts)) a.1
-      ∙ same-codes orb a.0 before (ap (λ (acts : List Act). length (commands orb acts)) (sym a.1) ∙ many ∙ ap length (sym same-before))
-      ∙ ap (λ (cs : List Command). map code cs) same-before
+      let was : count (commands orb p.acts) ≡ earlier + t.command = k.tied.number in
+      let is : count (commands orb q.acts) ≡ earlier + u.command = l.tied.number in
+      let many : count (commands orb q.acts) ≡ count (commands orb p.acts) = let n : u.command ≡ t.command = same.1 in omega (arith, was, is, n) in
+      ap (λ (acts : Sequence Act). each code (commands orb acts)) a.1
+      ∙ same-codes orb a.0 before (ap (λ (acts : Sequence Act). count (commands orb acts)) (sym a.1) ∙ many ∙ ap count (sym same-before))
+      ∙ ap (λ (cs : Sequence Command). each code cs) same-before
 
   module _ (laws : AreLaws) (accesses : AreAccesses) where
     -- a write
@@ -137,7 +138,7 @@ module _ (earlier : ℕ) where
         IsGiven storage orb bytes p now
     given-from storage orb bytes p q now e m (inl x) = inl (x.0, x.1 ∙ e)
     given-from storage orb bytes p q now e m (inr x) =
-        inr (x.0, x.1 ∙ ap (λ cs. record { storage = storage.bytes; places = x.0; bytes = bytes } ∷ cs) e, x.2)
+        inr (x.0, x.1 ∙ ap (λ cs. cs ++ record { storage = storage.bytes; places = x.0; bytes = bytes } ∷ []) e, x.2)
 
     pub gives-told : (storage : Contents) (orb : Orb) (p : CommandTrace) (t : Transfer) (s count : ℕ) → IsAtWork earlier orb p t true →
         Gives storage orb (if s == t.sequence + 1 then min count (room t.moving) else 0) (given_by (next_chunk storage (chunk_absorbed storage t s count)).transfer)
@@ -196,7 +197,7 @@ module _ (earlier : ℕ) where
         × ((with_arrival storage t (take n bytes) r p).copied ≡ p.copied)
     arrival-told storage orb t bytes n (Ok after) p kept next e l k =
         let some : List ℕ = take n bytes in
-        let q : CommandTrace = record p { arrived = record { former = storage.bytes; chunk = chunk_of after t.moving some } ∷ p.arrived } in
+        let q : CommandTrace = record p { arrived = p.arrived ++ record { former = storage.bytes; chunk = chunk_of after t.moving some } ∷ [] } in
         let parts = after_bytes_moved-parts after t (length some) q (chains_data (with_bytes_moved t (length some)) (length some)) in (
           inr (next, each_below (next_place t.moving) (length some), parts.1, parts.0, (stored-bytes accesses storage after t.walk.orb.key t.moving some e).alone),
           after_bytes_moved-copied after t (length some) q (chains_data (with_bytes_moved t (length some)) (length some)),

@@ -1,10 +1,11 @@
 -- What a Data leaves of a transfer is what is seen of it: its numbers, what is given next, and why a check is kept.
-use Rattle.std.proofs.Common.{◌≡◌, refl, sym, ◌∙◌, ap, subst, ℕ, ◌+◌, ◌≤◌, ◌==◌, Bool, true, false, List, [], ◌∷◌, length, take, Option, Some, None, Result, Ok, Err, inl, inr, min}
+use Rattle.std.proofs.Common.{◌≡◌, refl, sym, ◌∙◌, ap, subst, ℕ, ◌+◌, ◌≤◌, ◌==◌, Bool, true, false, List, [], ◌∷◌, length, take, Option, Some, None, Result, Ok, Err, inl, inr, min, ◌++◌}
 use Rattle.std.proofs.lemmas.Bool.{eqb-true}
 use Rattle.std.specs.Prelude.{◌||◌, ◌&&◌, ◌⊎◌, nat_lt, if◌then◌else◌, is_some}
 use Rattle.orb_block.specs.declared.Orb.{Orb}
 use Rattle.storage_keys.specs.Storage.{Contents}
 use Rattle.ccw_walk.specs.declared.check.Check.{Check}
+use Rattle.ccw_walk.specs.Sequences.{Sequence}
 use Rattle.ccw_walk.specs.Acts.{Act}
 use Rattle.ccw_walk.specs.Places.{WalkPlace, after_acts, after_count_used_up}
 use Rattle.ccw_walk.specs.Advancing.{advance_acts, advance_of_acts}
@@ -145,7 +146,7 @@ module _ (laws : AreLaws) (accesses : AreAccesses) (earlier : ℕ) where
       let many : given_by v ≡ given_of orb now =
       ap (λ (b : Bool). if has_stopped v || b then 0 else room v.moving) (skips-same earlier orb now.acts now.moved v w.tied)
       ∙ ap (λ (n : ℕ). if has_stopped v || skips (data_areas orb now.acts) then 0 else n) (room-same earlier orb now.acts now.moved v w.tied) in
-      let X : List Act → List (Option ℕ) → Type 0 = λ acts moved.
+      let X : Sequence Act → List (Option ℕ) → Type 0 = λ acts moved.
       (has_check orb acts ≡ true) ⊎ (CantReach storage orb acts moved ⊎ CantFetch storage orb acts moved) in
       record {
         gives = subst (λ (n : ℕ). Gives storage orb n (given_of orb now) given.bytes p now) number
@@ -154,9 +155,9 @@ module _ (laws : AreLaws) (accesses : AreAccesses) (earlier : ℕ) where
           stays = λ e. fault-stays t.fault v.fault (λ n. answered-through storage t s count next (located-none storage a (fv.5 n))) (sym marks.3 ∙ e);
           because = λ e.
               elim (copy-kept earlier laws storage orb r.acts r.moved u (has_stopped u) (access.copied storage u.walk.orb.key u.moving) refl wu.tied e) [
-                | inr x ↦ inr (subst (λ (xs : List (Option ℕ)). X now.acts xs) (sym same.1) (subst (λ (xs : List Act). X xs r.moved) (sym same.0) (inr (inr x))))
+                | inr x ↦ inr (subst (λ (xs : List (Option ℕ)). X now.acts xs) (sym same.1) (subst (λ (xs : Sequence Act). X xs r.moved) (sym same.0) (inr (inr x))))
                 | inl x ↦ elim (located.0 x) [
-                  | inr y ↦ inr (subst (λ (xs : List (Option ℕ)). X now.acts xs) (sym same.1) (subst (λ (xs : List Act). X xs r.moved) (sym same.0) (inr (inl y))))
+                  | inr y ↦ inr (subst (λ (xs : List (Option ℕ)). X now.acts xs) (sym same.1) (subst (λ (xs : Sequence Act). X xs r.moved) (sym same.0) (inr (inl y))))
                   | inl y ↦ elim (answered-kept storage orb p t s count next k y) [
                     | inl z ↦ inl (marks.3 ∙ z)
                     | inr z ↦ inr (inl (ap (has_check orb) same.0 ∙ located-checks earlier storage orb q.acts a ∙ z))
@@ -165,7 +166,7 @@ module _ (laws : AreLaws) (accesses : AreAccesses) (earlier : ℕ) where
               ];
           without = λ e. (
             w.tied.checked e,
-            ap (λ (xs : List Act). is_short orb xs now.moved) same.0 ∙ ap (λ (xs : List (Option ℕ)). is_short orb r.acts xs) same.1
+            ap (λ (xs : Sequence Act). is_short orb xs now.moved) same.0 ∙ ap (λ (xs : List (Option ℕ)). is_short orb r.acts xs) same.1
                 ∙ short-same earlier orb r.acts r.moved u wu.tied ∙ located.1 (is-none u.fault (fv.5 (none-is v.fault e))),
           );
         };
@@ -197,7 +198,7 @@ module _ (laws : AreLaws) (accesses : AreAccesses) (earlier : ℕ) where
   arrival-kept : (storage : Contents) (orb : Orb) (p : CommandTrace) (t : Transfer) (bytes : List ℕ) (r : Result Contents Check) → access.stored_or_skipped storage t.walk.orb.key t.moving bytes ≡ r →
       length bytes ≤ t.moving.left → Tied earlier orb p.acts p.moved t → BroughtWhy storage orb p t bytes (after_store storage t (length bytes) r) (with_arrival storage t bytes r p)
   arrival-kept storage orb p t bytes (Ok after) e l k f =
-      let q : CommandTrace = record p { arrived = record { former = storage.bytes; chunk = chunk_of after t.moving bytes } ∷ p.arrived } in
+      let q : CommandTrace = record p { arrived = p.arrived ++ record { former = storage.bytes; chunk = chunk_of after t.moving bytes } ∷ [] } in
       elim (after_bytes_moved-kept earlier laws after orb q t (length bytes) l k f) [ inl x ↦ inl x | inr x ↦ inr (inl x) ]
   arrival-kept storage orb p t bytes (Err check) e l k f = inr (inr (cant-by earlier laws accesses storage orb p t bytes check t.moving.skipped refl e l k))
 

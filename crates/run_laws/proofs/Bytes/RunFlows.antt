@@ -1,6 +1,6 @@
 -- After each run of a lawful set-up what a device absorbed for its command are the first bytes of chunks that were copied
 -- for it, side by side from the first place on.
-use Rattle.std.proofs.Common.{◌≡◌, refl, sym, ap, subst, ℕ, ◌+◌, Bool, true, false, ◌==◌, ◌&&◌, length, Option, None, Some, Result, Ok, List, inl, inr, arith}
+use Rattle.std.proofs.Common.{◌≡◌, refl, sym, ap, subst, ℕ, ◌+◌, Bool, true, false, ◌==◌, ◌&&◌, Option, None, Some, Result, Ok, List, inl, inr, arith, ◌∙◌}
 use Rattle.std.specs.Prelude.{if◌then◌else◌, slice_get, IfOk}
 use Rattle.std.proofs.lemmas.Bool.{eq-eqb, eqb-true}
 use Rattle.storage_keys.specs.Storage.{Contents}
@@ -60,6 +60,8 @@ use Rattle.run_laws.proofs.Bytes.LinkFlows.{AtSub, choose-flows, up-flows, down-
 use Rattle.run_laws.proofs.Units.RunSides.{run-one-sided}
 use Rattle.run_laws.proofs.Commands.RunOrders.{AllNeeds, on-none, unit-there, idle-there, run-linked}
 use Rattle.step_laws.proofs.Places.{map-get}
+use Rattle.ccw_walk.specs.Sequences.{count}
+use Rattle.run_laws.proofs.Traces.Sequences.{length-backward}
 
 -- at one place
 abbrev Flows : Side → Subchannel → Option ProgramTrace → Option UnitState → Type 0
@@ -232,13 +234,13 @@ module _ (laws : AreLaws) (accesses : AreAccesses) where
 
   mode-absorbs : (side : Side) (begun : Option ActiveProgram) (k : ProgramTrace) (downs : List (List Down)) (ups : List (List Up)) (u : UnitState) → HasWork begun k → Mode side begun k downs ups u →
       AbsorbsInOrder k.orb (part_of k) k.absorbed
-  mode-absorbs side begun k downs ups u h (Waits b e n q y a w) = part-before k (length k.taken == k.sent) (not-same (length k.taken) k.sent n) a
-  mode-absorbs side begun k downs ups u h (Over e n z a w) = part-now k (length k.taken == k.sent) (eq-eqb (length k.taken) k.sent n) a
+  mode-absorbs side begun k downs ups u h (Waits b e n q y a w) = part-before k (count k.taken == k.sent) (not-same (count k.taken) k.sent (ap (λ (i : ℕ). i + 1) (sym (length-backward k.taken)) ∙ n)) a
+  mode-absorbs side begun k downs ups u h (Over e n z a w) = part-now k (count k.taken == k.sent) (eq-eqb (count k.taken) k.sent (sym (length-backward k.taken) ∙ n)) a
   mode-absorbs side begun k downs ups u h (Reads b e n o z w) =
-      part-now k (length k.taken == k.sent) (eq-eqb (length k.taken) k.sent n) (absorbs-none k.orb k.now k.absorbed z)
+      part-now k (count k.taken == k.sent) (eq-eqb (count k.taken) k.sent (sym (length-backward k.taken) ∙ n)) (absorbs-none k.orb k.now k.absorbed z)
   mode-absorbs side begun k downs ups u h (Writes b e n o lead f w) =
       let work : HasWork (Some b) k = subst (λ (x : Option ActiveProgram). HasWork x k) e h in
-      part-now k (length k.taken == k.sent) (eq-eqb (length k.taken) k.sent n) (flow-absorbs laws k b.transfer lead work.0.tied f)
+      part-now k (count k.taken == k.sent) (eq-eqb (count k.taken) k.sent (sym (length-backward k.taken) ∙ n)) (flow-absorbs laws k b.transfer lead work.0.tied f)
 
   course-absorbs : (side : Side) (begun : Option ActiveProgram) (k : ProgramTrace) (downs : List (List Down)) (ups : List (List Up)) (u : UnitState) → HasWork begun k → Course side begun k downs ups u →
       AbsorbsInOrder k.orb (part_of k) k.absorbed

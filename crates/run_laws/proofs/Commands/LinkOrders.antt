@@ -1,5 +1,5 @@
 -- The commands that a device takes are those of the program, in order: what each kind of step keeps of this.
-use Rattle.std.proofs.Common.{◌<◌, ◌≡◌, refl, sym, ◌∙◌, ap, subst, ℕ, ◌+◌, ◌≤◌, Bool, true, false, ◌==◌, nat_lt, Option, None, Some, Err, List, [], ◌∷◌, length, map, inl, inr, arith}
+use Rattle.std.proofs.Common.{◌<◌, ◌≡◌, refl, sym, ◌∙◌, ap, subst, ℕ, ◌+◌, ◌≤◌, Bool, true, false, ◌==◌, nat_lt, Option, None, Some, Err, List, [], ◌∷◌, length, inl, inr, arith}
 use Rattle.std.specs.Prelude.{if◌then◌else◌, slice_get, IfOk, IfSome}
 use Rattle.storage_keys.specs.Storage.{Contents}
 use Rattle.chan_model.specs.declared.fault.Fault.TheVariants as fault
@@ -37,10 +37,10 @@ use Rattle.machine_model.specs.ReportSteps.{report_taken}
 use Rattle.step_laws.specs.Walks.{IsFound, Suits}
 use Rattle.run_laws.proofs.Traces.MachineTraces.{silent_by, trace_meets, met_with, met_at}
 use Rattle.run_laws.specs.Traces.{ProgramTrace, trace_offered, chosen_at, taken_at, absorbs, reported_at, offered_for, reported}
+use Rattle.ccw_walk.specs.Sequences.{Sequence, ◌▸◌, count, each}
 use Rattle.ccw_walk.specs.Programs.{Command, commands, code}
 use Rattle.run_laws.proofs.Traces.Caused.{cause-kept}
 use Rattle.run_laws.proofs.Traces.Holds.{IsUnheld, IsUntold}
-use Rattle.std.proofs.lemmas.List.{length-map}
 use Rattle.run_laws.proofs.Units.UnitSides.{IsStillStep, other-still, report-still}
 use Rattle.run_laws.proofs.Commands.UnitOrders.{IsAbove, IsDown, AreOn, IsOrdered, on-taken, on-first, hold-sends, hold-begins, hold-offers, hold-draws, ordered-still, took_after, unit-takes}
 use Rattle.run_laws.proofs.Links.LinkNeeds.{IsLast, IsNeeded, Needs, reset-needs}
@@ -50,6 +50,7 @@ use Rattle.run_laws.proofs.Units.UnitActs.{IsGentle, if-ok, ordered-gentle}
 use Rattle.run_laws.proofs.Commands.LinkSent.{IsOf, IsAtWork, up-sends}
 use Rattle.run_laws.proofs.Links.Vanishing.{Fewer, carried-fewer, send-ok}
 use Rattle.subchannel_model.specs.declared.state.UpStep.{UpStep}
+use Rattle.run_laws.proofs.Traces.Sequences.{count-each, backward, length-backward}
 
 -- the orders between the story and a unit
 abbrev pub number_of : Option ProgramTrace → ℕ
@@ -66,7 +67,7 @@ all_codes (Some k) = codes_of k
 
 abbrev pub took_of : Option ProgramTrace → List ℕ
 took_of None = []
-took_of (Some k) = k.taken
+took_of (Some k) = backward k.taken
 
 abbrev pub IsLinked : Side → ℕ → List (List Down) → Option ProgramTrace → UnitState → Type 0
 IsLinked side drawn wires k u = IsOrdered side drawn (number_of k) (sent_of k) (all_codes k) (took_of k) wires u
@@ -153,9 +154,9 @@ offered-linked sub path program true None u w n l = absurd (cc (sym n.suspended 
 offered-linked sub path program true (Some k) u w n l =
     let t : ℕ = sub.state.drawn + 1 in
     let wires : List (List Down) = with_any_sent sub.wires.down (Some (record { path = path; signal = down.Select t })) in
-    let cs : List Command = commands k.orb k.now.acts in
-    let none : later_codes (length cs) (map code cs) ≡ [] =
-    ap (λ (i : ℕ). later_codes i (map code cs)) (sym (length-map cs code)) ∙ later-none (map code cs) in
+    let cs : Sequence Command = commands k.orb k.now.acts in
+    let none : later_codes (count cs) (backward (each code cs)) ≡ [] =
+    ap (λ (i : ℕ). later_codes i (backward (each code cs))) (sym (length-backward (each code cs) ∙ count-each code cs)) ∙ later-none (backward (each code cs)) in
     subst (λ (xs : List ℕ). IsOrdered sub.setup.side t t 0 xs [] wires u) (sym none) (offer-linked sub.setup.side sub.state.drawn path sub.wires.down (Some k) u n.number l)
 
 -- whatever is chosen
@@ -205,15 +206,15 @@ met-linked returns storage sub path x (Some k) u drawn same n m l =
     let P : ℕ → List ℕ → Type 0 = λ i c. IfSome one (λ d. IsDown drawn i new.sent c d.signal) in
     let Q : ℕ → List ℕ → List ℕ → Type 0 = λ i c t. IsOrdered sub.setup.side drawn i new.sent c t (with_any_sent sub.wires.down one) u in
     let sends' : P k.number (codes_of new) = subst (λ (i : ℕ). P i (codes_of new)) g.number sends in
-    let made : Q k.number (codes_of new) k.taken = elim g.codes [
+    let made : Q k.number (codes_of new) (backward k.taken) = elim g.codes [
       | inl a ↦
-          subst (λ (c : List ℕ). Q k.number c k.taken) (sym a.1)
-          (hold-sends sub.setup.side drawn k.number k.sent new.sent (codes_of k) a.0 k.taken sub.wires.down u one l g.sent (subst (λ (c : List ℕ). P k.number c) a.1 sends'))
+          subst (λ (c : List ℕ). Q k.number c (backward k.taken)) (sym a.1)
+          (hold-sends sub.setup.side drawn k.number k.sent new.sent (codes_of k) a.0 (backward k.taken) sub.wires.down u one l g.sent (subst (λ (c : List ℕ). P k.number c) a.1 sends'))
       | inr z ↦
-          hold-begins sub.setup.side drawn k.number new.sent (codes_of k) (codes_of new) k.taken sub.wires.down u one
-          (subst (λ (i : ℕ). IsOrdered sub.setup.side drawn k.number i (codes_of k) k.taken sub.wires.down u) z l) sends'
+          hold-begins sub.setup.side drawn k.number new.sent (codes_of k) (codes_of new) (backward k.taken) sub.wires.down u one
+          (subst (λ (i : ℕ). IsOrdered sub.setup.side drawn k.number i (codes_of k) (backward k.taken) sub.wires.down u) z l) sends'
     ] in
-    subst (λ (t : List ℕ). Q new.number (codes_of new) t) (sym g.taken) (subst (λ (i : ℕ). Q i (codes_of new) k.taken) (sym g.number) made)
+    subst (λ (t : Sequence ℕ). Q new.number (codes_of new) (backward t)) (sym g.taken) (subst (λ (i : ℕ). Q i (codes_of new) (backward k.taken)) (sym g.number) made)
 
 abbrev pub IsMet : Subchannel → Option ProgramTrace → UnitState → UpTurn → Type 0
 IsMet sub k u t = Needs k t.sub.state → IsLinked sub.setup.side t.sub.state.drawn t.sub.wires.down k u
@@ -264,8 +265,8 @@ took-story side drawn wires v (down.Got a) true None None o = o
 took-story side drawn wires v (down.Select t) true None (Some k) o = o
 took-story side drawn wires v (down.Command t n code room) true None (Some k) o = some (t == k.number) o
   where
-    some : (b : Bool) → IsOrdered side drawn k.number k.sent (codes_of k) (if b then code ∷ k.taken else k.taken) wires v →
-        IsLinked side drawn wires (Some (if b then record k { taken = code ∷ k.taken; absorbed = [] } else k)) v
+    some : (b : Bool) → IsOrdered side drawn k.number k.sent (codes_of k) (if b then code ∷ backward k.taken else backward k.taken) wires v →
+        IsLinked side drawn wires (Some (if b then record k { taken = k.taken ▸ code; absorbed = [] } else k)) v
     some true o = o
     some false o = o
 took-story side drawn wires v (down.Grant t c) true None (Some k) o = o

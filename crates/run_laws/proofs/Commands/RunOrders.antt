@@ -1,6 +1,6 @@
 -- After each run of a lawful set-up the commands that a device took are those of the program, in order.
-use Rattle.std.proofs.Common.{◌≡◌, refl, sym, ◌∙◌, ap, subst, ℕ, ◌<◌, zero, suc, Option, None, Some, List, [], ◌∷◌, length, map, arith}
-use Rattle.std.specs.Prelude.{slice_get, option_map, replicate, reverse, All}
+use Rattle.std.proofs.Common.{◌≡◌, refl, sym, ◌∙◌, ap, subst, ℕ, ◌<◌, zero, suc, Option, None, Some, List, [], ◌∷◌, length, map, arith, ◌++◌}
+use Rattle.std.specs.Prelude.{slice_get, option_map, replicate, reverse, drop, All}
 use Rattle.std.proofs.lemmas.List.{reverse-append, reverse-reverse}
 use Rattle.std.proofs.lemmas.List.Elements.{All-nil}
 use Rattle.std.proofs.lemmas.Option.{slice_get-map, slice_get_within, get_or_from_slice_get}
@@ -21,7 +21,8 @@ use Rattle.subchannel_model.specs.Opening.{opened}
 use Rattle.machine_model.specs.Steps.{Run, Opened, Stepped}
 use Rattle.run_laws.specs.Traces.{ProgramTrace}
 use Rattle.run_laws.proofs.Traces.MachineTraces.{trace, trace_after}
-use Rattle.run_laws.specs.ProgramClaims.{codes_after, TakesInOrder}
+use Rattle.ccw_walk.specs.Programs.{commands, code}
+use Rattle.run_laws.specs.ProgramClaims.{TakesInOrder}
 use Rattle.step_laws.specs.Walks.{AreWalks}
 use Rattle.run_laws.specs.Agreeing.{AreAbove}
 use Rattle.run_laws.proofs.Traces.Turns.{step-happens}
@@ -31,6 +32,8 @@ use Rattle.run_laws.proofs.Commands.LinkOrders.{IsLinked, AtUnit}
 use Rattle.run_laws.proofs.Commands.PlaceOrders.{happens-linked}
 use Rattle.run_laws.proofs.Units.RunSides.{run-one-sided}
 use Rattle.step_laws.proofs.Places.{map-get}
+use Rattle.ccw_walk.specs.Sequences.{Sequence, each}
+use Rattle.run_laws.proofs.Traces.Sequences.{backward, in_order-backward}
 
 -- what is to be known of each subchannel after each run
 -- what agreement says of the Resets that wait
@@ -104,7 +107,8 @@ run-linked walks setup lawful above needs _ _ (Stepped h old e r new run step) p
 linked-takes : (side : Side) (drawn : ℕ) (wires : List (List Down)) (k : ProgramTrace) (u : Option UnitState) → AtUnit (IsLinked side drawn wires (Some k)) u → TakesInOrder k
 linked-takes side drawn wires k None l = absurd l
 linked-takes side drawn wires k (Some u) l =
-    (reverse l.later, sym (reverse-append l.later k.taken) ∙ ap reverse (sym l.order) ∙ reverse-reverse (codes_after k.earlier k.orb k.now.acts))
+    let codes : Sequence ℕ = each code (commands k.orb k.now.acts) in
+    (reverse l.later, ap (λ (xs : List ℕ). xs ++ reverse l.later) (in_order-backward k.taken) ∙ sym (reverse-append l.later (backward k.taken)) ∙ ap reverse (sym l.order) ∙ reverse-reverse (drop k.earlier (reverse (backward codes))) ∙ ap (drop k.earlier) (sym (in_order-backward codes)))
 
 pub run-takes : AreWalks → (setup : Setup) → IsLawful setup → AllAbove setup → AllNeeds setup → (h : List Entry) (s : State) (run : Run (opening_of setup) h s) (place : ℕ) (sub : Subchannel) (k : ProgramTrace) →
     slice_get s.subs place ≡ Some sub → trace place (opening_of setup) h s run ≡ Some k → TakesInOrder k

@@ -1,5 +1,5 @@
 -- What a subchannel does for its program with a signal only adds to the codes of its commands.
-use Rattle.std.proofs.Common.{◌≡◌, refl, sym, ◌∙◌, ap, ℕ, ◌+◌, ◌-◌, ◌≤◌, Bool, true, false, ◌==◌, Option, None, Some, Result, Ok, Err, List, [], ◌∷◌, ◌++◌, length, map, append_assoc, inl, inr, arith}
+use Rattle.std.proofs.Common.{◌≡◌, refl, sym, ◌∙◌, ap, ℕ, ◌+◌, ◌-◌, ◌≤◌, Bool, true, false, ◌==◌, Option, None, Some, Result, Ok, Err, List, [], ◌∷◌, ◌++◌, length, append_assoc, inl, inr, arith}
 use Rattle.std.specs.Prelude.{◌⊎◌, if◌then◌else◌, is_some, reverse, drop}
 use Rattle.std.proofs.lemmas.Bool.{cases_lt}
 use Rattle.std.proofs.lemmas.List.{append-nil, length-reverse, length-drop, reverse-reverse, reverse-append, drop_all, drop-append-le}
@@ -19,6 +19,7 @@ use Rattle.chan_model.specs.UnitReports.{is_outward, has_device_end}
 use Rattle.ccw_walk.specs.declared.check.Check.{Check}
 use Rattle.ccw_walk.specs.declared.program.Reading.{Reading}
 use Rattle.ccw_walk.specs.declared.program.Reading.TheVariants.{Takes}
+use Rattle.ccw_walk.specs.Sequences.{Sequence, Nothing, ◌▸◌, ◌▸▸◌, count, each}
 use Rattle.ccw_walk.specs.Acts.{Act, Block, Unfetched, Used_up, End, Word}
 use Rattle.ccw_walk.specs.Blocks.{reads}
 use Rattle.ccw_walk.specs.Programs.{Command, join_last, commands_after, commands, code, role_of}
@@ -40,13 +41,14 @@ use Rattle.subchannel_model.specs.Accept.{takes_device}
 use Rattle.run_laws.specs.Traces.{CommandTrace, no_trace, ProgramTrace, past_part}
 use Rattle.run_laws.proofs.Traces.MachineActs.{with_acts, with_places, trace_moved_on, trace_answered, with_copy, copying, trace_giving, gives, with_arrival, storing, arriving, takes_in, located_acts, chained_acts, chunk_of, first_acts, next_acts}
 use Rattle.run_laws.proofs.Traces.MachineTraces.{trace_goes_on, trace_begins, begins_anew, begins_again, again_as, begins_as, accepted_at, trace_accepted, moves, answers, ends_alone, with_ended, chains, trace_ends, trace_meets}
+use Rattle.run_laws.proofs.Traces.Sequences.{joined-in-order, backward}
 
--- the codes of the commands after the earlier ones, the latest first
+-- the codes of the commands after the earlier ones, the last first
 abbrev pub later_codes : ℕ → List ℕ → List ℕ
 later_codes earlier cs = reverse (drop earlier (reverse cs))
 
 abbrev pub codes_of : ProgramTrace → List ℕ
-codes_of k = later_codes k.earlier (map code (commands k.orb k.now.acts))
+codes_of k = later_codes k.earlier (backward (each code (commands k.orb k.now.acts)))
 
 pub later-length : (earlier : ℕ) (cs : List ℕ) → length (later_codes earlier cs) ≡ length cs - earlier
 later-length earlier cs = length-reverse (drop earlier (reverse cs)) ∙ length-drop earlier (reverse cs) ∙ ap (λ (n : ℕ). n - earlier) (length-reverse cs)
@@ -67,9 +69,9 @@ pub later-first : (earlier c : ℕ) (cs : List ℕ) → earlier ≤ length cs �
 later-first earlier c cs l = later-more earlier (c ∷ []) cs l
 
 -- one more act adds a code, or none
-joined-codes : (cs : List Command) (ccw : Ccw) → map code (join_last cs ccw) ≡ map code cs
-joined-codes [] ccw = refl
-joined-codes (c ∷ cs) ccw = refl
+joined-codes : (cs : Sequence Command) (ccw : Ccw) → backward (each code (join_last cs ccw)) ≡ backward (each code cs)
+joined-codes Nothing ccw = refl
+joined-codes (cs ▸ c) ccw = refl
 
 abbrev pub Adds : List ℕ → List ℕ → Type 0
 Adds old new = (more : List ℕ) × (new ≡ more ++ old)
@@ -80,20 +82,20 @@ adds-none xs ys e = ([], e)
 pub adds-then : (xs ys zs : List ℕ) → Adds xs ys → Adds ys zs → Adds xs zs
 adds-then xs ys zs a b = (b.0 ++ a.0, b.1 ∙ ap (λ (l : List ℕ). b.0 ++ l) a.1 ∙ sym (append_assoc b.0 a.0 xs))
 
-after-adds : (chained : Bool) (cs : List Command) (r : Reading) → Adds (map code cs) (map code (commands_after chained cs r))
-after-adds true cs (Takes ccw) = adds-none (map code cs) (map code (join_last cs ccw)) (joined-codes cs ccw)
+after-adds : (chained : Bool) (cs : Sequence Command) (r : Reading) → Adds (backward (each code cs)) (backward (each code (commands_after chained cs r)))
+after-adds true cs (Takes ccw) = adds-none (backward (each code cs)) (backward (each code (join_last cs ccw))) (joined-codes cs ccw)
 after-adds false cs (Takes ccw) = (ccw.command ∷ [], refl)
 after-adds chained cs other = adds-none _ _ refl
 
-pub acts-add : (orb : Orb) (acts before : List Act) → Adds (map code (commands orb before)) (map code (commands orb (acts ++ before)))
-acts-add orb [] before = adds-none _ _ refl
-acts-add orb (Block address bytes ∷ acts) before =
-    adds-then (map code (commands orb before)) (map code (commands orb (acts ++ before))) _ (acts-add orb acts before)
-    (after-adds (role_of orb (acts ++ before)).chained (commands orb (acts ++ before)) (reads orb (role_of orb (acts ++ before)) bytes))
-acts-add orb (Unfetched address check ∷ acts) before = acts-add orb acts before
-acts-add orb (Used_up ∷ acts) before = acts-add orb acts before
-acts-add orb (End ended ∷ acts) before = acts-add orb acts before
-acts-add orb (Word word ∷ acts) before = acts-add orb acts before
+pub acts-add : (orb : Orb) (acts before : Sequence Act) → Adds (backward (each code (commands orb before))) (backward (each code (commands orb (before ▸▸ acts))))
+acts-add orb Nothing before = adds-none _ _ refl
+acts-add orb (acts ▸ Block address bytes) before =
+    adds-then (backward (each code (commands orb before))) (backward (each code (commands orb (before ▸▸ acts)))) _ (acts-add orb acts before)
+    (after-adds (role_of orb (before ▸▸ acts)).chained (commands orb (before ▸▸ acts)) (reads orb (role_of orb (before ▸▸ acts)) bytes))
+acts-add orb (acts ▸ Unfetched address check) before = acts-add orb acts before
+acts-add orb (acts ▸ Used_up) before = acts-add orb acts before
+acts-add orb (acts ▸ End ended) before = acts-add orb acts before
+acts-add orb (acts ▸ Word word) before = acts-add orb acts before
 
 later-adds : (earlier : ℕ) (xs ys : List ℕ) → Adds xs ys → Adds (later_codes earlier xs) (later_codes earlier ys)
 later-adds earlier xs ys a =
@@ -105,19 +107,19 @@ later-adds earlier xs ys a =
       | inr l ↦ (a.0, ap (λ (cs : List ℕ). later_codes earlier cs) a.1 ∙ later-more earlier a.0 xs l)
     ]
 
-codes-add : (k : ProgramTrace) (acts : List Act) → Adds (codes_of k) (later_codes k.earlier (map code (commands k.orb (acts ++ k.now.acts))))
+codes-add : (k : ProgramTrace) (acts : Sequence Act) → Adds (codes_of k) (later_codes k.earlier (backward (each code (commands k.orb (k.now.acts ▸▸ acts)))))
 codes-add k acts =
-    later-adds k.earlier (map code (commands k.orb k.now.acts)) (map code (commands k.orb (acts ++ k.now.acts))) (acts-add k.orb acts k.now.acts)
+    later-adds k.earlier (backward (each code (commands k.orb k.now.acts))) (backward (each code (commands k.orb (k.now.acts ▸▸ acts)))) (acts-add k.orb acts k.now.acts)
 
 -- parts whose acts grew
 abbrev pub IsOn : CommandTrace → CommandTrace → Type 0
-IsOn k new = (more : List Act) × (new.acts ≡ more ++ k.acts)
+IsOn k new = (more : Sequence Act) × (new.acts ≡ k.acts ▸▸ more)
 
 on-same : (k new : CommandTrace) → new.acts ≡ k.acts → IsOn k new
-on-same k new e = ([], e)
+on-same k new e = (Nothing, e)
 
 on-then : (x y z : CommandTrace) → IsOn x y → IsOn y z → IsOn x z
-on-then x y z a b = (b.0 ++ a.0, b.1 ∙ ap (λ (l : List Act). b.0 ++ l) a.1 ∙ sym (append_assoc b.0 a.0 x.acts))
+on-then x y z a b = (a.0 ▸▸ b.0, b.1 ∙ ap (λ (l : Sequence Act). l ▸▸ b.0) a.1 ∙ sym (joined-in-order x.acts a.0 b.0))
 
 if-on : (k : CommandTrace) (c : Bool) (x y : CommandTrace) → IsOn k x → IsOn k y → IsOn k (if c then x else y)
 if-on k true x y e f = e
@@ -130,7 +132,7 @@ answered-on : (storage : Contents) (t : Transfer) (s count : ℕ) (k : CommandTr
 answered-on storage t s count k = if-on k (s == t.sequence + 1) _ k (after_bytes_moved-on storage (with_chunk_counted t s count) _ k) (on-same k k refl)
 
 with_copy-on : (storage : Contents) (t : Transfer) (r : Result (List ℕ) Check) (k : CommandTrace) → IsOn k (with_copy storage t r k)
-with_copy-on storage t (Ok bytes) k = on-same k (record k { copied = chunk_of storage t.moving bytes ∷ k.copied }) refl
+with_copy-on storage t (Ok bytes) k = on-same k (record k { copied = k.copied ++ chunk_of storage t.moving bytes ∷ [] }) refl
 with_copy-on storage t (Err check) k = on-same k k refl
 
 copying-on : (storage : Contents) (t : Transfer) (k : CommandTrace) → IsOn k (copying storage t k)
@@ -144,7 +146,7 @@ gives-on storage t s count k = on-then k (trace_answered storage t s count k) (g
 
 with_arrival-on : (storage : Contents) (t : Transfer) (bytes : List ℕ) (r : Result Contents Check) (k : CommandTrace) → IsOn k (with_arrival storage t bytes r k)
 with_arrival-on storage t bytes (Ok after) k =
-    let x : CommandTrace = record k { arrived = record { former = storage.bytes; chunk = chunk_of after t.moving bytes } ∷ k.arrived } in
+    let x : CommandTrace = record k { arrived = k.arrived ++ record { former = storage.bytes; chunk = chunk_of after t.moving bytes } ∷ [] } in
     on-then k x (trace_moved_on after t (length bytes) x) (on-same k x refl) (after_bytes_moved-on after t (length bytes) x)
 with_arrival-on storage t bytes (Err check) k = on-same k k refl
 
@@ -179,16 +181,16 @@ if-grown k false x y e f = f
 
 now-grown : (k : ProgramTrace) (now : CommandTrace) → IsOn k.now now → IsGrown k (record k { now = now })
 now-grown k now a =
-    let c : Adds (codes_of k) (later_codes k.earlier (map code (commands k.orb (a.0 ++ k.now.acts)))) = codes-add k a.0 in
+    let c : Adds (codes_of k) (later_codes k.earlier (backward (each code (commands k.orb (k.now.acts ▸▸ a.0))))) = codes-add k a.0 in
     record {
       number = refl;
       taken = refl;
       absorbed = refl;
       sent = omega arith;
-      codes = inl (c.0, ap (λ (l : List Act). later_codes k.earlier (map code (commands k.orb l))) a.1 ∙ c.1);
+      codes = inl (c.0, ap (λ (l : Sequence Act). later_codes k.earlier (backward (each code (commands k.orb l)))) a.1 ∙ c.1);
     }
 
-chains_at_device_end-grown : (storage : Contents) (c : CommandStart) (acts : List Act) (k : ProgramTrace) → IsGrown k (trace_goes_on storage c acts k)
+chains_at_device_end-grown : (storage : Contents) (c : CommandStart) (acts : Sequence Act) (k : ProgramTrace) → IsGrown k (trace_goes_on storage c acts k)
 chains_at_device_end-grown storage (came.Begins t) acts k = record { number = refl; taken = refl; absorbed = refl; sent = omega arith; codes = inl (codes-add k acts) }
 chains_at_device_end-grown storage came.Suspends acts k = now-grown k (with_acts k.now acts) (acts, refl)
 chains_at_device_end-grown storage (came.Stops check) acts k = now-grown k (with_acts k.now acts) (acts, refl)
@@ -207,14 +209,14 @@ again-grown : (storage : Contents) (suspended : Option ProgramPosition) (start :
 again-grown storage None start k e = same-grown k
 again-grown storage (Some st) start k e =
     if-grown k (st.program.start == start) (begins_again storage st k) k
-    (begins-grown storage st.walk k (record k { earlier = length (commands k.orb k.now.acts); now = past_part k.now }) e refl refl refl) (same-grown k)
+    (begins-grown storage st.walk k (record k { earlier = count (commands k.orb k.now.acts); now = past_part k.now }) e refl refl refl) (same-grown k)
 
 begins_as-grown : (storage : Contents) (waiting : Option Program) (suspended : Option ProgramPosition) (start : ℕ) (k : ProgramTrace) → k.sent ≡ 0 →
     IsGrown k (begins_as storage waiting suspended start k)
 begins_as-grown storage None suspended start k e = again-grown storage suspended start k e
 begins_as-grown storage (Some program) suspended start k e =
     if-grown k (program.start == start) (begins_anew storage program k) (again_as storage suspended start k)
-    (begins-grown storage (walk_place program.orb []) k (record k { orb = program.orb; earlier = 0; now = no_trace }) e refl refl refl)
+    (begins-grown storage (walk_place program.orb Nothing) k (record k { orb = program.orb; earlier = 0; now = no_trace }) e refl refl refl)
     (again-grown storage suspended start k e)
 
 accepted_at-grown : (storage : Contents) (phase : HoldPhase) (s : SubchannelState) (k : ProgramTrace) → k.sent ≡ 0 → IsGrown k (accepted_at storage phase s k)
@@ -244,12 +246,12 @@ answers-grown storage (Some b) n s load k = if-grown k (is_answered b.transfer n
 
 chains-grown : (storage : Contents) (s : SubchannelState) (b : ActiveProgram) (status : DeviceStatus) (more : Bool) (k : ProgramTrace) → IsGrown k (chains storage s b status more k)
 chains-grown storage s b status more k =
-    let acts : List Act = End (record { goes_on = false; modifier = has_status_modifier status }) ∷ [] in
+    let acts : Sequence Act = Nothing ▸ End (record { goes_on = false; modifier = has_status_modifier status }) in
     if-grown k (chains_command s.scsw b status more) _ (ends_alone status k)
     (if-grown k (has_device_end status) _ (with_ended k)
     (chains_at_device_end-grown storage (next_command storage b.transfer (has_status_modifier status)).came (next_acts storage b.transfer (has_status_modifier status)) k)
-    (now-grown k (record k.now { ended = true }) ([], refl)))
-    (now-grown k (record k.now { acts = acts ++ k.now.acts; ended = true; unchained = true }) (acts, refl))
+    (now-grown k (record k.now { ended = true }) (Nothing, refl)))
+    (now-grown k (record k.now { acts = k.now.acts ▸▸ acts; ended = true; unchained = true }) (acts, refl))
 
 ends-grown : (storage : Contents) (s : SubchannelState) (b : Option ActiveProgram) (n : ℕ) (status : DeviceStatus) (more : Bool) (k : ProgramTrace) → IsGrown k (trace_ends storage s b n status more k)
 ends-grown storage s None n status more k = same-grown k

@@ -1,5 +1,5 @@
 -- The bytes that a device absorbs for its command: what the subsystem does with a signal keeps what holds of them.
-use Rattle.std.proofs.Common.{◌≡◌, refl, sym, ◌∙◌, ap, subst, ℕ, ◌+◌, ◌≤◌, Bool, true, false, ◌==◌, ◌&&◌, ◌||◌, not, length, Option, None, Some, List, [], ◌∷◌, ◌++◌, inl, inr, arith}
+use Rattle.std.proofs.Common.{◌≡◌, refl, sym, ◌∙◌, ap, subst, ℕ, ◌+◌, ◌≤◌, Bool, true, false, ◌==◌, ◌&&◌, ◌||◌, not, length, Option, None, Some, List, [], ◌++◌, inl, inr, arith}
 use Rattle.std.specs.Prelude.{◌⊎◌, if◌then◌else◌, min, IfSome, is_some}
 use Rattle.std.proofs.lemmas.Bool.{eqb-true, eqb-false}
 use Rattle.std.proofs.Math.Nat.{min-eq_left}
@@ -20,6 +20,7 @@ use Rattle.chan_model.specs.HoldTable as hold_table
 use Rattle.chan_model.specs.HoldTable.{HoldStep, hold_after, came_of, is_connected, is_on, letting_go, left, asked_back, found_busy, released, reset_cleared, attended}
 use Rattle.chan_model.specs.Loads.{load_length}
 use Rattle.chan_model.specs.UnitReports.{is_outward, is_last_end, has_device_end}
+use Rattle.ccw_walk.specs.Sequences.{Sequence, ◌▸◌, ◌▸▸◌, count}
 use Rattle.ccw_walk.specs.Acts.{Act, End}
 use Rattle.ccw_walk.specs.Programs.{commands}
 use Rattle.ccw_walk.specs.Places.{WalkPlace, after_command_end}
@@ -78,6 +79,7 @@ use Rattle.run_laws.proofs.Links.LinkViews.{view_of, answers-view, repeats-view,
 use Rattle.run_laws.proofs.Links.LinkWires.{HandClosed, IsClosed, IsGiving, IsTelling, IsWired, wired-holds, sent-hold}
 use Rattle.run_laws.proofs.Bytes.LinkCourses.{mode-marked, mode-ended, mode-with, interrupted-mode, flow-absorbs, absorbs-on}
 use Rattle.run_laws.proofs.Bytes.LinkModes.{AnyGive, NoGive, AnyData, HandPlain, HandFlow, Mode, Waits, Over, Reads, Writes, mode-carried, absorbs-none}
+use Rattle.run_laws.proofs.Traces.Sequences.{backward}
 
 -- any but a Notice, which may empty what is begun
 abbrev pub IsNoNotice : Up → Type 0
@@ -90,7 +92,7 @@ module _ (laws : AreLaws) (accesses : AreAccesses) (storage : Contents) (side : 
   Goes step new = Mode side step.state.begun new (with_any_sent downs step.came.sent) (taken ups path) u
 
   abbrev m : ℕ
-  m = length k.taken
+  m = length (backward k.taken)
 
   -- nothing is done for the program
   pub quiet : (begun : Option ActiveProgram) (one : Option (OnPath Down)) → begun ≡ s.begun → IfSome one (λ d. IsOfHold d.signal) → Mode side begun k (with_any_sent downs one) (taken ups path) u
@@ -115,7 +117,7 @@ module _ (laws : AreLaws) (accesses : AreAccesses) (storage : Contents) (side : 
 
   -- Accept
   over-facts : (begun : Option ActiveProgram) → Mode side begun k downs ups u → begun ≡ None →
-      (length k.taken ≡ k.sent) × (k.sent ≡ 0 → k.absorbed ≡ []) × Closed downs ups
+      (length (backward k.taken) ≡ k.sent) × (k.sent ≡ 0 → k.absorbed ≡ []) × Closed downs ups
   over-facts begun (Waits b e n q i a w) z = absurd (cc (sym e ∙ z))
   over-facts begun (Over e n q a w) z = (n, q, w)
   over-facts begun (Reads b e n o q w) z = absurd (cc (sym e ∙ z))
@@ -125,7 +127,7 @@ module _ (laws : AreLaws) (accesses : AreAccesses) (storage : Contents) (side : 
   abbrev from : Orb → ℕ → CommandTrace → ProgramTrace
   from orb earlier part = record k { orb = orb; earlier = earlier; now = part }
 
-  device_released-goes : (x : SubchannelState) (orb : Orb) (earlier : ℕ) (part : CommandTrace) (acts : List Act) → x.begun ≡ None → s.begun ≡ None → k.sent ≡ 0 →
+  device_released-goes : (x : SubchannelState) (orb : Orb) (earlier : ℕ) (part : CommandTrace) (acts : Sequence Act) → x.begun ≡ None → s.begun ≡ None → k.sent ≡ 0 →
       Goes (outcomes.device_released x) (record (from orb earlier part) { now = with_acts part acts })
   device_released-goes x orb earlier part acts e n z =
       let f = over-facts s.begun mode n in
@@ -159,7 +161,7 @@ module _ (laws : AreLaws) (accesses : AreAccesses) (storage : Contents) (side : 
     where
       by : (b : Bool) → Goes (on_accept.begins_at storage r p t (if b then Some st else None)) (if b then stories.begins_again storage st k else k)
       by true =
-          begins-goes r p t st (first_command storage st.walk).walk (first_command storage st.walk).came k.orb (length (commands k.orb k.now.acts)) (traced.past_part k.now) refl e n z
+          begins-goes r p t st (first_command storage st.walk).walk (first_command storage st.walk).came k.orb (count (commands k.orb k.now.acts)) (traced.past_part k.now) refl e n z
       by false = quiet r.begun None e tt
 
   standing-goes : (r : SubchannelState) (p t start : ℕ) (waiting : Option Program) (suspended : Option ProgramPosition) → r.begun ≡ s.begun → s.begun ≡ None → k.sent ≡ 0 →
@@ -216,7 +218,7 @@ module _ (laws : AreLaws) (accesses : AreAccesses) (storage : Contents) (side : 
   now-wires P W Q X R Y one f g h d w = wired-holds side k.number m P W Q X R Y downs ups u one path f g h d w
 
   -- a read
-  reads-goes : (b : ActiveProgram) (signal : DataSignal) (x : StoredChunk) (now : CommandTrace) → IsSame b.transfer x.transfer → length k.taken ≡ k.sent → is_outward b.transfer.code ≡ false → k.absorbed ≡ [] →
+  reads-goes : (b : ActiveProgram) (signal : DataSignal) (x : StoredChunk) (now : CommandTrace) → IsSame b.transfer x.transfer → length (backward k.taken) ≡ k.sent → is_outward b.transfer.code ≡ false → k.absorbed ≡ [] →
       IsWired side k.number m HandPlain NoGive AnyData downs ups u → Goes (on_data.tells_room_after s b signal x).step (record k { now = now })
   reads-goes b signal x now same l out z w =
       let y : Transfer = (with_room x.storage x.transfer).transfer in
@@ -259,7 +261,7 @@ module _ (laws : AreLaws) (accesses : AreAccesses) (storage : Contents) (side : 
         interrupted-mode side (command_spec.with_transfer s b x.transfer) (record b { transfer = x.transfer }) (with_now now) (with_any_sent downs (Some (record { path = signal.path; signal = down.Give x.bytes signal.number signal.connection signal.command (signal.sequence + 1) })))
         (taken ups path) u refl g
 
-    writes-goes : (lead : Option ℕ) → s.begun ≡ Some b → signal.number ≡ k.number → signal.command ≤ m → length k.taken ≡ k.sent → is_outward b.transfer.code ≡ true →
+    writes-goes : (lead : Option ℕ) → s.begun ≡ Some b → signal.number ≡ k.number → signal.command ≤ m → length (backward k.taken) ≡ k.sent → is_outward b.transfer.code ≡ true →
         (signal.sequence ≡ b.transfer.sequence) ⊎ (signal.sequence ≡ b.transfer.sequence + 1) → IsData (view_of b.transfer k.now) lead signal.sequence l → Flow (view_of b.transfer k.now) k.absorbed lead →
         IsWired side k.number m (HandFlow b.transfer.code (view_of b.transfer k.now) lead) (IsGive (view_of b.transfer k.now)) (IsData (view_of b.transfer k.now) lead) downs ups u →
         Goes (on_data.gives_next_chunk storage s b signal (load_length l)) (with_now (gives storage b.transfer signal.sequence (load_length l) k.now))
@@ -341,7 +343,7 @@ module _ (laws : AreLaws) (accesses : AreAccesses) (storage : Contents) (side : 
 
   -- the device's command is over
   pub record IsOver (b : ActiveProgram) : Type 0 where
-    pub taken_all : length k.taken ≡ k.sent
+    pub taken_all : length (backward k.taken) ≡ k.sent
     pub absorbs : AbsorbsInOrder k.orb k.now k.absorbed
     pub some : k.sent ≡ 0 → k.absorbed ≡ []
     pub wires : (one : Option (OnPath Down)) → IfSome one (λ d. IsGiving k.number m AnyGive d.signal) → Closed (with_any_sent downs one) (taken ups path)
@@ -403,16 +405,16 @@ module _ (laws : AreLaws) (accesses : AreAccesses) (storage : Contents) (side : 
       Goes (on_end.next_ccw_outcome storage s (with_first_end b) signal walk c) (stories.trace_goes_on storage c (next_acts storage b.transfer (has_status_modifier signal.status)) k)
   chains-goes b signal walk c at is e o d f = by c is
     where
-      acts : List Act
+      acts : Sequence Act
       acts = next_acts storage b.transfer (has_status_modifier signal.status)
 
-      went : WentOn k.earlier laws storage k.orb (End (record { goes_on = true; modifier = has_status_modifier signal.status }) ∷ k.now.acts) (acts ++ k.now.acts) (b.transfer.command + 1)
+      went : WentOn k.earlier laws storage k.orb (k.now.acts ▸ End (record { goes_on = true; modifier = has_status_modifier signal.status })) (k.now.acts ▸▸ acts) (b.transfer.command + 1)
           (next_command storage b.transfer (has_status_modifier signal.status)).walk (next_command storage b.transfer (has_status_modifier signal.status)).came
       went = next-went laws accesses k.earlier storage k.orb k.now b.transfer (has_status_modifier signal.status) (at-work b e).0.tied d f
 
       Went : CommandStart → Type 0
       Went c =
-          WentOn k.earlier laws storage k.orb (End (record { goes_on = true; modifier = has_status_modifier signal.status }) ∷ k.now.acts) (acts ++ k.now.acts) (b.transfer.command + 1)
+          WentOn k.earlier laws storage k.orb (k.now.acts ▸ End (record { goes_on = true; modifier = has_status_modifier signal.status })) (k.now.acts ▸▸ acts) (b.transfer.command + 1)
           (next_command storage b.transfer (has_status_modifier signal.status)).walk c
 
       by : (c : CommandStart) → (next_command storage b.transfer (has_status_modifier signal.status)).came ≡ c → Goes (on_end.next_ccw_outcome storage s (with_first_end b) signal walk c) (stories.trace_goes_on storage c acts k)

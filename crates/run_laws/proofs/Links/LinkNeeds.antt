@@ -1,10 +1,10 @@
 -- What is to be known of a subchannel and the story of its program.
-use Rattle.std.proofs.Common.{◌≡◌, ◌∙◌, ap, subst, ℕ, ◌+◌, ◌-◌, ◌≤◌, true, ◌==◌, ◌&&◌, Option, None, Some, List, [], ◌∷◌, length, map, arith}
+use Rattle.std.proofs.Common.{◌≡◌, ◌∙◌, ap, subst, ℕ, ◌+◌, ◌-◌, ◌≤◌, true, ◌==◌, ◌&&◌, Option, None, Some, List, ◌∷◌, length, arith}
 use Rattle.std.proofs.lemmas.Bool.{eqb-true, and_parts}
-use Rattle.std.proofs.lemmas.List.{length-map}
 use Rattle.chan_model.specs.declared.hold_state.HoldPhase.{HoldPhase}
 use Rattle.chan_model.specs.declared.hold_state.HoldPhase.TheVariants as hold
 use Rattle.chan_model.specs.HoldTable.{is_connected, is_on}
+use Rattle.ccw_walk.specs.Sequences.{Sequence, Nothing, ◌▸◌, count, each}
 use Rattle.ccw_walk.specs.Programs.{Command, commands, code}
 use Rattle.data_move.specs.declared.transfer.Transfer.{Transfer}
 use Rattle.scsw_irb.specs.declared.scsw.Scsw.{Scsw}
@@ -15,6 +15,7 @@ use Rattle.run_laws.specs.Traces.{ProgramTrace}
 use Rattle.run_laws.proofs.Traces.Ties.{HasCode}
 use Rattle.run_laws.proofs.Traces.Holds.{IsPhase, IsDrawn, IsUnheld, IsUntold, HasWork, HeldBy, marked-held}
 use Rattle.run_laws.proofs.Commands.UnitGrowth.{later_codes, later-length, later-first, codes_of, IsUnbegun}
+use Rattle.run_laws.proofs.Traces.Sequences.{count-each, backward, length-backward}
 
 -- the command at work is the last of the codes, and the last that was sent
 pub record IsLast (codes : List ℕ) (sent : ℕ) (t : Transfer) : Type 0 where
@@ -45,15 +46,15 @@ pub connected-number : (phase : HoldPhase) (n : ℕ) (b : Option ActiveProgram) 
 connected-number (hold.On u q d) n b sent p t c k e = eqb-true t u (and_parts (t == u) ((p == q) && (c == d)) e).0 ∙ k
 connected-number other n b sent p t c k e = absurd (cc e)
 
-last-coded : (cs : List Command) (earlier sent : ℕ) (t : Transfer) → HasCode cs t.code → length cs ≡ earlier + t.command → t.command ≡ sent → 1 ≤ sent →
-    IsLast (later_codes earlier (map code cs)) sent t
-last-coded [] earlier sent t c n m l = absurd c
-last-coded (x ∷ cs) earlier sent t c n m l =
-    let long : length (map code cs) ≡ length cs = length-map cs code in
-    let rest : length (later_codes earlier (map code cs)) ≡ length (map code cs) - earlier = later-length earlier (map code cs) in
+last-coded : (cs : Sequence Command) (earlier sent : ℕ) (t : Transfer) → HasCode cs t.code → count cs ≡ earlier + t.command → t.command ≡ sent → 1 ≤ sent →
+    IsLast (later_codes earlier (backward (each code cs))) sent t
+last-coded Nothing earlier sent t c n m l = absurd c
+last-coded (cs ▸ x) earlier sent t c n m l =
+    let long : length (backward (each code cs)) ≡ count cs = length-backward (each code cs) ∙ count-each code cs in
+    let rest : length (later_codes earlier (backward (each code cs))) ≡ length (backward (each code cs)) - earlier = later-length earlier (backward (each code cs)) in
     record {
-      before = later_codes earlier (map code cs);
-      list = later-first earlier (code x) (map code cs) (omega (arith, long, n, m, l)) ∙ ap (λ (y : ℕ). y ∷ later_codes earlier (map code cs)) c;
+      before = later_codes earlier (backward (each code cs));
+      list = later-first earlier (code x) (backward (each code cs)) (omega (arith, long, n, m, l)) ∙ ap (λ (y : ℕ). y ∷ later_codes earlier (backward (each code cs))) c;
       count = omega (arith, rest, long, n, m, l);
       at = m;
     }

@@ -32,6 +32,7 @@ use Rattle.run_laws.proofs.Units.UnitHands.{IsHeld}
 use Rattle.run_laws.proofs.Units.UnitTold.{IsTold, Begins_out, Begins_in, Absorbs, Supplies, Tells_again, Ends, with_hand, telling_data, IsReportTaken}
 use Rattle.run_laws.proofs.Links.LinkWires.{IsEnded, HandClosed, IsClosed, IsOfCommand, IsTelling, IsWired, wired-tells}
 use Rattle.run_laws.proofs.Bytes.LinkModes.{AnyGive, NoGive, AnyData, HandPlain, HandFlow, Mode, Waits, Over, Reads, Writes, mode-carried}
+use Rattle.run_laws.proofs.Traces.Sequences.{backward}
 
 -- what is ended stays so
 ended-after : (status : DeviceStatus) → IsEnded (progress_after_end status)
@@ -89,9 +90,9 @@ some-none o bytes e f = absurd (cc (sym e ∙ f))
 
 -- at the unit, of the side's program
 module _ (side : Side) (begun : Option ActiveProgram) (k : ProgramTrace) (downs : List (List Down)) (ups : List (List Up)) (u : UnitState) (p c : ℕ) (x : CurrentCommand)
-    (report : Report) (same : (report.number == k.number) ≡ true) (owner : is_owner u.own side k.number ≡ true) (hand : u.at_hand ≡ Some x) (last : u.last_command ≡ length k.taken) where
+    (report : Report) (same : (report.number == k.number) ≡ true) (owner : is_owner u.own side k.number ≡ true) (hand : u.at_hand ≡ Some x) (last : u.last_command ≡ length (backward k.taken)) where
   abbrev m : ℕ
-  m = length k.taken
+  m = length (backward k.taken)
 
   here : report.number ≡ k.number
   here = eqb-true report.number k.number same
@@ -130,7 +131,7 @@ module _ (side : Side) (begun : Option ActiveProgram) (k : ProgramTrace) (downs 
   plain-told _ y (Ends given shown more) g = (g, of-it (IsClosed side k.number y.state) (λ o. ended-after shown), refl)
 
   -- it writes
-  module _ (b : ActiveProgram) (e : begun ≡ Some b) (n : length k.taken ≡ k.sent) (out : is_outward b.transfer.code ≡ true) where
+  module _ (b : ActiveProgram) (e : begun ≡ Some b) (n : length (backward k.taken) ≡ k.sent) (out : is_outward b.transfer.code ≡ true) where
     abbrev v : View
     v = view_of b.transfer k.now
 
@@ -230,7 +231,7 @@ report-owner side u report y s t =
     ∙ subst (λ (z : Side). is_owner (own.Owned z report.number (On t.path t.connection)) side report.number ≡ true) (sym at) (is-owner-self side report.number t.path t.connection)
 
 pub mode-reports : (side : Side) (drawn : ℕ) (begun : Option ActiveProgram) (k : ProgramTrace) (downs : List (List Down)) (ups : List (List Up)) (u : UnitState) (report : Report) (y : UnitStep) →
-    same_side side report.side ≡ true → IsNumbered side drawn k.number k.taken u → IsReportTaken u report y → Mode side begun k downs ups u →
+    same_side side report.side ≡ true → IsNumbered side drawn k.number (backward k.taken) u → IsReportTaken u report y → Mode side begun k downs ups u →
     Mode side begun (reported u report report.answer k) downs (with_any_sent ups y.sent) y.state
 mode-reports side drawn begun k downs ups u report y s n t mode = by (report.number == k.number) refl
   where
@@ -248,5 +249,5 @@ mode-reports side drawn begun k downs ups u report y s n t mode = by (report.num
         let le : report.number ≤ k.number = n.named report.number owns in
         subst (λ (r : ProgramTrace). Mode side begun r downs (with_any_sent ups y.sent) y.state) (sym (reported-other u report report.answer k e))
         (mode-carried side begun k downs downs ups (with_any_sent ups y.sent) u y.state
-        (λ P Q R f w. wired-tells side k.number (length k.taken) P P Q R R downs ups u y.state y.sent (λ z. absurd (none z)) (λ i l r. r) (λ z o. absurd (none o))
-        (told-other u t.path report.number t.connection t.hand k.number (length k.taken) R (IsClosed side k.number y.state) le other report.answer y t.told) w) mode)
+        (λ P Q R f w. wired-tells side k.number (length (backward k.taken)) P P Q R R downs ups u y.state y.sent (λ z. absurd (none z)) (λ i l r. r) (λ z o. absurd (none o))
+        (told-other u t.path report.number t.connection t.hand k.number (length (backward k.taken)) R (IsClosed side k.number y.state) le other report.answer y t.told) w) mode)

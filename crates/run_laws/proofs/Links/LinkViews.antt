@@ -1,7 +1,8 @@
 -- How a subchannel's doings change what is to be known of the bytes of a write.
-use Rattle.std.proofs.Common.{◌≡◌, refl, sym, ◌∙◌, ap, subst, ℕ, zero, suc, ◌+◌, ◌≤◌, Bool, true, false, ◌==◌, ◌&&◌, ◌||◌, length, Option, Some, Result, Ok, Err, List, [], ◌∷◌, ◌++◌, inl, inr, arith}
+use Rattle.std.proofs.Common.{◌≡◌, refl, sym, ◌∙◌, ap, subst, ℕ, ◌+◌, ◌≤◌, Bool, true, false, ◌==◌, ◌&&◌, ◌||◌, length, Option, Some, Result, Ok, Err, List, [], ◌∷◌, ◌++◌, inl, inr, arith}
 use Rattle.std.specs.Prelude.{◌⊎◌, min, nat_lt, is_some, if◌then◌else◌, Contains}
 use Rattle.std.proofs.lemmas.Bool.{eqb-true, and_parts}
+use Rattle.std.proofs.lemmas.List.Elements.{Contains-append_left, Contains-push}
 use Rattle.std.proofs.Math.Nat.{min-le_left}
 use Rattle.storage_keys.specs.Storage.{Contents}
 use Rattle.ccw_walk.specs.declared.check.Check.{Check}
@@ -117,11 +118,11 @@ pub located-view : (storage : Contents) (t : Transfer) (p : CommandTrace) → Is
 located-view storage t p = fault-located storage t p (with_acts p (located_acts storage t)) (is_some t.fault) refl refl
 
 -- the next chunk is copied
-contains-later : (xs : List PlacedBytes) (y x : PlacedBytes) → Contains xs x → Contains (y ∷ xs) x
-contains-later xs y x k = (suc k.0, omega (arith, k.1), k.2)
+contains-later : (xs : List PlacedBytes) (y x : PlacedBytes) → Contains xs x → Contains (xs ++ y ∷ []) x
+contains-later xs y x k = Contains-append_left xs (y ∷ []) x k
 
-contains-first : (xs : List PlacedBytes) (x : PlacedBytes) → Contains (x ∷ xs) x
-contains-first xs x = (zero, omega arith, refl)
+contains-first : (xs : List PlacedBytes) (x : PlacedBytes) → Contains (xs ++ x ∷ []) x
+contains-first xs x = Contains-push xs x
 
 pub record IsGiven (v w : View) (bytes : List ℕ) : Type 0 where
   pub located : IsLocated v w

@@ -55,6 +55,7 @@ use Rattle.run_laws.proofs.Machine.Tales.{IsAccepted, AreSpent, AreSpentBut, IsT
 use Rattle.run_laws.proofs.Machine.Waits.{IsBegunHeld, Waits, Turned, IsCalm, kept, none, cause-calm, without_waiting-begun, none-held, held-on, moved-as, calm-turned}
 use Rattle.run_laws.proofs.Machine.WaitsUp.{takes-turned}
 use Rattle.step_laws.specs.Walks.{Function, Resumes, Halts, Clears, Cancels, effect_of, IsFound, IsForProgram}
+use Rattle.run_laws.proofs.Traces.Sequences.{backward}
 
 -- Select is answered by an Accept of its own number, or by no Accept
 abbrev IsAcceptOf : ℕ → Up → Type 0
@@ -125,7 +126,7 @@ answer-told k s v w side t p (up.Accept u) h e told =
     let list : (link_of w side).accepted ≡ (link_of v side).accepted ++ t ∷ [] = h.list ∙ ap (λ (n : ℕ). (link_of v side).accepted ++ n ∷ []) e in
     begun-of k s v w side t k.offers h.passed h.accepted (subst (λ (ts : List ℕ). AllPairs (λ a b. a < b) ts) list h.once)
     (subst (λ (ts : List ℕ). Contains ts t) (sym list) (Contains-append_right (link_of v side).accepted (t ∷ []) t (0, omega arith, refl)))
-    (All-contains_itself k.offers) told
+    (All-contains_itself (backward k.offers)) told
 answer-told k s v w side t p (up.Busy u) h e told = wide-told k s v w side _ h told
 answer-told k s v w side t p (up.Leave u d) h e told = wide-told k s v w side _ h told
 answer-told k s v w side t p (up.Back u d) h e told = wide-told k s v w side _ h told

@@ -1,5 +1,5 @@
 -- After each run a program that is offered stands where it begins, or where it was suspended.
-use Rattle.std.proofs.Common.{◌≡◌, refl, ap, sym, ◌∙◌, subst, arith, ℕ, ◌+◌, ◌==◌, Bool, true, false, List, [], ◌∷◌, ◌++◌, length, Option, Some, None, Result, Ok, Err, ◌⊎◌, inl, inr}
+use Rattle.std.proofs.Common.{◌≡◌, refl, ap, sym, ◌∙◌, subst, arith, ℕ, ◌+◌, ◌==◌, Bool, true, false, List, [], ◌++◌, length, Option, Some, None, Result, Ok, Err, ◌⊎◌, inl, inr}
 use Rattle.std.specs.Prelude.{if◌then◌else◌, ◌&&◌, nat_lt, slice_get, take, IfOk}
 use Rattle.storage_keys.specs.Storage.{Contents}
 use Rattle.orb_block.specs.declared.Orb.{Orb}
@@ -76,6 +76,7 @@ use Rattle.run_laws.proofs.Units.UnitActs.{if-ok}
 use Rattle.run_laws.proofs.Links.Vanishing.{send-ok}
 use Rattle.run_laws.proofs.Traces.Sweeps.{swept-kept}
 use Rattle.run_laws.proofs.Offers.Offers.{IsOfferedStart, IsOfferedPosition, IsOfferedAt, IsOffered}
+use Rattle.ccw_walk.specs.Sequences.{Sequence, ◌▸◌}
 
 abbrev pub OfferedBy : SubchannelState → Option ProgramTrace → Type 0
 OfferedBy s None = Unit {0}
@@ -246,7 +247,7 @@ choose-offers sub k (Offers c path) f n h o =
     ((n, o.0.1, o.0.2, o.0.3), found-offered sub.state c.program path c.resumes k sub refl f.found h)
 
 -- the unit's doings leave it
-untaken-offers : (s : SubchannelState) (k : ProgramTrace) (taken absorbed : List ℕ) → OffersBy s (Some k) → OffersBy s (Some (record k { taken = taken; absorbed = absorbed }))
+untaken-offers : (s : SubchannelState) (k : ProgramTrace) (taken : Sequence ℕ) (absorbed : List ℕ) → OffersBy s (Some k) → OffersBy s (Some (record k { taken = taken; absorbed = absorbed }))
 untaken-offers s k taken absorbed o = (o.0, at s.hold.phase s.waiting s.suspended o.1)
   where
     next : ProgramTrace
@@ -264,8 +265,8 @@ untaken-offers s k taken absorbed o = (o.0, at s.hold.phase s.waiting s.suspende
     at (hold.Offer t p) w st x = (waits w x.0, stands st x.1)
     at other w st x = tt
 
-takes-if : (s : SubchannelState) (k : ProgramTrace) (code : ℕ) (b : Bool) → OffersBy s (Some k) → OffersBy s (Some (if b then record k { taken = code ∷ k.taken; absorbed = [] } else k))
-takes-if s k code true o = untaken-offers s k (code ∷ k.taken) [] o
+takes-if : (s : SubchannelState) (k : ProgramTrace) (code : ℕ) (b : Bool) → OffersBy s (Some k) → OffersBy s (Some (if b then record k { taken = k.taken ▸ code; absorbed = [] } else k))
+takes-if s k code true o = untaken-offers s k (k.taken ▸ code) [] o
 takes-if s k code false o = o
 
 takes-offers : (s : SubchannelState) (d : Down) (k : ProgramTrace) → OffersBy s (Some k) → OffersBy s (Some (takes d k))

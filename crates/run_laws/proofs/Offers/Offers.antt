@@ -1,10 +1,11 @@
 -- A program that is offered, and of which nothing was done under the number of the offer, stands where it begins, or where it was
 -- suspended.
-use Rattle.std.proofs.Common.{◌≡◌, refl, sym, ◌∙◌, ap, ℕ, ◌==◌, not, Bool, true, false, length, Option, Some, None, inl, inr}
+use Rattle.std.proofs.Common.{◌≡◌, refl, sym, ◌∙◌, ap, ℕ, ◌==◌, not, Bool, true, false, Option, Some, None, inl, inr}
 use Rattle.std.specs.Prelude.{if◌then◌else◌, is_some}
 use Rattle.std.proofs.lemmas.Bool.{eqb-true, and_parts}
 use Rattle.chan_model.specs.declared.hold_state.HoldPhase.{HoldPhase}
 use Rattle.chan_model.specs.declared.hold_state.HoldPhase.TheVariants as hold
+use Rattle.ccw_walk.specs.Sequences.{count}
 use Rattle.ccw_walk.specs.Programs.{commands}
 use Rattle.orb_block.specs.declared.Orb.{Orb}
 use Rattle.subchannel_model.specs.declared.state.ActiveProgram.{ActiveProgram}
@@ -22,7 +23,7 @@ IsOfferedStart (Some program) start k = program.start ≡ start → (program.orb
 
 abbrev pub IsOfferedPosition : Option ProgramPosition → ℕ → ProgramTrace → Type 0
 IsOfferedPosition None start k = Unit {0}
-IsOfferedPosition (Some st) start k = st.program.start ≡ start → (k.earlier ≡ length (commands k.orb k.now.acts)) × (k.now ≡ past_part k.now)
+IsOfferedPosition (Some st) start k = st.program.start ≡ start → (k.earlier ≡ count (commands k.orb k.now.acts)) × (k.now ≡ past_part k.now)
 
 abbrev pub IsOfferedAt : HoldPhase → Option Program → Option ProgramPosition → ℕ → ProgramTrace → Type 0
 IsOfferedAt (hold.Offer t p) w st start k = IsOfferedStart w start k × IsOfferedPosition st start k
@@ -33,7 +34,7 @@ IsOffered s k = IsOfferedAt s.hold.phase s.waiting s.suspended s.offered k
 
 -- what an Accept begins from: the program that waits, or where none does the one that is suspended
 abbrev pub beginning : Option Program → ProgramTrace → ProgramTrace
-beginning None k = record k { earlier = length (commands k.orb k.now.acts); now = past_part k.now }
+beginning None k = record k { earlier = count (commands k.orb k.now.acts); now = past_part k.now }
 beginning (Some program) k = record k { orb = program.orb; earlier = 0; now = no_trace }
 
 with-same : (k : ProgramTrace) (orb : Orb) (earlier : ℕ) (now : CommandTrace) → orb ≡ k.orb → earlier ≡ k.earlier → now ≡ k.now →
@@ -54,7 +55,7 @@ position-same : (b : Bool) (st : ProgramPosition) (start : ℕ) (k : ProgramTrac
     IsOfferedPosition (Some st) start k → beginning None k ≡ k
 position-same true st start k e h f =
     let same = f (eqb-true st.program.start start e) in
-    with-same k k.orb (length (commands k.orb k.now.acts)) (past_part k.now) refl (sym same.0) (sym same.1)
+    with-same k k.orb (count (commands k.orb k.now.acts)) (past_part k.now) refl (sym same.0) (sym same.1)
 position-same false st start k e h f = absurd (cc h)
 
 stands-alone : (program : Program) (b : Option ActiveProgram) (st : Option ProgramPosition) (k : ProgramTrace) → IsStanding (Some program) b st k → st ≡ None

@@ -1,6 +1,6 @@
 -- Status that a Data or an End makes shows the address of the program, and the count of the command less the bytes that were moved,
 -- but that the last End of a program while a start waits leaves those of that start.
-use Rattle.std.proofs.Common.{◌≡◌, refl, sym, ◌∙◌, ap, subst, arith, ℕ, ◌+◌, ◌<◌, Bool, true, false, List, ◌∷◌, ◌++◌, Option, Some, None}
+use Rattle.std.proofs.Common.{◌≡◌, refl, sym, ◌∙◌, ap, subst, arith, ℕ, ◌+◌, ◌<◌, Bool, true, false, Option, Some, None}
 use Rattle.std.specs.Prelude.{if◌then◌else◌, ◌||◌, not, is_none, is_some}
 use Rattle.scsw_irb.specs.declared.scsw.Scsw.{Scsw}
 use Rattle.scsw_irb.specs.declared.serials.Serials.{Serials}
@@ -11,6 +11,7 @@ use Rattle.chan_model.specs.Signals.{Load, load_bytes}
 use Rattle.chan_model.specs.Loads.{load_length}
 use Rattle.chan_model.specs.UnitReports.{is_outward, is_last_end}
 use Rattle.ccw_walk.specs.declared.check.Check.{Check}
+use Rattle.ccw_walk.specs.Sequences.{Sequence, ◌▸◌, ◌▸▸◌}
 use Rattle.ccw_walk.specs.Acts.{Act, End}
 use Rattle.ccw_walk.specs.Places.{WalkPlace, walk_place}
 use Rattle.data_move.specs.Moving.{residual}
@@ -124,8 +125,8 @@ data-shows storage s signal load k true h = begun-shows storage s s.begun signal
 data-shows storage s signal load k false h = unmade s.serials.made s k refl
 
 -- a command can't begin: what is fetched for it takes no control
-pub rest-stays : (k : ProgramTrace) (acts : List Act) (before : List Act) (walk : WalkPlace) (n : ℕ) → walk ≡ walk_place k.orb (acts ++ k.now.acts) →
-    data_areas k.orb (acts ++ k.now.acts) ≡ data_areas k.orb before →
+pub rest-stays : (k : ProgramTrace) (acts : Sequence Act) (before : Sequence Act) (walk : WalkPlace) (n : ℕ) → walk ≡ walk_place k.orb (k.now.acts ▸▸ acts) →
+    data_areas k.orb (k.now.acts ▸▸ acts) ≡ data_areas k.orb before →
     data_areas k.orb before ≡ data_areas k.orb k.now.acts → IsRest n k → IsRestAt walk.tried n (record k { now = with_acts k.now acts })
 rest-stays k acts before walk n w e f r = (ap (λ (x : WalkPlace). x.tried) w, ap counts (e ∙ f) ∙ r)
 
@@ -168,8 +169,8 @@ module _ (laws : AreLaws) (accesses : AreAccesses) where
       last-count s (on_end.concludes s b signal).state b (stories.ends_alone signal.status k) signal.status signal.more (is_last_end signal.status) s.waiting
       (stops-count s b signal (end_shown s b signal.status signal.more) (is_last_end signal.status)) (rest-of b k w)
 
-  chains-shows : (storage : Contents) (s : SubchannelState) (b : ActiveProgram) (k : ProgramTrace) (signal : EndSignal) (walk : WalkPlace) (c : CommandStart) (acts before : List Act) (n : ℕ) →
-      WentOn k.earlier laws storage k.orb before (acts ++ k.now.acts) n walk c → data_areas k.orb before ≡ data_areas k.orb k.now.acts →
+  chains-shows : (storage : Contents) (s : SubchannelState) (b : ActiveProgram) (k : ProgramTrace) (signal : EndSignal) (walk : WalkPlace) (c : CommandStart) (acts before : Sequence Act) (n : ℕ) →
+      WentOn k.earlier laws storage k.orb before (k.now.acts ▸▸ acts) n walk c → data_areas k.orb before ≡ data_areas k.orb k.now.acts →
       IsRest (residual b.transfer.moving) k → IsHeld (on_end.next_ccw_outcome storage s (with_first_end b) signal walk c).state (stories.trace_goes_on storage c acts k) →
       ShowsRestOf s.serials.made (on_end.next_ccw_outcome storage s (with_first_end b) signal walk c).state (stories.trace_goes_on storage c acts k)
   chains-shows storage s b k signal walk (came.Begins transfer) acts before n w e r h =
@@ -192,5 +193,5 @@ module _ (laws : AreLaws) (accesses : AreAccesses) where
       let f : (_ : b.transfer.moving.ccw.chain_data ≡ false) × (is_some b.transfer.fault ≡ false) = chains-facts laws accesses s.scsw b signal.status signal.more c in
       let modifier : Bool = has_status_modifier signal.status in
       let next : Beginning = next_command storage b.transfer modifier in
-      chains-shows storage s b k signal next.walk next.came (next_acts storage b.transfer modifier) (End (ending laws accesses modifier) ∷ k.now.acts) (b.transfer.command + 1)
+      chains-shows storage s b k signal next.walk next.came (next_acts storage b.transfer modifier) (k.now.acts ▸ End (ending laws accesses modifier)) (b.transfer.command + 1)
       (next-went laws accesses k.earlier storage k.orb k.now b.transfer modifier w.0.tied f.0 f.1) refl (rest-of b k w).1 h

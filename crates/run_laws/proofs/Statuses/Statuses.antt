@@ -1,5 +1,5 @@
 -- The address and the count of a status that a step makes, by what the status word showed before it and by what was told of the program.
-use Rattle.std.proofs.Common.{◌≡◌, refl, sym, ◌∙◌, ap, subst, ℕ, ◌<◌, arith, ◌&&◌, ◌||◌, not, Bool, true, false, Option, None, Some, List, ◌∷◌, inl, inr}
+use Rattle.std.proofs.Common.{◌≡◌, refl, sym, ◌∙◌, ap, subst, ℕ, ◌<◌, arith, ◌&&◌, ◌||◌, not, Bool, true, false, Option, None, Some, inl, inr}
 use Rattle.std.specs.Prelude.{if◌then◌else◌, is_none, is_some, slice_get}
 use Rattle.std.proofs.lemmas.Bool.{and_parts, and_right, or_right}
 use Rattle.scsw_irb.specs.declared.status.DeviceStatus.{DeviceStatus}
@@ -13,6 +13,7 @@ use Rattle.chan_events.specs.Events.{Event}
 use Rattle.chan_events.specs.declared.event.Event.TheVariants as event
 use Rattle.chan_events.specs.Replies.{Reply}
 use Rattle.chan_events.specs.declared.reply.Reply.TheVariants as reply
+use Rattle.ccw_walk.specs.Sequences.{Sequence, ◌▸◌}
 use Rattle.ccw_walk.specs.Acts.{Act}
 use Rattle.subchannel_model.specs.declared.state.Subchannel.{Subchannel}
 use Rattle.subchannel_model.specs.declared.state.SubchannelState.{SubchannelState}
@@ -92,11 +93,11 @@ first-false : (a b : Bool) → not (a || b) ≡ true → a ≡ false
 first-false true b e = absurd (cc e)
 first-false false b e = refl
 
-to-unchained : (storage : Contents) (c : Option SentCommand) (acts : List Act) (k after : ProgramTrace) → k.now.unchained ≡ false → GoesTo storage c acts k after → after.now.unchained ≡ false
+to-unchained : (storage : Contents) (c : Option SentCommand) (acts : Sequence Act) (k after : ProgramTrace) → k.now.unchained ≡ false → GoesTo storage c acts k after → after.now.unchained ≡ false
 to-unchained storage (Some c) acts k after e g = ap (λ (x : ProgramTrace). x.now.unchained) g.5
 to-unchained storage None acts k after e g = ap (λ (x : ProgramTrace). x.now.unchained) g.1 ∙ e
 
-on-unchained : (storage : Contents) (sent : Option (OnPath Down)) (before : List Act) (k after : ProgramTrace) → k.now.unchained ≡ false → GoesOn storage sent before k after → after.now.unchained ≡ false
+on-unchained : (storage : Contents) (sent : Option (OnPath Down)) (before : Sequence Act) (k after : ProgramTrace) → k.now.unchained ≡ false → GoesOn storage sent before k after → after.now.unchained ≡ false
 on-unchained storage sent before k after e g = to-unchained storage (command_sent sent) g.0 k after e g.2
 
 chained-free : (halted : Bool) (status : DeviceStatus) (more : Bool) (k : ProgramTrace) → IsChained true halted status more k → k.now.unchained ≡ false
@@ -105,7 +106,7 @@ chained-free halted status more k i = first-false k.now.unchained _ (and_parts _
 chained-unchained : (halted : Bool) (storage : Contents) (status : DeviceStatus) (more : Bool) (sent : Option (OnPath Down)) (k after : ProgramTrace) →
     IsChained true halted status more k → Chains storage status sent k after → after.now.unchained ≡ false
 chained-unchained halted storage status more sent k after i (inl x) =
-    on-unchained storage sent (ended true status ∷ k.now.acts) k after (chained-free halted status more k i) x.1
+    on-unchained storage sent (k.now.acts ▸ ended true status) k after (chained-free halted status more k i) x.1
 chained-unchained halted storage status more sent k after i (inr x) = ap (λ (y : ProgramTrace). y.now.unchained) x.2 ∙ chained-free halted status more k i
 
 module _ (s next : SubchannelState) (p : TellsPrograms s) (behind : Bool) (b : IsBehind behind s) (made : s.serials.made < next.serials.made) where

@@ -1,5 +1,5 @@
 -- What a subchannel does for its program with an Accept is what is seen of it.
-use Rattle.std.proofs.Common.{◌≡◌, refl, sym, ◌∙◌, ap, subst, arith, ℕ, ◌+◌, ◌≤◌, ◌==◌, Bool, true, false, List, ◌++◌, length, Option, Some, None, ◌⊎◌, inl, inr, length-append}
+use Rattle.std.proofs.Common.{◌≡◌, refl, sym, ◌∙◌, ap, subst, arith, ℕ, ◌+◌, ◌≤◌, ◌==◌, Bool, true, false, Option, Some, None, ◌⊎◌, inl, inr}
 use Rattle.std.specs.Prelude.{if◌then◌else◌, is_some, not, ◌&&◌}
 use Rattle.std.proofs.lemmas.Bool.{eq-eqb, eqb-true}
 use Rattle.storage_keys.specs.Storage.{Contents}
@@ -8,6 +8,7 @@ use Rattle.chan_model.specs.declared.hold_state.HoldPhase.TheVariants as hold
 use Rattle.chan_model.specs.declared.signal.Up.TheVariants as up
 use Rattle.chan_model.specs.HoldTable as hold_table
 use Rattle.chan_model.specs.HoldTable.{HoldStep}
+use Rattle.ccw_walk.specs.Sequences.{Sequence, ◌▸▸◌, count}
 use Rattle.ccw_walk.specs.Acts.{Act}
 use Rattle.ccw_walk.specs.Programs.{IsProgram, role_of, next, commands}
 use Rattle.ccw_walk.specs.Places.{WalkPlace, walk_place}
@@ -43,6 +44,7 @@ use Rattle.run_laws.proofs.Traces.Advances.{advance-some}
 use Rattle.run_laws.proofs.Traces.Asks.{BeginsAsking, goes-asking, asked-interrupts, only-asked, none-sent}
 use Rattle.run_laws.proofs.Traces.Standing.{suspended-unchecked, suspended-next}
 use Rattle.run_laws.proofs.Offers.Offers.{IsOffered, IsOfferedAt, beginning, begins-same, ahead-over}
+use Rattle.run_laws.proofs.Traces.Sequences.{count-joined}
 
 -- the signal is taken
 starts-taken : (storage : Contents) (s : SubchannelState) (p t : ℕ) (st : ProgramPosition) (walk : WalkPlace) (c : CommandStart) →
@@ -89,10 +91,10 @@ over-by false w st start e = inr (waits w e, stays w st e)
 pub over : (s : SubchannelState) → takes_device s ≡ false → IsOver s
 over s e = over-by s.scsw.activity.halt_pending s.waiting s.suspended s.offered e
 
-longer : (more before : List Act) → 1 ≤ length more → more ++ before ≡ before → ⊥
+longer : (more before : Sequence Act) → 1 ≤ count more → before ▸▸ more ≡ before → ⊥
 longer more before l e =
-    let many : length (more ++ before) ≡ length more + length before = length-append more before in
-    let same : length (more ++ before) ≡ length before = ap length e in
+    let many : count (before ▸▸ more) ≡ count more + count before = count-joined before more in
+    let same : count (before ▸▸ more) ≡ count before = ap count e in
     absurd (omega (arith, l, many, same))
 
 module _ (laws : AreLaws) where
@@ -101,8 +103,8 @@ module _ (laws : AreLaws) where
   Starts storage s x k after = IsHeld x.state after → Begins storage x.came.sent k after × ShowsRestOf s.serials.made x.state after × Interrupts s x.state k after
       × (is_some (command_sent x.came.sent) ≡ true → OnlyInterrupts s x.state k after)
 
-  starts-shows : (storage : Contents) (s : SubchannelState) (p t : ℕ) (st : ProgramPosition) (walk : WalkPlace) (k : ProgramTrace) (c : CommandStart) (acts : List Act) (n : ℕ) →
-      WentOn k.earlier laws storage k.orb k.now.acts (acts ++ k.now.acts) n walk c → IsRest st.count k →
+  starts-shows : (storage : Contents) (s : SubchannelState) (p t : ℕ) (st : ProgramPosition) (walk : WalkPlace) (k : ProgramTrace) (c : CommandStart) (acts : Sequence Act) (n : ℕ) →
+      WentOn k.earlier laws storage k.orb k.now.acts (k.now.acts ▸▸ acts) n walk c → IsRest st.count k →
       IsHeld (on_accept.first_ccw_outcome storage s p t st walk c).state (stories.trace_goes_on storage c acts k) →
       ShowsRestOf s.serials.made (on_accept.first_ccw_outcome storage s p t st walk c).state (stories.trace_goes_on storage c acts k)
   starts-shows storage s p t st walk k (came.Begins transfer) acts n w r h =
@@ -115,56 +117,56 @@ module _ (laws : AreLaws) where
       fault-shows s s.begun walk.tried check st.count (record k { now = with_acts k.now acts }) (rest-stays k acts k.now.acts walk st.count w.5 w.1 refl r)
 
   -- and a block that asks for an interruption gets one
-  starts-asks : (storage : Contents) (s : SubchannelState) (p t : ℕ) (st : ProgramPosition) (walk : WalkPlace) (k : ProgramTrace) (c : CommandStart) (acts : List Act) →
-      BeginsAsking storage (asked k.orb k.now.acts) (asked k.orb (acts ++ k.now.acts)) c →
+  starts-asks : (storage : Contents) (s : SubchannelState) (p t : ℕ) (st : ProgramPosition) (walk : WalkPlace) (k : ProgramTrace) (c : CommandStart) (acts : Sequence Act) →
+      BeginsAsking storage (asked k.orb k.now.acts) (asked k.orb (k.now.acts ▸▸ acts)) c →
       Interrupts s (on_accept.first_ccw_outcome storage s p t st walk c).state k (stories.trace_goes_on storage c acts k)
   starts-asks storage s p t st walk k (came.Begins transfer) acts a =
       let u = (begun_with_room storage transfer).transfer in
       asked-interrupts (on_accept.with_program_at_work s st.program u) (record { program = st.program; primary_shown = false; transfer = u })
-      (asked k.orb k.now.acts) (asked k.orb (acts ++ k.now.acts)) u.pci_pending a.0
+      (asked k.orb k.now.acts) (asked k.orb (k.now.acts ▸▸ acts)) u.pci_pending a.0
   starts-asks storage s p t st walk k came.Suspends acts a = λ l on. absurd (omega (arith, a, l))
   starts-asks storage s p t st walk k (came.Stops check) acts a = λ l on. absurd (omega (arith, a, l))
 
-  starts-only : (storage : Contents) (s : SubchannelState) (p t : ℕ) (st : ProgramPosition) (walk : WalkPlace) (k : ProgramTrace) (c : CommandStart) (acts : List Act) →
-      BeginsAsking storage (asked k.orb k.now.acts) (asked k.orb (acts ++ k.now.acts)) c →
+  starts-only : (storage : Contents) (s : SubchannelState) (p t : ℕ) (st : ProgramPosition) (walk : WalkPlace) (k : ProgramTrace) (c : CommandStart) (acts : Sequence Act) →
+      BeginsAsking storage (asked k.orb k.now.acts) (asked k.orb (k.now.acts ▸▸ acts)) c →
       is_some (command_sent (on_accept.first_ccw_outcome storage s p t st walk c).came.sent) ≡ true →
       OnlyInterrupts s (on_accept.first_ccw_outcome storage s p t st walk c).state k (stories.trace_goes_on storage c acts k)
   starts-only storage s p t st walk k (came.Begins transfer) acts a e =
       let u = (begun_with_room storage transfer).transfer in
       only-asked (on_accept.with_program_at_work s st.program u) (record { program = st.program; primary_shown = false; transfer = u })
-      (asked k.orb k.now.acts) (asked k.orb (acts ++ k.now.acts)) u.pci_pending a.1
+      (asked k.orb k.now.acts) (asked k.orb (k.now.acts ▸▸ acts)) u.pci_pending a.1
   starts-only storage s p t st walk k came.Suspends acts a e =
       none-sent (device_released-silent (suspension.program_suspended s st.program walk st.count)) e
   starts-only storage s p t st walk k (came.Stops check) acts a e =
       none-sent (device_released-silent (with_cause s (cause.FetchFault walk.tried check st.count))) e
 
   -- something is fetched
-  starts-some : (storage : Contents) (c : CommandStart) (acts : List Act) (k : ProgramTrace) → 1 ≤ length acts →
+  starts-some : (storage : Contents) (c : CommandStart) (acts : Sequence Act) (k : ProgramTrace) → 1 ≤ count acts →
       (stories.trace_goes_on storage c acts k).now.acts ≡ k.now.acts → ⊥
   starts-some storage (came.Begins transfer) acts k l e = longer acts k.now.acts l e
   starts-some storage came.Suspends acts k l e = longer acts k.now.acts l e
   starts-some storage (came.Stops check) acts k l e = longer acts k.now.acts l e
 
   -- and all that is next
-  starts-whole : (storage : Contents) (k : ProgramTrace) (acts : List Act) (n : ℕ) (walk : WalkPlace) (c : CommandStart) →
-      WentOn k.earlier laws storage k.orb k.now.acts (acts ++ k.now.acts) n walk c →
+  starts-whole : (storage : Contents) (k : ProgramTrace) (acts : Sequence Act) (n : ℕ) (walk : WalkPlace) (c : CommandStart) →
+      WentOn k.earlier laws storage k.orb k.now.acts (k.now.acts ▸▸ acts) n walk c →
       (next k.orb (stories.trace_goes_on storage c acts k).now.acts ≡ None) ⊎ IsSuspended k.orb (stories.trace_goes_on storage c acts k).now.acts
   starts-whole storage k acts n walk (came.Begins transfer) w = inl w.0.stands
   starts-whole storage k acts n walk came.Suspends w = inr w.5
   starts-whole storage k acts n walk (came.Stops check) w = inl w.3
 
   starts-on : (storage : Contents) (s : SubchannelState) (p t : ℕ) (st : ProgramPosition) (k : ProgramTrace) → st.walk ≡ walk_place k.orb k.now.acts →
-      (role_of k.orb k.now.acts).chained ≡ false → length (commands k.orb k.now.acts) ≡ k.earlier → IsProgram k.orb k.now.acts → t ≡ k.number → k.sent ≡ 0 → IsRest st.count k →
+      (role_of k.orb k.now.acts).chained ≡ false → count (commands k.orb k.now.acts) ≡ k.earlier → IsProgram k.orb k.now.acts → t ≡ k.number → k.sent ≡ 0 → IsRest st.count k →
       has_check k.orb k.now.acts ≡ false → EndsAtCheck k.orb k.now.acts → (address : ℕ) → next k.orb k.now.acts ≡ Some address →
       Starts storage s (on_accept.begins_at storage s p t (Some st)) k (stories.trace_begins storage st.walk k)
   starts-on storage s p t st k w c l p' f z r hc en address at =
       let old : WalkPlace = walk_place k.orb k.now.acts in
-      let many : length (commands k.orb k.now.acts) + 1 ≡ k.earlier + 1 = ap (λ (n : ℕ). n + 1) l in
+      let many : count (commands k.orb k.now.acts) + 1 ≡ k.earlier + 1 = ap (λ (n : ℕ). n + 1) l in
       let went = goes-on k.earlier laws storage k.orb k.now.acts 1 c many p' hc en in
       let first = first_command storage old in
-      let some : 1 ≤ length (advance_acts storage old) = advance-some storage k.orb k.now.acts address at in
-      let all : length (first_acts storage old) ≡ length (room_acts storage first.came) + length (advance_acts storage old) =
-      length-append (room_acts storage first.came) (advance_acts storage old) in
+      let some : 1 ≤ count (advance_acts storage old) = advance-some storage k.orb k.now.acts address at in
+      let all : count (first_acts storage old) ≡ count (room_acts storage first.came) + count (advance_acts storage old) =
+      count-joined (advance_acts storage old) (room_acts storage first.came) in
       subst
       (λ (x : WalkPlace). Starts storage s (on_accept.first_ccw_outcome storage s p t st (first_command storage x).walk (first_command storage x).came) k
       (stories.trace_begins storage x k))
@@ -172,7 +174,7 @@ module _ (laws : AreLaws) where
       (λ h. (
         record {
           goes = (
-            first_acts storage old ++ k.now.acts,
+            k.now.acts ▸▸ first_acts storage old,
             (first_acts storage old, refl, goes-fetched k.earlier laws storage k.orb k.now.acts 1 c many p' hc en),
             begins-goes laws storage s p t st first.walk k first.came (first_acts storage old) 1 went f
                 (let n : 1 ≡ k.sent + 1 = omega (arith, z) in n),

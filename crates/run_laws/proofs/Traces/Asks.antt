@@ -1,5 +1,5 @@
 -- A block that takes control with its PCI flag one leaves the interruption to the command at work, and status is made of it.
-use Rattle.std.proofs.Common.{◌≡◌, refl, ap, sym, ◌∙◌, subst, arith, ℕ, ◌+◌, ◌<◌, Bool, true, false, List, [], ◌∷◌, ◌++◌, length, Option, Some, None, Result, Ok, Err, append_assoc}
+use Rattle.std.proofs.Common.{◌≡◌, refl, ap, sym, ◌∙◌, subst, arith, ℕ, ◌+◌, ◌<◌, Bool, true, false, List, [], ◌∷◌, length, Option, Some, None, Result, Ok, Err, ◌++◌}
 use Rattle.std.specs.Prelude.{◌||◌, ◌==◌, min, is_some, if◌then◌else◌, bit_or}
 use Rattle.std.specs.Int.RustNames.{bit_and}
 use Rattle.std.proofs.lemmas.Bool.{eq-eqb}
@@ -17,6 +17,7 @@ use Rattle.ccw_walk.specs.declared.program.Advance.TheVariants as advance
 use Rattle.ccw_walk.specs.declared.program.Reading.{Reading}
 use Rattle.ccw_walk.specs.declared.program.Reading.TheVariants.{Transfers}
 use Rattle.ccw_walk.specs.declared.program.Ended.{Ended}
+use Rattle.ccw_walk.specs.Sequences.{Sequence, Nothing, ◌▸◌, ◌▸▸◌}
 use Rattle.ccw_walk.specs.Acts.{Act, Block, End, Used_up}
 use Rattle.ccw_walk.specs.Blocks.{reads}
 use Rattle.ccw_walk.specs.Programs.{next, role_of}
@@ -46,6 +47,7 @@ use Rattle.run_laws.proofs.Traces.Advances.{fetch_cases}
 use Rattle.run_laws.proofs.Traces.Fetches.{copy-same}
 use Rattle.run_laws.proofs.Traces.MachineActs as doing
 use Rattle.run_laws.proofs.Traces.MachineActs.{act_of_right, act_of_word, arriving, chained_acts, goes_acts, located_acts, next_acts, room_acts, storing, trace_answered, trace_moved_on, with_acts, with_arrival, with_places}
+use Rattle.run_laws.proofs.Traces.Sequences.{joined-in-order}
 
 -- what a program's going on asks for
 abbrev pub asks_of : Option Advance → ℕ
@@ -56,28 +58,28 @@ block-asks : (n : ℕ) (r : Reading) → n + asks_by r ≡ n + asks_of (advance_
 block-asks n (Transfers target) = refl
 block-asks n other = refl
 
-abbrev AsksTo : Orb → List Act → List Act → Type 0
-AsksTo orb before acts = asked orb (acts ++ before) ≡ asked orb before + asks_of (advance_of_acts (walk_place orb before) acts)
+abbrev AsksTo : Orb → Sequence Act → Sequence Act → Type 0
+AsksTo orb before acts = asked orb (before ▸▸ acts) ≡ asked orb before + asks_of (advance_of_acts (walk_place orb before) acts)
 
-target-asks : (storage : Contents) (orb : Orb) (before : List Act) (address : ℕ) (bytes : List ℕ) (r : Reading) → reads orb (role_of orb before) bytes ≡ r →
-    AsksTo orb before (with_tic_target storage (after_block (walk_place orb before) address bytes) r (Block address bytes ∷ []))
+target-asks : (storage : Contents) (orb : Orb) (before : Sequence Act) (address : ℕ) (bytes : List ℕ) (r : Reading) → reads orb (role_of orb before) bytes ≡ r →
+    AsksTo orb before (with_tic_target storage (after_block (walk_place orb before) address bytes) r (Nothing ▸ Block address bytes))
 target-asks storage orb before address bytes (Transfers target) e =
-    let mid : List Act = Block address bytes ∷ before in
+    let mid : Sequence Act = before ▸ Block address bytes in
     let none : asked orb mid ≡ asked orb before = ap (λ (r : Reading). asked orb before + asks_by r) e ∙ omega arith in
-    fetch_cases (λ act. AsksTo orb before (act ∷ Block address bytes ∷ [])) storage orb (role_of orb mid) target
+    fetch_cases (λ act. AsksTo orb before (Nothing ▸ Block address bytes ▸ act)) storage orb (role_of orb mid) target
     (λ more. block-asks (asked orb mid) (reads orb (role_of orb mid) more)
     ∙ ap (λ (n : ℕ). n + asks_of (advance_of_ccw (reads orb (role_of orb mid) more))) none)
     (λ check. none ∙ omega arith)
 target-asks storage orb before address bytes other e = block-asks (asked orb before) (reads orb (role_of orb before) bytes)
 
-at-asks : (storage : Contents) (orb : Orb) (before : List Act) (n : Option ℕ) → AsksTo orb before (acts_from_next storage (walk_place orb before) n)
+at-asks : (storage : Contents) (orb : Orb) (before : Sequence Act) (n : Option ℕ) → AsksTo orb before (acts_from_next storage (walk_place orb before) n)
 at-asks storage orb before None = omega arith
 at-asks storage orb before (Some address) =
     fetch_cases (λ act. AsksTo orb before (acts_from_fetch storage (walk_place orb before) act)) storage orb (role_of orb before) address
     (λ bytes. target-asks storage orb before address bytes (reads orb (role_of orb before) bytes) refl)
     (λ check. omega arith)
 
-advance-asks : (storage : Contents) (orb : Orb) (before : List Act) → AsksTo orb before (advance_acts storage (walk_place orb before))
+advance-asks : (storage : Contents) (orb : Orb) (before : Sequence Act) → AsksTo orb before (advance_acts storage (walk_place orb before))
 advance-asks storage orb before = at-asks storage orb before (next orb before)
 
 -- a block that asked leaves it to this command: so many asked before, and so many now
@@ -95,18 +97,18 @@ taken-asking n m true e = (λ l. refl, λ x. omega (arith, e))
 taken-asking n m false e = (λ l. absurd (omega (arith, e, l)), λ x. absurd (cc x))
 
 -- words are no blocks
-right-asked : (orb : Orb) (acts : List Act) (word : ℕ) (f : Option WordFault) → asked orb (act_of_right f word ++ acts) ≡ asked orb acts
+right-asked : (orb : Orb) (acts : Sequence Act) (word : ℕ) (f : Option WordFault) → asked orb (acts ▸▸ act_of_right f word) ≡ asked orb acts
 right-asked orb acts word None = refl
 right-asked orb acts word (Some fault) = refl
 
-located-asked-by : (storage : Contents) (orb : Orb) (acts : List Act) (t : Transfer) (b c : Bool) (w : Result ℕ Check) →
-    asked orb ((if b then [] else (if c then act_of_word t.moving (length storage.bytes) w else [])) ++ acts) ≡ asked orb acts
+located-asked-by : (storage : Contents) (orb : Orb) (acts : Sequence Act) (t : Transfer) (b c : Bool) (w : Result ℕ Check) →
+    asked orb (acts ▸▸ (if b then Nothing else (if c then act_of_word t.moving (length storage.bytes) w else Nothing))) ≡ asked orb acts
 located-asked-by storage orb acts t true c w = refl
 located-asked-by storage orb acts t false false w = refl
 located-asked-by storage orb acts t false true (Ok word) = right-asked orb acts word (word_fault t.moving.kind (t.moving.words == 0) word (length storage.bytes))
 located-asked-by storage orb acts t false true (Err check) = refl
 
-located-asked : (storage : Contents) (orb : Orb) (acts : List Act) (t : Transfer) → asked orb (located_acts storage t ++ acts) ≡ asked orb acts
+located-asked : (storage : Contents) (orb : Orb) (acts : Sequence Act) (t : Transfer) → asked orb (acts ▸▸ located_acts storage t) ≡ asked orb acts
 located-asked storage orb acts t =
     located-asked-by storage orb acts t (is_some t.fault) (needs_word t.moving) (access.word_fetched storage t.walk.orb.key t.moving)
 
@@ -141,40 +143,40 @@ BeginsAsking storage n m (came.Begins t) = IsAsking n m (begun_with_room storage
 BeginsAsking storage n m came.Suspends = m ≡ n
 BeginsAsking storage n m (came.Stops check) = m ≡ n
 
-room-asking : (storage : Contents) (orb : Orb) (n : ℕ) (acts : List Act) (t : Transfer) (b : Bool) → IsAsking n (asked orb acts) t →
-    IsAsking n (asked orb ((if b then located_acts storage t else []) ++ acts)) (if b then with_room storage t else record { transfer = t; room = 0 }).transfer
+room-asking : (storage : Contents) (orb : Orb) (n : ℕ) (acts : Sequence Act) (t : Transfer) (b : Bool) → IsAsking n (asked orb acts) t →
+    IsAsking n (asked orb (acts ▸▸ (if b then located_acts storage t else Nothing))) (if b then with_room storage t else record { transfer = t; room = 0 }).transfer
 room-asking storage orb n acts t true a =
-    asking-same n (asked orb acts) (asked orb (located_acts storage t ++ acts)) t (located_transfer storage t) (located-asked storage orb acts t) (located-pci storage t) a
+    asking-same n (asked orb acts) (asked orb (acts ▸▸ located_acts storage t)) t (located_transfer storage t) (located-asked storage orb acts t) (located-pci storage t) a
 room-asking storage orb n acts t false a = a
 
-begins-asking : (storage : Contents) (orb : Orb) (n : ℕ) (acts : List Act) (walk : WalkPlace) (i : ℕ) (a : Option Advance) → asked orb acts ≡ n + asks_of a →
-    BeginsAsking storage n (asked orb (room_acts storage (command_begins walk i a) ++ acts)) (command_begins walk i a)
+begins-asking : (storage : Contents) (orb : Orb) (n : ℕ) (acts : Sequence Act) (walk : WalkPlace) (i : ℕ) (a : Option Advance) → asked orb acts ≡ n + asks_of a →
+    BeginsAsking storage n (asked orb (acts ▸▸ room_acts storage (command_begins walk i a))) (command_begins walk i a)
 begins-asking storage orb n acts walk i (Some (advance.Takes ccw)) e =
     let t : Transfer = transfer_of walk i ccw in
     room-asking storage orb n acts t (brings (class_of t.code)) (taken-asking n (asked orb acts) ccw.program_controlled e)
 begins-asking storage orb n acts walk i other e = omega (arith, e)
 
-pub goes-asking : (storage : Contents) (orb : Orb) (before : List Act) (i : ℕ) →
-    BeginsAsking storage (asked orb before) (asked orb (goes_acts storage i (walk_place orb before) ++ before)) (goes_to storage i (walk_place orb before)).came
+pub goes-asking : (storage : Contents) (orb : Orb) (before : Sequence Act) (i : ℕ) →
+    BeginsAsking storage (asked orb before) (asked orb (before ▸▸ goes_acts storage i (walk_place orb before))) (goes_to storage i (walk_place orb before)).came
 goes-asking storage orb before i =
     let old : WalkPlace = walk_place orb before in
-    let acts : List Act = advance_acts storage old in
+    let acts : Sequence Act = advance_acts storage old in
     let c : CommandStart = (goes_to storage i old).came in
-    subst (λ (xs : List Act). BeginsAsking storage (asked orb before) (asked orb xs) c) (sym (append_assoc (room_acts storage c) acts before))
-    (begins-asking storage orb (asked orb before) (acts ++ before) (after_acts old acts) i (advance_of_acts old acts) (advance-asks storage orb before))
+    subst (λ (xs : Sequence Act). BeginsAsking storage (asked orb before) (asked orb xs) c) (sym (joined-in-order before acts (room_acts storage c)))
+    (begins-asking storage orb (asked orb before) (before ▸▸ acts) (after_acts old acts) i (advance_of_acts old acts) (advance-asks storage orb before))
 
 -- one is chained to
-pub next-asking : (storage : Contents) (orb : Orb) (before : List Act) (t : Transfer) (modifier : Bool) → t.walk ≡ walk_place orb before →
-    BeginsAsking storage (asked orb before) (asked orb (next_acts storage t modifier ++ before)) (next_command storage t modifier).came
+pub next-asking : (storage : Contents) (orb : Orb) (before : Sequence Act) (t : Transfer) (modifier : Bool) → t.walk ≡ walk_place orb before →
+    BeginsAsking storage (asked orb before) (asked orb (before ▸▸ next_acts storage t modifier)) (next_command storage t modifier).came
 next-asking storage orb before t modifier e =
     let ended : Ended = record { goes_on = true; modifier = modifier } in
     let i : ℕ = t.command + 1 in
-    let old : WalkPlace = walk_place orb (End ended ∷ before) in
+    let old : WalkPlace = walk_place orb (before ▸ End ended) in
     subst
-    (λ (w : WalkPlace). BeginsAsking storage (asked orb before) (asked orb ((goes_acts storage i (after_command_end w ended) ++ End ended ∷ []) ++ before)) (goes_to storage i (after_command_end w ended)).came)
+    (λ (w : WalkPlace). BeginsAsking storage (asked orb before) (asked orb (before ▸▸ (Nothing ▸ End ended ▸▸ goes_acts storage i (after_command_end w ended)))) (goes_to storage i (after_command_end w ended)).came)
     (sym e)
-    (subst (λ (xs : List Act). BeginsAsking storage (asked orb before) (asked orb xs) (goes_to storage i old).came) (sym (append_assoc (goes_acts storage i old) (End ended ∷ []) before))
-    (goes-asking storage orb (End ended ∷ before) i))
+    (subst (λ (xs : Sequence Act). BeginsAsking storage (asked orb before) (asked orb xs) (goes_to storage i old).came) (sym (joined-in-order before (Nothing ▸ End ended) (goes_acts storage i old)))
+    (goes-asking storage orb (before ▸ End ended) i))
 
 -- data is chained
 chained-by-asking : (n m : ℕ) (t : Transfer) (walk : WalkPlace) (a : Option Advance) → m ≡ n + asks_of a → t.pci_pending ≡ false → IsAsking n m (with_next_ccw t walk a)
@@ -183,18 +185,18 @@ chained-by-asking n m t walk (Some advance.Suspends) e f = none-asking n m (with
 chained-by-asking n m t walk (Some (advance.Stops check)) e f = none-asking n m (with_next_ccw t walk (Some (advance.Stops check))) (omega (arith, e)) f
 chained-by-asking n m t walk None e f = none-asking n m t (omega (arith, e)) f
 
-chained-asking : (storage : Contents) (orb : Orb) (before : List Act) (t : Transfer) → t.walk ≡ walk_place orb before → t.pci_pending ≡ false →
-    IsAsking (asked orb before) (asked orb (chained_acts storage t ++ before)) (data_chained storage t)
+chained-asking : (storage : Contents) (orb : Orb) (before : Sequence Act) (t : Transfer) → t.walk ≡ walk_place orb before → t.pci_pending ≡ false →
+    IsAsking (asked orb before) (asked orb (before ▸▸ chained_acts storage t)) (data_chained storage t)
 chained-asking storage orb before t e f =
-    let used : List Act = Used_up ∷ before in
+    let used : Sequence Act = before ▸ Used_up in
     let old : WalkPlace = walk_place orb used in
-    let news : List Act = advance_acts storage old in
-    let by : IsAsking (asked orb before) (asked orb (news ++ used)) (chained_from storage t old) =
-    chained-by-asking (asked orb before) (asked orb (news ++ used)) t (after_acts old news) (advance_of_acts old news) (advance-asks storage orb used) f in
+    let news : Sequence Act = advance_acts storage old in
+    let by : IsAsking (asked orb before) (asked orb (used ▸▸ news)) (chained_from storage t old) =
+    chained-by-asking (asked orb before) (asked orb (used ▸▸ news)) t (after_acts old news) (advance_of_acts old news) (advance-asks storage orb used) f in
     subst
-    (λ (w : WalkPlace). IsAsking (asked orb before) (asked orb ((advance_acts storage (after_count_used_up w) ++ Used_up ∷ []) ++ before)) (chained_from storage t (after_count_used_up w)))
+    (λ (w : WalkPlace). IsAsking (asked orb before) (asked orb (before ▸▸ (Nothing ▸ Used_up ▸▸ advance_acts storage (after_count_used_up w)))) (chained_from storage t (after_count_used_up w)))
     (sym e)
-    (subst (λ (xs : List Act). IsAsking (asked orb before) (asked orb xs) (chained_from storage t old)) (sym (append_assoc news (Used_up ∷ []) before)) by)
+    (subst (λ (xs : Sequence Act). IsAsking (asked orb before) (asked orb xs) (chained_from storage t old)) (sym (joined-in-order before (Nothing ▸ Used_up) news)) by)
 
 -- what was done for a command leaves it so
 abbrev LeavesAsking : Orb → CommandTrace → CommandTrace → Transfer → Type 0
@@ -223,14 +225,14 @@ gives-asking storage orb p t s count e f =
     let q : CommandTrace = trace_answered storage t s count p in
     let same = copy-same storage (located_transfer storage u) (with_acts q (located_acts storage u)) in
     asking-same (asked orb p.acts) (asked orb q.acts) (asked orb (doing.gives storage t s count p).acts) u (next_chunk storage u).transfer
-    (ap (λ (xs : List Act). asked orb xs) same.0 ∙ located-asked storage orb q.acts u) (given-pci storage u)
+    (ap (λ (xs : Sequence Act). asked orb xs) same.0 ∙ located-asked storage orb q.acts u) (given-pci storage u)
     (answered-asking storage orb p t s count (s == t.sequence + 1) e f)
 
 -- a Data of a command that brings bytes in
 arrived-asking : (storage : Contents) (orb : Orb) (p : CommandTrace) (t : Transfer) (bytes : List ℕ) (r : Result Contents Check) → t.walk ≡ walk_place orb p.acts → t.pci_pending ≡ false →
     LeavesAsking orb p (with_arrival storage t bytes r p) (after_store storage t (length bytes) r).transfer
 arrived-asking storage orb p t bytes (Ok after) e f =
-    let q : CommandTrace = record p { arrived = record { former = storage.bytes; chunk = doing.chunk_of after t.moving bytes } ∷ p.arrived } in
+    let q : CommandTrace = record p { arrived = p.arrived ++ record { former = storage.bytes; chunk = doing.chunk_of after t.moving bytes } ∷ [] } in
     after_bytes_moved-asking after orb q t (length bytes) (chains_data (with_bytes_moved t (length bytes)) (length bytes)) e f
 arrived-asking storage orb p t bytes (Err check) e f = none-asking (asked orb p.acts) (asked orb p.acts) (record t { fault = Some check }) refl f
 
@@ -251,7 +253,7 @@ pub takes_in-asking : (storage : Contents) (orb : Orb) (p : CommandTrace) (t : T
 takes_in-asking storage orb p t s bytes e f =
     let x = chunk_stored storage t s bytes in
     let q : CommandTrace = arriving storage t s bytes p in
-    asking-same (asked orb p.acts) (asked orb q.acts) (asked orb (located_acts x.storage x.transfer ++ q.acts)) x.transfer (located_transfer x.storage x.transfer)
+    asking-same (asked orb p.acts) (asked orb q.acts) (asked orb (q.acts ▸▸ located_acts x.storage x.transfer)) x.transfer (located_transfer x.storage x.transfer)
     (located-asked x.storage orb q.acts x.transfer) (located-pci x.storage x.transfer)
     (brought-asking storage orb p t s bytes (s == t.sequence + 1) e f)
 

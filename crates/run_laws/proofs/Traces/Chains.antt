@@ -1,5 +1,5 @@
 -- What a subchannel does for its program with an End is what is seen of it.
-use Rattle.std.proofs.Common.{◌≡◌, refl, sym, ◌∙◌, ap, subst, arith, ℕ, ◌+◌, ◌<◌, ◌==◌, Bool, true, false, List, ◌∷◌, ◌++◌, Option, Some, None, inl, inr}
+use Rattle.std.proofs.Common.{◌≡◌, refl, sym, ◌∙◌, ap, subst, arith, ℕ, ◌+◌, ◌<◌, ◌==◌, Bool, true, false, Option, Some, None, inl, inr}
 use Rattle.std.specs.Prelude.{if◌then◌else◌, ◌&&◌, ◌||◌, not, is_none, is_some, length}
 use Rattle.std.proofs.lemmas.Bool.{eqb-true}
 use Rattle.scsw_irb.specs.declared.status.DeviceStatus.{DeviceStatus}
@@ -10,6 +10,7 @@ use Rattle.chan_model.specs.declared.hold_state.HoldPhase.TheVariants as hold
 use Rattle.chan_model.specs.HoldTable.{is_on}
 use Rattle.chan_model.specs.UnitReports.{has_device_end, has_unit_check, is_last_end}
 use Rattle.ccw_walk.specs.Programs.{latest, next}
+use Rattle.ccw_walk.specs.Sequences.{Sequence, ◌▸◌, ◌▸▸◌}
 use Rattle.ccw_walk.specs.Acts.{Act, End}
 use Rattle.ccw_walk.specs.Places.{WalkPlace}
 use Rattle.data_move.specs.declared.transfer.Beginning.{Beginning}
@@ -100,7 +101,7 @@ module _ (laws : AreLaws) (accesses : AreAccesses) where
   is-chained s b k status more x w c =
       let last : Option Latest = latest k.orb k.now.acts in
       let h : Bool = s.scsw.functions.halt in
-      let n : Bool = is_some (next k.orb (End (record { goes_on = true; modifier = has_status_modifier status }) ∷ k.now.acts)) in
+      let n : Bool = is_some (next k.orb (k.now.acts ▸ End (record { goes_on = true; modifier = has_status_modifier status }))) in
       let wrong : Bool = wrong-by k.orb k.now h status more last in
       ap (λ (u : Bool). n && not (u || (has_unit_check status || (has_unit_exception status || (wrong || (k.now.kept || h)))))) w.3.5
       ∙ ap (λ (f : Bool). n && not (b.transfer.unchained || (has_unit_check status || (has_unit_exception status || (wrong || (f || h)))))) w.3.3
@@ -117,32 +118,32 @@ module _ (laws : AreLaws) (accesses : AreAccesses) where
   chains-on : (storage : Contents) (s : SubchannelState) (b : ActiveProgram) (k : ProgramTrace) (signal : EndSignal) → chains_command s.scsw b signal.status signal.more ≡ true →
       has_device_end signal.status ≡ true → HasWork (Some b) k → signal.number ≡ k.number →
       let next : Beginning = next_command storage b.transfer (has_status_modifier signal.status) in
-      let acts : List Act = next_acts storage b.transfer (has_status_modifier signal.status) in
+      let acts : Sequence Act = next_acts storage b.transfer (has_status_modifier signal.status) in
       Chains storage signal.status (on_end.chains_with storage s (with_first_end b) signal next).came.sent k (stories.trace_goes_on storage next.came acts k)
   chains-on storage s b k signal c d w m =
       let modifier : Bool = has_status_modifier signal.status in
       let f = chains-facts laws accesses s.scsw b signal.status signal.more c in
       let next : Beginning = next_command storage b.transfer modifier in
-      let acts : List Act = next_acts storage b.transfer modifier in
+      let acts : Sequence Act = next_acts storage b.transfer modifier in
       let adds = next-adds k.earlier laws storage k.orb k.now.acts k.now.moved b.transfer modifier f.0 f.1 w.0.tied in
       inl (
         d,
         (
-          acts ++ k.now.acts,
+          k.now.acts ▸▸ acts,
           adds,
           chains-goes laws storage s (with_first_end b) signal next.walk k next.came acts
-              (End (record { goes_on = true; modifier = modifier }) ∷ k.now.acts) (b.transfer.command + 1)
+              (k.now.acts ▸ End (record { goes_on = true; modifier = modifier })) (b.transfer.command + 1)
               (next-went laws accesses k.earlier storage k.orb k.now b.transfer modifier w.0.tied f.0 f.1) refl m (ap (λ (n : ℕ). n + 1) w.1),
         ),
       )
 
   -- whose block may ask for an interruption
-  chains-asks : (storage : Contents) (s : SubchannelState) (b : ActiveProgram) (k : ProgramTrace) (signal : EndSignal) (walk : WalkPlace) (c : CommandStart) (acts : List Act) →
-      BeginsAsking storage (asked k.orb k.now.acts) (asked k.orb (acts ++ k.now.acts)) c →
+  chains-asks : (storage : Contents) (s : SubchannelState) (b : ActiveProgram) (k : ProgramTrace) (signal : EndSignal) (walk : WalkPlace) (c : CommandStart) (acts : Sequence Act) →
+      BeginsAsking storage (asked k.orb k.now.acts) (asked k.orb (k.now.acts ▸▸ acts)) c →
       Interrupts s (on_end.next_ccw_outcome storage s b signal walk c).state k (stories.trace_goes_on storage c acts k)
   chains-asks storage s b k signal walk (came.Begins transfer) acts a =
       let u = (begun_with_room storage transfer).transfer in
-      asked-interrupts (command_spec.with_transfer s b u) (record b { transfer = u }) (asked k.orb k.now.acts) (asked k.orb (acts ++ k.now.acts)) u.pci_pending a.0
+      asked-interrupts (command_spec.with_transfer s b u) (record b { transfer = u }) (asked k.orb k.now.acts) (asked k.orb (k.now.acts ▸▸ acts)) u.pci_pending a.0
   chains-asks storage s b k signal walk came.Suspends acts a = λ l on. absurd (omega (arith, a, l))
   chains-asks storage s b k signal walk (came.Stops check) acts a = λ l on. absurd (omega (arith, a, l))
 
@@ -156,13 +157,13 @@ module _ (laws : AreLaws) (accesses : AreAccesses) where
       chains-asks storage s (with_first_end b) k signal next.walk next.came (next_acts storage b.transfer modifier)
       (next-asking storage k.orb k.now.acts b.transfer modifier w.0.tied.walk)
 
-  chains-only : (storage : Contents) (s : SubchannelState) (b : ActiveProgram) (k : ProgramTrace) (signal : EndSignal) (walk : WalkPlace) (c : CommandStart) (acts : List Act) →
-      BeginsAsking storage (asked k.orb k.now.acts) (asked k.orb (acts ++ k.now.acts)) c →
+  chains-only : (storage : Contents) (s : SubchannelState) (b : ActiveProgram) (k : ProgramTrace) (signal : EndSignal) (walk : WalkPlace) (c : CommandStart) (acts : Sequence Act) →
+      BeginsAsking storage (asked k.orb k.now.acts) (asked k.orb (k.now.acts ▸▸ acts)) c →
       is_some (command_sent (on_end.next_ccw_outcome storage s b signal walk c).came.sent) ≡ true →
       OnlyInterrupts s (on_end.next_ccw_outcome storage s b signal walk c).state k (stories.trace_goes_on storage c acts k)
   chains-only storage s b k signal walk (came.Begins transfer) acts a e =
       let u = (begun_with_room storage transfer).transfer in
-      only-asked (command_spec.with_transfer s b u) (record b { transfer = u }) (asked k.orb k.now.acts) (asked k.orb (acts ++ k.now.acts)) u.pci_pending a.1
+      only-asked (command_spec.with_transfer s b u) (record b { transfer = u }) (asked k.orb k.now.acts) (asked k.orb (k.now.acts ▸▸ acts)) u.pci_pending a.1
   chains-only storage s b k signal walk came.Suspends acts a e =
       none-sent (device_released-silent (suspension.program_suspended (on_end.with_allegiance_after_end s signal) b.program walk (residual b.transfer.moving))) e
   chains-only storage s b k signal walk (came.Stops check) acts a e =

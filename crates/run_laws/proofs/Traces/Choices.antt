@@ -1,5 +1,5 @@
 -- What the choosing of a path, and the taking of a signal, do to a subchannel.
-use Rattle.std.proofs.Common.{◌≡◌, refl, ap, sym, ◌∙◌, subst, arith, ℕ, ◌+◌, ◌≤◌, Bool, true, false, List, [], ◌∷◌, ◌++◌, length, Option, Some, None, Result, Ok, Err, ◌&&◌}
+use Rattle.std.proofs.Common.{◌≡◌, refl, ap, sym, ◌∙◌, subst, arith, ℕ, ◌+◌, ◌≤◌, Bool, true, false, List, [], ◌++◌, length, Option, Some, None, Result, Ok, Err, ◌&&◌}
 use Rattle.std.specs.Prelude.{if◌then◌else◌, ◌==◌, not, nat_lt, slice_get, take, IfOk}
 use Rattle.std.proofs.lemmas.List.Elements.{All-nil}
 use Rattle.storage_keys.specs.Storage.{Contents}
@@ -24,6 +24,7 @@ use Rattle.channel_config.specs.declared.parts.SubchannelSetup.{SubchannelSetup}
 use Rattle.channel_config.specs.Lawful.{IsLawful}
 use Rattle.channel_config.specs.Setup.{Setup}
 use Rattle.orb_block.specs.declared.Orb.{Orb}
+use Rattle.ccw_walk.specs.Sequences.{Sequence, ◌▸◌}
 use Rattle.ccw_walk.specs.Programs.{code}
 use Rattle.chan_model.specs.HoldTable as hold_table
 use Rattle.scsw_irb.specs.declared.status.DeviceStatus.{DeviceStatus}
@@ -219,7 +220,7 @@ chosen-held sub k c t f e h =
     subst (λ (r : Result SubTurn Fault). IfOk r (λ t. KeptBy t.sub.state (chosen_at (Some sub) t.reply k))) e (choose-held sub k c f h)
 
 -- the unit's doings leave it
-untaken-held : (s : SubchannelState) (k : ProgramTrace) (taken : List ℕ) (absorbed : List ℕ) → IsKept s k → IsKept s (record k { taken = taken; absorbed = absorbed })
+untaken-held : (s : SubchannelState) (k : ProgramTrace) (taken : Sequence ℕ) (absorbed : List ℕ) → IsKept s k → IsKept s (record k { taken = taken; absorbed = absorbed })
 untaken-held s k taken absorbed h = (
   record { number = h.0.number; phase = h.0.phase; drawn = h.0.drawn; work = work s.begun h.0.work; standing = stands s.waiting s.begun s.suspended h.0.standing },
   h.1,
@@ -233,8 +234,8 @@ untaken-held s k taken absorbed h = (
     work None w = w
     work (Some b) w = w
 
-takes-if : (s : SubchannelState) (k : ProgramTrace) (code : ℕ) (b : Bool) → IsKept s k → IsKept s (if b then record k { taken = code ∷ k.taken; absorbed = [] } else k)
-takes-if s k code true h = untaken-held s k (code ∷ k.taken) [] h
+takes-if : (s : SubchannelState) (k : ProgramTrace) (code : ℕ) (b : Bool) → IsKept s k → IsKept s (if b then record k { taken = k.taken ▸ code; absorbed = [] } else k)
+takes-if s k code true h = untaken-held s k (k.taken ▸ code) [] h
 takes-if s k code false h = h
 
 takes-held : (s : SubchannelState) (d : Down) (k : ProgramTrace) → IsKept s k → IsKept s (takes d k)

@@ -1,8 +1,9 @@
 -- A command to which none is chained ends: what is kept of its program agrees with the longer story.
-use Rattle.std.proofs.Common.{◌≡◌, refl, ap, sym, ◌∙◌, ℕ, Bool, true, false, List, ◌∷◌, Option, Some, None}
+use Rattle.std.proofs.Common.{◌≡◌, refl, ap, sym, ◌∙◌, ℕ, Bool, true, false, List, Option, Some, None}
 use Rattle.orb_block.specs.declared.Orb.{Orb}
 use Rattle.scsw_irb.specs.declared.status.DeviceStatus.{DeviceStatus}
 use Rattle.ccw_walk.specs.declared.program.Latest.{Latest}
+use Rattle.ccw_walk.specs.Sequences.{Sequence, ◌▸◌}
 use Rattle.ccw_walk.specs.Acts.{Act, End}
 use Rattle.ccw_walk.specs.Programs.{role_of, latest, next_ended, tried}
 use Rattle.ccw_walk.specs.Places.{WalkPlace}
@@ -18,8 +19,8 @@ ended-next : (last : Option Latest) (modifier : Bool) → next_ended last (recor
 ended-next None modifier = refl
 ended-next (Some last) modifier = refl
 
-ended-tied : (earlier : ℕ) (orb : Orb) (acts : List Act) (ps : List (Option ℕ)) (t : Transfer) (modifier : Bool) → Tied earlier orb acts ps t →
-    Tied earlier orb (End (record { goes_on = false; modifier = modifier }) ∷ acts) ps t
+ended-tied : (earlier : ℕ) (orb : Orb) (acts : Sequence Act) (ps : List (Option ℕ)) (t : Transfer) (modifier : Bool) → Tied earlier orb acts ps t →
+    Tied earlier orb (acts ▸ End (record { goes_on = false; modifier = modifier })) ps t
 ended-tied earlier orb acts ps t modifier k = record {
   walk =
       k.walk

@@ -1,5 +1,5 @@
 -- What comes to a program, act by act, is what storage holds.
-use Rattle.std.proofs.Common.{◌≡◌, refl, ap, sym, ◌∙◌, subst, ℕ, ◌+◌, ◌≤◌, Bool, true, false, List, [], ◌∷◌, ◌++◌, length, Option, Some, None, Result, Ok, Err, inl, inr, arith, append_assoc}
+use Rattle.std.proofs.Common.{◌≡◌, refl, ap, sym, ◌∙◌, subst, ℕ, ◌+◌, ◌≤◌, Bool, true, false, List, [], ◌∷◌, length, Option, Some, None, Result, Ok, Err, inl, inr, arith, ◌++◌}
 use Rattle.std.specs.Prelude.{◌==◌, ◌&&◌, ◌%◌, not, min, is_some, if◌then◌else◌}
 use Rattle.std.proofs.lemmas.Bool.{eqb-true}
 use Rattle.orb_block.specs.declared.Orb.{Orb}
@@ -12,6 +12,7 @@ use Rattle.ccw_walk.specs.declared.check.Check.TheVariants.{Program}
 use Rattle.ccw_walk.specs.declared.program.Ended.{Ended}
 use Rattle.ccw_walk.specs.declared.program.Reading.{Reading}
 use Rattle.ccw_walk.specs.declared.program.Reading.TheVariants.{Transfers}
+use Rattle.ccw_walk.specs.Sequences.{Sequence, Nothing, ◌▸◌, ◌▸▸◌, count}
 use Rattle.ccw_walk.specs.Acts.{Act, Block, Unfetched, Used_up, End}
 use Rattle.ccw_walk.specs.Blocks.{reads}
 use Rattle.ccw_walk.specs.Programs.{IsProgram, role_of, next, commands}
@@ -43,65 +44,66 @@ use Rattle.run_laws.proofs.Traces.Ties.{AreLaws, IsMovedTo, Tied, changed, Begin
 use Rattle.run_laws.proofs.Traces.Parts.{IsAtWork, after_bytes_moved-parts, room-left, answer-tied, answer-by, fitting-left, bring-by}
 use Rattle.run_laws.proofs.Bytes.Used.{used-same, none-used, used-by}
 use Rattle.run_laws.specs.Tells.{is_used_up, acts_used}
+use Rattle.run_laws.proofs.Traces.Sequences.{joined-in-order}
 
-pub adds-none : (storage : Contents) (orb : Orb) (before : List Act) → AddsFetched storage orb before before
-adds-none storage orb before = ([], refl, tt)
+pub adds-none : (storage : Contents) (orb : Orb) (before : Sequence Act) → AddsFetched storage orb before before
+adds-none storage orb before = (Nothing, refl, tt)
 
-fetched-append : (storage : Contents) (orb : Orb) (acts more before : List Act) → AreFetched storage orb (more ++ before) acts → AreFetched storage orb before more →
-    AreFetched storage orb before (acts ++ more)
-fetched-append storage orb [] more before a b = b
-fetched-append storage orb (act ∷ acts) more before a b =
-    (subst (λ (xs : List Act). IsFetched storage orb xs act) (sym (append_assoc acts more before)) a.0, fetched-append storage orb acts more before a.1 b)
+fetched-append : (storage : Contents) (orb : Orb) (acts more before : Sequence Act) → AreFetched storage orb (before ▸▸ more) acts → AreFetched storage orb before more →
+    AreFetched storage orb before (more ▸▸ acts)
+fetched-append storage orb Nothing more before a b = b
+fetched-append storage orb (acts ▸ act) more before a b =
+    (subst (λ (xs : Sequence Act). IsFetched storage orb xs act) (sym (joined-in-order before more acts)) a.0, fetched-append storage orb acts more before a.1 b)
 
-adds-more : (storage : Contents) (orb : Orb) (before mid acts : List Act) → AddsFetched storage orb before mid → AreFetched storage orb mid acts →
-    AddsFetched storage orb before (acts ++ mid)
+adds-more : (storage : Contents) (orb : Orb) (before mid acts : Sequence Act) → AddsFetched storage orb before mid → AreFetched storage orb mid acts →
+    AddsFetched storage orb before (mid ▸▸ acts)
 adds-more storage orb before mid acts a b = (
-  acts ++ a.0,
-  ap (λ (xs : List Act). acts ++ xs) a.1 ∙ sym (append_assoc acts a.0 before),
-  fetched-append storage orb acts a.0 before (subst (λ (xs : List Act). AreFetched storage orb xs acts) a.1 b) a.2,
+  a.0 ▸▸ acts,
+  ap (λ (xs : Sequence Act). xs ▸▸ acts) a.1 ∙ sym (joined-in-order before a.0 acts),
+  fetched-append storage orb acts a.0 before (subst (λ (xs : Sequence Act). AreFetched storage orb xs acts) a.1 b) a.2,
 )
 
 -- a block
-fetch-by : (storage : Contents) (orb : Orb) (before : List Act) (address : ℕ) (test : Bool) (answer : Result (List ℕ) StorageFault) →
+fetch-by : (storage : Contents) (orb : Orb) (before : Sequence Act) (address : ℕ) (test : Bool) (answer : Result (List ℕ) StorageFault) →
     ((role_of orb before).first && is_program_misplaced orb address) ≡ test → fetched storage orb.key address 8 ≡ answer →
     IsFetched storage orb before (if test then Unfetched address Program else act_of_fetch address answer)
 fetch-by storage orb before address true answer d e = inr (d, refl)
 fetch-by storage orb before address false (Ok bytes) d e = e
 fetch-by storage orb before address false (Err fault) d e = inl (ap checked e)
 
-fetch-fetched : (storage : Contents) (orb : Orb) (before : List Act) (address : ℕ) → IsFetched storage orb before (fetch_act storage orb (role_of orb before) address)
+fetch-fetched : (storage : Contents) (orb : Orb) (before : Sequence Act) (address : ℕ) → IsFetched storage orb before (fetch_act storage orb (role_of orb before) address)
 fetch-fetched storage orb before address =
     fetch-by storage orb before address ((role_of orb before).first && is_program_misplaced orb address) (fetched storage orb.key address 8) refl refl
 
-target-fetched : (storage : Contents) (orb : Orb) (before : List Act) (address : ℕ) (bytes : List ℕ) (r : Reading) → fetched storage orb.key address 8 ≡ Ok bytes →
-    AreFetched storage orb before (with_tic_target storage (after_block (walk_place orb before) address bytes) r (Block address bytes ∷ []))
+target-fetched : (storage : Contents) (orb : Orb) (before : Sequence Act) (address : ℕ) (bytes : List ℕ) (r : Reading) → fetched storage orb.key address 8 ≡ Ok bytes →
+    AreFetched storage orb before (with_tic_target storage (after_block (walk_place orb before) address bytes) r (Nothing ▸ Block address bytes))
 target-fetched storage orb before address bytes (Transfers target) e =
-    (fetch-fetched storage orb (Block address bytes ∷ before) target, (e, tt))
+    (fetch-fetched storage orb (before ▸ Block address bytes) target, (e, tt))
 target-fetched storage orb before address bytes other e = (e, tt)
 
-from-by : (storage : Contents) (orb : Orb) (before : List Act) (address : ℕ) (test : Bool) (answer : Result (List ℕ) StorageFault) →
+from-by : (storage : Contents) (orb : Orb) (before : Sequence Act) (address : ℕ) (test : Bool) (answer : Result (List ℕ) StorageFault) →
     ((role_of orb before).first && is_program_misplaced orb address) ≡ test → fetched storage orb.key address 8 ≡ answer →
     AreFetched storage orb before (acts_from_fetch storage (walk_place orb before) (if test then Unfetched address Program else act_of_fetch address answer))
 from-by storage orb before address true answer d e = (inr (d, refl), tt)
 from-by storage orb before address false (Ok bytes) d e = target-fetched storage orb before address bytes (reads orb (role_of orb before) bytes) e
 from-by storage orb before address false (Err fault) d e = (inl (ap checked e), tt)
 
-at-fetched : (storage : Contents) (orb : Orb) (before : List Act) (n : Option ℕ) → AreFetched storage orb before (acts_from_next storage (walk_place orb before) n)
+at-fetched : (storage : Contents) (orb : Orb) (before : Sequence Act) (n : Option ℕ) → AreFetched storage orb before (acts_from_next storage (walk_place orb before) n)
 at-fetched storage orb before None = tt
 at-fetched storage orb before (Some address) =
     from-by storage orb before address ((role_of orb before).first && is_program_misplaced orb address) (fetched storage orb.key address 8) refl refl
 
-advance-fetched : (storage : Contents) (orb : Orb) (before : List Act) → AreFetched storage orb before (advance_acts storage (walk_place orb before))
+advance-fetched : (storage : Contents) (orb : Orb) (before : Sequence Act) → AreFetched storage orb before (advance_acts storage (walk_place orb before))
 advance-fetched storage orb before = at-fetched storage orb before (next orb before)
 
 -- data is chained
-chained-adds : (storage : Contents) (orb : Orb) (acts : List Act) (t : Transfer) → t.walk ≡ walk_place orb acts →
-    AddsFetched storage orb (Used_up ∷ acts) (chained_acts storage t ++ acts)
+chained-adds : (storage : Contents) (orb : Orb) (acts : Sequence Act) (t : Transfer) → t.walk ≡ walk_place orb acts →
+    AddsFetched storage orb (acts ▸ Used_up) (acts ▸▸ chained_acts storage t)
 chained-adds storage orb acts t e =
-    let more : WalkPlace → List Act = λ w. advance_acts storage (after_count_used_up w) in (
+    let more : WalkPlace → Sequence Act = λ w. advance_acts storage (after_count_used_up w) in (
       more t.walk,
-      append_assoc (more t.walk) (Used_up ∷ []) acts,
-      subst (λ (w : WalkPlace). AreFetched storage orb (Used_up ∷ acts) (more w)) (sym e) (advance-fetched storage orb (Used_up ∷ acts)),
+      joined-in-order acts (Nothing ▸ Used_up) (more t.walk),
+      subst (λ (w : WalkPlace). AreFetched storage orb (acts ▸ Used_up) (more w)) (sym e) (advance-fetched storage orb (acts ▸ Used_up)),
     )
 
 after_bytes_moved-if : (storage : Contents) (orb : Orb) (p : CommandTrace) (t : Transfer) (n : ℕ) (b : Bool) → t.walk ≡ walk_place orb p.acts →
@@ -117,8 +119,8 @@ aligned-word false x word e = absurd (cc e)
 abbrev list-word : Contents → ℕ → ListKind → ℕ → ℕ → Result ℕ Check
 list-word storage key kind list i = list_word_of kind (checked (fetched storage key (address_of_word kind list i) (width kind)))
 
-next-word : (storage : Contents) (orb : Orb) (r : Reach) (rs : List Reach) (m : Moving) (word : ℕ) → m.kind ≡ kind_of orb → m.ccw ≡ r.ccw → m.words ≡ length r.words →
-    access.word_fetched storage orb.key m ≡ Ok word → word_fault m.kind (m.words == 0) word (length storage.bytes) ≡ None → IsNextWord storage orb (r ∷ rs) word
+next-word : (storage : Contents) (orb : Orb) (r : Reach) (rs : Sequence Reach) (m : Moving) (word : ℕ) → m.kind ≡ kind_of orb → m.ccw ≡ r.ccw → m.words ≡ length r.words →
+    access.word_fetched storage orb.key m ≡ Ok word → word_fault m.kind (m.words == 0) word (length storage.bytes) ≡ None → IsNextWord storage orb (rs ▸ r) word
 next-word storage orb r rs m word k c n e f =
     let aligned = aligned-word (m.ccw.address % width m.kind == 0) (list-word storage orb.key m.kind m.ccw.address m.words) word e in (
       ap (λ (ccw : Ccw). ccw.address % width (kind_of orb)) (sym c) ∙ ap (λ (kind : ListKind). m.ccw.address % width kind) (sym k)
@@ -131,11 +133,11 @@ next-word storage orb r rs m word k c n e f =
           ∙ ap (λ (kind : ListKind). word_fault kind (m.words == 0) word (length storage.bytes)) (sym k) ∙ f,
     )
 
-spot-word : (storage : Contents) (orb : Orb) (rs : List Reach) (t : Transfer) (ps : List (Option ℕ)) (word : ℕ) → t.moving.kind ≡ kind_of orb →
+spot-word : (storage : Contents) (orb : Orb) (rs : Sequence Reach) (t : Transfer) (ps : List (Option ℕ)) (word : ℕ) → t.moving.kind ≡ kind_of orb →
     access.word_fetched storage orb.key t.moving ≡ Ok word → word_fault t.moving.kind (t.moving.words == 0) word (length storage.bytes) ≡ None → IsMovedTo orb rs t ps →
     IsNextWord storage orb rs word
-spot-word storage orb [] t ps word e w f k = k
-spot-word storage orb (r ∷ rs) t ps word e w f k = next-word storage orb r rs t.moving word e k.0.ccw k.0.words w f
+spot-word storage orb Nothing t ps word e w f k = k
+spot-word storage orb (rs ▸ r) t ps word e w f k = next-word storage orb r rs t.moving word e k.0.ccw k.0.words w f
 
 -- a chunk that is copied is no act
 copy-by : (storage : Contents) (t : Transfer) (r : Result (List ℕ) Check) (p : CommandTrace) →
@@ -153,7 +155,7 @@ copy-same storage t p = copy-if storage t (access.copied storage t.walk.orb.key 
 
 -- so many commands were sent under earlier numbers
 module _ (earlier : ℕ) where
-  right-fetched : (storage : Contents) (orb : Orb) (acts : List Act) (ps : List (Option ℕ)) (t : Transfer) (word : ℕ) (f : Option WordFault) →
+  right-fetched : (storage : Contents) (orb : Orb) (acts : Sequence Act) (ps : List (Option ℕ)) (t : Transfer) (word : ℕ) (f : Option WordFault) →
       access.word_fetched storage t.walk.orb.key t.moving ≡ Ok word → word_fault t.moving.kind (t.moving.words == 0) word (length storage.bytes) ≡ f → Tied earlier orb acts ps t →
       AreFetched storage orb acts (act_of_right f word)
   right-fetched storage orb acts ps t word None e f k =
@@ -162,52 +164,52 @@ module _ (earlier : ℕ) where
       (spot-word storage orb (data_areas orb acts) t ps word k.kind same f k.spot, tt)
   right-fetched storage orb acts ps t word (Some fault) e f k = tt
 
-  located-by : (storage : Contents) (orb : Orb) (acts : List Act) (ps : List (Option ℕ)) (t : Transfer) (b c : Bool) (w : Result ℕ Check) →
+  located-by : (storage : Contents) (orb : Orb) (acts : Sequence Act) (ps : List (Option ℕ)) (t : Transfer) (b c : Bool) (w : Result ℕ Check) →
       access.word_fetched storage t.walk.orb.key t.moving ≡ w → Tied earlier orb acts ps t →
-      AreFetched storage orb acts (if b then [] else (if c then act_of_word t.moving (length storage.bytes) w else []))
+      AreFetched storage orb acts (if b then Nothing else (if c then act_of_word t.moving (length storage.bytes) w else Nothing))
   located-by storage orb acts ps t true c w e k = tt
   located-by storage orb acts ps t false false w e k = tt
   located-by storage orb acts ps t false true (Ok word) e k =
       right-fetched storage orb acts ps t word (word_fault t.moving.kind (t.moving.words == 0) word (length storage.bytes)) e refl k
   located-by storage orb acts ps t false true (Err check) e k = tt
 
-  located-fetched : (storage : Contents) (orb : Orb) (acts : List Act) (ps : List (Option ℕ)) (t : Transfer) → Tied earlier orb acts ps t →
+  located-fetched : (storage : Contents) (orb : Orb) (acts : Sequence Act) (ps : List (Option ℕ)) (t : Transfer) → Tied earlier orb acts ps t →
       AreFetched storage orb acts (located_acts storage t)
   located-fetched storage orb acts ps t k =
       located-by storage orb acts ps t (is_some t.fault) (needs_word t.moving) (access.word_fetched storage t.walk.orb.key t.moving) refl k
 
   module _ (laws : AreLaws) where
     -- a command begins, or can't, or the program is suspended
-    room-if : (storage : Contents) (orb : Orb) (acts : List Act) (t : Transfer) (b : Bool) → Tied earlier orb acts [] t →
-        AreFetched storage orb acts (if b then located_acts storage t else [])
+    room-if : (storage : Contents) (orb : Orb) (acts : Sequence Act) (t : Transfer) (b : Bool) → Tied earlier orb acts [] t →
+        AreFetched storage orb acts (if b then located_acts storage t else Nothing)
     room-if storage orb acts t true k = located-fetched storage orb acts [] t k
     room-if storage orb acts t false k = tt
 
-    room-fetched : (storage : Contents) (orb : Orb) (before acts : List Act) (n : ℕ) (c : CommandStart) → Begins earlier laws orb before acts n c →
+    room-fetched : (storage : Contents) (orb : Orb) (before acts : Sequence Act) (n : ℕ) (c : CommandStart) → Begins earlier laws orb before acts n c →
         AreFetched storage orb acts (room_acts storage c)
     room-fetched storage orb before acts n (came.Begins t) k = room-if storage orb acts t (brings (class_of t.code)) k.0
     room-fetched storage orb before acts n came.Suspends k = tt
     room-fetched storage orb before acts n (came.Stops check) k = tt
 
-    pub goes-fetched : (storage : Contents) (orb : Orb) (before : List Act) (n : ℕ) → (role_of orb before).chained ≡ false → length (commands orb before) + 1 ≡ earlier + n →
+    pub goes-fetched : (storage : Contents) (orb : Orb) (before : Sequence Act) (n : ℕ) → (role_of orb before).chained ≡ false → count (commands orb before) + 1 ≡ earlier + n →
         IsProgram orb before → has_check orb before ≡ false → EndsAtCheck orb before → AreFetched storage orb before (goes_acts storage n (walk_place orb before))
     goes-fetched storage orb before n c l p hc en =
         let old : WalkPlace = walk_place orb before in
         fetched-append storage orb (room_acts storage (goes_to storage n old).came) (advance_acts storage old) before
-        (room-fetched storage orb before (advance_acts storage old ++ before) n (goes_to storage n old).came (goes-begins earlier laws storage orb before n c l p hc en))
+        (room-fetched storage orb before (before ▸▸ advance_acts storage old) n (goes_to storage n old).came (goes-begins earlier laws storage orb before n c l p hc en))
         (advance-fetched storage orb before)
 
     abbrev ending : Bool → Ended
     ending modifier = record { goes_on = true; modifier = modifier }
 
-    pub next-adds : (storage : Contents) (orb : Orb) (acts : List Act) (ps : List (Option ℕ)) (t : Transfer) (modifier : Bool) → t.moving.ccw.chain_data ≡ false →
-        is_some t.fault ≡ false → Tied earlier orb acts ps t → AddsFetched storage orb (End (ending modifier) ∷ acts) (next_acts storage t modifier ++ acts)
+    pub next-adds : (storage : Contents) (orb : Orb) (acts : Sequence Act) (ps : List (Option ℕ)) (t : Transfer) (modifier : Bool) → t.moving.ccw.chain_data ≡ false →
+        is_some t.fault ≡ false → Tied earlier orb acts ps t → AddsFetched storage orb (acts ▸ End (ending modifier)) (acts ▸▸ next_acts storage t modifier)
     next-adds storage orb acts ps t modifier d f k =
-        let before : List Act = End (ending modifier) ∷ acts in
-        let m : length (commands orb before) ≡ earlier + t.command = k.number in
-        let more : WalkPlace → List Act = λ w. goes_acts storage (t.command + 1) (after_command_end w (ending modifier)) in (
+        let before : Sequence Act = acts ▸ End (ending modifier) in
+        let m : count (commands orb before) ≡ earlier + t.command = k.number in
+        let more : WalkPlace → Sequence Act = λ w. goes_acts storage (t.command + 1) (after_command_end w (ending modifier)) in (
           more t.walk,
-          append_assoc (more t.walk) (End (ending modifier) ∷ []) acts,
+          joined-in-order acts (Nothing ▸ End (ending modifier)) (more t.walk),
           subst (λ (w : WalkPlace). AreFetched storage orb before (more w)) (sym k.walk)
               (goes-fetched storage orb before (t.command + 1) (k.chained f ∙ d) (omega (arith, m)) (k.stands, k.program) (k.checked f) k.ends),
         )
@@ -220,7 +222,7 @@ module _ (earlier : ℕ) where
     unused-adds : (storage : Contents) (orb : Orb) (kept : Bool) (p q : CommandTrace) → q.moved ≡ p.moved → q.acts ≡ p.acts → UsedAdds storage orb kept p q
     unused-adds storage orb kept p q e f =
         subst (λ (b : Bool). AddsFetched storage orb (acts_used b p.acts) q.acts) (sym (none-used orb kept p q e))
-        (subst (λ (acts : List Act). AddsFetched storage orb p.acts acts) (sym f) (adds-none storage orb p.acts))
+        (subst (λ (acts : Sequence Act). AddsFetched storage orb p.acts acts) (sym f) (adds-none storage orb p.acts))
 
     after_bytes_moved-adds : (storage : Contents) (orb : Orb) (p : CommandTrace) (t : Transfer) (n : ℕ) (arrived : List Arrival) → n ≤ t.moving.left → Tied earlier orb p.acts p.moved t →
         UsedAdds storage orb (is_some t.fault) p (doing.trace_moved_on storage t n (record p { arrived = arrived }))
@@ -237,11 +239,11 @@ module _ (earlier : ℕ) where
         after_bytes_moved-adds storage orb p (with_chunk_counted t s count) (min count (room t.moving)) p.arrived (room-left t count) (answer-tied earlier laws orb p t s count k).tied
     answer-if storage orb p t s count false k = unused-adds storage orb (is_some t.fault) p p refl refl
 
-    later-adds : (storage : Contents) (orb : Orb) (kept : Bool) (p q r : CommandTrace) (acts : List Act) → r.moved ≡ q.moved → r.acts ≡ acts ++ q.acts → UsedAdds storage orb kept p q →
+    later-adds : (storage : Contents) (orb : Orb) (kept : Bool) (p q r : CommandTrace) (acts : Sequence Act) → r.moved ≡ q.moved → r.acts ≡ q.acts ▸▸ acts → UsedAdds storage orb kept p q →
         AreFetched storage orb q.acts acts → UsedAdds storage orb kept p r
     later-adds storage orb kept p q r acts e f a b =
         subst (λ (x : Bool). AddsFetched storage orb (acts_used x p.acts) r.acts) (sym (used-by orb kept p q r e))
-        (subst (λ (xs : List Act). AddsFetched storage orb (acts_used (is_used_up orb kept p q) p.acts) xs) (sym f)
+        (subst (λ (xs : Sequence Act). AddsFetched storage orb (acts_used (is_used_up orb kept p q) p.acts) xs) (sym f)
         (adds-more storage orb (acts_used (is_used_up orb kept p q) p.acts) q.acts acts a b))
 
     pub gives-adds : (storage : Contents) (orb : Orb) (p : CommandTrace) (t : Transfer) (s count : ℕ) → IsAtWork earlier orb p t true →
@@ -258,7 +260,7 @@ module _ (earlier : ℕ) where
     arrival-adds : (storage : Contents) (orb : Orb) (p : CommandTrace) (t : Transfer) (bytes : List ℕ) (r : Result Contents Check) → length bytes ≤ t.moving.left → Tied earlier orb p.acts p.moved t →
         UsedAdds (after_store storage t (length bytes) r).storage orb (is_some t.fault) p (with_arrival storage t bytes r p)
     arrival-adds storage orb p t bytes (Ok after) l k =
-        after_bytes_moved-adds after orb p t (length bytes) (record { former = storage.bytes; chunk = doing.chunk_of after t.moving bytes } ∷ p.arrived) l k
+        after_bytes_moved-adds after orb p t (length bytes) (p.arrived ++ record { former = storage.bytes; chunk = doing.chunk_of after t.moving bytes } ∷ []) l k
     arrival-adds storage orb p t bytes (Err check) l k = unused-adds storage orb (is_some t.fault) p p refl refl
 
     store-if : (storage : Contents) (orb : Orb) (p : CommandTrace) (t : Transfer) (bytes : List ℕ) (r : Result Contents Check) (b : Bool) → length bytes ≤ t.moving.left →

@@ -1,6 +1,5 @@
 -- A program goes on by the command that is sent, or none is sent and none comes to it.
-use Rattle.std.proofs.Common.{◌≡◌, refl, sym, ◌∙◌, ap, subst, arith, ℕ, ◌+◌, List, [], ◌∷◌, ◌++◌, length, map, is_some, Option, Some, None, length-append}
-use Rattle.std.proofs.lemmas.List.{length-map}
+use Rattle.std.proofs.Common.{◌≡◌, refl, sym, ◌∙◌, ap, subst, arith, ℕ, ◌+◌, List, [], ◌∷◌, ◌++◌, length, is_some, Option, Some, None, length-append}
 use Rattle.orb_block.specs.declared.Orb.{Orb}
 use Rattle.storage_keys.specs.Storage.{Contents}
 use Rattle.chan_model.specs.declared.hold_state.HoldPhase.{HoldPhase}
@@ -9,6 +8,7 @@ use Rattle.chan_model.specs.declared.hold_state.HoldState.{HoldState}
 use Rattle.chan_model.specs.Signals.{Down}
 use Rattle.chan_model.specs.declared.signal.OnPath.{OnPath}
 use Rattle.chan_model.specs.HoldTable.{came_of, letting_go}
+use Rattle.ccw_walk.specs.Sequences.{Sequence, ◌▸◌, ◌▸▸◌, count, each}
 use Rattle.ccw_walk.specs.Acts.{Act}
 use Rattle.ccw_walk.specs.Programs.{Command, commands, code}
 use Rattle.ccw_walk.specs.Places.{WalkPlace}
@@ -35,6 +35,7 @@ use Rattle.run_laws.proofs.Traces.MachineTraces as stories
 use Rattle.run_laws.proofs.Traces.Ties.{AreLaws}
 use Rattle.run_laws.proofs.Traces.Parts.{WentOn, room-same}
 use Rattle.run_laws.proofs.Commands.UnitGrowth.{Adds, acts-add}
+use Rattle.run_laws.proofs.Traces.Sequences.{count-each, backward, length-backward, same-backward}
 
 -- a device that is let go is sent no command
 phase-silent : (h : HoldState) (phase : HoldPhase) → command_sent (came_of (letting_go h phase)).sent ≡ None
@@ -51,41 +52,43 @@ no-more (c ∷ more) xs ys e l =
     let f : length ys ≡ length (c ∷ more) + length xs = ap length e ∙ length-append (c ∷ more) xs in
     absurd (omega (arith, f, l))
 
-pub same-codes : (orb : Orb) (more before : List Act) → length (commands orb (more ++ before)) ≡ length (commands orb before) →
-    map code (commands orb (more ++ before)) ≡ map code (commands orb before)
+pub same-codes : (orb : Orb) (more before : Sequence Act) → count (commands orb (before ▸▸ more)) ≡ count (commands orb before) →
+    each code (commands orb (before ▸▸ more)) ≡ each code (commands orb before)
 same-codes orb more before l =
-    let a : Adds (map code (commands orb before)) (map code (commands orb (more ++ before))) = acts-add orb more before in
-    no-more a.0 (map code (commands orb before)) (map code (commands orb (more ++ before))) a.1
-    (length-map (commands orb (more ++ before)) code ∙ l ∙ sym (length-map (commands orb before) code))
+    let old : Sequence ℕ = each code (commands orb before) in
+    let new : Sequence ℕ = each code (commands orb (before ▸▸ more)) in
+    let a : Adds (backward old) (backward new) = acts-add orb more before in
+    same-backward new old (no-more a.0 (backward old) (backward new) a.1
+    (length-backward new ∙ count-each code (commands orb (before ▸▸ more)) ∙ l ∙ sym (length-backward old ∙ count-each code (commands orb before))))
 
 -- none is sent
-pub unsent-goes : (storage : Contents) (sent : Option (OnPath Down)) (acts before : List Act) (k : ProgramTrace) → command_sent sent ≡ None → commands k.orb (acts ++ k.now.acts) ≡ commands k.orb before →
-    commands k.orb before ≡ commands k.orb k.now.acts → GoesTo storage (command_sent sent) (acts ++ k.now.acts) k (record k { now = with_acts k.now acts })
+pub unsent-goes : (storage : Contents) (sent : Option (OnPath Down)) (acts before : Sequence Act) (k : ProgramTrace) → command_sent sent ≡ None → commands k.orb (k.now.acts ▸▸ acts) ≡ commands k.orb before →
+    commands k.orb before ≡ commands k.orb k.now.acts → GoesTo storage (command_sent sent) (k.now.acts ▸▸ acts) k (record k { now = with_acts k.now acts })
 unsent-goes storage sent acts before k e f g =
-    subst (λ (c : Option SentCommand). GoesTo storage c (acts ++ k.now.acts) k (record k { now = with_acts k.now acts })) (sym e) (ap (λ (cs : List Command). map code cs) (f ∙ g), refl)
+    subst (λ (c : Option SentCommand). GoesTo storage c (k.now.acts ▸▸ acts) k (record k { now = with_acts k.now acts })) (sym e) (ap (λ (cs : Sequence Command). each code cs) (f ∙ g), refl)
 
 module _ (laws : AreLaws) where
   -- the next is sent
-  sent-goes : (storage : Contents) (acts before : List Act) (n t : ℕ) (walk : WalkPlace) (transfer : Transfer) (k : ProgramTrace) →
-      WentOn k.earlier laws storage k.orb before (acts ++ k.now.acts) n walk (came.Begins transfer) → commands k.orb before ≡ commands k.orb k.now.acts → t ≡ k.number → n ≡ k.sent + 1 →
+  sent-goes : (storage : Contents) (acts before : Sequence Act) (n t : ℕ) (walk : WalkPlace) (transfer : Transfer) (k : ProgramTrace) →
+      WentOn k.earlier laws storage k.orb before (k.now.acts ▸▸ acts) n walk (came.Begins transfer) → commands k.orb before ≡ commands k.orb k.now.acts → t ≡ k.number → n ≡ k.sent + 1 →
       GoesTo storage (Some (record { number = t; command = (begun_with_room storage transfer).transfer.command; sent_code = (begun_with_room storage transfer).transfer.code; room = (begun_with_room storage transfer).room }))
-      (acts ++ k.now.acts) k (stories.trace_goes_on storage (came.Begins transfer) acts k)
+      (k.now.acts ▸▸ acts) k (stories.trace_goes_on storage (came.Begins transfer) acts k)
   sent-goes storage acts before n t walk transfer k w e f g =
       let c : ℕ = (begun_with_room storage transfer).transfer.code in
       let same : code w.2.0 ≡ c = w.2.2 ∙ sym (room-same storage transfer).0 in (
         f,
         (room-same storage transfer).1 ∙ w.1 ∙ g,
-        ap (λ (cs : List Command). map code cs) w.2.1 ∙ ap (λ (x : ℕ). x ∷ map code (commands k.orb before)) same ∙ ap (λ (cs : List Command). c ∷ map code cs) e,
+        ap (λ (cs : Sequence Command). each code cs) w.2.1 ∙ ap (λ (x : ℕ). each code (commands k.orb before) ▸ x) same ∙ ap (λ (cs : Sequence Command). each code cs ▸ c) e,
         is_some (begun_with_room storage transfer).transfer.fault,
-        subst (λ (y : ℕ). BeginsData storage k.orb y (begun_with_room storage transfer).room (is_some (begun_with_room storage transfer).transfer.fault) (acts ++ k.now.acts))
+        subst (λ (y : ℕ). BeginsData storage k.orb y (begun_with_room storage transfer).room (is_some (begun_with_room storage transfer).transfer.fault) (k.now.acts ▸▸ acts))
             (sym (room-same storage transfer).0) w.3,
         refl,
       )
 
   -- at an Accept
-  pub begins-goes : (storage : Contents) (s : SubchannelState) (p t : ℕ) (st : ProgramPosition) (walk : WalkPlace) (k : ProgramTrace) (c : CommandStart) (acts : List Act) (n : ℕ) →
-      WentOn k.earlier laws storage k.orb k.now.acts (acts ++ k.now.acts) n walk c → t ≡ k.number → n ≡ k.sent + 1 →
-      GoesTo storage (command_sent (on_accept.first_ccw_outcome storage s p t st walk c).came.sent) (acts ++ k.now.acts) k (stories.trace_goes_on storage c acts k)
+  pub begins-goes : (storage : Contents) (s : SubchannelState) (p t : ℕ) (st : ProgramPosition) (walk : WalkPlace) (k : ProgramTrace) (c : CommandStart) (acts : Sequence Act) (n : ℕ) →
+      WentOn k.earlier laws storage k.orb k.now.acts (k.now.acts ▸▸ acts) n walk c → t ≡ k.number → n ≡ k.sent + 1 →
+      GoesTo storage (command_sent (on_accept.first_ccw_outcome storage s p t st walk c).came.sent) (k.now.acts ▸▸ acts) k (stories.trace_goes_on storage c acts k)
   begins-goes storage s p t st walk k (came.Begins transfer) acts n w f g = sent-goes storage acts k.now.acts n t walk transfer k w refl f g
   begins-goes storage s p t st walk k came.Suspends acts n w f g =
       let x : SubchannelState = suspension.program_suspended s st.program walk st.count in
@@ -95,9 +98,9 @@ module _ (laws : AreLaws) where
       unsent-goes storage (device_released x).came.sent acts k.now.acts k (device_released-silent x) w.2 refl
 
   -- and at an End
-  pub chains-goes : (storage : Contents) (s : SubchannelState) (b : ActiveProgram) (signal : EndSignal) (walk : WalkPlace) (k : ProgramTrace) (c : CommandStart) (acts before : List Act) (n : ℕ) →
-      WentOn k.earlier laws storage k.orb before (acts ++ k.now.acts) n walk c → commands k.orb before ≡ commands k.orb k.now.acts → signal.number ≡ k.number → n ≡ k.sent + 1 →
-      GoesTo storage (command_sent (on_end.next_ccw_outcome storage s b signal walk c).came.sent) (acts ++ k.now.acts) k (stories.trace_goes_on storage c acts k)
+  pub chains-goes : (storage : Contents) (s : SubchannelState) (b : ActiveProgram) (signal : EndSignal) (walk : WalkPlace) (k : ProgramTrace) (c : CommandStart) (acts before : Sequence Act) (n : ℕ) →
+      WentOn k.earlier laws storage k.orb before (k.now.acts ▸▸ acts) n walk c → commands k.orb before ≡ commands k.orb k.now.acts → signal.number ≡ k.number → n ≡ k.sent + 1 →
+      GoesTo storage (command_sent (on_end.next_ccw_outcome storage s b signal walk c).came.sent) (k.now.acts ▸▸ acts) k (stories.trace_goes_on storage c acts k)
   chains-goes storage s b signal walk k (came.Begins transfer) acts before n w e f g = sent-goes storage acts before n signal.number walk transfer k w e f g
   chains-goes storage s b signal walk k came.Suspends acts before n w e f g =
       let x : SubchannelState = suspension.program_suspended (on_end.with_allegiance_after_end s signal) b.program walk (residual b.transfer.moving) in

@@ -1,5 +1,5 @@
 -- What a subchannel does for its program with a signal keeps it in agreement with the story.
-use Rattle.std.proofs.Common.{◌≡◌, refl, ap, sym, ◌∙◌, subst, ℕ, ◌+◌, ◌≤◌, Bool, true, false, List, [], ◌∷◌, ◌++◌, length, Option, Some, None, inl, inr, arith, append_assoc}
+use Rattle.std.proofs.Common.{◌≡◌, refl, ap, sym, ◌∙◌, subst, ℕ, ◌+◌, ◌≤◌, Bool, true, false, List, Option, Some, None, inl, inr, arith}
 use Rattle.std.specs.Prelude.{if◌then◌else◌, ◌==◌, ◌&&◌, ◌||◌, not, nat_lt, is_some}
 use Rattle.std.proofs.lemmas.Bool.{and_parts}
 use Rattle.orb_block.specs.declared.Orb.{Orb}
@@ -19,11 +19,12 @@ use Rattle.subchannel_model.specs.declared.status.Shown.{Shown}
 use Rattle.chan_model.specs.UnitReports.{is_outward, is_last_end, has_device_end, has_unit_check}
 use Rattle.ccw_walk.specs.declared.check.Check.{Check}
 use Rattle.ccw_walk.specs.declared.program.Ended.{Ended}
+use Rattle.ccw_walk.specs.Sequences.{Sequence, Nothing, ◌▸◌, ◌▸▸◌, count}
 use Rattle.ccw_walk.specs.Acts.{Act, End}
 use Rattle.ccw_walk.specs.Programs.{IsProgram, role_of, commands}
 use Rattle.ccw_walk.specs.Places.{WalkPlace, walk_place, after_command_end}
 use Rattle.idaw.specs.Lists.{block, kind_of}
-use Rattle.idaw.specs.Places.{places_of_bytes}
+use Rattle.run_laws.specs.DataAreas.{places_of_bytes, data_areas, counts}
 use Rattle.data_move.specs.Moving.{residual}
 use Rattle.data_move.specs.declared.transfer.Transfer.{Transfer}
 use Rattle.data_move.specs.declared.transfer.Beginning.{Beginning}
@@ -61,7 +62,6 @@ use Rattle.run_laws.proofs.Traces.MachineActs.{with_acts, goes_acts, first_acts,
 use Rattle.run_laws.proofs.Traces.MachineTraces as stories
 use Rattle.run_laws.proofs.Traces.MachineTraces.{trace_meets}
 use Rattle.run_laws.specs.ProgramClaims.{IsBeginning, places_of, places_arrived, IsSuspended, EndsAtCheck, IsWhole}
-use Rattle.run_laws.specs.DataAreas.{data_areas, counts}
 use Rattle.run_laws.specs.Shows.{IsRest}
 use Rattle.run_laws.proofs.Bytes.Accesses.{AreAccesses}
 use Rattle.run_laws.proofs.Traces.Ties.{AreLaws, Tied, changed, spot-counts}
@@ -70,10 +70,11 @@ use Rattle.subchannel_model.specs.Losing.{is_offered_or_held, reset_with, reset_
 use Rattle.run_laws.proofs.Traces.Holds.{IsPhase, IsDrawn, fresh-marked, IsMarked, HasWork, IsStanding, IsHeld, IsHold, done-held, phase-some, phase-none, unshown-begun, busy-phase, left-phase, back-phase, released-phase, attended-phase, hold_outcome-held, back-held, attention-held, device_released-held, standing-some, none-stands, halt_performed-held, takes_cleared-held, nothing-done, past-done}
 use Rattle.run_laws.proofs.Traces.Endings.{ended-work, with_ended-work}
 use Rattle.run_laws.proofs.Traces.Standing.{suspended-unchecked}
+use Rattle.run_laws.proofs.Traces.Sequences.{joined-in-order}
 
 module _ (laws : AreLaws) (accesses : AreAccesses) where
   -- the program is over or suspended, where a command can't begin
-  over-done : (orb : Orb) (before acts : List Act) (p : CommandTrace) → IsProgram orb acts → data_areas orb acts ≡ data_areas orb before → data_areas orb before ≡ data_areas orb p.acts →
+  over-done : (orb : Orb) (before acts : Sequence Act) (p : CommandTrace) → IsProgram orb acts → data_areas orb acts ≡ data_areas orb before → data_areas orb before ≡ data_areas orb p.acts →
       IsWhole orb acts → EndsAtCheck orb acts → IsDone orb p → IsDone orb (record p { acts = acts })
   over-done orb before acts p w f e o en d =
       let same : places_of orb acts ≡ places_of orb p.acts = ap (places_of_bytes (block (kind_of orb))) (f ∙ e) in
@@ -143,8 +144,8 @@ module _ (laws : AreLaws) (accesses : AreAccesses) where
   on-hold : (s : SubchannelState) (t p n sent : ℕ) → s.hold.phase ≡ hold.On t p 0 → t ≡ n → (b : Option ActiveProgram) → IsHold s.drawn n b sent s.hold.phase
   on-hold s t p n sent e f b = subst (λ (x : HoldPhase). IsHold s.drawn n b sent x) (sym e) (f, tt)
 
-  begins-held : (storage : Contents) (s : SubchannelState) (p t : ℕ) (st : ProgramPosition) (walk : WalkPlace) (k : ProgramTrace) (c : CommandStart) (acts : List Act) →
-      WentOn k.earlier laws storage k.orb k.now.acts (acts ++ k.now.acts) 1 walk c → k.number ≤ s.drawn → s.hold.phase ≡ hold.On t p 0 → t ≡ k.number →
+  begins-held : (storage : Contents) (s : SubchannelState) (p t : ℕ) (st : ProgramPosition) (walk : WalkPlace) (k : ProgramTrace) (c : CommandStart) (acts : Sequence Act) →
+      WentOn k.earlier laws storage k.orb k.now.acts (k.now.acts ▸▸ acts) 1 walk c → k.number ≤ s.drawn → s.hold.phase ≡ hold.On t p 0 → t ≡ k.number →
       s.begun ≡ None → k.sent ≡ 0 → IsDone k.orb k.now → IsRest st.count k → st.program.orb ≡ k.orb → IsHeld (on_accept.first_ccw_outcome storage s p t st walk c).state (stories.trace_goes_on storage c acts k)
   begins-held storage s p t st walk k (came.Begins transfer) acts w n on f z none d r o =
       let b : ActiveProgram = record { program = st.program; primary_shown = false; transfer = (begun_with_room storage transfer).transfer } in
@@ -167,17 +168,17 @@ module _ (laws : AreLaws) (accesses : AreAccesses) where
       })
   begins-held storage s p t st walk k came.Suspends acts w n on f z none d r o =
       suspends-held s st.program walk st.count (record k { now = with_acts k.now acts }) n (on-hold s t p k.number k.sent on f s.begun)
-      (over-done k.orb k.now.acts (acts ++ k.now.acts) k.now w.0 w.1 refl (inr (inr w.5)) w.6 d) w.4 w.3 (ap counts w.1 ∙ r) w.5 o
+      (over-done k.orb k.now.acts (k.now.acts ▸▸ acts) k.now w.0 w.1 refl (inr (inr w.5)) w.6 d) w.4 w.3 (ap counts w.1 ∙ r) w.5 o
   begins-held storage s p t st walk k (came.Stops check) acts w n on f z none d r o =
       fault-held s walk.tried check st.count (record k { now = with_acts k.now acts }) n (on-hold s t p k.number k.sent on f s.begun)
-      (over-done k.orb k.now.acts (acts ++ k.now.acts) k.now w.0 w.1 refl (inr (inl w.3)) w.4 d) (λ c e. absurd (cc (sym z ∙ e)))
+      (over-done k.orb k.now.acts (k.now.acts ▸▸ acts) k.now w.0 w.1 refl (inr (inl w.3)) w.4 d) (λ c e. absurd (cc (sym z ∙ e)))
 
   -- where it was suspended
   again-held : (storage : Contents) (s : SubchannelState) (p t : ℕ) (k : ProgramTrace) (st : ProgramPosition) (x : Bool) → IsHeld s k → s.hold.phase ≡ hold.On t p 0 → t ≡ k.number → s.begun ≡ None →
       k.sent ≡ 0 → st.walk ≡ walk_place k.orb k.now.acts → (role_of k.orb k.now.acts).chained ≡ false → IsRest st.count k → IsSuspended k.orb k.now.acts → st.program.orb ≡ k.orb →
       IsHeld (on_accept.begins_at storage s p t (if x then Some st else None)).state (if x then stories.begins_again storage st k else k)
   again-held storage s p t k st true h on f z none w c r su o =
-      let past : ProgramTrace = record k { earlier = length (commands k.orb k.now.acts); now = past_part k.now } in
+      let past : ProgramTrace = record k { earlier = count (commands k.orb k.now.acts); now = past_part k.now } in
       let d : IsDone k.orb k.now = done-held s k h in
       subst
       (λ (old : WalkPlace). IsHeld (on_accept.first_ccw_outcome storage s p t st (first_command storage old).walk (first_command storage old).came).state
@@ -199,9 +200,9 @@ module _ (laws : AreLaws) (accesses : AreAccesses) where
       IsHeld (on_accept.begins_at storage s p t (if x then Some (position_at_start program) else suspended_position st start)).state
       (if x then stories.begins_anew storage program k else stories.again_as storage st start k)
   anew-held storage s p t k w b st start program true h on f z none x =
-      let old : WalkPlace = walk_place program.orb [] in
+      let old : WalkPlace = walk_place program.orb Nothing in
       begins-held storage s p t (position_at_start program) (first_command storage old).walk (record k { orb = program.orb; earlier = 0; now = no_trace }) (first_command storage old).came
-      (first_acts storage old) (goes-on 0 laws storage program.orb [] 1 refl refl tt refl tt) h.number on f z none (nothing-done program.orb) refl refl
+      (first_acts storage old) (goes-on 0 laws storage program.orb Nothing 1 refl refl tt refl tt) h.number on f z none (nothing-done program.orb) refl refl
   anew-held storage s p t k w b st start program false h on f z none x = suspended-held storage s p t k w b st start h on f z none x
 
   stands-held : (storage : Contents) (s : SubchannelState) (p t : ℕ) (k : ProgramTrace) (w : Option Program) (b : Option ActiveProgram) (st : Option ProgramPosition) (start : ℕ) → IsHeld s k →
@@ -319,24 +320,24 @@ module _ (laws : AreLaws) (accesses : AreAccesses) where
 
   pub next-went : (earlier : ℕ) (storage : Contents) (orb : Orb) (p : CommandTrace) (t : Transfer) (modifier : Bool) → Tied earlier orb p.acts p.moved t → t.moving.ccw.chain_data ≡ false →
       is_some t.fault ≡ false →
-      WentOn earlier laws storage orb (End (ending modifier) ∷ p.acts) (next_acts storage t modifier ++ p.acts) (t.command + 1) (next_command storage t modifier).walk
+      WentOn earlier laws storage orb (p.acts ▸ End (ending modifier)) (p.acts ▸▸ next_acts storage t modifier) (t.command + 1) (next_command storage t modifier).walk
       (next_command storage t modifier).came
   next-went earlier storage orb p t modifier k d f =
-      let before : List Act = End (ending modifier) ∷ p.acts in
+      let before : Sequence Act = p.acts ▸ End (ending modifier) in
       let n : ℕ = t.command + 1 in
       let old : WalkPlace = walk_place orb before in
-      let m : length (commands orb before) ≡ earlier + t.command = k.number in
-      let went : WentOn earlier laws storage orb before (goes_acts storage n old ++ before) n (goes_to storage n old).walk (goes_to storage n old).came =
+      let m : count (commands orb before) ≡ earlier + t.command = k.number in
+      let went : WentOn earlier laws storage orb before (before ▸▸ goes_acts storage n old) n (goes_to storage n old).walk (goes_to storage n old).came =
       goes-on earlier laws storage orb before n (k.chained f ∙ d) (omega (arith, m)) (k.stands, k.program) (k.checked f) k.ends in
       subst
-      (λ (w : WalkPlace). WentOn earlier laws storage orb before ((goes_acts storage n (after_command_end w (ending modifier)) ++ End (ending modifier) ∷ []) ++ p.acts) n
+      (λ (w : WalkPlace). WentOn earlier laws storage orb before (p.acts ▸▸ (Nothing ▸ End (ending modifier) ▸▸ goes_acts storage n (after_command_end w (ending modifier)))) n
       (goes_to storage n (after_command_end w (ending modifier))).walk (goes_to storage n (after_command_end w (ending modifier))).came)
       (sym k.walk)
-      (subst (λ (xs : List Act). WentOn earlier laws storage orb before xs n (goes_to storage n old).walk (goes_to storage n old).came)
-      (sym (append_assoc (goes_acts storage n old) (End (ending modifier) ∷ []) p.acts)) went)
+      (subst (λ (xs : Sequence Act). WentOn earlier laws storage orb before xs n (goes_to storage n old).walk (goes_to storage n old).came)
+      (sym (joined-in-order p.acts (Nothing ▸ End (ending modifier)) (goes_acts storage n old))) went)
 
-  chains-held : (storage : Contents) (s : SubchannelState) (b : ActiveProgram) (k : ProgramTrace) (signal : EndSignal) (walk : WalkPlace) (c : CommandStart) (acts before : List Act) (n : ℕ) →
-      s.begun ≡ Some b → IsHeld s k → IsDone k.orb k.now → WentOn k.earlier laws storage k.orb before (acts ++ k.now.acts) n walk c →
+  chains-held : (storage : Contents) (s : SubchannelState) (b : ActiveProgram) (k : ProgramTrace) (signal : EndSignal) (walk : WalkPlace) (c : CommandStart) (acts before : Sequence Act) (n : ℕ) →
+      s.begun ≡ Some b → IsHeld s k → IsDone k.orb k.now → WentOn k.earlier laws storage k.orb before (k.now.acts ▸▸ acts) n walk c →
       data_areas k.orb before ≡ data_areas k.orb k.now.acts → n ≡ k.sent + 1 → IsHeld (on_end.next_ccw_outcome storage s (with_first_end b) signal walk c).state (stories.trace_goes_on storage c acts k)
   chains-held storage s b k signal walk (came.Begins transfer) acts before n e h d w r m =
       let u : Transfer = (begun_with_room storage transfer).transfer in
@@ -358,11 +359,11 @@ module _ (laws : AreLaws) (accesses : AreAccesses) where
   chains-held storage s b k signal walk came.Suspends acts before n e h d w r m =
       let work : HasWork (Some b) k = subst (λ (x : Option ActiveProgram). HasWork x k) e h.work in
       suspends-held (on_end.with_allegiance_after_end s signal) b.program walk (residual b.transfer.moving) (record k { now = with_acts k.now acts }) h.number (h.phase, h.drawn)
-      (over-done k.orb before (acts ++ k.now.acts) k.now w.0 w.1 r (inr (inr w.5)) w.6 d) w.4 w.3
+      (over-done k.orb before (k.now.acts ▸▸ acts) k.now w.0 w.1 r (inr (inr w.5)) w.6 d) w.4 w.3
       (ap counts (w.1 ∙ r) ∙ spot-counts k.orb (data_areas k.orb k.now.acts) b.transfer k.now.moved work.0.tied.spot) w.5 work.4
   chains-held storage s b k signal walk (came.Stops check) acts before n e h d w r m =
       fault-held (on_end.with_allegiance_after_end s signal) walk.tried check (residual b.transfer.moving) (record k { now = with_acts k.now acts }) h.number (h.phase, h.drawn)
-      (over-done k.orb before (acts ++ k.now.acts) k.now w.0 w.1 r (inr (inl w.3)) w.4 d) (λ c f. standing-some s.waiting s.begun c s.suspended k f h.standing)
+      (over-done k.orb before (k.now.acts ▸▸ acts) k.now w.0 w.1 r (inr (inl w.3)) w.4 d) (λ c f. standing-some s.waiting s.begun c s.suspended k f h.standing)
 
   -- the transfer has ended
   shown-held : (s : SubchannelState) (b c : ActiveProgram) (k : ProgramTrace) (now : CommandTrace) (u : SubchannelState) → s.begun ≡ Some b → IsHeld s k →
@@ -417,7 +418,7 @@ module _ (laws : AreLaws) (accesses : AreAccesses) where
       let f : (_ : b.transfer.moving.ccw.chain_data ≡ false) × (is_some b.transfer.fault ≡ false) = chains-facts s.scsw b signal.status signal.more c in
       let modifier : Bool = has_status_modifier signal.status in
       let next : Beginning = next_command storage b.transfer modifier in
-      chains-held storage s b k signal next.walk next.came (next_acts storage b.transfer modifier) (End (ending modifier) ∷ k.now.acts) (b.transfer.command + 1) e h
+      chains-held storage s b k signal next.walk next.came (next_acts storage b.transfer modifier) (k.now.acts ▸ End (ending modifier)) (b.transfer.command + 1) e h
       (done-of k.earlier k.orb k.now b.transfer (is_outward b.transfer.code) w) (next-went k.earlier storage k.orb k.now b.transfer modifier w.tied f.0 f.1) refl
       (ap (λ (n : ℕ). n + 1) m.0)
   goes-held storage s b k signal true false c e h w m marks o =

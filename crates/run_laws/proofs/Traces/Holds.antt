@@ -1,5 +1,5 @@
 -- What a subchannel keeps of its program agrees with the program's story, at each event.
-use Rattle.std.proofs.Common.{◌≡◌, refl, sym, ◌∙◌, subst, ℕ, ◌≤◌, ◌<◌, Bool, true, false, [], Option, Some, None, inl}
+use Rattle.std.proofs.Common.{◌≡◌, refl, sym, ◌∙◌, subst, ℕ, ◌≤◌, ◌<◌, Bool, true, false, Option, Some, None, inl}
 use Rattle.std.specs.Prelude.{is_some, if◌then◌else◌, ◌==◌, ◌&&◌, nat_lt}
 use Rattle.std.proofs.lemmas.List.Elements.{All-nil}
 use Rattle.orb_block.specs.declared.Orb.{Orb}
@@ -9,6 +9,7 @@ use Rattle.chan_model.specs.declared.hold_state.HoldState.{HoldState}
 use Rattle.chan_model.specs.HoldTable as hold_table
 use Rattle.chan_model.specs.HoldTable.{HoldStep, hold_after, letting_go}
 use Rattle.chan_model.specs.UnitReports.{is_outward}
+use Rattle.ccw_walk.specs.Sequences.{Nothing}
 use Rattle.ccw_walk.specs.Programs.{role_of}
 use Rattle.ccw_walk.specs.Places.{walk_place}
 use Rattle.data_move.specs.declared.transfer.Transfer.{Transfer}
@@ -284,7 +285,7 @@ none-begun s None h e = h.begun
 none-begun s (Some k) h e = phase-free s.hold.phase k.number s.begun k.sent e h.phase
 
 pub nothing-done : (orb : Orb) → IsDone orb no_trace
-nothing-done orb = record { program = tt; whole = inl refl; ends = tt; moves = begins-all (places_of orb []); arrived = All-nil IsStored; arrives = begins-all (places_of orb []) }
+nothing-done orb = record { program = tt; whole = inl refl; ends = tt; moves = begins-all (places_of orb Nothing); arrived = All-nil IsStored; arrives = begins-all (places_of orb Nothing) }
 
 pub past-done : (orb : Orb) (p : CommandTrace) → IsDone orb p → IsDone orb (past_part p)
 past-done orb p d = record { program = d.program; whole = d.whole; ends = d.ends; moves = d.moves; arrived = All-nil IsStored; arrives = begins-all (places_of orb p.acts) }

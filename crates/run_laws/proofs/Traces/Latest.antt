@@ -1,11 +1,12 @@
 -- The block whose data are at hand is the last that took control, and says whether a command is chained to.
-use Rattle.std.proofs.Common.{◌≡◌, refl, sym, ◌∙◌, ap, subst, ℕ, ◌+◌, Bool, true, false, List, [], ◌∷◌, Option, Some, None}
+use Rattle.std.proofs.Common.{◌≡◌, refl, sym, ◌∙◌, ap, subst, ℕ, ◌+◌, Bool, true, false, List, Option, Some, None}
 use Rattle.std.specs.Prelude.{if◌then◌else◌, is_some, not, ◌&&◌, ◌||◌}
 use Rattle.orb_block.specs.declared.Orb.{Orb}
 use Rattle.ccw_codec.specs.declared.Ccw.{Ccw}
 use Rattle.ccw_walk.specs.declared.program.Latest.{Latest}
 use Rattle.ccw_walk.specs.declared.program.Reading.{Reading}
 use Rattle.ccw_walk.specs.declared.program.Reading.TheVariants.{Takes}
+use Rattle.ccw_walk.specs.Sequences.{Sequence, Nothing, ◌▸◌}
 use Rattle.ccw_walk.specs.Acts.{Act, Block, Unfetched, Used_up, End, Word}
 use Rattle.ccw_walk.specs.Blocks.{reads}
 use Rattle.ccw_walk.specs.Programs.{Command, code, role_of, latest, latest_after, next_ended, commands, commands_after}
@@ -15,50 +16,50 @@ use Rattle.run_laws.specs.DataAreas.{reach, data_areas, reaches_after, word_afte
 use Rattle.run_laws.proofs.Traces.Ties.{HasCode, IsMovedTo, Tied, ccw-of}
 
 -- some command began
-abbrev HasBegun : List Command → Type 0
-HasBegun [] = ⊥
-HasBegun (c ∷ cs) = Unit {0}
+abbrev HasBegun : Sequence Command → Type 0
+HasBegun Nothing = ⊥
+HasBegun (cs ▸ c) = Unit {0}
 
-code-begun : (cs : List Command) (c : ℕ) → HasCode cs c → HasBegun cs
-code-begun [] c h = h
-code-begun (x ∷ xs) c h = tt
+code-begun : (cs : Sequence Command) (c : ℕ) → HasCode cs c → HasBegun cs
+code-begun Nothing c h = h
+code-begun (xs ▸ x) c h = tt
 
 -- this block took control last
 abbrev pub IsLatest : Option Latest → Ccw → Type 0
 IsLatest None ccw = ⊥
 IsLatest (Some last) ccw = last.ccw ≡ ccw
 
-abbrev HasLatest : List Command → List Reach → Option Latest → Type 0
-HasLatest cs ds last = (r : Reach) (rs : List Reach) → ds ≡ r ∷ rs → HasBegun cs → IsLatest last r.ccw
+abbrev HasLatest : Sequence Command → Sequence Reach → Option Latest → Type 0
+HasLatest cs ds last = (r : Reach) (rs : Sequence Reach) → ds ≡ rs ▸ r → HasBegun cs → IsLatest last r.ccw
 
-block-latest : (address : ℕ) (chained : Bool) (cs : List Command) (ds : List Reach) (last : Option Latest) (x : Reading) → HasLatest cs ds last →
+block-latest : (address : ℕ) (chained : Bool) (cs : Sequence Command) (ds : Sequence Reach) (last : Option Latest) (x : Reading) → HasLatest cs ds last →
     HasLatest (commands_after chained cs x) (reaches_after chained cs ds x) (latest_after last address x)
 block-latest address false cs ds last (Takes ccw) f = λ r rs e h. let same : reach ccw.command ccw ≡ r = cc e in ap (λ (x : Reach). x.ccw) same
-block-latest address true [] ds last (Takes ccw) f = λ r rs e h. absurd h
-block-latest address true (c ∷ cs) ds last (Takes ccw) f = λ r rs e h. let same : reach (code c) ccw ≡ r = cc e in ap (λ (x : Reach). x.ccw) same
+block-latest address true Nothing ds last (Takes ccw) f = λ r rs e h. absurd h
+block-latest address true (cs ▸ c) ds last (Takes ccw) f = λ r rs e h. let same : reach (code c) ccw ≡ r = cc e in ap (λ (x : Reach). x.ccw) same
 block-latest address chained cs ds last other f = f
 
-word-latest : (cs : List Command) (ds : List Reach) (word : ℕ) (last : Option Latest) → HasLatest cs ds last → HasLatest cs (word_after ds word) last
-word-latest cs [] word last f r rs e h = absurd (cc e)
-word-latest cs (d ∷ ds) word last f r rs e h =
+word-latest : (cs : Sequence Command) (ds : Sequence Reach) (word : ℕ) (last : Option Latest) → HasLatest cs ds last → HasLatest cs (word_after ds word) last
+word-latest cs Nothing word last f r rs e h = absurd (cc e)
+word-latest cs (ds ▸ d) word last f r rs e h =
     let same : reach_with_word d word ≡ r = cc e in
     subst (λ (x : Reach). IsLatest last x.ccw) same (f d ds refl h)
 
-has-latest : (orb : Orb) (acts : List Act) → HasLatest (commands orb acts) (data_areas orb acts) (latest orb acts)
-has-latest orb [] = λ r rs e h. absurd (cc e)
-has-latest orb (Block address bytes ∷ acts) =
+has-latest : (orb : Orb) (acts : Sequence Act) → HasLatest (commands orb acts) (data_areas orb acts) (latest orb acts)
+has-latest orb Nothing = λ r rs e h. absurd (cc e)
+has-latest orb (acts ▸ Block address bytes) =
     block-latest address (role_of orb acts).chained (commands orb acts) (data_areas orb acts) (latest orb acts) (reads orb (role_of orb acts) bytes) (has-latest orb acts)
-has-latest orb (Unfetched address check ∷ acts) = has-latest orb acts
-has-latest orb (Used_up ∷ acts) = has-latest orb acts
-has-latest orb (End ended ∷ acts) = has-latest orb acts
-has-latest orb (Word word ∷ acts) = word-latest (commands orb acts) (data_areas orb acts) word (latest orb acts) (has-latest orb acts)
+has-latest orb (acts ▸ Unfetched address check) = has-latest orb acts
+has-latest orb (acts ▸ Used_up) = has-latest orb acts
+has-latest orb (acts ▸ End ended) = has-latest orb acts
+has-latest orb (acts ▸ Word word) = word-latest (commands orb acts) (data_areas orb acts) word (latest orb acts) (has-latest orb acts)
 
-moved-latest : (orb : Orb) (ds : List Reach) (cs : List Command) (last : Option Latest) (t : Transfer) (ps : List (Option ℕ)) → IsMovedTo orb ds t ps → HasBegun cs →
+moved-latest : (orb : Orb) (ds : Sequence Reach) (cs : Sequence Command) (last : Option Latest) (t : Transfer) (ps : List (Option ℕ)) → IsMovedTo orb ds t ps → HasBegun cs →
     HasLatest cs ds last → IsLatest last t.moving.ccw
-moved-latest orb [] cs last t ps k h f = absurd k
-moved-latest orb (r ∷ rs) cs last t ps k h f = subst (λ (x : Ccw). IsLatest last x) (sym (ccw-of r t k.0)) (f r rs refl h)
+moved-latest orb Nothing cs last t ps k h f = absurd k
+moved-latest orb (rs ▸ r) cs last t ps k h f = subst (λ (x : Ccw). IsLatest last x) (sym (ccw-of r t k.0)) (f r rs refl h)
 
-pub latest-of : (earlier : ℕ) (orb : Orb) (acts : List Act) (ps : List (Option ℕ)) (t : Transfer) → Tied earlier orb acts ps t → IsLatest (latest orb acts) t.moving.ccw
+pub latest-of : (earlier : ℕ) (orb : Orb) (acts : Sequence Act) (ps : List (Option ℕ)) (t : Transfer) → Tied earlier orb acts ps t → IsLatest (latest orb acts) t.moving.ccw
 latest-of earlier orb acts ps t k =
     moved-latest orb (data_areas orb acts) (commands orb acts) (latest orb acts) t ps k.spot (code-begun (commands orb acts) t.code k.coded) (has-latest orb acts)
 
@@ -79,7 +80,7 @@ parted true false true v = refl
 parted true false false v = refl
 
 -- so a command is chained to where by the program one is next and nothing speaks against it
-pub next-chains : (earlier : ℕ) (orb : Orb) (acts : List Act) (ps : List (Option ℕ)) (t : Transfer) (modifier u v : Bool) → Tied earlier orb acts ps t →
+pub next-chains : (earlier : ℕ) (orb : Orb) (acts : Sequence Act) (ps : List (Option ℕ)) (t : Transfer) (modifier u v : Bool) → Tied earlier orb acts ps t →
     (is_some (next_ended (latest orb acts) (record { goes_on = true; modifier = modifier })) && not (u || v))
     ≡ (t.moving.ccw.chain_command && (not t.moving.ccw.chain_data && (not u && not v)))
 next-chains earlier orb acts ps t modifier u v k =

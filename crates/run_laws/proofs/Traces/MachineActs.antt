@@ -1,10 +1,11 @@
 -- What is done for a program, act by act, as the subsystem begins its commands and moves their bytes (SA22-7832, chapter
--- 15). The acts of a list stand the latest first.
-use Rattle.std.specs.Prelude.{ℕ, ◌+◌, ◌==◌, Bool, true, min, if◌then◌else◌, is_some, Option, None, Some, List, [], ◌∷◌, ◌++◌, length, Result, Ok, Err}
+-- 15).
+use Rattle.std.specs.Prelude.{ℕ, ◌+◌, ◌==◌, Bool, true, min, if◌then◌else◌, is_some, Option, None, Some, List, ◌∷◌, ◌++◌, length, Result, Ok, Err, []}
 use Rattle.ccw_codec.specs.Command.{class_of}
 use Rattle.storage_keys.specs.Storage.{Contents}
 use Rattle.ccw_walk.specs.declared.check.Check.{Check}
 use Rattle.ccw_walk.specs.declared.program.Ended.{Ended}
+use Rattle.ccw_walk.specs.Sequences.{Sequence, Nothing, ◌▸◌, ◌▸▸◌}
 use Rattle.ccw_walk.specs.Acts.{Act, PlacedBytes, Used_up, End, Word}
 use Rattle.ccw_walk.specs.Places.{WalkPlace, after_count_used_up, after_command_end}
 use Rattle.ccw_walk.specs.Advancing.{advance_acts}
@@ -23,43 +24,43 @@ use Rattle.data_move.specs.DataChaining.{with_bytes_moved, chains_data}
 use Rattle.data_move.specs.ToDevice.{with_chunk_counted, chunk_absorbed, next_chunk}
 
 -- a word of an indirect list is fetched where it is needed
-abbrev pub act_of_right : Option WordFault → ℕ → List Act
-act_of_right None word = Word word ∷ []
-act_of_right (Some fault) word = []
+abbrev pub act_of_right : Option WordFault → ℕ → Sequence Act
+act_of_right None word = Nothing ▸ Word word
+act_of_right (Some fault) word = Nothing
 
-abbrev pub act_of_word : Moving → ℕ → Result ℕ Check → List Act
+abbrev pub act_of_word : Moving → ℕ → Result ℕ Check → Sequence Act
 act_of_word m size (Ok word) = act_of_right (word_fault m.kind (m.words == 0) word size) word
-act_of_word m size (Err check) = []
+act_of_word m size (Err check) = Nothing
 
-abbrev pub word_acts : Contents → ℕ → Moving → List Act
-word_acts storage key m = if needs_word m then act_of_word m (length storage.bytes) (access.word_fetched storage key m) else []
+abbrev pub word_acts : Contents → ℕ → Moving → Sequence Act
+word_acts storage key m = if needs_word m then act_of_word m (length storage.bytes) (access.word_fetched storage key m) else Nothing
 
-abbrev pub located_acts : Contents → Transfer → List Act
-located_acts storage t = if is_some t.fault then [] else word_acts storage t.walk.orb.key t.moving
+abbrev pub located_acts : Contents → Transfer → Sequence Act
+located_acts storage t = if is_some t.fault then Nothing else word_acts storage t.walk.orb.key t.moving
 
 -- a command begins from a place: its blocks, and the word of a read that is told at once how many bytes may come
-abbrev pub room_acts : Contents → CommandStart → List Act
-room_acts storage (Begins t) = if brings (class_of t.code) then located_acts storage t else []
-room_acts storage Suspends = []
-room_acts storage (Stops check) = []
+abbrev pub room_acts : Contents → CommandStart → Sequence Act
+room_acts storage (Begins t) = if brings (class_of t.code) then located_acts storage t else Nothing
+room_acts storage Suspends = Nothing
+room_acts storage (Stops check) = Nothing
 
-abbrev pub goes_acts : Contents → ℕ → WalkPlace → List Act
-goes_acts storage n old = room_acts storage (goes_to storage n old).came ++ advance_acts storage old
+abbrev pub goes_acts : Contents → ℕ → WalkPlace → Sequence Act
+goes_acts storage n old = advance_acts storage old ▸▸ room_acts storage (goes_to storage n old).came
 
-abbrev pub first_acts : Contents → WalkPlace → List Act
+abbrev pub first_acts : Contents → WalkPlace → Sequence Act
 first_acts storage walk = goes_acts storage 1 walk
 
-abbrev pub next_acts : Contents → Transfer → Bool → List Act
+abbrev pub next_acts : Contents → Transfer → Bool → Sequence Act
 next_acts storage t modifier =
     let ended : Ended = record { goes_on = true; modifier = modifier } in
-    goes_acts storage (t.command + 1) (after_command_end t.walk ended) ++ End ended ∷ []
+    Nothing ▸ End ended ▸▸ goes_acts storage (t.command + 1) (after_command_end t.walk ended)
 
 -- data is chained
-abbrev pub chained_acts : Contents → Transfer → List Act
-chained_acts storage t = advance_acts storage (after_count_used_up t.walk) ++ Used_up ∷ []
+abbrev pub chained_acts : Contents → Transfer → Sequence Act
+chained_acts storage t = Nothing ▸ Used_up ▸▸ advance_acts storage (after_count_used_up t.walk)
 
-abbrev pub with_acts : CommandTrace → List Act → CommandTrace
-with_acts k acts = record k { acts = acts ++ k.acts }
+abbrev pub with_acts : CommandTrace → Sequence Act → CommandTrace
+with_acts k acts = record k { acts = k.acts ▸▸ acts }
 
 -- so many of the next bytes are moved
 abbrev pub with_places : CommandTrace → Moving → ℕ → CommandTrace
@@ -81,7 +82,7 @@ trace_answered storage t s count k =
 
 -- the next chunk is copied for the device
 abbrev pub with_copy : Contents → Transfer → Result (List ℕ) Check → CommandTrace → CommandTrace
-with_copy storage t (Ok bytes) k = record k { copied = chunk_of storage t.moving bytes ∷ k.copied }
+with_copy storage t (Ok bytes) k = record k { copied = k.copied ++ chunk_of storage t.moving bytes ∷ [] }
 with_copy storage t (Err check) k = k
 
 abbrev pub copying : Contents → Transfer → CommandTrace → CommandTrace
@@ -102,7 +103,7 @@ gives storage t s count k =
 -- the bytes of chunk s of a read are stored
 abbrev pub with_arrival : Contents → Transfer → List ℕ → Result Contents Check → CommandTrace → CommandTrace
 with_arrival storage t bytes (Ok after) k =
-    trace_moved_on after t (length bytes) (record k { arrived = record { former = storage.bytes; chunk = chunk_of after t.moving bytes } ∷ k.arrived })
+    trace_moved_on after t (length bytes) (record k { arrived = k.arrived ++ record { former = storage.bytes; chunk = chunk_of after t.moving bytes } ∷ [] })
 with_arrival storage t bytes (Err check) k = k
 
 abbrev pub storing : Contents → Transfer → List ℕ → CommandTrace → CommandTrace

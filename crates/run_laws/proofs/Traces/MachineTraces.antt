@@ -1,5 +1,5 @@
 -- What was done for the program that a subchannel offered last: a function of the run (SA22-7832, chapter 15).
-use Rattle.std.specs.Prelude.{ℕ, ◌+◌, ◌==◌, Bool, true, false, is_some, if◌then◌else◌, Option, None, Some, List, [], ◌∷◌, ◌++◌, length, slice_get}
+use Rattle.std.specs.Prelude.{ℕ, ◌+◌, ◌==◌, Bool, true, false, is_some, if◌then◌else◌, Option, None, Some, List, slice_get}
 use Rattle.scsw_irb.specs.declared.status.DeviceStatus.{DeviceStatus}
 use Rattle.storage_keys.specs.Storage.{Contents}
 use Rattle.chan_model.specs.declared.hold_state.HoldPhase.{HoldPhase}
@@ -15,6 +15,7 @@ use Rattle.chan_events.specs.Replies.{Reply}
 use Rattle.chan_model.specs.HoldTable.{HoldStep, hold_takes, hold_after, came_of, is_connected, is_on}
 use Rattle.chan_model.specs.Loads.{load_length}
 use Rattle.chan_model.specs.UnitReports.{is_outward, has_device_end}
+use Rattle.ccw_walk.specs.Sequences.{Sequence, Nothing, ◌▸◌, ◌▸▸◌, count}
 use Rattle.ccw_walk.specs.Acts.{Act, End}
 use Rattle.ccw_walk.specs.Programs.{commands}
 use Rattle.ccw_walk.specs.Places.{WalkPlace, walk_place}
@@ -39,9 +40,9 @@ use Rattle.run_laws.specs.Traces.{no_trace, ProgramTrace, past_part, chosen_at, 
 use Rattle.chan_model.specs.ResetCauses.{is_path}
 
 -- a command begins, or can't, or the program is suspended
-abbrev pub trace_goes_on : Contents → CommandStart → List Act → ProgramTrace → ProgramTrace
+abbrev pub trace_goes_on : Contents → CommandStart → Sequence Act → ProgramTrace → ProgramTrace
 trace_goes_on storage (came.Begins t) acts k =
-    record k { sent = k.sent + 1; now = record no_trace { acts = acts ++ k.now.acts; kept = is_some (begun_with_room storage t).transfer.fault }; before = k.now }
+    record k { sent = k.sent + 1; now = record no_trace { acts = k.now.acts ▸▸ acts; kept = is_some (begun_with_room storage t).transfer.fault }; before = k.now }
 trace_goes_on storage came.Suspends acts k = record k { now = with_acts k.now acts }
 trace_goes_on storage (came.Stops check) acts k = record k { now = with_acts k.now acts }
 
@@ -50,10 +51,10 @@ abbrev pub trace_begins : Contents → WalkPlace → ProgramTrace → ProgramTra
 trace_begins storage walk k = trace_goes_on storage (first_command storage walk).came (first_acts storage walk) k
 
 abbrev pub begins_anew : Contents → Program → ProgramTrace → ProgramTrace
-begins_anew storage program k = trace_begins storage (walk_place program.orb []) (record k { orb = program.orb; earlier = 0; now = no_trace })
+begins_anew storage program k = trace_begins storage (walk_place program.orb Nothing) (record k { orb = program.orb; earlier = 0; now = no_trace })
 
 abbrev pub begins_again : Contents → ProgramPosition → ProgramTrace → ProgramTrace
-begins_again storage st k = trace_begins storage st.walk (record k { earlier = length (commands k.orb k.now.acts); now = past_part k.now })
+begins_again storage st k = trace_begins storage st.walk (record k { earlier = count (commands k.orb k.now.acts); now = past_part k.now })
 
 abbrev pub again_as : Contents → Option ProgramPosition → ℕ → ProgramTrace → ProgramTrace
 again_as storage None start k = k
@@ -84,7 +85,7 @@ answers storage (Some b) n s load k = if is_answered b.transfer n s then moves s
 -- End: the command ends, and none is chained to it
 abbrev pub ends_alone : DeviceStatus → ProgramTrace → ProgramTrace
 ends_alone status k =
-    record k { now = record k.now { acts = End (record { goes_on = false; modifier = has_status_modifier status }) ∷ k.now.acts; ended = true; unchained = true } }
+    record k { now = record k.now { acts = k.now.acts ▸ End (record { goes_on = false; modifier = has_status_modifier status }); ended = true; unchained = true } }
 
 -- an End of it came
 abbrev pub with_ended : ProgramTrace → ProgramTrace

@@ -1,9 +1,10 @@
 -- What is done for a program with each signal, and what is kept of its transfer.
-use Rattle.std.proofs.Common.{◌≡◌, refl, ap, sym, ◌∙◌, subst, ℕ, suc, ◌+◌, ◌≤◌, Bool, true, false, List, [], ◌∷◌, ◌++◌, length, Option, Some, None, Result, Ok, Err, inl, inr, arith, append_assoc}
+use Rattle.std.proofs.Common.{◌≡◌, refl, ap, sym, ◌∙◌, subst, ℕ, ◌+◌, ◌≤◌, Bool, true, false, List, [], ◌∷◌, ◌++◌, length, Option, Some, None, Result, Ok, Err, inl, inr, arith, append-nil, length-append}
+use Rattle.std.proofs.lemmas.Grind.{flat_map-append}
 use Rattle.std.specs.Prelude.{◌&&◌, ◌||◌, not, ◌==◌, min, is_some, if◌then◌else◌, All, take}
 use Rattle.std.proofs.lemmas.Bool.{eqb-true}
 use Rattle.std.proofs.lemmas.List.{length-take}
-use Rattle.std.proofs.lemmas.List.Elements.{All-nil, All-cons}
+use Rattle.std.proofs.lemmas.List.Elements.{All-nil, All-push}
 use Rattle.std.proofs.Math.Nat.{min-le_left, min-le_right}
 use Rattle.orb_block.specs.declared.Orb.{Orb}
 use Rattle.ccw_codec.specs.Command.{class_of}
@@ -11,6 +12,7 @@ use Rattle.storage_keys.specs.Storage.{Contents}
 use Rattle.ccw_walk.specs.declared.check.Check.{Check}
 use Rattle.ccw_walk.specs.declared.program.Advance.{Advance}
 use Rattle.ccw_walk.specs.declared.program.Advance.TheVariants as advance
+use Rattle.ccw_walk.specs.Sequences.{Sequence, Nothing, ◌▸◌, ◌▸▸◌, count}
 use Rattle.ccw_walk.specs.Acts.{Act}
 use Rattle.ccw_walk.specs.Programs.{IsProgram, Command, role_of, next, commands, code}
 use Rattle.ccw_walk.specs.Places.{WalkPlace, walk_place, after_acts, after_count_used_up}
@@ -39,6 +41,7 @@ use Rattle.run_laws.proofs.Traces.Ties.{AreLaws, IsFresh, Tied, changed, spot-be
 use Rattle.run_laws.specs.Reached.{room_of, BeginsData}
 use Rattle.run_laws.proofs.Bytes.Kept.{room-same as reached-room, short-same, located-kept}
 use Rattle.run_laws.proofs.Bytes.Chainings.{after_bytes_moved-tied}
+use Rattle.run_laws.proofs.Traces.Sequences.{joined-in-order}
 
 -- the command at work and its code stay
 abbrev pub IsSame : Transfer → Transfer → Type 0
@@ -166,6 +169,9 @@ room-fresh storage t f = fresh-if storage t (brings (class_of t.code)) f
 abbrev pub HasArrived : CommandTrace → Option Check → ℕ → Bool → Type 0
 HasArrived p fault last true = p.arrived ≡ []
 HasArrived p fault last false = All IsStored p.arrived × (places_arrived p.arrived ≡ p.moved) × (fault ≡ None → last ≡ length p.arrived)
+
+places-arrived : (xs : List Arrival) (a : Arrival) → places_arrived (xs ++ a ∷ []) ≡ places_arrived xs ++ a.chunk.places
+places-arrived xs a = flat_map-append (λ (x : Arrival). x.chunk.places) xs (a ∷ []) ∙ ap (λ (ys : List (Option ℕ)). places_arrived xs ++ ys) (append-nil a.chunk.places)
 
 pub arrived-none : (p : CommandTrace) (fault : Option Check) (last : ℕ) (d : Bool) → p.arrived ≡ [] → p.moved ≡ [] → last ≡ 0 → HasArrived p fault last d
 arrived-none p fault last true e f z = e
@@ -311,17 +317,17 @@ module _ (earlier : ℕ) where
           IsAtWork orb (with_arrival storage t bytes r p) (after_store storage t (length bytes) r).transfer false
       arrival-by storage orb p t bytes (Ok after) e l k =
           let a : Arrival = record { former = storage.bytes; chunk = chunk_of after t.moving bytes } in
-          let q : CommandTrace = record p { arrived = a ∷ p.arrived } in
+          let q : CommandTrace = record p { arrived = p.arrived ++ a ∷ [] } in
           let parts : (_ : (doing.trace_moved_on after t (length bytes) q).moved ≡ p.moved ++ each_below (next_place t.moving) (length bytes))
-          × ((doing.trace_moved_on after t (length bytes) q).arrived ≡ a ∷ p.arrived) =
+          × ((doing.trace_moved_on after t (length bytes) q).arrived ≡ p.arrived ++ a ∷ []) =
           after_bytes_moved-parts after t (length bytes) q (chains_data (with_bytes_moved t (length bytes)) (length bytes)) in
           let x : IsThrough t (after_bytes_moved after t (length bytes)) = after_bytes_moved-through after t (length bytes) (chains_data (with_bytes_moved t (length bytes)) (length bytes)) in
           record {
             tied = after_bytes_moved-tied laws earlier after orb q t (length bytes) l k.tied;
             arrived = (
-              subst (λ (xs : List Arrival). All IsStored xs) (sym parts.1) (All-cons IsStored a p.arrived (arrival-stored storage after t bytes e) k.stored),
-              ap places_arrived parts.1 ∙ ap (λ (xs : List (Option ℕ)). xs ++ each_below (next_place t.moving) (length bytes)) k.places ∙ sym parts.0,
-              λ z. x.0 ∙ k.next (x.1 z) ∙ (let n : length p.arrived + 1 ≡ suc (length p.arrived) = omega arith in n) ∙ sym (ap length parts.1),
+              subst (λ (xs : List Arrival). All IsStored xs) (sym parts.1) (All-push IsStored p.arrived a k.stored (arrival-stored storage after t bytes e)),
+              ap places_arrived parts.1 ∙ places-arrived p.arrived a ∙ ap (λ (xs : List (Option ℕ)). xs ++ each_below (next_place t.moving) (length bytes)) k.places ∙ sym parts.0,
+              λ z. x.0 ∙ k.next (x.1 z) ∙ sym (length-append p.arrived (a ∷ [])) ∙ sym (ap length parts.1),
             );
           }
       arrival-by storage orb p t bytes (Err check) e l k = record {
@@ -357,9 +363,9 @@ module _ (earlier : ℕ) where
           record { tied = w.tied; arrived = w.arrived }
 
     -- a command begins from these acts, or can't, or the program is suspended
-    abbrev pub WentOn : Contents → Orb → List Act → List Act → ℕ → WalkPlace → CommandStart → Type 0
+    abbrev pub WentOn : Contents → Orb → Sequence Act → Sequence Act → ℕ → WalkPlace → CommandStart → Type 0
     WentOn storage orb before acts n walk (came.Begins t) =
-        Tied earlier orb acts [] (begun_with_room storage t).transfer × (t.command ≡ n) × ((c : Command) × (commands orb acts ≡ c ∷ commands orb before) × (code c ≡ t.code) × IsFresh (begun_with_room storage t).transfer)
+        Tied earlier orb acts [] (begun_with_room storage t).transfer × (t.command ≡ n) × ((c : Command) × (commands orb acts ≡ commands orb before ▸ c) × (code c ≡ t.code) × IsFresh (begun_with_room storage t).transfer)
         × BeginsData storage orb t.code (begun_with_room storage t).room (is_some (begun_with_room storage t).transfer.fault) acts
     WentOn storage orb before acts n walk came.Suspends =
         IsProgram orb acts × (data_areas orb acts ≡ data_areas orb before) × (commands orb acts ≡ commands orb before) × ((role_of orb acts).chained ≡ false) × (walk ≡ walk_place orb acts) × IsSuspended orb acts × EndsAtCheck orb acts
@@ -367,19 +373,19 @@ module _ (earlier : ℕ) where
         IsProgram orb acts × (data_areas orb acts ≡ data_areas orb before) × (commands orb acts ≡ commands orb before) × (next orb acts ≡ None) × EndsAtCheck orb acts
         × (walk ≡ walk_place orb acts)
 
-    right-commands : (orb : Orb) (acts : List Act) (word : ℕ) (f : Option WordFault) → commands orb (doing.act_of_right f word ++ acts) ≡ commands orb acts
+    right-commands : (orb : Orb) (acts : Sequence Act) (word : ℕ) (f : Option WordFault) → commands orb (acts ▸▸ doing.act_of_right f word) ≡ commands orb acts
     right-commands orb acts word None = refl
     right-commands orb acts word (Some fault) = refl
 
-    located-commands : (storage : Contents) (orb : Orb) (acts : List Act) (t : Transfer) (b c : Bool) (w : Result ℕ Check) →
-        commands orb ((if b then [] else (if c then doing.act_of_word t.moving (length storage.bytes) w else [])) ++ acts) ≡ commands orb acts
+    located-commands : (storage : Contents) (orb : Orb) (acts : Sequence Act) (t : Transfer) (b c : Bool) (w : Result ℕ Check) →
+        commands orb (acts ▸▸ (if b then Nothing else (if c then doing.act_of_word t.moving (length storage.bytes) w else Nothing))) ≡ commands orb acts
     located-commands storage orb acts t true c w = refl
     located-commands storage orb acts t false false w = refl
     located-commands storage orb acts t false true (Ok word) = right-commands orb acts word (word_fault t.moving.kind (t.moving.words == 0) word (length storage.bytes))
     located-commands storage orb acts t false true (Err check) = refl
 
-    room-commands : (storage : Contents) (orb : Orb) (acts : List Act) (t : Transfer) (b : Bool) →
-        commands orb ((if b then located_acts storage t else []) ++ acts) ≡ commands orb acts
+    room-commands : (storage : Contents) (orb : Orb) (acts : Sequence Act) (t : Transfer) (b : Bool) →
+        commands orb (acts ▸▸ (if b then located_acts storage t else Nothing)) ≡ commands orb acts
     room-commands storage orb acts t true =
         located-commands storage orb acts t (is_some t.fault) (needs_word t.moving) (access.word_fetched storage t.walk.orb.key t.moving)
     room-commands storage orb acts t false = refl
@@ -389,12 +395,12 @@ module _ (earlier : ℕ) where
     if-flip false n = refl
 
     -- how many bytes may come as a command begins
-    begins-data : (storage : Contents) (orb : Orb) (acts : List Act) (t : Transfer) → Tied earlier orb acts [] t → is_some t.fault ≡ false → IsFresh t → (b : Bool) → brings (class_of t.code) ≡ b →
+    begins-data : (storage : Contents) (orb : Orb) (acts : Sequence Act) (t : Transfer) → Tied earlier orb acts [] t → is_some t.fault ≡ false → IsFresh t → (b : Bool) → brings (class_of t.code) ≡ b →
         let x = if b then with_room storage t else record { transfer = t; room = 0 } in
-        BeginsData storage orb t.code x.room (is_some x.transfer.fault) ((if b then located_acts storage t else []) ++ acts)
+        BeginsData storage orb t.code x.room (is_some x.transfer.fault) (acts ▸▸ (if b then located_acts storage t else Nothing))
     begins-data storage orb acts t k g f true e =
         let u : Transfer = located_transfer storage t in
-        let now : List Act = located_acts storage t ++ acts in
+        let now : Sequence Act = acts ▸▸ located_acts storage t in
         let w : Tied earlier orb now [] u = located-tied earlier laws storage orb acts [] t k in
         let l = located-kept earlier storage orb acts [] t k in
         let fu : IsFresh u = located-fresh t (is_some t.fault) (access.located storage t.walk.orb.key t.moving) f in (
@@ -411,19 +417,19 @@ module _ (earlier : ℕ) where
       λ x y. absurd (cc (sym e ∙ y)),
     )
 
-    went-by : (storage : Contents) (orb : Orb) (before acts : List Act) (n : ℕ) (walk : WalkPlace) (c : CommandStart) → walk ≡ walk_place orb acts → Begins earlier laws orb before acts n c →
-        WentOn storage orb before (room_acts storage c ++ acts) n walk c
+    went-by : (storage : Contents) (orb : Orb) (before acts : Sequence Act) (n : ℕ) (walk : WalkPlace) (c : CommandStart) → walk ≡ walk_place orb acts → Begins earlier laws orb before acts n c →
+        WentOn storage orb before (acts ▸▸ room_acts storage c) n walk c
     went-by storage orb before acts n walk (came.Begins t) w k =
         (room-tied earlier laws storage orb acts t k.0, k.1, (k.2.0, room-commands storage orb acts t (brings (class_of t.code)) ∙ k.2.1, k.2.2, room-fresh storage t k.2.3), begins-data storage orb acts t k.0 k.3 k.2.3 (brings (class_of t.code)) refl)
     went-by storage orb before acts n walk came.Suspends w k = (k.0, k.1, k.2, k.3, w, k.4, k.5)
     went-by storage orb before acts n walk (came.Stops check) w k = (k.0, k.1, k.2, k.3, k.4, w)
 
-    pub goes-on : (storage : Contents) (orb : Orb) (before : List Act) (n : ℕ) → (role_of orb before).chained ≡ false → length (commands orb before) + 1 ≡ earlier + n →
+    pub goes-on : (storage : Contents) (orb : Orb) (before : Sequence Act) (n : ℕ) → (role_of orb before).chained ≡ false → count (commands orb before) + 1 ≡ earlier + n →
         IsProgram orb before → has_check orb before ≡ false → EndsAtCheck orb before →
-        WentOn storage orb before (goes_acts storage n (walk_place orb before) ++ before) n (goes_to storage n (walk_place orb before)).walk (goes_to storage n (walk_place orb before)).came
+        WentOn storage orb before (before ▸▸ goes_acts storage n (walk_place orb before)) n (goes_to storage n (walk_place orb before)).walk (goes_to storage n (walk_place orb before)).came
     goes-on storage orb before n c l p hc en =
         let old : WalkPlace = walk_place orb before in
         let new : Beginning = goes_to storage n old in
-        subst (λ (xs : List Act). WentOn storage orb before xs n new.walk new.came) (sym (append_assoc (room_acts storage new.came) (advance_acts storage old) before))
-        (went-by storage orb before (advance_acts storage old ++ before) n new.walk new.came (laws.leads orb before (advance_acts storage old))
+        subst (λ (xs : Sequence Act). WentOn storage orb before xs n new.walk new.came) (sym (joined-in-order before (advance_acts storage old) (room_acts storage new.came)))
+        (went-by storage orb before (before ▸▸ advance_acts storage old) n new.walk new.came (laws.leads orb before (advance_acts storage old))
         (goes-begins earlier laws storage orb before n c l p hc en))

@@ -1,5 +1,5 @@
 -- Where a program stands still: no block is next, or the last suspended it.
-use Rattle.std.proofs.Common.{◌≡◌, refl, ap, ◌∙◌, subst, ℕ, Bool, true, false, List, [], ◌∷◌, ◌++◌, Option, Some, None}
+use Rattle.std.proofs.Common.{◌≡◌, refl, ap, ◌∙◌, subst, ℕ, Bool, true, false, List, Option, Some, None}
 use Rattle.std.specs.Prelude.{◌&&◌, ◌||◌, ◌==◌, not, if◌then◌else◌}
 use Rattle.orb_block.specs.declared.Orb.{Orb}
 use Rattle.ccw_codec.specs.declared.Ccw.{Ccw}
@@ -12,6 +12,7 @@ use Rattle.ccw_walk.specs.declared.check.Check.TheVariants.{Program}
 use Rattle.ccw_walk.specs.declared.program.Role.{Role}
 use Rattle.ccw_walk.specs.declared.program.Reading.{Reading}
 use Rattle.ccw_walk.specs.declared.program.Reading.TheVariants.{Transfers, Takes, Suspends, Shows}
+use Rattle.ccw_walk.specs.Sequences.{Sequence, Nothing, ◌▸◌, ◌▸▸◌}
 use Rattle.ccw_walk.specs.Acts.{Act, Block, Unfetched, Used_up, End, Word}
 use Rattle.ccw_walk.specs.Blocks.{format_of, block_reads, transfer_reads, command_reads, reads}
 use Rattle.ccw_walk.specs.Programs.{next, next_after, role_of, role_after}
@@ -50,60 +51,60 @@ reads-unchained orb role bytes =
     first-unchained role (block_reads orb role (fault_of (format_of orb) bytes) (ccw_of (format_of orb) bytes)) (role.first && orb.modified_words)
     (block-unchained orb role (fault_of (format_of orb) bytes) (ccw_of (format_of orb) bytes))
 
-pub suspended-unchained : (orb : Orb) (acts : List Act) → IsSuspended orb acts → (role_of orb acts).chained ≡ false
-suspended-unchained orb (Block address bytes ∷ before) e =
+pub suspended-unchained : (orb : Orb) (acts : Sequence Act) → IsSuspended orb acts → (role_of orb acts).chained ≡ false
+suspended-unchained orb (before ▸ Block address bytes) e =
     ap (λ (r : Reading). (role_after (role_of orb before) r).chained) e ∙ reads-unchained orb (role_of orb before) bytes e
-suspended-unchained orb [] e = absurd e
-suspended-unchained orb (Unfetched address check ∷ before) e = absurd e
-suspended-unchained orb (Used_up ∷ before) e = absurd e
-suspended-unchained orb (End ended ∷ before) e = absurd e
-suspended-unchained orb (Word word ∷ before) e = absurd e
+suspended-unchained orb Nothing e = absurd e
+suspended-unchained orb (before ▸ Unfetched address check) e = absurd e
+suspended-unchained orb (before ▸ Used_up) e = absurd e
+suspended-unchained orb (before ▸ End ended) e = absurd e
+suspended-unchained orb (before ▸ Word word) e = absurd e
 
 -- no check is there, and the block is next again
-pub suspended-unchecked : (orb : Orb) (acts : List Act) → IsSuspended orb acts → EndsAtCheck orb acts → has_check orb acts ≡ false
-suspended-unchecked orb (Block address bytes ∷ before) e k = ap (λ (r : Reading). shows_check r || has_check orb before) e ∙ k.0
-suspended-unchecked orb [] e k = absurd e
-suspended-unchecked orb (Unfetched address check ∷ before) e k = absurd e
-suspended-unchecked orb (Used_up ∷ before) e k = absurd e
-suspended-unchecked orb (End ended ∷ before) e k = absurd e
-suspended-unchecked orb (Word word ∷ before) e k = absurd e
+pub suspended-unchecked : (orb : Orb) (acts : Sequence Act) → IsSuspended orb acts → EndsAtCheck orb acts → has_check orb acts ≡ false
+suspended-unchecked orb (before ▸ Block address bytes) e k = ap (λ (r : Reading). shows_check r || has_check orb before) e ∙ k.0
+suspended-unchecked orb Nothing e k = absurd e
+suspended-unchecked orb (before ▸ Unfetched address check) e k = absurd e
+suspended-unchecked orb (before ▸ Used_up) e k = absurd e
+suspended-unchecked orb (before ▸ End ended) e k = absurd e
+suspended-unchecked orb (before ▸ Word word) e k = absurd e
 
-pub suspended-next : (orb : Orb) (acts : List Act) → IsSuspended orb acts → (address : ℕ) × (next orb acts ≡ Some address)
-suspended-next orb (Block address bytes ∷ before) e = (address, ap (λ (r : Reading). next_after address r) e)
-suspended-next orb [] e = absurd e
-suspended-next orb (Unfetched address check ∷ before) e = absurd e
-suspended-next orb (Used_up ∷ before) e = absurd e
-suspended-next orb (End ended ∷ before) e = absurd e
-suspended-next orb (Word word ∷ before) e = absurd e
+pub suspended-next : (orb : Orb) (acts : Sequence Act) → IsSuspended orb acts → (address : ℕ) × (next orb acts ≡ Some address)
+suspended-next orb (before ▸ Block address bytes) e = (address, ap (λ (r : Reading). next_after address r) e)
+suspended-next orb Nothing e = absurd e
+suspended-next orb (before ▸ Unfetched address check) e = absurd e
+suspended-next orb (before ▸ Used_up) e = absurd e
+suspended-next orb (before ▸ End ended) e = absurd e
+suspended-next orb (before ▸ Word word) e = absurd e
 
 -- after acts that come to this
-abbrev pub Stands : Orb → List Act → Advance → Type 0
+abbrev pub Stands : Orb → Sequence Act → Advance → Type 0
 Stands orb acts (advance.Takes ccw) = next orb acts ≡ None
 Stands orb acts advance.Suspends = IsSuspended orb acts
 Stands orb acts (advance.Stops check) = next orb acts ≡ None
 
-block-stands : (orb : Orb) (before : List Act) (address : ℕ) (bytes : List ℕ) (a : Advance) (r : Reading) → reads orb (role_of orb before) bytes ≡ r → advance_of_ccw r ≡ Some a →
-    Stands orb (Block address bytes ∷ before) a
+block-stands : (orb : Orb) (before : Sequence Act) (address : ℕ) (bytes : List ℕ) (a : Advance) (r : Reading) → reads orb (role_of orb before) bytes ≡ r → advance_of_ccw r ≡ Some a →
+    Stands orb (before ▸ Block address bytes) a
 block-stands orb before address bytes a (Transfers target) e f = absurd (cc f)
 block-stands orb before address bytes a (Takes ccw) e f =
     let same : advance.Takes ccw ≡ a = cc f in
-    subst (λ (x : Advance). Stands orb (Block address bytes ∷ before) x) same (ap (λ (r : Reading). next_after address r) e)
+    subst (λ (x : Advance). Stands orb (before ▸ Block address bytes) x) same (ap (λ (r : Reading). next_after address r) e)
 block-stands orb before address bytes a Suspends e f =
     let same : advance.Suspends ≡ a = cc f in
-    subst (λ (x : Advance). Stands orb (Block address bytes ∷ before) x) same e
+    subst (λ (x : Advance). Stands orb (before ▸ Block address bytes) x) same e
 block-stands orb before address bytes a Shows e f =
     let same : advance.Stops Program ≡ a = cc f in
-    subst (λ (x : Advance). Stands orb (Block address bytes ∷ before) x) same (ap (λ (r : Reading). next_after address r) e)
+    subst (λ (x : Advance). Stands orb (before ▸ Block address bytes) x) same (ap (λ (r : Reading). next_after address r) e)
 
-pub acts-stand : (orb : Orb) (before acts : List Act) (a : Advance) → ((xs : List Act) → after_acts (walk_place orb before) xs ≡ walk_place orb (xs ++ before)) →
-    advance_of_acts (walk_place orb before) acts ≡ Some a → Stands orb (acts ++ before) a
-acts-stand orb before [] a leads e = absurd (cc e)
-acts-stand orb before (Block address bytes ∷ acts) a leads e =
-    block-stands orb (acts ++ before) address bytes a (reads orb (role_of orb (acts ++ before)) bytes) refl
+pub acts-stand : (orb : Orb) (before acts : Sequence Act) (a : Advance) → ((xs : Sequence Act) → after_acts (walk_place orb before) xs ≡ walk_place orb (before ▸▸ xs)) →
+    advance_of_acts (walk_place orb before) acts ≡ Some a → Stands orb (before ▸▸ acts) a
+acts-stand orb before Nothing a leads e = absurd (cc e)
+acts-stand orb before (acts ▸ Block address bytes) a leads e =
+    block-stands orb (before ▸▸ acts) address bytes a (reads orb (role_of orb (before ▸▸ acts)) bytes) refl
     (subst (λ (w : WalkPlace). advance_of_ccw (reads w.orb w.role bytes) ≡ Some a) (leads acts) e)
-acts-stand orb before (Unfetched address check ∷ acts) a leads e =
+acts-stand orb before (acts ▸ Unfetched address check) a leads e =
     let same : advance.Stops check ≡ a = cc e in
-    subst (λ (x : Advance). Stands orb (Unfetched address check ∷ acts ++ before) x) same refl
-acts-stand orb before (Used_up ∷ acts) a leads e = absurd (cc e)
-acts-stand orb before (End ended ∷ acts) a leads e = absurd (cc e)
-acts-stand orb before (Word word ∷ acts) a leads e = absurd (cc e)
+    subst (λ (x : Advance). Stands orb (before ▸▸ acts ▸ Unfetched address check) x) same refl
+acts-stand orb before (acts ▸ Used_up) a leads e = absurd (cc e)
+acts-stand orb before (acts ▸ End ended) a leads e = absurd (cc e)
+acts-stand orb before (acts ▸ Word word) a leads e = absurd (cc e)

@@ -1,5 +1,5 @@
 -- What is kept of a transfer agrees with what was done for its program, act by act.
-use Rattle.std.proofs.Common.{◌≡◌, refl, ap, sym, ◌∙◌, subst, ℕ, suc, ◌+◌, ◌%◌, ◌≤◌, ◌<◌, Bool, true, false, List, [], ◌∷◌, ◌++◌, length, Option, Some, None, Result, Ok, Err, inl, inr, arith, append_assoc, length-append}
+use Rattle.std.proofs.Common.{◌≡◌, refl, ap, sym, ◌∙◌, subst, ℕ, suc, ◌+◌, ◌%◌, ◌≤◌, ◌<◌, Bool, true, false, List, [], ◌++◌, length, Option, Some, None, Result, Ok, Err, inl, inr, arith, append_assoc, length-append}
 use Rattle.std.specs.Prelude.{◌⊎◌, ◌&&◌, ◌||◌, ◌==◌, not, min, nat_lt, is_some, IsSome, ◌↔◌, if◌then◌else◌}
 use Rattle.std.proofs.lemmas.Bool.{and_parts, eqb-true, eqb-false, ltb-true}
 use Rattle.std.proofs.Math.Nat.{min-le_right}
@@ -11,6 +11,7 @@ use Rattle.ccw_walk.specs.declared.check.Check.TheVariants.{Program}
 use Rattle.ccw_walk.specs.declared.program.Advance.{Advance}
 use Rattle.ccw_walk.specs.declared.program.Advance.TheVariants as advance
 use Rattle.ccw_walk.specs.declared.program.Reading.TheVariants.{Takes}
+use Rattle.ccw_walk.specs.Sequences.{Sequence, Nothing, ◌▸◌, ◌▸▸◌, count}
 use Rattle.ccw_walk.specs.Acts.{Act}
 use Rattle.ccw_walk.specs.Programs.{IsProgram, Command, role_of, next, commands, commands_after, join_last, code}
 use Rattle.ccw_walk.specs.Advancing.{acts_from_next, advance_acts, advance_of_acts}
@@ -19,7 +20,8 @@ use Rattle.idaw.specs.declared.ListKind.{ListKind}
 use Rattle.idaw.specs.declared.WordFault.{WordFault}
 use Rattle.idaw.specs.declared.WordFault.TheVariants.{LeftmostBit, OffBlock, OutsideStorage}
 use Rattle.idaw.specs.Lists.{block, kind_of, word_fault, has_leftmost_bit, is_outside}
-use Rattle.idaw.specs.Places.{Reach, place_of_byte, each_below, places_of_bytes, reach_with_word, covered}
+use Rattle.idaw.specs.Places.{Reach, place_of_byte, each_below, reach_with_word, covered}
+use Rattle.run_laws.specs.DataAreas.{places_of_bytes, reach, brings_in, data_areas, reaches_after, counts, word_after, reaches_with}
 use Rattle.data_move.specs.Moving as movement
 use Rattle.data_move.specs.Moving.{Moving, moving_begun, with_piece, moved, next_place, needs_word, residual, uses_list, room, IsAt, MayFetch}
 use Rattle.data_move.specs.Accesses as access
@@ -37,7 +39,6 @@ use Rattle.channel_config.specs.Setup.{Setup}
 use Rattle.machine_model.specs.State.{State, opening_of}
 use Rattle.machine_model.specs.Steps.{Run}
 use Rattle.data_move.specs.Accesses.{where_right}
-use Rattle.run_laws.specs.DataAreas.{reach, brings_in, data_areas, reaches_after, counts, word_after, reaches_with}
 use Rattle.run_laws.proofs.Traces.MachineActs.{act_of_right, act_of_word, word_acts, located_acts, room_acts}
 use Rattle.run_laws.specs.ProgramClaims.{IsBeginning, IsSuspended, has_check, EndsAtCheck}
 use Rattle.run_laws.proofs.Bytes.Lists.{some-begin, length-places, length-each_below}
@@ -55,14 +56,14 @@ pub record AreLaws : Type 0 where
   pub moved : (r : Reach) (m : Moving) (n : ℕ) → IsAt r m → n ≤ m.left → IsAt r (movement.moved m n)
   pub places : (r : Reach) (m : Moving) (n : ℕ) → IsAt r m → n ≤ m.left →
       each_below (place_of_byte (block m.kind) r) m.done ++ each_below (next_place m) n ≡ each_below (place_of_byte (block m.kind) r) (m.done + n)
-  pub leads : (orb : Orb) (before acts : List Act) → after_acts (walk_place orb before) acts ≡ walk_place orb (acts ++ before)
+  pub leads : (orb : Orb) (before acts : Sequence Act) → after_acts (walk_place orb before) acts ≡ walk_place orb (before ▸▸ acts)
   pub stands : (storage : Contents) (old : WalkPlace) → IsSome (advance_of_acts old (advance_acts storage old)) ↔ IsSome old.next
-  pub goes : (storage : Contents) (orb : Orb) (before : List Act) → IsProgram orb before → IsProgram orb (advance_acts storage (walk_place orb before) ++ before)
+  pub goes : (storage : Contents) (orb : Orb) (before : Sequence Act) → IsProgram orb before → IsProgram orb (before ▸▸ advance_acts storage (walk_place orb before))
 
 -- the command at work has this code
-abbrev pub HasCode : List Command → ℕ → Type 0
-HasCode [] c = ⊥
-HasCode (x ∷ xs) c = code x ≡ c
+abbrev pub HasCode : Sequence Command → ℕ → Type 0
+HasCode Nothing c = ⊥
+HasCode (xs ▸ x) c = code x ≡ c
 
 -- write and control are the codes of bytes that go to the device
 outward-codes : (code : ℕ) (a b c : Bool) → (code % 4 == 1) ≡ a → (code % 4 == 3) ≡ b → (code % 2 == 1) ≡ c → c ≡ (a || b)
@@ -85,16 +86,16 @@ data-begins laws kind code ccw =
     (laws.begins kind ccw (is_skipped code ccw))
 
 -- the places of the bytes that were moved are those of the blocks before, and the first of the latest
-abbrev pub IsMovedTo : Orb → List Reach → Transfer → List (Option ℕ) → Type 0
-IsMovedTo orb [] t ps = ⊥
-IsMovedTo orb (r ∷ rs) t ps =
+abbrev pub IsMovedTo : Orb → Sequence Reach → Transfer → List (Option ℕ) → Type 0
+IsMovedTo orb Nothing t ps = ⊥
+IsMovedTo orb (rs ▸ r) t ps =
     IsAt r t.moving × (ps ≡ places_of_bytes (block (kind_of orb)) rs ++ each_below (place_of_byte (block (kind_of orb)) r) t.moving.done)
 
 -- a change of what isn't told of
-pub spot-changed : (orb : Orb) (rs : List Reach) (t u : Transfer) (ps : List (Option ℕ)) → u.moving ≡ t.moving → (is_some t.fault ≡ true → is_some u.fault ≡ true) →
+pub spot-changed : (orb : Orb) (rs : Sequence Reach) (t u : Transfer) (ps : List (Option ℕ)) → u.moving ≡ t.moving → (is_some t.fault ≡ true → is_some u.fault ≡ true) →
     IsMovedTo orb rs t ps → IsMovedTo orb rs u ps
-spot-changed orb [] t u ps m f k = k
-spot-changed orb (r ∷ rs) t u ps m f k = (
+spot-changed orb Nothing t u ps m f k = k
+spot-changed orb (rs ▸ r) t u ps m f k = (
   subst (λ (x : Moving). IsAt r x) (sym m) k.0,
   k.1 ∙ ap (λ (x : Moving). places_of_bytes (block (kind_of orb)) rs ++ each_below (place_of_byte (block (kind_of orb)) r) x.done) (sym m),
 )
@@ -120,13 +121,13 @@ pub ccw-of : (r : Reach) (t : Transfer) → IsAt r t.moving → t.moving.ccw ≡
 ccw-of r t a = a.ccw
 
 -- so the places are a beginning of the command's, and the count is right
-pub spot-begins : (orb : Orb) (rs : List Reach) (t : Transfer) (ps : List (Option ℕ)) → IsMovedTo orb rs t ps → IsBeginning ps (places_of_bytes (block (kind_of orb)) rs)
-spot-begins orb [] t ps k = absurd k
-spot-begins orb (r ∷ rs) t ps k = some-begin (block (kind_of orb)) r rs t.moving.done ps (done-within r t k.0) k.1
+pub spot-begins : (orb : Orb) (rs : Sequence Reach) (t : Transfer) (ps : List (Option ℕ)) → IsMovedTo orb rs t ps → IsBeginning ps (places_of_bytes (block (kind_of orb)) rs)
+spot-begins orb Nothing t ps k = absurd k
+spot-begins orb (rs ▸ r) t ps k = some-begin (block (kind_of orb)) r rs t.moving.done ps (done-within r t k.0) k.1
 
-pub spot-counts : (orb : Orb) (rs : List Reach) (t : Transfer) (ps : List (Option ℕ)) → IsMovedTo orb rs t ps → counts rs ≡ length ps + residual t.moving
-spot-counts orb [] t ps k = absurd k
-spot-counts orb (r ∷ rs) t ps k =
+pub spot-counts : (orb : Orb) (rs : Sequence Reach) (t : Transfer) (ps : List (Option ℕ)) → IsMovedTo orb rs t ps → counts rs ≡ length ps + residual t.moving
+spot-counts orb Nothing t ps k = absurd k
+spot-counts orb (rs ▸ r) t ps k =
     let b : ℕ = block (kind_of orb) in
     let e : length ps ≡ length (places_of_bytes b rs) + length (each_below (place_of_byte b r) t.moving.done) =
     ap length k.1 ∙ length-append (places_of_bytes b rs) (each_below (place_of_byte b r) t.moving.done) in
@@ -142,7 +143,7 @@ IsFresh t = (t.sequence ≡ 0) × (t.offered ≡ 0) × (t.stopped ≡ false) × 
 
 -- so many commands were sent under earlier numbers
 module _ (earlier : ℕ) where
-  pub record Tied (orb : Orb) (acts : List Act) (ps : List (Option ℕ)) (t : Transfer) : Type 0 where
+  pub record Tied (orb : Orb) (acts : Sequence Act) (ps : List (Option ℕ)) (t : Transfer) : Type 0 where
     pub walk : t.walk ≡ walk_place orb acts
     pub program : IsProgram orb acts
     pub stands : next orb acts ≡ None
@@ -150,12 +151,12 @@ module _ (earlier : ℕ) where
     pub coded : HasCode (commands orb acts) t.code
     pub kind : t.moving.kind ≡ kind_of orb
     pub spot : IsMovedTo orb (data_areas orb acts) t ps
-    pub number : length (commands orb acts) ≡ earlier + t.command
+    pub number : count (commands orb acts) ≡ earlier + t.command
     pub ends : EndsAtCheck orb acts
     pub checked : is_some t.fault ≡ false → has_check orb acts ≡ false
 
   -- a transfer of the same command, as far as it has come
-  same-command : (orb : Orb) (acts : List Act) (ps qs : List (Option ℕ)) (t u : Transfer) → u.walk ≡ t.walk → u.moving.ccw ≡ t.moving.ccw → u.moving.kind ≡ t.moving.kind →
+  same-command : (orb : Orb) (acts : Sequence Act) (ps qs : List (Option ℕ)) (t u : Transfer) → u.walk ≡ t.walk → u.moving.ccw ≡ t.moving.ccw → u.moving.kind ≡ t.moving.kind →
       u.code ≡ t.code → u.command ≡ t.command → (is_some u.fault ≡ false → is_some t.fault ≡ false) → IsMovedTo orb (data_areas orb acts) u qs → Tied orb acts ps t → Tied orb acts qs u
   same-command orb acts ps qs t u w ccw kind c n f spot k = record {
     walk = w ∙ k.walk;
@@ -170,57 +171,57 @@ module _ (earlier : ℕ) where
     checked = λ e. k.checked (f e);
   }
 
-  pub changed : (orb : Orb) (acts : List Act) (ps : List (Option ℕ)) (t u : Transfer) → u.walk ≡ t.walk → u.moving ≡ t.moving → u.code ≡ t.code → u.command ≡ t.command →
+  pub changed : (orb : Orb) (acts : Sequence Act) (ps : List (Option ℕ)) (t u : Transfer) → u.walk ≡ t.walk → u.moving ≡ t.moving → u.code ≡ t.code → u.command ≡ t.command →
       (is_some u.fault ≡ false → is_some t.fault ≡ false) → (is_some t.fault ≡ true → is_some u.fault ≡ true) → Tied orb acts ps t → Tied orb acts ps u
   changed orb acts ps t u w m c n f g k =
       same-command orb acts ps ps t u w (ap (λ (x : Moving). x.ccw) m) (ap (λ (x : Moving). x.kind) m) c n f (spot-changed orb (data_areas orb acts) t u ps m g k.spot) k
 
-  faulted : (orb : Orb) (acts : List Act) (ps : List (Option ℕ)) (t : Transfer) (check : Check) → Tied orb acts ps t → Tied orb acts ps (record t { fault = Some check })
+  faulted : (orb : Orb) (acts : Sequence Act) (ps : List (Option ℕ)) (t : Transfer) (check : Check) → Tied orb acts ps t → Tied orb acts ps (record t { fault = Some check })
   faulted orb acts ps t check k = changed orb acts ps t (record t { fault = Some check }) refl refl refl refl (λ e. absurd (cc e)) (λ e. refl) k
 
   module _ (laws : AreLaws) where
     -- a command begins, or can't, or the program is suspended where one may begin
-    abbrev pub Begins : Orb → List Act → List Act → ℕ → CommandStart → Type 0
+    abbrev pub Begins : Orb → Sequence Act → Sequence Act → ℕ → CommandStart → Type 0
     Begins orb before acts n (came.Begins t) =
-        Tied orb acts [] t × (t.command ≡ n) × ((c : Command) × (commands orb acts ≡ c ∷ commands orb before) × (code c ≡ t.code) × IsFresh t)
+        Tied orb acts [] t × (t.command ≡ n) × ((c : Command) × (commands orb acts ≡ commands orb before ▸ c) × (code c ≡ t.code) × IsFresh t)
         × (is_some t.fault ≡ false)
     Begins orb before acts n came.Suspends =
         IsProgram orb acts × (data_areas orb acts ≡ data_areas orb before) × (commands orb acts ≡ commands orb before) × ((role_of orb acts).chained ≡ false) × IsSuspended orb acts × EndsAtCheck orb acts
     Begins orb before acts n (came.Stops check) =
         IsProgram orb acts × (data_areas orb acts ≡ data_areas orb before) × (commands orb acts ≡ commands orb before) × (next orb acts ≡ None) × EndsAtCheck orb acts
 
-    taken-begins : (orb : Orb) (before acts : List Act) (walk : WalkPlace) (n : ℕ) (ccw : Ccw) → walk ≡ walk_place orb acts →
-        (role_of orb before).chained ≡ false → length (commands orb before) + 1 ≡ earlier + n → IsProgram orb acts →
+    taken-begins : (orb : Orb) (before acts : Sequence Act) (walk : WalkPlace) (n : ℕ) (ccw : Ccw) → walk ≡ walk_place orb acts →
+        (role_of orb before).chained ≡ false → count (commands orb before) + 1 ≡ earlier + n → IsProgram orb acts →
         commands orb acts ≡ commands_after (role_of orb before).chained (commands orb before) (Takes ccw) →
         data_areas orb acts ≡ reaches_after (role_of orb before).chained (commands orb before) (data_areas orb before) (Takes ccw) → next orb acts ≡ None →
         (role_of orb acts).chained ≡ ccw.chain_data → EndsAtCheck orb acts → has_check orb acts ≡ false → Begins orb before acts n (came.Begins (transfer_of walk n ccw))
     taken-begins orb before acts walk n ccw w c l p f g h i en hc =
-        let cs : List Command = commands orb before in
-        let commanded : commands orb acts ≡ record { first = ccw; more = [] } ∷ cs =
-        f ∙ ap (λ (x : Bool). if x then join_last cs ccw else record { first = ccw; more = [] } ∷ cs) c in
-        let reached : data_areas orb acts ≡ reach ccw.command ccw ∷ [] =
+        let cs : Sequence Command = commands orb before in
+        let commanded : commands orb acts ≡ cs ▸ record { first = ccw; more = Nothing } =
+        f ∙ ap (λ (x : Bool). if x then join_last cs ccw else cs ▸ record { first = ccw; more = Nothing }) c in
+        let reached : data_areas orb acts ≡ Nothing ▸ reach ccw.command ccw =
         g ∙ ap (λ (x : Bool). reaches_with x cs (data_areas orb before) ccw) c in (
           record {
             walk = w;
             program = p;
             stands = h;
             chained = λ z. i;
-            coded = subst (λ (xs : List Command). HasCode xs ccw.command) (sym commanded) refl;
+            coded = subst (λ (xs : Sequence Command). HasCode xs ccw.command) (sym commanded) refl;
             kind = ap (λ (x : WalkPlace). kind_of x.orb) w;
             spot =
-                subst (λ (rs : List Reach). IsMovedTo orb rs (transfer_of walk n ccw) []) (sym reached)
+                subst (λ (rs : Sequence Reach). IsMovedTo orb rs (transfer_of walk n ccw) []) (sym reached)
                 (data-begins laws (kind_of walk.orb) ccw.command ccw, refl);
-            number = ap length commanded ∙ (let z : suc (length cs) ≡ length cs + 1 = omega arith in z) ∙ l;
+            number = ap count commanded ∙ (let z : suc (count cs) ≡ count cs + 1 = omega arith in z) ∙ l;
             ends = en;
             checked = λ z. hc;
           },
           refl,
-          (record { first = ccw; more = [] }, commanded, refl, (refl, refl, refl, refl, refl)),
+          (record { first = ccw; more = Nothing }, commanded, refl, (refl, refl, refl, refl, refl)),
           refl,
         )
 
-    advance-begins : (orb : Orb) (before acts : List Act) (walk : WalkPlace) (n : ℕ) (a : Option Advance) → walk ≡ walk_place orb acts → (role_of orb before).chained ≡ false →
-        length (commands orb before) + 1 ≡ earlier + n → IsProgram orb acts →
+    advance-begins : (orb : Orb) (before acts : Sequence Act) (walk : WalkPlace) (n : ℕ) (a : Option Advance) → walk ≡ walk_place orb acts → (role_of orb before).chained ≡ false →
+        count (commands orb before) + 1 ≡ earlier + n → IsProgram orb acts →
         Went (role_of orb before).chained (commands orb before) (commands orb acts) (data_areas orb before) (data_areas orb acts) (next orb acts) (role_of orb acts) a →
         ((x : Advance) → a ≡ Some x → Stands orb acts x) → (a ≡ None → next orb acts ≡ None) → EndsAtCheck orb acts × UnlessStops a (has_check orb acts) →
         Begins orb before acts n (command_begins walk n a)
@@ -230,7 +231,7 @@ module _ (earlier : ℕ) where
     advance-begins orb before acts walk n None w c l p k s z x = (p, k.1, k.0, z refl, x.0)
 
     -- where a program does not go on, no block was next
-    pub none-next : (storage : Contents) (orb : Orb) (before : List Act) → let old : WalkPlace = walk_place orb before in
+    pub none-next : (storage : Contents) (orb : Orb) (before : Sequence Act) → let old : WalkPlace = walk_place orb before in
         advance_of_acts old (advance_acts storage old) ≡ None → next orb before ≡ None
     none-next storage orb before = by (next orb before) refl
       where
@@ -243,17 +244,17 @@ module _ (earlier : ℕ) where
             let s : IsSome (advance_of_acts old (advance_acts storage old)) = (laws.stands storage old).1 (ap (λ (x : Option ℕ). is_some x) e) in
             absurd (cc (sym (ap (λ (x : Option Advance). is_some x) a) ∙ s))
 
-    pub goes-begins : (storage : Contents) (orb : Orb) (before : List Act) (n : ℕ) → (role_of orb before).chained ≡ false → length (commands orb before) + 1 ≡ earlier + n →
+    pub goes-begins : (storage : Contents) (orb : Orb) (before : Sequence Act) (n : ℕ) → (role_of orb before).chained ≡ false → count (commands orb before) + 1 ≡ earlier + n →
         IsProgram orb before → has_check orb before ≡ false → EndsAtCheck orb before →
-        Begins orb before (advance_acts storage (walk_place orb before) ++ before) n (goes_to storage n (walk_place orb before)).came
+        Begins orb before (before ▸▸ advance_acts storage (walk_place orb before)) n (goes_to storage n (walk_place orb before)).came
     goes-begins storage orb before n c l p hc en =
         let old : WalkPlace = walk_place orb before in
-        advance-begins orb before (advance_acts storage old ++ before) (after_acts old (advance_acts storage old)) n (advance_of_acts old (advance_acts storage old))
+        advance-begins orb before (before ▸▸ advance_acts storage old) (after_acts old (advance_acts storage old)) n (advance_of_acts old (advance_acts storage old))
         (laws.leads orb before (advance_acts storage old)) c l (laws.goes storage orb before p) (advance-went storage orb before)
         (λ x. acts-stand orb before (advance_acts storage old) x (laws.leads orb before))
         (λ e.
         let none : next orb before ≡ None = none-next storage orb before e in
-        subst (λ (xs : List Act). next orb (xs ++ before) ≡ None) (sym (ap (λ (x : Option ℕ). acts_from_next storage old x) none)) none)
+        subst (λ (xs : Sequence Act). next orb (before ▸▸ xs) ≡ None) (sym (ap (λ (x : Option ℕ). acts_from_next storage old x) none)) none)
         (advance-ends storage orb before hc en)
 
     -- a word of an indirect list
@@ -295,18 +296,18 @@ module _ (earlier : ℕ) where
         subst (λ (x : ListKind). each_below (place_of_byte (block x) r) m.done ≡ each_below (place_of_byte (block x) (reach_with_word r word)) m.done) e
         (sym (laws.stays r m word a (list-used (uses_list m) r m refl a n)))
 
-    right-spot : (orb : Orb) (rs : List Reach) (t : Transfer) (ps : List (Option ℕ)) (word size : ℕ) → t.moving.kind ≡ kind_of orb → is_some t.fault ≡ false →
+    right-spot : (orb : Orb) (rs : Sequence Reach) (t : Transfer) (ps : List (Option ℕ)) (word size : ℕ) → t.moving.kind ≡ kind_of orb → is_some t.fault ≡ false →
         needs_word t.moving ≡ true → word_fault t.moving.kind (t.moving.words == 0) word size ≡ None → IsMovedTo orb rs t ps →
         IsMovedTo orb (word_after rs word) (record t { moving = with_piece t.moving word }) ps
-    right-spot orb [] t ps word size e f n w k = k
-    right-spot orb (r ∷ rs) t ps word size e f n w k = (
+    right-spot orb Nothing t ps word size e f n w k = k
+    right-spot orb (rs ▸ r) t ps word size e f n w k = (
       laws.word r t.moving word k.0 (may-fetch r t.moving word size k.0 n w),
       k.1 ∙ ap (λ (xs : List (Option ℕ)). places_of_bytes (block (kind_of orb)) rs ++ xs) (same-places orb r t.moving word e k.0 n),
     )
 
-    right-tied : (orb : Orb) (acts : List Act) (ps : List (Option ℕ)) (t : Transfer) (word size : ℕ) (w : Option WordFault) →
+    right-tied : (orb : Orb) (acts : Sequence Act) (ps : List (Option ℕ)) (t : Transfer) (word size : ℕ) (w : Option WordFault) →
         word_fault t.moving.kind (t.moving.words == 0) word size ≡ w → is_some t.fault ≡ false → needs_word t.moving ≡ true → Tied orb acts ps t →
-        Tied orb (act_of_right w word ++ acts) ps (with_located t (where_right w (with_piece t.moving word)))
+        Tied orb (acts ▸▸ act_of_right w word) ps (with_located t (where_right w (with_piece t.moving word)))
     right-tied orb acts ps t word size None e f n k = record {
       walk = k.walk;
       program = k.program;
@@ -321,43 +322,43 @@ module _ (earlier : ℕ) where
     }
     right-tied orb acts ps t word size (Some fault) e f n k = faulted orb acts ps t Program k
 
-    word-tied : (orb : Orb) (acts : List Act) (ps : List (Option ℕ)) (t : Transfer) (size : ℕ) (w : Result ℕ Check) → is_some t.fault ≡ false →
-        needs_word t.moving ≡ true → Tied orb acts ps t → Tied orb (act_of_word t.moving size w ++ acts) ps (with_located t (access.piece_begun t.moving size w))
+    word-tied : (orb : Orb) (acts : Sequence Act) (ps : List (Option ℕ)) (t : Transfer) (size : ℕ) (w : Result ℕ Check) → is_some t.fault ≡ false →
+        needs_word t.moving ≡ true → Tied orb acts ps t → Tied orb (acts ▸▸ act_of_word t.moving size w) ps (with_located t (access.piece_begun t.moving size w))
     word-tied orb acts ps t size (Ok word) f n k = right-tied orb acts ps t word size (word_fault t.moving.kind (t.moving.words == 0) word size) refl f n k
     word-tied orb acts ps t size (Err check) f n k = faulted orb acts ps t check k
 
-    need-tied : (storage : Contents) (orb : Orb) (acts : List Act) (ps : List (Option ℕ)) (t : Transfer) (b : Bool) → needs_word t.moving ≡ b → is_some t.fault ≡ false →
+    need-tied : (storage : Contents) (orb : Orb) (acts : Sequence Act) (ps : List (Option ℕ)) (t : Transfer) (b : Bool) → needs_word t.moving ≡ b → is_some t.fault ≡ false →
         Tied orb acts ps t →
-        Tied orb ((if b then act_of_word t.moving (length storage.bytes) (access.word_fetched storage t.walk.orb.key t.moving) else []) ++ acts) ps
+        Tied orb (acts ▸▸ (if b then act_of_word t.moving (length storage.bytes) (access.word_fetched storage t.walk.orb.key t.moving) else Nothing)) ps
         (with_located t (if b then access.piece_begun t.moving (length storage.bytes) (access.word_fetched storage t.walk.orb.key t.moving) else Ok t.moving))
     need-tied storage orb acts ps t true n f k = word-tied orb acts ps t (length storage.bytes) (access.word_fetched storage t.walk.orb.key t.moving) f n k
     need-tied storage orb acts ps t false n f k = k
 
-    fault-tied : (storage : Contents) (orb : Orb) (acts : List Act) (ps : List (Option ℕ)) (t : Transfer) (b : Bool) → is_some t.fault ≡ b → Tied orb acts ps t →
-        Tied orb ((if b then [] else word_acts storage t.walk.orb.key t.moving) ++ acts) ps
+    fault-tied : (storage : Contents) (orb : Orb) (acts : Sequence Act) (ps : List (Option ℕ)) (t : Transfer) (b : Bool) → is_some t.fault ≡ b → Tied orb acts ps t →
+        Tied orb (acts ▸▸ (if b then Nothing else word_acts storage t.walk.orb.key t.moving)) ps
         (if b then t else with_located t (access.located storage t.walk.orb.key t.moving))
     fault-tied storage orb acts ps t true f k = k
     fault-tied storage orb acts ps t false f k = need-tied storage orb acts ps t (needs_word t.moving) refl f k
 
-    pub located-tied : (storage : Contents) (orb : Orb) (acts : List Act) (ps : List (Option ℕ)) (t : Transfer) → Tied orb acts ps t →
-        Tied orb (located_acts storage t ++ acts) ps (located_transfer storage t)
+    pub located-tied : (storage : Contents) (orb : Orb) (acts : Sequence Act) (ps : List (Option ℕ)) (t : Transfer) → Tied orb acts ps t →
+        Tied orb (acts ▸▸ located_acts storage t) ps (located_transfer storage t)
     located-tied storage orb acts ps t k = fault-tied storage orb acts ps t (is_some t.fault) refl k
 
     -- so it is where the command begins
-    room-by : (storage : Contents) (orb : Orb) (acts : List Act) (t : Transfer) (b : Bool) → Tied orb acts [] t →
-        Tied orb ((if b then located_acts storage t else []) ++ acts) [] (if b then with_room storage t else record { transfer = t; room = 0 }).transfer
+    room-by : (storage : Contents) (orb : Orb) (acts : Sequence Act) (t : Transfer) (b : Bool) → Tied orb acts [] t →
+        Tied orb (acts ▸▸ (if b then located_acts storage t else Nothing)) [] (if b then with_room storage t else record { transfer = t; room = 0 }).transfer
     room-by storage orb acts t true k = located-tied storage orb acts [] t k
     room-by storage orb acts t false k = k
 
-    pub room-tied : (storage : Contents) (orb : Orb) (acts : List Act) (t : Transfer) → Tied orb acts [] t →
-        Tied orb (room_acts storage (came.Begins t) ++ acts) [] (begun_with_room storage t).transfer
+    pub room-tied : (storage : Contents) (orb : Orb) (acts : Sequence Act) (t : Transfer) → Tied orb acts [] t →
+        Tied orb (acts ▸▸ room_acts storage (came.Begins t)) [] (begun_with_room storage t).transfer
     room-tied storage orb acts t k = room-by storage orb acts t (brings (class_of t.code)) k
 
     -- bytes are moved
-    moved-spot : (orb : Orb) (rs : List Reach) (t : Transfer) (ps : List (Option ℕ)) (n : ℕ) → t.moving.kind ≡ kind_of orb → n ≤ t.moving.left → IsMovedTo orb rs t ps →
+    moved-spot : (orb : Orb) (rs : Sequence Reach) (t : Transfer) (ps : List (Option ℕ)) (n : ℕ) → t.moving.kind ≡ kind_of orb → n ≤ t.moving.left → IsMovedTo orb rs t ps →
         IsMovedTo orb rs (with_bytes_moved t n) (ps ++ each_below (next_place t.moving) n)
-    moved-spot orb [] t ps n e l k = absurd k
-    moved-spot orb (r ∷ rs) t ps n e l k =
+    moved-spot orb Nothing t ps n e l k = absurd k
+    moved-spot orb (rs ▸ r) t ps n e l k =
         let b : ℕ = block (kind_of orb) in
         let m : Moving = t.moving in
         let more : each_below (place_of_byte b r) m.done ++ each_below (next_place m) n ≡ each_below (place_of_byte b r) (m.done + n) =
@@ -369,7 +370,7 @@ module _ (earlier : ℕ) where
               ∙ ap (λ (xs : List (Option ℕ)). places_of_bytes b rs ++ xs) more,
         )
 
-    pub with_bytes_moved-tied : (orb : Orb) (acts : List Act) (ps : List (Option ℕ)) (t : Transfer) (n : ℕ) → n ≤ t.moving.left → Tied orb acts ps t →
+    pub with_bytes_moved-tied : (orb : Orb) (acts : Sequence Act) (ps : List (Option ℕ)) (t : Transfer) (n : ℕ) → n ≤ t.moving.left → Tied orb acts ps t →
         Tied orb acts (ps ++ each_below (next_place t.moving) n) (with_bytes_moved t n)
     with_bytes_moved-tied orb acts ps t n l k =
         same-command orb acts ps (ps ++ each_below (next_place t.moving) n) t (with_bytes_moved t n) refl refl refl refl refl (λ e. e)
