@@ -1,6 +1,7 @@
 -- By which path the signals of a subchannel's programs go: what is taken of a program and what is sent to it goes by the path of the
 -- last Accept that was taken or Grant that was sent (SA22-7832, chapter 15, the working allegiance).
 use Rattle.std.specs.Prelude.{◌≡◌, ℕ, true, false, if◌then◌else◌, Option, None, Some, List, [], ◌∷◌}
+use Rattle.agreement_laws.specs.PathsSeen.{Connected, Offered, connected_on, IsConnected}
 use Rattle.chan_events.specs.Events.{Event}
 use Rattle.chan_events.specs.declared.event.Event.TheVariants as event
 use Rattle.chan_events.specs.declared.reply.Entry.{Entry}
@@ -15,24 +16,13 @@ use Rattle.channel_config.specs.declared.names.SubchannelId.{SubchannelId}
 use Rattle.channel_config.specs.SubchannelWords.{subchannel_named}
 use Rattle.run_laws.specs.StateClaims.{is_id}
 
--- a program is connected to its device: under which number, by which path, and by which connection
-pub record Connected : Type 0 where
-  pub number : ℕ
-  pub path : ℕ
-  pub connection : ℕ
-
 -- a signal that came up by a path was taken: by an Accept a program is connected, by a Leave it is no more
 abbrev pub connected_by : ℕ → Up → Option Connected → Option Connected
 connected_by path (up.Accept t) k = Some (record { number = t; path = path; connection = 0 })
 connected_by path (up.Leave t c) k = None
 connected_by path signal k = k
 
--- a signal was sent down by a path in answer: by a Grant a program is connected, by a Release it is no more
-abbrev pub connected_on : ℕ → Down → Option Connected → Option Connected
-connected_on path (down.Grant t c) k = Some (record { number = t; path = path; connection = c })
-connected_on path (down.Release t) k = None
-connected_on path signal k = k
-
+-- a signal was sent down in answer: by a Grant a program is connected, by a Release it is no more
 abbrev pub connected_with : Option (OnPath Down) → Option Connected → Option Connected
 connected_with None k = k
 connected_with (Some sent) k = connected_on sent.path sent.signal k
@@ -41,11 +31,7 @@ abbrev pub connected_in : ℕ → Reply → Option Connected → Option Connecte
 connected_in path (reply.Up signal true sent) k = connected_with sent (connected_by path signal k)
 connected_in path r k = k
 
--- a program is offered under a number, by a path
-pub record Offered : Type 0 where
-  pub number : ℕ
-  pub path : ℕ
-
+-- an offer
 abbrev pub offered_in : Reply → Option Offered → Option Offered
 offered_in (reply.Offered t p resumes) o = Some (record { number = t; path = p })
 offered_in r o = o
@@ -59,11 +45,6 @@ abbrev pub seen_after : ℕ → SubchannelId → Event → Reply → SeenPaths �
 seen_after sets id (event.Choose word) r k = if is_id (subchannel_named sets word) id then record k { offered = offered_in r k.offered } else k
 seen_after sets id (event.Up word path) r k = if is_id (subchannel_named sets word) id then record k { connected = connected_in path r k.connected } else k
 seen_after sets id e r k = k
-
--- the program of this number is connected by this path
-abbrev pub IsConnected : Option Connected → ℕ → ℕ → Type 0
-IsConnected None t p = ⊥
-IsConnected (Some k) t p = (k.number ≡ t) × (k.path ≡ p)
 
 -- an Accept that is taken is of the last offer, and came by its path; a Data, End or Leave came by the path of what is connected, a
 -- Data or Leave under its connection too

@@ -10,7 +10,7 @@ use Rattle.chan_model.specs.declared.signal.Up.TheVariants as up
 use Rattle.chan_model.specs.declared.unit_state.UnitState.{UnitState}
 use Rattle.wires.specs.Queues.{queue, taken, lost}
 use Rattle.subchannel_model.specs.Sending.{carried, with_any_sent}
-use Rattle.run_laws.specs.ByItsPath.{Connected}
+use Rattle.agreement_laws.specs.PathsSeen.{Connected}
 use Rattle.run_laws.proofs.Machine.WaitingSignals.{Each, each-front, each-weaker}
 use Rattle.run_laws.proofs.Signals.Lists.{after-front, after-none, taken-others, OnSent}
 use Rattle.run_laws.proofs.Signals.Meets.{Meets, Ignored, Turns, Begins, Declines, Moves, Ends, Ends_last, Grants, IsGone, Stays}

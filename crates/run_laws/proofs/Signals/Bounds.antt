@@ -10,7 +10,7 @@ use Rattle.chan_model.specs.declared.signal.OnPath.{OnPath}
 use Rattle.chan_model.specs.declared.signal.Up.TheVariants as up
 use Rattle.wires.specs.Queues.{queue, taken, lost}
 use Rattle.subchannel_model.specs.Sending.{carried, with_any_sent}
-use Rattle.run_laws.specs.ByItsPath.{Connected}
+use Rattle.agreement_laws.specs.PathsSeen.{Connected}
 use Rattle.run_laws.proofs.Machine.WaitingSignals.{Each, each-append, each-rest, each-weaker}
 use Rattle.run_laws.proofs.Signals.Lists.{After, after-push, after-rest, taken-queues, lost-queues, OnSent, sent-queues}
 use Rattle.run_laws.proofs.Signals.Meets.{IsPlainUp, IsPlainDown, ArePlainDown, IsCommandOn, AreCommandsOn, IsDataAnswer, AreDataAnswers, Offers, Refuses, Halts, Resets, Answers, Sends_command, Sends_room, Sends_bytes}

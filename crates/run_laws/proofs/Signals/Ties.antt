@@ -7,7 +7,8 @@ use Rattle.chan_model.specs.declared.hold_state.HoldPhase.TheVariants as hold
 use Rattle.chan_model.specs.Signals.{Down, Up}
 use Rattle.chan_model.specs.declared.signal.OnPath.{OnPath}
 use Rattle.chan_model.specs.declared.signal.Up.TheVariants as up
-use Rattle.run_laws.specs.ByItsPath.{SeenPaths, Offered, Connected, connected_by, connected_on, connected_with, connected_in, IsConnected, ComesRight, GoesRight, IsAnswerRight, IsReplyRight}
+use Rattle.agreement_laws.specs.PathsSeen.{Offered, Connected, connected_on, IsConnected}
+use Rattle.run_laws.specs.ByItsPath.{SeenPaths, connected_by, connected_with, connected_in, ComesRight, GoesRight, IsAnswerRight, IsReplyRight}
 use Rattle.run_laws.proofs.Signals.Meets.{Meets, Ignored, Turns, Begins, Declines, Moves, Ends, Ends_last, Leaves, Grants, IsGone, Stays, IsPlainUp, IsPlainDown, ArePlainDown, AreCommandsOn, AreDataAnswers, Offers, Refuses, Halts, Resets, Answers, Sends_command, Sends_room, Sends_bytes}
 
 abbrev pub linked : ℕ → ℕ → ℕ → Connected

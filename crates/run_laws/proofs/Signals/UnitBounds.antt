@@ -13,7 +13,7 @@ use Rattle.chan_model.specs.declared.unit_state.UnitState.{UnitState}
 use Rattle.step_laws.proofs.Places.{same-or-not}
 use Rattle.wires.specs.Queues.{queue, taken}
 use Rattle.subchannel_model.specs.Sending.{carried, with_any_sent}
-use Rattle.run_laws.specs.ByItsPath.{Connected}
+use Rattle.agreement_laws.specs.PathsSeen.{Connected}
 use Rattle.run_laws.proofs.Machine.WaitingSignals.{Each, each-front, each-weaker}
 use Rattle.run_laws.proofs.Signals.Lists.{after-front, after-none, taken-others, OnSent}
 use Rattle.run_laws.proofs.Signals.Ties.{linked, IsAt}

@@ -22,7 +22,7 @@ use Rattle.chan_model.proofs.TakenSignals.{Takes, Ignores, Notices, Accepts, Den
 use Rattle.chan_events.specs.declared.event.UnitAct.{UnitAct}
 use Rattle.chan_events.specs.declared.event.UnitAct.TheVariants as act
 use Rattle.machine_model.specs.ActSteps.{acts}
-use Rattle.run_laws.specs.ByItsPath.{Connected}
+use Rattle.agreement_laws.specs.PathsSeen.{Connected}
 use Rattle.run_laws.proofs.Signals.Ties.{linked}
 use Rattle.step_laws.specs.Walks.{IsOfSide}
 

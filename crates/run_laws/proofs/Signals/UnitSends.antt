@@ -30,7 +30,7 @@ use Rattle.chan_events.specs.declared.event.UnitAct.TheVariants as act
 use Rattle.machine_model.specs.ActSteps.{acts}
 use Rattle.chan_model.proofs.OneSide.{same-side}
 use Rattle.step_laws.specs.Walks.{IsOfSide}
-use Rattle.run_laws.specs.ByItsPath.{Connected}
+use Rattle.agreement_laws.specs.PathsSeen.{Connected}
 use Rattle.run_laws.proofs.Signals.Meets.{IsPlainUp}
 use Rattle.run_laws.proofs.Signals.Ties.{linked}
 use Rattle.run_laws.proofs.Signals.UnitMoves.{on_place, on_side, IsOff, floor_of, IsLess, side-own, here-floor, freed-floor, freed-side, owner-of-act}
