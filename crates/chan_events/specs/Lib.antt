@@ -1,4 +1,5 @@
 pub mod Events
+pub mod Instructions
 pub mod Replies
 pub mod ReportWords
 pub mod Fields

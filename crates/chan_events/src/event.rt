@@ -2,6 +2,7 @@
 
 ghost use Rattle.std.specs.Prelude.{◌≡◌, ◌≤◌, ◌++◌, ℕ, List, length};
 ghost use Rattle.chan_events.specs.Events as spec;
+ghost use Rattle.chan_events.specs.Instructions as instructions;
 
 use chan_model::chunk::{Chunk, ChunkLength};
 use chan_model::names::{Cpu, Side};
@@ -55,6 +56,25 @@ pub enum Instruction {
         subclass: u8,
         multipath: bool,
     },
+}
+
+impl Instruction {
+    /// General register 1: the word that names its subchannel.
+    pub fn subchannel_word(self) -> u32
+        ensures { result ≡ instructions.subchannel_word self }
+    {
+        match self {
+            Instruction::Ssch { subchannel, .. }
+            | Instruction::Tsch { subchannel, .. }
+            | Instruction::Stsch { subchannel, .. }
+            | Instruction::Msch { subchannel, .. }
+            | Instruction::Rsch { subchannel }
+            | Instruction::Hsch { subchannel }
+            | Instruction::Csch { subchannel }
+            | Instruction::Xsch { subchannel }
+            | Instruction::Enable { subchannel, .. } => subchannel,
+        }
+    }
 }
 
 /// An I/O instruction that names no subchannel (SA22-7832, chapter 14). Addresses are real.

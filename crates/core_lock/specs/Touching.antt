@@ -3,7 +3,7 @@ use Rattle.std.specs.Prelude.{◌≡◌, ◌<◌, ℕ, List, Option, None, Some,
 use Rattle.scsw_irb.specs.declared.serials.Serials.{Serials}
 use Rattle.chan_events.specs.Events.{Event}
 use Rattle.chan_events.specs.declared.event.Event.TheVariants as event
-use Rattle.machine_model.specs.InstructionSteps.{subchannel_word}
+use Rattle.chan_events.specs.Instructions.{subchannel_word}
 use Rattle.machine_model.specs.State.{State, place_of}
 use Rattle.core_lock.specs.declared.touching.ChangedSerials.{ChangedSerials}
 use Rattle.core_lock.specs.declared.touching.ChangedSerials.TheVariants.{Nothing, Place, All}

@@ -3,13 +3,12 @@
 ghost use Rattle.std.specs.Prelude.{◌≡◌, ℕ, length};
 ghost use Rattle.chan_events.specs.Events as events;
 ghost use Rattle.chan_events.specs.Replies.{Reply};
-ghost use Rattle.machine_model.specs.InstructionSteps as instruction_spec;
 ghost use Rattle.machine_model.specs.State.{State};
 ghost use Rattle.machine_model.specs.Steps.{Step};
 ghost use Rattle.subsystem.specs.Keeping.{all_serials};
 ghost use Rattle.core_lock.specs.Touching as spec;
 
-use chan_events::event::{Event, Instruction};
+use chan_events::event::Event;
 use path_select::PathChoice;
 use step_laws::walks;
 use subsystem::subsystem::Subsystem;
@@ -31,23 +30,6 @@ pub fn touches()
     walks();
 }
 
-/// General register 1 of an instruction: the word that names its subchannel.
-fn word_of(instruction: Instruction) -> u32
-    ensures { result ≡ instruction_spec.subchannel_word instruction }
-{
-    match instruction {
-        Instruction::Ssch { subchannel, .. }
-        | Instruction::Tsch { subchannel, .. }
-        | Instruction::Stsch { subchannel, .. }
-        | Instruction::Msch { subchannel, .. }
-        | Instruction::Rsch { subchannel }
-        | Instruction::Hsch { subchannel }
-        | Instruction::Csch { subchannel }
-        | Instruction::Xsch { subchannel }
-        | Instruction::Enable { subchannel, .. } => subchannel,
-    }
-}
-
 /// The subchannel that a word names.
 #[inline(always)]
 fn at_word<P: PathChoice + Drop>(subsystem: &Subsystem<P>, word: u32) -> ChangedSerials
@@ -67,7 +49,7 @@ pub fn touched_by<P: PathChoice + Drop>(subsystem: &Subsystem<P>, event: &Event)
     ensures there { spec.IsThere result (length (all_serials subsystem.now.state)) }
 {
     match event {
-        Event::Execute { instruction, .. } => at_word(subsystem, word_of(*instruction)),
+        Event::Execute { instruction, .. } => at_word(subsystem, instruction.subchannel_word()),
         Event::Choose { subchannel } | Event::Up { subchannel, .. } => {
             at_word(subsystem, *subchannel)
         }

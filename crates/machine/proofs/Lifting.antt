@@ -48,7 +48,8 @@ use Rattle.machine_model.specs.ActSteps.{act_at, act_on, act_sub, side_of_act, a
 use Rattle.machine_model.specs.OtherSteps.{LentWhole, OtherTurn, lent_whole, with_lent, other_done, other_turn}
 use Rattle.machine_model.specs.OtherSteps.{engaged_chpids}
 use Rattle.machine_model.specs.RestartSteps.{restart_at, restart_with}
-use Rattle.machine_model.specs.InstructionSteps.{Executes_at, subchannel_word, Executes_on}
+use Rattle.chan_events.specs.Instructions.{subchannel_word}
+use Rattle.machine_model.specs.InstructionSteps.{Executes_at, Executes_on}
 use Rattle.io_step.specs.Executing.{Executed_absent}
 use Rattle.io_step.specs.Performing.{Lent, Performed, Comes, lent}
 

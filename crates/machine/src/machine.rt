@@ -4,7 +4,6 @@ ghost use Rattle.std.specs.Prelude.{◌≡◌, ◌<◌, ◌≤◌, All, OnErr, N
 ghost use Rattle.subchannel_model.specs.declared.state.Subchannel.{Subchannel};
 ghost use Rattle.machine_model.specs.State as state_spec;
 ghost use Rattle.machine_model.specs.Ruled.{GoesByRule};
-ghost use Rattle.machine_model.specs.InstructionSteps as instruction_steps;
 ghost use Rattle.machine_model.specs.Steps as spec;
 ghost use Rattle.machine_model.specs.Bounds.{CanCount, CanUnitCount};
 ghost use Rattle.machine.specs.Postable.{IsPostable};
@@ -43,23 +42,6 @@ use std::marker::Model;
 use storage_keys::Storage;
 use subchannel::choosing::{chosen, paths_to_choose};
 use unit::Unit;
-
-/// General register 1: the word that names the subchannel of an instruction.
-fn word_of(instruction: Instruction) -> u32
-    ensures { result ≡ instruction_steps.subchannel_word instruction }
-{
-    match instruction {
-        Instruction::Ssch { subchannel, .. }
-        | Instruction::Tsch { subchannel, .. }
-        | Instruction::Stsch { subchannel, .. }
-        | Instruction::Msch { subchannel, .. }
-        | Instruction::Rsch { subchannel }
-        | Instruction::Hsch { subchannel }
-        | Instruction::Csch { subchannel }
-        | Instruction::Xsch { subchannel }
-        | Instruction::Enable { subchannel, .. } => subchannel,
-    }
-}
 
 /// The path of the last offer, Reset or Grant.
 fn last_path_of(sub: &Subchannel) -> Option<Path>
@@ -162,7 +144,7 @@ impl Machine {
     {
         engines();
         let instruction = *instruction;
-        let Some(id) = subchannel_named(self.sets, word_of(instruction)) else {
+        let Some(id) = subchannel_named(self.sets, instruction.subchannel_word()) else {
             return Err(Fault::Operand);
         };
         let Some(place) = places.place_in(id, self.subs.as_slice()) else {

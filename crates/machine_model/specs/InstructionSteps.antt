@@ -12,6 +12,7 @@ use Rattle.schib_block.specs.SchibTable.{ShowsPmcw, schib_tables}
 use Rattle.storage_keys.specs.declared.StorageFault.{StorageFault}
 use Rattle.storage_keys.specs.Storage.{operand_at, operand_check, operand_stored}
 use Rattle.chan_model.specs.declared.fault.Fault.TheVariants as fault
+use Rattle.chan_events.specs.Instructions.{subchannel_word}
 use Rattle.chan_events.specs.declared.event.Instruction.{Instruction}
 use Rattle.chan_events.specs.declared.event.Instruction.TheVariants as instruction
 use Rattle.chan_model.specs.declared.answer.Answer.{Answer}
@@ -161,17 +162,6 @@ Executes_at s cpu (instruction.Rsch word) found r = r ≡ function_at s found rs
 Executes_at s cpu (instruction.Hsch word) found r = r ≡ function_at s found hsch_code (λ sub. halted sub.state)
 Executes_at s cpu (instruction.Csch word) found r = r ≡ function_at s found csch_code (λ sub. cleared sub.state)
 Executes_at s cpu (instruction.Xsch word) found r = r ≡ function_at s found xsch_code (λ sub. cancelled sub.state)
-
-abbrev pub subchannel_word : Instruction → ℕ
-subchannel_word (instruction.Ssch word address) = word
-subchannel_word (instruction.Tsch word address) = word
-subchannel_word (instruction.Stsch word address) = word
-subchannel_word (instruction.Msch word address) = word
-subchannel_word (instruction.Enable word subclass multipath) = word
-subchannel_word (instruction.Rsch word) = word
-subchannel_word (instruction.Hsch word) = word
-subchannel_word (instruction.Csch word) = word
-subchannel_word (instruction.Xsch word) = word
 
 -- a word that names no subchannel is an operand exception
 abbrev pub Executes_on : State → ℕ → Instruction → Option SubchannelId → Outcome → Type 0

@@ -16,7 +16,7 @@ use Rattle.interruptions.specs.Requests as requests
 use Rattle.subchannel_model.specs.declared.state.Subchannel.{Subchannel}
 use Rattle.machine_model.specs.State.{State, sub_of}
 use Rattle.machine_model.specs.Turns.{Turn, Outcome}
-use Rattle.machine_model.specs.InstructionSteps.{subchannel_word}
+use Rattle.chan_events.specs.Instructions.{subchannel_word}
 
 -- the condition code that an instruction with this reply set; STORE CHANNEL PATH STATUS sets none
 abbrev pub reply_code : Reply → Option ConditionCode

@@ -14,7 +14,7 @@ use Rattle.chan_model.specs.ConditionCodes.{answer_of_code, code_of}
 use Rattle.channel_config.specs.declared.names.SubchannelId.{SubchannelId}
 use Rattle.channel_config.specs.Setup.{Setup, set_count}
 use Rattle.run_laws.specs.CodeSteps.{answer_in}
-use Rattle.machine_model.specs.InstructionSteps.{subchannel_word}
+use Rattle.chan_events.specs.Instructions.{subchannel_word}
 use Rattle.run_laws.specs.CodeTable.{code_due}
 use Rattle.run_laws.specs.Shown.{StoredStatus, names, Between}
 

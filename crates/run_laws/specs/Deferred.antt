@@ -17,7 +17,7 @@ use Rattle.chan_model.specs.Signals.{Up}
 use Rattle.chan_model.specs.declared.signal.Up.TheVariants as up
 use Rattle.chan_model.specs.UnitReports.{is_last_end}
 use Rattle.channel_config.specs.declared.names.SubchannelId.{SubchannelId}
-use Rattle.machine_model.specs.InstructionSteps.{subchannel_word}
+use Rattle.chan_events.specs.Instructions.{subchannel_word}
 use Rattle.subchannel_model.specs.Status.{intermediate_alone}
 use Rattle.run_laws.specs.Shown.{StoredStatus, names, is_accepted, Between}
 

@@ -13,7 +13,7 @@ use Rattle.chan_events.specs.declared.reply.Entry.{Entry}
 use Rattle.chan_events.specs.Replies.{Reply}
 use Rattle.chan_events.specs.declared.reply.Reply.TheVariants as reply
 use Rattle.channel_config.specs.declared.names.SubchannelId.{SubchannelId}
-use Rattle.machine_model.specs.InstructionSteps.{subchannel_word}
+use Rattle.chan_events.specs.Instructions.{subchannel_word}
 use Rattle.subchannel_model.specs.Status.{intermediate_alone}
 use Rattle.run_laws.specs.Shown.{StoredStatus, names, is_accepted, Between}
 

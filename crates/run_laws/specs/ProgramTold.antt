@@ -25,7 +25,7 @@ use Rattle.channel_config.specs.declared.parts.SubchannelSetup.{SubchannelSetup}
 use Rattle.channel_config.specs.Setup.{Setup, set_count}
 use Rattle.channel_config.specs.SubchannelWords.{subchannel_named}
 use Rattle.run_laws.specs.StateClaims.{is_id}
-use Rattle.machine_model.specs.InstructionSteps.{subchannel_word}
+use Rattle.chan_events.specs.Instructions.{subchannel_word}
 use Rattle.subchannel_model.specs.Places.{first_place}
 use Rattle.subchannel_model.specs.Test.{ends_suspended}
 use Rattle.run_laws.specs.Functions.{keeps_functions}

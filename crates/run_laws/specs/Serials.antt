@@ -17,7 +17,7 @@ use Rattle.chan_model.specs.declared.signal.OnPath.{OnPath}
 use Rattle.chan_model.specs.Signals.{Up}
 use Rattle.chan_model.specs.declared.signal.Up.TheVariants as up
 use Rattle.channel_config.specs.declared.names.SubchannelId.{SubchannelId}
-use Rattle.machine_model.specs.InstructionSteps.{subchannel_word}
+use Rattle.chan_events.specs.Instructions.{subchannel_word}
 use Rattle.run_laws.specs.Codes.{MayBe, enabled_in}
 use Rattle.run_laws.specs.Shown.{StoredStatus, names, stored_by, is_about, is_accepted, Between}
 use Rattle.run_laws.specs.BeginsItsOwn.{is_release}

@@ -14,7 +14,7 @@ use Rattle.chan_model.specs.declared.answer.Answer.TheVariants as answer
 use Rattle.channel_config.specs.declared.names.SubchannelId.{SubchannelId}
 use Rattle.channel_config.specs.SubchannelWords.{subchannel_named}
 use Rattle.run_laws.specs.StateClaims.{is_id}
-use Rattle.machine_model.specs.InstructionSteps.{subchannel_word}
+use Rattle.chan_events.specs.Instructions.{subchannel_word}
 
 -- the subchannel-status word; how many statuses were made of the subchannel, and how many of them are cleared
 pub record StoredStatus : Type 0 where

@@ -40,7 +40,7 @@ use Rattle.interruptions.specs.Requests.{WaitingRequests}
 use Rattle.scsw_irb.specs.declared.code.IntCode.{IntCode}
 use Rattle.machine_model.specs.State.{State, sub_of}
 use Rattle.machine_model.specs.Turns.{UpTurn}
-use Rattle.machine_model.specs.InstructionSteps.{subchannel_word}
+use Rattle.chan_events.specs.Instructions.{subchannel_word}
 use Rattle.machine_model.specs.UpSteps.{returns_at, up_front, up_sub}
 use Rattle.machine_model.specs.DownSteps.{asks_at}
 use Rattle.machine_model.specs.Requests.{reply_code, drops, requests_after, requests_dropped, posted_all, posted_for, request_of, makes_status}

@@ -32,8 +32,14 @@ use Rattle.subchannel_model.specs.declared.state.Subchannel.{Subchannel}
 use Rattle.subchannel_model.specs.Places.{Found, found_at, place_in, reached_in}
 use Rattle.subchannel_model.specs.Choosing.{chosen, marked_sub, paths_to_choose}
 use Rattle.machine_model.specs.State.{State, place_of, found_of, with_sub, state_with_unit}
+<<<<<<< HEAD
 use Rattle.machine_model.specs.Turns.{Outcome, Turn, SubTurn, UpTurn, DownTurn, at_sub, at_storage, at_unit, does}
 use Rattle.machine_model.specs.InstructionSteps.{subchannel_word, Executes_on}
+=======
+use Rattle.machine_model.specs.Turns.{Outcome, Turn, SubTurn, UpTurn, DownTurn, at_sub, at_storage, at_unit, does, where_tested}
+use Rattle.chan_events.specs.Instructions.{subchannel_word}
+use Rattle.machine_model.specs.InstructionSteps.{Executes_on}
+>>>>>>> h2
 use Rattle.machine_model.specs.ChooseSteps.{choose_sub, Chooses}
 use Rattle.machine_model.specs.UpSteps.{returns_at, up_sub, up_at}
 use Rattle.machine_model.specs.DownSteps.{asks_at, share_with, at_shared, down_sub, down_at, down_unit}

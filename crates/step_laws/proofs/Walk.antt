@@ -29,7 +29,7 @@ use Rattle.subchannel_model.specs.declared.state.SubchannelState.{SubchannelStat
 use Rattle.subchannel_model.specs.Enable.{enabling}
 use Rattle.subchannel_model.specs.Start.{started}
 use Rattle.subchannel_model.specs.Store.{pmcw_of}
-use Rattle.machine_model.specs.InstructionSteps.{subchannel_word}
+use Rattle.chan_events.specs.Instructions.{subchannel_word}
 use Rattle.machine_model.specs.Turns.{with_state}
 use Rattle.step_laws.proofs.Executed.{IsDone, IsLeft, absent_reply, code_for, reply_of, state_left, set-same}
 

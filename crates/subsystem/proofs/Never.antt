@@ -43,6 +43,7 @@ use Rattle.subchannel_model.specs.Cancel.{xsch_code, cancelled}
 use Rattle.subchannel_model.specs.Places.{Found, found_at, place_in, reached_in}
 use Rattle.subchannel_model.specs.Choosing.{chosen, marked_sub, reset_sent, halt_sent, offered}
 use Rattle.machine_model.specs.StorageSteps as storage_spec
+use Rattle.chan_events.specs.Instructions as instructions
 use Rattle.machine_model.specs.InstructionSteps as instruction_steps
 use Rattle.machine_model.specs.ChooseSteps as choose_spec
 use Rattle.subchannel_model.specs.Sending as sending_spec
@@ -323,7 +324,7 @@ does s (event.Put address bytes) r e = is r (storage_spec.put_turn s address byt
 does s (event.SetKey address key) r e = is r (storage_spec.key_turn s address key) (stored s (key_set s.storage address key)) e
 does s (event.SetPrefix cpu address) r e = is r (storage_spec.prefix_turn s cpu address) (stored s (prefix_set s.storage cpu address)) e
 does s (event.Show address count) r e = is r (storage_spec.show_turn s address count) (told s (shown s.storage address count)) e
-does s (event.Execute cpu i) r e = executes_on s cpu i (subchannel_named s.sets (instruction_steps.subchannel_word i)) r e
+does s (event.Execute cpu i) r e = executes_on s cpu i (subchannel_named s.sets (instructions.subchannel_word i)) r e
 does s (event.ExecuteOther cpu i) r e = is r (other_spec.other_at s cpu i) (other_at s cpu i) e
 does s (event.Choose word) r e = chooses s (found_of s word) r e
 does s (event.Up word path) r e = is r (up_spec.up_at s (found_of s word) path) (up_at s (found_of s word) path) e

@@ -18,7 +18,7 @@ use Rattle.channel_config.specs.Setup.{Setup}
 use Rattle.subchannel_model.specs.declared.state.Subchannel.{Subchannel}
 use Rattle.subchannel_model.specs.Conditions.{condition_of}
 use Rattle.subchannel_model.specs.Places.{sub_at}
-use Rattle.machine_model.specs.InstructionSteps.{subchannel_word}
+use Rattle.chan_events.specs.Instructions.{subchannel_word}
 use Rattle.machine_model.specs.State.{State, opening_of, place_of, sub_of}
 use Rattle.machine_model.specs.Steps.{HasRun, Performs, Run, Step, Stepped}
 use Rattle.run_laws.specs.StateClaims.{IsLaterSubchannel, IsPendingUncleared}

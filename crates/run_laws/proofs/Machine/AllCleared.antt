@@ -21,7 +21,7 @@ use Rattle.subchannel_model.specs.Programs.{without_programs}
 use Rattle.subchannel_model.specs.Test.{ends_suspended, tested}
 use Rattle.machine_model.specs.State.{State, place_of}
 use Rattle.machine_model.specs.declared.state.Sweep.TheVariants as sweep
-use Rattle.machine_model.specs.InstructionSteps.{subchannel_word}
+use Rattle.chan_events.specs.Instructions.{subchannel_word}
 use Rattle.machine_model.specs.PathSteps.{swept, reset_system}
 use Rattle.machine_model.specs.Steps.{Step}
 use Rattle.step_laws.proofs.Places.{get-set, map-get, found-there}

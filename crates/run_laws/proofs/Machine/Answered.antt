@@ -16,7 +16,8 @@ use Rattle.subchannel_model.specs.declared.state.SubchannelState.{SubchannelStat
 use Rattle.subchannel_model.specs.Conditions.{condition_of}
 use Rattle.subchannel_model.specs.Places.{Found, found_at, is_named, place_in, place_of_id, sub_at, found_with, one_later}
 use Rattle.machine_model.specs.State.{State}
-use Rattle.machine_model.specs.InstructionSteps.{subchannel_word, stores_irb}
+use Rattle.chan_events.specs.Instructions.{subchannel_word}
+use Rattle.machine_model.specs.InstructionSteps.{stores_irb}
 use Rattle.machine_model.specs.Steps.{Step}
 use Rattle.step_laws.proofs.Places.{get-set, found-there}
 use Rattle.run_laws.specs.CodeSteps.{serials_of, answer_in, IsByTable, state_of}

@@ -33,7 +33,7 @@ use Rattle.run_laws.proofs.Machine.Names.{same-id}
 use Rattle.run_laws.specs.StateClaims.{IsLaterSubchannel, is_id, serial_of, serials, is_same_id, serial_at, serial_shown}
 use Rattle.run_laws.proofs.Machine.Sound.{AreNumbered}
 use Rattle.run_laws.proofs.Machine.RunSound.{SoundSub, one-of, run-sound, step-sets, step-later}
-use Rattle.machine_model.specs.InstructionSteps.{subchannel_word}
+use Rattle.chan_events.specs.Instructions.{subchannel_word}
 use Rattle.step_laws.proofs.Places.{get-set, found-there}
 use Rattle.step_laws.proofs.Executed.{IsDone, IsLeft, code_for, reply_of, state_left, done-settled}
 use Rattle.step_laws.proofs.Turns as turn

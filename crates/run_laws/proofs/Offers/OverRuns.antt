@@ -27,7 +27,8 @@ use Rattle.subchannel_model.specs.Places.{Found, place_in, place_of_id, found_at
 use Rattle.subchannel_model.specs.Resume.{resumed}
 use Rattle.subchannel_model.specs.Start.{started}
 use Rattle.subchannel_model.specs.Test.{ends_suspended, tested_wholly, tsch_code}
-use Rattle.machine_model.specs.InstructionSteps.{subchannel_word, function_sub, test_with, code_at}
+use Rattle.chan_events.specs.Instructions.{subchannel_word}
+use Rattle.machine_model.specs.InstructionSteps.{function_sub, test_with, code_at}
 use Rattle.machine_model.specs.PathSteps.{swept}
 use Rattle.machine_model.specs.State.{State, place_of}
 use Rattle.machine_model.specs.Steps.{Step}

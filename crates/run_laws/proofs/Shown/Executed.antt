@@ -8,7 +8,7 @@ use Rattle.chan_events.specs.Replies.{Reply}
 use Rattle.subchannel_model.specs.Places.{Found, found_at, place_in}
 use Rattle.interruptions.specs.Requests.{WaitingRequests}
 use Rattle.machine_model.specs.State.{State}
-use Rattle.machine_model.specs.InstructionSteps.{subchannel_word}
+use Rattle.chan_events.specs.Instructions.{subchannel_word}
 use Rattle.machine_model.specs.Steps.{Step}
 use Rattle.storage_keys.specs.Storage.{Contents}
 use Rattle.subchannel_model.specs.declared.state.Subchannel.{Subchannel}

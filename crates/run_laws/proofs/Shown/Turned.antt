@@ -29,7 +29,7 @@ use Rattle.machine_model.specs.declared.state.Sweep.TheVariants as sweep
 use Rattle.machine_model.specs.ActSteps.{has_path_of_act, acts, act_sub}
 use Rattle.machine_model.specs.ChooseSteps.{choose_sub}
 use Rattle.machine_model.specs.DownSteps.{down_front, down_sub, asks_at}
-use Rattle.machine_model.specs.InstructionSteps.{subchannel_word}
+use Rattle.chan_events.specs.Instructions.{subchannel_word}
 use Rattle.machine_model.specs.PathSteps.{swept, with_swept}
 use Rattle.machine_model.specs.ReportSteps.{report_taken}
 use Rattle.machine_model.specs.State.{State, place_of, with_sub}

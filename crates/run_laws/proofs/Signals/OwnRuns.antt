@@ -28,7 +28,8 @@ use Rattle.subchannel_model.specs.Opening.{opened}
 use Rattle.subchannel_model.specs.Places.{Found, place_in, place_of_id, found_at}
 use Rattle.subchannel_model.specs.Start.{started}
 use Rattle.machine_model.specs.declared.state.Sweep.{Sweep}
-use Rattle.machine_model.specs.InstructionSteps.{code_at, function_sub, subchannel_word}
+use Rattle.chan_events.specs.Instructions.{subchannel_word}
+use Rattle.machine_model.specs.InstructionSteps.{code_at, function_sub}
 use Rattle.machine_model.specs.PathSteps.{swept}
 use Rattle.machine_model.specs.State.{State, opening_of, place_of}
 use Rattle.machine_model.specs.Steps.{Run, Opened, Stepped, Step}

@@ -20,7 +20,7 @@ use Rattle.channel_config.specs.declared.names.SubchannelId.{SubchannelId}
 use Rattle.channel_config.specs.Setup.{Setup}
 use Rattle.channel_config.specs.SubchannelWords.{subchannel_named}
 use Rattle.run_laws.specs.StateClaims.{is_id}
-use Rattle.machine_model.specs.InstructionSteps.{subchannel_word}
+use Rattle.chan_events.specs.Instructions.{subchannel_word}
 use Rattle.machine_model.specs.State.{State, opening_of, place_of}
 use Rattle.machine_model.specs.Steps.{Run, Step}
 use Rattle.step_laws.proofs.Places.{both-true, map-get}

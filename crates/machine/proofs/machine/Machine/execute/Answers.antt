@@ -4,7 +4,7 @@ use Rattle.chan_events.specs.declared.event.Event.TheVariants as event
 use Rattle.machine_model.specs.State.{State, with_sub}
 use Rattle.machine_model.specs.Steps.{Performs}
 use Rattle.subchannel_model.specs.Places.{place_in}
-use Rattle.machine_model.specs.InstructionSteps.{subchannel_word}
+use Rattle.chan_events.specs.Instructions.{subchannel_word}
 use Rattle.chan_events.specs.Replies.{plain_outcome}
 use Rattle.signal_step.specs.Giving.{posted_since}
 use Rattle.machine.specs.contracts.machine.Machine.{the_view}
@@ -16,14 +16,14 @@ pub returns-in_default : goal.returns-in_default
 returns-in_default c =
     let old = the_view c.self.inside in
     let named : subchannel_named old.sets (subchannel_word c.args.instruction.now) ≡ None =
-    ap (subchannel_named old.sets) (sym c.word_of.ensures) ∙ (sym c.subchannel_named.ensures.value ∙ c.in_default.is) in
+    ap (subchannel_named old.sets) (sym c.subchannel_word.ensures) ∙ (sym c.subchannel_named.ensures.value ∙ c.in_default.is) in
     rw (← c.self.view_is) (executes-unnamed old c.args.cpu c.args.instruction.now named)
 
 pub returns-in_default-place_in : goal.returns-in_default-place_in
 returns-in_default-place_in c =
     let old = the_view c.self.inside in
     let named : subchannel_named old.sets (subchannel_word c.args.instruction.now) ≡ Some c.in-Some.id =
-    ap (subchannel_named old.sets) (sym c.word_of.ensures) ∙ (sym c.subchannel_named.ensures.value ∙ c.in-Some.is) in
+    ap (subchannel_named old.sets) (sym c.subchannel_word.ensures) ∙ (sym c.subchannel_named.ensures.value ∙ c.in-Some.is) in
     let placed : place_in c.in-Some.id old.subs ≡ None =
     ap (place_in c.in-Some.id) (sym c.as_slice.ensures.value) ∙ (sym c.place_in.ensures.place ∙ c.in_default-place_in.is) in
     subst (λ (s : State). Performs s (event.Execute c.args.cpu c.args.instruction.now) (plain_outcome c.execute_absent.result) (record old { storage = c.execute_absent.new.storage })) c.self.view_is
@@ -34,7 +34,7 @@ returns c =
     let old = the_view c.self.inside in
     let subs : c.as_slice.result.now ≡ old.subs = c.as_slice.ensures.value in
     let named : subchannel_named old.sets (subchannel_word c.args.instruction.now) ≡ Some c.in-Some.id =
-    ap (subchannel_named old.sets) (sym c.word_of.ensures) ∙ (sym c.subchannel_named.ensures.value ∙ c.in-Some.is) in
+    ap (subchannel_named old.sets) (sym c.subchannel_word.ensures) ∙ (sym c.subchannel_named.ensures.value ∙ c.in-Some.is) in
     let placed : place_in c.in-Some.id old.subs ≡ Some c.in-Some-place_in.place =
     ap (place_in c.in-Some.id) (sym subs) ∙ (sym c.place_in.ensures.place ∙ c.in-Some-place_in.is) in
     let stands = at_seen old.subs c.as_slice.result.now c.in-Some-place_in.place c.index_mut-sub.result.now (sym subs) c.in-Some-place_in.ensures.bound c.index_mut-sub.ensures.value in
@@ -49,7 +49,7 @@ invariant_of-self-2 c =
     let old = the_view c.self.inside in
     let subs : c.as_slice.result.now ≡ old.subs = c.as_slice.ensures.value in
     let named : subchannel_named old.sets (subchannel_word c.args.instruction.now) ≡ Some c.in-Some.id =
-    ap (subchannel_named old.sets) (sym c.word_of.ensures) ∙ (sym c.subchannel_named.ensures.value ∙ c.in-Some.is) in
+    ap (subchannel_named old.sets) (sym c.subchannel_word.ensures) ∙ (sym c.subchannel_named.ensures.value ∙ c.in-Some.is) in
     let placed : place_in c.in-Some.id old.subs ≡ Some c.in-Some-place_in.place =
     ap (place_in c.in-Some.id) (sym subs) ∙ (sym c.place_in.ensures.place ∙ c.in-Some-place_in.is) in
     let place = c.in-Some-place_in.place in
