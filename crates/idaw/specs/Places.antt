@@ -30,11 +30,6 @@ each_below f (suc n) = each_below f n ++ f n ∷ []
 abbrev pub places_from : ℕ → Reach → ℕ → ℕ → List (Option ℕ)
 places_from b r j n = each_below (λ i. place_of_byte b r (j + i)) n
 
--- the places of a command are those of its command words in order, the latest of which stands first
-abbrev pub places_of_bytes : ℕ → List Reach → List (Option ℕ)
-places_of_bytes b [] = []
-places_of_bytes b (r ∷ before) = places_of_bytes b before ++ each_below (place_of_byte b r) r.ccw.count
-
 -- one more word of the list is fetched
 abbrev pub reach_with_word : Reach → ℕ → Reach
 reach_with_word r word = record r { words = r.words ++ word ∷ [] }

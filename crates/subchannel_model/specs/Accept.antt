@@ -1,7 +1,7 @@
 -- Accept: the device accepts the program that was offered (SA22-7832, chapter 15, start function and path management; the signal is this
 -- project's own). The program takes the device and its first command is sent; where none can be, or a halt is pending, the device is let go.
 -- t is the number of the offer.
-use Rattle.std.specs.Prelude.{ℕ, Bool, true, false, not, ◌==◌, ◌&&◌, if◌then◌else◌, Option, None, Some, is_some, [], slice_set}
+use Rattle.std.specs.Prelude.{ℕ, Bool, true, false, not, ◌==◌, ◌&&◌, if◌then◌else◌, Option, None, Some, is_some, slice_set}
 use Rattle.scsw_irb.specs.declared.scsw.ActivityControl.{ActivityControl}
 use Rattle.scsw_irb.specs.declared.scsw.Scsw.{Scsw}
 use Rattle.storage_keys.specs.Storage.{Contents}
