@@ -1,4 +1,4 @@
--- Signals in places that are made beforehand, and what stands there.
+-- Signals in slots that are made beforehand, and what stands there.
 use Rattle.std.specs.Prelude.{ℕ, Bool, true, false, Option, None, Some}
 use Rattle.chan_model.specs.declared.signal.OnPath.{OnPath}
 use Rattle.chan_model.specs.declared.signal.Taken.{Taken}
@@ -15,8 +15,8 @@ abbrev pub is_taken : Met → Bool
 is_taken done.Ignored = false
 is_taken done.Taken = true
 
-abbrev pub came_so : {A : Type 0} → Met → Option (OnPath A) → Taken A
-came_so met sent = record { taken = is_taken met; sent = sent }
+abbrev pub outcome_with : {A : Type 0} → Met → Option (OnPath A) → Taken A
+outcome_with met sent = record { taken = is_taken met; sent = sent }
 
 -- the path of a signal that is sent
 abbrev pub sent_path : {A : Type 0} → Option (OnPath A) → Option ℕ

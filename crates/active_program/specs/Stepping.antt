@@ -7,7 +7,7 @@ use Rattle.subchannel_model.specs.declared.state.SubchannelState.{SubchannelStat
 use Rattle.subchannel_model.specs.declared.state.UpStep.{UpStep}
 
 abbrev pub subchannel_stepped : SubchannelState → Taken Down → UpStep
-subchannel_stepped s came = record { state = s; came = came }
+subchannel_stepped s outcome = record { state = s; outcome = outcome }
 
 abbrev pub not_taken : Taken Down
 not_taken = record { taken = false; sent = None }

@@ -3,7 +3,7 @@
 ghost use Rattle.std.specs.Prelude.{◌≡◌, ◌<◌, ◌^◌, is_some};
 ghost use Rattle.chan_model.specs.HoldTable.{hold_takes};
 ghost use Rattle.chan_model.specs.Lent.{lent_up, plain_down};
-ghost use Rattle.active_program.specs.Sent.{came_so};
+ghost use Rattle.active_program.specs.Sent.{outcome_with};
 ghost use Rattle.subchannel_model.specs.Causes.{with_cause};
 ghost use Rattle.subchannel_model.specs.Accept as on_accept;
 ghost use Rattle.subchannel_model.specs.Outcomes as outcomes;
@@ -176,7 +176,7 @@ fn send_first(
     sent: &mut SentDown,
 ) -> Met
     requires { state.old.state.serials.made < 2 ^ 63 }
-    ensures step { subchannel_stepped state.new.state (came_so result sent.new) ≡ on_accept.sends_first_command state.old.state connection.path connection.number program (transfer_spec.begun_with_room storage.now first) }
+    ensures step { subchannel_stepped state.new.state (outcome_with result sent.new) ≡ on_accept.sends_first_command state.old.state connection.path connection.number program (transfer_spec.begun_with_room storage.now first) }
     ensures setup { state.new.setup ≡ state.old.setup }
 {
     take_over(state, program, first);
@@ -197,7 +197,7 @@ fn suspend_first(
     sent: &mut SentDown,
 ) -> Met
     requires { state.old.state.serials.made < 2 ^ 63 }
-    ensures step { subchannel_stepped state.new.state (came_so result sent.new) ≡
+    ensures step { subchannel_stepped state.new.state (outcome_with result sent.new) ≡
         outcomes.device_released (suspension.program_suspended state.old.state standing.now.program walk standing.now.count) }
     ensures setup { state.new.setup ≡ state.old.setup }
 {
@@ -215,7 +215,7 @@ fn check_first(
     sent: &mut SentDown,
 ) -> Met
     requires { state.old.state.serials.made < 2 ^ 63 }
-    ensures step { subchannel_stepped state.new.state (came_so result sent.new) ≡
+    ensures step { subchannel_stepped state.new.state (outcome_with result sent.new) ≡
         outcomes.device_released (with_cause state.old.state (cause.FetchFault tried check count)) }
     ensures setup { state.new.setup ≡ state.old.setup }
 {
@@ -240,7 +240,7 @@ fn begin_as(
     sent: &mut SentDown,
 ) -> Met
     requires { state.old.state.serials.made < 2 ^ 63 }
-    ensures step { subchannel_stepped state.new.state (came_so result sent.new) ≡
+    ensures step { subchannel_stepped state.new.state (outcome_with result sent.new) ≡
         on_accept.first_ccw_outcome storage.now state.old.state connection.path connection.number standing.now first.walk
         (transfer_spec.command_begins first.walk 1 first.advance) }
     ensures setup { state.new.setup ≡ state.old.setup }
@@ -267,7 +267,7 @@ fn begin_with(
     sent: &mut SentDown,
 ) -> Met
     requires { state.old.state.serials.made < 2 ^ 63 }
-    ensures step { subchannel_stepped state.new.state (came_so result sent.new) ≡ on_accept.begins_with storage.now state.old.state connection.path connection.number standing.now (transfer_spec.first_command storage.now standing.now.walk) }
+    ensures step { subchannel_stepped state.new.state (outcome_with result sent.new) ≡ on_accept.begins_with storage.now state.old.state connection.path connection.number standing.now (transfer_spec.first_command storage.now standing.now.walk) }
     ensures setup { state.new.setup ≡ state.old.setup }
 {
     let mut walk = standing.walk;
@@ -283,7 +283,7 @@ fn begin_standing(
     sent: &mut SentDown,
 ) -> Met
     requires { state.old.state.serials.made < 2 ^ 63 }
-    ensures step { subchannel_stepped state.new.state (came_so result sent.new) ≡ on_accept.begins_at storage.now state.old.state connection.path connection.number (on_accept.offered_position state.old.state) }
+    ensures step { subchannel_stepped state.new.state (outcome_with result sent.new) ≡ on_accept.begins_at storage.now state.old.state connection.path connection.number (on_accept.offered_position state.old.state) }
     ensures setup { state.new.setup ≡ state.old.setup }
 {
     match standing(state) {
@@ -305,7 +305,7 @@ fn do_halt(state: &mut PackedState)
 /// What comes of an Accept that the hold took as `sent` says.
 fn accepted_by(storage: &Storage, state: &mut PackedState, met: Met, sent: &mut SentDown) -> Met
     requires { state.old.state.serials.made < 2 ^ 63 }
-    ensures step { subchannel_stepped state.new.state (came_so result sent.new) ≡ on_accept.accepted_in_phase storage.now state.old.state state.old.state.hold.phase (came_so met sent.old) }
+    ensures step { subchannel_stepped state.new.state (outcome_with result sent.new) ≡ on_accept.accepted_in_phase storage.now state.old.state state.old.state.hold.phase (outcome_with met sent.old) }
     ensures setup { state.new.setup ≡ state.old.setup }
 {
     let phase = state.rest().hold.phase;
@@ -332,7 +332,7 @@ pub fn accept(
     sent: &mut SentDown,
 ) -> Met
     requires { state.old.state.serials.made < 2 ^ 63 }
-    ensures step { subchannel_stepped state.new.state (came_so result sent.new) ≡ on_accept.takes_accept storage.now state.old.state (hold_takes state.old.state.hold path (lent_up signal.now) (on_accept.takes_device state.old.state)) }
+    ensures step { subchannel_stepped state.new.state (outcome_with result sent.new) ≡ on_accept.takes_accept storage.now state.old.state (hold_takes state.old.state.hold path (lent_up signal.now) (on_accept.takes_device state.old.state)) }
     ensures setup { state.new.setup ≡ state.old.setup }
 {
     let mut hold = Hold::of(state.rest().hold);

@@ -1,9 +1,9 @@
 //! What may come of a signal.
 
 ghost use Rattle.std.specs.Prelude.{◌≡◌, None, Some};
-ghost use Rattle.chan_model.specs.HoldTable.{came_of, hold_after, hold_takes};
+ghost use Rattle.chan_model.specs.HoldTable.{outcome_of, hold_after, hold_takes};
 ghost use Rattle.chan_model.specs.Lent.{lent_down, lent_up};
-ghost use Rattle.active_program.specs.Sent.{came_so};
+ghost use Rattle.active_program.specs.Sent.{outcome_with};
 ghost use Rattle.subchannel_model.specs.Outcomes as outcomes;
 ghost use Rattle.active_program.specs.Stepping.{not_taken, subchannel_stepped, taken_with};
 
@@ -17,27 +17,27 @@ use functions::PackedState;
 use hold::Hold;
 
 pub fn ignored(sent: &mut SentDown) -> Met
-    ensures { came_so result sent.new ≡ not_taken }
+    ensures { outcome_with result sent.new ≡ not_taken }
 {
     sent.clear();
     Met::Ignored
 }
 
 pub fn quiet(sent: &mut SentDown) -> Met
-    ensures { came_so result sent.new ≡ taken_with None }
+    ensures { outcome_with result sent.new ≡ taken_with None }
 {
     sent.clear();
     Met::Taken
 }
 
 pub(crate) fn send(sent: &mut SentDown, path: Path, signal: &LentDown<'_>) -> Met
-    ensures { came_so result sent.new ≡ taken_with (Some (record { path = path; signal = lent_down signal.now })) }
+    ensures { outcome_with result sent.new ≡ taken_with (Some (record { path = path; signal = lent_down signal.now })) }
 {
     sent.put(path, signal);
     Met::Taken
 }
 
-/// The hold takes a signal, with what it sends in a place.
+/// The hold takes a signal, with what it sends in a slot.
 pub fn take_by(
     hold: &mut Hold,
     path: Path,
@@ -46,18 +46,18 @@ pub fn take_by(
     sent: &mut SentDown,
 ) -> Met
     ensures state { hold.new ≡ hold_after hold.old (hold_takes hold.old path (lent_up signal.now) may) }
-    ensures came { came_so result sent.new ≡ came_of (hold_takes hold.old path (lent_up signal.now) may) }
+    ensures outcome { outcome_with result sent.new ≡ outcome_of (hold_takes hold.old path (lent_up signal.now) may) }
 {
-    let came = hold.take(path, signal, may);
-    match &came.sent {
+    let outcome = hold.take(path, signal, may);
+    match &outcome.sent {
         None => sent.clear(),
         Some(OnPath { path, signal }) => sent.put(*path, &signal.lend()),
     }
-    Met::of(came.taken)
+    Met::of(outcome.taken)
 }
 
 pub(crate) fn let_go(state: &mut PackedState, sent: &mut SentDown) -> Met
-    ensures step { subchannel_stepped state.new.state (came_so result sent.new) ≡ outcomes.device_released state.old.state }
+    ensures step { subchannel_stepped state.new.state (outcome_with result sent.new) ≡ outcomes.device_released state.old.state }
     ensures setup { state.new.setup ≡ state.old.setup }
 {
     let mut hold = Hold::of(state.rest().hold);
@@ -75,7 +75,7 @@ pub fn by_hold(
     may: bool,
     sent: &mut SentDown,
 ) -> Met
-    ensures step { subchannel_stepped state.new.state (came_so result sent.new) ≡ outcomes.hold_outcome state.old.state (hold_takes state.old.state.hold path (lent_up signal.now) may) }
+    ensures step { subchannel_stepped state.new.state (outcome_with result sent.new) ≡ outcomes.hold_outcome state.old.state (hold_takes state.old.state.hold path (lent_up signal.now) may) }
     ensures setup { state.new.setup ≡ state.old.setup }
 {
     let mut hold = Hold::of(state.rest().hold);

@@ -2,7 +2,7 @@
 
 ghost use Rattle.std.specs.Prelude.{◌≡◌, ◌<◌, ◌^◌, IfSome};
 ghost use Rattle.chan_model.specs.Lent.{lent_up};
-ghost use Rattle.active_program.specs.Sent.{came_so};
+ghost use Rattle.active_program.specs.Sent.{outcome_with};
 ghost use Rattle.subchannel_model.specs.Causes.{with_cause};
 ghost use Rattle.subchannel_model.specs.Ends as end_spec;
 ghost use Rattle.subchannel_model.specs.End as on_end;
@@ -97,7 +97,7 @@ fn send_next(
     sent: &mut SentDown,
 ) -> Met
     requires { state.old.state.serials.made < 2 ^ 63 }
-    ensures step { IfSome state.old.state.begun (λ b. subchannel_stepped state.new.state (came_so result sent.new) ≡
+    ensures step { IfSome state.old.state.begun (λ b. subchannel_stepped state.new.state (outcome_with result sent.new) ≡
         on_end.sends_next_command state.old.state (on_end.with_first_end b) end.now command) }
     ensures setup { state.new.setup ≡ state.old.setup }
 {
@@ -122,7 +122,7 @@ fn suspend_at(
     sent: &mut SentDown,
 ) -> Met
     requires { state.old.state.serials.made < 2 ^ 63 }
-    ensures step { subchannel_stepped state.new.state (came_so result sent.new) ≡
+    ensures step { subchannel_stepped state.new.state (outcome_with result sent.new) ≡
         outcomes.device_released (suspension.program_suspended (on_end.with_allegiance_after_end state.old.state end.now) program walk count) }
     ensures setup { state.new.setup ≡ state.old.setup }
 {
@@ -141,7 +141,7 @@ fn check_at(
     sent: &mut SentDown,
 ) -> Met
     requires { state.old.state.serials.made < 2 ^ 63 }
-    ensures step { subchannel_stepped state.new.state (came_so result sent.new) ≡
+    ensures step { subchannel_stepped state.new.state (outcome_with result sent.new) ≡
         outcomes.device_released (with_cause (on_end.with_allegiance_after_end state.old.state end.now) (cause.FetchFault tried check count)) }
     ensures setup { state.new.setup ≡ state.old.setup }
 {
@@ -160,7 +160,7 @@ fn check_at(
 fn chain(storage: &Storage, state: &mut PackedState, end: &EndSignal, sent: &mut SentDown) -> Met
     requires made { state.old.state.serials.made < 2 ^ 63 }
     requires below { command_spec.AreNumbersBelow state.old.state.begun }
-    ensures step { IfSome state.old.state.begun (λ b. subchannel_stepped state.new.state (came_so result sent.new) ≡
+    ensures step { IfSome state.old.state.begun (λ b. subchannel_stepped state.new.state (outcome_with result sent.new) ≡
         on_end.chains_with storage.now state.old.state (on_end.with_first_end b) end.now (transfer_spec.next_command storage.now b.transfer (end_spec.has_status_modifier end.now.status))) }
     ensures setup { state.new.setup ≡ state.old.setup }
 {
@@ -170,7 +170,7 @@ fn chain(storage: &Storage, state: &mut PackedState, end: &EndSignal, sent: &mut
     let next = next_command(storage, &begun.transfer, end.status.has_modifier());
     let program = begun.program;
     let count = begun.transfer.moving.residual();
-    match next.came {
+    match next.outcome {
         CommandStart::Begins(transfer) => {
             let command = begun_with_room(storage, &transfer);
             send_next(state, end, command, sent)
@@ -189,7 +189,7 @@ fn note_end(begun: &mut ActiveProgram)
 fn go_on(storage: &Storage, state: &mut PackedState, end: &EndSignal, sent: &mut SentDown) -> Met
     requires made { state.old.state.serials.made < 2 ^ 63 }
     requires below { command_spec.AreNumbersBelow state.old.state.begun }
-    ensures step { IfSome state.old.state.begun (λ b. subchannel_stepped state.new.state (came_so result sent.new) ≡
+    ensures step { IfSome state.old.state.begun (λ b. subchannel_stepped state.new.state (outcome_with result sent.new) ≡
         on_end.chains_at_device_end storage.now state.old.state (on_end.with_first_end b) end.now) }
     ensures setup { state.new.setup ≡ state.old.setup }
 {
@@ -216,7 +216,7 @@ fn show_end(state: &mut PackedState, end: &EndSignal)
 
 fn stop_at(state: &mut PackedState, end: &EndSignal, sent: &mut SentDown) -> Met
     requires { state.old.state.serials.made < 2 ^ 63 }
-    ensures step { IfSome state.old.state.begun (λ b. subchannel_stepped state.new.state (came_so result sent.new) ≡ on_end.concludes state.old.state b end.now) }
+    ensures step { IfSome state.old.state.begun (λ b. subchannel_stepped state.new.state (outcome_with result sent.new) ≡ on_end.concludes state.old.state b end.now) }
     ensures setup { state.new.setup ≡ state.old.setup }
 {
     show_end(state, end);
@@ -245,7 +245,7 @@ fn command_ended(
 ) -> Met
     requires made { state.old.state.serials.made < 2 ^ 63 }
     requires below { command_spec.AreNumbersBelow state.old.state.begun }
-    ensures step { IfSome state.old.state.begun (λ b. subchannel_stepped state.new.state (came_so result sent.new) ≡ on_end.ends_command storage.now state.old.state b end.now) }
+    ensures step { IfSome state.old.state.begun (λ b. subchannel_stepped state.new.state (outcome_with result sent.new) ≡ on_end.ends_command storage.now state.old.state b end.now) }
     ensures setup { state.new.setup ≡ state.old.setup }
 {
     if chains_at(state, end) {
@@ -265,7 +265,7 @@ pub fn end_command(
 ) -> Met
     requires made { state.old.state.serials.made < 2 ^ 63 }
     requires below { command_spec.AreNumbersBelow state.old.state.begun }
-    ensures step { subchannel_stepped state.new.state (came_so result sent.new) ≡ working_spec.end_taken_by storage.now state.old.state (working_spec.end_by path (lent_up signal.now)) }
+    ensures step { subchannel_stepped state.new.state (outcome_with result sent.new) ≡ working_spec.end_taken_by storage.now state.old.state (working_spec.end_by path (lent_up signal.now)) }
     ensures setup { state.new.setup ≡ state.old.setup }
 {
     let Some(end) = end_by(path, signal) else {

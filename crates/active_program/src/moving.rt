@@ -3,7 +3,7 @@
 ghost use Rattle.std.specs.Prelude.{◌≡◌, ◌<◌, ◌≤◌, ◌^◌, IfSome, length};
 ghost use Rattle.chan_model.specs.Lent.{lent_up};
 ghost use Rattle.chan_model.specs.Signals.{load_bytes, load_of};
-ghost use Rattle.active_program.specs.Sent.{came_so};
+ghost use Rattle.active_program.specs.Sent.{outcome_with};
 ghost use Rattle.chan_model.specs.Loads.{load_length};
 ghost use Rattle.chan_model.specs.UnitReports.{is_outward as is_outward_code};
 ghost use Rattle.data_move.specs.FromDevice.{chunk_stored};
@@ -174,7 +174,7 @@ fn give_bytes(
     requires made { state.old.state.serials.made < 2 ^ 63 }
     requires sequence { moved.now.sequence < 2 ^ 63 }
     requires below { command_spec.AreNumbersBelow state.old.state.begun }
-    ensures step { IfSome state.old.state.begun (λ b. subchannel_stepped state.new.state (came_so result sent.new) ≡
+    ensures step { IfSome state.old.state.begun (λ b. subchannel_stepped state.new.state (outcome_with result sent.new) ≡
         working_spec.give_next storage.now state.old.state b moved.now count) }
     ensures setup { state.new.setup ≡ state.old.setup }
 {
@@ -194,7 +194,7 @@ fn take_bytes(
 ) -> Met
     requires made { state.old.state.serials.made < 2 ^ 63 }
     requires below { command_spec.AreNumbersBelow state.old.state.begun }
-    ensures step { IfSome state.old.state.begun (λ b. outcomes.with_storage storage.new (subchannel_stepped state.new.state (came_so result sent.new)) ≡
+    ensures step { IfSome state.old.state.begun (λ b. outcomes.with_storage storage.new (subchannel_stepped state.new.state (outcome_with result sent.new)) ≡
         on_data.tells_room_after state.old.state b moved.now (chunk_stored storage.old b.transfer moved.now.sequence bytes.now)) }
     ensures setup { state.new.setup ≡ state.old.setup }
 {
@@ -215,7 +215,7 @@ fn move_bytes(
     requires made { state.old.state.serials.made < 2 ^ 63 }
     requires sequence { moved.now.sequence < 2 ^ 63 }
     requires below { command_spec.AreNumbersBelow state.old.state.begun }
-    ensures step { IfSome state.old.state.begun (λ b. outcomes.with_storage storage.new (subchannel_stepped state.new.state (came_so result sent.new)) ≡
+    ensures step { IfSome state.old.state.begun (λ b. outcomes.with_storage storage.new (subchannel_stepped state.new.state (outcome_with result sent.new)) ≡
         on_data.moves_bytes storage.old state.old.state b moved.now (load_of (lent_up signal.now))) }
     ensures setup { state.new.setup ≡ state.old.setup }
 {
@@ -236,7 +236,7 @@ pub fn take_data(
 ) -> Met
     requires made { state.old.state.serials.made < 2 ^ 63 }
     requires below { command_spec.AreNumbersBelow state.old.state.begun }
-    ensures step { outcomes.with_storage storage.new (subchannel_stepped state.new.state (came_so result sent.new)) ≡ working_spec.data_taken storage.old state.old.state (load_of (lent_up signal.now)) (working_spec.data_by path (lent_up signal.now)) }
+    ensures step { outcomes.with_storage storage.new (subchannel_stepped state.new.state (outcome_with result sent.new)) ≡ working_spec.data_taken storage.old state.old.state (load_of (lent_up signal.now)) (working_spec.data_by path (lent_up signal.now)) }
     ensures setup { state.new.setup ≡ state.old.setup }
 {
     let Some(moved) = data_by(path, signal) else {

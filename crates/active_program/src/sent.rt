@@ -1,4 +1,4 @@
-//! A place for a signal that may be sent on a path.
+//! A slot for a signal that may be sent on a path.
 
 ghost use Rattle.std.specs.Prelude.{◌≡◌, None, Some};
 ghost use Rattle.chan_model.specs.Lent.{lent_down};

@@ -17,7 +17,7 @@ use Rattle.chan_model.specs.declared.unit_state.Own.TheVariants as own
 use Rattle.chan_model.specs.declared.unit_state.UnitState.{UnitState}
 use Rattle.chan_model.specs.Agreement.{Agrees, IsOutstanding, owner_of}
 use Rattle.chan_model.specs.Sides.{same_side}
-use Rattle.chan_model.specs.HoldTable.{HoldStep, program_begun, offer_accepted, found_busy, left, granting, refusing, asked_back, released, reset_cleared, attended, came_of, is_connected, is_on, letting_go, sending_reset}
+use Rattle.chan_model.specs.HoldTable.{HoldStep, program_begun, offer_accepted, found_busy, left, granting, refusing, asked_back, released, reset_cleared, attended, outcome_of, is_connected, is_on, letting_go, sending_reset}
 use Rattle.chan_model.specs.UnitTable.{side_of}
 use Rattle.agreement_laws.specs.Invariant.{IsGood}
 use Rattle.agreement_laws.specs.Moving.{hold_stepped, hold_offered, hold_taken, hold_acts, reset_again, still, UnitAct, Leaves, Asks, Reports}
@@ -29,7 +29,7 @@ use Rattle.agree.specs.declared.reply.WorldReply.TheVariants as reply
 use Rattle.agree.specs.Bounds.{IsWell}
 use Rattle.agree.specs.State.{WorldState, links_of, line_of, opening_world}
 use Rattle.agreement_laws.specs.Sending.{is_on_path, is_away}
-use Rattle.agree.specs.Turns.{WorldTurn, world_turn_of, counted, max_steps, world_turn, state_after, world_after}
+use Rattle.agree.specs.Results.{WorldResult, world_result_of, counted, max_steps, world_result, state_after, world_after}
 use Rattle.agree.specs.Replies.{told_down, told_up, is_taken, chosen_act, heard_reply, met_reply, owner_reply, reply_of}
 use Rattle.agree.specs.Histories.{WorldEntry, entered, entries_of}
 use Rattle.agreement_laws.specs.HolderSeen.{holder, Holding, is_held_by}
@@ -152,7 +152,7 @@ abbrev Agreed : Holding → Side → OnPath Up → Bool → Option (OnPath Down)
 Agreed k side x taken sent = AgreesIn (reply.Up side x taken sent) k
 
 abbrev AgreedBy : UnitState → Side → ℕ → HoldState → OnPath Up → Option HoldStep → Type 0
-AgreedBy u side n h x step = Agreed (holding_of u) side x (came_of step).taken (hold_stepped n h step).sent
+AgreedBy u side n h x step = Agreed (holding_of u) side x (outcome_of step).taken (hold_stepped n h step).sent
 
 if-agrees : (u : UnitState) (side : Side) (n : ℕ) (h : HoldState) (x : OnPath Up) (b : Bool) (s t : Option HoldStep) → (b ≡ true → AgreedBy u side n h x s) → AgreedBy u side n h x t → AgreedBy u side n h x (if b then s else t)
 if-agrees u side n h x true s t f g = f refl
@@ -277,10 +277,10 @@ owner-agrees w (own.Owned s t at) act = said-agrees (holding_of w.«unit») s _
 event-agrees : Means → (w : WorldState) (e : WorldEvent) (new : WorldState) → IsGood (links_of w) → MadeOf w e new → AgreesIn (reply_of w e) (holding_of w.«unit»)
 event-agrees means w (event.Choose s p single) new g made =
     chosen-agrees w.«unit» s (line_of w s).link.drawn (line_of w s).link.hold (line_of w s).link.hold.phase p single refl (agreed-at means w s g)
-event-agrees means w (event.Down s place keep may) new g made = met-agrees w s may (slice_get (line_of w s).link.downs place)
-event-agrees means w (event.Up s place keep may) new g made = heard-agrees w s may (slice_get (line_of w s).link.ups place) (agreed-at means w s g)
-event-agrees means w (event.LoseDown s place) new g made = tt
-event-agrees means w (event.LoseUp s place) new g made = tt
+event-agrees means w (event.Down s index keep may) new g made = met-agrees w s may (slice_get (line_of w s).link.downs index)
+event-agrees means w (event.Up s index keep may) new g made = heard-agrees w s may (slice_get (line_of w s).link.ups index) (agreed-at means w s g)
+event-agrees means w (event.LoseDown s index) new g made = tt
+event-agrees means w (event.LoseUp s index) new g made = tt
 event-agrees means w (event.PathDown s p) new g made = tt
 event-agrees means w (event.PathUp s p) new g made = tt
 event-agrees means w (event.PathReset s p) new g made = tt
@@ -298,21 +298,21 @@ event-agrees means w (event.Report report) new g made = owner-agrees w w.«unit�
 abbrev Goes : WorldState → WorldEvent → WorldState → Type 0
 Goes w e new = AgreesIn (reply_of w e) (holding_of w.«unit») × (holding_of new.«unit» ≡ holding_after e (reply_of w e) (holding_of w.«unit»))
 
-counted-agrees : (w : WorldState) (e : WorldEvent) (n : ℕ) (turn : WorldTurn) → OnDone (Goes w e) turn → OnDone (Goes w e) (counted n turn)
+counted-agrees : (w : WorldState) (e : WorldEvent) (n : ℕ) (turn : WorldResult) → OnDone (Goes w e) turn → OnDone (Goes w e) (counted n turn)
 counted-agrees w e n (Ok new) h = h
 counted-agrees w e n (Err f) h = tt
 
-bounded-agrees : (w : WorldState) (e : WorldEvent) (b : Bool) (turn : WorldTurn) → OnDone (Goes w e) turn → OnDone (Goes w e) (if b then turn else Err NoMemory)
+bounded-agrees : (w : WorldState) (e : WorldEvent) (b : Bool) (turn : WorldResult) → OnDone (Goes w e) turn → OnDone (Goes w e) (if b then turn else Err NoMemory)
 bounded-agrees w e true turn h = h
 bounded-agrees w e false turn h = tt
 
-turn-agrees : Means → Rises → (w : WorldState) (e : WorldEvent) → IsGood (links_of w) → OnDone (Goes w e) (world_turn w e)
+turn-agrees : Means → Rises → (w : WorldState) (e : WorldEvent) → IsGood (links_of w) → OnDone (Goes w e) (world_result w e)
 turn-agrees means rises w e g =
-    bounded-agrees w e (nat_lt w.steps max_steps) (counted w.steps (world_turn_of w e))
-    (counted-agrees w e w.steps (world_turn_of w e)
-    (done-weaker (MadeOf w e) (Goes w e) (λ new made. (event-agrees means w e new g made, (event-holds rises w e new g made).1)) (world_turn_of w e) (turn-made w e)))
+    bounded-agrees w e (nat_lt w.steps max_steps) (counted w.steps (world_result_of w e))
+    (counted-agrees w e w.steps (world_result_of w e)
+    (done-weaker (MadeOf w e) (Goes w e) (λ new made. (event-agrees means w e new g made, (event-holds rises w e new g made).1)) (world_result_of w e) (turn-made w e)))
 
-entered-agrees : (w : WorldState) (e : WorldEvent) (turn : WorldTurn) (entries : List WorldEntry) → OnDone (Goes w e) turn → AreAgreed (holding_of (state_after w turn).«unit») entries →
+entered-agrees : (w : WorldState) (e : WorldEvent) (turn : WorldResult) (entries : List WorldEntry) → OnDone (Goes w e) turn → AreAgreed (holding_of (state_after w turn).«unit») entries →
     AreAgreed (holding_of w.«unit») (entered w e turn entries)
 entered-agrees w e (Ok new) entries h rest = (h.0, subst (λ (k : Holding). AreAgreed k entries) h.1 rest)
 entered-agrees w e (Err f) entries h rest = rest
@@ -320,7 +320,7 @@ entered-agrees w e (Err f) entries h rest = rest
 list-agrees : Keeps → Ends → Means → Rises → (w : WorldState) (es : List WorldEvent) → IsWell w → AreAgreed (holding_of w.«unit») (entries_of w es)
 list-agrees keeps ends means rises w [] well = tt
 list-agrees keeps ends means rises w (e ∷ es) well =
-    entered-agrees w e (world_turn w e) (entries_of (world_after w e) es) (turn-agrees means rises w e well.good) (list-agrees keeps ends means rises (world_after w e) es (event-lasts keeps ends w e well).0)
+    entered-agrees w e (world_result w e) (entries_of (world_after w e) es) (turn-agrees means rises w e well.good) (list-agrees keeps ends means rises (world_after w e) es (event-lasts keeps ends w e well).0)
 
 pub both_agree : Keeps → Ends → Means → Rises → IsWell opening_world → (es : List WorldEvent) → DoBothAgree (entries_of opening_world es)
 both_agree keeps ends means rises well es = list-agrees keeps ends means rises opening_world es well

@@ -11,7 +11,7 @@ use Rattle.chan_model.specs.Signals.{Down}
 use Rattle.chan_model.specs.declared.unit_state.Attention.{Attention}
 use Rattle.chan_model.specs.declared.unit_state.Own.{Own}
 use Rattle.chan_model.specs.declared.unit_state.Own.TheVariants as own
-use Rattle.chan_model.specs.declared.unit_state.Connection.TheVariants as place
+use Rattle.chan_model.specs.declared.unit_state.Connection.TheVariants as connection
 use Rattle.chan_model.specs.declared.unit_state.UnitState.{UnitState}
 use Rattle.chan_model.specs.UnitTable.{unit_after, owns, is_idle, leaving, asking, attending, telling, noticing, side_of}
 use Rattle.chan_model.specs.UnitReports.{unit_reports}
@@ -22,10 +22,10 @@ use Rattle.agreement_laws.specs.Moving.{UnitAct, Takes_down, Leaves, Asks, Atten
 use Rattle.agree.specs.declared.event.WorldEvent.{WorldEvent}
 use Rattle.agree.specs.declared.event.WorldEvent.TheVariants as event
 use Rattle.agree.specs.State.{LineState, WorldState, line_of, with_line}
-use Rattle.agree.specs.Lines.{GivesTurn, LineTurn, UnitLine, acts_for, met, unit_meets, line_chosen, line_let_go, line_sends, hears, loses_down, loses_up, goes_down, comes_up, is_cut, acts}
+use Rattle.agree.specs.Lines.{GivesResult, LineResult, UnitLine, acts_for, met, unit_meets, line_chosen, line_let_go, line_sends, hears, loses_down, loses_up, goes_down, comes_up, is_cut, acts}
 use Rattle.agreement_laws.specs.Moving as moving
 use Rattle.agree.specs.Lines as line
-use Rattle.agree.specs.Turns.{WorldTurn, at_side, at_world_unit, at_owner, both_of, on_path, path_named, world_turn_of, counted, max_steps, world_turn, state_after, world_after}
+use Rattle.agree.specs.Results.{WorldResult, at_side, at_world_unit, at_owner, both_of, on_path, path_named, world_result_of, counted, max_steps, world_result, state_after, world_after}
 use Rattle.agree.specs.Promises.{IsApart, LeavesApart, EachApart}
 use Rattle.agree.proofs.Making.{OnDone, done-at_side, done-at_unit, done-at_owner, done-on_path, done-stepping}
 use Rattle.agree.proofs.Reports.{at_report}
@@ -39,10 +39,10 @@ sided-apart : (w : WorldState) (side : Side) (l : LineState) → IsApart side w 
 sided-apart w First l = record { «unit» = leaves-same First w.«unit»; line = refl }
 sided-apart w Second l = record { «unit» = leaves-same Second w.«unit»; line = refl }
 
-turn-apart : (w : WorldState) (side : Side) (turn : LineTurn) → OnDone (IsApart side w) (at_side w side turn)
+turn-apart : (w : WorldState) (side : Side) (turn : LineResult) → OnDone (IsApart side w) (at_side w side turn)
 turn-apart w side turn = done-at_side (IsApart side w) w side turn (any-done _ (sided-apart w side) turn)
 
-path-apart : (w : WorldState) (side : Side) (p : ℕ) (turn : ℕ → LineTurn) → OnDone (IsApart side w) (on_path (path_named p) (λ q. at_side w side (turn q)))
+path-apart : (w : WorldState) (side : Side) (p : ℕ) (turn : ℕ → LineResult) → OnDone (IsApart side w) (on_path (path_named p) (λ q. at_side w side (turn q)))
 path-apart w side p turn = done-on_path (IsApart side w) (path_named p) (λ q. at_side w side (turn q)) (λ q. turn-apart w side (turn q))
 
 -- a side and its unit
@@ -58,15 +58,15 @@ acts-apart w side act h =
     done-at_unit (IsApart side w) w side (acts_for (both_of w side) act)
     (done-stepping (λ b. IsApart side w (record (with_line w side b.line) { «unit» = b.«unit» })) (both_of w side) (unit_steps w.«unit» act) (united-apart w side _ _ h))
 
-met-apart : (w : WorldState) (side : Side) (x : Option (OnPath Down)) (place : ℕ) (keep may : Bool) →
-    OnDone (λ b. IsApart side w (record (with_line w side b.line) { «unit» = b.«unit» })) (met (both_of w side) side x place keep may)
-met-apart w side None place keep may = tt
-met-apart w side (Some x) place keep may = united-apart w side _ _ (leaves-unit_takes side w.«unit» x.path x.signal may)
+met-apart : (w : WorldState) (side : Side) (x : Option (OnPath Down)) (index : ℕ) (keep may : Bool) →
+    OnDone (λ b. IsApart side w (record (with_line w side b.line) { «unit» = b.«unit» })) (met (both_of w side) side x index keep may)
+met-apart w side None index keep may = tt
+met-apart w side (Some x) index keep may = united-apart w side _ _ (leaves-unit_takes side w.«unit» x.path x.signal may)
 
 -- what the unit does of itself
 attention-leaves : (side : Side) (u : UnitState) (n : ℕ) (a : Option Attention) (b : Bool) → LeavesOther side u (record u { attentions = n; attention = a; end_owed = b })
-attention-leaves First u n a b = record { kept = refl; owner = refl; program = λ h. record { own = refl; last_command = refl; at_hand = refl; halted = refl } }
-attention-leaves Second u n a b = record { kept = refl; owner = refl; program = λ h. record { own = refl; last_command = refl; at_hand = refl; halted = refl } }
+attention-leaves First u n a b = record { kept = refl; owner = refl; program = λ h. record { own = refl; last_command = refl; current = refl; halted = refl } }
+attention-leaves Second u n a b = record { kept = refl; owner = refl; program = λ h. record { own = refl; last_command = refl; current = refl; halted = refl } }
 
 pub attends-leaves : (side : Side) (u : UnitState) (p : ℕ) → LeavesOther side u (unit_after u (attending u side p))
 attends-leaves side u p = leaves-if side u (is_idle u.own && not (side_of u side).fresh) _ None (λ e. attention-leaves side u (u.attentions + 1) _ false) (leaves-same side u)
@@ -76,19 +76,19 @@ notices-leaves side u p = leaves-if side u (side_of u side).fresh (telling u p) 
 
 pub leaving-leaves : (side : Side) (u : UnitState) (o : Own) → owns u.own side ≡ true → owns o side ≡ true → LeavesOther side u (unit_after u (leaving u o))
 leaving-leaves side u own.Idle e f = leaves-same side u
-leaving-leaves side u (own.Owned k t (place.On p c)) e f = leaves-program side u _ refl refl (owns-other u.own side e) (apart k side f)
-leaving-leaves side u (own.Owned k t (place.Ask p c)) e f = leaves-same side u
-leaving-leaves side u (own.Owned k t (place.Away c)) e f = leaves-same side u
+leaving-leaves side u (own.Owned k t (connection.On p c)) e f = leaves-program side u _ refl refl (owns-other u.own side e) (apart k side f)
+leaving-leaves side u (own.Owned k t (connection.Ask p c)) e f = leaves-same side u
+leaving-leaves side u (own.Owned k t (connection.Away c)) e f = leaves-same side u
 
 pub asking-leaves : (side : Side) (u : UnitState) (o : Own) (p : ℕ) → owns u.own side ≡ true → owns o side ≡ true → LeavesOther side u (unit_after u (asking u o p))
 asking-leaves side u own.Idle p e f = leaves-same side u
-asking-leaves side u (own.Owned k t (place.On q c)) p e f = leaves-same side u
-asking-leaves side u (own.Owned k t (place.Ask q c)) p e f = leaves-program side u _ refl refl (owns-other u.own side e) (apart k side f)
-asking-leaves side u (own.Owned k t (place.Away c)) p e f = leaves-program side u _ refl refl (owns-other u.own side e) (apart k side f)
+asking-leaves side u (own.Owned k t (connection.On q c)) p e f = leaves-same side u
+asking-leaves side u (own.Owned k t (connection.Ask q c)) p e f = leaves-program side u _ refl refl (owns-other u.own side e) (apart k side f)
+asking-leaves side u (own.Owned k t (connection.Away c)) p e f = leaves-program side u _ refl refl (owns-other u.own side e) (apart k side f)
 
 pub report-leaves : (side : Side) (u : UnitState) (r : Report) → owns u.own side ≡ true → LeavesOther side u (unit_after u (unit_reports u r))
 report-leaves side u r e =
-    at_report (λ step. LeavesOther side u (unit_after u step)) u (leaves-same side u) (λ y sent le. leaves-changed side u (record u { at_hand = Some y }) e refl refl refl) r
+    at_report (λ step. LeavesOther side u (unit_after u step)) u (leaves-same side u) (λ y sent le. leaves-changed side u (record u { current = Some y }) e refl refl refl) r
 
 -- of the side whose program holds the device
 abbrev OfOwner : WorldState → WorldState → Type 0
@@ -110,13 +110,13 @@ owner-apart w act h =
     subst (λ (j : Side). IsApart side w (record (with_line w j (line.unit_stepped (both_of w j) (unit_steps w.«unit» act)).line) { «unit» = unit_after w.«unit» (unit_steps w.«unit» act) })) (sym same)
     (united-apart w side _ _ (h side e)))))
 
-pub turn-leaves : (w : WorldState) (e : WorldEvent) → OnDone (LeavesApart w e) (world_turn_of w e)
+pub turn-leaves : (w : WorldState) (e : WorldEvent) → OnDone (LeavesApart w e) (world_result_of w e)
 turn-leaves w (event.Choose side p single) = path-apart w side p (λ q. line_chosen (line_of w side) (line_of w side).link.hold.phase q single)
-turn-leaves w (event.Down side place keep may) =
-    done-at_unit (IsApart side w) w side (unit_meets (both_of w side) side place keep may) (met-apart w side (slice_get (line_of w side).link.downs place) place keep may)
-turn-leaves w (event.Up side place keep may) = turn-apart w side (hears (line_of w side) place keep may)
-turn-leaves w (event.LoseDown side place) = turn-apart w side (loses_down (line_of w side) place)
-turn-leaves w (event.LoseUp side place) = turn-apart w side (loses_up (line_of w side) place)
+turn-leaves w (event.Down side index keep may) =
+    done-at_unit (IsApart side w) w side (unit_meets (both_of w side) side index keep may) (met-apart w side (slice_get (line_of w side).link.downs index) index keep may)
+turn-leaves w (event.Up side index keep may) = turn-apart w side (hears (line_of w side) index keep may)
+turn-leaves w (event.LoseDown side index) = turn-apart w side (loses_down (line_of w side) index)
+turn-leaves w (event.LoseUp side index) = turn-apart w side (loses_up (line_of w side) index)
 turn-leaves w (event.PathDown side p) = path-apart w side p (λ q. goes_down (line_of w side) q)
 turn-leaves w (event.PathUp side p) = path-apart w side p (λ q. comes_up (line_of w side) q)
 turn-leaves w (event.PathReset side p) = path-apart w side p (λ q. is_cut (line_of w side) q)
@@ -144,10 +144,10 @@ again-counted Second w new n h = record { «unit» = h.«unit»; line = h.line }
 
 step-leaves : (w : WorldState) (e : WorldEvent) (new : WorldState) (n : ℕ) → LeavesApart w e new → LeavesApart w e (record new { steps = n })
 step-leaves w (event.Choose side p single) new n h = again-counted side w new n h
-step-leaves w (event.Down side place keep may) new n h = again-counted side w new n h
-step-leaves w (event.Up side place keep may) new n h = again-counted side w new n h
-step-leaves w (event.LoseDown side place) new n h = again-counted side w new n h
-step-leaves w (event.LoseUp side place) new n h = again-counted side w new n h
+step-leaves w (event.Down side index keep may) new n h = again-counted side w new n h
+step-leaves w (event.Up side index keep may) new n h = again-counted side w new n h
+step-leaves w (event.LoseDown side index) new n h = again-counted side w new n h
+step-leaves w (event.LoseUp side index) new n h = again-counted side w new n h
 step-leaves w (event.PathDown side p) new n h = again-counted side w new n h
 step-leaves w (event.PathUp side p) new n h = again-counted side w new n h
 step-leaves w (event.PathReset side p) new n h = again-counted side w new n h
@@ -168,10 +168,10 @@ same-apart Second w = record { «unit» = leaves-same Second w.«unit»; line = 
 
 none-leaves : (w : WorldState) (e : WorldEvent) → LeavesApart w e w
 none-leaves w (event.Choose side p single) = same-apart side w
-none-leaves w (event.Down side place keep may) = same-apart side w
-none-leaves w (event.Up side place keep may) = same-apart side w
-none-leaves w (event.LoseDown side place) = same-apart side w
-none-leaves w (event.LoseUp side place) = same-apart side w
+none-leaves w (event.Down side index keep may) = same-apart side w
+none-leaves w (event.Up side index keep may) = same-apart side w
+none-leaves w (event.LoseDown side index) = same-apart side w
+none-leaves w (event.LoseUp side index) = same-apart side w
 none-leaves w (event.PathDown side p) = same-apart side w
 none-leaves w (event.PathUp side p) = same-apart side w
 none-leaves w (event.PathReset side p) = same-apart side w
@@ -186,29 +186,29 @@ none-leaves w (event.Notice side p) = same-apart side w
 none-leaves w event.Restart = tt
 none-leaves w (event.Report report) = λ side e. same-apart side w
 
-counted-leaves : (w : WorldState) (e : WorldEvent) (n : ℕ) (turn : WorldTurn) → OnDone (LeavesApart w e) turn → OnDone (LeavesApart w e) (counted n turn)
+counted-leaves : (w : WorldState) (e : WorldEvent) (n : ℕ) (turn : WorldResult) → OnDone (LeavesApart w e) turn → OnDone (LeavesApart w e) (counted n turn)
 counted-leaves w e n (Ok new) h = step-leaves w e new (n + 1) h
 counted-leaves w e n (Err f) h = tt
 
-bounded-leaves : (w : WorldState) (e : WorldEvent) (b : Bool) (turn : WorldTurn) → OnDone (LeavesApart w e) turn → OnDone (LeavesApart w e) (if b then turn else Err NoMemory)
+bounded-leaves : (w : WorldState) (e : WorldEvent) (b : Bool) (turn : WorldResult) → OnDone (LeavesApart w e) turn → OnDone (LeavesApart w e) (if b then turn else Err NoMemory)
 bounded-leaves w e true turn h = h
 bounded-leaves w e false turn h = tt
 
-world-leaves : (w : WorldState) (e : WorldEvent) → OnDone (LeavesApart w e) (world_turn w e)
-world-leaves w e = bounded-leaves w e (nat_lt w.steps max_steps) (counted w.steps (world_turn_of w e)) (counted-leaves w e w.steps (world_turn_of w e) (turn-leaves w e))
+world-leaves : (w : WorldState) (e : WorldEvent) → OnDone (LeavesApart w e) (world_result w e)
+world-leaves w e = bounded-leaves w e (nat_lt w.steps max_steps) (counted w.steps (world_result_of w e)) (counted-leaves w e w.steps (world_result_of w e) (turn-leaves w e))
 
-state-leaves : (w : WorldState) (e : WorldEvent) (turn : WorldTurn) → OnDone (LeavesApart w e) turn → LeavesApart w e (state_after w turn)
+state-leaves : (w : WorldState) (e : WorldEvent) (turn : WorldResult) → OnDone (LeavesApart w e) turn → LeavesApart w e (state_after w turn)
 state-leaves w e (Ok new) h = h
 state-leaves w e (Err f) h = none-leaves w e
 
 pub after-leaves : (w : WorldState) (e : WorldEvent) → LeavesApart w e (world_after w e)
-after-leaves w e = state-leaves w e (world_turn w e) (world-leaves w e)
+after-leaves w e = state-leaves w e (world_result w e) (world-leaves w e)
 
 pub each-leaves : (w : WorldState) (es : List WorldEvent) → EachApart w es
 each-leaves w [] = tt
 each-leaves w (e ∷ es) = (after-leaves w e, each-leaves (world_after w e) es)
 
 -- the same of a call that does as a turn says
-pub given-leaves : {A : Type 0} → (w : WorldState) (e : WorldEvent) (new : WorldState) (r : Result A Fault) (reason : Type 0) → GivesTurn w (world_turn w e) reason r new → OnOk r (LeavesApart w e new)
-given-leaves w e new (Ok done) reason given = subst (λ (x : WorldTurn). OnDone (LeavesApart w e) x) given (world-leaves w e)
+pub given-leaves : {A : Type 0} → (w : WorldState) (e : WorldEvent) (new : WorldState) (r : Result A Fault) (reason : Type 0) → GivesResult w (world_result w e) reason r new → OnOk r (LeavesApart w e new)
+given-leaves w e new (Ok done) reason given = subst (λ (x : WorldResult). OnDone (LeavesApart w e) x) given (world-leaves w e)
 given-leaves w e new (Err f) reason given = tt

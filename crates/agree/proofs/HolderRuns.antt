@@ -10,10 +10,10 @@ use Rattle.chan_model.specs.Signals.{Up}
 use Rattle.chan_model.specs.declared.signal.Up.TheVariants as up
 use Rattle.chan_model.specs.declared.unit_state.Own.{Own}
 use Rattle.chan_model.specs.declared.unit_state.Own.TheVariants as own
-use Rattle.chan_model.specs.declared.unit_state.Connection.TheVariants as place
+use Rattle.chan_model.specs.declared.unit_state.Connection.TheVariants as connection
 use Rattle.chan_model.specs.declared.unit_state.UnitState.{UnitState}
 use Rattle.chan_model.specs.Sides.{same_side}
-use Rattle.chan_model.specs.UnitTable.{UnitStep, came_of}
+use Rattle.chan_model.specs.UnitTable.{UnitStep, outcome_of}
 use Rattle.chan_model.proofs.OneSide.{one-side, same-side}
 use Rattle.agreement_laws.specs.Moving.{HoldAct, UnitAct, Takes_down, Leaves, Asks, Attends, Notices, Reports, unit_steps, is_owner_side, Hold_acts, Unit_acts, LinksStep}
 use Rattle.agreement_laws.specs.Invariant.{IsGood}
@@ -24,7 +24,7 @@ use Rattle.agree.specs.declared.reply.WorldReply.{WorldReply}
 use Rattle.agree.specs.declared.reply.WorldReply.TheVariants as reply
 use Rattle.agree.specs.Bounds.{IsWell}
 use Rattle.agree.specs.State.{WorldState, links_of, line_of, opening_world}
-use Rattle.agree.specs.Turns.{WorldTurn, world_turn_of, counted, max_steps, world_turn, state_after, world_after}
+use Rattle.agree.specs.Results.{WorldResult, world_result_of, counted, max_steps, world_result, state_after, world_after}
 use Rattle.agree.specs.Replies.{told_down, told_up, met_reply, heard_reply, owner_reply, reply_of}
 use Rattle.agree.specs.Histories.{WorldEntry, entered, entries_of}
 use Rattle.agreement_laws.specs.HolderSeen.{holder, Holding, SideAnswered, let_go, is_held_by, with_seen, with_restart, held_after, side_seen, with_answered, IsHolder, IsAnswerOf, IsSaidRight, with_accept}
@@ -90,22 +90,22 @@ connection-said k side t c (up.Cleared w) its h = absurd its
 connection-said k side t c (up.Notice b) its h = absurd its
 connection-said k side t c (up.Attn a status) its h = absurd its
 
-said : (side : Side) (u : UnitState) (step : Option UnitStep) → Acts side u step → IfSome (came_of step).sent (λ x. IsSaidRight (holding_of u) side x.signal)
+said : (side : Side) (u : UnitState) (step : Option UnitStep) → Acts side u step → IfSome (outcome_of step).sent (λ x. IsSaidRight (holding_of u) side x.signal)
 said side u _ Idles = tt
 said side u _ (Says v p x q right is) = right
 said side u _ (Begins v is) = tt
-said side u _ (unit_acts.Leaves t p c v on away le) = held-holder u.own side (held t (place.On p c)) on
+said side u _ (unit_acts.Leaves t p c v on away le) = held-holder u.own side (held t (connection.On p c)) on
 said side u _ (Asks t p at v off on asks le) = held-holder u.own side (held t at) on
-said side u _ (Sends t p c x v its on is) = connection-said (holding_of u) side t c x its (held-holder u.own side (held t (place.On p c)) on)
+said side u _ (Sends t p c x v its on is) = connection-said (holding_of u) side t c x its (held-holder u.own side (held t (connection.On p c)) on)
 
 said-right : (side : Side) (k : Holding) (sent : Option (OnPath Up)) → IfSome sent (λ x. IsSaidRight k side x.signal) → IsReplyRight (told_up side sent) k × (held_in (told_up side sent) k ≡ k)
 said-right side k None h = (tt, refl)
 said-right side k (Some x) h = (h, refl)
 
 acts-hold : (s : Side) (w new : WorldState) (act : UnitAct) → Acts s w.«unit» (unit_steps w.«unit» act) → holdings.Keeps w.«unit» (unit_steps w.«unit» act) → LinksStep (links_of w) (Unit_acts act) (links_of new) →
-    IsReplyRight (told_up s (came_of (unit_steps w.«unit» act)).sent) (holding_of w.«unit») × (holding_of new.«unit» ≡ held_in (told_up s (came_of (unit_steps w.«unit» act)).sent) (holding_of w.«unit»))
+    IsReplyRight (told_up s (outcome_of (unit_steps w.«unit» act)).sent) (holding_of w.«unit») × (holding_of new.«unit» ≡ held_in (told_up s (outcome_of (unit_steps w.«unit» act)).sent) (holding_of w.«unit»))
 acts-hold s w new act acts keeps st =
-    let right = said-right s (holding_of w.«unit») (came_of (unit_steps w.«unit» act)).sent (said s w.«unit» (unit_steps w.«unit» act) acts) in
+    let right = said-right s (holding_of w.«unit») (outcome_of (unit_steps w.«unit» act)).sent (said s w.«unit» (unit_steps w.«unit» act) acts) in
     (right.0, ap holding_of st.«unit» ∙ (keeps ∙ sym right.1))
 
 owner-holds : (w new : WorldState) (act : UnitAct) (o : Own) → w.«unit».own ≡ o → ((s : Side) → is_owner_side w.«unit».own s ≡ true → Acts s w.«unit» (unit_steps w.«unit» act)) →
@@ -120,12 +120,12 @@ hold-holds w new s act sent st = let right = told-right s (holding_of w.«unit»
 
 pub event-holds : Rises → (w : WorldState) (e : WorldEvent) (new : WorldState) → IsGood (links_of w) → MadeOf w e new → Holds w e new
 event-holds rises w (event.Choose s p single) new g made = hold-holds w new s _ _ (stepped w (event.Choose s p single) new made)
-event-holds rises w (event.Down s place keep may) new g made = met-holds rises s w new may (slice_get (line_of w s).link.downs place) g (stepped w (event.Down s place keep may) new made)
-event-holds rises w (event.Up s place keep may) new g made =
-    let o : Option (OnPath Up) = slice_get (line_of w s).link.ups place in
-    let right = heard-right s w may o (holding_of w.«unit») in (right.0, heard-unit w new s may o (stepped w (event.Up s place keep may) new made) ∙ sym right.1)
-event-holds rises w (event.LoseDown s place) new g made = hold-holds w new s _ None (stepped w (event.LoseDown s place) new made)
-event-holds rises w (event.LoseUp s place) new g made = hold-holds w new s _ None (stepped w (event.LoseUp s place) new made)
+event-holds rises w (event.Down s index keep may) new g made = met-holds rises s w new may (slice_get (line_of w s).link.downs index) g (stepped w (event.Down s index keep may) new made)
+event-holds rises w (event.Up s index keep may) new g made =
+    let o : Option (OnPath Up) = slice_get (line_of w s).link.ups index in
+    let right = heard-right s w may o (holding_of w.«unit») in (right.0, heard-unit w new s may o (stepped w (event.Up s index keep may) new made) ∙ sym right.1)
+event-holds rises w (event.LoseDown s index) new g made = hold-holds w new s _ None (stepped w (event.LoseDown s index) new made)
+event-holds rises w (event.LoseUp s index) new g made = hold-holds w new s _ None (stepped w (event.LoseUp s index) new made)
 event-holds rises w (event.PathDown s p) new g made = hold-holds w new s _ None (stepped w (event.PathDown s p) new made)
 event-holds rises w (event.PathUp s p) new g made = hold-holds w new s _ None (stepped w (event.PathUp s p) new made)
 event-holds rises w (event.PathReset s p) new g made = hold-holds w new s _ None (stepped w (event.PathReset s p) new made)
@@ -141,20 +141,20 @@ event-holds rises w event.Restart new g made = (tt, ap holding_of (stepped w eve
 event-holds rises w (event.Report report) new g made =
     owner-holds w new (Reports report) w.«unit».own refl (λ s h. reports-acts s w.«unit» report h) (reports-keep w.«unit» report) (stepped w (event.Report report) new made)
 
-counted-holds : (w : WorldState) (e : WorldEvent) (n : ℕ) (turn : WorldTurn) → OnDone (Holds w e) turn → OnDone (Holds w e) (counted n turn)
+counted-holds : (w : WorldState) (e : WorldEvent) (n : ℕ) (turn : WorldResult) → OnDone (Holds w e) turn → OnDone (Holds w e) (counted n turn)
 counted-holds w e n (Ok new) h = h
 counted-holds w e n (Err f) h = tt
 
-bounded-holds : (w : WorldState) (e : WorldEvent) (b : Bool) (turn : WorldTurn) → OnDone (Holds w e) turn → OnDone (Holds w e) (if b then turn else Err NoMemory)
+bounded-holds : (w : WorldState) (e : WorldEvent) (b : Bool) (turn : WorldResult) → OnDone (Holds w e) turn → OnDone (Holds w e) (if b then turn else Err NoMemory)
 bounded-holds w e true turn h = h
 bounded-holds w e false turn h = tt
 
-turn-holds : Rises → (w : WorldState) (e : WorldEvent) → IsGood (links_of w) → OnDone (Holds w e) (world_turn w e)
+turn-holds : Rises → (w : WorldState) (e : WorldEvent) → IsGood (links_of w) → OnDone (Holds w e) (world_result w e)
 turn-holds rises w e g =
-    bounded-holds w e (nat_lt w.steps max_steps) (counted w.steps (world_turn_of w e))
-    (counted-holds w e w.steps (world_turn_of w e) (done-weaker (MadeOf w e) (Holds w e) (λ new made. event-holds rises w e new g made) (world_turn_of w e) (turn-made w e)))
+    bounded-holds w e (nat_lt w.steps max_steps) (counted w.steps (world_result_of w e))
+    (counted-holds w e w.steps (world_result_of w e) (done-weaker (MadeOf w e) (Holds w e) (λ new made. event-holds rises w e new g made) (world_result_of w e) (turn-made w e)))
 
-entered-holds : (w : WorldState) (e : WorldEvent) (turn : WorldTurn) (entries : List WorldEntry) → OnDone (Holds w e) turn → AreOfHolder (holding_of (state_after w turn).«unit») entries →
+entered-holds : (w : WorldState) (e : WorldEvent) (turn : WorldResult) (entries : List WorldEntry) → OnDone (Holds w e) turn → AreOfHolder (holding_of (state_after w turn).«unit») entries →
     AreOfHolder (holding_of w.«unit») (entered w e turn entries)
 entered-holds w e (Ok new) entries h rest = (h.0, subst (λ (k : Holding). AreOfHolder k entries) h.1 rest)
 entered-holds w e (Err f) entries h rest = rest
@@ -162,7 +162,7 @@ entered-holds w e (Err f) entries h rest = rest
 list-holds : Keeps → Ends → Rises → (w : WorldState) (es : List WorldEvent) → IsWell w → AreOfHolder (holding_of w.«unit») (entries_of w es)
 list-holds keeps ends rises w [] well = tt
 list-holds keeps ends rises w (e ∷ es) well =
-    entered-holds w e (world_turn w e) (entries_of (world_after w e) es) (turn-holds rises w e well.good) (list-holds keeps ends rises (world_after w e) es (event-lasts keeps ends w e well).0)
+    entered-holds w e (world_result w e) (entries_of (world_after w e) es) (turn-holds rises w e well.good) (list-holds keeps ends rises (world_after w e) es (event-lasts keeps ends w e well).0)
 
 pub one_holder : Keeps → Ends → Rises → IsWell opening_world → (es : List WorldEvent) → HasOneHolder (entries_of opening_world es)
 one_holder keeps ends rises well es = list-holds keeps ends rises opening_world es well
@@ -181,10 +181,10 @@ restart-last k Second = refl
 
 restarted-last : (e : WorldEvent) (k : Holding) (side : Side) → last_of (restarted_by e k) side ≡ last_of k side
 restarted-last (event.Choose s p single) k side = refl
-restarted-last (event.Down s place keep may) k side = refl
-restarted-last (event.Up s place keep may) k side = refl
-restarted-last (event.LoseDown s place) k side = refl
-restarted-last (event.LoseUp s place) k side = refl
+restarted-last (event.Down s index keep may) k side = refl
+restarted-last (event.Up s index keep may) k side = refl
+restarted-last (event.LoseDown s index) k side = refl
+restarted-last (event.LoseUp s index) k side = refl
 restarted-last (event.PathDown s p) k side = refl
 restarted-last (event.PathUp s p) k side = refl
 restarted-last (event.PathReset s p) k side = refl

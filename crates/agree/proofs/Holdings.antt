@@ -15,14 +15,14 @@ use Rattle.chan_model.specs.declared.unit_state.CurrentCommand.{CurrentCommand}
 use Rattle.chan_model.specs.declared.unit_state.Own.{Own}
 use Rattle.chan_model.specs.declared.unit_state.Own.TheVariants as own
 use Rattle.chan_model.specs.declared.unit_state.Connection.{Connection}
-use Rattle.chan_model.specs.declared.unit_state.Connection.TheVariants as place
+use Rattle.chan_model.specs.declared.unit_state.Connection.TheVariants as connection
 use Rattle.chan_model.specs.declared.unit_state.Progress.{Progress}
 use Rattle.chan_model.specs.declared.unit_state.Progress.TheVariants as progress
 use Rattle.chan_model.specs.declared.unit_state.SideState.{SideState}
 use Rattle.chan_model.specs.declared.unit_state.UnitState.{UnitState}
 use Rattle.chan_model.specs.Sides.{same_side}
 use Rattle.chan_model.specs.UnitReports.{is_outward, may_end, most_of, is_to_supply, answer_taken, report_on, report_of, unit_reports, report_absorbed, sent_again}
-use Rattle.chan_model.specs.UnitTable.{UnitStep, came_of, unit_after, sends, side_of, with_side, freed, raised, owns, resets, telling, noticing, unit_takes, leaving_from, leaving, asking_from, asking, attending, is_idle, reset_side}
+use Rattle.chan_model.specs.UnitTable.{UnitStep, outcome_of, unit_after, sends, side_of, with_side, freed, raised, owns, resets, telling, noticing, unit_takes, leaving_from, leaving, asking_from, asking, attending, is_idle, reset_side}
 use Rattle.chan_model.proofs.TakenSignals.{Takes, Ignores, Notices, Accepts, Denies, Begins, Joins, Leaves, Parts, Answers, Gives, Halts, Frees, Resets, Forgets, takes-by, takes-fresh}
 use Rattle.agreement_laws.proofs.SeenSignals.{IsResetAbove}
 use Rattle.agreement_laws.specs.HolderSeen.{Holder, Holding, SideAnswered, side_seen, with_seen, with_answered, let_go, is_held_by, held_met, IsMetRight, IsTold}
@@ -41,8 +41,8 @@ holding_of u = record { restarts = u.restarts; holder = holder_of u.own; command
 
 -- a signal was met: the entry is right, and tells what the unit keeps
 pub record Turns (u : UnitState) (side : Side) (d : Down) (step : Option UnitStep) : Type 0 where
-  pub right : IsMetRight side d (came_of step).taken (came_of step).sent (holding_of u)
-  pub next : holding_of (unit_after u step) ≡ held_met side d (came_of step).taken (came_of step).sent (holding_of u)
+  pub right : IsMetRight side d (outcome_of step).taken (outcome_of step).sent (holding_of u)
+  pub next : holding_of (unit_after u step) ≡ held_met side d (outcome_of step).taken (outcome_of step).sent (holding_of u)
 
 none-turns : (u : UnitState) (side : Side) (d : Down) → Turns u side d None
 none-turns u side d = record { right = refl; next = refl }
@@ -57,7 +57,7 @@ raised-next u First t = refl
 raised-next u Second t = refl
 
 begun-next : (u : UnitState) (side : Side) (t p : ℕ) →
-    holding_of (record (freed (raised u side t)) { own = own.Owned side t (place.On p 0) }) ≡ record (with_answered (holding_of u) side t) { holder = Some (record { side = side; number = t }); command = 0 }
+    holding_of (record (freed (raised u side t)) { own = own.Owned side t (connection.On p 0) }) ≡ record (with_answered (holding_of u) side t) { holder = Some (record { side = side; number = t }); command = 0 }
 begun-next u First t p = refl
 begun-next u Second t p = refl
 
@@ -99,9 +99,9 @@ taken-turns u side p _ _ above (Notices d fresh) = telling-turns u side p d fres
 taken-turns u side p _ _ above (Accepts t high idle) = record { right = (refl, ap holder_of idle, above-answered u side t high); next = begun-next u side t p }
 taken-turns u side p _ _ above (Denies t high) = record { right = (refl, above-answered u side t high); next = raised-next u side t }
 taken-turns u side p _ _ above (Begins t n code room at is next) = record { right = (ap holder_of is, next); next = refl }
-taken-turns u side p _ _ above (Joins t c q is) = record { right = ap holder_of is; next = own-next u (own.Owned side t (place.On q c)) (sym (ap holder_of is)) }
+taken-turns u side p _ _ above (Joins t c q is) = record { right = ap holder_of is; next = own-next u (own.Owned side t (connection.On q c)) (sym (ap holder_of is)) }
 taken-turns u side p _ _ above (Leaves t c at is) = record { right = (refl, ap holder_of is); next = refl }
-taken-turns u side p _ _ above (Parts t c q is) = record { right = ap holder_of is; next = own-next u (own.Owned side t (place.Away c)) (sym (ap holder_of is)) }
+taken-turns u side p _ _ above (Parts t c q is) = record { right = ap holder_of is; next = own-next u (own.Owned side t (connection.Away c)) (sym (ap holder_of is)) }
 taken-turns u side p _ _ above (Answers t s room at x load is hand last loaded) = record { right = (ap holder_of is, refl); next = refl }
 taken-turns u side p _ _ above (Gives bytes t c s q x is hand next) = record { right = (ap holder_of is, refl); next = refl }
 taken-turns u side p _ _ above (Halts t at is first) = record { right = ap holder_of is; next = refl }
@@ -114,9 +114,9 @@ takes-turns u side p d may above = taken-turns u side p d _ above (takes-by u si
 
 -- after a restart
 abbrev AreTold : Option UnitStep → Type 0
-AreTold step = IsTold (came_of step).taken (came_of step).sent
+AreTold step = IsTold (outcome_of step).taken (outcome_of step).sent
 
-pub takes-told-after : (u : UnitState) (side : Side) (p : ℕ) (d : Down) (may : Bool) → (side_seen (holding_of u) side).restarted ≡ true → IsTold (came_of (unit_takes u side p d may)).taken (came_of (unit_takes u side p d may)).sent
+pub takes-told-after : (u : UnitState) (side : Side) (p : ℕ) (d : Down) (may : Bool) → (side_seen (holding_of u) side).restarted ≡ true → IsTold (outcome_of (unit_takes u side p d may)).taken (outcome_of (unit_takes u side p d may)).sent
 takes-told-after u side p d may e = takes-fresh AreTold u side p d may (seen-fresh u side e) tt (λ r. tt)
 
 -- reports and acts leave it
@@ -155,32 +155,32 @@ answer-keeps u p t c x progress.Ended (answer.Supplied bytes) = refl
 answer-keeps u p t c x progress.Ended answer.Again = refl
 
 report_on-keeps : (u : UnitState) (t : ℕ) (at : Connection) (x : Option CurrentCommand) (r : Report) → Keeps u (report_on u t at x r)
-report_on-keeps u t (place.On p c) None r = refl
-report_on-keeps u t (place.On p c) (Some x) r = if-keeps u (r.sequence == x.sequence) (answer_taken u p t c x x.progress r.answer) None (answer-keeps u p t c x x.progress r.answer) refl
-report_on-keeps u t (place.Ask p c) x r = refl
-report_on-keeps u t (place.Away c) x r = refl
+report_on-keeps u t (connection.On p c) None r = refl
+report_on-keeps u t (connection.On p c) (Some x) r = if-keeps u (r.sequence == x.sequence) (answer_taken u p t c x x.progress r.answer) None (answer-keeps u p t c x x.progress r.answer) refl
+report_on-keeps u t (connection.Ask p c) x r = refl
+report_on-keeps u t (connection.Away c) x r = refl
 
 report_of-keeps : (u : UnitState) (o : Own) (r : Report) → Keeps u (report_of u o r)
 report_of-keeps u own.Idle r = refl
 report_of-keeps u (own.Owned k t at) r =
-    if-keeps u (same_side k r.side && ((r.number == t) && (r.command == u.last_command))) (report_on u t at u.at_hand r) None (report_on-keeps u t at u.at_hand r) refl
+    if-keeps u (same_side k r.side && ((r.number == t) && (r.command == u.last_command))) (report_on u t at u.current r) None (report_on-keeps u t at u.current r) refl
 
 pub reports-keep : (u : UnitState) (r : Report) → Keeps u (unit_reports u r)
 reports-keep u r = report_of-keeps u u.own r
 
 leaving_from-keeps : (u : UnitState) (side : Side) (t : ℕ) (at : Connection) → holder_of u.own ≡ Some (record { side = side; number = t }) → Keeps u (leaving_from u side t at)
-leaving_from-keeps u side t (place.On p c) e = own-next u (own.Owned side t (place.Away c)) (sym e)
-leaving_from-keeps u side t (place.Ask p c) e = refl
-leaving_from-keeps u side t (place.Away c) e = refl
+leaving_from-keeps u side t (connection.On p c) e = own-next u (own.Owned side t (connection.Away c)) (sym e)
+leaving_from-keeps u side t (connection.Ask p c) e = refl
+leaving_from-keeps u side t (connection.Away c) e = refl
 
 pub leaving-keeps : (u : UnitState) (o : Own) → u.own ≡ o → Keeps u (leaving u o)
 leaving-keeps u own.Idle e = refl
 leaving-keeps u (own.Owned k t at) e = leaving_from-keeps u k t at (ap holder_of e)
 
 asking_from-keeps : (u : UnitState) (side : Side) (t : ℕ) (at : Connection) (p : ℕ) → holder_of u.own ≡ Some (record { side = side; number = t }) → Keeps u (asking_from u side t at p)
-asking_from-keeps u side t (place.On q c) p e = refl
-asking_from-keeps u side t (place.Ask q c) p e = own-next u (own.Owned side t (place.Ask p (c + 1))) (sym e)
-asking_from-keeps u side t (place.Away c) p e = own-next u (own.Owned side t (place.Ask p (c + 1))) (sym e)
+asking_from-keeps u side t (connection.On q c) p e = refl
+asking_from-keeps u side t (connection.Ask q c) p e = own-next u (own.Owned side t (connection.Ask p (c + 1))) (sym e)
+asking_from-keeps u side t (connection.Away c) p e = own-next u (own.Owned side t (connection.Ask p (c + 1))) (sym e)
 
 pub asking-keeps : (u : UnitState) (o : Own) (p : ℕ) → u.own ≡ o → Keeps u (asking u o p)
 asking-keeps u own.Idle p e = refl

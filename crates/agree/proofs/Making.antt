@@ -13,7 +13,7 @@ use Rattle.chan_model.specs.Signals.{Up}
 use Rattle.chan_model.specs.declared.unit_state.Own.{Own}
 use Rattle.chan_model.specs.declared.unit_state.Own.TheVariants as own
 use Rattle.chan_model.specs.Sides.{same_side}
-use Rattle.chan_model.specs.UnitTable.{UnitStep, unit_after, came_of, restarted}
+use Rattle.chan_model.specs.UnitTable.{UnitStep, unit_after, outcome_of, restarted}
 use Rattle.agreement_laws.specs.Links.{Link, Links, link_of}
 use Rattle.agreement_laws.specs.Moving.{HoldAct, Nothing, Offers, Sends_reset, Lets_go, Is_reset, Loses, Takes, Sends, still, hold_acts, UnitAct, Takes_down, Leaves, Asks, Attends, Restarts, Notices, Reports, unit_steps, is_to, is_owner_side, sent_by, sent_to, LinkStep, LinkCause, Hold_acts, Unit_acts, IsHoldGiven, IsUnitGiven, LinksStep}
 use Rattle.agreement_laws.specs.Invariant.{IsGood}
@@ -24,9 +24,9 @@ use Rattle.agree.specs.declared.event.WorldEvent.TheVariants as event
 use Rattle.agreement_laws.specs.Sending.{may_send}
 use Rattle.agree.specs.State.{LineState, WorldState, links_of, line_of, with_line, is_up}
 use Rattle.chan_model.specs.declared.fault.Fault.TheVariants.{NoSuchPath, NotSent, NotNow}
-use Rattle.agree.specs.Lines.{LineTurn, UnitLine, acts, line_told, unit_stepped, stepping, acts_for, with_downs, with_ups, line_with_path, left_after, without_path, line_chosen, line_let_go, line_sends, heard, hears, met, unit_meets, loses_down, loses_up, cut, goes_down, comes_up, is_cut}
+use Rattle.agree.specs.Lines.{LineResult, UnitLine, acts, line_told, unit_stepped, stepping, acts_for, with_downs, with_ups, line_with_path, left_after, without_path, line_chosen, line_let_go, line_sends, heard, hears, met, unit_meets, loses_down, loses_up, cut, goes_down, comes_up, is_cut}
 use Rattle.agree.specs.Replies.{chosen_act}
-use Rattle.agree.specs.Turns.{WorldTurn, at_side, at_world_unit, at_owner, both_of, on_path, path_named, all_reset, world_turn_of}
+use Rattle.agree.specs.Results.{WorldResult, at_side, at_world_unit, at_owner, both_of, on_path, path_named, all_reset, world_result_of}
 use Rattle.agree.specs.Promises.{EndsByEvent, IsResetTakenBy, IsResetMet}
 use Rattle.agree.proofs.Carrying.{AreAmong, among-same, among-without, among-removed, among-left, contains-got, carried, sent-carried}
 
@@ -35,7 +35,7 @@ abbrev pub OnDone : {S : Type 0} → (S → Type 0) → Result S Fault → Type 
 OnDone P (Ok s) = P s
 OnDone P (Err f) = Unit {0}
 
-pub done-at_side : (P : WorldState → Type 0) (w : WorldState) (side : Side) (turn : LineTurn) → OnDone (λ l. P (with_line w side l)) turn → OnDone P (at_side w side turn)
+pub done-at_side : (P : WorldState → Type 0) (w : WorldState) (side : Side) (turn : LineResult) → OnDone (λ l. P (with_line w side l)) turn → OnDone P (at_side w side turn)
 done-at_side P w side (Ok l) h = h
 done-at_side P w side (Err f) h = tt
 
@@ -44,11 +44,11 @@ pub done-at_unit : (P : WorldState → Type 0) (w : WorldState) (side : Side) (t
 done-at_unit P w side (Ok b) h = h
 done-at_unit P w side (Err f) h = tt
 
-pub done-on_path : (P : WorldState → Type 0) (named : Result ℕ Fault) (turn : ℕ → WorldTurn) → ((p : ℕ) → OnDone P (turn p)) → OnDone P (on_path named turn)
+pub done-on_path : (P : WorldState → Type 0) (named : Result ℕ Fault) (turn : ℕ → WorldResult) → ((p : ℕ) → OnDone P (turn p)) → OnDone P (on_path named turn)
 done-on_path P (Ok p) turn h = h p
 done-on_path P (Err f) turn h = tt
 
-pub done-on_one : (P : WorldState → Type 0) (p : ℕ) (turn : ℕ → WorldTurn) → OnDone P (turn p) → OnDone P (on_path (path_named p) turn)
+pub done-on_one : (P : WorldState → Type 0) (p : ℕ) (turn : ℕ → WorldResult) → OnDone P (turn p) → OnDone P (on_path (path_named p) turn)
 done-on_one P p turn h = cond_both (nat_lt p 8) (Ok p) (Err NoSuchPath) (λ r. OnDone P (on_path r turn)) (λ e. h) (λ e. tt)
 
 pub done-if : {S : Type 0} (P : S → Type 0) (b : Bool) (f : Fault) (s : S) → P s → OnDone P (if b then Ok s else Err f)
@@ -68,10 +68,10 @@ pub done-stepping : (P : UnitLine → Type 0) (b : UnitLine) (s : Option UnitSte
 done-stepping P b None h = tt
 done-stepping P b (Some step) h = h
 
-pub done-at_owner : (P : WorldState → Type 0) (w : WorldState) (o : Own) (turn : Side → WorldTurn) →
+pub done-at_owner : (P : WorldState → Type 0) (w : WorldState) (o : Own) (turn : Side → WorldResult) →
     ((side : Side) → ((s : Side) → is_owner_side o s ≡ same_side side s) → OnDone P (turn side)) → OnDone P (at_owner w o turn)
 done-at_owner P w own.Idle turn h = tt
-done-at_owner P w (own.Owned side t place) turn h = h side (λ s. refl)
+done-at_owner P w (own.Owned side t connection) turn h = h side (λ s. refl)
 
 pub done-weaker : {S : Type 0} (P Q : S → Type 0) → ((s : S) → P s → Q s) → (r : Result S Fault) → OnDone P r → OnDone Q r
 done-weaker P Q weaker (Ok s) h = weaker s h
@@ -97,7 +97,7 @@ still-linked l =
 
 -- a link to which the unit sends something or nothing, some signals being lost
 told-linked : (l : LineState) (downs : List (OnPath Down)) (s : Option UnitStep) → AreAmong l.link.downs downs →
-    LinkStep l.link (still l.link.drawn l.link.hold) (sent_by s) (line_told (with_downs l downs) (came_of s).sent).link
+    LinkStep l.link (still l.link.drawn l.link.hold) (sent_by s) (line_told (with_downs l downs) (outcome_of s).sent).link
 told-linked l downs None d =
     record {
       drawn = refl;
@@ -116,9 +116,9 @@ told-linked l downs (Some step) d =
     }
 
 to-linked : (l : LineState) (downs : List (OnPath Down)) (s : Option UnitStep) (b : Bool) → b ≡ true → AreAmong l.link.downs downs →
-    LinkStep l.link (still l.link.drawn l.link.hold) (sent_to b (sent_by s)) (line_told (with_downs l downs) (came_of s).sent).link
+    LinkStep l.link (still l.link.drawn l.link.hold) (sent_to b (sent_by s)) (line_told (with_downs l downs) (outcome_of s).sent).link
 to-linked l downs s b e d =
-    subst (λ (x : Bool). LinkStep l.link (still l.link.drawn l.link.hold) (sent_to x (sent_by s)) (line_told (with_downs l downs) (came_of s).sent).link) (sym e)
+    subst (λ (x : Bool). LinkStep l.link (still l.link.drawn l.link.hold) (sent_to x (sent_by s)) (line_told (with_downs l downs) (outcome_of s).sent).link) (sym e)
     (told-linked l downs s d)
 
 not-linked : (l : Link) (s : Option UnitStep) (b : Bool) → b ≡ false → LinkStep l (still l.drawn l.hold) (sent_to b (sent_by s)) l
@@ -135,10 +135,10 @@ met_cause side (Some x) may = Unit_acts (Takes_down side x may)
 
 abbrev pub cause_of : WorldState → WorldEvent → LinkCause
 cause_of w (event.Choose side p single) = Hold_acts side (chosen_act (line_of w side).link.hold.phase p single)
-cause_of w (event.Down side place keep may) = met_cause side (slice_get (line_of w side).link.downs place) may
-cause_of w (event.Up side place keep may) = heard_cause side (slice_get (line_of w side).link.ups place) may
-cause_of w (event.LoseDown side place) = Hold_acts side Nothing
-cause_of w (event.LoseUp side place) = Hold_acts side Nothing
+cause_of w (event.Down side index keep may) = met_cause side (slice_get (line_of w side).link.downs index) may
+cause_of w (event.Up side index keep may) = heard_cause side (slice_get (line_of w side).link.ups index) may
+cause_of w (event.LoseDown side index) = Hold_acts side Nothing
+cause_of w (event.LoseUp side index) = Hold_acts side Nothing
 cause_of w (event.PathDown side p) = Hold_acts side (Loses p)
 cause_of w (event.PathUp side p) = Hold_acts side Nothing
 cause_of w (event.PathReset side p) = Hold_acts side (Loses p)
@@ -189,7 +189,7 @@ act-made w e side act its g =
 unit-made : (w : WorldState) (e : WorldEvent) (side : Side) (act : UnitAct) (downs : List (OnPath Down)) → Unit_acts act ≡ cause_of w e →
     ((s : Side) → is_to w.«unit» act s ≡ same_side side s) → IsUnitGiven (links_of w) act → AreAmong (line_of w side).link.downs downs →
     ((s : Side) → IsResetTaken (links_of w) (Unit_acts act) s → IsResetTakenBy w e s) →
-    Made w e (record (with_line w side (line_told (with_downs (line_of w side) downs) (came_of (unit_steps w.«unit» act)).sent)) { «unit» = unit_after w.«unit» (unit_steps w.«unit» act) })
+    Made w e (record (with_line w side (line_told (with_downs (line_of w side) downs) (outcome_of (unit_steps w.«unit» act)).sent)) { «unit» = unit_after w.«unit» (unit_steps w.«unit» act) })
 unit-made w e First act downs its to g d tells =
     record {
       cause = Unit_acts act;
@@ -248,24 +248,24 @@ sends-made w e side p d its =
     done-where (λ m. (may_send l.link.hold.phase p d ≡ true) × Made w e (with_line w side m)) (may_send l.link.hold.phase p d) NotNow (acts l (Sends (record { path = p; signal = d })))
     (λ is. (is, act-made w e side (Sends (record { path = p; signal = d })) its (sent-of_program l.link.hold.phase p d (sent-as l.link.hold.phase p d is))))
 
-heard-made : (w : WorldState) (e : WorldEvent) (side : Side) (place : ℕ) (keep may : Bool) (x : Option (OnPath Up)) → slice_get (line_of w side).link.ups place ≡ x → heard_cause side x may ≡ cause_of w e →
-    OnDone (λ l. Made w e (with_line w side l)) (heard (line_of w side) x place keep may)
-heard-made w e side place keep may None is its = tt
-heard-made w e side place keep may (Some x) is its =
-    hold-made w e side (Takes x may) (line_of w side).link.downs (left_after (line_of w side).link.ups place keep) (line_of w side).up its
-    (contains-got (line_of w side).link.ups place x is) (among-same (line_of w side).link.downs) (among-left (line_of w side).link.ups place keep)
+heard-made : (w : WorldState) (e : WorldEvent) (side : Side) (index : ℕ) (keep may : Bool) (x : Option (OnPath Up)) → slice_get (line_of w side).link.ups index ≡ x → heard_cause side x may ≡ cause_of w e →
+    OnDone (λ l. Made w e (with_line w side l)) (heard (line_of w side) x index keep may)
+heard-made w e side index keep may None is its = tt
+heard-made w e side index keep may (Some x) is its =
+    hold-made w e side (Takes x may) (line_of w side).link.downs (left_after (line_of w side).link.ups index keep) (line_of w side).up its
+    (contains-got (line_of w side).link.ups index x is) (among-same (line_of w side).link.downs) (among-left (line_of w side).link.ups index keep)
 
-lost_down-made : (w : WorldState) (e : WorldEvent) (side : Side) (place : ℕ) → Hold_acts side Nothing ≡ cause_of w e → OnDone (λ l. Made w e (with_line w side l)) (loses_down (line_of w side) place)
-lost_down-made w e side place its =
+lost_down-made : (w : WorldState) (e : WorldEvent) (side : Side) (index : ℕ) → Hold_acts side Nothing ≡ cause_of w e → OnDone (λ l. Made w e (with_line w side l)) (loses_down (line_of w side) index)
+lost_down-made w e side index its =
     let l : LineState = line_of w side in
-    done-if (λ m. Made w e (with_line w side m)) (nat_lt place (length l.link.downs)) NotSent (with_downs l (remove l.link.downs place))
-    (hold-made w e side Nothing (remove l.link.downs place) l.link.ups l.up its tt (among-removed l.link.downs place) (among-same l.link.ups))
+    done-if (λ m. Made w e (with_line w side m)) (nat_lt index (length l.link.downs)) NotSent (with_downs l (remove l.link.downs index))
+    (hold-made w e side Nothing (remove l.link.downs index) l.link.ups l.up its tt (among-removed l.link.downs index) (among-same l.link.ups))
 
-lost_up-made : (w : WorldState) (e : WorldEvent) (side : Side) (place : ℕ) → Hold_acts side Nothing ≡ cause_of w e → OnDone (λ l. Made w e (with_line w side l)) (loses_up (line_of w side) place)
-lost_up-made w e side place its =
+lost_up-made : (w : WorldState) (e : WorldEvent) (side : Side) (index : ℕ) → Hold_acts side Nothing ≡ cause_of w e → OnDone (λ l. Made w e (with_line w side l)) (loses_up (line_of w side) index)
+lost_up-made w e side index its =
     let l : LineState = line_of w side in
-    done-if (λ m. Made w e (with_line w side m)) (nat_lt place (length l.link.ups)) NotSent (with_ups l (remove l.link.ups place))
-    (hold-made w e side Nothing l.link.downs (remove l.link.ups place) l.up its tt (among-same l.link.downs) (among-removed l.link.ups place))
+    done-if (λ m. Made w e (with_line w side m)) (nat_lt index (length l.link.ups)) NotSent (with_ups l (remove l.link.ups index))
+    (hold-made w e side Nothing l.link.downs (remove l.link.ups index) l.up its tt (among-same l.link.downs) (among-removed l.link.ups index))
 
 -- the signals on a path vanish
 cut-made : (w : WorldState) (e : WorldEvent) (side : Side) (p : ℕ) (paths : List Bool) → Hold_acts side (Loses p) ≡ cause_of w e → Made w e (with_line w side (cut (record (line_of w side) { up = paths }) p))
@@ -290,22 +290,22 @@ up-made w e side p its =
     (hold-made w e side Nothing l.link.downs l.link.ups (slice_set l.up p true) its tt (among-same l.link.downs) (among-same l.link.ups))
 
 -- the unit takes a signal
-met-tells : (w : WorldState) (side : Side) (place : ℕ) (keep may : Bool) (x : OnPath Down) → slice_get (line_of w side).link.downs place ≡ Some x →
-    (s : Side) → IsResetTaken (links_of w) (Unit_acts (Takes_down side x may)) s → IsResetTakenBy w (event.Down side place keep may) s
-met-tells w side place keep may x is s h =
+met-tells : (w : WorldState) (side : Side) (index : ℕ) (keep may : Bool) (x : OnPath Down) → slice_get (line_of w side).link.downs index ≡ Some x →
+    (s : Side) → IsResetTaken (links_of w) (Unit_acts (Takes_down side x may)) s → IsResetTakenBy w (event.Down side index keep may) s
+met-tells w side index keep may x is s h =
     (h.0, subst (λ (o : Option (OnPath Down)). IsResetMet w.«unit» (link_of (links_of w) s).hold.phase s o) (sym is) h.1)
 
 contains-link : (w : WorldState) (side : Side) (x : OnPath Down) → Contains (line_of w side).link.downs x → Contains (link_of (links_of w) side).downs x
 contains-link w First x h = h
 contains-link w Second x h = h
 
-met-made : (w : WorldState) (side : Side) (place : ℕ) (keep may : Bool) (x : Option (OnPath Down)) → slice_get (line_of w side).link.downs place ≡ x →
-    OnDone (λ b. Made w (event.Down side place keep may) (record (with_line w side b.line) { «unit» = b.«unit» })) (met (both_of w side) side x place keep may)
-met-made w side place keep may None is = tt
-met-made w side place keep may (Some x) is =
-    unit-made w (event.Down side place keep may) side (Takes_down side x may) (left_after (line_of w side).link.downs place keep) (ap (λ (o : Option (OnPath Down)). met_cause side o may) (sym is)) (λ s. refl)
-    (contains-link w side x (contains-got (line_of w side).link.downs place x is)) (among-left (line_of w side).link.downs place keep)
-    (met-tells w side place keep may x is)
+met-made : (w : WorldState) (side : Side) (index : ℕ) (keep may : Bool) (x : Option (OnPath Down)) → slice_get (line_of w side).link.downs index ≡ x →
+    OnDone (λ b. Made w (event.Down side index keep may) (record (with_line w side b.line) { «unit» = b.«unit» })) (met (both_of w side) side x index keep may)
+met-made w side index keep may None is = tt
+met-made w side index keep may (Some x) is =
+    unit-made w (event.Down side index keep may) side (Takes_down side x may) (left_after (line_of w side).link.downs index keep) (ap (λ (o : Option (OnPath Down)). met_cause side o may) (sym is)) (λ s. refl)
+    (contains-link w side x (contains-got (line_of w side).link.downs index x is)) (among-left (line_of w side).link.downs index keep)
+    (met-tells w side index keep may x is)
 
 -- the device is restarted
 restart-made : (w : WorldState) → Made w event.Restart (record w { «unit» = restarted w.«unit» })
@@ -357,10 +357,10 @@ all_reset-kept keeps ends w g =
           ],
     )
 
-side-made : (w : WorldState) (e : WorldEvent) (side : Side) (turn : LineTurn) → OnDone (λ l. Made w e (with_line w side l)) turn → OnDone (Made w e) (at_side w side turn)
+side-made : (w : WorldState) (e : WorldEvent) (side : Side) (turn : LineResult) → OnDone (λ l. Made w e (with_line w side l)) turn → OnDone (Made w e) (at_side w side turn)
 side-made w e side turn h = done-at_side (Made w e) w side turn h
 
-path-made : (w : WorldState) (e : WorldEvent) (p : ℕ) (turn : ℕ → WorldTurn) → OnDone (Made w e) (turn p) → OnDone (Made w e) (on_path (path_named p) turn)
+path-made : (w : WorldState) (e : WorldEvent) (p : ℕ) (turn : ℕ → WorldResult) → OnDone (Made w e) (turn p) → OnDone (Made w e) (on_path (path_named p) turn)
 path-made w e p turn h = done-on_one (Made w e) p turn h
 
 -- what the unit does for its program
@@ -377,21 +377,21 @@ MadeOf w event.SubsystemReset new = new ≡ all_reset w
 MadeOf w (event.Send side p signal) new = (may_send (line_of w side).link.hold.phase p signal ≡ true) × Made w (event.Send side p signal) new
 MadeOf w e new = Made w e new
 
-pub turn-made : (w : WorldState) (e : WorldEvent) → OnDone (MadeOf w e) (world_turn_of w e)
+pub turn-made : (w : WorldState) (e : WorldEvent) → OnDone (MadeOf w e) (world_result_of w e)
 turn-made w (event.Choose side p single) =
     path-made w (event.Choose side p single) p (λ q. at_side w side (line_chosen (line_of w side) (line_of w side).link.hold.phase q single))
     (side-made w (event.Choose side p single) side (line_chosen (line_of w side) (line_of w side).link.hold.phase p single)
     (chosen-made w (event.Choose side p single) side (line_of w side).link.hold.phase p single refl))
-turn-made w (event.Down side place keep may) =
-    done-at_unit (Made w (event.Down side place keep may)) w side (unit_meets (both_of w side) side place keep may)
-    (met-made w side place keep may (slice_get (line_of w side).link.downs place) refl)
-turn-made w (event.Up side place keep may) =
-    side-made w (event.Up side place keep may) side (hears (line_of w side) place keep may)
-    (heard-made w (event.Up side place keep may) side place keep may (slice_get (line_of w side).link.ups place) refl refl)
-turn-made w (event.LoseDown side place) =
-    side-made w (event.LoseDown side place) side (loses_down (line_of w side) place) (lost_down-made w (event.LoseDown side place) side place refl)
-turn-made w (event.LoseUp side place) =
-    side-made w (event.LoseUp side place) side (loses_up (line_of w side) place) (lost_up-made w (event.LoseUp side place) side place refl)
+turn-made w (event.Down side index keep may) =
+    done-at_unit (Made w (event.Down side index keep may)) w side (unit_meets (both_of w side) side index keep may)
+    (met-made w side index keep may (slice_get (line_of w side).link.downs index) refl)
+turn-made w (event.Up side index keep may) =
+    side-made w (event.Up side index keep may) side (hears (line_of w side) index keep may)
+    (heard-made w (event.Up side index keep may) side index keep may (slice_get (line_of w side).link.ups index) refl refl)
+turn-made w (event.LoseDown side index) =
+    side-made w (event.LoseDown side index) side (loses_down (line_of w side) index) (lost_down-made w (event.LoseDown side index) side index refl)
+turn-made w (event.LoseUp side index) =
+    side-made w (event.LoseUp side index) side (loses_up (line_of w side) index) (lost_up-made w (event.LoseUp side index) side index refl)
 turn-made w (event.PathDown side p) =
     path-made w (event.PathDown side p) p (λ q. at_side w side (goes_down (line_of w side) q))
     (side-made w (event.PathDown side p) side (goes_down (line_of w side) p) (down-made w (event.PathDown side p) side p refl))
@@ -423,22 +423,22 @@ turn-made w event.Restart = restart-made w
 turn-made w (event.Report report) = owner-made w (event.Report report) (Reports report) refl (λ s. refl) tt (λ s h. absurd h)
 
 -- what is kept after each event
-pub turn-kept : Keeps → Ends → (w : WorldState) (e : WorldEvent) → IsGood (links_of w) → OnDone (Kept w e) (world_turn_of w e)
+pub turn-kept : Keeps → Ends → (w : WorldState) (e : WorldEvent) → IsGood (links_of w) → OnDone (Kept w e) (world_result_of w e)
 turn-kept keeps ends w event.SubsystemReset g = all_reset-kept keeps ends w g
-turn-kept keeps ends w (event.Choose side p single) g = done-weaker (Made w (event.Choose side p single)) (Kept w (event.Choose side p single)) (made-kept keeps ends w (event.Choose side p single) g) (world_turn_of w (event.Choose side p single)) (turn-made w (event.Choose side p single))
-turn-kept keeps ends w (event.Down side place keep may) g = done-weaker (Made w (event.Down side place keep may)) (Kept w (event.Down side place keep may)) (made-kept keeps ends w (event.Down side place keep may) g) (world_turn_of w (event.Down side place keep may)) (turn-made w (event.Down side place keep may))
-turn-kept keeps ends w (event.Up side place keep may) g = done-weaker (Made w (event.Up side place keep may)) (Kept w (event.Up side place keep may)) (made-kept keeps ends w (event.Up side place keep may) g) (world_turn_of w (event.Up side place keep may)) (turn-made w (event.Up side place keep may))
-turn-kept keeps ends w (event.LoseDown side place) g = done-weaker (Made w (event.LoseDown side place)) (Kept w (event.LoseDown side place)) (made-kept keeps ends w (event.LoseDown side place) g) (world_turn_of w (event.LoseDown side place)) (turn-made w (event.LoseDown side place))
-turn-kept keeps ends w (event.LoseUp side place) g = done-weaker (Made w (event.LoseUp side place)) (Kept w (event.LoseUp side place)) (made-kept keeps ends w (event.LoseUp side place) g) (world_turn_of w (event.LoseUp side place)) (turn-made w (event.LoseUp side place))
-turn-kept keeps ends w (event.PathDown side p) g = done-weaker (Made w (event.PathDown side p)) (Kept w (event.PathDown side p)) (made-kept keeps ends w (event.PathDown side p) g) (world_turn_of w (event.PathDown side p)) (turn-made w (event.PathDown side p))
-turn-kept keeps ends w (event.PathUp side p) g = done-weaker (Made w (event.PathUp side p)) (Kept w (event.PathUp side p)) (made-kept keeps ends w (event.PathUp side p) g) (world_turn_of w (event.PathUp side p)) (turn-made w (event.PathUp side p))
-turn-kept keeps ends w (event.PathReset side p) g = done-weaker (Made w (event.PathReset side p)) (Kept w (event.PathReset side p)) (made-kept keeps ends w (event.PathReset side p) g) (world_turn_of w (event.PathReset side p)) (turn-made w (event.PathReset side p))
-turn-kept keeps ends w (event.LetGo side) g = done-weaker (Made w (event.LetGo side)) (Kept w (event.LetGo side)) (made-kept keeps ends w (event.LetGo side) g) (world_turn_of w (event.LetGo side)) (turn-made w (event.LetGo side))
-turn-kept keeps ends w (event.Send side p signal) g = done-weaker (MadeOf w (event.Send side p signal)) (Kept w (event.Send side p signal)) (λ new h. made-kept keeps ends w (event.Send side p signal) g new h.1) (world_turn_of w (event.Send side p signal)) (turn-made w (event.Send side p signal))
-turn-kept keeps ends w (event.Clear side) g = done-weaker (Made w (event.Clear side)) (Kept w (event.Clear side)) (made-kept keeps ends w (event.Clear side) g) (world_turn_of w (event.Clear side)) (turn-made w (event.Clear side))
-turn-kept keeps ends w event.Leave g = done-weaker (Made w event.Leave) (Kept w event.Leave) (made-kept keeps ends w event.Leave g) (world_turn_of w event.Leave) (turn-made w event.Leave)
-turn-kept keeps ends w (event.Ask p) g = done-weaker (Made w (event.Ask p)) (Kept w (event.Ask p)) (made-kept keeps ends w (event.Ask p) g) (world_turn_of w (event.Ask p)) (turn-made w (event.Ask p))
-turn-kept keeps ends w (event.Attention side p) g = done-weaker (Made w (event.Attention side p)) (Kept w (event.Attention side p)) (made-kept keeps ends w (event.Attention side p) g) (world_turn_of w (event.Attention side p)) (turn-made w (event.Attention side p))
-turn-kept keeps ends w (event.Notice side p) g = done-weaker (Made w (event.Notice side p)) (Kept w (event.Notice side p)) (made-kept keeps ends w (event.Notice side p) g) (world_turn_of w (event.Notice side p)) (turn-made w (event.Notice side p))
-turn-kept keeps ends w event.Restart g = done-weaker (Made w event.Restart) (Kept w event.Restart) (made-kept keeps ends w event.Restart g) (world_turn_of w event.Restart) (turn-made w event.Restart)
-turn-kept keeps ends w (event.Report report) g = done-weaker (Made w (event.Report report)) (Kept w (event.Report report)) (made-kept keeps ends w (event.Report report) g) (world_turn_of w (event.Report report)) (turn-made w (event.Report report))
+turn-kept keeps ends w (event.Choose side p single) g = done-weaker (Made w (event.Choose side p single)) (Kept w (event.Choose side p single)) (made-kept keeps ends w (event.Choose side p single) g) (world_result_of w (event.Choose side p single)) (turn-made w (event.Choose side p single))
+turn-kept keeps ends w (event.Down side index keep may) g = done-weaker (Made w (event.Down side index keep may)) (Kept w (event.Down side index keep may)) (made-kept keeps ends w (event.Down side index keep may) g) (world_result_of w (event.Down side index keep may)) (turn-made w (event.Down side index keep may))
+turn-kept keeps ends w (event.Up side index keep may) g = done-weaker (Made w (event.Up side index keep may)) (Kept w (event.Up side index keep may)) (made-kept keeps ends w (event.Up side index keep may) g) (world_result_of w (event.Up side index keep may)) (turn-made w (event.Up side index keep may))
+turn-kept keeps ends w (event.LoseDown side index) g = done-weaker (Made w (event.LoseDown side index)) (Kept w (event.LoseDown side index)) (made-kept keeps ends w (event.LoseDown side index) g) (world_result_of w (event.LoseDown side index)) (turn-made w (event.LoseDown side index))
+turn-kept keeps ends w (event.LoseUp side index) g = done-weaker (Made w (event.LoseUp side index)) (Kept w (event.LoseUp side index)) (made-kept keeps ends w (event.LoseUp side index) g) (world_result_of w (event.LoseUp side index)) (turn-made w (event.LoseUp side index))
+turn-kept keeps ends w (event.PathDown side p) g = done-weaker (Made w (event.PathDown side p)) (Kept w (event.PathDown side p)) (made-kept keeps ends w (event.PathDown side p) g) (world_result_of w (event.PathDown side p)) (turn-made w (event.PathDown side p))
+turn-kept keeps ends w (event.PathUp side p) g = done-weaker (Made w (event.PathUp side p)) (Kept w (event.PathUp side p)) (made-kept keeps ends w (event.PathUp side p) g) (world_result_of w (event.PathUp side p)) (turn-made w (event.PathUp side p))
+turn-kept keeps ends w (event.PathReset side p) g = done-weaker (Made w (event.PathReset side p)) (Kept w (event.PathReset side p)) (made-kept keeps ends w (event.PathReset side p) g) (world_result_of w (event.PathReset side p)) (turn-made w (event.PathReset side p))
+turn-kept keeps ends w (event.LetGo side) g = done-weaker (Made w (event.LetGo side)) (Kept w (event.LetGo side)) (made-kept keeps ends w (event.LetGo side) g) (world_result_of w (event.LetGo side)) (turn-made w (event.LetGo side))
+turn-kept keeps ends w (event.Send side p signal) g = done-weaker (MadeOf w (event.Send side p signal)) (Kept w (event.Send side p signal)) (λ new h. made-kept keeps ends w (event.Send side p signal) g new h.1) (world_result_of w (event.Send side p signal)) (turn-made w (event.Send side p signal))
+turn-kept keeps ends w (event.Clear side) g = done-weaker (Made w (event.Clear side)) (Kept w (event.Clear side)) (made-kept keeps ends w (event.Clear side) g) (world_result_of w (event.Clear side)) (turn-made w (event.Clear side))
+turn-kept keeps ends w event.Leave g = done-weaker (Made w event.Leave) (Kept w event.Leave) (made-kept keeps ends w event.Leave g) (world_result_of w event.Leave) (turn-made w event.Leave)
+turn-kept keeps ends w (event.Ask p) g = done-weaker (Made w (event.Ask p)) (Kept w (event.Ask p)) (made-kept keeps ends w (event.Ask p) g) (world_result_of w (event.Ask p)) (turn-made w (event.Ask p))
+turn-kept keeps ends w (event.Attention side p) g = done-weaker (Made w (event.Attention side p)) (Kept w (event.Attention side p)) (made-kept keeps ends w (event.Attention side p) g) (world_result_of w (event.Attention side p)) (turn-made w (event.Attention side p))
+turn-kept keeps ends w (event.Notice side p) g = done-weaker (Made w (event.Notice side p)) (Kept w (event.Notice side p)) (made-kept keeps ends w (event.Notice side p) g) (world_result_of w (event.Notice side p)) (turn-made w (event.Notice side p))
+turn-kept keeps ends w event.Restart g = done-weaker (Made w event.Restart) (Kept w event.Restart) (made-kept keeps ends w event.Restart g) (world_result_of w event.Restart) (turn-made w event.Restart)
+turn-kept keeps ends w (event.Report report) g = done-weaker (Made w (event.Report report)) (Kept w (event.Report report)) (made-kept keeps ends w (event.Report report) g) (world_result_of w (event.Report report)) (turn-made w (event.Report report))

@@ -22,8 +22,8 @@ use Rattle.agree.specs.declared.event.WorldEvent.TheVariants as event
 use Rattle.agreement_laws.specs.Sending.{may_send}
 use Rattle.agree.specs.State.{LineState, WorldState, line_of, with_line, is_up}
 use Rattle.agree.specs.Lines as line
-use Rattle.agree.specs.Lines.{LineTurn, acts_for, line_chosen, line_let_go, line_sends, heard, hears, met, unit_meets, loses_down, loses_up, cut, goes_down, comes_up, is_cut, with_downs, with_ups, line_with_path}
-use Rattle.agree.specs.Turns.{WorldTurn, at_side, at_world_unit, at_owner, both_of, on_path, path_named, world_turn_of}
+use Rattle.agree.specs.Lines.{LineResult, acts_for, line_chosen, line_let_go, line_sends, heard, hears, met, unit_meets, loses_down, loses_up, cut, goes_down, comes_up, is_cut, with_downs, with_ups, line_with_path}
+use Rattle.agree.specs.Results.{WorldResult, at_side, at_world_unit, at_owner, both_of, on_path, path_named, world_result_of}
 use Rattle.agree.specs.Bounds.{IsWorldUnitWithin, IsWorldWithin}
 use Rattle.agree.proofs.Making.{OnDone, done-at_unit, done-at_owner, done-on_path, done-if, done-unless, done-stepping}
 use Rattle.agree.proofs.Raising.{act-within}
@@ -95,7 +95,7 @@ owner-within n w act h =
 abbrev Draws : LineState → LineState → Type 0
 Draws l m = m.link.drawn ≤ l.link.drawn + 1
 
-turn-within : (n : ℕ) (w : WorldState) (side : Side) (turn : LineTurn) → IsWorldWithin n w → OnDone (Draws (line_of w side)) turn → OnDone (IsWorldWithin (n + 1)) (at_side w side turn)
+turn-within : (n : ℕ) (w : WorldState) (side : Side) (turn : LineResult) → IsWorldWithin n w → OnDone (Draws (line_of w side)) turn → OnDone (IsWorldWithin (n + 1)) (at_side w side turn)
 turn-within n w side (Ok l) h le = side-within n w side l h le
 turn-within n w side (Err f) h le = tt
 
@@ -115,37 +115,37 @@ device_released-draws l (hold.On t q c) = acts-drawn l.link.drawn l.link.hold Le
 device_released-draws l (hold.Away t) = tt
 device_released-draws l (hold.Letting t q) = tt
 
-heard-draws : (l : LineState) (x : Option (OnPath Up)) (place : ℕ) (keep may : Bool) → OnDone (Draws l) (heard l x place keep may)
-heard-draws l None place keep may = tt
-heard-draws l (Some x) place keep may = acts-drawn l.link.drawn l.link.hold (Takes x may)
+heard-draws : (l : LineState) (x : Option (OnPath Up)) (index : ℕ) (keep may : Bool) → OnDone (Draws l) (heard l x index keep may)
+heard-draws l None index keep may = tt
+heard-draws l (Some x) index keep may = acts-drawn l.link.drawn l.link.hold (Takes x may)
 
-met-within : (n : ℕ) (w : WorldState) (side : Side) (x : Option (OnPath Down)) (place : ℕ) (keep may : Bool) → IsWorldWithin n w →
-    OnDone (λ b. IsWorldWithin (n + 1) (record (with_line w side b.line) { «unit» = b.«unit» })) (met (both_of w side) side x place keep may)
-met-within n w side None place keep may h = tt
-met-within n w side (Some x) place keep may h = unit-within n w side _ (Takes_down side x may) h refl
+met-within : (n : ℕ) (w : WorldState) (side : Side) (x : Option (OnPath Down)) (index : ℕ) (keep may : Bool) → IsWorldWithin n w →
+    OnDone (λ b. IsWorldWithin (n + 1) (record (with_line w side b.line) { «unit» = b.«unit» })) (met (both_of w side) side x index keep may)
+met-within n w side None index keep may h = tt
+met-within n w side (Some x) index keep may h = unit-within n w side _ (Takes_down side x may) h refl
 
-path-within : (n : ℕ) (named : Result ℕ Fault) (turn : ℕ → WorldTurn) → ((p : ℕ) → OnDone (IsWorldWithin (n + 1)) (turn p)) → OnDone (IsWorldWithin (n + 1)) (on_path named turn)
+path-within : (n : ℕ) (named : Result ℕ Fault) (turn : ℕ → WorldResult) → ((p : ℕ) → OnDone (IsWorldWithin (n + 1)) (turn p)) → OnDone (IsWorldWithin (n + 1)) (on_path named turn)
 path-within n named turn h = done-on_path (IsWorldWithin (n + 1)) named turn h
 
-pub event-within : (n : ℕ) (w : WorldState) (e : WorldEvent) → IsWorldWithin n w → OnDone (IsWorldWithin (n + 1)) (world_turn_of w e)
+pub event-within : (n : ℕ) (w : WorldState) (e : WorldEvent) → IsWorldWithin n w → OnDone (IsWorldWithin (n + 1)) (world_result_of w e)
 event-within n w (event.Choose side p single) h =
     let l : LineState = line_of w side in
     path-within n (path_named p) (λ q. at_side w side (line_chosen l l.link.hold.phase q single))
     (λ q. turn-within n w side (line_chosen l l.link.hold.phase q single) h (chosen-draws l l.link.hold.phase q single))
-event-within n w (event.Down side place keep may) h =
-    done-at_unit (IsWorldWithin (n + 1)) w side (unit_meets (both_of w side) side place keep may)
-    (met-within n w side (slice_get (line_of w side).link.downs place) place keep may h)
-event-within n w (event.Up side place keep may) h =
+event-within n w (event.Down side index keep may) h =
+    done-at_unit (IsWorldWithin (n + 1)) w side (unit_meets (both_of w side) side index keep may)
+    (met-within n w side (slice_get (line_of w side).link.downs index) index keep may h)
+event-within n w (event.Up side index keep may) h =
     let l : LineState = line_of w side in
-    turn-within n w side (hears l place keep may) h (heard-draws l (slice_get l.link.ups place) place keep may)
-event-within n w (event.LoseDown side place) h =
+    turn-within n w side (hears l index keep may) h (heard-draws l (slice_get l.link.ups index) index keep may)
+event-within n w (event.LoseDown side index) h =
     let l : LineState = line_of w side in
-    turn-within n w side (loses_down l place) h
-    (done-if (Draws l) (nat_lt place (length l.link.downs)) NotSent (with_downs l (remove l.link.downs place)) (acts-drawn l.link.drawn l.link.hold Nothing))
-event-within n w (event.LoseUp side place) h =
+    turn-within n w side (loses_down l index) h
+    (done-if (Draws l) (nat_lt index (length l.link.downs)) NotSent (with_downs l (remove l.link.downs index)) (acts-drawn l.link.drawn l.link.hold Nothing))
+event-within n w (event.LoseUp side index) h =
     let l : LineState = line_of w side in
-    turn-within n w side (loses_up l place) h
-    (done-if (Draws l) (nat_lt place (length l.link.ups)) NotSent (with_ups l (remove l.link.ups place)) (acts-drawn l.link.drawn l.link.hold Nothing))
+    turn-within n w side (loses_up l index) h
+    (done-if (Draws l) (nat_lt index (length l.link.ups)) NotSent (with_ups l (remove l.link.ups index)) (acts-drawn l.link.drawn l.link.hold Nothing))
 event-within n w (event.PathDown side p) h =
     let l : LineState = line_of w side in
     path-within n (path_named p) (λ q. at_side w side (goes_down l q))

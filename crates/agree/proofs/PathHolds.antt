@@ -13,7 +13,7 @@ use Rattle.chan_model.specs.declared.signal.OnPath.{OnPath}
 use Rattle.chan_model.specs.Signals.{Up}
 use Rattle.chan_model.specs.declared.signal.Up.TheVariants as up
 use Rattle.chan_model.specs.declared.unit_state.UnitState.{UnitState}
-use Rattle.chan_model.specs.HoldTable.{HoldStep, hold_quietly, program_begun, offer_accepted, found_busy, left, refusing, granting, asked_back, released, reset_cleared, attended, came_of, is_connected, is_on, letting_go, sending_reset}
+use Rattle.chan_model.specs.HoldTable.{HoldStep, hold_quietly, program_begun, offer_accepted, found_busy, left, refusing, granting, asked_back, released, reset_cleared, attended, outcome_of, is_connected, is_on, letting_go, sending_reset}
 use Rattle.chan_model.specs.ResetCauses.{is_path, engaged_path, rests_on}
 use Rattle.agreement_laws.specs.Links.{Link}
 use Rattle.agreement_laws.specs.Moving.{HoldAct, Nothing, Offers, Sends_reset, Lets_go, Is_reset, Loses, Takes, Sends, HoldActed, still, hold_stepped, hold_offered, reset_again, hold_taken, hold_acts, LinkStep}
@@ -232,7 +232,7 @@ pub record Heard (side : Side) (u : UnitState) (new : Link) (k : SeenPaths) (x :
   pub tied : Tied side u new (seen_here (reply.Up side x taken sent) k)
 
 abbrev HeardBy : Side → UnitState → Link → SeenPaths → OnPath Up → Option HoldStep → Type 0
-HeardBy side u l k x step = (new : Link) → LinkStep l (hold_stepped l.drawn l.hold step) None new → Heard side u new k x (came_of step).taken (hold_stepped l.drawn l.hold step).sent
+HeardBy side u l k x step = (new : Link) → LinkStep l (hold_stepped l.drawn l.hold step) None new → Heard side u new k x (outcome_of step).taken (hold_stepped l.drawn l.hold step).sent
 
 if-heard : (side : Side) (u : UnitState) (l : Link) (k : SeenPaths) (x : OnPath Up) (b : Bool) (a c : Option HoldStep) → (b ≡ true → HeardBy side u l k x a) → HeardBy side u l k x c → HeardBy side u l k x (if b then a else c)
 if-heard side u l k x true a c f g = f refl
@@ -409,7 +409,7 @@ attn-heard side u l k x a may (hold.Reset r) h arrived comes same tie = ignored 
 -- Notice
 notice-heard : (side : Side) (u : UnitState) (l new : Link) (k : SeenPaths) (p b : ℕ) (more : Bool) → Tied side u l k →
     LinkStep l (if more then reset_again l.drawn (record l.hold { known = b }) else still l.drawn l.hold) None new →
-    Heard side u new k (record { path = p; signal = up.Notice b }) (came_of (if more then Some (hold_quietly (record l.hold { known = b })) else None)).taken
+    Heard side u new k (record { path = p; signal = up.Notice b }) (outcome_of (if more then Some (hold_quietly (record l.hold { known = b })) else None)).taken
     (if more then reset_again l.drawn (record l.hold { known = b }) else still l.drawn l.hold).sent
 notice-heard side u l new k p b true tie s = record { right = (tt, tt, tt); tied = hold-turns side u l new k _ None None k.answered tt tie s tt tt tt tt }
 notice-heard side u l new k p b false tie s = record { right = (tt, refl); tied = hold-stays side u l new k (still l.drawn l.hold) tie s refl refl tt }

@@ -26,7 +26,7 @@ use Rattle.agree.specs.declared.reply.WorldReply.TheVariants as reply
 use Rattle.agree.specs.Bounds.{IsWell}
 use Rattle.agree.specs.State.{WorldState, links_of, line_of, with_line, opening_world}
 use Rattle.agree.specs.Lines.{acts}
-use Rattle.agree.specs.Turns.{WorldTurn, all_reset, world_turn_of, counted, max_steps, world_turn, state_after, world_after}
+use Rattle.agree.specs.Results.{WorldResult, all_reset, world_result_of, counted, max_steps, world_result, state_after, world_after}
 use Rattle.agree.specs.Replies.{told_down, chosen_act, met_reply, heard_reply, owner_reply, reply_of}
 use Rattle.agree.specs.Histories.{WorldEntry, entered, entries_of}
 use Rattle.agreement_laws.specs.PathsSeen.{SeenPaths}
@@ -99,12 +99,12 @@ pub event-goes : Rises → (side : Side) (k : SeenPaths) (w : WorldState) (e : W
 event-goes rises side k w (event.Choose s p single) new g t made =
     holds-right side s w new k (chosen_act (line_of w s).link.hold.phase p single) g (chosen-sendable (line_of w s).link.hold.phase (line_of w s).link.hold.phase p single)
     (stepped w (event.Choose s p single) new made) t
-event-goes rises side k w (event.Down s place keep may) new g t made =
-    met-goes rises side s w new k may (slice_get (line_of w s).link.downs place) g (stepped w (event.Down s place keep may) new made) t
-event-goes rises side k w (event.Up s place keep may) new g t made =
-    heard-goes side s w new k may (slice_get (line_of w s).link.ups place) g (stepped w (event.Up s place keep may) new made) t
-event-goes rises side k w (event.LoseDown s place) new g t made = quiet-right side s w new k Nothing refl g tt (stepped w (event.LoseDown s place) new made) t
-event-goes rises side k w (event.LoseUp s place) new g t made = quiet-right side s w new k Nothing refl g tt (stepped w (event.LoseUp s place) new made) t
+event-goes rises side k w (event.Down s index keep may) new g t made =
+    met-goes rises side s w new k may (slice_get (line_of w s).link.downs index) g (stepped w (event.Down s index keep may) new made) t
+event-goes rises side k w (event.Up s index keep may) new g t made =
+    heard-goes side s w new k may (slice_get (line_of w s).link.ups index) g (stepped w (event.Up s index keep may) new made) t
+event-goes rises side k w (event.LoseDown s index) new g t made = quiet-right side s w new k Nothing refl g tt (stepped w (event.LoseDown s index) new made) t
+event-goes rises side k w (event.LoseUp s index) new g t made = quiet-right side s w new k Nothing refl g tt (stepped w (event.LoseUp s index) new made) t
 event-goes rises side k w (event.PathDown s p) new g t made = (λ h. absurd (cc h), cut-right side s (links_of w) (links_of new) k p (stepped w (event.PathDown s p) new made) t)
 event-goes rises side k w (event.PathUp s p) new g t made = quiet-right side s w new k Nothing refl g tt (stepped w (event.PathUp s p) new made) t
 event-goes rises side k w (event.PathReset s p) new g t made = (λ h. absurd (cc h), cut-right side s (links_of w) (links_of new) k p (stepped w (event.PathReset s p) new made) t)
@@ -142,20 +142,20 @@ event-goes rises side k w (event.Report report) new g t made =
     (λ e. subst (λ (o : Own). IsStill w.«unit» (unit_after w.«unit» (report_of w.«unit» o report)) side) (sym e) (paths.still w.«unit» side)) (stepped w (event.Report report) new made) t
 
 -- the count of steps is not seen
-counted-goes : (side : Side) (k : SeenPaths) (w : WorldState) (e : WorldEvent) (n : ℕ) (turn : WorldTurn) → OnDone (Goes side k w e) turn → OnDone (Goes side k w e) (counted n turn)
+counted-goes : (side : Side) (k : SeenPaths) (w : WorldState) (e : WorldEvent) (n : ℕ) (turn : WorldResult) → OnDone (Goes side k w e) turn → OnDone (Goes side k w e) (counted n turn)
 counted-goes side k w e n (Ok new) h = h
 counted-goes side k w e n (Err f) h = tt
 
-bounded-goes : (side : Side) (k : SeenPaths) (w : WorldState) (e : WorldEvent) (b : Bool) (turn : WorldTurn) → OnDone (Goes side k w e) turn → OnDone (Goes side k w e) (if b then turn else Err NoMemory)
+bounded-goes : (side : Side) (k : SeenPaths) (w : WorldState) (e : WorldEvent) (b : Bool) (turn : WorldResult) → OnDone (Goes side k w e) turn → OnDone (Goes side k w e) (if b then turn else Err NoMemory)
 bounded-goes side k w e true turn h = h
 bounded-goes side k w e false turn h = tt
 
-turn-goes : Rises → (side : Side) (k : SeenPaths) (w : WorldState) (e : WorldEvent) → IsGood (links_of w) → TiedIn side (links_of w) k → OnDone (Goes side k w e) (world_turn w e)
+turn-goes : Rises → (side : Side) (k : SeenPaths) (w : WorldState) (e : WorldEvent) → IsGood (links_of w) → TiedIn side (links_of w) k → OnDone (Goes side k w e) (world_result w e)
 turn-goes rises side k w e g t =
-    bounded-goes side k w e (nat_lt w.steps max_steps) (counted w.steps (world_turn_of w e))
-    (counted-goes side k w e w.steps (world_turn_of w e) (done-weaker (MadeOf w e) (Goes side k w e) (λ new made. event-goes rises side k w e new g t made) (world_turn_of w e) (turn-made w e)))
+    bounded-goes side k w e (nat_lt w.steps max_steps) (counted w.steps (world_result_of w e))
+    (counted-goes side k w e w.steps (world_result_of w e) (done-weaker (MadeOf w e) (Goes side k w e) (λ new made. event-goes rises side k w e new g t made) (world_result_of w e) (turn-made w e)))
 
-entered-right : (side : Side) (k : SeenPaths) (w : WorldState) (e : WorldEvent) (turn : WorldTurn) (entries : List WorldEntry) → OnDone (Goes side k w e) turn →
+entered-right : (side : Side) (k : SeenPaths) (w : WorldState) (e : WorldEvent) (turn : WorldResult) (entries : List WorldEntry) → OnDone (Goes side k w e) turn →
     ((next : SeenPaths) → TiedIn side (links_of (state_after w turn)) next → AreRight side next entries) → TiedIn side (links_of w) k → AreRight side k (entered w e turn entries)
 entered-right side k w e (Ok new) entries h rest t = (h.0, rest (seen_after side e (reply_of w e) k) h.1)
 entered-right side k w e (Err f) entries h rest t = rest k t
@@ -163,7 +163,7 @@ entered-right side k w e (Err f) entries h rest t = rest k t
 pub list-right : Keeps → Ends → Rises → (side : Side) (k : SeenPaths) (w : WorldState) (es : List WorldEvent) → IsWell w → TiedIn side (links_of w) k → AreRight side k (entries_of w es)
 list-right keeps ends rises side k w [] well t = tt
 list-right keeps ends rises side k w (e ∷ es) well t =
-    entered-right side k w e (world_turn w e) (entries_of (world_after w e) es) (turn-goes rises side k w e well.good t)
+    entered-right side k w e (world_result w e) (entries_of (world_after w e) es) (turn-goes rises side k w e well.good t)
     (λ next h. list-right keeps ends rises side next (world_after w e) es (event-lasts keeps ends w e well).0 h) t
 
 -- at the opening

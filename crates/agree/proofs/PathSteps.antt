@@ -13,7 +13,7 @@ use Rattle.chan_model.specs.Signals.{Up}
 use Rattle.chan_model.specs.declared.signal.Up.TheVariants as up
 use Rattle.chan_model.specs.declared.unit_state.UnitState.{UnitState}
 use Rattle.chan_model.specs.Sides.{same_side}
-use Rattle.chan_model.specs.UnitTable.{unit_after, came_of, restarted}
+use Rattle.chan_model.specs.UnitTable.{unit_after, outcome_of, restarted}
 use Rattle.chan_model.proofs.OneSide.{one-side, same-side}
 use Rattle.unit.proofs.Apart.{leaves-unit_takes}
 use Rattle.agreement_laws.specs.Links.{Link, Links, link_of}
@@ -224,40 +224,40 @@ said-at s side (Some x) n = n
 
 said-by : (side s : Side) (b : Bool) → same_side s side ≡ b → (old new : Links) (k : SeenPaths) (act : UnitAct) → is_to old.«unit» act side ≡ same_side s side →
     (same_side s side ≡ true → Acts side old.«unit» (unit_steps old.«unit» act)) → (same_side s side ≡ false → IsStill old.«unit» (unit_after old.«unit» (unit_steps old.«unit» act)) side) →
-    LinksStep old (Unit_acts act) new → TiedIn side old k → Right side (told_up s (came_of (unit_steps old.«unit» act)).sent) k new (seen_in side (told_up s (came_of (unit_steps old.«unit» act)).sent) k)
+    LinksStep old (Unit_acts act) new → TiedIn side old k → Right side (told_up s (outcome_of (unit_steps old.«unit» act)).sent) k new (seen_in side (told_up s (outcome_of (unit_steps old.«unit» act)).sent) k)
 said-by side s true is old new k act to acts apart st t =
-    subst (λ (j : Side). Right side (told_up j (came_of (unit_steps old.«unit» act)).sent) k new (seen_in side (told_up j (came_of (unit_steps old.«unit» act)).sent) k)) (sym (one-side s side is))
+    subst (λ (j : Side). Right side (told_up j (outcome_of (unit_steps old.«unit» act)).sent) k new (seen_in side (told_up j (outcome_of (unit_steps old.«unit» act)).sent) k)) (sym (one-side s side is))
     (said-up side old new act k _ st
     (acts-said side old.«unit» (link_of old side) k (unit_steps old.«unit» act) t (acts is) (link_of new side) (unit-link side old new act true (to ∙ is) st)))
 said-by side s false is old new k act to acts apart st t =
-    not-here side _ k new (said-at s side (came_of (unit_steps old.«unit» act)).sent is) (other-unit side old new act k (to ∙ is) (apart is) st t)
+    not-here side _ k new (said-at s side (outcome_of (unit_steps old.«unit» act)).sent is) (other-unit side old new act k (to ∙ is) (apart is) st t)
 
 pub said-right : (side s : Side) (old new : Links) (k : SeenPaths) (act : UnitAct) → is_to old.«unit» act side ≡ same_side s side →
     (same_side s side ≡ true → Acts side old.«unit» (unit_steps old.«unit» act)) → (same_side s side ≡ false → IsStill old.«unit» (unit_after old.«unit» (unit_steps old.«unit» act)) side) →
-    LinksStep old (Unit_acts act) new → TiedIn side old k → Right side (told_up s (came_of (unit_steps old.«unit» act)).sent) k new (seen_in side (told_up s (came_of (unit_steps old.«unit» act)).sent) k)
+    LinksStep old (Unit_acts act) new → TiedIn side old k → Right side (told_up s (outcome_of (unit_steps old.«unit» act)).sent) k new (seen_in side (told_up s (outcome_of (unit_steps old.«unit» act)).sent) k)
 said-right side s old new k act to acts apart st t = said-by side s (same_side s side) refl old new k act to acts apart st t
 
 -- a signal arrives at the unit
 met-by : Rises → (side s : Side) (b : Bool) → same_side s side ≡ b → (old new : Links) (k : SeenPaths) (x : OnPath Down) (may : Bool) → IsGood old → LinksStep old (Unit_acts (Takes_down s x may)) new → TiedIn side old k →
-    Right side (arrived_reply s x (came_of (unit_steps old.«unit» (Takes_down s x may)))) k new (seen_in side (arrived_reply s x (came_of (unit_steps old.«unit» (Takes_down s x may)))) k)
+    Right side (arrived_reply s x (outcome_of (unit_steps old.«unit» (Takes_down s x may)))) k new (seen_in side (arrived_reply s x (outcome_of (unit_steps old.«unit» (Takes_down s x may)))) k)
 met-by rises side s true is old new k x may g st t =
     subst (λ (j : Side). LinksStep old (Unit_acts (Takes_down j x may)) new →
-    Right side (arrived_reply j x (came_of (unit_steps old.«unit» (Takes_down j x may)))) k new (seen_in side (arrived_reply j x (came_of (unit_steps old.«unit» (Takes_down j x may)))) k)) (sym (one-side s side is))
+    Right side (arrived_reply j x (outcome_of (unit_steps old.«unit» (Takes_down j x may)))) k new (seen_in side (arrived_reply j x (outcome_of (unit_steps old.«unit» (Takes_down j x may)))) k)) (sym (one-side s side is))
     (λ st.
     let act : UnitAct = Takes_down side x may in
-    let r : WorldReply = arrived_reply side x (came_of (unit_steps old.«unit» act)) in
-    let h : Met side (unit_after old.«unit» (unit_steps old.«unit» act)) (link_of new side) k x (came_of (unit_steps old.«unit» act)).taken (came_of (unit_steps old.«unit» act)).sent =
+    let r : WorldReply = arrived_reply side x (outcome_of (unit_steps old.«unit» act)) in
+    let h : Met side (unit_after old.«unit» (unit_steps old.«unit» act)) (link_of new side) k x (outcome_of (unit_steps old.«unit» act)).taken (outcome_of (unit_steps old.«unit» act)).sent =
     takes-met side old.«unit» (link_of old side) k x.path x.signal (unit_steps old.«unit» act) (t.downs x st.given) (offer-on old side x g st.given) t
     (takes-takes side old.«unit» x.path x.signal may (reset-above rises old side x.path x.signal g st.given)) (link_of new side)
     (unit-link side old new act true (same-side side) st) in
     here side r k new (same-side side) h.right (now-tied side old new act (seen_here r k) st h.tied))
     st
 met-by rises side s false is old new k x may g st t =
-    not-here side (arrived_reply s x (came_of (unit_steps old.«unit» (Takes_down s x may)))) k new is
+    not-here side (arrived_reply s x (outcome_of (unit_steps old.«unit» (Takes_down s x may)))) k new is
     (other-unit side old new (Takes_down s x may) k is (apart-still old.«unit» _ s side is (leaves-unit_takes s old.«unit» x.path x.signal may)) st t)
 
 pub met-right : Rises → (side s : Side) (old new : Links) (k : SeenPaths) (x : OnPath Down) (may : Bool) → IsGood old → LinksStep old (Unit_acts (Takes_down s x may)) new → TiedIn side old k →
-    Right side (arrived_reply s x (came_of (unit_steps old.«unit» (Takes_down s x may)))) k new (seen_in side (arrived_reply s x (came_of (unit_steps old.«unit» (Takes_down s x may)))) k)
+    Right side (arrived_reply s x (outcome_of (unit_steps old.«unit» (Takes_down s x may)))) k new (seen_in side (arrived_reply s x (outcome_of (unit_steps old.«unit» (Takes_down s x may)))) k)
 met-right rises side s old new k x may g st t = met-by rises side s (same_side s side) refl old new k x may g st t
 
 -- a restart

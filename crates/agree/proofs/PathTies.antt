@@ -12,7 +12,7 @@ use Rattle.chan_model.specs.declared.signal.OnPath.{OnPath}
 use Rattle.chan_model.specs.Signals.{Up}
 use Rattle.chan_model.specs.declared.signal.Up.TheVariants as up
 use Rattle.chan_model.specs.declared.unit_state.Connection.{Connection}
-use Rattle.chan_model.specs.declared.unit_state.Connection.TheVariants as place
+use Rattle.chan_model.specs.declared.unit_state.Connection.TheVariants as connection
 use Rattle.chan_model.specs.declared.unit_state.UnitState.{UnitState}
 use Rattle.unit.specs.UnitWords.{connection_of}
 use Rattle.agreement_laws.specs.Links.{Link, Carries}
@@ -101,26 +101,26 @@ IsPhaseWay ks (hold.On t q c) = way_of ks t c ≡ Some q
 IsPhaseWay ks phase = Unit {0}
 
 abbrev pub moving_at : ℕ → Connection → Option Connected
-moving_at t (place.On p c) = Some (linked t p c)
-moving_at t (place.Ask p c) = None
-moving_at t (place.Away c) = None
+moving_at t (connection.On p c) = Some (linked t p c)
+moving_at t (connection.Ask p c) = None
+moving_at t (connection.Away c) = None
 
 abbrev pub moving_of : Option Held → Option Connected
 moving_of None = None
-moving_of (Some h) = moving_at h.number h.place
+moving_of (Some h) = moving_at h.number h.connection
 
-abbrev pub IsPlaceWay : List Connected → ℕ → Connection → Type 0
-IsPlaceWay ks t (place.On p c) = way_of ks t c ≡ Some p
-IsPlaceWay ks t (place.Ask p c) = way_of ks t c ≡ Some p
-IsPlaceWay ks t (place.Away c) = Unit {0}
+abbrev pub IsConnectionWay : List Connected → ℕ → Connection → Type 0
+IsConnectionWay ks t (connection.On p c) = way_of ks t c ≡ Some p
+IsConnectionWay ks t (connection.Ask p c) = way_of ks t c ≡ Some p
+IsConnectionWay ks t (connection.Away c) = Unit {0}
 
 abbrev pub IsHeldWay : List Connected → Option Held → Type 0
 IsHeldWay ks None = Unit {0}
-IsHeldWay ks (Some h) = IsPlaceWay ks h.number h.place
+IsHeldWay ks (Some h) = IsConnectionWay ks h.number h.connection
 
 abbrev pub IsLast : List Connected → Option Held → Type 0
 IsLast ks None = Unit {0}
-IsLast ks (Some h) = Each (λ k. k.number ≡ h.number → k.connection ≤ connection_of h.place) ks
+IsLast ks (Some h) = Each (λ k. k.number ≡ h.number → k.connection ≤ connection_of h.connection) ks
 
 abbrev pub IsMine : ℕ → Option Held → Type 0
 IsMine f None = Unit {0}

@@ -8,10 +8,10 @@ use Rattle.chan_model.specs.declared.signal.OnPath.{OnPath}
 use Rattle.chan_model.specs.Signals.{Up}
 use Rattle.chan_model.specs.declared.signal.Up.TheVariants as up
 use Rattle.chan_model.specs.declared.unit_state.Connection.{Connection}
-use Rattle.chan_model.specs.declared.unit_state.Connection.TheVariants as place
+use Rattle.chan_model.specs.declared.unit_state.Connection.TheVariants as connection
 use Rattle.chan_model.specs.declared.unit_state.UnitState.{UnitState}
 use Rattle.chan_model.specs.declared.hold_state.HoldPhase.{HoldPhase}
-use Rattle.chan_model.specs.UnitTable.{UnitStep, unit_after, came_of, sends}
+use Rattle.chan_model.specs.UnitTable.{UnitStep, unit_after, outcome_of, sends}
 use Rattle.unit.specs.UnitWords.{connection_of}
 use Rattle.agreement_laws.specs.Links.{Link}
 use Rattle.agreement_laws.specs.Moving.{still, LinkStep, sent_by}
@@ -41,7 +41,7 @@ pub record Met (side : Side) (v : UnitState) (new : Link) (k : SeenPaths) (x : O
   pub tied : Tied side v new (seen_here (reply.Down side x taken sent) k)
 
 abbrev MetBy : Side → UnitState → Link → SeenPaths → OnPath Down → Option UnitStep → Type 0
-MetBy side u l k x step = (new : Link) → LinkStep l (still l.drawn l.hold) (sent_by step) new → Met side (unit_after u step) new k x (came_of step).taken (came_of step).sent
+MetBy side u l k x step = (new : Link) → LinkStep l (still l.drawn l.hold) (sent_by step) new → Met side (unit_after u step) new k x (outcome_of step).taken (outcome_of step).sent
 
 -- it tells by the signal alone what is seen
 tells-met : (side : Side) (u v : UnitState) (l : Link) (k : SeenPaths) (p : ℕ) (d : Down) (x : Up) → IsQuiet x → IsStill u v side → Tied side u l k →
@@ -118,10 +118,10 @@ takes-met side u l k p _ _ way offer tie (Tells d v x q is) new s = tells-met si
 takes-met side u l k p _ _ way offer tie (Changes d v plain is) new s =
     changes-met side u v l k p d plain k.moving refl (λ n m. unit-stays side u v l n k None tie m is tt) new s (unit-stays side u v l new k None tie s is tt)
 takes-met side u l k p _ _ way offer tie (Gives t c n m q bytes v on is) new s =
-    let old = old-way side u l k (held t (place.On q c)) tie on in
+    let old = old-way side u l k (held t (connection.On q c)) tie on in
     let same : p ≡ q = same-way k.ways t p q c way old.0 in
     record {
-      right = old-moving side u l k (held t (place.On q c)) tie on ∙ ap (λ (x : ℕ). Some (linked t x c)) (sym same);
+      right = old-moving side u l k (held t (connection.On q c)) tie on ∙ ap (λ (x : ℕ). Some (linked t x c)) (sym same);
       tied = unit-stays side u v l new k None tie s is tt;
     }
 takes-met side u l k p _ _ way offer tie (Frees d v x q none le) new s = frees-met side u v l k p d x q none le tie new s
@@ -130,7 +130,7 @@ takes-met side u l k p _ _ way offer tie (Accepts t v above floor on) new s =
     let none : way_of k.ways t 0 ≡ None = none-above (floor_of u side) t 0 above k.ways tie.below in
     let old : Each (λ x. x.number ≡ t → x.connection ≤ 0) k.ways =
     each-weaker (λ x. x.number ≤ floor_of u side) (λ x. x.number ≡ t → x.connection ≤ 0) (λ x h e. absurd (omega (arith, h, e, above))) k.ways tie.below in
-    let at = held-way (one ∷ k.ways) (floor_of v side) (holds v side) (held t (place.On p 0)) on (way-new t p 0 k.ways) ((λ e. omega arith), old) (omega (arith, floor)) in
+    let at = held-way (one ∷ k.ways) (floor_of v side) (holds v side) (held t (connection.On p 0)) on (way-new t p 0 k.ways) ((λ e. omega arith), old) (omega (arith, floor)) in
     record {
       right = refl;
       tied =
@@ -138,17 +138,17 @@ takes-met side u l k p _ _ way offer tie (Accepts t v above floor on) new s =
           (way-new t p 0 k.ways, offer t refl above);
     }
 takes-met side u l k p _ _ way offer tie (Joins t c q v asks on le) new s =
-    let old = old-way side u l k (held t (place.Ask q c)) tie asks in
+    let old = old-way side u l k (held t (connection.Ask q c)) tie asks in
     let same : p ≡ q = same-way k.ways t p q c way old.0 in
-    let at = held-way k.ways (floor_of v side) (holds v side) (held t (place.On q c)) on old.0 old.1 (mine-now side u v t (floor_of u side) (floor_of v side) le old.2) in
+    let at = held-way k.ways (floor_of v side) (holds v side) (held t (connection.On q c)) on old.0 old.1 (mine-now side u v t (floor_of u side) (floor_of v side) le old.2) in
     record {
       right = tt;
       tied = unit-after-same side u v l new k (Some (linked t p c)) None tie s le (ap (λ (x : ℕ). Some (linked t x c)) same ∙ ap moving_of (sym on)) at.0 at.1 at.2 tt;
     }
 takes-met side u l k p _ _ way offer tie (Parts d t c q v plain asks away le) new s =
-    let old = old-way side u l k (held t (place.Ask q c)) tie asks in
-    let at = held-way k.ways (floor_of v side) (holds v side) (held t (place.Away c)) away tt old.1 (mine-now side u v t (floor_of u side) (floor_of v side) le old.2) in
-    let gone : k.moving ≡ None = old-moving side u l k (held t (place.Ask q c)) tie asks in
+    let old = old-way side u l k (held t (connection.Ask q c)) tie asks in
+    let at = held-way k.ways (floor_of v side) (holds v side) (held t (connection.Away c)) away tt old.1 (mine-now side u v t (floor_of u side) (floor_of v side) le old.2) in
+    let gone : k.moving ≡ None = old-moving side u l k (held t (connection.Ask q c)) tie asks in
     let next : (n : Link) → LinkStep l (still l.drawn l.hold) None n → Tied side v n (record k { moving = k.moving }) =
     λ n m. unit-after-same side u v l n k k.moving None tie m le (gone ∙ ap moving_of (sym away)) at.0 at.1 at.2 tt in
     changes-met side u v l k p d plain k.moving refl next new s (next new s)
@@ -162,7 +162,7 @@ pub record Said (side : Side) (v : UnitState) (new : Link) (k : SeenPaths) (sent
   pub quiet : sent ≡ None → Tied side v new k
 
 abbrev SaidBy : Side → UnitState → Link → SeenPaths → Option UnitStep → Type 0
-SaidBy side u l k step = (new : Link) → LinkStep l (still l.drawn l.hold) (sent_by step) new → Said side (unit_after u step) new k (came_of step).sent
+SaidBy side u l k step = (new : Link) → LinkStep l (still l.drawn l.hold) (sent_by step) new → Said side (unit_after u step) new k (outcome_of step).sent
 
 some-not : (x : OnPath Up) → Some x ≡ None → ⊥
 some-not x e = cc e
@@ -182,19 +182,19 @@ says side u v l k p (up.Cleared r) q is tie new s = absurd q
 moves-by : (m : Option Connected) (t p c : ℕ) → m ≡ Some (linked t p c) → IsConnected m t p
 moves-by m t p c e = subst (λ (x : Option Connected). IsConnected x t p) (sym e) (refl, refl)
 
-sends-said : (side : Side) (u v : UnitState) (l : Link) (k : SeenPaths) (t p c : ℕ) (x : Up) → IsOfConnection t c x → holds u side ≡ Some (held t (place.On p c)) → IsStill u v side → Tied side u l k →
+sends-said : (side : Side) (u v : UnitState) (l : Link) (k : SeenPaths) (t p c : ℕ) (x : Up) → IsOfConnection t c x → holds u side ≡ Some (held t (connection.On p c)) → IsStill u v side → Tied side u l k →
     SaidBy side u l k (sends v p x)
 sends-said side u v l k t p c (up.Data load w d n m) its on is tie new s =
-    let old = old-way side u l k (held t (place.On p c)) tie on in
+    let old = old-way side u l k (held t (connection.On p c)) tie on in
     let way : way_of k.ways w d ≡ Some p = ap (λ (a : ℕ). way_of k.ways a d) its.0 ∙ (ap (λ (a : ℕ). way_of k.ways t a) its.1 ∙ old.0) in
     record {
-      right = old-moving side u l k (held t (place.On p c)) tie on ∙ (ap (λ (a : ℕ). Some (linked a p c)) (sym its.0) ∙ ap (λ (a : ℕ). Some (linked w p a)) (sym its.1));
+      right = old-moving side u l k (held t (connection.On p c)) tie on ∙ (ap (λ (a : ℕ). Some (linked a p c)) (sym its.0) ∙ ap (λ (a : ℕ). Some (linked w p a)) (sym its.1));
       tied = unit-stays side u v l new k _ tie s is way;
       quiet = λ e. absurd (some-not _ e);
     }
 sends-said side u v l k t p c (up.End w n status more) its on is tie new s =
     record {
-      right = moves-by k.moving w p c (old-moving side u l k (held t (place.On p c)) tie on ∙ ap (λ (a : ℕ). Some (linked a p c)) (sym its));
+      right = moves-by k.moving w p c (old-moving side u l k (held t (connection.On p c)) tie on ∙ ap (λ (a : ℕ). Some (linked a p c)) (sym its));
       tied = unit-stays side u v l new k _ tie s is tt;
       quiet = λ e. absurd (some-not _ e);
     }
@@ -208,9 +208,9 @@ sends-said side u v l k t p c (up.Notice b) its on is tie new s = absurd its
 sends-said side u v l k t p c (up.Attn a status) its on is tie new s = absurd its
 
 off-moving : (t : ℕ) (at : Connection) → IsOffPath at → moving_of (Some (held t at)) ≡ None
-off-moving t (place.On p c) off = absurd off
-off-moving t (place.Ask p c) off = refl
-off-moving t (place.Away c) off = refl
+off-moving t (connection.On p c) off = absurd off
+off-moving t (connection.Ask p c) off = refl
+off-moving t (connection.Away c) off = refl
 
 pub acts-said : (side : Side) (u : UnitState) (l : Link) (k : SeenPaths) (step : Option UnitStep) → Tied side u l k → Acts side u step → SaidBy side u l k step
 acts-said side u l k _ tie Idles new s =
@@ -218,10 +218,10 @@ acts-said side u l k _ tie Idles new s =
 acts-said side u l k _ tie (Says v p x q said is) new s = says side u v l k p x q is tie new s
 acts-said side u l k _ tie (Begins v is) new s = record { right = tt; tied = tt; quiet = λ e. unit-stays side u v l new k None tie s is tt }
 acts-said side u l k _ tie (Leaves t p c v on away le) new s =
-    let old = old-way side u l k (held t (place.On p c)) tie on in
-    let at = held-way k.ways (floor_of v side) (holds v side) (held t (place.Away c)) away tt old.1 (mine-now side u v t (floor_of u side) (floor_of v side) le old.2) in
+    let old = old-way side u l k (held t (connection.On p c)) tie on in
+    let at = held-way k.ways (floor_of v side) (holds v side) (held t (connection.Away c)) away tt old.1 (mine-now side u v t (floor_of u side) (floor_of v side) le old.2) in
     record {
-      right = old-moving side u l k (held t (place.On p c)) tie on;
+      right = old-moving side u l k (held t (connection.On p c)) tie on;
       tied = unit-after-same side u v l new k None _ tie s le (ap moving_of (sym away)) at.0 at.1 at.2 old.0;
       quiet = λ e. absurd (some-not _ e);
     }
@@ -234,7 +234,7 @@ acts-said side u l k _ tie (Asks t p here v off on asks le) new s =
     let last : Each (λ x. x.number ≡ t → x.connection ≤ c) k.ways =
     each-weaker (λ x. x.number ≡ t → x.connection ≤ connection_of here) (λ x. x.number ≡ t → x.connection ≤ c) (λ x h e. let b : x.connection ≤ connection_of here = h e in omega (arith, b)) k.ways old.1 in
     let mine : t ≤ floor_of v side = mine-now side u v t (floor_of u side) (floor_of v side) le old.2 in
-    let at = held-way (one ∷ k.ways) (floor_of v side) (holds v side) (held t (place.Ask p c)) asks (way-new t p c k.ways) ((λ e. omega arith), last) mine in
+    let at = held-way (one ∷ k.ways) (floor_of v side) (holds v side) (held t (connection.Ask p c)) asks (way-new t p c k.ways) ((λ e. omega arith), last) mine in
     record {
       right = gone;
       tied = unit-after-more side u v l new k one k.moving _ tie s none le mine (gone ∙ ap moving_of (sym asks)) at.0 at.1 at.2 (way-new t p c k.ways);

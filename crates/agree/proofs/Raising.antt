@@ -25,7 +25,7 @@ pub record Raises (u v : UnitState) : Type 0 where
   pub restarts : v.restarts ≤ u.restarts + 1
   pub attentions : v.attentions ≤ u.attentions + 1
   pub connection : last_connection v.own ≤ last_connection u.own + 1
-  pub sequence : last_sequence v.at_hand ≤ last_sequence u.at_hand + 1
+  pub sequence : last_sequence v.current ≤ last_sequence u.current + 1
 
 abbrev pub RaisesBy : UnitState → Option UnitStep → Type 0
 RaisesBy u s = Raises u (unit_after u s)
@@ -35,11 +35,11 @@ raises-same u = record { restarts = omega arith; attentions = omega arith; conne
 
 -- the same program at most, or none
 raises-own : (u : UnitState) (v : UnitState) → v.restarts ≡ u.restarts → v.attentions ≡ u.attentions → last_connection v.own ≤ last_connection u.own + 1 →
-    last_sequence v.at_hand ≤ last_sequence u.at_hand + 1 → Raises u v
+    last_sequence v.current ≤ last_sequence u.current + 1 → Raises u v
 raises-own u v r a c s = record { restarts = omega arith; attentions = omega arith; connection = c; sequence = s }
 
 raises-alike : (u : UnitState) (v : UnitState) → v.restarts ≡ u.restarts → v.attentions ≡ u.attentions → v.own ≡ u.own →
-    last_sequence v.at_hand ≤ last_sequence u.at_hand + 1 → Raises u v
+    last_sequence v.current ≤ last_sequence u.current + 1 → Raises u v
 raises-alike u v r a o s = raises-own u v r a (let e : last_connection v.own ≡ last_connection u.own = ap (λ (x : Own). last_connection x) o in omega arith) s
 
 raises-if : (u : UnitState) (b : Bool) (s t : Option UnitStep) → RaisesBy u s → RaisesBy u t → RaisesBy u (if b then s else t)
@@ -73,22 +73,22 @@ placed-raises u side t old new is same =
     raises-own u _ refl refl (let e : last_connection u.own ≡ connection_of old = ap last_connection is in omega (arith, e, same)) (omega arith)
 
 -- Took and Give: the same chunk, or the one that follows
-hand-raises : (u : UnitState) (x y : CurrentCommand) → u.at_hand ≡ Some x → y.sequence ≤ x.sequence + 1 → Raises u (record u { at_hand = Some y })
-hand-raises u x y hand le = raises-alike u _ refl refl refl (let e : last_sequence u.at_hand ≡ x.sequence = ap last_sequence hand in omega (arith, e, le))
+hand-raises : (u : UnitState) (x y : CurrentCommand) → u.current ≡ Some x → y.sequence ≤ x.sequence + 1 → Raises u (record u { current = Some y })
+hand-raises u x y hand le = raises-alike u _ refl refl refl (let e : last_sequence u.current ≡ x.sequence = ap last_sequence hand in omega (arith, e, le))
 
 taken-raises : (u : UnitState) (side : Side) (p : ℕ) (d : Down) (step : Option UnitStep) → Takes u side p d step → RaisesBy u step
 taken-raises u side p _ _ (Ignores d) = none u
 taken-raises u side p _ _ (taken.Notices d fresh) = raises-same u
 taken-raises u side p _ _ (Accepts t above idle) = begun-raises u side t p
 taken-raises u side p _ _ (Denies t above) = raised-raises u side t
-taken-raises u side p _ _ (Begins t n code room place is next) = raises-alike u _ refl refl refl (omega arith)
+taken-raises u side p _ _ (Begins t n code room index is next) = raises-alike u _ refl refl refl (omega arith)
 taken-raises u side p _ _ (Joins t c q is) = placed-raises u side t (Ask q c) (On q c) is refl
-taken-raises u side p _ _ (taken.Leaves t c place is) = raises-same u
+taken-raises u side p _ _ (taken.Leaves t c index is) = raises-same u
 taken-raises u side p _ _ (Parts t c q is) = placed-raises u side t (Ask q c) (Away c) is refl
-taken-raises u side p _ _ (Answers t s room place x load is hand last loaded) = hand-raises u x _ hand (omega arith)
+taken-raises u side p _ _ (Answers t s room index x load is hand last loaded) = hand-raises u x _ hand (omega arith)
 taken-raises u side p _ _ (Gives bytes t c s q x is hand next) = hand-raises u x _ hand (omega (arith, next))
-taken-raises u side p _ _ (Halts t place is first) = raises-alike u _ refl refl refl (omega arith)
-taken-raises u side p _ _ (Frees t place is) = raises-own u _ refl refl (omega arith) (omega arith)
+taken-raises u side p _ _ (Halts t index is first) = raises-alike u _ refl refl refl (omega arith)
+taken-raises u side p _ _ (Frees t index is) = raises-own u _ refl refl (omega arith) (omega arith)
 taken-raises u side p _ _ (Resets r b is) = reset-raises u side r
 taken-raises u side p _ _ (Forgets a) = raises-alike u _ refl refl refl (omega arith)
 
@@ -97,23 +97,23 @@ marked-sequence : (x : Option CurrentCommand) → last_sequence (marked_again x)
 marked-sequence None = omega arith
 marked-sequence (Some x) = omega arith
 
-leaving_from-raises : (u : UnitState) (side : Side) (t : ℕ) (place : Connection) → connection_of place ≤ last_connection u.own → RaisesBy u (leaving_from u side t place)
-leaving_from-raises u side t (On p c) le = raises-own u _ refl refl (omega arith) (marked-sequence u.at_hand)
+leaving_from-raises : (u : UnitState) (side : Side) (t : ℕ) (connection : Connection) → connection_of connection ≤ last_connection u.own → RaisesBy u (leaving_from u side t connection)
+leaving_from-raises u side t (On p c) le = raises-own u _ refl refl (omega arith) (marked-sequence u.current)
 leaving_from-raises u side t (Ask p c) le = none u
 leaving_from-raises u side t (Away c) le = none u
 
 leaving-raises : (u : UnitState) (o : Own) → last_connection o ≤ last_connection u.own → RaisesBy u (leaving u o)
 leaving-raises u Idle le = none u
-leaving-raises u (Owned side t place) le = leaving_from-raises u side t place le
+leaving-raises u (Owned side t connection) le = leaving_from-raises u side t connection le
 
-asking_from-raises : (u : UnitState) (side : Side) (t : ℕ) (place : Connection) (p : ℕ) → connection_of place ≤ last_connection u.own → RaisesBy u (asking_from u side t place p)
+asking_from-raises : (u : UnitState) (side : Side) (t : ℕ) (connection : Connection) (p : ℕ) → connection_of connection ≤ last_connection u.own → RaisesBy u (asking_from u side t connection p)
 asking_from-raises u side t (On q c) p le = none u
 asking_from-raises u side t (Ask q c) p le = raises-own u _ refl refl (omega arith) (omega arith)
 asking_from-raises u side t (Away c) p le = raises-own u _ refl refl (omega arith) (omega arith)
 
 asking-raises : (u : UnitState) (o : Own) (p : ℕ) → last_connection o ≤ last_connection u.own → RaisesBy u (asking u o p)
 asking-raises u Idle p le = none u
-asking-raises u (Owned side t place) p le = asking_from-raises u side t place p le
+asking-raises u (Owned side t connection) p le = asking_from-raises u side t connection p le
 
 attending-raises : (u : UnitState) (side : Side) (p : ℕ) → RaisesBy u (attending u side p)
 attending-raises u side p =

@@ -23,29 +23,29 @@ use Rattle.unit.specs.UnitWords.{last_sequence}
 
 -- what holds of none, and of each step to another state of the command at hand, holds of what a unit does with a report
 module _ (P : Option UnitStep → Type 0) (u : UnitState) (none : P None)
-    (by : (y : CurrentCommand) (sent : Option (OnPath Up)) → y.sequence ≤ last_sequence u.at_hand + 1 → P (Some (record { state = record u { at_hand = Some y }; sent = sent }))) where
+    (by : (y : CurrentCommand) (sent : Option (OnPath Up)) → y.sequence ≤ last_sequence u.current + 1 → P (Some (record { state = record u { current = Some y }; sent = sent }))) where
   by_if : (b : Bool) (s t : Option UnitStep) → P s → P t → P (if b then s else t)
   by_if true s t h k = h
   by_if false s t h k = k
 
-  at_begin : (p t c : ℕ) (x : CurrentCommand) → x.sequence ≤ last_sequence u.at_hand → P (command_begun u p t c x)
+  at_begin : (p t c : ℕ) (x : CurrentCommand) → x.sequence ≤ last_sequence u.current → P (command_begun u p t c x)
   at_begin p t c x le = by_if (is_outward x.code) _ _ (by _ _ (omega arith)) (by _ None (omega arith))
 
-  at_bytes : (p t c : ℕ) (x : CurrentCommand) (given : Option (List ℕ)) (count : ℕ) → x.sequence ≤ last_sequence u.at_hand → P (report_absorbed u p t c x given count)
+  at_bytes : (p t c : ℕ) (x : CurrentCommand) (given : Option (List ℕ)) (count : ℕ) → x.sequence ≤ last_sequence u.current → P (report_absorbed u p t c x given count)
   at_bytes p t c x None count le = none
   at_bytes p t c x (Some bytes) count le = by_if (nat_le count (length bytes)) _ None (by _ _ (omega arith)) none
 
-  at_supplied : (p t c : ℕ) (x : CurrentCommand) (bytes : List ℕ) → x.sequence ≤ last_sequence u.at_hand → P (report_supplied u p t c x bytes)
+  at_supplied : (p t c : ℕ) (x : CurrentCommand) (bytes : List ℕ) → x.sequence ≤ last_sequence u.current → P (report_supplied u p t c x bytes)
   at_supplied p t c x bytes le = by_if (is_to_supply x && nat_le (length bytes) (most_of x)) _ None (by _ _ (omega arith)) none
 
-  at_again : (p t c : ℕ) (x : CurrentCommand) (load : Option Load) → x.sequence ≤ last_sequence u.at_hand → P (sent_again u p t c x load)
+  at_again : (p t c : ℕ) (x : CurrentCommand) (load : Option Load) → x.sequence ≤ last_sequence u.current → P (sent_again u p t c x load)
   at_again p t c x None le = none
   at_again p t c x (Some load) le = by_if x.again _ None (by _ _ (omega arith)) none
 
-  at_end : (p t : ℕ) (x : CurrentCommand) (b : Bool) (status : DeviceStatus) (more : Bool) → x.sequence ≤ last_sequence u.at_hand → P (if b then end_sent u p t x status more else None)
+  at_end : (p t : ℕ) (x : CurrentCommand) (b : Bool) (status : DeviceStatus) (more : Bool) → x.sequence ≤ last_sequence u.current → P (if b then end_sent u p t x status more else None)
   at_end p t x b status more le = by_if b (end_sent u p t x status more) None (by _ _ (omega arith)) none
 
-  at_answer : (p t c : ℕ) (x : CurrentCommand) (at : Progress) (answer : DeviceAnswer) → x.sequence ≤ last_sequence u.at_hand → P (answer_taken u p t c x at answer)
+  at_answer : (p t c : ℕ) (x : CurrentCommand) (at : Progress) (answer : DeviceAnswer) → x.sequence ≤ last_sequence u.current → P (answer_taken u p t c x at answer)
   at_answer p t c x progress.New (Ended status more) le = at_end p t x (may_end u.halted x progress.New status more) (shown_end progress.New status) more le
   at_answer p t c x progress.Working (Ended status more) le = at_end p t x (may_end u.halted x progress.Working status more) (shown_end progress.Working status) more le
   at_answer p t c x progress.ChannelEnded (Ended status more) le = at_end p t x (may_end u.halted x progress.ChannelEnded status more) (shown_end progress.ChannelEnded status) more le
@@ -67,18 +67,18 @@ module _ (P : Option UnitStep → Type 0) (u : UnitState) (none : P None)
   at_answer p t c x progress.ChannelEnded Again le = none
   at_answer p t c x progress.Ended Again le = none
 
-  at_place : (t : ℕ) (place : Connection) (at_hand : Option CurrentCommand) (r : Report) → last_sequence at_hand ≤ last_sequence u.at_hand → P (report_on u t place at_hand r)
-  at_place t (On p c) (Some x) r le = by_if (r.sequence == x.sequence) _ None (at_answer p t c x x.progress r.answer le) none
-  at_place t (On p c) None r le = none
-  at_place t (Ask p c) (Some x) r le = none
-  at_place t (Ask p c) None r le = none
-  at_place t (Away c) (Some x) r le = none
-  at_place t (Away c) None r le = none
+  at_index : (t : ℕ) (connection : Connection) (current : Option CurrentCommand) (r : Report) → last_sequence current ≤ last_sequence u.current → P (report_on u t connection current r)
+  at_index t (On p c) (Some x) r le = by_if (r.sequence == x.sequence) _ None (at_answer p t c x x.progress r.answer le) none
+  at_index t (On p c) None r le = none
+  at_index t (Ask p c) (Some x) r le = none
+  at_index t (Ask p c) None r le = none
+  at_index t (Away c) (Some x) r le = none
+  at_index t (Away c) None r le = none
 
   at_own : (o : Own) (r : Report) → P (report_of u o r)
   at_own Idle r = none
-  at_own (Owned k t place) r =
-      by_if (same_side k r.side && ((r.number == t) && (r.command == u.last_command))) _ None (at_place t place u.at_hand r (omega arith)) none
+  at_own (Owned k t connection) r =
+      by_if (same_side k r.side && ((r.number == t) && (r.command == u.last_command))) _ None (at_index t connection u.current r (omega arith)) none
 
   pub at_report : (r : Report) → P (unit_reports u r)
   at_report r = at_own u.own r

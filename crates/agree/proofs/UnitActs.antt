@@ -15,7 +15,7 @@ use Rattle.chan_model.specs.declared.unit_state.CurrentCommand.{CurrentCommand}
 use Rattle.chan_model.specs.declared.unit_state.Own.{Own}
 use Rattle.chan_model.specs.declared.unit_state.Own.TheVariants as own
 use Rattle.chan_model.specs.declared.unit_state.Connection.{Connection}
-use Rattle.chan_model.specs.declared.unit_state.Connection.TheVariants as place
+use Rattle.chan_model.specs.declared.unit_state.Connection.TheVariants as connection
 use Rattle.chan_model.specs.declared.unit_state.Progress.{Progress}
 use Rattle.chan_model.specs.declared.unit_state.Progress.TheVariants as progress
 use Rattle.chan_model.specs.declared.unit_state.SideState.{SideState}
@@ -36,18 +36,18 @@ IsOfConnection t c (up.End u n status more) = u ≡ t
 IsOfConnection t c x = ⊥
 
 abbrev pub IsOffPath : Connection → Type 0
-IsOffPath (place.On p c) = ⊥
+IsOffPath (connection.On p c) = ⊥
 IsOffPath at = Unit {0}
 
 pub data Acts (side : Side) (u : UnitState) : Option UnitStep → Type 0 where
   Idles : Acts side u None
   Says : (v : UnitState) (p : ℕ) (x : Up) → IsQuiet x → IsSaidRight (holding_of u) side x → IsStill u v side → Acts side u (sends v p x)
   Begins : (v : UnitState) → IsStill u v side → Acts side u (changes v)
-  Leaves : (t p c : ℕ) (v : UnitState) → holds u side ≡ Some (held t (place.On p c)) → holds v side ≡ Some (held t (place.Away c)) → floor_of u side ≤ floor_of v side →
+  Leaves : (t p c : ℕ) (v : UnitState) → holds u side ≡ Some (held t (connection.On p c)) → holds v side ≡ Some (held t (connection.Away c)) → floor_of u side ≤ floor_of v side →
       Acts side u (sends v p (up.Leave t c))
-  Asks : (t p : ℕ) (at : Connection) (v : UnitState) → IsOffPath at → holds u side ≡ Some (held t at) → holds v side ≡ Some (held t (place.Ask p (connection_of at + 1))) → floor_of u side ≤ floor_of v side →
+  Asks : (t p : ℕ) (at : Connection) (v : UnitState) → IsOffPath at → holds u side ≡ Some (held t at) → holds v side ≡ Some (held t (connection.Ask p (connection_of at + 1))) → floor_of u side ≤ floor_of v side →
       Acts side u (sends v p (up.Back t (connection_of at + 1)))
-  Sends : (t p c : ℕ) (x : Up) (v : UnitState) → IsOfConnection t c x → holds u side ≡ Some (held t (place.On p c)) → IsStill u v side → Acts side u (sends v p x)
+  Sends : (t p c : ℕ) (x : Up) (v : UnitState) → IsOfConnection t c x → holds u side ≡ Some (held t (connection.On p c)) → IsStill u v side → Acts side u (sends v p x)
 
 if-acts : (side : Side) (u : UnitState) (b : Bool) (x y : Option UnitStep) → (b ≡ true → Acts side u x) → Acts side u y → Acts side u (if b then x else y)
 if-acts side u true x y e f = e refl
@@ -55,12 +55,12 @@ if-acts side u false x y e f = f
 
 -- reports, where the program t of this side is on p by the connection c
 abbrev IsOn : UnitState → Side → ℕ → ℕ → ℕ → Type 0
-IsOn u side t p c = holds u side ≡ Some (held t (place.On p c))
+IsOn u side t p c = holds u side ≡ Some (held t (connection.On p c))
 
-hand-still : (u : UnitState) (x : CurrentCommand) (side : Side) → IsStill u (record u { at_hand = Some x }) side
-hand-still u x side = still-as u (record u { at_hand = Some x }) side refl refl refl
+hand-still : (u : UnitState) (x : CurrentCommand) (side : Side) → IsStill u (record u { current = Some x }) side
+hand-still u x side = still-as u (record u { current = Some x }) side refl refl refl
 
-data-acts : (side : Side) (u : UnitState) (p t c n s : ℕ) (x : CurrentCommand) (load : Load) → IsOn u side t p c → Acts side u (sends (record u { at_hand = Some x }) p (up.Data load t c n s))
+data-acts : (side : Side) (u : UnitState) (p t c n s : ℕ) (x : CurrentCommand) (load : Load) → IsOn u side t p c → Acts side u (sends (record u { current = Some x }) p (up.Data load t c n s))
 data-acts side u p t c n s x load on = Sends t p c (up.Data load t c n s) _ (refl, refl) on (hand-still u x side)
 
 absorbed-acts : (side : Side) (u : UnitState) (p t c : ℕ) (x : CurrentCommand) (given : Option (List ℕ)) (count : ℕ) → IsOn u side t p c → Acts side u (report_absorbed u p t c x given count)
@@ -72,7 +72,7 @@ again-acts side u p t c x None on = Idles
 again-acts side u p t c x (Some load) on = if-acts side u x.again _ None (λ e. data-acts side u p t c _ _ _ _ on) Idles
 
 end-acts : (side : Side) (u : UnitState) (p t c : ℕ) (x : CurrentCommand) (n : ℕ) (status : DeviceStatus) (more : Bool) → IsOn u side t p c →
-    Acts side u (sends (record u { at_hand = Some x }) p (up.End t n status more))
+    Acts side u (sends (record u { current = Some x }) p (up.End t n status more))
 end-acts side u p t c x n status more on = Sends t p c (up.End t n status more) _ refl on (hand-still u x side)
 
 answer-acts : (side : Side) (u : UnitState) (p t c : ℕ) (x : CurrentCommand) (at : Progress) (a : DeviceAnswer) → IsOn u side t p c → Acts side u (answer_taken u p t c x at a)
@@ -99,25 +99,25 @@ owned-at : (u : UnitState) (side k : Side) (t : ℕ) (at : Connection) → u.own
 owned-at u side k t at e s = ap (λ (o : Own). held_at o side) e ∙ ap (λ (b : Bool). if b then Some (held t at) else None) s
 
 report_on-acts : (side : Side) (u : UnitState) (t : ℕ) (at : Connection) (x : Option CurrentCommand) (r : Report) → holds u side ≡ Some (held t at) → Acts side u (report_on u t at x r)
-report_on-acts side u t (place.On p c) None r on = Idles
-report_on-acts side u t (place.On p c) (Some x) r on =
+report_on-acts side u t (connection.On p c) None r on = Idles
+report_on-acts side u t (connection.On p c) (Some x) r on =
     if-acts side u (r.sequence == x.sequence) (answer_taken u p t c x x.progress r.answer) None (λ e. answer-acts side u p t c x x.progress r.answer on) Idles
-report_on-acts side u t (place.Ask p c) None r on = Idles
-report_on-acts side u t (place.Ask p c) (Some x) r on = Idles
-report_on-acts side u t (place.Away c) None r on = Idles
-report_on-acts side u t (place.Away c) (Some x) r on = Idles
+report_on-acts side u t (connection.Ask p c) None r on = Idles
+report_on-acts side u t (connection.Ask p c) (Some x) r on = Idles
+report_on-acts side u t (connection.Away c) None r on = Idles
+report_on-acts side u t (connection.Away c) (Some x) r on = Idles
 
 -- of the side whose program holds the device
 report_of-acts : (side : Side) (u : UnitState) (o : Own) (r : Report) → u.own ≡ o → is_owner_side o side ≡ true → Acts side u (report_of u o r)
 report_of-acts side u own.Idle r e s = Idles
 report_of-acts side u (own.Owned k t at) r e s =
-    if-acts side u (same_side k r.side && ((r.number == t) && (r.command == u.last_command))) (report_on u t at u.at_hand r) None
-    (λ h. report_on-acts side u t at u.at_hand r (owned-at u side k t at e s)) Idles
+    if-acts side u (same_side k r.side && ((r.number == t) && (r.command == u.last_command))) (report_on u t at u.current r) None
+    (λ h. report_on-acts side u t at u.current r (owned-at u side k t at e s)) Idles
 
 pub reports-acts : (side : Side) (u : UnitState) (r : Report) → is_owner_side u.own side ≡ true → Acts side u (unit_reports u r)
 reports-acts side u r s = report_of-acts side u u.own r refl s
 
-own-le : (u : UnitState) (o : Own) (x : Option CurrentCommand) (side : Side) → floor_of u side ≤ floor_of (record u { own = o; at_hand = x }) side
+own-le : (u : UnitState) (o : Own) (x : Option CurrentCommand) (side : Side) → floor_of u side ≤ floor_of (record u { own = o; current = x }) side
 own-le u o x First = omega arith
 own-le u o x Second = omega arith
 
@@ -129,21 +129,21 @@ own-here k side t at s = ap (λ (b : Bool). if b then Some (held t at) else None
 
 leaving-of : (side : Side) (u : UnitState) (o : Own) → u.own ≡ o → is_owner_side o side ≡ true → Acts side u (leaving u o)
 leaving-of side u own.Idle e s = Idles
-leaving-of side u (own.Owned k t (place.On p c)) e s =
-    Leaves t p c _ (owned-at u side k t (place.On p c) e s) (own-here k side t (place.Away c) s) (own-le u (own.Owned k t (place.Away c)) (marked_again u.at_hand) side)
-leaving-of side u (own.Owned k t (place.Ask p c)) e s = Idles
-leaving-of side u (own.Owned k t (place.Away c)) e s = Idles
+leaving-of side u (own.Owned k t (connection.On p c)) e s =
+    Leaves t p c _ (owned-at u side k t (connection.On p c) e s) (own-here k side t (connection.Away c) s) (own-le u (own.Owned k t (connection.Away c)) (marked_again u.current) side)
+leaving-of side u (own.Owned k t (connection.Ask p c)) e s = Idles
+leaving-of side u (own.Owned k t (connection.Away c)) e s = Idles
 
 pub leaving-acts : (side : Side) (u : UnitState) → is_owner_side u.own side ≡ true → Acts side u (leaving u u.own)
 leaving-acts side u s = leaving-of side u u.own refl s
 
 asking-of : (side : Side) (u : UnitState) (o : Own) (p : ℕ) → u.own ≡ o → is_owner_side o side ≡ true → Acts side u (asking u o p)
 asking-of side u own.Idle p e s = Idles
-asking-of side u (own.Owned k t (place.On q c)) p e s = Idles
-asking-of side u (own.Owned k t (place.Ask q c)) p e s =
-    Asks t p (place.Ask q c) _ tt (owned-at u side k t (place.Ask q c) e s) (own-here k side t (place.Ask p (c + 1)) s) (asked-le u (own.Owned k t (place.Ask p (c + 1))) side)
-asking-of side u (own.Owned k t (place.Away c)) p e s =
-    Asks t p (place.Away c) _ tt (owned-at u side k t (place.Away c) e s) (own-here k side t (place.Ask p (c + 1)) s) (asked-le u (own.Owned k t (place.Ask p (c + 1))) side)
+asking-of side u (own.Owned k t (connection.On q c)) p e s = Idles
+asking-of side u (own.Owned k t (connection.Ask q c)) p e s =
+    Asks t p (connection.Ask q c) _ tt (owned-at u side k t (connection.Ask q c) e s) (own-here k side t (connection.Ask p (c + 1)) s) (asked-le u (own.Owned k t (connection.Ask p (c + 1))) side)
+asking-of side u (own.Owned k t (connection.Away c)) p e s =
+    Asks t p (connection.Away c) _ tt (owned-at u side k t (connection.Away c) e s) (own-here k side t (connection.Ask p (c + 1)) s) (asked-le u (own.Owned k t (connection.Ask p (c + 1))) side)
 
 pub asking-acts : (side : Side) (u : UnitState) (p : ℕ) → is_owner_side u.own side ≡ true → Acts side u (asking u u.own p)
 asking-acts side u p s = asking-of side u u.own p refl s

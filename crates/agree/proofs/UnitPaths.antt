@@ -10,7 +10,7 @@ use Rattle.chan_model.specs.declared.signal.Up.TheVariants as up
 use Rattle.chan_model.specs.declared.unit_state.Own.{Own}
 use Rattle.chan_model.specs.declared.unit_state.Own.TheVariants as own
 use Rattle.chan_model.specs.declared.unit_state.Connection.{Connection}
-use Rattle.chan_model.specs.declared.unit_state.Connection.TheVariants as place
+use Rattle.chan_model.specs.declared.unit_state.Connection.TheVariants as connection
 use Rattle.chan_model.specs.declared.unit_state.SideState.{SideState}
 use Rattle.chan_model.specs.declared.unit_state.UnitState.{UnitState}
 use Rattle.chan_model.specs.Sides.{same_side}
@@ -21,10 +21,10 @@ use Rattle.agreement_laws.proofs.SeenSignals.{IsPlainDown, IsResetAbove}
 -- the program of a side that holds the device, and where it is
 pub record Held : Type 0 where
   pub number : ℕ
-  pub place : Connection
+  pub connection : Connection
 
 abbrev pub held : ℕ → Connection → Held
-held t at = record { number = t; place = at }
+held t at = record { number = t; connection = at }
 
 abbrev pub held_at : Own → Side → Option Held
 held_at own.Idle side = None
@@ -59,12 +59,12 @@ pub data Takes (side : Side) (u : UnitState) (p : ℕ) : Down → Option UnitSte
   Ignores : (d : Down) → Takes side u p d None
   Tells : (d : Down) (v : UnitState) (x : Up) → IsQuiet x → IsStill u v side → Takes side u p d (sends v p x)
   Changes : (d : Down) (v : UnitState) → IsPlainDown d → IsStill u v side → Takes side u p d (changes v)
-  Gives : (t c n s q : ℕ) (bytes : List ℕ) (v : UnitState) → holds u side ≡ Some (held t (place.On q c)) → IsStill u v side → Takes side u p (down.Give bytes t c n s) (changes v)
+  Gives : (t c n s q : ℕ) (bytes : List ℕ) (v : UnitState) → holds u side ≡ Some (held t (connection.On q c)) → IsStill u v side → Takes side u p (down.Give bytes t c n s) (changes v)
   Frees : (d : Down) (v : UnitState) (x : Up) → IsFreeing x → holds v side ≡ None → floor_of u side ≤ floor_of v side → Takes side u p d (sends v p x)
-  Accepts : (t : ℕ) (v : UnitState) → floor_of u side < t → floor_of v side ≡ t → holds v side ≡ Some (held t (place.On p 0)) → Takes side u p (down.Select t) (sends v p (up.Accept t))
-  Joins : (t c q : ℕ) (v : UnitState) → holds u side ≡ Some (held t (place.Ask q c)) → holds v side ≡ Some (held t (place.On q c)) → floor_of u side ≤ floor_of v side →
+  Accepts : (t : ℕ) (v : UnitState) → floor_of u side < t → floor_of v side ≡ t → holds v side ≡ Some (held t (connection.On p 0)) → Takes side u p (down.Select t) (sends v p (up.Accept t))
+  Joins : (t c q : ℕ) (v : UnitState) → holds u side ≡ Some (held t (connection.Ask q c)) → holds v side ≡ Some (held t (connection.On q c)) → floor_of u side ≤ floor_of v side →
       Takes side u p (down.Grant t c) (changes v)
-  Parts : (d : Down) (t c q : ℕ) (v : UnitState) → IsPlainDown d → holds u side ≡ Some (held t (place.Ask q c)) → holds v side ≡ Some (held t (place.Away c)) → floor_of u side ≤ floor_of v side →
+  Parts : (d : Down) (t c q : ℕ) (v : UnitState) → IsPlainDown d → holds u side ≡ Some (held t (connection.Ask q c)) → holds v side ≡ Some (held t (connection.Away c)) → floor_of u side ≤ floor_of v side →
       Takes side u p d (changes v)
   Answers : (t c : ℕ) → Takes side u p (down.Grant t c) (sends u p (up.Leave t c))
 
@@ -137,18 +137,18 @@ taken-takes : (side : Side) (u : UnitState) (p : ℕ) (d : Down) (step : Option 
 taken-takes side u p _ _ above (taken.Ignores d) = Ignores d
 taken-takes side u p _ _ above (taken.Notices d fresh) = Tells d u (up.Notice u.restarts) tt (still u side)
 taken-takes side u p _ _ above (taken.Accepts t high idle) =
-    Accepts t _ high (begun-floor (raised u side t) (own.Owned side t (place.On p 0)) side ∙ here-floor u side _) (held-here side t (place.On p 0))
+    Accepts t _ high (begun-floor (raised u side t) (own.Owned side t (connection.On p 0)) side ∙ here-floor u side _) (held-here side t (connection.On p 0))
 taken-takes side u p _ _ above (taken.Denies t high) = Tells _ (raised u side t) (up.Busy t) tt (raised-still u side t high)
 taken-takes side u p _ _ above (taken.Begins t n code room at is next) =
-    Changes _ _ tt (still-as u (record u { last_command = n; at_hand = Some (new_command code room) }) side refl refl refl)
+    Changes _ _ tt (still-as u (record u { last_command = n; current = Some (new_command code room) }) side refl refl refl)
 taken-takes side u p _ _ above (taken.Joins t c q is) =
-    Joins t c q _ (owned-here u side t (place.Ask q c) is) (held-here side t (place.On q c)) (floor-le u (own.Owned side t (place.On q c)) side)
+    Joins t c q _ (owned-here u side t (connection.Ask q c) is) (held-here side t (connection.On q c)) (floor-le u (own.Owned side t (connection.On q c)) side)
 taken-takes side u p _ _ above (taken.Leaves t c at is) = Answers t c
 taken-takes side u p _ _ above (taken.Parts t c q is) =
-    Parts _ t c q _ tt (owned-here u side t (place.Ask q c) is) (held-here side t (place.Away c)) (floor-le u (own.Owned side t (place.Away c)) side)
+    Parts _ t c q _ tt (owned-here u side t (connection.Ask q c) is) (held-here side t (connection.Away c)) (floor-le u (own.Owned side t (connection.Away c)) side)
 taken-takes side u p _ _ above (taken.Answers t s room at x load is hand last loaded) = Changes _ _ tt (still-as u _ side refl refl refl)
 taken-takes side u p _ _ above (taken.Gives bytes t c s q x is hand next) =
-    Gives t c u.last_command s q bytes _ (owned-here u side t (place.On q c) is) (still-as u _ side refl refl refl)
+    Gives t c u.last_command s q bytes _ (owned-here u side t (connection.On q c) is) (still-as u _ side refl refl refl)
 taken-takes side u p _ _ above (taken.Halts t at is first) = Changes _ _ tt (still-as u (record u { halted = true }) side refl refl refl)
 taken-takes side u p _ _ above (taken.Frees t at is) = Frees _ (freed u) (up.Released t) tt refl (freed-floor u side)
 taken-takes side u p _ _ above (taken.Resets r b is) = reset-frees side u p r b (above r b refl is)

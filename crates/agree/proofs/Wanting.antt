@@ -19,15 +19,15 @@ use Rattle.agree.specs.declared.event.WorldEvent.{WorldEvent}
 use Rattle.agree.specs.declared.event.WorldEvent.TheVariants as event
 use Rattle.agreement_laws.specs.Sending.{may_send}
 use Rattle.agree.specs.State.{LineState, WorldState, line_of, is_up}
-use Rattle.agree.specs.Lines.{GivesTurn, LineTurn, UnitLine, acts_for, stepping, line_chosen, line_let_go, line_sends, acts, heard, hears, met, unit_meets, loses_down, loses_up, cut, goes_down, comes_up, is_cut, with_downs, with_ups, line_with_path}
-use Rattle.agree.specs.Turns.{WorldTurn, at_side, at_world_unit, at_owner, both_of, on_path, path_named, world_turn_of, counted, max_steps, world_turn}
+use Rattle.agree.specs.Lines.{GivesResult, LineResult, UnitLine, acts_for, stepping, line_chosen, line_let_go, line_sends, acts, heard, hears, met, unit_meets, loses_down, loses_up, cut, goes_down, comes_up, is_cut, with_downs, with_ups, line_with_path}
+use Rattle.agree.specs.Results.{WorldResult, at_side, at_world_unit, at_owner, both_of, on_path, path_named, world_result_of, counted, max_steps, world_result}
 use Rattle.agree.specs.Rooms.{LineRoom, WorldRoom, LineLoses, Loses, TakesRoom, IsFullDown, IsFullUp, IsOwnerFull, IsFullFor, IsWorldSpent, line_room_of}
 
 -- it is not refused for want of memory
 abbrev Sound : {A : Type 0} → Result A Fault → Type 0
 Sound r = IfErr r (λ f. f ≢ NoMemory)
 
-sided : (w : WorldState) (side : Side) (turn : LineTurn) → Sound turn → Sound (at_side w side turn)
+sided : (w : WorldState) (side : Side) (turn : LineResult) → Sound turn → Sound (at_side w side turn)
 sided w side (Ok l) h = tt
 sided w side (Err f) h = h
 
@@ -35,15 +35,15 @@ united : (w : WorldState) (side : Side) (turn : Result UnitLine Fault) → Sound
 united w side (Ok b) h = tt
 united w side (Err f) h = h
 
-owned : (w : WorldState) (o : Own) (turn : Side → WorldTurn) → ((side : Side) → Sound (turn side)) → Sound (at_owner w o turn)
+owned : (w : WorldState) (o : Own) (turn : Side → WorldResult) → ((side : Side) → Sound (turn side)) → Sound (at_owner w o turn)
 owned w Idle turn h = λ f. cc f
-owned w (Owned side t place) turn h = h side
+owned w (Owned side t connection) turn h = h side
 
-named : (x : Result ℕ Fault) (turn : ℕ → WorldTurn) → Sound x → ((q : ℕ) → Sound (turn q)) → Sound (on_path x turn)
+named : (x : Result ℕ Fault) (turn : ℕ → WorldResult) → Sound x → ((q : ℕ) → Sound (turn q)) → Sound (on_path x turn)
 named (Ok p) turn s h = h p
 named (Err f) turn s h = s
 
-on_one : (p : ℕ) (turn : ℕ → WorldTurn) → ((q : ℕ) → Sound (turn q)) → Sound (on_path (path_named p) turn)
+on_one : (p : ℕ) (turn : ℕ → WorldResult) → ((q : ℕ) → Sound (turn q)) → Sound (on_path (path_named p) turn)
 on_one p turn h = named (path_named p) turn (cond_both (nat_lt p 8) (Ok p) (Err NoSuchPath) (λ r. Sound r) (λ e. tt) (λ e f. cc f)) h
 
 chosen_sound : (l : LineState) (phase : HoldPhase) (p : ℕ) (single : Bool) → Sound (line_chosen l phase p single)
@@ -62,13 +62,13 @@ let_go_sound l (hold.On t q c) = tt
 let_go_sound l (hold.Away t) = λ f. cc f
 let_go_sound l (hold.Letting t q) = λ f. cc f
 
-heard_sound : (l : LineState) (x : Option (OnPath Up)) (place : ℕ) (keep may : Bool) → Sound (heard l x place keep may)
-heard_sound l None place keep may = λ f. cc f
-heard_sound l (Some x) place keep may = tt
+heard_sound : (l : LineState) (x : Option (OnPath Up)) (index : ℕ) (keep may : Bool) → Sound (heard l x index keep may)
+heard_sound l None index keep may = λ f. cc f
+heard_sound l (Some x) index keep may = tt
 
-met_sound : (b : UnitLine) (side : Side) (x : Option (OnPath Down)) (place : ℕ) (keep may : Bool) → Sound (met b side x place keep may)
-met_sound b side None place keep may = λ f. cc f
-met_sound b side (Some x) place keep may = tt
+met_sound : (b : UnitLine) (side : Side) (x : Option (OnPath Down)) (index : ℕ) (keep may : Bool) → Sound (met b side x index keep may)
+met_sound b side None index keep may = λ f. cc f
+met_sound b side (Some x) index keep may = tt
 
 stepping_sound : (b : UnitLine) (step : Option UnitStep) → Sound (stepping b step)
 stepping_sound b None = λ f. cc f
@@ -81,25 +81,25 @@ unit_sound w side act =
 owner_sound : (w : WorldState) (act : UnitAct) → Sound (at_owner w w.«unit».own (λ side. at_world_unit w side (acts_for (both_of w side) act)))
 owner_sound w act = owned w w.«unit».own (λ side. at_world_unit w side (acts_for (both_of w side) act)) (λ side. unit_sound w side act)
 
-never : (w : WorldState) (e : WorldEvent) → Sound (world_turn_of w e)
+never : (w : WorldState) (e : WorldEvent) → Sound (world_result_of w e)
 never w (event.Choose side p single) =
     let l : LineState = line_of w side in
     on_one p (λ q. at_side w side (line_chosen l l.link.hold.phase q single))
     (λ q. sided w side (line_chosen l l.link.hold.phase q single) (chosen_sound l l.link.hold.phase q single))
-never w (event.Down side place keep may) =
-    united w side (unit_meets (both_of w side) side place keep may)
-    (met_sound (both_of w side) side (slice_get (line_of w side).link.downs place) place keep may)
-never w (event.Up side place keep may) =
+never w (event.Down side index keep may) =
+    united w side (unit_meets (both_of w side) side index keep may)
+    (met_sound (both_of w side) side (slice_get (line_of w side).link.downs index) index keep may)
+never w (event.Up side index keep may) =
     let l : LineState = line_of w side in
-    sided w side (hears l place keep may) (heard_sound l (slice_get l.link.ups place) place keep may)
-never w (event.LoseDown side place) =
+    sided w side (hears l index keep may) (heard_sound l (slice_get l.link.ups index) index keep may)
+never w (event.LoseDown side index) =
     let l : LineState = line_of w side in
-    sided w side (loses_down l place)
-    (cond_both (nat_lt place (length l.link.downs)) (Ok (with_downs l (remove l.link.downs place))) (Err NotSent) (λ r. Sound r) (λ e. tt) (λ e f. cc f))
-never w (event.LoseUp side place) =
+    sided w side (loses_down l index)
+    (cond_both (nat_lt index (length l.link.downs)) (Ok (with_downs l (remove l.link.downs index))) (Err NotSent) (λ r. Sound r) (λ e. tt) (λ e f. cc f))
+never w (event.LoseUp side index) =
     let l : LineState = line_of w side in
-    sided w side (loses_up l place)
-    (cond_both (nat_lt place (length l.link.ups)) (Ok (with_ups l (remove l.link.ups place))) (Err NotSent) (λ r. Sound r) (λ e. tt) (λ e f. cc f))
+    sided w side (loses_up l index)
+    (cond_both (nat_lt index (length l.link.ups)) (Ok (with_ups l (remove l.link.ups index))) (Err NotSent) (λ r. Sound r) (λ e. tt) (λ e f. cc f))
 never w (event.PathDown side p) =
     let l : LineState = line_of w side in
     on_one p (λ q. at_side w side (goes_down l q))
@@ -133,30 +133,30 @@ never w (event.Notice side p) =
 never w event.Restart = tt
 never w (event.Report report) = owner_sound w (Reports report)
 
-counted_sound : (n : ℕ) (turn : WorldTurn) → Sound turn → Sound (counted n turn)
+counted_sound : (n : ℕ) (turn : WorldResult) → Sound turn → Sound (counted n turn)
 counted_sound n (Ok w) h = tt
 counted_sound n (Err f) h = h
 
-bounded : (b : Bool) (turn : WorldTurn) → Sound turn → (if b then turn else Err NoMemory) ≡ Err NoMemory → b ≡ false
+bounded : (b : Bool) (turn : WorldResult) → Sound turn → (if b then turn else Err NoMemory) ≡ Err NoMemory → b ≡ false
 bounded true turn sound is = absurd (subst (λ r. Sound r) is sound refl)
 bounded false turn sound is = refl
 
-steps-spent : (w : WorldState) (e : WorldEvent) → world_turn w e ≡ Err NoMemory → max_steps ≤ w.steps
+steps-spent : (w : WorldState) (e : WorldEvent) → world_result w e ≡ Err NoMemory → max_steps ≤ w.steps
 steps-spent w e is =
     let none : nat_lt w.steps max_steps ≡ false =
-    bounded (nat_lt w.steps max_steps) (counted w.steps (world_turn_of w e)) (counted_sound w.steps (world_turn_of w e) (never w e)) is in
+    bounded (nat_lt w.steps max_steps) (counted w.steps (world_result_of w e)) (counted_sound w.steps (world_result_of w e) (never w e)) is in
     ltb-false w.steps max_steps none
 
 -- a call that does as a turn says, and is refused for want of memory
 pub given-spent : {A : Type 0} → (w : WorldState) (room : WorldRoom) (e : WorldEvent) (new : WorldState) (r : Result A Fault) →
-    GivesTurn w (world_turn w e) (IsFullFor w room e) r new → r ≡ Err NoMemory → IsWorldSpent (record { world = new; room = room }) e
+    GivesResult w (world_result w e) (IsFullFor w room e) r new → r ≡ Err NoMemory → IsWorldSpent (record { world = new; room = room }) e
 given-spent w room e new (Ok done) given is = absurd (cc is)
 given-spent w room e new (Err f) given is =
     let want : f ≡ NoMemory = cc in
     subst (λ (x : WorldState). IsWorldSpent (record { world = x; room = room }) e) (sym given.0)
     (elim given.1 [
       | inl full ↦ inr full.1
-      | inr turn ↦ inl (steps-spent w e (subst (λ (g : Fault). world_turn w e ≡ Err g) want turn))
+      | inr turn ↦ inl (steps-spent w e (subst (λ (g : Fault). world_result w e ≡ Err g) want turn))
     ])
 
 -- where no room was lost, a list that is full was full
@@ -173,14 +173,14 @@ line-loses n a b Second h = h.second
 
 owner-before : (a b : WorldRoom) (o : Own) → Loses 0 a b → IsOwnerFull b o → IsOwnerFull a o
 owner-before a b Idle h full = full
-owner-before a b (Owned side t place) h full = up-before (line_room_of a side) (line_room_of b side) (line-loses 0 a b side h) full
+owner-before a b (Owned side t connection) h full = up-before (line_room_of a side) (line_room_of b side) (line-loses 0 a b side h) full
 
 full-before : (w : WorldState) (a b : WorldRoom) (e : WorldEvent) → Loses 0 a b → IsFullFor w b e → IsFullFor w a e
 full-before w a b (event.Choose side p single) h full = down-before (line_room_of a side) (line_room_of b side) (line-loses 0 a b side h) full
-full-before w a b (event.Down side place keep may) h full = up-before (line_room_of a side) (line_room_of b side) (line-loses 0 a b side h) full
-full-before w a b (event.Up side place keep may) h full = down-before (line_room_of a side) (line_room_of b side) (line-loses 0 a b side h) full
-full-before w a b (event.LoseDown side place) h full = full
-full-before w a b (event.LoseUp side place) h full = full
+full-before w a b (event.Down side index keep may) h full = up-before (line_room_of a side) (line_room_of b side) (line-loses 0 a b side h) full
+full-before w a b (event.Up side index keep may) h full = down-before (line_room_of a side) (line_room_of b side) (line-loses 0 a b side h) full
+full-before w a b (event.LoseDown side index) h full = full
+full-before w a b (event.LoseUp side index) h full = full
 full-before w a b (event.PathDown side p) h full = full
 full-before w a b (event.PathUp side p) h full = full
 full-before w a b (event.PathReset side p) h full = full
@@ -197,13 +197,13 @@ full-before w a b (event.Report report) h full = owner-before a b w.«unit».own
 
 -- where there was room for the event, only the steps can be wanting
 pub given-room : {A : Type 0} → (w : WorldState) (a b : WorldRoom) (e : WorldEvent) (new : WorldState) (r : Result A Fault) → (IsFullFor w a e → ⊥) → TakesRoom r a b →
-    GivesTurn w (world_turn w e) (IsFullFor w b e) r new → r ≡ Err NoMemory → max_steps ≤ w.steps
+    GivesResult w (world_result w e) (IsFullFor w b e) r new → r ≡ Err NoMemory → max_steps ≤ w.steps
 given-room w a b e new (Ok done) none taken given is = absurd (cc is)
 given-room w a b e new (Err f) none taken given is =
     let want : f ≡ NoMemory = cc in
     elim given.1 [
       | inl full ↦ absurd (none (full-before w a b e taken full.1))
-      | inr turn ↦ steps-spent w e (subst (λ (g : Fault). world_turn w e ≡ Err g) want turn)
+      | inr turn ↦ steps-spent w e (subst (λ (g : Fault). world_result w e ≡ Err g) want turn)
     ]
 
 -- room that is lost bit by bit

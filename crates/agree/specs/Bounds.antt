@@ -9,7 +9,7 @@ pub record IsWorldUnitWithin (n : ℕ) (u : UnitState) : Type 0 where
   pub restarts : u.restarts ≤ n
   pub attentions : u.attentions ≤ n
   pub connection : last_connection u.own ≤ n
-  pub sequence : last_sequence u.at_hand ≤ n
+  pub sequence : last_sequence u.current ≤ n
 
 pub record IsWorldWithin (n : ℕ) (w : WorldState) : Type 0 where
   pub «unit» : IsWorldUnitWithin n w.«unit»

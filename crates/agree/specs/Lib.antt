@@ -1,6 +1,6 @@
 pub mod State
 pub mod Lines
-pub mod Turns
+pub mod Results
 pub mod Replies
 pub mod Rooms
 pub mod Histories

@@ -17,7 +17,7 @@ use Rattle.agree.specs.ByItsPath.{IsByItsPath}
 use Rattle.agree.specs.Histories.{WorldEntry, entries_of}
 use Rattle.agree.specs.OneHolder.{HasOneHolder, IsBegunOnce}
 use Rattle.agree.specs.State.{WorldState, links_of, line_of, opening_world}
-use Rattle.agree.specs.Turns.{world_after, worlds_after}
+use Rattle.agree.specs.Results.{world_after, worlds_after}
 
 -- both sides agree, except while a reset isn't yet taken; one path moves data; each number was accepted at most once
 abbrev pub AreSound : WorldState → Type 0
@@ -29,8 +29,8 @@ IsResetMet u phase side None = ⊥
 IsResetMet u phase side (Some x) = IsReset u phase side x.signal
 
 abbrev pub IsResetTakenBy : WorldState → WorldEvent → Side → Type 0
-IsResetTakenBy w (event.Down k place keep may) side =
-    (same_side k side ≡ true) × IsResetMet w.«unit» (link_of (links_of w) side).hold.phase side (slice_get (line_of w k).link.downs place)
+IsResetTakenBy w (event.Down k index keep may) side =
+    (same_side k side ≡ true) × IsResetMet w.«unit» (link_of (links_of w) side).hold.phase side (slice_get (line_of w k).link.downs index)
 IsResetTakenBy w e side = ⊥
 
 -- A reset that isn't yet taken stays so, but where the unit takes it; right after that both sides agree.
@@ -52,10 +52,10 @@ pub record IsApart (side : Side) (old new : WorldState) : Type 0 where
 -- Leave, Ask and a report are of the side whose program holds the device; a reset of the subsystem and a restart are of both
 abbrev pub LeavesApart : WorldState → WorldEvent → WorldState → Type 0
 LeavesApart old (event.Choose side p single) new = IsApart side old new
-LeavesApart old (event.Down side place keep may) new = IsApart side old new
-LeavesApart old (event.Up side place keep may) new = IsApart side old new
-LeavesApart old (event.LoseDown side place) new = IsApart side old new
-LeavesApart old (event.LoseUp side place) new = IsApart side old new
+LeavesApart old (event.Down side index keep may) new = IsApart side old new
+LeavesApart old (event.Up side index keep may) new = IsApart side old new
+LeavesApart old (event.LoseDown side index) new = IsApart side old new
+LeavesApart old (event.LoseUp side index) new = IsApart side old new
 LeavesApart old (event.PathDown side p) new = IsApart side old new
 LeavesApart old (event.PathUp side p) new = IsApart side old new
 LeavesApart old (event.PathReset side p) new = IsApart side old new

@@ -35,7 +35,7 @@ told_up side (Some x) = reply.SentUp side x
 abbrev pub is_taken : HoldState → ℕ → Up → Bool → Bool
 is_taken h p (up.Data load t c n s) may = hold_table.is_connected h.phase p t c && may
 is_taken h p (up.End t n status more) may = hold_table.is_on h.phase t && may
-is_taken h p signal may = (hold_table.came_of (hold_table.hold_takes h p signal may)).taken
+is_taken h p signal may = (hold_table.outcome_of (hold_table.hold_takes h p signal may)).taken
 
 -- what a side sends as it is chosen
 abbrev pub chosen_act : HoldPhase → ℕ → Bool → HoldAct
@@ -54,24 +54,24 @@ heard_reply side l None may = reply.Done
 heard_reply side l (Some x) may = reply.Up side x (is_taken l.link.hold x.path x.signal may) (hold_sends l (Takes x may))
 
 abbrev pub unit_reply : Side → UnitState → UnitAct → WorldReply
-unit_reply side u act = told_up side (unit_table.came_of (unit_steps u act)).sent
+unit_reply side u act = told_up side (unit_table.outcome_of (unit_steps u act)).sent
 
 abbrev pub arrived_reply : Side → OnPath Down → Taken Up → WorldReply
-arrived_reply side x came = reply.Down side x came.taken came.sent
+arrived_reply side x outcome = reply.Down side x outcome.taken outcome.sent
 
 abbrev pub met_reply : Side → UnitState → Option (OnPath Down) → Bool → WorldReply
 met_reply side u None may = reply.Done
-met_reply side u (Some x) may = arrived_reply side x (unit_table.came_of (unit_steps u (Takes_down side x may)))
+met_reply side u (Some x) may = arrived_reply side x (unit_table.outcome_of (unit_steps u (Takes_down side x may)))
 
 abbrev pub owner_reply : Own → UnitState → UnitAct → WorldReply
 owner_reply own.Idle u act = reply.Done
-owner_reply (own.Owned side t place) u act = unit_reply side u act
+owner_reply (own.Owned side t connection) u act = unit_reply side u act
 
 -- of each event
 abbrev pub reply_of : WorldState → WorldEvent → WorldReply
 reply_of w (event.Choose side p single) = hold_reply side (line_of w side) (chosen_act (line_of w side).link.hold.phase p single)
-reply_of w (event.Down side place keep may) = met_reply side w.«unit» (slice_get (line_of w side).link.downs place) may
-reply_of w (event.Up side place keep may) = heard_reply side (line_of w side) (slice_get (line_of w side).link.ups place) may
+reply_of w (event.Down side index keep may) = met_reply side w.«unit» (slice_get (line_of w side).link.downs index) may
+reply_of w (event.Up side index keep may) = heard_reply side (line_of w side) (slice_get (line_of w side).link.ups index) may
 reply_of w (event.LetGo side) = hold_reply side (line_of w side) Lets_go
 reply_of w (event.Send side p signal) = reply.SentDown side (record { path = p; signal = signal })
 reply_of w event.Leave = owner_reply w.«unit».own w.«unit» Leaves

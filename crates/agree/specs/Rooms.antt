@@ -7,7 +7,7 @@ use Rattle.chan_model.specs.declared.unit_state.Own.TheVariants.{Idle, Owned}
 use Rattle.agree.specs.declared.event.WorldEvent.{WorldEvent}
 use Rattle.agree.specs.declared.event.WorldEvent.TheVariants as event
 use Rattle.agree.specs.State.{LineState, WorldState}
-use Rattle.agree.specs.Turns.{max_steps, worlds_after}
+use Rattle.agree.specs.Results.{max_steps, worlds_after}
 
 -- for how many more there is room at one side: signals to the unit, signals from it, and numbers that it accepted
 pub record LineRoom : Type 0 where
@@ -37,7 +37,7 @@ abbrev pub line_room_of : WorldRoom → Side → LineRoom
 line_room_of room First = room.first
 line_room_of room Second = room.second
 
--- room may be made; of what there was, each list loses so many places at most
+-- room may be made; of what there was, each list loses so many slots at most
 pub record LineLoses (n : ℕ) (old new : LineRoom) : Type 0 where
   pub downs : old.downs ≤ new.downs + n
   pub ups : old.ups ≤ new.ups + n
@@ -47,7 +47,7 @@ pub record Loses (n : ℕ) (old new : WorldRoom) : Type 0 where
   pub first : LineLoses n old.first new.first
   pub second : LineLoses n old.second new.second
 
--- what is done takes one place of each list at most, and what is refused none
+-- what is done takes one index of each list at most, and what is refused none
 abbrev pub LineTakes : {A F : Type 0} → Result A F → LineRoom → LineRoom → Type 0
 LineTakes (Ok done) old new = LineLoses 1 old new
 LineTakes (Err f) old new = LineLoses 0 old new
@@ -71,15 +71,15 @@ IsFullUp room = (room.ups ≡ 0) ⊎ (room.accepted ≡ 0)
 
 abbrev pub IsOwnerFull : WorldRoom → Own → Type 0
 IsOwnerFull room Idle = ⊥
-IsOwnerFull room (Owned side t place) = IsFullUp (line_room_of room side)
+IsOwnerFull room (Owned side t connection) = IsFullUp (line_room_of room side)
 
 -- a list that the event may add to has no room; an event that sends nothing needs none
 abbrev pub IsFullFor : WorldState → WorldRoom → WorldEvent → Type 0
 IsFullFor w room (event.Choose side p single) = IsFullDown (line_room_of room side)
-IsFullFor w room (event.Down side place keep may) = IsFullUp (line_room_of room side)
-IsFullFor w room (event.Up side place keep may) = IsFullDown (line_room_of room side)
-IsFullFor w room (event.LoseDown side place) = ⊥
-IsFullFor w room (event.LoseUp side place) = ⊥
+IsFullFor w room (event.Down side index keep may) = IsFullUp (line_room_of room side)
+IsFullFor w room (event.Up side index keep may) = IsFullDown (line_room_of room side)
+IsFullFor w room (event.LoseDown side index) = ⊥
+IsFullFor w room (event.LoseUp side index) = ⊥
 IsFullFor w room (event.PathDown side p) = ⊥
 IsFullFor w room (event.PathUp side p) = ⊥
 IsFullFor w room (event.PathReset side p) = ⊥

@@ -6,7 +6,7 @@ use chan_model::names::Side;
 use chan_model::report::Report;
 use chan_model::signal::Down;
 
-/// One thing that may happen. A path is its index, and a place counts the signals that were sent one way at one side and
+/// One thing that may happen. A path is its index, and an index counts the signals that were sent one way at one side and
 /// have not vanished, from 0.
 #[derive(Drop)]
 pub enum WorldEvent {
@@ -20,7 +20,7 @@ pub enum WorldEvent {
     /// serve the unit.
     Down {
         side: Side,
-        place: usize,
+        index: usize,
         keep: bool,
         may: bool,
     },
@@ -29,19 +29,19 @@ pub enum WorldEvent {
     /// show it.
     Up {
         side: Side,
-        place: usize,
+        index: usize,
         keep: bool,
         may: bool,
     },
     /// A signal to the unit vanishes.
     LoseDown {
         side: Side,
-        place: usize,
+        index: usize,
     },
     /// A signal from the unit vanishes.
     LoseUp {
         side: Side,
-        place: usize,
+        index: usize,
     },
     /// A path goes down, and the signals on it vanish.
     PathDown {
@@ -113,33 +113,33 @@ impl WorldEvent {
             },
             WorldEvent::Down {
                 side,
-                place,
+                index,
                 keep,
                 may,
             } => WorldEvent::Down {
                 side: *side,
-                place: *place,
+                index: *index,
                 keep: *keep,
                 may: *may,
             },
             WorldEvent::Up {
                 side,
-                place,
+                index,
                 keep,
                 may,
             } => WorldEvent::Up {
                 side: *side,
-                place: *place,
+                index: *index,
                 keep: *keep,
                 may: *may,
             },
-            WorldEvent::LoseDown { side, place } => WorldEvent::LoseDown {
+            WorldEvent::LoseDown { side, index } => WorldEvent::LoseDown {
                 side: *side,
-                place: *place,
+                index: *index,
             },
-            WorldEvent::LoseUp { side, place } => WorldEvent::LoseUp {
+            WorldEvent::LoseUp { side, index } => WorldEvent::LoseUp {
                 side: *side,
-                place: *place,
+                index: *index,
             },
             WorldEvent::PathDown { side, path } => WorldEvent::PathDown {
                 side: *side,

@@ -14,7 +14,7 @@ ghost use Rattle.agree.specs.Histories.{entries_of};
 ghost use Rattle.agree.specs.OneHolder.{HasOneHolder, IsBegunOnce};
 ghost use Rattle.agree.specs.State.{WorldState, opening_world};
 ghost use Rattle.agree.specs.Promises.{LeavesApart};
-ghost use Rattle.agree.specs.Turns.{world_after};
+ghost use Rattle.agree.specs.Results.{world_after};
 ghost use Rattle.agree.specs.declared.event.WorldEvent.{WorldEvent};
 
 pub mod event;
@@ -68,5 +68,5 @@ pub fn both_agree()
 /// shows it, since no other Data comes there.
 pub fn subchannel_takes()
     ensures taken { (returns : Bool) (storage : Contents) (s : SubchannelState) (p : ℕ) (x : Up) →
-        (takes_up returns storage s p x).step.came.taken ≡ true → is_taken s.hold p x true ≡ true }
+        (takes_up returns storage s p x).step.outcome.taken ≡ true → is_taken s.hold p x true ≡ true }
 {}

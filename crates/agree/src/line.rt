@@ -124,7 +124,7 @@ impl SideLine {
         hold: Hold,
         sent: &Option<OnPath<LentDown<'_>>>,
     ) -> Result<(), Fault>
-        ensures gives { spec.GivesTurn self.old.line (Ok (spec.acted self.old.line (record { drawn = drawn; hold = hold; sent = map_sent lent_down sent.now }))) (room_spec.IsFullDown self.new.room) result self.new.line }
+        ensures gives { spec.GivesResult self.old.line (Ok (spec.acted self.old.line (record { drawn = drawn; hold = hold; sent = map_sent lent_down sent.now }))) (room_spec.IsFullDown self.new.room) result self.new.line }
         ensures room { room_spec.LineTakes result self.old.room self.new.room }
     {
         if let Some(signal) = sent {
@@ -139,7 +139,7 @@ impl SideLine {
     pub fn choose(&mut self, side: Side, path: Path, single_path: bool) -> Result<WorldReply, Fault>
         requires { self.old.line.link.drawn ≤ 2 ^ 62 }
         ensures reply { IfOk result (λ r. r ≡ reply_spec.hold_reply side self.old.line (reply_spec.chosen_act self.old.line.link.hold.phase path single_path)) }
-        ensures gives { spec.GivesTurn self.old.line (spec.line_chosen self.old.line self.old.line.link.hold.phase path single_path) (room_spec.IsFullDown self.new.room) result self.new.line }
+        ensures gives { spec.GivesResult self.old.line (spec.line_chosen self.old.line self.old.line.link.hold.phase path single_path) (room_spec.IsFullDown self.new.room) result self.new.line }
         ensures room { room_spec.LineTakes result self.old.room self.new.room }
     {
         let mut hold = self.hold;
@@ -166,7 +166,7 @@ impl SideLine {
     /// Lets the device go.
     pub fn let_go(&mut self, side: Side) -> Result<WorldReply, Fault>
         ensures reply { IfOk result (λ r. r ≡ reply_spec.hold_reply side self.old.line moving.Lets_go) }
-        ensures gives { spec.GivesTurn self.old.line (spec.line_let_go self.old.line self.old.line.link.hold.phase) (room_spec.IsFullDown self.new.room) result self.new.line }
+        ensures gives { spec.GivesResult self.old.line (spec.line_let_go self.old.line self.old.line.link.hold.phase) (room_spec.IsFullDown self.new.room) result self.new.line }
         ensures room { room_spec.LineTakes result self.old.room self.new.room }
     {
         let mut hold = self.hold;
@@ -185,7 +185,7 @@ impl SideLine {
     /// The hold sends a signal of its program on a path.
     pub fn send(&mut self, side: Side, path: Path, signal: &Down) -> Result<WorldReply, Fault>
         ensures reply { IfOk result (λ r. r ≡ reply.SentDown side (record { path = path; signal = signal.now })) }
-        ensures gives { spec.GivesTurn self.old.line (spec.line_sends self.old.line path signal.now) (room_spec.IsFullDown self.new.room) result self.new.line }
+        ensures gives { spec.GivesResult self.old.line (spec.line_sends self.old.line path signal.now) (room_spec.IsFullDown self.new.room) result self.new.line }
         ensures room { room_spec.LineTakes result self.old.room self.new.room }
     {
         if !may_send(&self.hold, path, signal) {
@@ -211,31 +211,31 @@ impl SideLine {
         self.hold.reset(self.drawn);
     }
 
-    /// The hold takes the signal at a place.
+    /// The hold takes the signal at an index.
     pub fn hear(
         &mut self,
         side: Side,
-        place: usize,
+        index: usize,
         keep: bool,
         may: bool,
     ) -> Result<WorldReply, Fault>
         requires { self.old.line.link.drawn ≤ 2 ^ 62 }
-        ensures reply { IfOk result (λ r. r ≡ reply_spec.heard_reply side self.old.line (slice_get self.old.line.link.ups place) may) }
-        ensures gives { spec.GivesTurn self.old.line (spec.hears self.old.line place keep may) (room_spec.IsFullDown self.new.room) result self.new.line }
+        ensures reply { IfOk result (λ r. r ≡ reply_spec.heard_reply side self.old.line (slice_get self.old.line.link.ups index) may) }
+        ensures gives { spec.GivesResult self.old.line (spec.hears self.old.line index keep may) (room_spec.IsFullDown self.new.room) result self.new.line }
         ensures room { room_spec.LineTakes result self.old.room self.new.room }
     {
-        if place >= self.ups.len() {
+        if index >= self.ups.len() {
             return Err(Fault::NotSent);
         }
         let mut hold = self.hold;
-        let signal = self.ups[place].copy();
+        let signal = self.ups[index].copy();
         let taken = is_taken(&hold, &signal, may);
-        let (drawn, came) = takes(self.drawn, &mut hold, &signal, may);
-        let sent = lend_down(&came);
+        let (drawn, outcome) = takes(self.drawn, &mut hold, &signal, may);
+        let sent = lend_down(&outcome);
         let answer = own_down(&sent);
         self.keep(drawn, hold, &sent)?;
         if !keep {
-            self.ups.remove(place);
+            self.ups.remove(index);
         }
         Ok(WorldReply::Up {
             side,
@@ -245,27 +245,27 @@ impl SideLine {
         })
     }
 
-    /// The signal to the unit at a place vanishes.
-    pub fn lose_down(&mut self, place: usize) -> Result<(), Fault>
-        ensures gives { spec.GivesTurn self.old.line (spec.loses_down self.old.line place) ⊥ result self.new.line }
+    /// The signal to the unit at an index vanishes.
+    pub fn lose_down(&mut self, index: usize) -> Result<(), Fault>
+        ensures gives { spec.GivesResult self.old.line (spec.loses_down self.old.line index) ⊥ result self.new.line }
         ensures room { room_spec.LineTakes result self.old.room self.new.room }
     {
-        if place >= self.downs.len() {
+        if index >= self.downs.len() {
             return Err(Fault::NotSent);
         }
-        self.downs.remove(place);
+        self.downs.remove(index);
         Ok(())
     }
 
-    /// The signal from the unit at a place vanishes.
-    pub fn lose_up(&mut self, place: usize) -> Result<(), Fault>
-        ensures gives { spec.GivesTurn self.old.line (spec.loses_up self.old.line place) ⊥ result self.new.line }
+    /// The signal from the unit at an index vanishes.
+    pub fn lose_up(&mut self, index: usize) -> Result<(), Fault>
+        ensures gives { spec.GivesResult self.old.line (spec.loses_up self.old.line index) ⊥ result self.new.line }
         ensures room { room_spec.LineTakes result self.old.room self.new.room }
     {
-        if place >= self.ups.len() {
+        if index >= self.ups.len() {
             return Err(Fault::NotSent);
         }
-        self.ups.remove(place);
+        self.ups.remove(index);
         Ok(())
     }
 
@@ -286,7 +286,7 @@ impl SideLine {
     /// A path goes down.
     pub fn path_down(&mut self, path: Path) -> Result<(), Fault>
         requires { self.old.line.link.drawn ≤ 2 ^ 62 }
-        ensures gives { spec.GivesTurn self.old.line (spec.goes_down self.old.line path) ⊥ result self.new.line }
+        ensures gives { spec.GivesResult self.old.line (spec.goes_down self.old.line path) ⊥ result self.new.line }
         ensures room { room_spec.LineTakes result self.old.room self.new.room }
     {
         if !is_up(&self.up, path) {
@@ -299,7 +299,7 @@ impl SideLine {
 
     /// A path comes up.
     pub fn path_up(&mut self, path: Path) -> Result<(), Fault>
-        ensures gives { spec.GivesTurn self.old.line (spec.comes_up self.old.line path) ⊥ result self.new.line }
+        ensures gives { spec.GivesResult self.old.line (spec.comes_up self.old.line path) ⊥ result self.new.line }
         ensures room { room_spec.LineTakes result self.old.room self.new.room }
     {
         if is_up(&self.up, path) {
@@ -312,7 +312,7 @@ impl SideLine {
     /// A path is reset.
     pub fn path_reset(&mut self, path: Path) -> Result<(), Fault>
         requires { self.old.line.link.drawn ≤ 2 ^ 62 }
-        ensures gives { spec.GivesTurn self.old.line (spec.is_cut self.old.line path) ⊥ result self.new.line }
+        ensures gives { spec.GivesResult self.old.line (spec.is_cut self.old.line path) ⊥ result self.new.line }
         ensures room { room_spec.LineTakes result self.old.room self.new.room }
     {
         if !is_up(&self.up, path) {
@@ -334,10 +334,10 @@ fn takes(
     requires { drawn ≤ 2 ^ 62 }
     ensures { record { drawn = result.0; hold = hold.new; sent = map_sent plain_down result.1 } ≡ moving.hold_taken drawn hold.old signal.now.path signal.now.signal may }
 {
-    let came = met_by(hold, signal, may);
-    if came.taken && matches!(signal.signal, Up::Notice { .. }) {
+    let outcome = met_by(hold, signal, may);
+    if outcome.taken && matches!(signal.signal, Up::Notice { .. }) {
         hold.reset(drawn + 1);
         return (drawn + 1, None);
     }
-    (drawn, came.sent)
+    (drawn, outcome.sent)
 }

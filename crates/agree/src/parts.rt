@@ -2,11 +2,11 @@
 
 ghost use Rattle.std.specs.Prelude.{◌≡◌, ◌<◌, ◌^◌, IfOk, OnOk, OnErr, Ok, length, true};
 ghost use Rattle.agree.specs.Bounds.{IsWorldWithin};
-ghost use Rattle.agree.specs.Lines.{GivesTurn};
+ghost use Rattle.agree.specs.Lines.{GivesResult};
 ghost use Rattle.agree.specs.Replies as reply_spec;
 ghost use Rattle.agree.specs.Rooms.{IsFullDown, IsFullFor, IsFullUp, IsOwnerFull, Loses, TakesRoom, line_room_of, no_room};
 ghost use Rattle.agree.specs.State as state_spec;
-ghost use Rattle.agree.specs.Turns as spec;
+ghost use Rattle.agree.specs.Results as spec;
 ghost use Rattle.agree.specs.declared.event.WorldEvent.TheVariants as event_spec;
 
 use crate::event::WorldEvent;
@@ -166,7 +166,7 @@ impl Parts {
     fn choose(&mut self, side: Side, path: u8, single_path: bool) -> Result<WorldReply, Fault>
         requires { IsWorldWithin (2 ^ 62) self.old.world }
         ensures reply { IfOk result (λ r. r ≡ reply_spec.reply_of self.old.world (event_spec.Choose side path single_path)) }
-        ensures gives { GivesTurn self.old.world (spec.world_turn_of self.old.world (event_spec.Choose side path single_path)) (IsFullFor self.old.world self.new.room (event_spec.Choose side path single_path)) result self.new.world }
+        ensures gives { GivesResult self.old.world (spec.world_result_of self.old.world (event_spec.Choose side path single_path)) (IsFullFor self.old.world self.new.room (event_spec.Choose side path single_path)) result self.new.world }
         ensures room { TakesRoom result self.old.room self.new.room }
     {
         let path = path_named(path)?;
@@ -176,52 +176,52 @@ impl Parts {
         }
     }
 
-    fn down(&mut self, side: Side, place: usize, keep: bool, may: bool) -> Result<WorldReply, Fault>
-        ensures reply { IfOk result (λ r. r ≡ reply_spec.reply_of self.old.world (event_spec.Down side place keep may)) }
-        ensures gives { GivesTurn self.old.world (spec.world_turn_of self.old.world (event_spec.Down side place keep may)) (IsFullFor self.old.world self.new.room (event_spec.Down side place keep may)) result self.new.world }
+    fn down(&mut self, side: Side, index: usize, keep: bool, may: bool) -> Result<WorldReply, Fault>
+        ensures reply { IfOk result (λ r. r ≡ reply_spec.reply_of self.old.world (event_spec.Down side index keep may)) }
+        ensures gives { GivesResult self.old.world (spec.world_result_of self.old.world (event_spec.Down side index keep may)) (IsFullFor self.old.world self.new.room (event_spec.Down side index keep may)) result self.new.world }
         ensures room { TakesRoom result self.old.room self.new.room }
     {
         match side {
-            Side::First => self.first.meet(&mut self.unit, side, place, keep, may),
-            Side::Second => self.second.meet(&mut self.unit, side, place, keep, may),
+            Side::First => self.first.meet(&mut self.unit, side, index, keep, may),
+            Side::Second => self.second.meet(&mut self.unit, side, index, keep, may),
         }
     }
 
-    fn up(&mut self, side: Side, place: usize, keep: bool, may: bool) -> Result<WorldReply, Fault>
+    fn up(&mut self, side: Side, index: usize, keep: bool, may: bool) -> Result<WorldReply, Fault>
         requires { IsWorldWithin (2 ^ 62) self.old.world }
-        ensures reply { IfOk result (λ r. r ≡ reply_spec.reply_of self.old.world (event_spec.Up side place keep may)) }
-        ensures gives { GivesTurn self.old.world (spec.world_turn_of self.old.world (event_spec.Up side place keep may)) (IsFullFor self.old.world self.new.room (event_spec.Up side place keep may)) result self.new.world }
+        ensures reply { IfOk result (λ r. r ≡ reply_spec.reply_of self.old.world (event_spec.Up side index keep may)) }
+        ensures gives { GivesResult self.old.world (spec.world_result_of self.old.world (event_spec.Up side index keep may)) (IsFullFor self.old.world self.new.room (event_spec.Up side index keep may)) result self.new.world }
         ensures room { TakesRoom result self.old.room self.new.room }
     {
         match side {
-            Side::First => self.first.hear(side, place, keep, may),
-            Side::Second => self.second.hear(side, place, keep, may),
+            Side::First => self.first.hear(side, index, keep, may),
+            Side::Second => self.second.hear(side, index, keep, may),
         }
     }
 
-    fn lose_down(&mut self, side: Side, place: usize) -> Result<(), Fault>
-        ensures gives { GivesTurn self.old.world (spec.world_turn_of self.old.world (event_spec.LoseDown side place)) (IsFullFor self.old.world self.new.room (event_spec.LoseDown side place)) result self.new.world }
+    fn lose_down(&mut self, side: Side, index: usize) -> Result<(), Fault>
+        ensures gives { GivesResult self.old.world (spec.world_result_of self.old.world (event_spec.LoseDown side index)) (IsFullFor self.old.world self.new.room (event_spec.LoseDown side index)) result self.new.world }
         ensures room { TakesRoom result self.old.room self.new.room }
     {
         match side {
-            Side::First => self.first.lose_down(place),
-            Side::Second => self.second.lose_down(place),
+            Side::First => self.first.lose_down(index),
+            Side::Second => self.second.lose_down(index),
         }
     }
 
-    fn lose_up(&mut self, side: Side, place: usize) -> Result<(), Fault>
-        ensures gives { GivesTurn self.old.world (spec.world_turn_of self.old.world (event_spec.LoseUp side place)) (IsFullFor self.old.world self.new.room (event_spec.LoseUp side place)) result self.new.world }
+    fn lose_up(&mut self, side: Side, index: usize) -> Result<(), Fault>
+        ensures gives { GivesResult self.old.world (spec.world_result_of self.old.world (event_spec.LoseUp side index)) (IsFullFor self.old.world self.new.room (event_spec.LoseUp side index)) result self.new.world }
         ensures room { TakesRoom result self.old.room self.new.room }
     {
         match side {
-            Side::First => self.first.lose_up(place),
-            Side::Second => self.second.lose_up(place),
+            Side::First => self.first.lose_up(index),
+            Side::Second => self.second.lose_up(index),
         }
     }
 
     fn path_down(&mut self, side: Side, path: u8) -> Result<(), Fault>
         requires { IsWorldWithin (2 ^ 62) self.old.world }
-        ensures gives { GivesTurn self.old.world (spec.world_turn_of self.old.world (event_spec.PathDown side path)) (IsFullFor self.old.world self.new.room (event_spec.PathDown side path)) result self.new.world }
+        ensures gives { GivesResult self.old.world (spec.world_result_of self.old.world (event_spec.PathDown side path)) (IsFullFor self.old.world self.new.room (event_spec.PathDown side path)) result self.new.world }
         ensures room { TakesRoom result self.old.room self.new.room }
     {
         let path = path_named(path)?;
@@ -232,7 +232,7 @@ impl Parts {
     }
 
     fn path_up(&mut self, side: Side, path: u8) -> Result<(), Fault>
-        ensures gives { GivesTurn self.old.world (spec.world_turn_of self.old.world (event_spec.PathUp side path)) (IsFullFor self.old.world self.new.room (event_spec.PathUp side path)) result self.new.world }
+        ensures gives { GivesResult self.old.world (spec.world_result_of self.old.world (event_spec.PathUp side path)) (IsFullFor self.old.world self.new.room (event_spec.PathUp side path)) result self.new.world }
         ensures room { TakesRoom result self.old.room self.new.room }
     {
         let path = path_named(path)?;
@@ -244,7 +244,7 @@ impl Parts {
 
     fn path_reset(&mut self, side: Side, path: u8) -> Result<(), Fault>
         requires { IsWorldWithin (2 ^ 62) self.old.world }
-        ensures gives { GivesTurn self.old.world (spec.world_turn_of self.old.world (event_spec.PathReset side path)) (IsFullFor self.old.world self.new.room (event_spec.PathReset side path)) result self.new.world }
+        ensures gives { GivesResult self.old.world (spec.world_result_of self.old.world (event_spec.PathReset side path)) (IsFullFor self.old.world self.new.room (event_spec.PathReset side path)) result self.new.world }
         ensures room { TakesRoom result self.old.room self.new.room }
     {
         let path = path_named(path)?;
@@ -256,7 +256,7 @@ impl Parts {
 
     fn let_go(&mut self, side: Side) -> Result<WorldReply, Fault>
         ensures reply { IfOk result (λ r. r ≡ reply_spec.reply_of self.old.world (event_spec.LetGo side)) }
-        ensures gives { GivesTurn self.old.world (spec.world_turn_of self.old.world (event_spec.LetGo side)) (IsFullFor self.old.world self.new.room (event_spec.LetGo side)) result self.new.world }
+        ensures gives { GivesResult self.old.world (spec.world_result_of self.old.world (event_spec.LetGo side)) (IsFullFor self.old.world self.new.room (event_spec.LetGo side)) result self.new.world }
         ensures room { TakesRoom result self.old.room self.new.room }
     {
         match side {
@@ -267,7 +267,7 @@ impl Parts {
 
     fn send(&mut self, side: Side, path: u8, signal: &Down) -> Result<WorldReply, Fault>
         ensures reply { IfOk result (λ r. r ≡ reply_spec.reply_of self.old.world (event_spec.Send side path signal.now)) }
-        ensures gives { GivesTurn self.old.world (spec.world_turn_of self.old.world (event_spec.Send side path signal.now)) (IsFullFor self.old.world self.new.room (event_spec.Send side path signal.now)) result self.new.world }
+        ensures gives { GivesResult self.old.world (spec.world_result_of self.old.world (event_spec.Send side path signal.now)) (IsFullFor self.old.world self.new.room (event_spec.Send side path signal.now)) result self.new.world }
         ensures room { TakesRoom result self.old.room self.new.room }
     {
         let path = path_named(path)?;
@@ -279,7 +279,7 @@ impl Parts {
 
     fn clear(&mut self, side: Side)
         requires { IsWorldWithin (2 ^ 62) self.old.world }
-        ensures does { spec.world_turn_of self.old.world (event_spec.Clear side) ≡ Ok self.new.world }
+        ensures does { spec.world_result_of self.old.world (event_spec.Clear side) ≡ Ok self.new.world }
         ensures room { Loses 0 self.old.room self.new.room }
     {
         match side {
@@ -290,7 +290,7 @@ impl Parts {
 
     fn subsystem_reset(&mut self)
         requires { IsWorldWithin (2 ^ 62) self.old.world }
-        ensures does { spec.world_turn_of self.old.world event_spec.SubsystemReset ≡ Ok self.new.world }
+        ensures does { spec.world_result_of self.old.world event_spec.SubsystemReset ≡ Ok self.new.world }
         ensures room { Loses 0 self.old.room self.new.room }
     {
         self.first.clear();
@@ -299,7 +299,7 @@ impl Parts {
 
     fn leave(&mut self) -> Result<WorldReply, Fault>
         ensures reply { IfOk result (λ r. r ≡ reply_spec.reply_of self.old.world event_spec.Leave) }
-        ensures gives { GivesTurn self.old.world (spec.world_turn_of self.old.world event_spec.Leave) (IsFullFor self.old.world self.new.room event_spec.Leave) result self.new.world }
+        ensures gives { GivesResult self.old.world (spec.world_result_of self.old.world event_spec.Leave) (IsFullFor self.old.world self.new.room event_spec.Leave) result self.new.world }
         ensures room { TakesRoom result self.old.room self.new.room }
     {
         match self.unit.own() {
@@ -318,7 +318,7 @@ impl Parts {
     fn ask(&mut self, path: u8) -> Result<WorldReply, Fault>
         requires { IsWorldWithin (2 ^ 62) self.old.world }
         ensures reply { IfOk result (λ r. r ≡ reply_spec.reply_of self.old.world (event_spec.Ask path)) }
-        ensures gives { GivesTurn self.old.world (spec.world_turn_of self.old.world (event_spec.Ask path)) (IsFullFor self.old.world self.new.room (event_spec.Ask path)) result self.new.world }
+        ensures gives { GivesResult self.old.world (spec.world_result_of self.old.world (event_spec.Ask path)) (IsFullFor self.old.world self.new.room (event_spec.Ask path)) result self.new.world }
         ensures room { TakesRoom result self.old.room self.new.room }
     {
         let path = path_named(path)?;
@@ -338,7 +338,7 @@ impl Parts {
     fn attention(&mut self, side: Side, path: u8) -> Result<WorldReply, Fault>
         requires { IsWorldWithin (2 ^ 62) self.old.world }
         ensures reply { IfOk result (λ r. r ≡ reply_spec.reply_of self.old.world (event_spec.Attention side path)) }
-        ensures gives { GivesTurn self.old.world (spec.world_turn_of self.old.world (event_spec.Attention side path)) (IsFullFor self.old.world self.new.room (event_spec.Attention side path)) result self.new.world }
+        ensures gives { GivesResult self.old.world (spec.world_result_of self.old.world (event_spec.Attention side path)) (IsFullFor self.old.world self.new.room (event_spec.Attention side path)) result self.new.world }
         ensures room { TakesRoom result self.old.room self.new.room }
     {
         let path = path_named(path)?;
@@ -350,7 +350,7 @@ impl Parts {
 
     fn notice(&mut self, side: Side, path: u8) -> Result<WorldReply, Fault>
         ensures reply { IfOk result (λ r. r ≡ reply_spec.reply_of self.old.world (event_spec.Notice side path)) }
-        ensures gives { GivesTurn self.old.world (spec.world_turn_of self.old.world (event_spec.Notice side path)) (IsFullFor self.old.world self.new.room (event_spec.Notice side path)) result self.new.world }
+        ensures gives { GivesResult self.old.world (spec.world_result_of self.old.world (event_spec.Notice side path)) (IsFullFor self.old.world self.new.room (event_spec.Notice side path)) result self.new.world }
         ensures room { TakesRoom result self.old.room self.new.room }
     {
         let path = path_named(path)?;
@@ -362,7 +362,7 @@ impl Parts {
 
     fn restart(&mut self)
         requires { IsWorldWithin (2 ^ 62) self.old.world }
-        ensures does { spec.world_turn_of self.old.world event_spec.Restart ≡ Ok self.new.world }
+        ensures does { spec.world_result_of self.old.world event_spec.Restart ≡ Ok self.new.world }
         ensures room { Loses 0 self.old.room self.new.room }
     {
         self.unit.restart();
@@ -371,7 +371,7 @@ impl Parts {
     fn report(&mut self, report: &Report) -> Result<WorldReply, Fault>
         requires { IsWorldWithin (2 ^ 62) self.old.world }
         ensures reply { IfOk result (λ r. r ≡ reply_spec.reply_of self.old.world (event_spec.Report report.now)) }
-        ensures gives { GivesTurn self.old.world (spec.world_turn_of self.old.world (event_spec.Report report.now)) (IsFullFor self.old.world self.new.room (event_spec.Report report.now)) result self.new.world }
+        ensures gives { GivesResult self.old.world (spec.world_result_of self.old.world (event_spec.Report report.now)) (IsFullFor self.old.world self.new.room (event_spec.Report report.now)) result self.new.world }
         ensures room { TakesRoom result self.old.room self.new.room }
     {
         match self.unit.own() {
@@ -391,7 +391,7 @@ impl Parts {
     pub fn perform(&mut self, event: &WorldEvent) -> Result<WorldReply, Fault>
         requires { IsWorldWithin (2 ^ 62) self.old.world }
         ensures reply { IfOk result (λ r. r ≡ reply_spec.reply_of self.old.world event.now) }
-        ensures gives { GivesTurn self.old.world (spec.world_turn_of self.old.world event.now) (IsFullFor self.old.world self.new.room event.now) result self.new.world }
+        ensures gives { GivesResult self.old.world (spec.world_result_of self.old.world event.now) (IsFullFor self.old.world self.new.room event.now) result self.new.world }
         ensures room { TakesRoom result self.old.room self.new.room }
     {
         match event {
@@ -402,22 +402,22 @@ impl Parts {
             } => self.choose(*side, *path, *single_path),
             WorldEvent::Down {
                 side,
-                place,
+                index,
                 keep,
                 may,
-            } => self.down(*side, *place, *keep, *may),
+            } => self.down(*side, *index, *keep, *may),
             WorldEvent::Up {
                 side,
-                place,
+                index,
                 keep,
                 may,
-            } => self.up(*side, *place, *keep, *may),
-            WorldEvent::LoseDown { side, place } => {
-                self.lose_down(*side, *place)?;
+            } => self.up(*side, *index, *keep, *may),
+            WorldEvent::LoseDown { side, index } => {
+                self.lose_down(*side, *index)?;
                 Ok(WorldReply::Done)
             }
-            WorldEvent::LoseUp { side, place } => {
-                self.lose_up(*side, *place)?;
+            WorldEvent::LoseUp { side, index } => {
+                self.lose_up(*side, *index)?;
                 Ok(WorldReply::Done)
             }
             WorldEvent::PathDown { side, path } => {

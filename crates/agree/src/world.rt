@@ -3,14 +3,14 @@
 ghost use Rattle.std.specs.Prelude.{◌≡◌, ◌≢◌, ◌≤◌, ℕ, List, ◌⊎◌, true, Err, IfOk, OnOk, OnErr, IfErr, Some, None, length, take};
 ghost use Rattle.chan_model.specs.declared.fault.Fault.TheVariants as fault_spec;
 ghost use Rattle.agree.specs.Bounds.{IsWell};
-ghost use Rattle.agree.specs.Lines.{GivesTurn};
+ghost use Rattle.agree.specs.Lines.{GivesResult};
 ghost use Rattle.agree.specs.Promises.{AreSound, EndsByEvent, EachEnds, LeavesApart, EachApart, GoesOnSound};
 ghost use Rattle.agree.specs.Replies as reply_spec;
 ghost use Rattle.agree.specs.Rooms.{HasEnded, IsWorldAsBefore, IsFullFor, IsWorldSpent, Loses, TakesRoom, no_room};
 ghost use Rattle.agree.specs.State as state_spec;
 ghost use Rattle.agree.specs.declared.event.WorldEvent.{WorldEvent};
-ghost use Rattle.agree.specs.Turns as spec;
-ghost use Rattle.agree.specs.Turns.{max_steps};
+ghost use Rattle.agree.specs.Results as spec;
+ghost use Rattle.agree.specs.Results.{max_steps};
 
 use crate::event::WorldEvent;
 use crate::parts::Parts;
@@ -216,7 +216,7 @@ impl World {
 fn step_parts(parts: &mut Parts, event: &WorldEvent) -> Result<WorldReply, Fault>
     requires { IsWell parts.old.world }
     ensures reply { IfOk result (λ r. r ≡ reply_spec.reply_of parts.old.world event.now) }
-    ensures gives { GivesTurn parts.old.world (spec.world_turn parts.old.world event.now) (IsFullFor parts.old.world parts.new.room event.now) result parts.new.world }
+    ensures gives { GivesResult parts.old.world (spec.world_result parts.old.world event.now) (IsFullFor parts.old.world parts.new.room event.now) result parts.new.world }
     ensures room { TakesRoom result parts.old.room parts.new.room }
 {
     let steps = parts.steps();

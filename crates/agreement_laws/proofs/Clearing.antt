@@ -88,7 +88,7 @@ taken-other u p t c x progress.Ended (answer.Supplied bytes) = tt
 taken-other u p t c x progress.Ended answer.Again = tt
 taken-other u p t c x progress.Ended (answer.Ended status more) = tt
 
-reported-other : (u : UnitState) (t : ℕ) (place : Connection) (x : Option CurrentCommand) (r : Report) → IsOtherStep (report_on u t place x r)
+reported-other : (u : UnitState) (t : ℕ) (connection : Connection) (x : Option CurrentCommand) (r : Report) → IsOtherStep (report_on u t connection x r)
 reported-other u t (On p c) None r = tt
 reported-other u t (On p c) (Some x) r = other-if (r.sequence == x.sequence) _ None (taken-other u p t c x x.progress r.answer) tt
 reported-other u t (Ask p c) x r = tt
@@ -96,8 +96,8 @@ reported-other u t (Away c) x r = tt
 
 report-other : (u : UnitState) (o : Own) (r : Report) → IsOtherStep (report_of u o r)
 report-other u own.Idle r = tt
-report-other u (own.Owned k t place) r =
-    other-if (same_side k r.side && ((r.number == t) && (r.command == u.last_command))) _ None (reported-other u t place u.at_hand r) tt
+report-other u (own.Owned k t connection) r =
+    other-if (same_side k r.side && ((r.number == t) && (r.command == u.last_command))) _ None (reported-other u t connection u.current r) tt
 
 -- the unit answers Cleared with the hold's number
 abbrev pub IsAnswered : HoldPhase → Option (OnPath Up) → Type 0
@@ -131,14 +131,14 @@ signal-taken u h side p _ _ (Ignores d) a = absurd (no-answer h None tt a)
 signal-taken u h side p _ _ (taken.Notices d fresh) a = absurd (no-answer h (Some _) tt a)
 signal-taken u h side p _ _ (Accepts t above idle) a = absurd (no-answer h (Some _) tt a)
 signal-taken u h side p _ _ (Denies t above) a = absurd (no-answer h (Some _) tt a)
-signal-taken u h side p _ _ (Begins t n code room place is next) a = absurd (no-answer h None tt a)
+signal-taken u h side p _ _ (Begins t n code room connection is next) a = absurd (no-answer h None tt a)
 signal-taken u h side p _ _ (Joins t c q is) a = absurd (no-answer h None tt a)
-signal-taken u h side p _ _ (taken.Leaves t c place is) a = absurd (no-answer h (Some _) tt a)
+signal-taken u h side p _ _ (taken.Leaves t c connection is) a = absurd (no-answer h (Some _) tt a)
 signal-taken u h side p _ _ (Parts t c q is) a = absurd (no-answer h None tt a)
-signal-taken u h side p _ _ (Answers t s room place x load is hand last loaded) a = absurd (no-answer h None tt a)
+signal-taken u h side p _ _ (Answers t s room connection x load is hand last loaded) a = absurd (no-answer h None tt a)
 signal-taken u h side p _ _ (Gives bytes t c s q x is hand next) a = absurd (no-answer h None tt a)
-signal-taken u h side p _ _ (Halts t place is first) a = absurd (no-answer h None tt a)
-signal-taken u h side p _ _ (Frees t place is) a = absurd (no-answer h (Some _) tt a)
+signal-taken u h side p _ _ (Halts t connection is first) a = absurd (no-answer h None tt a)
+signal-taken u h side p _ _ (Frees t connection is) a = absurd (no-answer h (Some _) tt a)
 signal-taken u h side p _ _ (Resets r b is) a = (same-reset h p r a, is)
 signal-taken u h side p _ _ (Forgets x) a = absurd (no-answer h None tt a)
 

@@ -47,12 +47,12 @@ pub record IsHoldKept (e x : Ends) (d : Option (OnPath Down)) : Type 0 where
 offered-matched : (n s k b f p : ℕ) (o : SideSeen) → IsMatched (ends_seen n hold.Free s k b f o) o → IsMatched (ends_seen (n + 1) (hold.Offer (n + 1) p) s k b f o) o
 offered-matched n s k b f p Idle m = tt
 offered-matched n s k b f p Fresh m = λ e. tt
-offered-matched n s k b f p (Owns t place) m = absurd m
+offered-matched n s k b f p (Owns t connection) m = absurd m
 
 offered-accept : (n f p t : ℕ) (o : SideSeen) → f ≤ n → t ≤ f → IsAcceptGood (hold.Offer (n + 1) p) o t
 offered-accept n f p t Idle g h = λ e. omega arith
 offered-accept n f p t Fresh g h = tt
-offered-accept n f p t (Owns v place) g h = tt
+offered-accept n f p t (Owns v connection) g h = tt
 
 offered-kept : (n s k b f p : ℕ) (o : SideSeen) → AreEndsGood (ends_seen n hold.Free s k b f o) →
     IsHoldKept (ends_seen n hold.Free s k b f o) (ends_seen (n + 1) (hold.Offer (n + 1) p) s k b f o) (on_path p (down.Select (n + 1)))
@@ -70,7 +70,7 @@ offered-kept n s k b f p o g =
 reset-matched : (n s j b f : ℕ) (o : SideSeen) → f ≤ n → IsMatched (ends_seen (n + 1) (hold.Reset (n + 1)) s j b f o) o
 reset-matched n s j b f Idle le = tt
 reset-matched n s j b f Fresh le = λ e. omega arith
-reset-matched n s j b f (Owns t place) le = omega arith
+reset-matched n s j b f (Owns t connection) le = omega arith
 
 resets-kept : (n : ℕ) (h : HoldPhase) (s k j b f : ℕ) (o : SideSeen) → k ≤ j → j ≤ b → AreEndsGood (ends_seen n h s k b f o) →
     IsHoldKept (ends_seen n h s k b f o) (ends_seen (n + 1) (hold.Reset (n + 1)) s j b f o) None
@@ -91,7 +91,7 @@ not-due n r s k b f Fresh g le = elim (cases_lt k b) [
   | inl y ↦ y
   | inr y ↦ let less : f < r = g.matched (omega (arith, g.known)) in absurd (omega arith)
 ]
-not-due n r s k b f (Owns t place) g le = tt
+not-due n r s k b f (Owns t connection) g le = tt
 
 sent-reset : (n r s k b f : ℕ) (o : SideSeen) → AreEndsGood (ends_seen n (hold.Reset r) s k b f o) → IsResetGood (ends_seen n (hold.Reset r) s k b f o) r k
 sent-reset n r s k b f o g = elim (cases_lt f r) [
@@ -106,7 +106,7 @@ stays-kept e sent g h = record { ends = g; downs = λ p d y. y; ups = λ ts p u 
 letting-matched : (n t p c s k b f : ℕ) (o : SideSeen) → IsMatched (ends_seen n (hold.On t p c) s k b f o) o → IsMatched (ends_seen n (hold.Letting t p) s k b f o) o
 letting-matched n t p c s k b f Idle m = tt
 letting-matched n t p c s k b f Fresh m = λ e. tt
-letting-matched n t p c s k b f (Owns v place) m = m.0
+letting-matched n t p c s k b f (Owns v connection) m = m.0
 
 lets_go-kept : (n t p c s k b f : ℕ) (o : SideSeen) → AreEndsGood (ends_seen n (hold.On t p c) s k b f o) →
     IsHoldKept (ends_seen n (hold.On t p c) s k b f o) (ends_seen n (hold.Letting t p) s k b f o) (on_path p (down.Release t))
@@ -124,7 +124,7 @@ lets_go-kept n t p c s k b f o g =
 on-matched : (n t p s k b f : ℕ) (o : SideSeen) → IsAcceptGood (hold.Offer t p) o t → IsMatched (ends_seen n (hold.Offer t p) s k b f o) o → IsMatched (ends_seen n (hold.On t p 0) 0 k b f o) o
 on-matched n t p s k b f Idle a m = a refl
 on-matched n t p s k b f Fresh a m = λ e. tt
-on-matched n t p s k b f (Owns v place) a m = m
+on-matched n t p s k b f (Owns v connection) a m = m
 
 chains_at_device_end-kept : (n t p s k b f : ℕ) (o : SideSeen) → t ≤ f → IsAcceptGood (hold.Offer t p) o t → AreEndsGood (ends_seen n (hold.Offer t p) s k b f o) →
     IsHoldKept (ends_seen n (hold.Offer t p) s k b f o) (ends_seen n (hold.On t p 0) 0 k b f o) None
@@ -141,7 +141,7 @@ chains_at_device_end-kept n t p s k b f o tf a g =
 over-matched : (n t p s k b f : ℕ) (o : SideSeen) → IsMatched (ends_seen n (hold.Offer t p) s k b f o) o → IsMatched (ends_seen n (hold.Letting t p) 0 k b f o) o
 over-matched n t p s k b f Idle m = tt
 over-matched n t p s k b f Fresh m = λ e. tt
-over-matched n t p s k b f (Owns v place) m = m.0
+over-matched n t p s k b f (Owns v connection) m = m.0
 
 is_over-kept : (n t p s k b f : ℕ) (o : SideSeen) → t ≤ f → AreEndsGood (ends_seen n (hold.Offer t p) s k b f o) →
     IsHoldKept (ends_seen n (hold.Offer t p) s k b f o) (ends_seen n (hold.Letting t p) 0 k b f o) (on_path p (down.Release t))
@@ -159,7 +159,7 @@ is_over-kept n t p s k b f o tf g =
 busy-matched : (n t p s k b f : ℕ) (o : SideSeen) → IsNotOwned o t → IsMatched (ends_seen n (hold.Offer t p) s k b f o) o → IsMatched (ends_seen n hold.Free s k b f o) o
 busy-matched n t p s k b f Idle a m = tt
 busy-matched n t p s k b f Fresh a m = λ e. tt
-busy-matched n t p s k b f (Owns v place) a m = a (sym m.0)
+busy-matched n t p s k b f (Owns v connection) a m = a (sym m.0)
 
 is_busy-kept : (n t p s k b f : ℕ) (o : SideSeen) → t ≤ f → IsNotOwned o t → AreEndsGood (ends_seen n (hold.Offer t p) s k b f o) →
     IsHoldKept (ends_seen n (hold.Offer t p) s k b f o) (ends_seen n hold.Free s k b f o) None
@@ -176,7 +176,7 @@ is_busy-kept n t p s k b f o tf a g =
 released-matched : (n t p s k b f : ℕ) (o : SideSeen) → IsNotOwned o t → IsMatched (ends_seen n (hold.Letting t p) s k b f o) o → IsMatched (ends_seen n hold.Free s k b f o) o
 released-matched n t p s k b f Idle a m = tt
 released-matched n t p s k b f Fresh a m = λ e. tt
-released-matched n t p s k b f (Owns v place) a m = a (sym m)
+released-matched n t p s k b f (Owns v connection) a m = a (sym m)
 
 is_released-kept : (n t p s k b f : ℕ) (o : SideSeen) → IsNotOwned o t → AreEndsGood (ends_seen n (hold.Letting t p) s k b f o) →
     IsHoldKept (ends_seen n (hold.Letting t p) s k b f o) (ends_seen n hold.Free s k b f o) None
@@ -193,7 +193,7 @@ is_released-kept n t p s k b f o a g =
 cleared-matched : (n r s k b f : ℕ) (o : SideSeen) → r ≤ f → IsMatched (ends_seen n (hold.Reset r) s k b f o) o → IsMatched (ends_seen n hold.Free s k b f o) o
 cleared-matched n r s k b f Idle le m = tt
 cleared-matched n r s k b f Fresh le m = λ e. tt
-cleared-matched n r s k b f (Owns v place) le m = omega (arith, m)
+cleared-matched n r s k b f (Owns v connection) le m = omega (arith, m)
 
 is_cleared-kept : (n r s k b f : ℕ) (o : SideSeen) → r ≤ f → AreEndsGood (ends_seen n (hold.Reset r) s k b f o) →
     IsHoldKept (ends_seen n (hold.Reset r) s k b f o) (ends_seen n hold.Free s k b f o) None
@@ -209,7 +209,7 @@ is_cleared-kept n r s k b f o rf g =
     }
 
 -- a program that leaves its path
-joined-parted : (p c s : ℕ) (place : Connection) → IsJoined p c s place → IsParted s place
+joined-parted : (p c s : ℕ) (connection : Connection) → IsJoined p c s connection → IsParted s connection
 joined-parted p c s (On q d) j = j.0
 joined-parted p c s (Ask q d) j = j
 joined-parted p c s (Away d) j = j
@@ -217,7 +217,7 @@ joined-parted p c s (Away d) j = j
 away-matched : (n t p c s k b f : ℕ) (o : SideSeen) → IsMatched (ends_seen n (hold.On t p c) s k b f o) o → IsMatched (ends_seen n (hold.Away t) s k b f o) o
 away-matched n t p c s k b f Idle m = m
 away-matched n t p c s k b f Fresh m = λ e. tt
-away-matched n t p c s k b f (Owns v place) m = (m.0, joined-parted p c s place m.1)
+away-matched n t p c s k b f (Owns v connection) m = (m.0, joined-parted p c s connection m.1)
 
 is_left-kept : (n t p c s k b f : ℕ) (o : SideSeen) → AreEndsGood (ends_seen n (hold.On t p c) s k b f o) →
     IsHoldKept (ends_seen n (hold.On t p c) s k b f o) (ends_seen n (hold.Away t) s k b f o) None
@@ -232,12 +232,12 @@ is_left-kept n t p c s k b f o g =
     }
 
 -- a program that comes back
-back-joined : (p t q d c s : ℕ) (place : Connection) → s < c → IsBackAt place p c → IsParted s place → IsJoined q d c place
+back-joined : (p t q d c s : ℕ) (connection : Connection) → s < c → IsBackAt connection p c → IsParted s connection → IsJoined q d c connection
 back-joined p t q d c s (On x y) lt b j = absurd (omega (arith, b, j))
 back-joined p t q d c s (Ask x y) lt b j = b.0
 back-joined p t q d c s (Away y) lt b j = b
 
-back-parted : (p c s : ℕ) (place : Connection) → s < c → IsBackAt place p c → IsParted s place → IsParted c place
+back-parted : (p c s : ℕ) (connection : Connection) → s < c → IsBackAt connection p c → IsParted s connection → IsParted c connection
 back-parted p c s (On x y) lt b j = absurd (omega (arith, b, j))
 back-parted p c s (Ask x y) lt b j = b.0
 back-parted p c s (Away y) lt b j = b
@@ -245,7 +245,7 @@ back-parted p c s (Away y) lt b j = b
 granted-matched : (n t p c s k b f : ℕ) (o : SideSeen) → s < c → IsBackGood o p t c → IsMatched (ends_seen n (hold.Away t) s k b f o) o → IsMatched (ends_seen n (hold.On t p c) c k b f o) o
 granted-matched n t p c s k b f Idle lt a m = m
 granted-matched n t p c s k b f Fresh lt a m = λ e. tt
-granted-matched n t p c s k b f (Owns v place) lt a m = (m.0, back-joined p t p c c s place lt (a (sym m.0)) m.1)
+granted-matched n t p c s k b f (Owns v connection) lt a m = (m.0, back-joined p t p c c s connection lt (a (sym m.0)) m.1)
 
 asked-later : (o : SideSeen) (p q c s t u d : ℕ) → s < c → IsBackGood o p t c → t ≡ u → d ≤ s → IsAskedOn o q c u d
 asked-later Idle p q c s t u d lt a e le = tt
@@ -278,7 +278,7 @@ grants-kept n t p c s k b f o lt a g =
 still_on-matched : (n t q d p c s k b f : ℕ) (o : SideSeen) → s < c → IsBackGood o p t c → IsMatched (ends_seen n (hold.On t q d) s k b f o) o → IsMatched (ends_seen n (hold.On t q d) c k b f o) o
 still_on-matched n t q d p c s k b f Idle lt a m = m
 still_on-matched n t q d p c s k b f Fresh lt a m = λ e. tt
-still_on-matched n t q d p c s k b f (Owns v place) lt a m = (m.0, back-joined p t q d c s place lt (a (sym m.0)) (joined-parted q d s place m.1))
+still_on-matched n t q d p c s k b f (Owns v connection) lt a m = (m.0, back-joined p t q d c s connection lt (a (sym m.0)) (joined-parted q d s connection m.1))
 
 refuses_on-kept : (n t q d p c s k b f : ℕ) (o : SideSeen) → s < c → IsBackGood o p t c → AreEndsGood (ends_seen n (hold.On t q d) s k b f o) →
     IsHoldKept (ends_seen n (hold.On t q d) s k b f o) (ends_seen n (hold.On t q d) c k b f o) (on_path p (down.Refuse t c))
@@ -296,7 +296,7 @@ refuses_on-kept n t q d p c s k b f o lt a g =
 still_away-matched : (n t p c s k b f : ℕ) (o : SideSeen) → s < c → IsBackGood o p t c → IsMatched (ends_seen n (hold.Away t) s k b f o) o → IsMatched (ends_seen n (hold.Away t) c k b f o) o
 still_away-matched n t p c s k b f Idle lt a m = m
 still_away-matched n t p c s k b f Fresh lt a m = λ e. tt
-still_away-matched n t p c s k b f (Owns v place) lt a m = (m.0, back-parted p c s place lt (a (sym m.0)) m.1)
+still_away-matched n t p c s k b f (Owns v connection) lt a m = (m.0, back-parted p c s connection lt (a (sym m.0)) m.1)
 
 refuses_away-kept : (n t p c s k b f : ℕ) (o : SideSeen) → s < c → IsBackGood o p t c → AreEndsGood (ends_seen n (hold.Away t) s k b f o) →
     IsHoldKept (ends_seen n (hold.Away t) s k b f o) (ends_seen n (hold.Away t) c k b f o) (on_path p (down.Refuse t c))

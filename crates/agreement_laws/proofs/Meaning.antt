@@ -54,8 +54,8 @@ raised-below (hold.Reset r) f p t lt y d = elim y [ inl z ↦ absurd (omega arit
 idle-fresh : Idle ≡ Fresh → ⊥
 idle-fresh e = cc
 
-owns-fresh : (t : ℕ) (place : Connection) → Owns t place ≡ Fresh → ⊥
-owns-fresh t place e = cc
+owns-fresh : (t : ℕ) (connection : Connection) → Owns t connection ≡ Fresh → ⊥
+owns-fresh t connection e = cc
 
 -- the unit takes a Reset: it is the hold's, or an older one
 cleared-due : (h : HoldPhase) (n s k b p r : ℕ) → IsResetTo h r →
@@ -76,10 +76,10 @@ due-unit _ _ _ g (units.Accepts n h s k b f p t lt tn y) d = elim d [ inl z ↦ 
 due-unit _ _ _ g (units.Is_busy n h s k b f p t o i lt tn y) d = elim d [ inl z ↦ inl (inl z) | inr z ↦ inl (inr (raised-below h f p t lt y z)) ]
 due-unit _ _ _ g (units.Is_granted n h s k b f t q c y) d = elim d [ inl z ↦ absurd (owns-fresh t (Ask q c) z) | inr z ↦ inl (inr z) ]
 due-unit _ _ _ g (units.Is_refused n h s k b f t q c) d = elim d [ inl z ↦ absurd (owns-fresh t (Ask q c) z) | inr z ↦ inl (inr z) ]
-due-unit _ _ _ g (units.Releases n h s k b f p t place y) d = elim d [ inl z ↦ absurd (owns-fresh t place z) | inr z ↦ inl (inr z) ]
+due-unit _ _ _ g (units.Releases n h s k b f p t connection y) d = elim d [ inl z ↦ absurd (owns-fresh t connection z) | inr z ↦ inl (inr z) ]
 due-unit _ _ _ g (units.Clears n h s k b f p r o lt rn to) d = cleared-due h n s k b p r to
 due-unit _ _ _ g (units.Leaves n h s k b f t q c p e) d = elim d [ inl z ↦ absurd (owns-fresh t (On q c) z) | inr z ↦ inl (inr z) ]
-due-unit _ _ _ g (units.Asks n h s k b f t p c place i) d = elim d [ inl z ↦ absurd (owns-fresh t place z) | inr z ↦ inl (inr z) ]
+due-unit _ _ _ g (units.Asks n h s k b f t p c connection i) d = elim d [ inl z ↦ absurd (owns-fresh t connection z) | inr z ↦ inl (inr z) ]
 due-unit _ _ _ g (units.Restarts n h s k b f o) d = inl (inl refl)
 due-unit _ _ _ g (units.Tells n h s k b f p o) d = inl d
 
@@ -88,23 +88,23 @@ pub fresh-seen : (fresh : Bool) (o : Own) (side : Side) → fresh ≡ true → s
 fresh-seen true o side e = refl
 fresh-seen false o side e = cc
 
-own-not-fresh : (k side : Side) (t : ℕ) (place : Connection) (same : Bool) → same_side k side ≡ same → (if same then Owns t place else Idle) ≡ Fresh → ⊥
-own-not-fresh k side t place true i e = cc
-own-not-fresh k side t place false i e = cc
+own-not-fresh : (k side : Side) (t : ℕ) (connection : Connection) (same : Bool) → same_side k side ≡ same → (if same then Owns t connection else Idle) ≡ Fresh → ⊥
+own-not-fresh k side t connection true i e = cc
+own-not-fresh k side t connection false i e = cc
 
 pub seen-fresh : (fresh : Bool) (o : Own) (side : Side) → seen_by fresh o side ≡ Fresh → fresh ≡ true
 seen-fresh true o side e = refl
 seen-fresh false own.Idle side e = cc
-seen-fresh false (own.Owned k t place) side e = absurd (own-not-fresh k side t place (same_side k side) refl e)
+seen-fresh false (own.Owned k t connection) side e = absurd (own-not-fresh k side t connection (same_side k side) refl e)
 
-no-owner : (k side : Side) (t : ℕ) (place : Connection) (same : Bool) → (if same then Owns t place else Idle) ≡ Idle → (if same then Some t else None) ≡ None
-no-owner k side t place true e = cc
-no-owner k side t place false e = refl
+no-owner : (k side : Side) (t : ℕ) (connection : Connection) (same : Bool) → (if same then Owns t connection else Idle) ≡ Idle → (if same then Some t else None) ≡ None
+no-owner k side t connection true e = cc
+no-owner k side t connection false e = refl
 
 pub idle-owner : (fresh : Bool) (o : Own) (side : Side) → seen_by fresh o side ≡ Idle → owner_of o side ≡ None
 idle-owner true o side e = cc
 idle-owner false own.Idle side e = refl
-idle-owner false (own.Owned k t place) side e = no-owner k side t place (same_side k side) e
+idle-owner false (own.Owned k t connection) side e = no-owner k side t connection (same_side k side) e
 
 -- where a Reset was taken, they agree
 pub cleared-agrees : (h : HoldPhase) (sent : Option (OnPath Up)) (owner : Option ℕ) → IsAnswered h sent → owner ≡ None → Agrees h owner

@@ -105,10 +105,10 @@ selected-accepts Second u f y p t lt =
 seen-plain : (o : Own) (side : Side) → IsNotFresh (seen_own o side)
 seen-plain own.Idle First = tt
 seen-plain own.Idle Second = tt
-seen-plain (own.Owned First v place) First = tt
-seen-plain (own.Owned First v place) Second = tt
-seen-plain (own.Owned Second v place) First = tt
-seen-plain (own.Owned Second v place) Second = tt
+seen-plain (own.Owned First v connection) First = tt
+seen-plain (own.Owned First v connection) Second = tt
+seen-plain (own.Owned Second v connection) First = tt
+seen-plain (own.Owned Second v connection) Second = tt
 
 selected-busy : (side : Side) (u : UnitState) (o : Own) (f : ℕ) (y : SideState) (p t : ℕ) → f < t →
     IsMove side (at side u o (working f) y) (raised (at side u o (working f) y) side t) (Some (record { path = p; signal = up.Busy t }))
@@ -131,7 +131,7 @@ selected-steps : (side : Side) (u : UnitState) (o : Own) (f : ℕ) (y : SideStat
     (sent_by (selected (raised (at side u o (working f) y) side t) o side p t may)) (IsGiven p (down.Select t))
 selected-steps side u own.Idle f y p t true lt = selected-accepts side u f y p t lt
 selected-steps side u own.Idle f y p t false lt = selected-busy side u own.Idle f y p t lt
-selected-steps side u (own.Owned k v place) f y p t may lt = selected-busy side u (own.Owned k v place) f y p t lt
+selected-steps side u (own.Owned k v connection) f y p t may lt = selected-busy side u (own.Owned k v connection) f y p t lt
 
 pub select-steps : (side : Side) (u : UnitState) (o : Own) (f : ℕ) (y : SideState) (p t : ℕ) (may above : Bool) → nat_lt f t ≡ above →
     IsStep side (at side u o (working f) y) (if above then selected (raised (at side u o (working f) y) side t) o side p t may else None) (IsGiven p (down.Select t))
@@ -163,12 +163,12 @@ late-steps : (side : Side) (u : UnitState) (v p c : ℕ) (late : Bool) (P : Ends
 late-steps side u v p c late P = step-if side u late _ P (unseen side u u _ P refl refl refl refl tt)
 
 -- where the program that holds the device is, is changed at its side alone
-place-moves : (side : Side) (u : UnitState) (v : ℕ) (old new : Connection) (f : ℕ) (y : SideState) (P : Ends → Type 0) →
+connection-moves : (side : Side) (u : UnitState) (v : ℕ) (old new : Connection) (f : ℕ) (y : SideState) (P : Ends → Type 0) →
     ((n : ℕ) (h : HoldState) → P (ends_seen n h.phase h.seen h.known u.restarts f (Owns v old)) →
     UnitMoves (ends_seen n h.phase h.seen h.known u.restarts f (Owns v old)) (ends_seen n h.phase h.seen h.known u.restarts f (Owns v new)) None) →
     IsMove side (at side u (own.Owned side v old) (working f) y) (at side u (own.Owned side v new) (working f) y) None P
-place-moves First u v old new f y P moves = record { here = moves; there = λ n h. refl; free_here = λ m w. cc; free_there = λ m. m }
-place-moves Second u v old new f y P moves = record { here = moves; there = λ n h. refl; free_here = λ m w. cc; free_there = λ m. m }
+connection-moves First u v old new f y P moves = record { here = moves; there = λ n h. refl; free_here = λ m w. cc; free_there = λ m. m }
+connection-moves Second u v old new f y P moves = record { here = moves; there = λ n h. refl; free_here = λ m w. cc; free_there = λ m. m }
 
 -- Grant, of the program that holds the device
 granted-ask : (side : Side) (u : UnitState) (v q d f : ℕ) (y : SideState) (p c : ℕ) (same : Bool) → (c == d) ≡ same →
@@ -177,12 +177,12 @@ granted-ask : (side : Side) (u : UnitState) (v q d f : ℕ) (y : SideState) (p c
     else (if nat_lt c d then sends (at side u (own.Owned side v (Ask q d)) (working f) y) p (up.Leave v c) else None))
     (IsGiven p (down.Grant v c))
 granted-ask side u v q d f y p c true e =
-    place-moves side u v (Ask q d) (On q d) f y (IsGiven p (down.Grant v c)) (λ n h g.
+    connection-moves side u v (Ask q d) (On q d) f y (IsGiven p (down.Grant v c)) (λ n h g.
     Is_granted n h.phase h.seen h.known u.restarts f v q d (subst (λ (x : ℕ). IsGrantGood h.phase h.seen (Owns v (Ask q d)) v x) (eqb-true c d e) g.1))
 granted-ask side u v q d f y p c false e = late-steps side (at side u (own.Owned side v (Ask q d)) (working f) y) v p c (nat_lt c d) (IsGiven p (down.Grant v c))
 
-granted_at-steps : (side : Side) (u : UnitState) (v : ℕ) (place : Connection) (f : ℕ) (y : SideState) (p c : ℕ) →
-    IsStep side (at side u (own.Owned side v place) (working f) y) (granted_at (at side u (own.Owned side v place) (working f) y) side v place p c) (IsGiven p (down.Grant v c))
+granted_at-steps : (side : Side) (u : UnitState) (v : ℕ) (connection : Connection) (f : ℕ) (y : SideState) (p c : ℕ) →
+    IsStep side (at side u (own.Owned side v connection) (working f) y) (granted_at (at side u (own.Owned side v connection) (working f) y) side v connection p c) (IsGiven p (down.Grant v c))
 granted_at-steps First u v (On q d) f y p c = late-steps First _ v p c (nat_lt c d) (IsGiven p (down.Grant v c))
 granted_at-steps First u v (Ask q d) f y p c = granted-ask First u v q d f y p c (c == d) refl
 granted_at-steps First u v (Away d) f y p c = late-steps First _ v p c (nat_lt c d) (IsGiven p (down.Grant v c))
@@ -191,34 +191,34 @@ granted_at-steps Second u v (Ask q d) f y p c = granted-ask Second u v q d f y p
 granted_at-steps Second u v (Away d) f y p c = late-steps Second _ v p c (nat_lt c d) (IsGiven p (down.Grant v c))
 
 -- a step that is taken where this side and number hold the device
-owner-steps : (side : Side) (u : UnitState) (k : Side) (v : ℕ) (place : Connection) (x y : SideState) (t : ℕ) (is : Bool) (step : UnitState → Side → ℕ → Option UnitStep) (P : ℕ → Ends → Type 0) →
+owner-steps : (side : Side) (u : UnitState) (k : Side) (v : ℕ) (connection : Connection) (x y : SideState) (t : ℕ) (is : Bool) (step : UnitState → Side → ℕ → Option UnitStep) (P : ℕ → Ends → Type 0) →
     (same_side k side && (t == v)) ≡ is →
-    IsStep side (at side u (own.Owned side v place) x y) (step (at side u (own.Owned side v place) x y) side v) (P v) →
-    IsStep side (at side u (own.Owned k v place) x y) (if is then step (at side u (own.Owned k v place) x y) k v else None) (P t)
-owner-steps side u k v place x y t true step P e s =
+    IsStep side (at side u (own.Owned side v connection) x y) (step (at side u (own.Owned side v connection) x y) side v) (P v) →
+    IsStep side (at side u (own.Owned k v connection) x y) (if is then step (at side u (own.Owned k v connection) x y) k v else None) (P t)
+owner-steps side u k v connection x y t true step P e s =
     let both : (same_side k side ≡ true) × ((t == v) ≡ true) = and_parts (same_side k side) (t == v) e in
     let sides : side ≡ k = sym (one-side k side both.0) in
     let numbers : v ≡ t = sym (eqb-true t v both.1) in
-    subst (λ (w : ℕ). IsStep side (at side u (own.Owned k v place) x y) (step (at side u (own.Owned k v place) x y) k v) (P w)) numbers
-    (subst (λ (j : Side). IsStep side (at side u (own.Owned j v place) x y) (step (at side u (own.Owned j v place) x y) j v) (P v)) sides s)
-owner-steps side u k v place x y t false step P e s = nothing side (at side u (own.Owned k v place) x y) (P t)
+    subst (λ (w : ℕ). IsStep side (at side u (own.Owned k v connection) x y) (step (at side u (own.Owned k v connection) x y) k v) (P w)) numbers
+    (subst (λ (j : Side). IsStep side (at side u (own.Owned j v connection) x y) (step (at side u (own.Owned j v connection) x y) j v) (P v)) sides s)
+owner-steps side u k v connection x y t false step P e s = nothing side (at side u (own.Owned k v connection) x y) (P t)
 
 pub granted-steps : (side : Side) (u : UnitState) (o : Own) (f : ℕ) (y : SideState) (p t c : ℕ) →
     IsStep side (at side u o (working f) y) (granted (at side u o (working f) y) o side p t c) (IsGiven p (down.Grant t c))
 granted-steps side u own.Idle f y p t c = nothing side (at side u own.Idle (working f) y) (IsGiven p (down.Grant t c))
-granted-steps side u (own.Owned k v place) f y p t c =
-    owner-steps side u k v place (working f) y t (same_side k side && (t == v)) (λ w j x. granted_at w j x place p c) (λ x. IsGiven p (down.Grant x c)) refl
-    (granted_at-steps side u v place f y p c)
+granted-steps side u (own.Owned k v connection) f y p t c =
+    owner-steps side u k v connection (working f) y t (same_side k side && (t == v)) (λ w j x. granted_at w j x connection p c) (λ x. IsGiven p (down.Grant x c)) refl
+    (granted_at-steps side u v connection f y p c)
 
 -- Refuse, of the connection asked for
 refused_ask-steps : (side : Side) (u : UnitState) (v q d f : ℕ) (y : SideState) (same : Bool) (P : Ends → Type 0) →
     IsStep side (at side u (own.Owned side v (Ask q d)) (working f) y) (if same then changes (at side u (own.Owned side v (Away d)) (working f) y) else None) P
 refused_ask-steps side u v q d f y true P =
-    place-moves side u v (Ask q d) (Away d) f y P (λ n h g. Is_refused n h.phase h.seen h.known u.restarts f v q d)
+    connection-moves side u v (Ask q d) (Away d) f y P (λ n h g. Is_refused n h.phase h.seen h.known u.restarts f v q d)
 refused_ask-steps side u v q d f y false P = nothing side (at side u (own.Owned side v (Ask q d)) (working f) y) P
 
-refused_at-steps : (side : Side) (u : UnitState) (v : ℕ) (place : Connection) (f : ℕ) (y : SideState) (c : ℕ) (P : Ends → Type 0) →
-    IsStep side (at side u (own.Owned side v place) (working f) y) (grant_refused_at (at side u (own.Owned side v place) (working f) y) side v place c) P
+refused_at-steps : (side : Side) (u : UnitState) (v : ℕ) (connection : Connection) (f : ℕ) (y : SideState) (c : ℕ) (P : Ends → Type 0) →
+    IsStep side (at side u (own.Owned side v connection) (working f) y) (grant_refused_at (at side u (own.Owned side v connection) (working f) y) side v connection c) P
 refused_at-steps side u v (On q d) f y c P = nothing side (at side u (own.Owned side v (On q d)) (working f) y) P
 refused_at-steps First u v (Ask q d) f y c P = refused_ask-steps First u v q d f y (c == d) P
 refused_at-steps Second u v (Ask q d) f y c P = refused_ask-steps Second u v q d f y (c == d) P
@@ -227,33 +227,33 @@ refused_at-steps side u v (Away d) f y c P = nothing side (at side u (own.Owned 
 pub refused-steps : (side : Side) (u : UnitState) (o : Own) (f : ℕ) (y : SideState) (p t c : ℕ) →
     IsStep side (at side u o (working f) y) (grant_refused (at side u o (working f) y) o side t c) (IsGiven p (down.Refuse t c))
 refused-steps side u own.Idle f y p t c = nothing side (at side u own.Idle (working f) y) (IsGiven p (down.Refuse t c))
-refused-steps side u (own.Owned k v place) f y p t c =
-    owner-steps side u k v place (working f) y t (same_side k side && (t == v)) (λ w j x. grant_refused_at w j x place c) (λ x. IsGiven p (down.Refuse x c)) refl
-    (refused_at-steps side u v place f y c (IsGiven p (down.Refuse v c)))
+refused-steps side u (own.Owned k v connection) f y p t c =
+    owner-steps side u k v connection (working f) y t (same_side k side && (t == v)) (λ w j x. grant_refused_at w j x connection c) (λ x. IsGiven p (down.Refuse x c)) refl
+    (refused_at-steps side u v connection f y c (IsGiven p (down.Refuse v c)))
 
 -- Release, by the program that holds the device
-released-steps : (side : Side) (u : UnitState) (v : ℕ) (place : Connection) (f : ℕ) (y : SideState) (p : ℕ) →
-    IsStep side (at side u (own.Owned side v place) (working f) y) (sends (freed (at side u (own.Owned side v place) (working f) y)) p (up.Released v)) (IsGiven p (down.Release v))
-released-steps First u v place f y p =
-    record { here = λ n h g. Releases n h.phase h.seen h.known u.restarts f p v place g.1; there = λ n h. refl; free_here = λ m w. refl; free_there = λ m w. refl }
-released-steps Second u v place f y p =
-    record { here = λ n h g. Releases n h.phase h.seen h.known u.restarts f p v place g.1; there = λ n h. refl; free_here = λ m w. refl; free_there = λ m w. refl }
+released-steps : (side : Side) (u : UnitState) (v : ℕ) (connection : Connection) (f : ℕ) (y : SideState) (p : ℕ) →
+    IsStep side (at side u (own.Owned side v connection) (working f) y) (sends (freed (at side u (own.Owned side v connection) (working f) y)) p (up.Released v)) (IsGiven p (down.Release v))
+released-steps First u v connection f y p =
+    record { here = λ n h g. Releases n h.phase h.seen h.known u.restarts f p v connection g.1; there = λ n h. refl; free_here = λ m w. refl; free_there = λ m w. refl }
+released-steps Second u v connection f y p =
+    record { here = λ n h g. Releases n h.phase h.seen h.known u.restarts f p v connection g.1; there = λ n h. refl; free_here = λ m w. refl; free_there = λ m w. refl }
 
-owned-releases : (side : Side) (u : UnitState) (k : Side) (v : ℕ) (place : Connection) (f : ℕ) (y : SideState) (p t : ℕ) (is : Bool) → (same_side k side && (t == v)) ≡ is →
-    IsStep side (at side u (own.Owned k v place) (working f) y) (if is then sends (freed (at side u (own.Owned k v place) (working f) y)) p (up.Released t) else None) (IsGiven p (down.Release t))
-owned-releases side u k v place f y p t true e =
+owned-releases : (side : Side) (u : UnitState) (k : Side) (v : ℕ) (connection : Connection) (f : ℕ) (y : SideState) (p t : ℕ) (is : Bool) → (same_side k side && (t == v)) ≡ is →
+    IsStep side (at side u (own.Owned k v connection) (working f) y) (if is then sends (freed (at side u (own.Owned k v connection) (working f) y)) p (up.Released t) else None) (IsGiven p (down.Release t))
+owned-releases side u k v connection f y p t true e =
     let both : (same_side k side ≡ true) × ((t == v) ≡ true) = and_parts (same_side k side) (t == v) e in
     let sides : side ≡ k = sym (one-side k side both.0) in
     let numbers : v ≡ t = sym (eqb-true t v both.1) in
-    subst (λ (w : ℕ). IsStep side (at side u (own.Owned k v place) (working f) y) (sends (freed (at side u (own.Owned k v place) (working f) y)) p (up.Released w)) (IsGiven p (down.Release w))) numbers
-    (subst (λ (j : Side). IsStep side (at side u (own.Owned j v place) (working f) y) (sends (freed (at side u (own.Owned j v place) (working f) y)) p (up.Released v)) (IsGiven p (down.Release v))) sides
-    (released-steps side u v place f y p))
-owned-releases side u k v place f y p t false e = nothing side (at side u (own.Owned k v place) (working f) y) (IsGiven p (down.Release t))
+    subst (λ (w : ℕ). IsStep side (at side u (own.Owned k v connection) (working f) y) (sends (freed (at side u (own.Owned k v connection) (working f) y)) p (up.Released w)) (IsGiven p (down.Release w))) numbers
+    (subst (λ (j : Side). IsStep side (at side u (own.Owned j v connection) (working f) y) (sends (freed (at side u (own.Owned j v connection) (working f) y)) p (up.Released v)) (IsGiven p (down.Release v))) sides
+    (released-steps side u v connection f y p))
+owned-releases side u k v connection f y p t false e = nothing side (at side u (own.Owned k v connection) (working f) y) (IsGiven p (down.Release t))
 
 pub releasing-steps : (side : Side) (u : UnitState) (o : Own) (f : ℕ) (y : SideState) (p t : ℕ) →
     IsStep side (at side u o (working f) y) (if is_owner o side t then sends (freed (at side u o (working f) y)) p (up.Released t) else None) (IsGiven p (down.Release t))
 releasing-steps side u own.Idle f y p t = nothing side (at side u own.Idle (working f) y) (IsGiven p (down.Release t))
-releasing-steps side u (own.Owned k v place) f y p t = owned-releases side u k v place f y p t (same_side k side && (t == v)) refl
+releasing-steps side u (own.Owned k v connection) f y p t = owned-releases side u k v connection f y p t (same_side k side && (t == v)) refl
 
 -- in a side that is fresh
 pub telling-steps : (side : Side) (u : UnitState) (p : ℕ) (P : Ends → Type 0) → IsStep side u (telling u p) P

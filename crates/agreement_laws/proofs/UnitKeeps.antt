@@ -26,7 +26,7 @@ abbrev pub IsNotFresh : SideSeen → Type 0
 IsNotFresh Fresh = ⊥
 IsNotFresh o = Unit {0}
 
--- the last connection of a place that is not connected
+-- the last connection of a connection that is not connected
 abbrev pub IsOff : Connection → ℕ → Type 0
 IsOff (On q d) c = ⊥
 IsOff (Ask q d) c = d ≡ c
@@ -39,10 +39,10 @@ pub data UnitMoves : Ends → Ends → Option (OnPath Up) → Type 0 where
   Is_busy : (n : ℕ) (h : HoldPhase) (s k b f p t : ℕ) (o : SideSeen) → IsNotFresh o → f < t → t ≤ n → IsSelectGood h f p t → UnitMoves (ends_seen n h s k b f o) (ends_seen n h s k b t o) (by_path p (up.Busy t))
   Is_granted : (n : ℕ) (h : HoldPhase) (s k b f t q c : ℕ) → IsGrantGood h s (Owns t (Ask q c)) t c → UnitMoves (ends_seen n h s k b f (Owns t (Ask q c))) (ends_seen n h s k b f (Owns t (On q c))) None
   Is_refused : (n : ℕ) (h : HoldPhase) (s k b f t q c : ℕ) → UnitMoves (ends_seen n h s k b f (Owns t (Ask q c))) (ends_seen n h s k b f (Owns t (Away c))) None
-  Releases : (n : ℕ) (h : HoldPhase) (s k b f p t : ℕ) (place : Connection) → IsReleaseGood h t → UnitMoves (ends_seen n h s k b f (Owns t place)) (ends_seen n h s k b f Idle) (by_path p (up.Released t))
+  Releases : (n : ℕ) (h : HoldPhase) (s k b f p t : ℕ) (connection : Connection) → IsReleaseGood h t → UnitMoves (ends_seen n h s k b f (Owns t connection)) (ends_seen n h s k b f Idle) (by_path p (up.Released t))
   Clears : (n : ℕ) (h : HoldPhase) (s k b f p r : ℕ) (o : SideSeen) → f < r → r ≤ n → IsResetTo h r → UnitMoves (ends_seen n h s k b f o) (ends_seen n h s k b r Idle) (by_path p (up.Cleared r))
   Leaves : (n : ℕ) (h : HoldPhase) (s k b f t q c p d : ℕ) → UnitMoves (ends_seen n h s k b f (Owns t (On q c))) (ends_seen n h s k b f (Owns t (Away c))) (by_path p (up.Leave t d))
-  Asks : (n : ℕ) (h : HoldPhase) (s k b f t p c : ℕ) (place : Connection) → IsOff place c → UnitMoves (ends_seen n h s k b f (Owns t place)) (ends_seen n h s k b f (Owns t (Ask p (c + 1)))) (by_path p (up.Back t (c + 1)))
+  Asks : (n : ℕ) (h : HoldPhase) (s k b f t p c : ℕ) (connection : Connection) → IsOff connection c → UnitMoves (ends_seen n h s k b f (Owns t connection)) (ends_seen n h s k b f (Owns t (Ask p (c + 1)))) (by_path p (up.Back t (c + 1)))
   Restarts : (n : ℕ) (h : HoldPhase) (s k b f : ℕ) (o : SideSeen) → UnitMoves (ends_seen n h s k b f o) (ends_seen n h s k (b + 1) f Fresh) None
   Tells : (n : ℕ) (h : HoldPhase) (s k b f p : ℕ) (o : SideSeen) → UnitMoves (ends_seen n h s k b f o) (ends_seen n h s k b f o) (by_path p (up.Notice b))
 
@@ -75,7 +75,7 @@ busy-resets : (n : ℕ) (h : HoldPhase) (s k b f g : ℕ) (o : SideSeen) → IsN
     IsResetGood (ends_seen n h s k b f o) r c → IsResetGood (ends_seen n h s k b g o) r c
 busy-resets n h s k b f g Idle i le r c y = reset-rises n h s k b f g Idle Idle le (λ d. tt) r c y
 busy-resets n h s k b f g Fresh i le r c y = absurd i
-busy-resets n h s k b f g (Owns t place) i le r c y = reset-rises n h s k b f g (Owns t place) (Owns t place) le (λ d. tt) r c y
+busy-resets n h s k b f g (Owns t connection) i le r c y = reset-rises n h s k b f g (Owns t connection) (Owns t connection) le (λ d. tt) r c y
 
 -- another unit under a Grant
 grant-seen : (h : HoldPhase) (s t c : ℕ) (o v : SideSeen) → ((p d : ℕ) → IsAskedOn v p d t c) → IsGrantGood h s o t c → IsGrantGood h s v t c
@@ -86,13 +86,13 @@ grant-seen (hold.Away u) s t c o v k g = g
 grant-seen (hold.Letting u p) s t c o v k g = tt
 grant-seen (hold.Reset r) s t c o v k g = tt
 
-accept-owned : (h : HoldPhase) (v : ℕ) (place : Connection) (t : ℕ) → IsAcceptGood h (Owns v place) t
-accept-owned hold.Free v place t = tt
-accept-owned (hold.Offer u p) v place t = tt
-accept-owned (hold.On u p c) v place t = tt
-accept-owned (hold.Away u) v place t = tt
-accept-owned (hold.Letting u p) v place t = tt
-accept-owned (hold.Reset r) v place t = tt
+accept-owned : (h : HoldPhase) (v : ℕ) (connection : Connection) (t : ℕ) → IsAcceptGood h (Owns v connection) t
+accept-owned hold.Free v connection t = tt
+accept-owned (hold.Offer u p) v connection t = tt
+accept-owned (hold.On u p c) v connection t = tt
+accept-owned (hold.Away u) v connection t = tt
+accept-owned (hold.Letting u p) v connection t = tt
+accept-owned (hold.Reset r) v connection t = tt
 
 accept-fresh : (h : HoldPhase) (t : ℕ) → IsAcceptGood h Fresh t
 accept-fresh hold.Free t = tt
@@ -128,26 +128,26 @@ accepts-kept n h s k b f p t lt tn y g =
     }
 
 -- a Select is answered Busy
-busy-paired : (h : HoldPhase) (s f p t v : ℕ) (place : Connection) → f < t → IsSelectGood h f p t → IsPaired h s f v place → IsPaired h s t v place
-busy-paired hold.Free s f p t v place lt y m = m
-busy-paired (hold.Offer u q) s f p t v place lt y m = m
-busy-paired (hold.On u q c) s f p t v place lt y m = m
-busy-paired (hold.Away u) s f p t v place lt y m = m
-busy-paired (hold.Letting u q) s f p t v place lt y m = m
-busy-paired (hold.Reset r) s f p t v place lt y m = elim y [ inl z ↦ absurd (omega arith) | inr z ↦ z ]
+busy-paired : (h : HoldPhase) (s f p t v : ℕ) (connection : Connection) → f < t → IsSelectGood h f p t → IsPaired h s f v connection → IsPaired h s t v connection
+busy-paired hold.Free s f p t v connection lt y m = m
+busy-paired (hold.Offer u q) s f p t v connection lt y m = m
+busy-paired (hold.On u q c) s f p t v connection lt y m = m
+busy-paired (hold.Away u) s f p t v connection lt y m = m
+busy-paired (hold.Letting u q) s f p t v connection lt y m = m
+busy-paired (hold.Reset r) s f p t v connection lt y m = elim y [ inl z ↦ absurd (omega arith) | inr z ↦ z ]
 
 busy-not_owned : (o : SideSeen) (f t : ℕ) (n : ℕ) (h : HoldPhase) (s k b : ℕ) → f < t → AreEndsGood (ends_seen n h s k b f o) → IsNotOwned o t
 busy-not_owned Idle f t n h s k b lt g = tt
 busy-not_owned Fresh f t n h s k b lt g = tt
-busy-not_owned (Owns v place) f t n h s k b lt g = λ e. omega (arith, g.owned)
+busy-not_owned (Owns v connection) f t n h s k b lt g = λ e. omega (arith, g.owned)
 
 owned-below : (n : ℕ) (h : HoldPhase) (s k b f t : ℕ) (o : SideSeen) (p : ℕ) → IsNotFresh o → f < t → t ≤ n → IsSelectGood h f p t →
     AreEndsGood (ends_seen n h s k b f o) → AreEndsGood (ends_seen n h s k b t o)
 owned-below n h s k b f t Idle p i lt tn y g =
     record { floor = tn; number = g.number; known = g.known; owned = tt; matched = g.matched }
 owned-below n h s k b f t Fresh p i lt tn y g = absurd i
-owned-below n h s k b f t (Owns v place) p i lt tn y g =
-    record { floor = tn; number = g.number; known = g.known; owned = omega (arith, g.owned); matched = busy-paired h s f p t v place lt y g.matched }
+owned-below n h s k b f t (Owns v connection) p i lt tn y g =
+    record { floor = tn; number = g.number; known = g.known; owned = omega (arith, g.owned); matched = busy-paired h s f p t v connection lt y g.matched }
 
 is_busy-kept : (n : ℕ) (h : HoldPhase) (s k b f p t : ℕ) (o : SideSeen) → IsNotFresh o → f < t → t ≤ n → IsSelectGood h f p t → AreEndsGood (ends_seen n h s k b f o) →
     IsUnitKept (ends_seen n h s k b f o) (ends_seen n h s k b t o) (by_path p (up.Busy t))
@@ -242,34 +242,34 @@ leaves-kept n h s k b f t q c p d g =
     }
 
 -- a Release is taken
-released-held : (h : HoldPhase) (s f t : ℕ) (place : Connection) → IsReleaseGood h t → IsPaired h s f t place → IsNotHeld h
-released-held hold.Free s f t place y m = tt
-released-held (hold.Offer u p) s f t place y m = tt
-released-held (hold.On u p c) s f t place y m = omega (arith, y, m.0)
-released-held (hold.Away u) s f t place y m = omega (arith, y, m.0)
-released-held (hold.Letting u p) s f t place y m = tt
-released-held (hold.Reset r) s f t place y m = tt
+released-held : (h : HoldPhase) (s f t : ℕ) (connection : Connection) → IsReleaseGood h t → IsPaired h s f t connection → IsNotHeld h
+released-held hold.Free s f t connection y m = tt
+released-held (hold.Offer u p) s f t connection y m = tt
+released-held (hold.On u p c) s f t connection y m = omega (arith, y, m.0)
+released-held (hold.Away u) s f t connection y m = omega (arith, y, m.0)
+released-held (hold.Letting u p) s f t connection y m = tt
+released-held (hold.Reset r) s f t connection y m = tt
 
-released-accept : (h : HoldPhase) (s f t u : ℕ) (place : Connection) → IsReleaseGood h t → IsPaired h s f t place → IsAcceptGood h Idle u
-released-accept hold.Free s f t u place y m = tt
-released-accept (hold.Offer v p) s f t u place y m = absurd (omega (arith, y, m.0))
-released-accept (hold.On v p c) s f t u place y m = tt
-released-accept (hold.Away v) s f t u place y m = tt
-released-accept (hold.Letting v p) s f t u place y m = tt
-released-accept (hold.Reset r) s f t u place y m = tt
+released-accept : (h : HoldPhase) (s f t u : ℕ) (connection : Connection) → IsReleaseGood h t → IsPaired h s f t connection → IsAcceptGood h Idle u
+released-accept hold.Free s f t u connection y m = tt
+released-accept (hold.Offer v p) s f t u connection y m = absurd (omega (arith, y, m.0))
+released-accept (hold.On v p c) s f t u connection y m = tt
+released-accept (hold.Away v) s f t u connection y m = tt
+released-accept (hold.Letting v p) s f t u connection y m = tt
+released-accept (hold.Reset r) s f t u connection y m = tt
 
-releases-kept : (n : ℕ) (h : HoldPhase) (s k b f p t : ℕ) (place : Connection) → IsReleaseGood h t → AreEndsGood (ends_seen n h s k b f (Owns t place)) →
-    IsUnitKept (ends_seen n h s k b f (Owns t place)) (ends_seen n h s k b f Idle) (by_path p (up.Released t))
-releases-kept n h s k b f p t place y g =
+releases-kept : (n : ℕ) (h : HoldPhase) (s k b f p t : ℕ) (connection : Connection) → IsReleaseGood h t → AreEndsGood (ends_seen n h s k b f (Owns t connection)) →
+    IsUnitKept (ends_seen n h s k b f (Owns t connection)) (ends_seen n h s k b f Idle) (by_path p (up.Released t))
+releases-kept n h s k b f p t connection y g =
     record {
-      ends = record { floor = g.floor; number = g.number; known = g.known; owned = tt; matched = released-held h s f t place y g.matched };
-      downs = downs-by (ends_seen n h s k b f (Owns t place)) (ends_seen n h s k b f Idle) (omega arith) (omega arith)
+      ends = record { floor = g.floor; number = g.number; known = g.known; owned = tt; matched = released-held h s f t connection y g.matched };
+      downs = downs-by (ends_seen n h s k b f (Owns t connection)) (ends_seen n h s k b f Idle) (omega arith) (omega arith)
           (λ q u le z. z) (λ u le z. z) (λ r d le lb z. z)
-          (λ u d le z. grant-seen h s u d (Owns t place) Idle (λ q e. tt) z);
+          (λ u d le z. grant-seen h s u d (Owns t connection) Idle (λ q e. tt) z);
       floor = omega arith;
       new = tt;
-      ups = ups-by (ends_seen n h s k b f (Owns t place)) (ends_seen n h s k b f Idle) (by_path p (up.Released t)) (omega arith) (omega arith) tt
-          (λ u le z. released-accept h s f t u place y g.matched) (λ u le z. tt) (λ q u d le z. tt);
+      ups = ups-by (ends_seen n h s k b f (Owns t connection)) (ends_seen n h s k b f Idle) (by_path p (up.Released t)) (omega arith) (omega arith) tt
+          (λ u le z. released-accept h s f t u connection y g.matched) (λ u le z. tt) (λ q u d le z. tt);
       sent = λ ts all. (g.owned, tt);
     }
 
@@ -307,58 +307,58 @@ clears-kept n h s k b f p r o lt rn y g =
     }
 
 -- a path is asked for
-asked-joined : (p d s c : ℕ) (q : ℕ) (place : Connection) → IsOff place c → IsJoined p d s place → IsJoined p d s (Ask q (c + 1))
+asked-joined : (p d s c : ℕ) (q : ℕ) (connection : Connection) → IsOff connection c → IsJoined p d s connection → IsJoined p d s (Ask q (c + 1))
 asked-joined p d s c q (On x y) i j = absurd i
 asked-joined p d s c q (Ask x y) i j = omega (arith, i, j)
 asked-joined p d s c q (Away y) i j = omega (arith, i, j)
 
-asked-parted : (s c q : ℕ) (place : Connection) → IsOff place c → IsParted s place → IsParted s (Ask q (c + 1))
+asked-parted : (s c q : ℕ) (connection : Connection) → IsOff connection c → IsParted s connection → IsParted s (Ask q (c + 1))
 asked-parted s c q (On x y) i j = absurd i
 asked-parted s c q (Ask x y) i j = omega (arith, i, j)
 asked-parted s c q (Away y) i j = omega (arith, i, j)
 
-asked-paired : (h : HoldPhase) (s f t q c : ℕ) (place : Connection) → IsOff place c → IsPaired h s f t place → IsPaired h s f t (Ask q (c + 1))
-asked-paired hold.Free s f t q c place i m = m
-asked-paired (hold.Offer u p) s f t q c place i m = (m.0, asked-joined p 0 0 c q place i m.1)
-asked-paired (hold.On u p d) s f t q c place i m = (m.0, asked-joined p d s c q place i m.1)
-asked-paired (hold.Away u) s f t q c place i m = (m.0, asked-parted s c q place i m.1)
-asked-paired (hold.Letting u p) s f t q c place i m = m
-asked-paired (hold.Reset r) s f t q c place i m = m
+asked-paired : (h : HoldPhase) (s f t q c : ℕ) (connection : Connection) → IsOff connection c → IsPaired h s f t connection → IsPaired h s f t (Ask q (c + 1))
+asked-paired hold.Free s f t q c connection i m = m
+asked-paired (hold.Offer u p) s f t q c connection i m = (m.0, asked-joined p 0 0 c q connection i m.1)
+asked-paired (hold.On u p d) s f t q c connection i m = (m.0, asked-joined p d s c q connection i m.1)
+asked-paired (hold.Away u) s f t q c connection i m = (m.0, asked-parted s c q connection i m.1)
+asked-paired (hold.Letting u p) s f t q c connection i m = m
+asked-paired (hold.Reset r) s f t q c connection i m = m
 
-seen-below : (p d s c : ℕ) (place : Connection) → IsOff place c → IsJoined p d s place → s ≤ c
+seen-below : (p d s c : ℕ) (connection : Connection) → IsOff connection c → IsJoined p d s connection → s ≤ c
 seen-below p d s c (On x y) i j = absurd i
 seen-below p d s c (Ask x y) i j = omega (arith, i, j)
 seen-below p d s c (Away y) i j = omega (arith, i, j)
 
-asked-grant : (h : HoldPhase) (s f t q c u x : ℕ) (place : Connection) → IsOff place c → IsPaired h s f t place →
-    IsGrantGood h s (Owns t place) u x → IsGrantGood h s (Owns t (Ask q (c + 1))) u x
-asked-grant hold.Free s f t q c u x place i m g = tt
-asked-grant (hold.Offer v p) s f t q c u x place i m g = g
-asked-grant (hold.On v p d) s f t q c u x place i m g = elim g [
+asked-grant : (h : HoldPhase) (s f t q c u x : ℕ) (connection : Connection) → IsOff connection c → IsPaired h s f t connection →
+    IsGrantGood h s (Owns t connection) u x → IsGrantGood h s (Owns t (Ask q (c + 1))) u x
+asked-grant hold.Free s f t q c u x connection i m g = tt
+asked-grant (hold.Offer v p) s f t q c u x connection i m g = g
+asked-grant (hold.On v p d) s f t q c u x connection i m g = elim g [
   | inl y ↦ inl y
-  | inr y ↦ let below : s ≤ c = seen-below p d s c place i m.1 in inr (y.0, y.1, λ e j. absurd (omega (arith, y.1)))
+  | inr y ↦ let below : s ≤ c = seen-below p d s c connection i m.1 in inr (y.0, y.1, λ e j. absurd (omega (arith, y.1)))
 ]
-asked-grant (hold.Away v) s f t q c u x place i m g = g
-asked-grant (hold.Letting v p) s f t q c u x place i m g = tt
-asked-grant (hold.Reset r) s f t q c u x place i m g = tt
+asked-grant (hold.Away v) s f t q c u x connection i m g = g
+asked-grant (hold.Letting v p) s f t q c u x connection i m g = tt
+asked-grant (hold.Reset r) s f t q c u x connection i m g = tt
 
-asked-back : (t q c a x u : ℕ) (place : Connection) → IsOff place c → IsBackGood (Owns t place) a u x → IsBackGood (Owns t (Ask q (c + 1))) a u x
+asked-back : (t q c a x u : ℕ) (connection : Connection) → IsOff connection c → IsBackGood (Owns t connection) a u x → IsBackGood (Owns t (Ask q (c + 1))) a u x
 asked-back t q c a x u (On y d) i g = absurd i
 asked-back t q c a x u (Ask y d) i g = λ e. let le : x ≤ d = (g e).0 in (omega arith, λ j. absurd (omega arith))
 asked-back t q c a x u (Away d) i g = λ e. let le : x ≤ d = g e in (omega arith, λ j. absurd (omega arith))
 
-asks-kept : (n : ℕ) (h : HoldPhase) (s k b f t p c : ℕ) (place : Connection) → IsOff place c → AreEndsGood (ends_seen n h s k b f (Owns t place)) →
-    IsUnitKept (ends_seen n h s k b f (Owns t place)) (ends_seen n h s k b f (Owns t (Ask p (c + 1)))) (by_path p (up.Back t (c + 1)))
-asks-kept n h s k b f t p c place i g =
+asks-kept : (n : ℕ) (h : HoldPhase) (s k b f t p c : ℕ) (connection : Connection) → IsOff connection c → AreEndsGood (ends_seen n h s k b f (Owns t connection)) →
+    IsUnitKept (ends_seen n h s k b f (Owns t connection)) (ends_seen n h s k b f (Owns t (Ask p (c + 1)))) (by_path p (up.Back t (c + 1)))
+asks-kept n h s k b f t p c connection i g =
     record {
-      ends = record { floor = g.floor; number = g.number; known = g.known; owned = g.owned; matched = asked-paired h s f t p c place i g.matched };
-      downs = downs-by (ends_seen n h s k b f (Owns t place)) (ends_seen n h s k b f (Owns t (Ask p (c + 1)))) (omega arith) (omega arith)
+      ends = record { floor = g.floor; number = g.number; known = g.known; owned = g.owned; matched = asked-paired h s f t p c connection i g.matched };
+      downs = downs-by (ends_seen n h s k b f (Owns t connection)) (ends_seen n h s k b f (Owns t (Ask p (c + 1)))) (omega arith) (omega arith)
           (λ q u le z. z) (λ u le z. z) (λ r d le lb z. z)
-          (λ u d le z. asked-grant h s f t p c u d place i g.matched z);
+          (λ u d le z. asked-grant h s f t p c u d connection i g.matched z);
       floor = omega arith;
       new = tt;
-      ups = ups-by (ends_seen n h s k b f (Owns t place)) (ends_seen n h s k b f (Owns t (Ask p (c + 1)))) (by_path p (up.Back t (c + 1))) (omega arith) (omega arith) tt
-          (λ u le z. accept-owned h t (Ask p (c + 1)) u) (λ u le z. z) (λ q u d le z. asked-back t p c q d u place i z);
+      ups = ups-by (ends_seen n h s k b f (Owns t connection)) (ends_seen n h s k b f (Owns t (Ask p (c + 1)))) (by_path p (up.Back t (c + 1))) (omega arith) (omega arith) tt
+          (λ u le z. accept-owned h t (Ask p (c + 1)) u) (λ u le z. z) (λ q u d le z. asked-back t p c q d u connection i z);
       sent = λ ts all. (g.owned, λ e. (omega arith, λ j. refl));
     }
 
@@ -410,9 +410,9 @@ unit-kept _ _ _ g (Accepts n h s k b f p t lt tn y) = accepts-kept n h s k b f p
 unit-kept _ _ _ g (Is_busy n h s k b f p t o i lt tn y) = is_busy-kept n h s k b f p t o i lt tn y g
 unit-kept _ _ _ g (Is_granted n h s k b f t q c y) = is_granted-kept n h s k b f t q c y g
 unit-kept _ _ _ g (Is_refused n h s k b f t q c) = is_refused-kept n h s k b f t q c g
-unit-kept _ _ _ g (Releases n h s k b f p t place y) = releases-kept n h s k b f p t place y g
+unit-kept _ _ _ g (Releases n h s k b f p t connection y) = releases-kept n h s k b f p t connection y g
 unit-kept _ _ _ g (Clears n h s k b f p r o lt rn y) = clears-kept n h s k b f p r o lt rn y g
 unit-kept _ _ _ g (Leaves n h s k b f t q c p d) = leaves-kept n h s k b f t q c p d g
-unit-kept _ _ _ g (Asks n h s k b f t p c place i) = asks-kept n h s k b f t p c place i g
+unit-kept _ _ _ g (Asks n h s k b f t p c connection i) = asks-kept n h s k b f t p c connection i g
 unit-kept _ _ _ g (Restarts n h s k b f o) = restarts-kept n h s k b f o g
 unit-kept _ _ _ g (Tells n h s k b f p o) = stays-kept (ends_seen n h s k b f o) (by_path p (up.Notice b)) tt (λ ts. omega arith) g

@@ -64,32 +64,32 @@ reset-idle Second u f fresh y p r e =
       free_there = λ m. m;
     }
 
-reset-owned : (side k : Side) (u : UnitState) (v : ℕ) (place : Connection) (f : ℕ) (fresh : Bool) (y : SideState) (p r : ℕ) → (fresh || nat_lt f r) ≡ true →
-    IsStep side (at side u (own.Owned k v place) (side_at f fresh) y) (sends (reset_side (at side u (own.Owned k v place) (side_at f fresh) y) side r) p (up.Cleared r)) (IsGiven p (down.Reset r u.restarts))
-reset-owned First First u v place f fresh y p r e =
+reset-owned : (side k : Side) (u : UnitState) (v : ℕ) (connection : Connection) (f : ℕ) (fresh : Bool) (y : SideState) (p r : ℕ) → (fresh || nat_lt f r) ≡ true →
+    IsStep side (at side u (own.Owned k v connection) (side_at f fresh) y) (sends (reset_side (at side u (own.Owned k v connection) (side_at f fresh) y) side r) p (up.Cleared r)) (IsGiven p (down.Reset r u.restarts))
+reset-owned First First u v connection f fresh y p r e =
     record {
-      here = λ n h g. resets-here n h u.restarts f fresh (Owns v place) p r e g.0 g.2;
+      here = λ n h g. resets-here n h u.restarts f fresh (Owns v connection) p r e g.0 g.2;
       there = λ n h. refl;
       free_here = λ m w. cc;
       free_there = λ m w. refl;
     }
-reset-owned First Second u v place f fresh y p r e =
+reset-owned First Second u v connection f fresh y p r e =
     record {
       here = λ n h g. resets-here n h u.restarts f fresh Idle p r e g.0 g.2;
       there = λ n h. refl;
       free_here = λ m w. cc;
       free_there = λ m. m;
     }
-reset-owned Second First u v place f fresh y p r e =
+reset-owned Second First u v connection f fresh y p r e =
     record {
       here = λ n h g. resets-here n h u.restarts f fresh Idle p r e g.0 g.2;
       there = λ n h. refl;
       free_here = λ m w. cc;
       free_there = λ m. m;
     }
-reset-owned Second Second u v place f fresh y p r e =
+reset-owned Second Second u v connection f fresh y p r e =
     record {
-      here = λ n h g. resets-here n h u.restarts f fresh (Owns v place) p r e g.0 g.2;
+      here = λ n h g. resets-here n h u.restarts f fresh (Owns v connection) p r e g.0 g.2;
       there = λ n h. refl;
       free_here = λ m w. cc;
       free_there = λ m w. refl;
@@ -98,7 +98,7 @@ reset-owned Second Second u v place f fresh y p r e =
 reset-own : (side : Side) (u : UnitState) (o : Own) (f : ℕ) (fresh : Bool) (y : SideState) (p r : ℕ) → (fresh || nat_lt f r) ≡ true →
     IsStep side (at side u o (side_at f fresh) y) (sends (reset_side (at side u o (side_at f fresh) y) side r) p (up.Cleared r)) (IsGiven p (down.Reset r u.restarts))
 reset-own side u own.Idle f fresh y p r e = reset-idle side u f fresh y p r e
-reset-own side u (own.Owned k v place) f fresh y p r e = reset-owned side k u v place f fresh y p r e
+reset-own side u (own.Owned k v connection) f fresh y p r e = reset-owned side k u v connection f fresh y p r e
 
 reset-steps : (side : Side) (u : UnitState) (o : Own) (f : ℕ) (fresh : Bool) (y : SideState) (p r b : ℕ) (taken : Bool) → ((b == u.restarts) && (fresh || nat_lt f r)) ≡ taken →
     IsStep side (at side u o (side_at f fresh) y)
@@ -123,13 +123,13 @@ works-steps Second u o f y p (down.Grant t c) may = granted-steps Second u o f y
 works-steps First u o f y p (down.Refuse t c) may = refused-steps First u o f y p t c
 works-steps Second u o f y p (down.Refuse t c) may = refused-steps Second u o f y p t c
 works-steps First u o f y p (down.Took t n s room) may =
-    step-if First _ (is_owner o First t && (n == u.last_command)) _ _ (answered-steps First _ u.at_hand s room _)
+    step-if First _ (is_owner o First t && (n == u.last_command)) _ _ (answered-steps First _ u.current s room _)
 works-steps Second u o f y p (down.Took t n s room) may =
-    step-if Second _ (is_owner o Second t && (n == u.last_command)) _ _ (answered-steps Second _ u.at_hand s room _)
+    step-if Second _ (is_owner o Second t && (n == u.last_command)) _ _ (answered-steps Second _ u.current s room _)
 works-steps First u o f y p (down.Give bytes t c n s) may =
-    step-if First _ (is_owner_on o First t c && (n == u.last_command)) _ _ (given-steps First _ u.at_hand s bytes _)
+    step-if First _ (is_owner_on o First t c && (n == u.last_command)) _ _ (given-steps First _ u.current s bytes _)
 works-steps Second u o f y p (down.Give bytes t c n s) may =
-    step-if Second _ (is_owner_on o Second t c && (n == u.last_command)) _ _ (given-steps Second _ u.at_hand s bytes _)
+    step-if Second _ (is_owner_on o Second t c && (n == u.last_command)) _ _ (given-steps Second _ u.current s bytes _)
 works-steps First u o f y p (down.Halt t) may = unseen-if First _ _ (is_owner o First t && not u.halted) _ refl refl refl refl
 works-steps Second u o f y p (down.Halt t) may = unseen-if Second _ _ (is_owner o Second t && not u.halted) _ refl refl refl refl
 works-steps First u o f y p (down.Release t) may = releasing-steps First u o f y p t
@@ -180,8 +180,8 @@ not-both : true ≡ false → ⊥
 not-both e = cc
 
 -- Leave, and Ask, of the program that holds the device, whose side is not fresh
-leaving-steps : (k : Side) (u : UnitState) (t : ℕ) (place : Connection) (f : ℕ) (fresh : Bool) (y : SideState) →
-    IsStep k (at k u (own.Owned k t place) (side_at f fresh) y) (leaving_from (at k u (own.Owned k t place) (side_at f fresh) y) k t place) Always
+leaving-steps : (k : Side) (u : UnitState) (t : ℕ) (connection : Connection) (f : ℕ) (fresh : Bool) (y : SideState) →
+    IsStep k (at k u (own.Owned k t connection) (side_at f fresh) y) (leaving_from (at k u (own.Owned k t connection) (side_at f fresh) y) k t connection) Always
 leaving-steps First u t (On p c) f true y =
     record { here = λ n h g. Stays _ _ _ refl tt; there = λ n h. refl; free_here = λ m. m; free_there = λ m. m }
 leaving-steps First u t (On p c) f false y =
@@ -193,8 +193,8 @@ leaving-steps Second u t (On p c) f false y =
 leaving-steps k u t (Ask p c) f fresh y = nothing k _ Always
 leaving-steps k u t (Away c) f fresh y = nothing k _ Always
 
-asking-steps : (k : Side) (u : UnitState) (t : ℕ) (place : Connection) (f : ℕ) (fresh : Bool) (y : SideState) (p : ℕ) → (fresh ≡ true → true ≡ false) →
-    IsStep k (at k u (own.Owned k t place) (side_at f fresh) y) (asking_from (at k u (own.Owned k t place) (side_at f fresh) y) k t place p) Always
+asking-steps : (k : Side) (u : UnitState) (t : ℕ) (connection : Connection) (f : ℕ) (fresh : Bool) (y : SideState) (p : ℕ) → (fresh ≡ true → true ≡ false) →
+    IsStep k (at k u (own.Owned k t connection) (side_at f fresh) y) (asking_from (at k u (own.Owned k t connection) (side_at f fresh) y) k t connection p) Always
 asking-steps k u t (On q c) f fresh y p x = nothing k _ Always
 asking-steps k u t (Ask q c) f true y p x = absurd (not-both (x refl))
 asking-steps First u t (Ask q c) f false y p x =
@@ -242,7 +242,7 @@ end-steps k u p t c x progress.Ended (answer.Supplied bytes) = nothing k u Alway
 end-steps k u p t c x progress.Ended answer.Again = nothing k u Always
 end-steps k u p t c x progress.Ended (answer.Ended status more) = nothing k u Always
 
-report-steps : (k : Side) (u : UnitState) (t : ℕ) (place : Connection) (x : Option CurrentCommand) (r : Report) → IsStep k u (report_on u t place x r) Always
+report-steps : (k : Side) (u : UnitState) (t : ℕ) (connection : Connection) (x : Option CurrentCommand) (r : Report) → IsStep k u (report_on u t connection x r) Always
 report-steps k u t (On p c) None r = nothing k u Always
 report-steps k u t (On p c) (Some x) r = step-if k u (r.sequence == x.sequence) _ Always (end-steps k u p t c x x.progress r.answer)
 report-steps k u t (Ask p c) x r = nothing k u Always
@@ -272,43 +272,43 @@ leaves-moves : (side : Side) (u : UnitState) (o : Own) (n : ℕ) (h : HoldState)
     UnitMoves (ends_of n h (record u { own = o }) side) (ends_of n h (unit_after (record u { own = o }) (leaving (record u { own = o }) o)) side)
     (if is_owner_side o side then sent_by (leaving (record u { own = o }) o) else None)
 leaves-moves side u own.Idle n h = Stays _ _ None refl tt
-leaves-moves side u (own.Owned First t place) n h =
-    from-step First side _ (leaving_from (record u { own = own.Owned First t place }) First t place) Always n h (leaving-steps First u t place u.first.floor u.first.fresh u.second) (λ e. tt)
-leaves-moves side u (own.Owned Second t place) n h =
-    from-step Second side _ (leaving_from (record u { own = own.Owned Second t place }) Second t place) Always n h (leaving-steps Second u t place u.second.floor u.second.fresh u.first) (λ e. tt)
+leaves-moves side u (own.Owned First t connection) n h =
+    from-step First side _ (leaving_from (record u { own = own.Owned First t connection }) First t connection) Always n h (leaving-steps First u t connection u.first.floor u.first.fresh u.second) (λ e. tt)
+leaves-moves side u (own.Owned Second t connection) n h =
+    from-step Second side _ (leaving_from (record u { own = own.Owned Second t connection }) Second t connection) Always n h (leaving-steps Second u t connection u.second.floor u.second.fresh u.first) (λ e. tt)
 
 leaves-free : (side : Side) (u : UnitState) (o : Own) → IsFreshFree (record u { own = o }) side →
     IsFreshFree (unit_after (record u { own = o }) (leaving (record u { own = o }) o)) side
 leaves-free side u own.Idle m = m
-leaves-free side u (own.Owned First t place) m = from-free First side _ (leaving_from (record u { own = own.Owned First t place }) First t place) Always (leaving-steps First u t place u.first.floor u.first.fresh u.second) m
-leaves-free side u (own.Owned Second t place) m = from-free Second side _ (leaving_from (record u { own = own.Owned Second t place }) Second t place) Always (leaving-steps Second u t place u.second.floor u.second.fresh u.first) m
+leaves-free side u (own.Owned First t connection) m = from-free First side _ (leaving_from (record u { own = own.Owned First t connection }) First t connection) Always (leaving-steps First u t connection u.first.floor u.first.fresh u.second) m
+leaves-free side u (own.Owned Second t connection) m = from-free Second side _ (leaving_from (record u { own = own.Owned Second t connection }) Second t connection) Always (leaving-steps Second u t connection u.second.floor u.second.fresh u.first) m
 
 asks-moves : (side : Side) (u : UnitState) (o : Own) (p n : ℕ) (h : HoldState) → IsFreshFree (record u { own = o }) First → IsFreshFree (record u { own = o }) Second →
     UnitMoves (ends_of n h (record u { own = o }) side) (ends_of n h (unit_after (record u { own = o }) (asking (record u { own = o }) o p)) side)
     (if is_owner_side o side then sent_by (asking (record u { own = o }) o p) else None)
 asks-moves side u own.Idle p n h f g = Stays _ _ None refl tt
-asks-moves side u (own.Owned First t place) p n h f g =
-    from-step First side _ (asking_from (record u { own = own.Owned First t place }) First t place p) Always n h (asking-steps First u t place u.first.floor u.first.fresh u.second p f) (λ e. tt)
-asks-moves side u (own.Owned Second t place) p n h f g =
-    from-step Second side _ (asking_from (record u { own = own.Owned Second t place }) Second t place p) Always n h (asking-steps Second u t place u.second.floor u.second.fresh u.first p g) (λ e. tt)
+asks-moves side u (own.Owned First t connection) p n h f g =
+    from-step First side _ (asking_from (record u { own = own.Owned First t connection }) First t connection p) Always n h (asking-steps First u t connection u.first.floor u.first.fresh u.second p f) (λ e. tt)
+asks-moves side u (own.Owned Second t connection) p n h f g =
+    from-step Second side _ (asking_from (record u { own = own.Owned Second t connection }) Second t connection p) Always n h (asking-steps Second u t connection u.second.floor u.second.fresh u.first p g) (λ e. tt)
 
 asks-free : (side : Side) (u : UnitState) (o : Own) (p : ℕ) → IsFreshFree (record u { own = o }) First → IsFreshFree (record u { own = o }) Second →
     IsFreshFree (record u { own = o }) side → IsFreshFree (unit_after (record u { own = o }) (asking (record u { own = o }) o p)) side
 asks-free side u own.Idle p f g m = m
-asks-free side u (own.Owned First t place) p f g m = from-free First side _ (asking_from (record u { own = own.Owned First t place }) First t place p) Always (asking-steps First u t place u.first.floor u.first.fresh u.second p f) m
-asks-free side u (own.Owned Second t place) p f g m = from-free Second side _ (asking_from (record u { own = own.Owned Second t place }) Second t place p) Always (asking-steps Second u t place u.second.floor u.second.fresh u.first p g) m
+asks-free side u (own.Owned First t connection) p f g m = from-free First side _ (asking_from (record u { own = own.Owned First t connection }) First t connection p) Always (asking-steps First u t connection u.first.floor u.first.fresh u.second p f) m
+asks-free side u (own.Owned Second t connection) p f g m = from-free Second side _ (asking_from (record u { own = own.Owned Second t connection }) Second t connection p) Always (asking-steps Second u t connection u.second.floor u.second.fresh u.first p g) m
 
-reported-steps : (k : Side) (u : UnitState) (t : ℕ) (place : Connection) (r : Report) → IsStep k u (report_of u (own.Owned k t place) r) Always
-reported-steps k u t place r = step-if k u (same_side k r.side && ((r.number == t) && (r.command == u.last_command))) _ Always (report-steps k u t place u.at_hand r)
+reported-steps : (k : Side) (u : UnitState) (t : ℕ) (connection : Connection) (r : Report) → IsStep k u (report_of u (own.Owned k t connection) r) Always
+reported-steps k u t connection r = step-if k u (same_side k r.side && ((r.number == t) && (r.command == u.last_command))) _ Always (report-steps k u t connection u.current r)
 
 reports-moves : (side : Side) (u : UnitState) (o : Own) (r : Report) (n : ℕ) (h : HoldState) →
     UnitMoves (ends_of n h u side) (ends_of n h (unit_after u (report_of u o r)) side) (if is_owner_side o side then sent_by (report_of u o r) else None)
 reports-moves side u own.Idle r n h = Stays _ _ None refl tt
-reports-moves side u (own.Owned k t place) r n h = from-step k side u (report_of u (own.Owned k t place) r) Always n h (reported-steps k u t place r) (λ e. tt)
+reports-moves side u (own.Owned k t connection) r n h = from-step k side u (report_of u (own.Owned k t connection) r) Always n h (reported-steps k u t connection r) (λ e. tt)
 
 reports-free : (side : Side) (u : UnitState) (o : Own) (r : Report) → IsFreshFree u side → IsFreshFree (unit_after u (report_of u o r)) side
 reports-free side u own.Idle r m = m
-reports-free side u (own.Owned k t place) r m = from-free k side u (report_of u (own.Owned k t place) r) Always (reported-steps k u t place r) m
+reports-free side u (own.Owned k t connection) r m = from-free k side u (report_of u (own.Owned k t connection) r) Always (reported-steps k u t connection r) m
 
 attends-steps : (k : Side) (u : UnitState) (p : ℕ) → IsStep k u (attending u k p) Always
 attends-steps k u p = step-if k u (is_idle u.own && not (side_of u k).fresh) _ Always (unseen k u _ _ Always refl refl refl refl tt)

@@ -22,11 +22,11 @@ use Rattle.agreement_laws.specs.Links.{Link, Links, link_of}
 pub data SideSeen : Type 0 where
   Idle : SideSeen
   Fresh : SideSeen
-  Owns : (number : ℕ) → (place : Connection) → SideSeen
+  Owns : (number : ℕ) → (connection : Connection) → SideSeen
 
 abbrev pub seen_own : Own → Side → SideSeen
 seen_own own.Idle side = Idle
-seen_own (own.Owned k t place) side = if same_side k side then Owns t place else Idle
+seen_own (own.Owned k t connection) side = if same_side k side then Owns t connection else Idle
 
 abbrev pub seen_by : Bool → Own → Side → SideSeen
 seen_by fresh o side = if fresh then Fresh else seen_own o side
@@ -57,7 +57,7 @@ IsDrawn (hold.Letting t p) n = t ≤ n
 IsDrawn (hold.Reset r) n = r ≤ n
 
 abbrev pub IsOwnedBelow : SideSeen → ℕ → Type 0
-IsOwnedBelow (Owns t place) f = t ≤ f
+IsOwnedBelow (Owns t connection) f = t ≤ f
 IsOwnedBelow o f = Unit {0}
 
 -- Places: the program is connected on p by the connection c, and s is the last that the hold saw.
@@ -73,12 +73,12 @@ IsParted s (Away d) = s ≤ d
 
 -- The hold, where a program of its side holds the device; where nothing of its side does; where the side is fresh.
 abbrev pub IsPaired : HoldPhase → ℕ → ℕ → ℕ → Connection → Type 0
-IsPaired hold.Free s f t place = ⊥
-IsPaired (hold.Offer u p) s f t place = (u ≡ t) × IsJoined p 0 0 place
-IsPaired (hold.On u p c) s f t place = (u ≡ t) × IsJoined p c s place
-IsPaired (hold.Away u) s f t place = (u ≡ t) × IsParted s place
-IsPaired (hold.Letting u p) s f t place = u ≡ t
-IsPaired (hold.Reset r) s f t place = f < r
+IsPaired hold.Free s f t connection = ⊥
+IsPaired (hold.Offer u p) s f t connection = (u ≡ t) × IsJoined p 0 0 connection
+IsPaired (hold.On u p c) s f t connection = (u ≡ t) × IsJoined p c s connection
+IsPaired (hold.Away u) s f t connection = (u ≡ t) × IsParted s connection
+IsPaired (hold.Letting u p) s f t connection = u ≡ t
+IsPaired (hold.Reset r) s f t connection = f < r
 
 abbrev pub IsNotHeld : HoldPhase → Type 0
 IsNotHeld (hold.On u p c) = ⊥
@@ -92,7 +92,7 @@ IsResetAbove phase f = Unit {0}
 abbrev pub IsMatched : Ends → SideSeen → Type 0
 IsMatched e Idle = IsNotHeld e.phase
 IsMatched e Fresh = e.known ≡ e.restarts → IsResetAbove e.phase e.floor
-IsMatched e (Owns t place) = IsPaired e.phase e.last e.floor t place
+IsMatched e (Owns t connection) = IsPaired e.phase e.last e.floor t connection
 
 pub record AreEndsGood (e : Ends) : Type 0 where
   pub floor : e.floor ≤ e.drawn
@@ -156,7 +156,7 @@ IsAcceptGood phase o t = Unit {0}
 
 -- Busy, Released: not of the program that holds the device
 abbrev pub IsNotOwned : SideSeen → ℕ → Type 0
-IsNotOwned (Owns v place) t = v ≢ t
+IsNotOwned (Owns v connection) t = v ≢ t
 IsNotOwned o t = Unit {0}
 
 -- Back: of a connection that was drawn; where the unit asks for it, by its path
@@ -166,7 +166,7 @@ IsBackAt (Ask q d) p c = (c ≤ d) × (d ≡ c → p ≡ q)
 IsBackAt (Away d) p c = c ≤ d
 
 abbrev pub IsBackGood : SideSeen → ℕ → ℕ → ℕ → Type 0
-IsBackGood (Owns v place) p t c = v ≡ t → IsBackAt place p c
+IsBackGood (Owns v connection) p t c = v ≡ t → IsBackAt connection p c
 IsBackGood o p t c = Unit {0}
 
 abbrev pub IsUpGood : Ends → List ℕ → ℕ → Up → Type 0

@@ -98,7 +98,7 @@ unit_steps u (Reports report) = unit_reports u report
 -- the side that a signal is sent to: the one that is answered or told, else that of the program that holds the device
 abbrev pub is_owner_side : Own → Side → Bool
 is_owner_side own.Idle side = false
-is_owner_side (own.Owned k t place) side = same_side k side
+is_owner_side (own.Owned k t connection) side = same_side k side
 
 abbrev pub is_to : UnitState → UnitAct → Side → Bool
 is_to u (Takes_down k x may) side = same_side k side

@@ -79,10 +79,10 @@ fn target_fault(target: u32) -> Option<CcwFault>
 }
 
 /// The flag at a bit of a word.
-pub(crate) fn bit(word: u32, place: u32) -> bool
-    requires { place < 32 }
-    ensures number { bit_number result ≡ field_of word place place }
-    ensures test { result ≡ flag_of word place }
+pub(crate) fn bit(word: u32, index: u32) -> bool
+    requires { index < 32 }
+    ensures number { bit_number result ≡ field_of word index index }
+    ensures test { result ≡ flag_of word index }
 {
-    field(word, place, place) == 1
+    field(word, index, index) == 1
 }

@@ -19,20 +19,20 @@ use Rattle.ccw_walk.specs.Acts.{Act, Block, Unfetched, Used_up, End, Word}
 use Rattle.ccw_walk.specs.Blocks.{reads, block_reads, command_reads, transfer_reads, is_misplaced_command, format_of}
 use Rattle.ccw_walk.specs.Programs.{next as next_of, next_after, role_of, role_after, IsProgram}
 use Rattle.ccw_walk.specs.Advancing.{acts_from_next, acts_from_fetch, advance_of_act, advance_of_acts, with_tic_target, advance_of_ccw}
-use Rattle.ccw_walk.specs.Places.{WalkPlace, walk_place, after_act, after_acts, after_block}
+use Rattle.ccw_walk.specs.Positions.{WalkPosition, walk_position, after_act, after_acts, after_block}
 use Rattle.ccw_walk.specs.Fetching.{is_program_misplaced, fetch_act, act_of_fetch}
 
--- the place some acts further
-pub after-place : (orb : Orb) (before : Sequence Act) (act : Act) → after_act (walk_place orb before) act ≡ walk_place orb (before ▸ act)
-after-place orb before (Block address bytes) = refl
-after-place orb before (Unfetched address check) = refl
-after-place orb before Used_up = refl
-after-place orb before (End ended) = refl
-after-place orb before (Word word) = refl
+-- the position some acts further
+pub after-position : (orb : Orb) (before : Sequence Act) (act : Act) → after_act (walk_position orb before) act ≡ walk_position orb (before ▸ act)
+after-position orb before (Block address bytes) = refl
+after-position orb before (Unfetched address check) = refl
+after-position orb before Used_up = refl
+after-position orb before (End ended) = refl
+after-position orb before (Word word) = refl
 
-pub after_acts-place : (orb : Orb) (before acts : Sequence Act) → after_acts (walk_place orb before) acts ≡ walk_place orb (before ▸▸ acts)
-after_acts-place orb before Nothing = refl
-after_acts-place orb before (acts ▸ act) = ap (λ (p : WalkPlace). after_act p act) (after_acts-place orb before acts) ∙ after-place orb (before ▸▸ acts) act
+pub after_acts-position : (orb : Orb) (before acts : Sequence Act) → after_acts (walk_position orb before) acts ≡ walk_position orb (before ▸▸ acts)
+after_acts-position orb before Nothing = refl
+after_acts-position orb before (acts ▸ act) = ap (λ (p : WalkPosition). after_act p act) (after_acts-position orb before acts) ∙ after-position orb (before ▸▸ acts) act
 
 -- a block is fetched, or cannot be
 fetch_or_check : (P : Act → Type 0) (test : Bool) (address : ℕ) (answer : Result (List ℕ) StorageFault) → ((bytes : List ℕ) → P (Block address bytes)) → ((check : Check) → P (Unfetched address check))
@@ -45,7 +45,7 @@ fetch_cases : (P : Act → Type 0) (storage : Contents) (orb : Orb) (role : Role
 fetch_cases P storage orb role address b u = fetch_or_check P (role.first && is_program_misplaced orb address) address (fetched storage orb.key address 8) b u
 
 -- a transfer in channel is followed by the block at its target
-follows_block : (storage : Contents) (now : WalkPlace) (acts : Sequence Act) (address target : ℕ) (reading : Reading) → advance_of_ccw reading ≡ None → next_after address reading ≡ Some target
+follows_block : (storage : Contents) (now : WalkPosition) (acts : Sequence Act) (address target : ℕ) (reading : Reading) → advance_of_ccw reading ≡ None → next_after address reading ≡ Some target
     → with_tic_target storage now reading acts ≡ acts ▸ fetch_act storage now.orb now.role target
 follows_block storage now acts address target (Transfers other) h n =
     let same : other ≡ target = cc n in
@@ -54,7 +54,7 @@ follows_block storage now acts address target (Takes ccw) h n = absurd (cc h)
 follows_block storage now acts address target Suspends h n = absurd (cc h)
 follows_block storage now acts address target Shows h n = absurd (cc h)
 
-pub follows : (storage : Contents) (old : WalkPlace) (address target : ℕ) → let act = fetch_act storage old.orb old.role address in
+pub follows : (storage : Contents) (old : WalkPosition) (address target : ℕ) → let act = fetch_act storage old.orb old.role address in
     advance_of_act old act ≡ None → (after_act old act).next ≡ Some target → acts_from_fetch storage old act ≡ Nothing ▸ act ▸ fetch_act storage (after_act old act).orb (after_act old act).role target
 follows storage old address target =
     fetch_cases (λ act. advance_of_act old act ≡ None → (after_act old act).next ≡ Some target → acts_from_fetch storage old act ≡ Nothing ▸ act ▸ fetch_act storage (after_act old act).orb (after_act old act).role target) storage old.orb old.role address
@@ -88,31 +88,31 @@ reading_stands : (orb : Orb) (role : Role) (bytes : List ℕ) → role.after_tra
 reading_stands orb role bytes h =
     pick (role.first && orb.modified_words) Shows (block_reads orb role (fault_of (format_of orb) bytes) (ccw_of (format_of orb) bytes)) refl (block_stands orb role (fault_of (format_of orb) bytes) (ccw_of (format_of orb) bytes) h)
 
-act_stands : (storage : Contents) (old : WalkPlace) (address : ℕ) → old.role.after_transfer ≡ true → IsSome (advance_of_act old (fetch_act storage old.orb old.role address))
+act_stands : (storage : Contents) (old : WalkPosition) (address : ℕ) → old.role.after_transfer ≡ true → IsSome (advance_of_act old (fetch_act storage old.orb old.role address))
 act_stands storage old address h =
     fetch_cases (λ act. IsSome (advance_of_act old act)) storage old.orb old.role address (λ bytes. reading_stands old.orb old.role bytes h) (λ check. refl)
 
-target_stands : (storage : Contents) (old now : WalkPlace) (acts : Sequence Act) (reading : Reading) → now ≡ after_acts old acts → advance_of_acts old acts ≡ advance_of_ccw reading → (advance_of_ccw reading ≡ None → now.role.after_transfer ≡ true)
+target_stands : (storage : Contents) (old now : WalkPosition) (acts : Sequence Act) (reading : Reading) → now ≡ after_acts old acts → advance_of_acts old acts ≡ advance_of_ccw reading → (advance_of_ccw reading ≡ None → now.role.after_transfer ≡ true)
     → IsSome (advance_of_acts old (with_tic_target storage now reading acts))
 target_stands storage old now acts (Transfers target) n a t =
-    subst (λ (p : WalkPlace). IsSome (advance_of_act p (fetch_act storage now.orb now.role target))) n (act_stands storage now target (t refl))
+    subst (λ (p : WalkPosition). IsSome (advance_of_act p (fetch_act storage now.orb now.role target))) n (act_stands storage now target (t refl))
 target_stands storage old now acts (Takes ccw) n a t = subst (λ (x : Option Advance). IsSome x) (sym a) refl
 target_stands storage old now acts Suspends n a t = subst (λ (x : Option Advance). IsSome x) (sym a) refl
 target_stands storage old now acts Shows n a t = subst (λ (x : Option Advance). IsSome x) (sym a) refl
 
-pub advance_stands : (storage : Contents) (old : WalkPlace) (next : Option ℕ) → IsSome next → IsSome (advance_of_acts old (acts_from_next storage old next))
+pub advance_stands : (storage : Contents) (old : WalkPosition) (next : Option ℕ) → IsSome next → IsSome (advance_of_acts old (acts_from_next storage old next))
 advance_stands storage old None s = absurd (cc s)
 advance_stands storage old (Some address) s =
     fetch_cases (λ act. IsSome (advance_of_acts old (acts_from_fetch storage old act))) storage old.orb old.role address
     (λ bytes. target_stands storage old (after_block old address bytes) (Nothing ▸ Block address bytes) (reads old.orb old.role bytes) refl refl (λ h. role_moves (reads old.orb old.role bytes) old.role h))
     (λ check. refl)
 
-pub rests : (storage : Contents) (old : WalkPlace) (next : Option ℕ) → IsSome (advance_of_acts old (acts_from_next storage old next)) → IsSome next
+pub rests : (storage : Contents) (old : WalkPosition) (next : Option ℕ) → IsSome (advance_of_acts old (acts_from_next storage old next)) → IsSome next
 rests storage old None s = s
 rests storage old (Some address) s = refl
 
 -- each block is where what was done before says
-program_target : (storage : Contents) (orb : Orb) (now : WalkPlace) (acts before : Sequence Act) (reading : Reading) → IsProgram orb (before ▸▸ acts)
+program_target : (storage : Contents) (orb : Orb) (now : WalkPosition) (acts before : Sequence Act) (reading : Reading) → IsProgram orb (before ▸▸ acts)
     → ((target : ℕ) → reading ≡ Transfers target → next_of orb (before ▸▸ acts) ≡ Some target) → IsProgram orb (before ▸▸ with_tic_target storage now reading acts)
 program_target storage orb now acts before (Transfers target) p n =
     fetch_cases (λ act. IsProgram orb ((before ▸▸ acts) ▸ act)) storage now.orb now.role target (λ bytes. (n target refl, p)) (λ check. (n target refl, p))
@@ -120,11 +120,11 @@ program_target storage orb now acts before (Takes ccw) p n = p
 program_target storage orb now acts before Suspends p n = p
 program_target storage orb now acts before Shows p n = p
 
-pub program_advance : (storage : Contents) (orb : Orb) (before : Sequence Act) (next : Option ℕ) → next_of orb before ≡ next → IsProgram orb before → IsProgram orb (before ▸▸ acts_from_next storage (walk_place orb before) next)
+pub program_advance : (storage : Contents) (orb : Orb) (before : Sequence Act) (next : Option ℕ) → next_of orb before ≡ next → IsProgram orb before → IsProgram orb (before ▸▸ acts_from_next storage (walk_position orb before) next)
 program_advance storage orb before None e p = p
 program_advance storage orb before (Some address) e p =
-    fetch_cases (λ act. IsProgram orb (before ▸▸ acts_from_fetch storage (walk_place orb before) act)) storage orb (role_of orb before) address
+    fetch_cases (λ act. IsProgram orb (before ▸▸ acts_from_fetch storage (walk_position orb before) act)) storage orb (role_of orb before) address
     (λ bytes.
-    program_target storage orb (after_block (walk_place orb before) address bytes) (Nothing ▸ Block address bytes) before (reads orb (role_of orb before) bytes) (e, p)
+    program_target storage orb (after_block (walk_position orb before) address bytes) (Nothing ▸ Block address bytes) before (reads orb (role_of orb before) bytes) (e, p)
     (λ target h. ap (next_after address) h))
     (λ check. (e, p))

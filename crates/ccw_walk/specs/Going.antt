@@ -5,11 +5,11 @@ use Rattle.ccw_walk.specs.declared.program.Reading.{Reading}
 use Rattle.ccw_walk.specs.declared.program.Reading.TheVariants.{Transfers}
 use Rattle.ccw_walk.specs.Sequences.{Sequence, ◌▸▸◌}
 use Rattle.ccw_walk.specs.Acts.{Act}
-use Rattle.ccw_walk.specs.Places.{WalkPlace, walk_place}
+use Rattle.ccw_walk.specs.Positions.{WalkPosition, walk_position}
 
--- wherever what was done before led to the old place, some acts more lead to the new one
-abbrev pub GoesOn : WalkPlace → Sequence Act → WalkPlace → Type 0
-GoesOn old acts new = (orb : Orb) (before : Sequence Act) → old ≡ walk_place orb before → new ≡ walk_place orb (before ▸▸ acts)
+-- wherever what was done before led to the old position, some acts more lead to the new one
+abbrev pub GoesOn : WalkPosition → Sequence Act → WalkPosition → Type 0
+GoesOn old acts new = (orb : Orb) (before : Sequence Act) → old ≡ walk_position orb before → new ≡ walk_position orb (before ▸▸ acts)
 
 -- the target of a transfer in channel has 31 bits
 abbrev pub IsTargetInRange : Reading → Type 0

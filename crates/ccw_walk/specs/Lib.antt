@@ -3,7 +3,7 @@ pub mod Blocks
 pub mod Sequences
 pub mod Acts
 pub mod Programs
-pub mod Places
+pub mod Positions
 pub mod Fetching
 pub mod Advancing
 pub mod Going

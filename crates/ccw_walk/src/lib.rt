@@ -5,7 +5,7 @@ ghost use Rattle.std.specs.Prelude.{◌≡◌, ◌+◌, ◌<◌, ◌^◌, ◌↔
 ghost use Rattle.ccw_walk.specs.Sequences.{Nothing, ◌▸◌};
 ghost use Rattle.ccw_walk.specs.Acts.{Block, Unfetched, Used_up, End};
 ghost use Rattle.ccw_walk.specs.Blocks.{reads};
-ghost use Rattle.ccw_walk.specs.Places.{walk_place, after_act, after_acts};
+ghost use Rattle.ccw_walk.specs.Positions.{walk_position, after_act, after_acts};
 ghost use Rattle.ccw_walk.specs.Fetching.{fetch_act};
 ghost use Rattle.ccw_walk.specs.Advancing.{advance_acts, advance_of_act, advance_of_acts};
 ghost use Rattle.ccw_walk.specs.Fetching as fetching;
@@ -18,7 +18,7 @@ pub mod program;
 mod reading;
 
 use crate::check::Check;
-use crate::law::{advances, places};
+use crate::law::{advances, positions};
 use crate::program::{Advance, Ended, Latest, Reading, Role};
 use orb_block::Orb;
 use reading::reading;
@@ -40,9 +40,9 @@ pub struct Walk {
 
 impl Model for Walk {
     ghost use Rattle.std.specs.Prelude.{◌+◌, ◌<◌, ◌^◌, IfSome};
-    ghost use Rattle.ccw_walk.specs.Places.{WalkPlace};
+    ghost use Rattle.ccw_walk.specs.Positions.{WalkPosition};
 
-    ghost Value = { WalkPlace };
+    ghost Value = { WalkPosition };
 
     ghost view = { λ w. record { orb = w.orb; role = w.role; latest = w.latest; next = w.next; tried = w.tried } };
 
@@ -54,7 +54,7 @@ impl Model for Walk {
 impl Walk {
     /// A program of which nothing was fetched: its first block is next.
     pub fn start(orb: Orb) -> Walk
-        ensures { result ≡ walk_place orb Nothing }
+        ensures { result ≡ walk_position orb Nothing }
     {
         Walk {
             orb,
@@ -185,7 +185,7 @@ impl Walk {
         ensures after { self.new ≡ after_acts self.old (advance_acts storage.now self.old) }
         ensures goes_on { GoesOn self.old (advance_acts storage.now self.old) self.new }
     {
-        places();
+        positions();
         advances();
         let address = self.next?;
         if let Some(advance) = self.step(storage, address) {

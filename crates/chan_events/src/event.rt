@@ -202,60 +202,60 @@ impl Event {
     }
 
     /// Writes it there, its bytes standing elsewhere.
-    pub fn keep_in(&self, place: &mut KeptEvent)
-        ensures kept { (rest : List ℕ) → spec.event_in place.new (spec.event_bytes self.now ++ rest) ≡ self.now }
-        ensures length { spec.event_length place.new ≡ length (spec.event_bytes self.now) }
+    pub fn keep_in(&self, slot: &mut KeptEvent)
+        ensures kept { (rest : List ℕ) → spec.event_in slot.new (spec.event_bytes self.now ++ rest) ≡ self.now }
+        ensures length { spec.event_length slot.new ≡ length (spec.event_bytes self.now) }
         ensures bound { length (spec.event_bytes self.now) ≤ 256 }
     {
         match self {
-            Event::Put { address, bytes } => *place = Event::Put {
+            Event::Put { address, bytes } => *slot = Event::Put {
                 address: *address,
                 bytes: bytes.length(),
             },
-            Event::SetKey { address, key } => *place = Event::SetKey {
+            Event::SetKey { address, key } => *slot = Event::SetKey {
                 address: *address,
                 key: *key,
             },
-            Event::SetPrefix { cpu, address } => *place = Event::SetPrefix {
+            Event::SetPrefix { cpu, address } => *slot = Event::SetPrefix {
                 cpu: *cpu,
                 address: *address,
             },
-            Event::Show { address, length } => *place = Event::Show {
+            Event::Show { address, length } => *slot = Event::Show {
                 address: *address,
                 length: *length,
             },
-            Event::Execute { cpu, instruction } => *place = Event::Execute {
+            Event::Execute { cpu, instruction } => *slot = Event::Execute {
                 cpu: *cpu,
                 instruction: *instruction,
             },
-            Event::ExecuteOther { cpu, instruction } => *place = Event::ExecuteOther {
+            Event::ExecuteOther { cpu, instruction } => *slot = Event::ExecuteOther {
                 cpu: *cpu,
                 instruction: *instruction,
             },
-            Event::Choose { subchannel } => *place = Event::Choose {
+            Event::Choose { subchannel } => *slot = Event::Choose {
                 subchannel: *subchannel,
             },
-            Event::Up { subchannel, path } => *place = Event::Up {
-                subchannel: *subchannel,
-                path: *path,
-            },
-            Event::Down { subchannel, path } => *place = Event::Down {
+            Event::Up { subchannel, path } => *slot = Event::Up {
                 subchannel: *subchannel,
                 path: *path,
             },
-            Event::Report { unit, report } => *place = Event::Report {
+            Event::Down { subchannel, path } => *slot = Event::Down {
+                subchannel: *subchannel,
+                path: *path,
+            },
+            Event::Report { unit, report } => *slot = Event::Report {
                 unit: *unit,
                 report: report.keep(),
             },
-            Event::Act { unit, act } => *place = Event::Act {
+            Event::Act { unit, act } => *slot = Event::Act {
                 unit: *unit,
                 act: *act,
             },
-            Event::Restart { unit } => *place = Event::Restart { unit: *unit },
-            Event::PathDown { chpid } => *place = Event::PathDown { chpid: *chpid },
-            Event::PathUp { chpid } => *place = Event::PathUp { chpid: *chpid },
-            Event::PathReset { chpid } => *place = Event::PathReset { chpid: *chpid },
-            Event::SystemReset => *place = Event::SystemReset,
+            Event::Restart { unit } => *slot = Event::Restart { unit: *unit },
+            Event::PathDown { chpid } => *slot = Event::PathDown { chpid: *chpid },
+            Event::PathUp { chpid } => *slot = Event::PathUp { chpid: *chpid },
+            Event::PathReset { chpid } => *slot = Event::PathReset { chpid: *chpid },
+            Event::SystemReset => *slot = Event::SystemReset,
         }
     }
 

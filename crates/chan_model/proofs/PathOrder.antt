@@ -7,9 +7,9 @@ use Rattle.std.proofs.lemmas.Bool.{agree_below, agree_below_at, and_parts, eqb-t
 use Rattle.chan_model.specs.PathSets.{cyclic_path, members, paths_of_mask}
 use Rattle.chan_model.proofs.PathMasks.{each-below-8}
 
--- the path of a place, or none where there is no such path
+-- the path of an index, or none where there is no such path
 abbrev pub path_at : ℕ → Option ℕ
-path_at place = if nat_lt place 8 then Some place else None
+path_at index = if nat_lt index 8 then Some index else None
 
 same_path : Option ℕ → Option ℕ → Bool
 same_path None None = true
@@ -39,13 +39,13 @@ paths-equal (a ∷ rest) (b ∷ bs) e = let both = and_parts (a == b) (same_path
 
 -- a test of each mask of a byte, by blocks of 32
 abbrev IsTrueIn : (ℕ → Bool) → ℕ → Type 0
-IsTrueIn test block = agree_below (λ place. test (32 * block + place)) (λ place. true) 32 ≡ true
+IsTrueIn test block = agree_below (λ index. test (32 * block + index)) (λ index. true) 32 ≡ true
 
 every-byte : (test : ℕ → Bool) → ((block : ℕ) → block < 8 → IsTrueIn test block) → (byte : ℕ) → byte < 256 → test byte ≡ true
 every-byte test blocks byte fits =
     let block : byte / 32 < 8 = omega (arith, fits) in
     let parts : 32 * (byte / 32) + byte % 32 ≡ byte = omega arith in
-    ap test (sym parts) ∙ agree_below_at (λ place. test (32 * (byte / 32) + place)) (λ place. true) 32 (byte % 32) (blocks (byte / 32) block) (omega arith)
+    ap test (sym parts) ∙ agree_below_at (λ index. test (32 * (byte / 32) + index)) (λ index. true) 32 (byte % 32) (blocks (byte / 32) block) (omega arith)
 
 -- the bits of a path and of those that follow it, or all where none of these is one
 abbrev pub later_or_all : ℕ → ℕ → ℕ
@@ -72,15 +72,15 @@ pub first-is : (mask first : ℕ) → mask < 256 → first < 8 → path_at (coun
 first-is mask first fits small =
     path-equal _ _ (every-byte (is_first first) (all-first first small) mask fits)
 
-on-at : (place : ℕ) → place < 8 → nat_lt place 8 ≡ true
-on-at place small = lt-ltb place 8 small
+on-at : (index : ℕ) → index < 8 → nat_lt index 8 ≡ true
+on-at index small = lt-ltb index 8 small
 
-off-at : (place : ℕ) → (IsSome {T = ℕ} None ↔ (place < 8)) → nat_lt place 8 ≡ false
-off-at place found = false_from_ne_true (nat_lt place 8) (λ e. true≢false (sym (found.1 (ltb-true place 8 e))))
+off-at : (index : ℕ) → (IsSome {T = ℕ} None ↔ (index < 8)) → nat_lt index 8 ≡ false
+off-at index found = false_from_ne_true (nat_lt index 8) (λ e. true≢false (sym (found.1 (ltb-true index 8 e))))
 
-pub path-made : (path : Option ℕ) (place : ℕ) → (IsSome path ↔ (place < 8)) → IfSome path (λ p. p ≡ place) → path ≡ path_at place
-path-made None place found same = ap (λ (b : Bool). if b then Some place else None) (sym (off-at place found))
-path-made (Some path) place found same = ap Some same ∙ ap (λ (b : Bool). if b then Some place else None) (sym (on-at place (found.0 refl)))
+pub path-made : (path : Option ℕ) (index : ℕ) → (IsSome path ↔ (index < 8)) → IfSome path (λ p. p ≡ index) → path ≡ path_at index
+path-made None index found same = ap (λ (b : Bool). if b then Some index else None) (sym (off-at index found))
+path-made (Some path) index found same = ap Some same ∙ ap (λ (b : Bool). if b then Some index else None) (sym (on-at index (found.0 refl)))
 
 pub later-is : (mask first : ℕ) → (bit_and mask (255 / 2 ^ first) ≡ 0 → ⊥) → later_or_all mask first ≡ bit_and mask (255 / 2 ^ first)
 later-is mask first some =

@@ -7,12 +7,12 @@ use Rattle.chan_model.specs.declared.unit_state.Own.{Own}
 use Rattle.chan_model.specs.declared.unit_state.Own.TheVariants.{Idle, Owned}
 use Rattle.chan_model.specs.declared.unit_state.SideState.{SideState}
 use Rattle.chan_model.specs.Sides.{same_side}
-use Rattle.chan_model.specs.UnitTable.{path_of_place}
+use Rattle.chan_model.specs.UnitTable.{path_of_connection}
 
 -- the number of the program of this side that holds the device
 abbrev pub owner_of : Own → Side → Option ℕ
 owner_of Idle side = None
-owner_of (Owned k t place) side = if same_side k side then Some t else None
+owner_of (Owned k t connection) side = if same_side k side then Some t else None
 
 -- where the hold is held by a program, so is the device, and by the same; where the device is held by one, the hold
 -- offers it, is held by it, or lets it go
@@ -39,4 +39,4 @@ moving_path phase = None
 -- the path that moves data at the device, of this side
 abbrev pub device_path : Own → Side → Option ℕ
 device_path Idle side = None
-device_path (Owned k t place) side = if same_side k side then path_of_place place else None
+device_path (Owned k t connection) side = if same_side k side then path_of_connection connection else None

@@ -126,6 +126,6 @@ abbrev pub hold_after : HoldState → Option HoldStep → HoldState
 hold_after h None = h
 hold_after h (Some step) = step.state
 
-abbrev pub came_of : Option HoldStep → Taken Down
-came_of None = record { taken = false; sent = None }
-came_of (Some step) = record { taken = true; sent = step.sent }
+abbrev pub outcome_of : Option HoldStep → Taken Down
+outcome_of None = record { taken = false; sent = None }
+outcome_of (Some step) = record { taken = true; sent = step.sent }

@@ -64,7 +64,7 @@ abbrev pub put_before : Bool → ℕ → List ℕ → List ℕ
 put_before true path paths = path ∷ paths
 put_before false path paths = paths
 
--- the paths of a set in order of path numbers, of which the first place of the set is this one
+-- the paths of a set in order of path numbers, of which the first index of the set is this one
 abbrev pub members_from : ℕ → List Bool → List ℕ
 members_from path [] = []
 members_from path (is_in ∷ set) = put_before is_in path (members_from (path + 1) set)

@@ -68,7 +68,7 @@ map_sent f None = None
 map_sent f (Some sent) = Some (record { path = sent.path; signal = f sent.signal })
 
 abbrev pub map_taken : {A B : Type 0} → (A → B) → Taken A → Taken B
-map_taken f came = record { taken = came.taken; sent = map_sent f came.sent }
+map_taken f outcome = record { taken = outcome.taken; sent = map_sent f outcome.sent }
 
 -- bytes that are lent, as a list, and a load of them
 abbrev pub lent : Bytes → List ℕ

@@ -96,13 +96,13 @@ work_at u side t x progress.Working = if u.halted then calling u side t x call.F
 work_at u side t x progress.ChannelEnded = calling u side t x call.Finish
 work_at u side t x progress.Ended = None
 
-abbrev pub work_of_place : UnitState → Side → ℕ → Connection → Option CurrentCommand → Option Work
-work_of_place u side t (On p c) (Some x) = work_at u side t x x.progress
-work_of_place u side t place at_hand = None
+abbrev pub work_of_connection : UnitState → Side → ℕ → Connection → Option CurrentCommand → Option Work
+work_of_connection u side t (On p c) (Some x) = work_at u side t x x.progress
+work_of_connection u side t connection current = None
 
 abbrev pub work_of_owner : UnitState → Own → Option Work
 work_of_owner u Idle = None
-work_of_owner u (Owned side t place) = work_of_place u side t place u.at_hand
+work_of_owner u (Owned side t connection) = work_of_connection u side t connection u.current
 
 -- What the unit has to do next while its program is connected: a call of the device, or a report without a call.
 abbrev pub unit_work : UnitState → Option Work
@@ -122,7 +122,7 @@ may_end halted x progress.Ended status more = false
 
 -- the Data of the last chunk of a command
 abbrev pub data_sent : UnitState → ℕ → ℕ → ℕ → CurrentCommand → Load → Option UnitStep
-data_sent u p t c x load = sends (record u { at_hand = Some x }) p (up.Data load t c u.last_command x.sequence)
+data_sent u p t c x load = sends (record u { current = Some x }) p (up.Data load t c u.last_command x.sequence)
 
 -- the bytes that a write took, so many, to be answered with the next report
 abbrev pub with_absorbed : CurrentCommand → ℕ → CurrentCommand
@@ -141,7 +141,7 @@ sent_again u p t c x unanswered = option_and_then (λ load. if x.again then data
 abbrev pub command_begun : UnitState → ℕ → ℕ → ℕ → CurrentCommand → Option UnitStep
 command_begun u p t c x =
     if is_outward x.code then data_sent u p t c (with_absorbed x 0) (load.Absorbed 0)
-    else changes (record u { at_hand = Some (record x { progress = progress.Working }) })
+    else changes (record u { current = Some (record x { progress = progress.Working }) })
 
 -- the next chunk of a read: no more bytes than are asked for
 abbrev pub with_supplied : CurrentCommand → List ℕ → CurrentCommand
@@ -161,7 +161,7 @@ progress_after_end status = if is_last_end status then progress.Ended else progr
 
 abbrev pub end_sent : UnitState → ℕ → ℕ → CurrentCommand → DeviceStatus → Bool → Option UnitStep
 end_sent u p t x status more =
-    sends (record u { at_hand = Some (record x { progress = progress_after_end status }) }) p (up.End t u.last_command status more)
+    sends (record u { current = Some (record x { progress = progress_after_end status }) }) p (up.End t u.last_command status more)
 
 -- an answer of the device, at each progress of the command at hand
 abbrev pub answer_taken : UnitState → ℕ → ℕ → ℕ → CurrentCommand → Progress → DeviceAnswer → Option UnitStep
@@ -174,12 +174,12 @@ answer_taken u p t c x at answer = None
 
 abbrev pub report_on : UnitState → ℕ → Connection → Option CurrentCommand → Report → Option UnitStep
 report_on u t (On p c) (Some x) r = if r.sequence == x.sequence then answer_taken u p t c x x.progress r.answer else None
-report_on u t place at_hand r = None
+report_on u t connection current r = None
 
 abbrev pub report_of : UnitState → Own → Report → Option UnitStep
 report_of u Idle r = None
-report_of u (Owned k t place) r =
-    if same_side k r.side && ((r.number == t) && (r.command == u.last_command)) then report_on u t place u.at_hand r else None
+report_of u (Owned k t connection) r =
+    if same_side k r.side && ((r.number == t) && (r.command == u.last_command)) then report_on u t connection u.current r else None
 
 -- What the unit does with a report; None where it is stale or against the law of devices.
 abbrev pub unit_reports : UnitState → Report → Option UnitStep

@@ -39,7 +39,7 @@ abbrev pub quiet_side : SideState
 quiet_side = record { floor = 0; fresh = false }
 
 abbrev pub idle_unit : UnitState
-idle_unit = record { restarts = 0; first = quiet_side; second = quiet_side; own = Idle; last_command = 0; at_hand = None; halted = false; attentions = 0; attention = None; end_owed = false }
+idle_unit = record { restarts = 0; first = quiet_side; second = quiet_side; own = Idle; last_command = 0; current = None; halted = false; attentions = 0; attention = None; end_owed = false }
 
 -- what is kept of one side
 abbrev pub side_of : UnitState → Side → SideState
@@ -53,29 +53,29 @@ with_side u Second s = record u { second = s }
 -- the device is held by the program of this side and number
 abbrev pub is_owner : Own → Side → ℕ → Bool
 is_owner Idle side t = false
-is_owner (Owned k u place) side t = same_side k side && (t == u)
+is_owner (Owned k u connection) side t = same_side k side && (t == u)
 
 -- the device is held by a program of this side
 abbrev pub owns : Own → Side → Bool
 owns Idle side = false
-owns (Owned k u place) side = same_side k side
+owns (Owned k u connection) side = same_side k side
 
 -- the program is connected by this connection
-abbrev pub is_place_on : Connection → ℕ → Bool
-is_place_on place c = elim place [ On p d ↦ c == d | other ↦ false ]
+abbrev pub is_connected_on : Connection → ℕ → Bool
+is_connected_on connection c = elim connection [ On p d ↦ c == d | other ↦ false ]
 
 -- the path by which it is connected, where it is
-abbrev pub path_of_place : Connection → Option ℕ
-path_of_place place = elim place [ On p c ↦ Some p | other ↦ None ]
+abbrev pub path_of_connection : Connection → Option ℕ
+path_of_connection connection = elim connection [ On p c ↦ Some p | other ↦ None ]
 
 -- the program of this side and number is connected by this connection
 abbrev pub is_owner_on : Own → Side → ℕ → ℕ → Bool
 is_owner_on Idle side t c = false
-is_owner_on (Owned k u place) side t c = (same_side k side && (t == u)) && is_place_on place c
+is_owner_on (Owned k u connection) side t c = (same_side k side && (t == u)) && is_connected_on connection c
 
 -- the device is let go, and its command forgotten
 abbrev pub freed : UnitState → UnitState
-freed u = record u { own = Idle; last_command = 0; at_hand = None; halted = false }
+freed u = record u { own = Idle; last_command = 0; current = None; halted = false }
 
 -- the device is held by the program of this side and number, which is connected by its first connection on this path
 abbrev pub held : UnitState → Side → ℕ → ℕ → UnitState
@@ -88,7 +88,7 @@ raised u side t = with_side u side (record (side_of u side) { floor = t })
 
 abbrev pub selected : UnitState → Own → Side → ℕ → ℕ → Bool → Option UnitStep
 selected u Idle side p t may_serve = if may_serve then sends (held u side t p) p (up.Accept t) else sends u p (up.Busy t)
-selected u (Owned k v place) side p t may_serve = sends u p (up.Busy t)
+selected u (Owned k v connection) side p t may_serve = sends u p (up.Busy t)
 
 -- Command: the next of the program that holds the device
 abbrev pub new_command : ℕ → ℕ → CurrentCommand
@@ -97,7 +97,7 @@ new_command code room = record { code = code; room = room; progress = New; seque
 abbrev pub commanded : UnitState → Side → ℕ → ℕ → ℕ → ℕ → Option UnitStep
 commanded u side t n code room =
     if is_owner u.own side t && (n == u.last_command + 1)
-    then changes (record u { last_command = n; at_hand = Some (new_command code room) })
+    then changes (record u { last_command = n; current = Some (new_command code room) })
     else None
 
 -- Give: the next chunk of the command at hand; no bytes stop the transfer
@@ -110,19 +110,19 @@ with_given x s bytes =
 
 abbrev pub given_next : UnitState → Option CurrentCommand → ℕ → List ℕ → Option UnitStep
 given_next u None s bytes = None
-given_next u (Some x) s bytes = if s == x.sequence + 1 then changes (record u { at_hand = Some (with_given x s bytes) }) else None
+given_next u (Some x) s bytes = if s == x.sequence + 1 then changes (record u { current = Some (with_given x s bytes) }) else None
 
 abbrev pub given : UnitState → Side → ℕ → ℕ → ℕ → ℕ → List ℕ → Option UnitStep
 given u side t c n s bytes =
-    if is_owner_on u.own side t c && (n == u.last_command) then given_next u u.at_hand s bytes else None
+    if is_owner_on u.own side t c && (n == u.last_command) then given_next u u.current s bytes else None
 
 -- Took: the last Data is answered; no room, or fewer bytes than were asked for, stop the transfer
-abbrev pub at_hand_answered : CurrentCommand → Load → ℕ → CurrentCommand
-at_hand_answered x load room = record x { unanswered = None; again = false; room = room; stopped = x.stopped || ((room == 0) || nat_lt (load_length load) x.asked) }
+abbrev pub current_answered : CurrentCommand → Load → ℕ → CurrentCommand
+current_answered x load room = record x { unanswered = None; again = false; room = room; stopped = x.stopped || ((room == 0) || nat_lt (load_length load) x.asked) }
 
 abbrev pub answered_load : UnitState → CurrentCommand → Option Load → ℕ → Option UnitStep
 answered_load u x None room = None
-answered_load u x (Some load) room = changes (record u { at_hand = Some (at_hand_answered x load room) })
+answered_load u x (Some load) room = changes (record u { current = Some (current_answered x load room) })
 
 abbrev pub answered_last : UnitState → Option CurrentCommand → ℕ → ℕ → Option UnitStep
 answered_last u None s room = None
@@ -138,16 +138,16 @@ granted_at u side t (Away d) p c = if nat_lt c d then sends u p (up.Leave t c) e
 
 abbrev pub granted : UnitState → Own → Side → ℕ → ℕ → ℕ → Option UnitStep
 granted u Idle side p t c = None
-granted u (Owned k v place) side p t c = if same_side k side && (t == v) then granted_at u k v place p c else None
+granted u (Owned k v connection) side p t c = if same_side k side && (t == v) then granted_at u k v connection p c else None
 
 -- Refuse: of the connection asked for
 abbrev pub grant_refused_at : UnitState → Side → ℕ → Connection → ℕ → Option UnitStep
 grant_refused_at u side t (Ask q d) c = if c == d then changes (record u { own = Owned side t (Away d) }) else None
-grant_refused_at u side t place c = None
+grant_refused_at u side t connection c = None
 
 abbrev pub grant_refused : UnitState → Own → Side → ℕ → ℕ → Option UnitStep
 grant_refused u Idle side t c = None
-grant_refused u (Owned k v place) side t c = if same_side k side && (t == v) then grant_refused_at u k v place c else None
+grant_refused u (Owned k v connection) side t c = if same_side k side && (t == v) then grant_refused_at u k v connection c else None
 
 -- Halt: of the program that holds the device, once
 abbrev pub unit_halting : UnitState → Side → ℕ → Option UnitStep
@@ -189,7 +189,7 @@ unit_works u side p (down.Command t n code room) may = commanded u side t n code
 unit_works u side p (down.Grant t c) may = granted u u.own side p t c
 unit_works u side p (down.Refuse t c) may = grant_refused u u.own side t c
 unit_works u side p (down.Took t n s room) may =
-    if is_owner u.own side t && (n == u.last_command) then answered_last u u.at_hand s room else None
+    if is_owner u.own side t && (n == u.last_command) then answered_last u u.current s room else None
 unit_works u side p (down.Give bytes t c n s) may = given u side t c n s bytes
 unit_works u side p (down.Halt t) may = unit_halting u side t
 unit_works u side p (down.Release t) may = releasing u side p t
@@ -207,9 +207,9 @@ abbrev pub unit_after : UnitState → Option UnitStep → UnitState
 unit_after u None = u
 unit_after u (Some step) = step.state
 
-abbrev pub came_of : Option UnitStep → Taken Up
-came_of None = record { taken = false; sent = None }
-came_of (Some step) = record { taken = true; sent = step.sent }
+abbrev pub outcome_of : Option UnitStep → Taken Up
+outcome_of None = record { taken = false; sent = None }
+outcome_of (Some step) = record { taken = true; sent = step.sent }
 
 -- Acts of the unit. Leave: the program that is connected works on without the path; a Data that is not answered will be
 -- sent again.
@@ -218,12 +218,12 @@ marked_again None = None
 marked_again (Some x) = Some (record x { again = x.again || is_some x.unanswered })
 
 abbrev pub leaving_from : UnitState → Side → ℕ → Connection → Option UnitStep
-leaving_from u side t (On p c) = sends (record u { own = Owned side t (Away c); at_hand = marked_again u.at_hand }) p (up.Leave t c)
-leaving_from u side t place = None
+leaving_from u side t (On p c) = sends (record u { own = Owned side t (Away c); current = marked_again u.current }) p (up.Leave t c)
+leaving_from u side t connection = None
 
 abbrev pub leaving : UnitState → Own → Option UnitStep
 leaving u Idle = None
-leaving u (Owned side t place) = leaving_from u side t place
+leaving u (Owned side t connection) = leaving_from u side t connection
 
 -- Ask: for a path, under the next connection number
 abbrev pub asking_from : UnitState → Side → ℕ → Connection → ℕ → Option UnitStep
@@ -233,12 +233,12 @@ asking_from u side t (Away c) p = sends (record u { own = Owned side t (Ask p (c
 
 abbrev pub asking : UnitState → Own → ℕ → Option UnitStep
 asking u Idle p = None
-asking u (Owned side t place) p = asking_from u side t place p
+asking u (Owned side t connection) p = asking_from u side t connection p
 
 -- Attention: of an idle unit, on a side that is not fresh; its status is attention, or control-unit end where one is owed
 abbrev pub is_idle : Own → Bool
 is_idle Idle = true
-is_idle (Owned side t place) = false
+is_idle (Owned side t connection) = false
 
 abbrev pub attention_status : Bool → DeviceStatus
 attention_status owed = record { 0 = if owed then bit.control_unit_end else bit.attention }

@@ -1,4 +1,4 @@
-//! A place for one signal.
+//! A slot for one signal.
 
 ghost use Rattle.std.specs.Prelude.{◌≡◌, ◌≤◌, ◌++◌, drop, length};
 ghost use Rattle.chan_model.specs.Lent.{lent_down, lent_up};
@@ -9,17 +9,17 @@ use crate::signal::{Down, KeptDown, KeptUp, Up};
 use std::marker::Model;
 
 /// Writes bytes to the front; what stands behind them stays. Most signals have none.
-pub fn put_bytes(place: &mut [u8; CHUNK_BYTES], bytes: &[u8])
+pub fn put_bytes(slot: &mut [u8; CHUNK_BYTES], bytes: &[u8])
     requires { length bytes.now ≤ 256 }
-    ensures { place.new ≡ bytes.now ++ drop (length bytes.now) place.old }
+    ensures { slot.new ≡ bytes.now ++ drop (length bytes.now) slot.old }
 {
     match bytes {
         [] => {}
-        [_, ..] => place[..bytes.len()].copy_from_slice(bytes),
+        [_, ..] => slot[..bytes.len()].copy_from_slice(bytes),
     }
 }
 
-/// A place for a signal down: its numbers, and room for its bytes.
+/// A slot for a signal down: its numbers, and room for its bytes.
 #[derive(Drop)]
 pub struct DownSlot {
     kept: KeptDown,
@@ -35,7 +35,7 @@ impl Model for DownSlot {
 }
 
 impl DownSlot {
-    /// A place, with a signal that no one sent.
+    /// A slot, with a signal that no one sent.
     pub fn new() -> Self {
         DownSlot {
             kept: Down::Select { number: 0 },
@@ -60,7 +60,7 @@ impl DownSlot {
     }
 }
 
-/// A place for a signal up.
+/// A slot for a signal up.
 #[derive(Drop)]
 pub struct UpSlot {
     kept: KeptUp,
@@ -76,7 +76,7 @@ impl Model for UpSlot {
 }
 
 impl UpSlot {
-    /// A place, with a signal that no one sent.
+    /// A slot, with a signal that no one sent.
     pub fn new() -> Self {
         UpSlot {
             kept: Up::Accept { number: 0 },

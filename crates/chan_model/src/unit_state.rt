@@ -25,7 +25,7 @@ pub enum Own {
     Owned {
         side: Side,
         number: u64,
-        place: Connection,
+        connection: Connection,
     },
 }
 
@@ -89,7 +89,7 @@ pub struct UnitState {
     pub own: Own,
     /// The number of the last command of the program that holds it.
     pub last_command: u64,
-    pub at_hand: Option<CurrentCommand>,
+    pub current: Option<CurrentCommand>,
     /// The program is to end.
     pub halted: bool,
     /// How many attentions were drawn.
@@ -129,7 +129,7 @@ impl UnitState {
             second: self.second,
             own: self.own,
             last_command: self.last_command,
-            at_hand: copy_at_hand(&self.at_hand),
+            current: copy_current(&self.current),
             halted: self.halted,
             attentions: self.attentions,
             attention: self.attention,
@@ -159,11 +159,11 @@ fn copy_chunk(chunk: &Option<Chunk>) -> Option<Chunk>
 }
 
 /// The same command, where there is one.
-fn copy_at_hand(at_hand: &Option<CurrentCommand>) -> Option<CurrentCommand>
-    ensures { result ≡ at_hand.now }
+fn copy_current(current: &Option<CurrentCommand>) -> Option<CurrentCommand>
+    ensures { result ≡ current.now }
 {
-    match at_hand {
-        Some(at_hand) => Some(at_hand.copy()),
+    match current {
+        Some(current) => Some(current.copy()),
         None => None,
     }
 }

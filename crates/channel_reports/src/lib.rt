@@ -168,7 +168,7 @@ impl Reports {
     fn keep(&mut self, path: u8, asked: bool)
         ensures { self.new ≡ spec.with_asked self.old path asked }
     {
-        let place = usize::from(path);
-        self.asked[place] = asked;
+        let index = usize::from(path);
+        self.asked[index] = asked;
     }
 }

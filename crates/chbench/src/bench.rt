@@ -36,9 +36,9 @@ pub struct Count {
     pub cleared: u64,
 }
 
-/// The subsystem-identification word of the subchannel of this place.
-pub fn word_of(place: u32) -> u32 {
-    0x0001_0000 | ((place >> 8) << 17) | (place & 0xFF)
+/// The subsystem-identification word of the subchannel of this index.
+pub fn word_of(index: u32) -> u32 {
+    0x0001_0000 | ((index >> 8) << 17) | (index & 0xFF)
 }
 
 /// So many subchannels, 1 to 1,024, with so many paths, each with a unit of its own. None where there are not so many.
@@ -53,9 +53,9 @@ pub fn config_of(alloc: Global, subchannels: u32, paths: usize) -> Option<Config
     for chpid in chpids {
         let _ = config.path(*chpid);
     }
-    for place in 0..subchannels {
-        let _ = config.unit(place, UnitKind::Block);
-        let _ = config.subchannel(word_of(place), place & 0xFFFF, place, chpids);
+    for index in 0..subchannels {
+        let _ = config.unit(index, UnitKind::Block);
+        let _ = config.subchannel(word_of(index), index & 0xFFFF, index, chpids);
     }
     Some(config)
 }

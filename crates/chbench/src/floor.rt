@@ -27,16 +27,16 @@ pub trait Floor {
     fn subsystem(&self) -> &Subsystem<Rotating>;
 }
 
-/// The event of a report, in a place that is made once.
+/// The event of a report, in an index that is made once.
 #[derive(Drop)]
-pub struct ReportPlace {
+pub struct ReportSlot {
     event: Event,
 }
 
-impl ReportPlace {
-    /// A place, with a report that no device gave.
+impl ReportSlot {
+    /// An index, with a report that no device gave.
     pub fn new() -> Self {
-        ReportPlace {
+        ReportSlot {
             event: Event::Report {
                 unit: 0,
                 report: no_report(),
@@ -90,7 +90,7 @@ fn bytes_of(reply: &Reply) -> usize {
 #[derive(Drop)]
 pub struct Answering {
     subsystem: Subsystem<Rotating>,
-    report: ReportPlace,
+    report: ReportSlot,
 }
 
 impl Answering {
@@ -98,7 +98,7 @@ impl Answering {
     pub fn of(subsystem: Subsystem<Rotating>) -> Self {
         Answering {
             subsystem,
-            report: ReportPlace::new(),
+            report: ReportSlot::new(),
         }
     }
 }
@@ -174,7 +174,7 @@ impl Floor for Looking {
 #[derive(Drop)]
 pub struct Performing {
     subsystem: Subsystem<Rotating>,
-    report: ReportPlace,
+    report: ReportSlot,
 }
 
 impl Performing {
@@ -182,7 +182,7 @@ impl Performing {
     pub fn of(subsystem: Subsystem<Rotating>) -> Self {
         Performing {
             subsystem,
-            report: ReportPlace::new(),
+            report: ReportSlot::new(),
         }
     }
 }
@@ -210,7 +210,7 @@ pub struct Seated<J: Naming> {
     pub guarded: Guarded<J, Rotating>,
     pub stock: SeatStock<J>,
     pub seat: Seat<J>,
-    pub report: ReportPlace,
+    pub report: ReportSlot,
 }
 
 impl<J: Naming> Floor for Seated<J> {

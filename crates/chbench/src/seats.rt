@@ -7,7 +7,7 @@ ghost use Rattle.core_lock.specs.Directory.{directory_of};
 
 use crate::bench::{Bench, Count, config_of};
 use crate::cycle::Kind;
-use crate::floor::{ReportPlace, Seated};
+use crate::floor::{ReportSlot, Seated};
 use crate::race::{Race, RaceCount, run_race};
 use channel_config::config::Config;
 use core_lock::locked::Core;
@@ -65,7 +65,7 @@ fn with_seat<J: Naming>(core: Core<J, Rotating>) -> Option<Seated<J>> {
         guarded,
         stock,
         seat,
-        report: ReportPlace::new(),
+        report: ReportSlot::new(),
     })
 }
 

@@ -73,48 +73,48 @@ of-other : (b : Bool) (group k : ℕ) → k ≢ group → (b && (group == k)) �
 of-other b group k apart = and_right b (group == k) (ne_eqb group k (λ e. apart (sym e)))
 
 -- a unit that is begun counts in its group
-begun-some : (members : List Member) (place : ℕ) (m : Member) → slice_get members place ≡ Some m → cond m.begun 1 0 ≤ count_by (is_begun_in m.group) members
-begun-some members place m is =
-    let one = get_or-le-sum_by (λ (y : Member). cond (is_begun_in m.group y) 1 0) members place m (slice_get_within members place m is) in
-    let at = ap {B = ℕ} (λ (y : Member). cond (is_begun_in m.group y) 1 0) (get_or_from_slice_get members place m m is) in
+begun-some : (members : List Member) (index : ℕ) (m : Member) → slice_get members index ≡ Some m → cond m.begun 1 0 ≤ count_by (is_begun_in m.group) members
+begun-some members index m is =
+    let one = get_or-le-sum_by (λ (y : Member). cond (is_begun_in m.group y) 1 0) members index m (slice_get_within members index m is) in
+    let at = ap {B = ℕ} (λ (y : Member). cond (is_begun_in m.group y) 1 0) (get_or_from_slice_get members index m m is) in
     let own = ap {B = ℕ} (λ (t : Bool). cond t 1 0) (of-own m.begun m.group) in
     omega (arith, one, at, own)
 
 -- a unit is begun, or it is not any more
-begun-at : (b : Bool) (members : List Member) (groups : List Group) (place : ℕ) (m : Member) → slice_get members place ≡ Some m → AreGroupsOf members groups →
-    AreGroupsOf (slice_set members place (record m { begun = b })) (changed (begun_changed m.begun b) groups m.group)
-begun-at b members groups place m is kept =
+begun-at : (b : Bool) (members : List Member) (groups : List Group) (index : ℕ) (m : Member) → slice_get members index ≡ Some m → AreGroupsOf members groups →
+    AreGroupsOf (slice_set members index (record m { begun = b })) (changed (begun_changed m.begun b) groups m.group)
+begun-at b members groups index m is kept =
     let new : Member = record m { begun = b } in
-    let later = slice_set members place new in
-    let set = count-set (is_begun_in m.group) members place m new is in
+    let later = slice_set members index new in
+    let set = count-set (is_begun_in m.group) members index m new is in
     let was = ap {B = ℕ} (λ (t : Bool). cond t 1 0) (of-own m.begun m.group) in
     let comes = ap {B = ℕ} (λ (t : Bool). cond t 1 0) (of-own b m.group) in
-    let some = begun-some members place m is in
+    let some = begun-some members index m is in
     changed-entry (begun_changed m.begun b) (group_of members) (group_of later) groups m.group (slice_get groups m.group) refl kept
     (same-group (count_by (is_begun_in m.group) members - cond m.begun 1 0 + cond b 1 0) (count_by (is_begun_in m.group) later) _ _
-    (omega (arith, set, was, comes, some)) (any-same (is_refused_in m.group) members place m new is refl))
+    (omega (arith, set, was, comes, some)) (any-same (is_refused_in m.group) members index m new is refl))
     (λ k apart. same-group _ _ _ _
-    (count-same (is_begun_in k) members place m new is (of-other b m.group k apart ∙ sym (of-other m.begun m.group k apart)))
-    (any-same (is_refused_in k) members place m new is refl))
+    (count-same (is_begun_in k) members index m new is (of-other b m.group k apart ∙ sym (of-other m.begun m.group k apart)))
+    (any-same (is_refused_in k) members index m new is refl))
 
-as-set : (b : Bool) (members : List Member) (place : ℕ) (m : Member) → slice_set members place (record m { begun = b }) ≡ begun_as b members place (Some m)
-as-set true members place m = refl
-as-set false members place m = refl
+as-set : (b : Bool) (members : List Member) (index : ℕ) (m : Member) → slice_set members index (record m { begun = b }) ≡ begun_as b members index (Some m)
+as-set true members index m = refl
+as-set false members index m = refl
 
-begun-set : (b : Bool) (members : List Member) (groups : List Group) (place : ℕ) (m : Member) → slice_get members place ≡ Some m → AreGroupsOf members groups →
-    AreGroupsOf (begun_as b members place (Some m)) (changed (begun_changed m.begun b) groups m.group)
-begun-set b members groups place m is kept =
-    subst (λ (ms : List Member). AreGroupsOf ms (changed (begun_changed m.begun b) groups m.group)) (as-set b members place m) (begun-at b members groups place m is kept)
+begun-set : (b : Bool) (members : List Member) (groups : List Group) (index : ℕ) (m : Member) → slice_get members index ≡ Some m → AreGroupsOf members groups →
+    AreGroupsOf (begun_as b members index (Some m)) (changed (begun_changed m.begun b) groups m.group)
+begun-set b members groups index m is kept =
+    subst (λ (ms : List Member). AreGroupsOf ms (changed (begun_changed m.begun b) groups m.group)) (as-set b members index m) (begun-at b members groups index m is kept)
 
 -- a unit is refused
-refused-set : (members : List Member) (groups : List Group) (place : ℕ) (m : Member) → slice_get members place ≡ Some m → AreGroupsOf members groups →
-    AreGroupsOf (slice_set members place (record m { refused = true })) (changed (with_refused true) groups m.group)
-refused-set members groups place m is kept =
+refused-set : (members : List Member) (groups : List Group) (index : ℕ) (m : Member) → slice_get members index ≡ Some m → AreGroupsOf members groups →
+    AreGroupsOf (slice_set members index (record m { refused = true })) (changed (with_refused true) groups m.group)
+refused-set members groups index m is kept =
     let new : Member = record m { refused = true } in
-    changed-entry (with_refused true) (group_of members) (group_of (slice_set members place new)) groups m.group (slice_get groups m.group) refl kept
-    (same-group _ _ _ _ (count-same (is_begun_in m.group) members place m new is refl) (sym (any-here (is_refused_in m.group) members place m new is (of-own true m.group))))
-    (λ k apart. same-group _ _ _ _ (count-same (is_begun_in k) members place m new is refl)
-    (any-same (is_refused_in k) members place m new is (of-other true m.group k apart ∙ sym (of-other m.refused m.group k apart))))
+    changed-entry (with_refused true) (group_of members) (group_of (slice_set members index new)) groups m.group (slice_get groups m.group) refl kept
+    (same-group _ _ _ _ (count-same (is_begun_in m.group) members index m new is refl) (sym (any-here (is_refused_in m.group) members index m new is (of-own true m.group))))
+    (λ k apart. same-group _ _ _ _ (count-same (is_begun_in k) members index m new is refl)
+    (any-same (is_refused_in k) members index m new is (of-other true m.group k apart ∙ sym (of-other m.refused m.group k apart))))
 
 -- the units of a group are told
 begun-told : (k : ℕ) (x : Member) (b : Bool) → is_begun_in k x ≡ is_begun_in k (if b then record x { refused = false } else x)
@@ -218,26 +218,26 @@ counted-other test xs i x is =
     ap not (same-zero (count_by test xs) (count_by test (take i xs ++ drop (i + 1) xs)) (cond (test x) 1 0) (omega (arith, halves, rest, at, others)))
     ∙ (counted-any test (take i xs ++ drop (i + 1) xs) ∙ list_any-append test (take i xs) (drop (i + 1) xs))
 
-pub entry-other : (members : List Member) (groups : List Group) (place : ℕ) (m : Member) (g : Group) → slice_get members place ≡ Some m → AreGroupsOf members groups →
-    slice_get groups m.group ≡ Some g → not (g.begun == cond m.begun 1 0) ≡ any_other (is_begun_in m.group) members place
-entry-other members groups place m g is kept at =
+pub entry-other : (members : List Member) (groups : List Group) (index : ℕ) (m : Member) (g : Group) → slice_get members index ≡ Some m → AreGroupsOf members groups →
+    slice_get groups m.group ≡ Some g → not (g.begun == cond m.begun 1 0) ≡ any_other (is_begun_in m.group) members index
+entry-other members groups index m g is kept at =
     ap (λ (x : Group). not (x.begun == cond m.begun 1 0)) (kept m.group g at)
     ∙ (ap (λ (b : Bool). not (count_by (is_begun_in m.group) members == cond b 1 0)) (sym (of-own m.begun m.group))
-    ∙ counted-other (is_begun_in m.group) members place m is)
+    ∙ counted-other (is_begun_in m.group) members index m is)
 
 -- what calls left: the units and the entries, each as told
 groups-at : (members later : List Member) (groups new : List Group) → later ≡ members → new ≡ groups → AreGroupsOf members groups → AreGroupsOf later new
 groups-at members later groups new m g kept = subst (λ (ms : List Member). AreGroupsOf ms new) (sym m) (subst (λ (gs : List Group). AreGroupsOf members gs) (sym g) kept)
 
-pub begun-kept : (b : Bool) (members later : List Member) (groups new : List Group) (place : ℕ) (m : Member) → slice_get members place ≡ Some m → AreGroupsOf members groups →
-    later ≡ begun_as b members place (slice_get members place) → new ≡ changed (begun_changed m.begun b) groups m.group → AreGroupsOf later new
-begun-kept b members later groups new place m is kept l n =
-    groups-at (begun_as b members place (Some m)) later (changed (begun_changed m.begun b) groups m.group) new (l ∙ ap (begun_as b members place) is) n (begun-set b members groups place m is kept)
+pub begun-kept : (b : Bool) (members later : List Member) (groups new : List Group) (index : ℕ) (m : Member) → slice_get members index ≡ Some m → AreGroupsOf members groups →
+    later ≡ begun_as b members index (slice_get members index) → new ≡ changed (begun_changed m.begun b) groups m.group → AreGroupsOf later new
+begun-kept b members later groups new index m is kept l n =
+    groups-at (begun_as b members index (Some m)) later (changed (begun_changed m.begun b) groups m.group) new (l ∙ ap (begun_as b members index) is) n (begun-set b members groups index m is kept)
 
-pub refused-kept : (members later : List Member) (groups new : List Group) (place : ℕ) (m : Member) → slice_get members place ≡ Some m → AreGroupsOf members groups →
-    later ≡ refused_at members place (slice_get members place) → new ≡ changed (with_refused true) groups m.group → AreGroupsOf later new
-refused-kept members later groups new place m is kept l n =
-    groups-at (refused_at members place (Some m)) later (changed (with_refused true) groups m.group) new (l ∙ ap (refused_at members place) is) n (refused-set members groups place m is kept)
+pub refused-kept : (members later : List Member) (groups new : List Group) (index : ℕ) (m : Member) → slice_get members index ≡ Some m → AreGroupsOf members groups →
+    later ≡ refused_at members index (slice_get members index) → new ≡ changed (with_refused true) groups m.group → AreGroupsOf later new
+refused-kept members later groups new index m is kept l n =
+    groups-at (refused_at members index (Some m)) later (changed (with_refused true) groups m.group) new (l ∙ ap (refused_at members index) is) n (refused-set members groups index m is kept)
 
 pub told-kept : (members later : List Member) (groups new : List Group) (group : ℕ) → AreGroupsOf members groups →
     later ≡ map (member_told group) members → new ≡ changed (with_refused false) groups group → AreGroupsOf later new
@@ -248,15 +248,15 @@ pub idle-kept : (numbers : List ℕ) (n : ℕ) (members : List Member) (groups :
 idle-kept numbers n members groups m g = groups-at (map idle_member numbers) members (replicate n idle_group) groups m g (all-idle numbers n)
 
 -- a unit that is over: what it owes, and what is left
-pub owed-is : (members later : List Member) (place : ℕ) (m : Member) (owed : Bool) → slice_get members place ≡ Some m → later ≡ begun_as false members place (slice_get members place) →
-    owed ≡ list_any (is_refused_in m.group) later → owed ≡ is_owed_at members (slice_get members place)
-owed-is members later place m owed is l o =
-    o ∙ (ap (list_any (is_refused_in m.group)) (l ∙ ap (begun_as false members place) is)
-    ∙ (sym (any-same (is_refused_in m.group) members place m (record m { begun = false }) is refl) ∙ ap (is_owed_at members) (sym is)))
+pub owed-is : (members later : List Member) (index : ℕ) (m : Member) (owed : Bool) → slice_get members index ≡ Some m → later ≡ begun_as false members index (slice_get members index) →
+    owed ≡ list_any (is_refused_in m.group) later → owed ≡ is_owed_at members (slice_get members index)
+owed-is members later index m owed is l o =
+    o ∙ (ap (list_any (is_refused_in m.group)) (l ∙ ap (begun_as false members index) is)
+    ∙ (sym (any-same (is_refused_in m.group) members index m (record m { begun = false }) is refl) ∙ ap (is_owed_at members) (sym is)))
 
-pub over-is : (members later told : List Member) (place : ℕ) (m : Member) → slice_get members place ≡ Some m → later ≡ begun_as false members place (slice_get members place) →
-    told ≡ map (member_told m.group) later → told ≡ over_at members place (slice_get members place)
-over-is members later told place m is l t = t ∙ (ap (map (member_told m.group)) (l ∙ ap (begun_as false members place) is) ∙ ap (over_at members place) (sym is))
+pub over-is : (members later told : List Member) (index : ℕ) (m : Member) → slice_get members index ≡ Some m → later ≡ begun_as false members index (slice_get members index) →
+    told ≡ map (member_told m.group) later → told ≡ over_at members index (slice_get members index)
+over-is members later told index m is l t = t ∙ (ap (map (member_told m.group)) (l ∙ ap (begun_as false members index) is) ∙ ap (over_at members index) (sym is))
 
 -- what a look at an index shows
 pub seen-at : {A : Type 0} (xs ys : List A) (i k : ℕ) (x : A) → xs ≡ ys → i ≡ k → i < length xs → x ≡ get_or xs i x → slice_get ys k ≡ Some x

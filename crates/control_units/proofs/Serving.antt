@@ -27,8 +27,8 @@ none-in g (x ∷ xs) h =
     (and-left x.begun (x.group == g) (or-left x.begun (list_any is_begun xs) h))
     (none-in g xs (or-right x.begun (list_any is_begun xs) h))
 
-pub none-other : (g : ℕ) (ms : List Member) (place : ℕ) → any_other is_begun ms place ≡ false → any_other (is_begun_in g) ms place ≡ false
-none-other g ms place h =
-    let front = none-in g (take place ms) (or-left (list_any is_begun (take place ms)) (list_any is_begun (drop (place + 1) ms)) h) in
-    let back = none-in g (drop (place + 1) ms) (or-right (list_any is_begun (take place ms)) (list_any is_begun (drop (place + 1) ms)) h) in
-    neither (list_any (is_begun_in g) (take place ms)) (list_any (is_begun_in g) (drop (place + 1) ms)) front back
+pub none-other : (g : ℕ) (ms : List Member) (index : ℕ) → any_other is_begun ms index ≡ false → any_other (is_begun_in g) ms index ≡ false
+none-other g ms index h =
+    let front = none-in g (take index ms) (or-left (list_any is_begun (take index ms)) (list_any is_begun (drop (index + 1) ms)) h) in
+    let back = none-in g (drop (index + 1) ms) (or-right (list_any is_begun (take index ms)) (list_any is_begun (drop (index + 1) ms)) h) in
+    neither (list_any (is_begun_in g) (take index ms)) (list_any (is_begun_in g) (drop (index + 1) ms)) front back

@@ -33,7 +33,7 @@ with_refused refused g = record g { refused = refused }
 
 -- a unit is not begun any more, and its group is told nothing
 abbrev pub ended_at : List Member → ℕ → Option Member → List Member
-ended_at members place found = elim found [ None ↦ members | Some m ↦ slice_set members place (record m { begun = false }) ]
+ended_at members index found = elim found [ None ↦ members | Some m ↦ slice_set members index (record m { begun = false }) ]
 
 -- a unit is begun, or it is not any more
 abbrev pub begun_as : Bool → List Member → ℕ → Option Member → List Member

@@ -10,7 +10,7 @@ idle_member group = record { group = group; begun = false; refused = false }
 
 -- whether a unit other than this one passes a test
 abbrev pub any_other : (Member → Bool) → List Member → ℕ → Bool
-any_other test members place = list_any test (take place members) || list_any test (drop (place + 1) members)
+any_other test members index = list_any test (take index members) || list_any test (drop (index + 1) members)
 
 abbrev pub is_begun : Member → Bool
 is_begun m = m.begun
@@ -23,40 +23,40 @@ is_refused_in group m = m.refused && (m.group == group)
 
 -- Whether the unit may be served: no other unit of its group is begun.
 abbrev pub may_serve_at : List Member → ℕ → Option Member → Bool
-may_serve_at members place found = elim found [ None ↦ true | Some m ↦ not (any_other (is_begun_in m.group) members place) ]
+may_serve_at members index found = elim found [ None ↦ true | Some m ↦ not (any_other (is_begun_in m.group) members index) ]
 
 abbrev pub may_serve : List Member → ℕ → Bool
-may_serve members place = may_serve_at members place (slice_get members place)
+may_serve members index = may_serve_at members index (slice_get members index)
 
 -- A unit was asked for: it is refused where it may not be served.
 abbrev pub refused_at : List Member → ℕ → Option Member → List Member
-refused_at members place found = elim found [ None ↦ members | Some m ↦ slice_set members place (record m { refused = true }) ]
+refused_at members index found = elim found [ None ↦ members | Some m ↦ slice_set members index (record m { refused = true }) ]
 
 abbrev pub asked : List Member → ℕ → Bool → List Member
-asked members place true = members
-asked members place false = refused_at members place (slice_get members place)
+asked members index true = members
+asked members index false = refused_at members index (slice_get members index)
 
 -- A unit is begun.
 abbrev pub begun_at : List Member → ℕ → Option Member → List Member
-begun_at members place found = elim found [ None ↦ members | Some m ↦ slice_set members place (record m { begun = true }) ]
+begun_at members index found = elim found [ None ↦ members | Some m ↦ slice_set members index (record m { begun = true }) ]
 
 abbrev pub member_begun : List Member → ℕ → List Member
-member_begun members place = begun_at members place (slice_get members place)
+member_begun members index = begun_at members index (slice_get members index)
 
 -- Whether a control-unit end is owed as a unit is over: some unit of its group was refused since one was over.
 abbrev pub is_owed_at : List Member → Option Member → Bool
 is_owed_at members found = elim found [ None ↦ false | Some m ↦ list_any (is_refused_in m.group) members ]
 
 abbrev pub is_owed : List Member → ℕ → Bool
-is_owed members place = is_owed_at members (slice_get members place)
+is_owed members index = is_owed_at members (slice_get members index)
 
 -- A unit is over: it is not begun, and no unit of its group is refused any more.
 abbrev pub member_told : ℕ → Member → Member
 member_told group m = if m.group == group then record m { refused = false } else m
 
 abbrev pub over_at : List Member → ℕ → Option Member → List Member
-over_at members place found =
-    elim found [ None ↦ members | Some m ↦ map (member_told m.group) (slice_set members place (record m { begun = false })) ]
+over_at members index found =
+    elim found [ None ↦ members | Some m ↦ map (member_told m.group) (slice_set members index (record m { begun = false })) ]
 
 abbrev pub over : List Member → ℕ → List Member
-over members place = over_at members place (slice_get members place)
+over members index = over_at members index (slice_get members index)

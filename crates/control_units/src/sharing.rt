@@ -83,39 +83,39 @@ impl ControlUnit for Sharing {
     }
 }
 
-/// Whether no other unit of the group of the unit at this place is begun.
-fn may_serve(members: &[Member], groups: &[Group], place: usize) -> bool
+/// Whether no other unit of the group of the unit at this index is begun.
+fn may_serve(members: &[Member], groups: &[Group], index: usize) -> bool
     requires { AreGroupsOf members.now groups.now }
-    ensures serves { result ≡ spec.may_serve_at members.now place (slice_get members.now place) }
-    ensures law { spec.any_other spec.is_begun members.now place ≡ false → result ≡ true }
-    ensures known { length members.now ≤ place → result ≡ true }
+    ensures serves { result ≡ spec.may_serve_at members.now index (slice_get members.now index) }
+    ensures law { spec.any_other spec.is_begun members.now index ≡ false → result ≡ true }
+    ensures known { length members.now ≤ index → result ≡ true }
 {
-    match members.get(place) {
-        Some(member) => !has_other_begun(members, groups, place, *member),
+    match members.get(index) {
+        Some(member) => !has_other_begun(members, groups, index, *member),
         None => true,
     }
 }
 
-/// Whether another unit of the group of this unit, whose place is given, is begun.
-fn has_other_begun(members: &[Member], groups: &[Group], place: usize, member: Member) -> bool
-    requires within { place < length members.now }
-    requires here { slice_get members.now place ≡ Some member }
+/// Whether another unit of the group of this unit, whose index is given, is begun.
+fn has_other_begun(members: &[Member], groups: &[Group], index: usize, member: Member) -> bool
+    requires within { index < length members.now }
+    requires here { slice_get members.now index ≡ Some member }
     requires groups { AreGroupsOf members.now groups.now }
-    ensures begun { result ≡ spec.any_other (spec.is_begun_in member.group) members.now place }
-    ensures law { spec.any_other spec.is_begun members.now place ≡ false → result ≡ false }
+    ensures begun { result ≡ spec.any_other (spec.is_begun_in member.group) members.now index }
+    ensures law { spec.any_other spec.is_begun members.now index ≡ false → result ≡ false }
 {
     match groups.get(usize::from(member.group)) {
         Some(group) => group.begun != usize::from(member.begun),
-        None => finds_other_begun(members, place, member.group),
+        None => finds_other_begun(members, index, member.group),
     }
 }
 
-/// Whether a unit of the group at another place is begun, by a search.
-fn finds_other_begun(members: &[Member], place: usize, group: u16) -> bool
-    requires { place < length members.now }
-    ensures begun { result ≡ spec.any_other (spec.is_begun_in group) members.now place }
+/// Whether a unit of the group at another index is begun, by a search.
+fn finds_other_begun(members: &[Member], index: usize, group: u16) -> bool
+    requires { index < length members.now }
+    ensures begun { result ≡ spec.any_other (spec.is_begun_in group) members.now index }
 {
-    has_begun(&members[..place], group) || has_begun(&members[place + 1..], group)
+    has_begun(&members[..index], group) || has_begun(&members[index + 1..], group)
 }
 
 /// Whether a unit of the group is begun.

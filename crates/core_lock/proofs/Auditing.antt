@@ -17,40 +17,40 @@ abbrev pub any_entry : Entry
 any_entry = entry SystemReset Done
 
 -- so far the log is what the history has: what is left of one is what is left of the other exactly where the whole is the whole
-pub record Fits (number : ℕ) (by : List ℕ) (history log : List Entry) (place next : ℕ) : Type 0 where
+pub record Fits (number : ℕ) (by : List ℕ) (history log : List Entry) (index next : ℕ) : Type 0 where
   pub within : next ≤ length log
-  pub there : entries_by number by history ≡ log → entries_by number (drop place by) (drop place history) ≡ drop next log
-  pub back : entries_by number (drop place by) (drop place history) ≡ drop next log → entries_by number by history ≡ log
+  pub there : entries_by number by history ≡ log → entries_by number (drop index by) (drop index history) ≡ drop next log
+  pub back : entries_by number (drop index by) (drop index history) ≡ drop next log → entries_by number by history ≡ log
 
 pub begins : (number : ℕ) (by : List ℕ) (history log : List Entry) → Fits number by history log 0 0
 begins number by history log = record { within = omega arith; there = λ e. e; back = λ e. e }
 
 -- the entries of what is left, with the next one in front
-more_suc : (number : ℕ) (by : List ℕ) (history : List Entry) (place : ℕ) (d : Entry) → length by ≡ length history → place < length by
-    → entries_by number (drop place by) (drop place history) ≡ (if get_or by place 0 == number then get_or history place d ∷ entries_by number (drop (suc place) by) (drop (suc place) history) else entries_by number (drop (suc place) by) (drop (suc place) history))
-more_suc number [] history place d e lt = absurd (omega arith)
-more_suc number (n ∷ by) [] place d e lt = absurd (omega arith)
+more_suc : (number : ℕ) (by : List ℕ) (history : List Entry) (index : ℕ) (d : Entry) → length by ≡ length history → index < length by
+    → entries_by number (drop index by) (drop index history) ≡ (if get_or by index 0 == number then get_or history index d ∷ entries_by number (drop (suc index) by) (drop (suc index) history) else entries_by number (drop (suc index) by) (drop (suc index) history))
+more_suc number [] history index d e lt = absurd (omega arith)
+more_suc number (n ∷ by) [] index d e lt = absurd (omega arith)
 more_suc number (n ∷ by) (h ∷ history) zero d e lt = refl
-more_suc number (n ∷ by) (h ∷ history) (suc place) d e lt = more_suc number by history place d (omega arith) (omega arith)
+more_suc number (n ∷ by) (h ∷ history) (suc index) d e lt = more_suc number by history index d (omega arith) (omega arith)
 
-more : (number : ℕ) (by : List ℕ) (history : List Entry) (place : ℕ) (d : Entry) → length by ≡ length history → place < length by
-    → entries_by number (drop place by) (drop place history) ≡ (if get_or by place 0 == number then get_or history place d ∷ entries_by number (drop (place + 1) by) (drop (place + 1) history) else entries_by number (drop (place + 1) by) (drop (place + 1) history))
-more number by history place d e lt = subst (λ k. entries_by number (drop place by) (drop place history) ≡ (if get_or by place 0 == number then get_or history place d ∷ entries_by number (drop k by) (drop k history) else entries_by number (drop k by) (drop k history))) (sym (add-one place)) (more_suc number by history place d e lt)
+more : (number : ℕ) (by : List ℕ) (history : List Entry) (index : ℕ) (d : Entry) → length by ≡ length history → index < length by
+    → entries_by number (drop index by) (drop index history) ≡ (if get_or by index 0 == number then get_or history index d ∷ entries_by number (drop (index + 1) by) (drop (index + 1) history) else entries_by number (drop (index + 1) by) (drop (index + 1) history))
+more number by history index d e lt = subst (λ k. entries_by number (drop index by) (drop index history) ≡ (if get_or by index 0 == number then get_or history index d ∷ entries_by number (drop k by) (drop k history) else entries_by number (drop k by) (drop k history))) (sym (add-one index)) (more_suc number by history index d e lt)
 
-skipped : (number : ℕ) (by : List ℕ) (history : List Entry) (place : ℕ) (d : Entry) → length by ≡ length history → place < length by → get_or by place 0 ≢ number
-    → entries_by number (drop place by) (drop place history) ≡ entries_by number (drop (place + 1) by) (drop (place + 1) history)
-skipped number by history place d e lt ne =
-    more number by history place d e lt ∙ ap (λ (b : Bool). if b then get_or history place d ∷ entries_by number (drop (place + 1) by) (drop (place + 1) history) else entries_by number (drop (place + 1) by) (drop (place + 1) history)) (ne_eqb _ _ ne)
+skipped : (number : ℕ) (by : List ℕ) (history : List Entry) (index : ℕ) (d : Entry) → length by ≡ length history → index < length by → get_or by index 0 ≢ number
+    → entries_by number (drop index by) (drop index history) ≡ entries_by number (drop (index + 1) by) (drop (index + 1) history)
+skipped number by history index d e lt ne =
+    more number by history index d e lt ∙ ap (λ (b : Bool). if b then get_or history index d ∷ entries_by number (drop (index + 1) by) (drop (index + 1) history) else entries_by number (drop (index + 1) by) (drop (index + 1) history)) (ne_eqb _ _ ne)
 
-found : (number : ℕ) (by : List ℕ) (history : List Entry) (place : ℕ) (d : Entry) → length by ≡ length history → place < length by → get_or by place 0 ≡ number
-    → entries_by number (drop place by) (drop place history) ≡ get_or history place d ∷ entries_by number (drop (place + 1) by) (drop (place + 1) history)
-found number by history place d e lt is =
-    more number by history place d e lt ∙ ap (λ (b : Bool). if b then get_or history place d ∷ entries_by number (drop (place + 1) by) (drop (place + 1) history) else entries_by number (drop (place + 1) by) (drop (place + 1) history)) (eq-eqb _ _ is)
+found : (number : ℕ) (by : List ℕ) (history : List Entry) (index : ℕ) (d : Entry) → length by ≡ length history → index < length by → get_or by index 0 ≡ number
+    → entries_by number (drop index by) (drop index history) ≡ get_or history index d ∷ entries_by number (drop (index + 1) by) (drop (index + 1) history)
+found number by history index d e lt is =
+    more number by history index d e lt ∙ ap (λ (b : Bool). if b then get_or history index d ∷ entries_by number (drop (index + 1) by) (drop (index + 1) history) else entries_by number (drop (index + 1) by) (drop (index + 1) history)) (eq-eqb _ _ is)
 
 -- an entry of another seat
-pub skips : (number : ℕ) (by : List ℕ) (history log : List Entry) (place next : ℕ) (d : Entry) → length by ≡ length history → place < length by → get_or by place 0 ≢ number → Fits number by history log place next → Fits number by history log (place + 1) next
-skips number by history log place next d e lt ne f =
-    let s = skipped number by history place d e lt ne in
+pub skips : (number : ℕ) (by : List ℕ) (history log : List Entry) (index next : ℕ) (d : Entry) → length by ≡ length history → index < length by → get_or by index 0 ≢ number → Fits number by history log index next → Fits number by history log (index + 1) next
+skips number by history log index next d e lt ne f =
+    let s = skipped number by history index d e lt ne in
     record { within = f.within; there = λ h. sym s ∙ f.there h; back = λ h. f.back (s ∙ h) }
 
 at_drop_suc : (log : List Entry) (next : ℕ) (d : Entry) → next < length log → drop next log ≡ get_or log next d ∷ drop (suc next) log
@@ -62,26 +62,26 @@ at_drop : (log : List Entry) (next : ℕ) (d : Entry) → next < length log → 
 at_drop log next d lt = at_drop_suc log next d lt ∙ ap (λ k. get_or log next d ∷ drop k log) (sym (add-one next))
 
 -- an entry of this seat, which the log has next
-goes_on : (number : ℕ) (by : List ℕ) (history log : List Entry) (place next : ℕ) (d : Entry) → length by ≡ length history → place < length by → get_or by place 0 ≡ number → next < length log → get_or log next d ≡ get_or history place d → Fits number by history log place next → Fits number by history log (place + 1) (next + 1)
-goes_on number by history log place next d e lt is here same f =
-    let a = found number by history place d e lt is in
+goes_on : (number : ℕ) (by : List ℕ) (history log : List Entry) (index next : ℕ) (d : Entry) → length by ≡ length history → index < length by → get_or by index 0 ≡ number → next < length log → get_or log next d ≡ get_or history index d → Fits number by history log index next → Fits number by history log (index + 1) (next + 1)
+goes_on number by history log index next d e lt is here same f =
+    let a = found number by history index d e lt is in
     let b = at_drop log next d here in
-    let c : drop next log ≡ get_or history place d ∷ drop (next + 1) log = b ∙ ap (λ x. x ∷ drop (next + 1) log) same in
+    let c : drop next log ≡ get_or history index d ∷ drop (next + 1) log = b ∙ ap (λ x. x ∷ drop (next + 1) log) same in
     record {
       within = omega arith;
-      there = λ h. same_rests (get_or history place d) (get_or history place d) _ _ (sym a ∙ f.there h ∙ c);
-      back = λ h. f.back (a ∙ ap (λ l. get_or history place d ∷ l) h ∙ sym c);
+      there = λ h. same_rests (get_or history index d) (get_or history index d) _ _ (sym a ∙ f.there h ∙ c);
+      back = λ h. f.back (a ∙ ap (λ l. get_or history index d ∷ l) h ∙ sym c);
     }
 
 -- an entry of this seat, where the whole log is what the history has
-pub has_next : (number : ℕ) (by : List ℕ) (history log : List Entry) (place next : ℕ) (d : Entry) → length by ≡ length history → place < length by → get_or by place 0 ≡ number → Fits number by history log place next → entries_by number by history ≡ log → HasSame log next history place
-has_next number by history log place next d e lt is f h =
-    let left = sym (f.there h) ∙ found number by history place d e lt is in
+pub has_next : (number : ℕ) (by : List ℕ) (history log : List Entry) (index next : ℕ) (d : Entry) → length by ≡ length history → index < length by → get_or by index 0 ≡ number → Fits number by history log index next → entries_by number by history ≡ log → HasSame log next history index
+has_next number by history log index next d e lt is f h =
+    let left = sym (f.there h) ∙ found number by history index d e lt is in
     let n : length (drop next log) ≡ length log - next = length-drop next log in
     let l = ap length left in
     let here : next < length log = omega (arith, l, n) in
     let same = same_heads _ _ _ _ (sym (at_drop log next d here) ∙ left) in
-    (here, slice_get-get_or log next d here ∙ ap Some same ∙ sym (slice_get-get_or history place d (omega (arith, e, lt))))
+    (here, slice_get-get_or log next d here ∙ ap Some same ∙ sym (slice_get-get_or history index d (omega (arith, e, lt))))
 
 entries_nil : (number : ℕ) (by : List ℕ) → entries_by number by [] ≡ []
 entries_nil number [] = refl
@@ -93,20 +93,20 @@ drop_all [] (suc next) e = refl
 drop_all (x ∷ log) zero e = absurd (omega arith)
 drop_all (x ∷ log) (suc next) e = drop_all log next (omega arith)
 
-nothing_left : (number : ℕ) (by : List ℕ) (history : List Entry) (place : ℕ) → length by ≤ place → entries_by number (drop place by) (drop place history) ≡ []
+nothing_left : (number : ℕ) (by : List ℕ) (history : List Entry) (index : ℕ) → length by ≤ index → entries_by number (drop index by) (drop index history) ≡ []
 nothing_left number [] history zero le = refl
-nothing_left number [] history (suc place) le = refl
+nothing_left number [] history (suc index) le = refl
 nothing_left number (n ∷ by) history zero le = absurd (omega arith)
-nothing_left number (n ∷ by) [] (suc place) le = entries_nil number (drop place by)
-nothing_left number (n ∷ by) (h ∷ history) (suc place) le = nothing_left number by history place (omega arith)
+nothing_left number (n ∷ by) [] (suc index) le = entries_nil number (drop index by)
+nothing_left number (n ∷ by) (h ∷ history) (suc index) le = nothing_left number by history index (omega arith)
 
 -- at the end
-pub ends_well : (number : ℕ) (by : List ℕ) (history log : List Entry) (place next : ℕ) → length by ≤ place → Fits number by history log place next → next ≡ length log → entries_by number by history ≡ log
-ends_well number by history log place next le f e = f.back (nothing_left number by history place le ∙ sym (drop_all log next e))
+pub ends_well : (number : ℕ) (by : List ℕ) (history log : List Entry) (index next : ℕ) → length by ≤ index → Fits number by history log index next → next ≡ length log → entries_by number by history ≡ log
+ends_well number by history log index next le f e = f.back (nothing_left number by history index le ∙ sym (drop_all log next e))
 
-pub ends_short : (number : ℕ) (by : List ℕ) (history log : List Entry) (place next : ℕ) → length by ≤ place → Fits number by history log place next → entries_by number by history ≡ log → next ≡ length log
-ends_short number by history log place next le f h =
-    let l = ap length (sym (nothing_left number by history place le) ∙ f.there h) in
+pub ends_short : (number : ℕ) (by : List ℕ) (history log : List Entry) (index next : ℕ) → length by ≤ index → Fits number by history log index next → entries_by number by history ≡ log → next ≡ length log
+ends_short number by history log index next le f h =
+    let l = ap length (sym (nothing_left number by history index le) ∙ f.there h) in
     let n : length (drop next log) ≡ length log - next = length-drop next log in
     let w = f.within in
     omega (arith, l, n)
@@ -114,22 +114,22 @@ ends_short number by history log place next le f h =
 pub no_true : IsTrue false → ⊥
 no_true t = true≢false (sym t)
 
-whole : (number : ℕ) (by : List ℕ) (history log : List Entry) (place next : ℕ) → length by ≤ place → Fits number by history log place next → IsTrue (eqb next (length log)) → entries_by number by history ≡ log
-whole number by history log place next le f t = ends_well number by history log place next le f (eqb-true next (length log) t)
+whole : (number : ℕ) (by : List ℕ) (history log : List Entry) (index next : ℕ) → length by ≤ index → Fits number by history log index next → IsTrue (eqb next (length log)) → entries_by number by history ≡ log
+whole number by history log index next le f t = ends_well number by history log index next le f (eqb-true next (length log) t)
 
-short : (number : ℕ) (by : List ℕ) (history log : List Entry) (place next : ℕ) → length by ≤ place → Fits number by history log place next → entries_by number by history ≡ log → IsTrue (eqb next (length log))
-short number by history log place next le f h = eq-eqb next (length log) (ends_short number by history log place next le f h)
+short : (number : ℕ) (by : List ℕ) (history log : List Entry) (index next : ℕ) → length by ≤ index → Fits number by history log index next → entries_by number by history ≡ log → IsTrue (eqb next (length log))
+short number by history log index next le f h = eq-eqb next (length log) (ends_short number by history log index next le f h)
 
-pub goes_on_at : (number : ℕ) (by : List ℕ) (history log : List Entry) (place next : ℕ) (d : Entry) → length by ≡ length history → place < length by → get_or by place 0 ≡ number → HasSame log next history place → Fits number by history log place next → Fits number by history log (place + 1) (next + 1)
-goes_on_at number by history log place next d e lt is (here, same) f =
-    let there : place < length history = omega (arith, e, lt) in
-    goes_on number by history log place next d e lt is here (same_Some _ _ (sym (slice_get-get_or log next d here) ∙ same ∙ slice_get-get_or history place d there)) f
+pub goes_on_at : (number : ℕ) (by : List ℕ) (history log : List Entry) (index next : ℕ) (d : Entry) → length by ≡ length history → index < length by → get_or by index 0 ≡ number → HasSame log next history index → Fits number by history log index next → Fits number by history log (index + 1) (next + 1)
+goes_on_at number by history log index next d e lt is (here, same) f =
+    let there : index < length history = omega (arith, e, lt) in
+    goes_on number by history log index next d e lt is here (same_Some _ _ (sym (slice_get-get_or log next d here) ∙ same ∙ slice_get-get_or history index d there)) f
 
 -- at the end the log is whole exactly where all of it was passed
-pub whole_where : (number : ℕ) (by : List ℕ) (history log : List Entry) (place next all : ℕ) → all ≡ length log → length by ≤ place → Fits number by history log place next → IsTrue (eqb next all) ↔ (entries_by number by history ≡ log)
-whole_where number by history log place next all is le f =
+pub whole_where : (number : ℕ) (by : List ℕ) (history log : List Entry) (index next all : ℕ) → all ≡ length log → length by ≤ index → Fits number by history log index next → IsTrue (eqb next all) ↔ (entries_by number by history ≡ log)
+whole_where number by history log index next all is le f =
     subst (λ (n : ℕ). IsTrue (eqb next n) ↔ (entries_by number by history ≡ log)) (sym is)
-    (whole number by history log place next le f, short number by history log place next le f)
+    (whole number by history log index next le f, short number by history log index next le f)
 
 both_true : (a b : Bool) → (a && b) ≡ true → (a ≡ true) × (b ≡ true)
 both_true true b e = (refl, e)

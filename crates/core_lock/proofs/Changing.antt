@@ -23,9 +23,9 @@ use Rattle.subchannel_model.specs.declared.state.Subchannel.{Subchannel}
 use Rattle.subchannel_model.specs.Modify.{modified_state}
 use Rattle.chan_events.specs.Instructions.{subchannel_word}
 use Rattle.machine_model.specs.InstructionSteps.{function_sub}
-use Rattle.machine_model.specs.State.{State, place_of}
+use Rattle.machine_model.specs.State.{State, index_of}
 use Rattle.machine_model.specs.Steps.{Step}
-use Rattle.machine_model.specs.Turns.{DownTurn}
+use Rattle.machine_model.specs.Results.{DownResult}
 use Rattle.machine_model.specs.DownSteps.{down_front, down_sub, down_with, with_answer}
 use Rattle.machine_model.specs.ReportSteps.{report_sub, report_taken, with_any_up}
 use Rattle.chan_model.specs.UnitReports.{unit_reports}
@@ -55,21 +55,21 @@ none = record { made = 0; cleared = 0 }
 -- where none was changed, none but some were
 stay : (t : ChangedSerials) (old new : List Serials) → new ≡ old → Changes t old new
 stay Nothing old new e = e
-stay (Place place) old new e = (get_or old place none, e ∙ sym (set_own old place none))
+stay (Place index) old new e = (get_or old index none, e ∙ sym (set_own old index none))
 stay All old new e = tt
 
 -- one subchannel was changed
-one_changed : (s new : State) (place : ℕ) (sub after : Subchannel) → OneSub s new place sub after → (x : Serials) × (all_serials new ≡ set (all_serials s) place x)
-one_changed s new place sub after one = (serials_at after, ap (map serials_at) one.subs ∙ map-set serials_at s.subs place after)
+one_changed : (s new : State) (index : ℕ) (sub after : Subchannel) → OneSub s new index sub after → (x : Serials) × (all_serials new ≡ set (all_serials s) index x)
+one_changed s new index sub after one = (serials_at after, ap (map serials_at) one.subs ∙ map-set serials_at s.subs index after)
 
-named_changed : (s new : State) (word place : ℕ) (sub after : Subchannel) → place_of s word ≡ Some place → OneSub s new place sub after → Changes (touched_word s word) (all_serials s) (all_serials new)
-named_changed s new word place sub after at one =
-    subst (λ (o : Option ℕ). Changes (touched_at o) (all_serials s) (all_serials new)) (sym at) (one_changed s new place sub after one)
+named_changed : (s new : State) (word index : ℕ) (sub after : Subchannel) → index_of s word ≡ Some index → OneSub s new index sub after → Changes (touched_word s word) (all_serials s) (all_serials new)
+named_changed s new word index sub after at one =
+    subst (λ (o : Option ℕ). Changes (touched_at o) (all_serials s) (all_serials new)) (sym at) (one_changed s new index sub after one)
 
 -- one subchannel was changed, and its serials were not
-set_stays : (subs news : List Subchannel) (place : ℕ) (sub after : Subchannel) → slice_get subs place ≡ Some sub → news ≡ set subs place after → serials_at after ≡ serials_at sub → map serials_at news ≡ map serials_at subs
-set_stays subs news place sub after there is same =
-    ap (map serials_at) is ∙ map-set_same serials_at subs place after sub (same ∙ ap serials_at (sym (get_or_from_slice_get subs place sub sub there)))
+set_stays : (subs news : List Subchannel) (index : ℕ) (sub after : Subchannel) → slice_get subs index ≡ Some sub → news ≡ set subs index after → serials_at after ≡ serials_at sub → map serials_at news ≡ map serials_at subs
+set_stays subs news index sub after there is same =
+    ap (map serials_at) is ∙ map-set_same serials_at subs index after sub (same ∙ ap serials_at (sym (get_or_from_slice_get subs index sub sub there)))
 
 -- a modification, and what passes between a unit and its subchannel, leave its serials
 modified_same : (sub : Subchannel) (c : ConditionCode) (given : block.Pmcw) → serials_at (function_sub sub c (modified_state sub given)).sub ≡ serials_at sub
@@ -78,27 +78,27 @@ modified_same sub code.One given = refl
 modified_same sub code.Two given = refl
 modified_same sub code.Three given = refl
 
-abbrev SameSub : Subchannel → Result DownTurn Fault → Type 0
+abbrev SameSub : Subchannel → Result DownResult Fault → Type 0
 SameSub sub (Ok t) = serials_at t.sub ≡ serials_at sub
 SameSub sub (Err f) = Unit {0}
 
-same_of : (sub : Subchannel) (o : Result DownTurn Fault) (t : DownTurn) → SameSub sub o → o ≡ Ok t → serials_at t.sub ≡ serials_at sub
+same_of : (sub : Subchannel) (o : Result DownResult Fault) (t : DownResult) → SameSub sub o → o ≡ Ok t → serials_at t.sub ≡ serials_at sub
 same_of sub o t same is = subst (SameSub sub) is same
 
-if_same : (sub : Subchannel) (b : Bool) (o p : Result DownTurn Fault) → SameSub sub o → SameSub sub p → SameSub sub (if b then o else p)
+if_same : (sub : Subchannel) (b : Bool) (o p : Result DownResult Fault) → SameSub sub o → SameSub sub p → SameSub sub (if b then o else p)
 if_same sub true o p x y = x
 if_same sub false o p x y = y
 
-full_same : (sub : Subchannel) (b : Bool) (t : DownTurn) → serials_at t.sub ≡ serials_at sub → SameSub sub (if b then Err fault.WireFull else Ok t)
+full_same : (sub : Subchannel) (b : Bool) (t : DownResult) → serials_at t.sub ≡ serials_at sub → SameSub sub (if b then Err fault.WireFull else Ok t)
 full_same sub true t e = tt
 full_same sub false t e = e
 
 with_same : (sub : Subchannel) (path : ℕ) (signal : Down) (u : UnitState) (step : Option UnitStep) → SameSub sub (down_with sub path signal u step)
 with_same sub path signal u step =
-    full_same sub (finds_full sub.wires.up (carried_by sub (unit_table.came_of step).sent))
+    full_same sub (finds_full sub.wires.up (carried_by sub (unit_table.outcome_of step).sent))
     (record {
-      reply = reply.Down signal (unit_table.came_of step).taken (unit_table.came_of step).sent;
-      sub = with_answer sub path (unit_table.came_of step).sent;
+      reply = reply.Down signal (unit_table.outcome_of step).taken (unit_table.outcome_of step).sent;
+      sub = with_answer sub path (unit_table.outcome_of step).sent;
       «unit» = unit_table.unit_after u step;
     }) refl
 
@@ -138,22 +138,22 @@ of_event s new e x is c = subst (λ (y : Event). Changes (touched s y) (all_seri
 
 changes_by : (s : State) (e : Event) (r : Reply) (new : State) → Walked s e r new → Changes (touched s e) (all_serials s) (all_serials new)
 changes_by s _ _ _ (Stays e r new quiet sets subs units up) = stay (touched s e) (all_serials s) (all_serials new) (ap (map serials_at) subs)
-changes_by s _ _ _ (Started cpu word address place sub orb c new at one) = named_changed s new word place sub _ at one
-changes_by s _ _ _ (Tested e r place sub c new quiet one address ex is) =
-    of_event s new e (event.Execute ex.cpu (instruction.Tsch ex.word address)) ex.event (named_changed s new ex.word place sub _ ex.at one)
-changes_by s _ _ _ (Modified e r place sub given c new quiet one) =
-    stay (touched s e) (all_serials s) (all_serials new) (set_stays s.subs new.subs place sub _ one.there one.subs (modified_same sub c given))
-changes_by s _ _ _ (Performed e r place sub f c new quiet one ex is) =
+changes_by s _ _ _ (Started cpu word address index sub orb c new at one) = named_changed s new word index sub _ at one
+changes_by s _ _ _ (Tested e r index sub c new quiet one address ex is) =
+    of_event s new e (event.Execute ex.cpu (instruction.Tsch ex.word address)) ex.event (named_changed s new ex.word index sub _ ex.at one)
+changes_by s _ _ _ (Modified e r index sub given c new quiet one) =
+    stay (touched s e) (all_serials s) (all_serials new) (set_stays s.subs new.subs index sub _ one.there one.subs (modified_same sub c given))
+changes_by s _ _ _ (Performed e r index sub f c new quiet one ex is) =
     of_event s new e (event.Execute ex.cpu (instruction_of f ex.word)) ex.event
-    (subst (λ (w : ℕ). Changes (touched_word s w) (all_serials s) (all_serials new)) (sym (function_word f ex.word)) (named_changed s new ex.word place sub _ ex.at one))
-changes_by s _ _ _ (Chosen word place sub choice t new at is suits does one) = named_changed s new word place sub _ at one
-changes_by s _ _ _ (Met word path returns place sub t new at does one is) = named_changed s new word place sub _ at one
-changes_by s _ _ _ (Sunk word path may owed place sub u t new at does one) =
-    set_stays s.subs new.subs place sub t.sub one.there one.subs (same_of sub (down_sub may sub path u) t (down_same may sub path u) does)
-changes_by s _ _ _ (Reported at place sub u report t new reached reaches does one) =
-    set_stays s.subs new.subs place sub t.sub one.there one.subs (same_of sub (report_sub sub u report) t (taken_same sub (unit_reports u report)) does)
-changes_by s _ _ _ (Acted at place sub u what t new side is does one) =
-    set_stays s.subs new.subs place sub t.sub one.there one.subs (same_of sub (act_sub sub u what) t (act_same sub u what) does)
+    (subst (λ (w : ℕ). Changes (touched_word s w) (all_serials s) (all_serials new)) (sym (function_word f ex.word)) (named_changed s new ex.word index sub _ ex.at one))
+changes_by s _ _ _ (Chosen word index sub choice t new at is suits does one) = named_changed s new word index sub _ at one
+changes_by s _ _ _ (Met word path returns index sub t new at does one is) = named_changed s new word index sub _ at one
+changes_by s _ _ _ (Sunk word path may owed index sub u t new at does one) =
+    set_stays s.subs new.subs index sub t.sub one.there one.subs (same_of sub (down_sub may sub path u) t (down_same may sub path u) does)
+changes_by s _ _ _ (Reported at index sub u report t new reached reaches does one) =
+    set_stays s.subs new.subs index sub t.sub one.there one.subs (same_of sub (report_sub sub u report) t (taken_same sub (unit_reports u report)) does)
+changes_by s _ _ _ (Acted at index sub u what t new side is does one) =
+    set_stays s.subs new.subs index sub t.sub one.there one.subs (same_of sub (act_sub sub u what) t (act_same sub u what) does)
 changes_by s _ _ _ (Restarted at owed u r new there sets subs units up) = ap (map serials_at) subs
 changes_by s _ _ _ (Swept e r what new quiet sets subs units is) = of_event s new e (sweep_event what) is.event (swept s what (all_serials s) (all_serials new))
 

@@ -7,24 +7,24 @@ use Rattle.channel_config.specs.Setup.{Setup}
 use Rattle.channel_config.specs.SubchannelWords.{subchannel_named}
 use Rattle.subchannel_model.specs.declared.state.Subchannel.{Subchannel}
 use Rattle.subchannel_model.specs.Opening.{opened}
-use Rattle.subchannel_model.specs.Places.{place_in, place_of_id, one_later}
-use Rattle.machine_model.specs.State.{State, opening_of, place_of}
+use Rattle.subchannel_model.specs.Indices.{index_in, index_of_id, one_later}
+use Rattle.machine_model.specs.State.{State, opening_of, index_of}
 use Rattle.machine_model.specs.Setups.{IsSetUp}
 use Rattle.subsystem.specs.Keeping.{all_serials}
-use Rattle.core_lock.specs.Directory.{Directory, directory_by, directory_of, is_name, name_place, place_named, place_of_name, setup_of}
+use Rattle.core_lock.specs.Directory.{Directory, directory_by, directory_of, is_name, named_index, index_named, index_of_name, setup_of}
 use Rattle.core_lock.specs.Named.{serials}
 
 -- a name is found where its subchannel stands
-name_stands : (id : SubchannelId) (subs : List Subchannel) → name_place id (map setup_of subs) ≡ place_in id subs
+name_stands : (id : SubchannelId) (subs : List Subchannel) → named_index id (map setup_of subs) ≡ index_in id subs
 name_stands id [] = refl
 name_stands id (sub ∷ subs) = ap (λ (o : Option ℕ). if is_name id (setup_of sub) then Some 0 else one_later o) (name_stands id subs)
 
-named_stands : (o : Option SubchannelId) (subs : List Subchannel) → place_of_name (map setup_of subs) o ≡ place_of_id subs o
+named_stands : (o : Option SubchannelId) (subs : List Subchannel) → index_of_name (map setup_of subs) o ≡ index_of_id subs o
 named_stands None subs = refl
 named_stands (Some id) subs = name_stands id subs
 
-pub place_is : (s : State) (word : ℕ) → place_named (directory_of s) word ≡ place_of s word
-place_is s word = named_stands (subchannel_named s.sets word) s.subs
+pub index_is : (s : State) (word : ℕ) → index_named (directory_of s) word ≡ index_of s word
+index_is s word = named_stands (subchannel_named s.sets word) s.subs
 
 pub directory_is : (setup : Setup) (s : State) → IsSetUp setup s → directory_of s ≡ directory_by setup
 directory_is setup s i j = record { sets = i.sets j; setups = i.subs j }

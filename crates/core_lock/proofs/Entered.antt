@@ -7,7 +7,7 @@ use Rattle.machine_model.specs.State.{Past}
 use Rattle.path_select.specs.Choice.{Rule}
 use Rattle.subsystem.specs.Keeping.{IsStep, answer_of}
 
-pub accepted : (picks : Rule) (old new : Past) (e : Event) (came counted : Result (Unit {0}) Fault) (done : Unit {0}) → IsStep picks old e (answer_of came new.history) new → counted ≡ came → counted ≡ Ok done
+pub accepted : (picks : Rule) (old new : Past) (e : Event) (outcome counted : Result (Unit {0}) Fault) (done : Unit {0}) → IsStep picks old e (answer_of outcome new.history) new → counted ≡ outcome → counted ≡ Ok done
     → IsStep picks old e (Ok (last_reply new.history)) new
-accepted picks old new e came counted done step same is =
+accepted picks old new e outcome counted done step same is =
     subst (λ (r : Result (Unit {0}) Fault). IsStep picks old e (answer_of r new.history) new) (sym same ∙ is) step

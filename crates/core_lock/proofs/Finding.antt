@@ -5,8 +5,8 @@ use Rattle.channel_config.specs.declared.names.SubchannelId.{SubchannelId}
 use Rattle.channel_config.specs.declared.parts.SubchannelSetup.{SubchannelSetup}
 use Rattle.chan_events.specs.Events.{Event}
 use Rattle.machine_model.specs.State.{State}
-use Rattle.subchannel_model.specs.Places.{one_later}
-use Rattle.core_lock.specs.Directory.{is_name, is_name_at, name_place}
+use Rattle.subchannel_model.specs.Indices.{one_later}
+use Rattle.core_lock.specs.Directory.{is_name, is_name_at, named_index}
 use Rattle.core_lock.specs.PathTurns.{or_turn, path_turn_among, path_turn_at}
 
 -- the first of some setups: where it is none in a longer list, it is none in its rest, and the head is another
@@ -26,24 +26,24 @@ cons_none : (b : Bool) (o : Option ℕ) → b ≡ false → o ≡ None → (if b
 cons_none true o e f = absurd (cc)
 cons_none false o e f = ap one_later f
 
-pub place_at : (id : SubchannelId) (setups : List SubchannelSetup) (i : ℕ) → i < length setups → name_place id (take i setups) ≡ None → is_name_at id (slice_get setups i) ≡ true → name_place id setups ≡ Some i
-place_at id [] i lt none is = absurd (omega arith)
-place_at id (x ∷ xs) zero lt none is = ap (λ (b : Bool). if b then Some 0 else one_later (name_place id xs)) is
-place_at id (x ∷ xs) (suc i) lt none is =
-    let fails = head_fails (is_name id x) (one_later (name_place id (take i xs))) none in
-    let before = later_none (name_place id (take i xs)) (rest_none (is_name id x) (one_later (name_place id (take i xs))) none) in
-    let place = place_at id xs i (omega arith) before is in
-    (ap (λ (b : Bool). if b then Some 0 else one_later (name_place id xs)) fails ∙ ap one_later place) ∙ ap (λ (n : ℕ). Some n) (add-one i)
+pub index_at : (id : SubchannelId) (setups : List SubchannelSetup) (i : ℕ) → i < length setups → named_index id (take i setups) ≡ None → is_name_at id (slice_get setups i) ≡ true → named_index id setups ≡ Some i
+index_at id [] i lt none is = absurd (omega arith)
+index_at id (x ∷ xs) zero lt none is = ap (λ (b : Bool). if b then Some 0 else one_later (named_index id xs)) is
+index_at id (x ∷ xs) (suc i) lt none is =
+    let fails = head_fails (is_name id x) (one_later (named_index id (take i xs))) none in
+    let before = later_none (named_index id (take i xs)) (rest_none (is_name id x) (one_later (named_index id (take i xs))) none) in
+    let index = index_at id xs i (omega arith) before is in
+    (ap (λ (b : Bool). if b then Some 0 else one_later (named_index id xs)) fails ∙ ap one_later index) ∙ ap (λ (n : ℕ). Some n) (add-one i)
 
-more_none : (id : SubchannelId) (setups : List SubchannelSetup) (i : ℕ) → i < length setups → name_place id (take i setups) ≡ None → is_name_at id (slice_get setups i) ≡ false → name_place id (take (suc i) setups) ≡ None
+more_none : (id : SubchannelId) (setups : List SubchannelSetup) (i : ℕ) → i < length setups → named_index id (take i setups) ≡ None → is_name_at id (slice_get setups i) ≡ false → named_index id (take (suc i) setups) ≡ None
 more_none id [] i lt none is = absurd (omega arith)
 more_none id (x ∷ xs) zero lt none is = cons_none (is_name id x) None is refl
 more_none id (x ∷ xs) (suc i) lt none is =
-    cons_none (is_name id x) (name_place id (take (suc i) xs)) (head_fails (is_name id x) (one_later (name_place id (take i xs))) none)
-    (more_none id xs i (omega arith) (later_none (name_place id (take i xs)) (rest_none (is_name id x) (one_later (name_place id (take i xs))) none)) is)
+    cons_none (is_name id x) (named_index id (take (suc i) xs)) (head_fails (is_name id x) (one_later (named_index id (take i xs))) none)
+    (more_none id xs i (omega arith) (later_none (named_index id (take i xs)) (rest_none (is_name id x) (one_later (named_index id (take i xs))) none)) is)
 
-pub place_more : (id : SubchannelId) (setups : List SubchannelSetup) (i : ℕ) → i < length setups → name_place id (take i setups) ≡ None → is_name_at id (slice_get setups i) ≡ false → name_place id (take (i + 1) setups) ≡ None
-place_more id setups i lt none is = subst (λ n. name_place id (take n setups) ≡ None) (sym (add-one i)) (more_none id setups i lt none is)
+pub index_more : (id : SubchannelId) (setups : List SubchannelSetup) (i : ℕ) → i < length setups → named_index id (take i setups) ≡ None → is_name_at id (slice_get setups i) ≡ false → named_index id (take (i + 1) setups) ≡ None
+index_more id setups i lt none is = subst (λ n. named_index id (take n setups) ≡ None) (sym (add-one i)) (more_none id setups i lt none is)
 
 -- the first turn of a path's worker among these subchannels
 among_suc : (s : State) (chpid : ℕ) (setups : List SubchannelSetup) (i : ℕ) → i < length setups → path_turn_among s chpid (drop i setups) ≡ or_turn (path_turn_at s chpid (slice_get setups i)) (path_turn_among s chpid (drop (suc i) setups))

@@ -18,7 +18,7 @@ use Rattle.core_lock.specs.Seats.{Guarded, GuardedCore, HeldSeat, Seated, entry}
 use Rattle.core_lock.specs.Entering.{entered}
 use Rattle.unit_driver.specs.Waiting.{report_event, waits_after}
 use Rattle.unit_driver.specs.Turns.{turn_of}
-use Rattle.core_lock.specs.Turns.{turned_seat, emptied_seat, turn_of_path, with_left, with_owed, Tries, Passes, HandsIn, TakesTurn, TakesUnitTurn, TakesPathTurn, MayStand, MayTurn, IsOfPath, IsOfWorker, Grew, IsKeptFrom, IsOwedBy, WorksPath, WorksUnit, count_in}
+use Rattle.core_lock.specs.Turns.{turned_seat, emptied_seat, turn_of_path, with_left, with_owed, Tries, Passes, EntersReport, TakesTurn, TakesUnitTurn, TakesPathTurn, MayStand, MayTurn, IsOfPath, IsOfWorker, Grew, IsWaitingFrom, IsOwedBy, WorksPath, WorksUnit, count_in}
 
 all_none : (P : Entry → Type 0) → All P []
 all_none P k d lt = absurd (omega arith)
@@ -89,31 +89,31 @@ path_turns picks old seat (Some e) result new after t = tries_same (λ (s : Seat
 
 -- what turns of a unit's worker leave
 module _ (d : Setup) (roam : Bool) (at : ℕ) where
-  none_kept : (old now : Option WaitingReport) → now ≡ None → IsKeptFrom d roam at old now
-  none_kept old now is = subst (λ (o : Option WaitingReport). IsKeptFrom d roam at old o) (sym is) tt
+  none_waiting : (old now : Option WaitingReport) → now ≡ None → IsWaitingFrom d roam at old now
+  none_waiting old now is = subst (λ (o : Option WaitingReport). IsWaitingFrom d roam at old o) (sym is) tt
 
-  some_kept : (old now : Option WaitingReport) (kept : WaitingReport) → old ≡ Some kept → now ≡ Some kept → IsKeptFrom d roam at old now
-  some_kept old now kept was is = subst (λ (o : Option WaitingReport). IsKeptFrom d roam at old o) (sym is) (inr was)
+  some_waiting : (old now : Option WaitingReport) (kept : WaitingReport) → old ≡ Some kept → now ≡ Some kept → IsWaitingFrom d roam at old now
+  some_waiting old now kept was is = subst (λ (o : Option WaitingReport). IsWaitingFrom d roam at old o) (sym is) (inr was)
 
-  kept_by : (kept : WaitingReport) (f : Fault) (now : Option WaitingReport) → now ≡ waits_after (report_event kept) f → IsKeptFrom d roam at (Some kept) now
-  kept_by kept fault.NoMemory now is = some_kept (Some kept) now kept refl is
-  kept_by kept fault.WireFull now is = some_kept (Some kept) now kept refl is
-  kept_by kept fault.NotSent now is = none_kept (Some kept) now is
-  kept_by kept fault.NoSuchSubchannel now is = none_kept (Some kept) now is
-  kept_by kept fault.NoSuchPath now is = none_kept (Some kept) now is
-  kept_by kept fault.NoSuchUnit now is = none_kept (Some kept) now is
-  kept_by kept fault.NotNow now is = none_kept (Some kept) now is
-  kept_by kept (fault.ConfigBad rule) now is = none_kept (Some kept) now is
-  kept_by kept (fault.ScriptBad line rule) now is = none_kept (Some kept) now is
-  kept_by kept (fault.Storage kind) now is = none_kept (Some kept) now is
-  kept_by kept fault.Operand now is = none_kept (Some kept) now is
+  waiting_by : (kept : WaitingReport) (f : Fault) (now : Option WaitingReport) → now ≡ waits_after (report_event kept) f → IsWaitingFrom d roam at (Some kept) now
+  waiting_by kept fault.NoMemory now is = some_waiting (Some kept) now kept refl is
+  waiting_by kept fault.WireFull now is = some_waiting (Some kept) now kept refl is
+  waiting_by kept fault.NotSent now is = none_waiting (Some kept) now is
+  waiting_by kept fault.NoSuchSubchannel now is = none_waiting (Some kept) now is
+  waiting_by kept fault.NoSuchPath now is = none_waiting (Some kept) now is
+  waiting_by kept fault.NoSuchUnit now is = none_waiting (Some kept) now is
+  waiting_by kept fault.NotNow now is = none_waiting (Some kept) now is
+  waiting_by kept (fault.ConfigBad rule) now is = none_waiting (Some kept) now is
+  waiting_by kept (fault.ScriptBad line rule) now is = none_waiting (Some kept) now is
+  waiting_by kept (fault.Storage kind) now is = none_waiting (Some kept) now is
+  waiting_by kept fault.Operand now is = none_waiting (Some kept) now is
 
-  kept_on : (a b c : Option WaitingReport) → IsKeptFrom d roam at a b → IsKeptFrom d roam at b c → IsKeptFrom d roam at a c
+  kept_on : (a b c : Option WaitingReport) → IsWaitingFrom d roam at a b → IsWaitingFrom d roam at b c → IsWaitingFrom d roam at a c
   kept_on a b None p q = tt
   kept_on a b (Some k) p (inl same) = inl same
-  kept_on a b (Some k) p (inr is) = subst (λ (o : Option WaitingReport). IsKeptFrom d roam at a o) is p
+  kept_on a b (Some k) p (inr is) = subst (λ (o : Option WaitingReport). IsWaitingFrom d roam at a o) is p
 
-  of_worker : (a b : Option WaitingReport) (e : Event) → IsKeptFrom d roam at a b → IsOfWorker d roam at b e → IsOfWorker d roam at a e
+  of_worker : (a b : Option WaitingReport) (e : Event) → IsWaitingFrom d roam at a b → IsOfWorker d roam at b e → IsOfWorker d roam at a e
   of_worker a b e p (inl is) = inl is
   of_worker a b e p (inr (kept, from, is)) = inr (kept, kept_on a b (Some kept) p from, is)
 
@@ -122,7 +122,7 @@ takes_turn picks old seat roam at (Enters e) result new after may none t = recor
   number = tries_same (λ (s : Seated). s.number) (λ s x r. refl) picks old seat seat.value e result new after refl t;
   setup = tries_same (λ (s : Seated). s.setup) (λ s x r. refl) picks old seat seat.value e result new after refl t;
   directory = tries_same (λ (s : Seated). s.directory) (λ s x r. refl) picks old seat seat.value e result new after refl t;
-  kept = none_kept seat.value.setup roam at seat.value.kept after.kept (tries_same (λ (s : Seated). s.kept) (λ s x r. refl) picks old seat seat.value e result new after refl t ∙ none);
+  kept = none_waiting seat.value.setup roam at seat.value.kept after.kept (tries_same (λ (s : Seated). s.kept) (λ s x r. refl) picks old seat seat.value e result new after refl t ∙ none);
   log = tries_grows (IsOfWorker seat.value.setup roam at seat.value.kept) picks old seat seat.value e result new after refl (inl (Enters e, may, refl)) t;
 }
 takes_turn picks old seat roam at (Leaves command) result new after may none t =
@@ -132,21 +132,21 @@ takes_turn picks old seat roam at (Leaves command) result new after may none t =
       number = tries_same (λ (s : Seated). s.number) (λ s x r. refl) picks old seat last e result new after refl t;
       setup = tries_same (λ (s : Seated). s.setup) (λ s x r. refl) picks old seat last e result new after refl t;
       directory = tries_same (λ (s : Seated). s.directory) (λ s x r. refl) picks old seat last e result new after refl t;
-      kept = none_kept seat.value.setup roam at seat.value.kept after.kept (tries_same (λ (s : Seated). s.kept) (λ s x r. refl) picks old seat last e result new after refl t ∙ none);
+      kept = none_waiting seat.value.setup roam at seat.value.kept after.kept (tries_same (λ (s : Seated). s.kept) (λ s x r. refl) picks old seat last e result new after refl t ∙ none);
       log = tries_grows (IsOfWorker seat.value.setup roam at seat.value.kept) picks old seat last e result new after refl (inl (Leaves command, may, refl)) t;
     }
 takes_turn picks old seat roam at (Owes owed) result new after may none t = record {
   number = ap (λ (s : Seated). s.number) t.2;
   setup = ap (λ (s : Seated). s.setup) t.2;
   directory = ap (λ (s : Seated). s.directory) t.2;
-  kept = none_kept seat.value.setup roam at seat.value.kept after.kept (ap (λ (s : Seated). s.kept) t.2 ∙ none);
+  kept = none_waiting seat.value.setup roam at seat.value.kept after.kept (ap (λ (s : Seated). s.kept) t.2 ∙ none);
   log = passes_grows (IsOfWorker seat.value.setup roam at seat.value.kept) old (with_owed seat.value (Some owed)) result new after t;
 }
 takes_turn picks old seat roam at Rests result new after may none t = record {
   number = ap (λ (s : Seated). s.number) t.2;
   setup = ap (λ (s : Seated). s.setup) t.2;
   directory = ap (λ (s : Seated). s.directory) t.2;
-  kept = none_kept seat.value.setup roam at seat.value.kept after.kept (ap (λ (s : Seated). s.kept) t.2 ∙ none);
+  kept = none_waiting seat.value.setup roam at seat.value.kept after.kept (ap (λ (s : Seated). s.kept) t.2 ∙ none);
   log = passes_grows (IsOfWorker seat.value.setup roam at seat.value.kept) old seat.value result new after t;
 }
 
@@ -156,16 +156,16 @@ pub record Handed (roam : Bool) (at : ℕ) (report : WaitingReport) (seat after 
   pub setup : after.setup ≡ seat.setup
   pub directory : after.directory ≡ seat.directory
   pub owed : after.owed ≡ seat.owed
-  pub kept : IsKeptFrom seat.setup roam at (Some report) after.kept
+  pub kept : IsWaitingFrom seat.setup roam at (Some report) after.kept
   pub log : Grew (IsOfWorker seat.setup roam at (Some report)) seat.log after.log count
 
-handed : (picks : Rule) (old : GuardedCore) (seat : HeldSeat) (roam : Bool) (at : ℕ) (kept : WaitingReport) (result : Result Bool Fault) (new : Guarded) (after : Seated) → seat.value.kept ≡ None → HandsIn picks old seat kept result new after → Handed roam at kept seat.value after (count_in result)
+handed : (picks : Rule) (old : GuardedCore) (seat : HeldSeat) (roam : Bool) (at : ℕ) (kept : WaitingReport) (result : Result Bool Fault) (new : Guarded) (after : Seated) → seat.value.kept ≡ None → EntersReport picks old seat kept result new after → Handed roam at kept seat.value after (count_in result)
 handed picks old seat roam at kept (Ok true) new after none (r, enters) = record {
   number = ap (λ (s : Seated). s.number) enters.0.3;
   setup = ap (λ (s : Seated). s.setup) enters.0.3;
   directory = ap (λ (s : Seated). s.directory) enters.0.3;
   owed = ap (λ (s : Seated). s.owed) enters.0.3;
-  kept = none_kept seat.value.setup roam at (Some kept) after.kept (ap (λ (s : Seated). s.kept) enters.0.3 ∙ none);
+  kept = none_waiting seat.value.setup roam at (Some kept) after.kept (ap (λ (s : Seated). s.kept) enters.0.3 ∙ none);
   log = grew_one (IsOfWorker seat.value.setup roam at (Some kept)) seat.value.log after.log (report_event kept) r (ap (λ (s : Seated). s.log) enters.0.3) (inr (kept, inr refl, refl));
 }
 handed picks old seat roam at kept (Ok false) new after none (may, core, is) = record {
@@ -173,7 +173,7 @@ handed picks old seat roam at kept (Ok false) new after none (may, core, is) = r
   setup = ap (λ (s : Seated). s.setup) is;
   directory = ap (λ (s : Seated). s.directory) is;
   owed = ap (λ (s : Seated). s.owed) is;
-  kept = none_kept seat.value.setup roam at (Some kept) after.kept (ap (λ (s : Seated). s.kept) is);
+  kept = none_waiting seat.value.setup roam at (Some kept) after.kept (ap (λ (s : Seated). s.kept) is);
   log = grew_none (IsOfWorker seat.value.setup roam at (Some kept)) seat.value.log after.log (ap (λ (s : Seated). s.log) is);
 }
 handed picks old seat roam at kept (Err f) new after none (other, may, core, is) = record {
@@ -181,7 +181,7 @@ handed picks old seat roam at kept (Err f) new after none (other, may, core, is)
   setup = ap (λ (s : Seated). s.setup) is;
   directory = ap (λ (s : Seated). s.directory) is;
   owed = ap (λ (s : Seated). s.owed) is;
-  kept = kept_by seat.value.setup roam at kept f after.kept (ap (λ (s : Seated). s.kept) is);
+  kept = waiting_by seat.value.setup roam at kept f after.kept (ap (λ (s : Seated). s.kept) is);
   log = grew_none (IsOfWorker seat.value.setup roam at (Some kept)) seat.value.log after.log (ap (λ (s : Seated). s.log) is);
 }
 
@@ -195,7 +195,7 @@ unit_turn_works picks old seat (Some kept) at roam result new after stands is t 
       number = w.number;
       setup = w.setup;
       directory = w.directory;
-      kept = subst (λ (o : Option WaitingReport). IsKeptFrom seat.value.setup roam at o after.kept) (sym is) w.kept;
+      kept = subst (λ (o : Option WaitingReport). IsWaitingFrom seat.value.setup roam at o after.kept) (sym is) w.kept;
       log = subst (λ (o : Option WaitingReport). Grew (IsOfWorker seat.value.setup roam at o) seat.value.log after.log (count_in result)) (sym is) w.log;
     }
 
@@ -228,7 +228,7 @@ takes_turns picks old seat (Leaves command) result new after t =
 takes_turns picks old seat (Owes owed) result new after t = ap (λ (s : Seated). s.turns) t.2
 takes_turns picks old seat Rests result new after t = ap (λ (s : Seated). s.turns) t.2
 
-hands_turns : (picks : Rule) (old : GuardedCore) (seat : HeldSeat) (kept : WaitingReport) (result : Result Bool Fault) (new : Guarded) (after : Seated) → HandsIn picks old seat kept result new after → after.turns ≡ seat.value.turns
+hands_turns : (picks : Rule) (old : GuardedCore) (seat : HeldSeat) (kept : WaitingReport) (result : Result Bool Fault) (new : Guarded) (after : Seated) → EntersReport picks old seat kept result new after → after.turns ≡ seat.value.turns
 hands_turns picks old seat kept (Ok true) new after (r, enters) = ap (λ (s : Seated). s.turns) enters.0.3
 hands_turns picks old seat kept (Ok false) new after (may, core, is) = ap (λ (s : Seated). s.turns) is
 hands_turns picks old seat kept (Err f) new after (other, may, core, is) = ap (λ (s : Seated). s.turns) is
@@ -240,7 +240,7 @@ unit_turns picks old seat (Some kept) at roam result new after t = hands_turns p
 -- turn after turn
 pub works_more : (roam : Bool) (at : ℕ) (a b c : Seated) (m n : ℕ) → WorksUnit roam at a b m → WorksUnit roam at b c n → WorksUnit roam at a c (m + n)
 works_more roam at a b c m n p q =
-    let kept = subst (λ (d : Setup). IsKeptFrom d roam at b.kept c.kept) p.setup q.kept in
+    let kept = subst (λ (d : Setup). IsWaitingFrom d roam at b.kept c.kept) p.setup q.kept in
     let log = subst (λ (d : Setup). Grew (IsOfWorker d roam at b.kept) b.log c.log n) p.setup q.log in
     record {
       number = q.number ∙ p.number;

@@ -29,15 +29,15 @@ abbrev pub is_name_at : SubchannelId → Option SubchannelSetup → Bool
 is_name_at id None = false
 is_name_at id (Some setup) = is_name id setup
 
--- the place of the first subchannel of this name
-abbrev pub name_place : SubchannelId → List SubchannelSetup → Option ℕ
-name_place id [] = None
-name_place id (setup ∷ setups) = if is_name id setup then Some 0 else option_map (λ place. place + 1) (name_place id setups)
+-- the index of the first subchannel of this name
+abbrev pub named_index : SubchannelId → List SubchannelSetup → Option ℕ
+named_index id [] = None
+named_index id (setup ∷ setups) = if is_name id setup then Some 0 else option_map (λ index. index + 1) (named_index id setups)
 
-abbrev pub place_of_name : List SubchannelSetup → Option SubchannelId → Option ℕ
-place_of_name setups None = None
-place_of_name setups (Some id) = name_place id setups
+abbrev pub index_of_name : List SubchannelSetup → Option SubchannelId → Option ℕ
+index_of_name setups None = None
+index_of_name setups (Some id) = named_index id setups
 
--- the place of the subchannel that a subsystem-identification word names
-abbrev pub place_named : Directory → ℕ → Option ℕ
-place_named d word = place_of_name d.setups (subchannel_named d.sets word)
+-- the index of the subchannel that a subsystem-identification word names
+abbrev pub index_named : Directory → ℕ → Option ℕ
+index_named d word = index_of_name d.setups (subchannel_named d.sets word)

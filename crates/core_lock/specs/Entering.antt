@@ -13,7 +13,7 @@ use Rattle.machine_model.specs.Steps.{Step, IsRefused}
 use Rattle.path_select.specs.Choice.{Rule}
 use Rattle.core_lock.specs.declared.executing.CpuInstruction.{CpuInstruction}
 use Rattle.core_lock.specs.declared.executing.CpuInstruction.TheVariants as cpu_instruction
-use Rattle.core_lock.specs.Directory.{place_named}
+use Rattle.core_lock.specs.Directory.{index_named}
 use Rattle.core_lock.specs.Named.{counts_of}
 use Rattle.core_lock.specs.Seats.{Guarded, GuardedCore, HeldSeat, LockedCore, Seated, entry, greater, raised}
 
@@ -93,40 +93,40 @@ event_of cpu (cpu_instruction.OnSubchannel i) = event.Execute cpu i
 event_of cpu (cpu_instruction.OfSubsystem i) = event.ExecuteOther cpu i
 
 -- the reader that a seat has of the cell of a subchannel loads once, and finds these words; the seat had this pair of it
-pub record LoadsOnce (old : Seated) (word place : ℕ) (pair : Serials) (words : Words) : Type 0 where
+pub record LoadsOnce (old : Seated) (word index : ℕ) (pair : Serials) (words : Words) : Type 0 where
   pub before : Words
-  pub named : place_named old.directory word ≡ Some place
-  pub saw : slice_get old.pairs place ≡ Some pair
-  pub had : slice_get old.loaded place ≡ Some before
+  pub named : index_named old.directory word ≡ Some index
+  pub saw : slice_get old.pairs index ≡ Some pair
+  pub had : slice_get old.loaded index ≡ Some before
   pub cell : words.cell ≡ before.cell
   pub loads : words.loads ≡ before.loads + 1
 
--- the reader of a place loads once, and finds these counts
+-- the reader of an index loads once, and finds these counts
 abbrev pub LoadsAt : List Words → ℕ → Serials → List Words → Type 0
-LoadsAt old place found new =
+LoadsAt old index found new =
     (before : Words)
-    × (slice_get old place ≡ Some before)
-    × (new ≡ slice_set old place (record before { made = found.made; cleared = found.cleared; loads = before.loads + 1 }))
+    × (slice_get old index ≡ Some before)
+    × (new ≡ slice_set old index (record before { made = found.made; cleared = found.cleared; loads = before.loads + 1 }))
 
 -- a seat with this pair of a subchannel, whose reader loaded these words
 abbrev pub seat_loaded : Seated → ℕ → Serials → Words → Seated
-seat_loaded seat place pair words = record seat { pairs = slice_set seat.pairs place pair; loaded = slice_set seat.loaded place words }
+seat_loaded seat index pair words = record seat { pairs = slice_set seat.pairs index pair; loaded = slice_set seat.loaded index words }
 
 -- a look at a subchannel: what is found is part by part the greater of the words loaded and the pair, which becomes the pair
 pub record Glances (old : Seated) (word : ℕ) (found : Serials) (new : Seated) : Type 0 where
-  pub place : ℕ
+  pub index : ℕ
   pub pair : Serials
   pub words : Words
-  pub load : LoadsOnce old word place pair words
+  pub load : LoadsOnce old word index pair words
   pub found_is : found ≡ greater pair (counts_of words)
-  pub leaves : new ≡ seat_loaded old place found words
+  pub leaves : new ≡ seat_loaded old index found words
 
 -- a look at a subchannel with its machine at hand: what is found is the words loaded, and is what the machine has
 pub record Looks (s : State) (old : Seated) (word : ℕ) (found : Serials) (new : Seated) : Type 0 where
-  pub place : ℕ
+  pub index : ℕ
   pub pair : Serials
   pub words : Words
-  pub load : LoadsOnce old word place pair words
+  pub load : LoadsOnce old word index pair words
   pub found_is : found ≡ counts_of words
   pub has : serials_in (sub_of s word) ≡ Some found
-  pub leaves : new ≡ seat_loaded old place (greater pair found) words
+  pub leaves : new ≡ seat_loaded old index (greater pair found) words

@@ -14,7 +14,7 @@ use Rattle.machine_model.specs.State.{State}
 use Rattle.unit_driver.specs.declared.turns.OwedCall.{OwedCall}
 use Rattle.unit_driver.specs.declared.waiting.WaitingReport.{WaitingReport}
 use Rattle.unit_driver.specs.declared.turns.TakenCommand.{TakenCommand}
-use Rattle.core_lock.specs.Directory.{Directory, place_named}
+use Rattle.core_lock.specs.Directory.{Directory, index_named}
 use Rattle.core_lock.specs.Named.{serials}
 
 -- a machine under its lock: its state and the history that led there, the seat of each entry of it, and how many seats were made
@@ -75,18 +75,18 @@ entries_by number (n ∷ by) (e ∷ history) = if n == number then e ∷ entries
 abbrev pub greater : Serials → Serials → Serials
 greater one other = serials (max one.made other.made) (max one.cleared other.cleared)
 
--- the pair of a place, raised to these counts
+-- the pair of an index, raised to these counts
 abbrev pub raised_at : List Serials → Option ℕ → Serials → List Serials
 raised_at pairs None found = pairs
-raised_at pairs (Some place) found = slice_set pairs place (greater (slice_index_or pairs place found) found)
+raised_at pairs (Some index) found = slice_set pairs index (greater (slice_index_or pairs index found) found)
 
 abbrev pub raised_by : List Serials → Option ℕ → Option Serials → List Serials
-raised_by pairs place None = pairs
-raised_by pairs place (Some found) = raised_at pairs place found
+raised_by pairs index None = pairs
+raised_by pairs index (Some found) = raised_at pairs index found
 
 -- TEST SUBCHANNEL with code 0 or 1 ends by raising the pair of its subchannel to the counts that it answers
 abbrev pub raised_among : List Serials → Directory → Event → Reply → List Serials
-raised_among pairs directory (event.Execute cpu (instruction.Tsch word address)) r = raised_by pairs (place_named directory word) (serials_brought (answer_in r))
+raised_among pairs directory (event.Execute cpu (instruction.Tsch word address)) r = raised_by pairs (index_named directory word) (serials_brought (answer_in r))
 raised_among pairs directory e r = pairs
 
 abbrev pub raised : Seated → Event → Reply → List Serials

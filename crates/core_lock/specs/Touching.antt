@@ -4,16 +4,16 @@ use Rattle.scsw_irb.specs.declared.serials.Serials.{Serials}
 use Rattle.chan_events.specs.Events.{Event}
 use Rattle.chan_events.specs.declared.event.Event.TheVariants as event
 use Rattle.chan_events.specs.Instructions.{subchannel_word}
-use Rattle.machine_model.specs.State.{State, place_of}
+use Rattle.machine_model.specs.State.{State, index_of}
 use Rattle.core_lock.specs.declared.touching.ChangedSerials.{ChangedSerials}
 use Rattle.core_lock.specs.declared.touching.ChangedSerials.TheVariants.{Nothing, Place, All}
 
 abbrev pub touched_at : Option ℕ → ChangedSerials
 touched_at None = Nothing
-touched_at (Some place) = Place place
+touched_at (Some index) = Place index
 
 abbrev pub touched_word : State → ℕ → ChangedSerials
-touched_word s word = touched_at (place_of s word)
+touched_word s word = touched_at (index_of s word)
 
 -- an instruction, a choice and a signal that comes up: those of the subchannel that they name. What happens to a channel path, and
 -- a reset of the subsystem: those of all. Anything else: none
@@ -30,11 +30,11 @@ touched s e = Nothing
 -- such serials alone are changed
 abbrev pub Changes : ChangedSerials → List Serials → List Serials → Type 0
 Changes Nothing old new = new ≡ old
-Changes (Place place) old new = (after : Serials) × (new ≡ slice_set old place after)
+Changes (Place index) old new = (after : Serials) × (new ≡ slice_set old index after)
 Changes All old new = Unit {0}
 
--- the place is one of so many
+-- the index is one of so many
 abbrev pub IsThere : ChangedSerials → ℕ → Type 0
 IsThere Nothing count = Unit {0}
-IsThere (Place place) count = place < count
+IsThere (Place index) count = index < count
 IsThere All count = Unit {0}

@@ -33,8 +33,8 @@ use Rattle.core_lock.specs.Entering.{IsExhausted}
 abbrev pub turned : Seated → Seated
 turned seat = record seat { turns = seat.turns + 1 }
 
-abbrev pub with_kept : Seated → Option WaitingReport → Seated
-with_kept seat kept = record seat { kept = kept }
+abbrev pub with_waiting : Seated → Option WaitingReport → Seated
+with_waiting seat kept = record seat { kept = kept }
 
 abbrev pub with_owed : Seated → Option OwedCall → Seated
 with_owed seat owed = record seat { owed = owed }
@@ -46,7 +46,7 @@ abbrev pub turned_seat : HeldSeat → HeldSeat
 turned_seat seat = record seat { value = turned seat.value }
 
 abbrev pub emptied_seat : HeldSeat → HeldSeat
-emptied_seat seat = record seat { value = with_kept seat.value None }
+emptied_seat seat = record seat { value = with_waiting seat.value None }
 
 -- an event is entered; a path that is chosen is the one of the rule
 abbrev pub EntersBy : Rule → Guarded → Seated → Event → Reply → Guarded → Seated → Type 0
@@ -74,12 +74,12 @@ abbrev pub Passes : GuardedCore → Seated → Result Bool Fault → Guarded →
 Passes core seat result new after = (result ≡ Ok false) × (new ≡ core.value) × (after ≡ seat)
 
 -- a report that is kept is handed in: it is entered, or refused; a stale one is dropped then
-abbrev pub HandsIn : Rule → GuardedCore → HeldSeat → WaitingReport → Result Bool Fault → Guarded → Seated → Type 0
-HandsIn picks core seat kept (Ok true) new after = (r : Reply) × EntersBy picks core.value seat.value (report_event kept) r new after
-HandsIn picks core seat kept (Ok false) new after =
-    IsRefusedBy picks core seat (report_event kept) fault.NotNow × (new ≡ core.value) × (after ≡ with_kept seat.value None)
-HandsIn picks core seat kept (Err f) new after =
-    (f ≢ fault.NotNow) × IsRefusedBy picks core seat (report_event kept) f × (new ≡ core.value) × (after ≡ with_kept seat.value (waits_after (report_event kept) f))
+abbrev pub EntersReport : Rule → GuardedCore → HeldSeat → WaitingReport → Result Bool Fault → Guarded → Seated → Type 0
+EntersReport picks core seat kept (Ok true) new after = (r : Reply) × EntersBy picks core.value seat.value (report_event kept) r new after
+EntersReport picks core seat kept (Ok false) new after =
+    IsRefusedBy picks core seat (report_event kept) fault.NotNow × (new ≡ core.value) × (after ≡ with_waiting seat.value None)
+EntersReport picks core seat kept (Err f) new after =
+    (f ≢ fault.NotNow) × IsRefusedBy picks core seat (report_event kept) f × (new ≡ core.value) × (after ≡ with_waiting seat.value (waits_after (report_event kept) f))
 
 abbrev pub TakesTurn : Rule → GuardedCore → HeldSeat → Turn → Result Bool Fault → Guarded → Seated → Type 0
 TakesTurn picks core seat (Enters e) result new after = Tries picks core seat seat.value e result new after
@@ -90,7 +90,7 @@ TakesTurn picks core seat Rests result new after = Passes core seat.value result
 
 -- a turn of a unit's worker, by a seat with one turn more
 abbrev pub TakesUnitTurn : Rule → GuardedCore → HeldSeat → Option WaitingReport → ℕ → Bool → Result Bool Fault → Guarded → Seated → Type 0
-TakesUnitTurn picks core seat (Some kept) at roam result new after = HandsIn picks core (emptied_seat seat) kept result new after
+TakesUnitTurn picks core seat (Some kept) at roam result new after = EntersReport picks core (emptied_seat seat) kept result new after
 TakesUnitTurn picks core seat None at roam result new after =
     TakesTurn picks core seat (turn_of roam seat.value.left at core.value.state) result new after
 
@@ -144,9 +144,9 @@ IsAnswer setup roam at kept =
     (owed : OwedCall) × (answer : DeviceAnswer) × MayTurn setup roam at (Owes owed) × (kept ≡ report_of owed answer)
 
 -- a report that is kept in the end was kept before, or answers a call of such a turn; a call that is owed is of such a turn
-abbrev pub IsKeptFrom : Setup → Bool → ℕ → Option WaitingReport → Option WaitingReport → Type 0
-IsKeptFrom setup roam at old None = Unit {0}
-IsKeptFrom setup roam at old (Some kept) = IsAnswer setup roam at kept ⊎ (old ≡ Some kept)
+abbrev pub IsWaitingFrom : Setup → Bool → ℕ → Option WaitingReport → Option WaitingReport → Type 0
+IsWaitingFrom setup roam at old None = Unit {0}
+IsWaitingFrom setup roam at old (Some kept) = IsAnswer setup roam at kept ⊎ (old ≡ Some kept)
 
 abbrev pub IsOwedBy : Setup → Bool → ℕ → Option OwedCall → Type 0
 IsOwedBy setup roam at None = Unit {0}
@@ -156,11 +156,11 @@ IsOwedBy setup roam at (Some owed) = MayTurn setup roam at (Owes owed)
 abbrev pub IsTurnEvent : Setup → Bool → ℕ → Event → Type 0
 IsTurnEvent setup roam at e = (turn : Turn) × MayTurn setup roam at turn × IsEnteredBy turn e
 
-abbrev pub IsHandedIn : Setup → Bool → ℕ → Option WaitingReport → Event → Type 0
-IsHandedIn setup roam at old e = (kept : WaitingReport) × IsKeptFrom setup roam at old (Some kept) × (e ≡ report_event kept)
+abbrev pub IsEnteredReport : Setup → Bool → ℕ → Option WaitingReport → Event → Type 0
+IsEnteredReport setup roam at old e = (kept : WaitingReport) × IsWaitingFrom setup roam at old (Some kept) × (e ≡ report_event kept)
 
 abbrev pub IsOfWorker : Setup → Bool → ℕ → Option WaitingReport → Event → Type 0
-IsOfWorker setup roam at kept e = IsTurnEvent setup roam at e ⊎ IsHandedIn setup roam at kept e
+IsOfWorker setup roam at kept e = IsTurnEvent setup roam at e ⊎ IsEnteredReport setup roam at kept e
 
 -- the log grew by so many entries, whose events are such
 abbrev pub Grew : (Event → Type 0) → List Entry → List Entry → ℕ → Type 0
@@ -178,7 +178,7 @@ pub record WorksUnit (roam : Bool) (at : ℕ) (old new : Seated) (count : ℕ) :
   pub number : new.number ≡ old.number
   pub setup : new.setup ≡ old.setup
   pub directory : new.directory ≡ old.directory
-  pub kept : IsKeptFrom old.setup roam at old.kept new.kept
+  pub kept : IsWaitingFrom old.setup roam at old.kept new.kept
   pub log : Grew (IsOfWorker old.setup roam at old.kept) old.log new.log count
 
 -- what a call that is made leaves, where one is owed: a report of it

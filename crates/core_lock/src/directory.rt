@@ -57,13 +57,13 @@ impl Directory {
         self.setups.as_slice()
     }
 
-    /// The place of the subchannel that a subsystem-identification word names; None where it is not configured.
-    pub fn place(&self, word: u32) -> Option<usize>
-        ensures place { result ≡ spec.place_named self.now word }
-        ensures bound { IfSome result (λ place. place < length self.now.setups) }
+    /// The index of the subchannel that a subsystem-identification word names; None where it is not configured.
+    pub fn index_of(&self, word: u32) -> Option<usize>
+        ensures index { result ≡ spec.index_named self.now word }
+        ensures bound { IfSome result (λ index. index < length self.now.setups) }
     {
         let id = subchannel_named(self.sets, word)?;
-        name_place(id, self.setups.as_slice())
+        named_index(id, self.setups.as_slice())
     }
 }
 
@@ -90,24 +90,24 @@ fn is_name(id: SubchannelId, setup: &SubchannelSetup) -> bool
     setup.id.set == id.set && setup.id.number == id.number
 }
 
-/// The place of the first subchannel of this name.
-fn name_place(id: SubchannelId, setups: &[SubchannelSetup]) -> Option<usize>
-    ensures place { result ≡ spec.name_place id setups.now }
-    ensures bound { IfSome result (λ place. place < length setups.now) }
+/// The index of the first subchannel of this name.
+fn named_index(id: SubchannelId, setups: &[SubchannelSetup]) -> Option<usize>
+    ensures index { result ≡ spec.named_index id setups.now }
+    ensures bound { IfSome result (λ index. index < length setups.now) }
 {
-    for place in 0..setups.len() {
-        if is_name_at(id, setups, place) {
-            return Some(place);
+    for index in 0..setups.len() {
+        if is_name_at(id, setups, index) {
+            return Some(index);
         }
     }
     None
 }
 
-/// Whether the subchannel at a place has this name.
-fn is_name_at(id: SubchannelId, setups: &[SubchannelSetup], place: usize) -> bool
-    ensures { result ≡ spec.is_name_at id (slice_get setups.now place) }
+/// Whether the subchannel at an index has this name.
+fn is_name_at(id: SubchannelId, setups: &[SubchannelSetup], index: usize) -> bool
+    ensures { result ≡ spec.is_name_at id (slice_get setups.now index) }
 {
-    match setups.get(place) {
+    match setups.get(index) {
         Some(setup) => is_name(id, setup),
         None => false,
     }

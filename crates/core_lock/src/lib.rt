@@ -5,7 +5,7 @@
 //! as they were. Whenever the lock is free the history replays to the state, what the subsystem promises of every history holds
 //! of it, and each glance cell has the serials of its subchannel. `audit` says exactly whether each seat's log is what the
 //! history has of it, `Core::close` exactly whether all seats came back. A directory has the subchannels of the configuration,
-//! a place for each name. A look at serials takes no lock, no memory, and never falls behind what its seat saw: a pair is raised
+//! an index for each name. A look at serials takes no lock, no memory, and never falls behind what its seat saw: a pair is raised
 //! to the part by part greater. Memory comes from a supply that can refuse it. That a call which takes the lock returns is not
 //! promised, nor any order between seats.
 #![tactic(auto)]

@@ -8,11 +8,11 @@ ghost use Rattle.run_laws.specs.Agreeing.{AllAgree};
 ghost use Rattle.run_laws.specs.Beginnings.{IsBegunOnce};
 ghost use Rattle.run_laws.specs.StateClaims.{IsClearedOnce};
 ghost use Rattle.machine_model.specs.Setups.{IsSetUp};
-ghost use Rattle.machine_model.specs.State.{place_of};
+ghost use Rattle.machine_model.specs.State.{index_of};
 ghost use Rattle.machine_model.specs.Steps.{HasRun};
 ghost use Rattle.subsystem.specs.Headline.{HasHeld};
 ghost use Rattle.subsystem.specs.Keeping.{all_serials};
-ghost use Rattle.core_lock.specs.Directory.{directory_of, place_named};
+ghost use Rattle.core_lock.specs.Directory.{directory_of, index_named};
 ghost use Rattle.core_lock.specs.Entering.{guarded_in};
 ghost use Rattle.core_lock.specs.Named.{shown};
 ghost use Rattle.core_lock.specs.Seats.{entries_by};
@@ -65,7 +65,7 @@ pub struct NotMade<P: PathChoice + Drop> {
     pub parts: Parts,
 }
 
-/// A place at a machine, with the log of what was entered from it, and what it saw of the serials of each subchannel.
+/// An index at a machine, with the log of what was entered from it, and what it saw of the serials of each subchannel.
 #[derive(Drop)]
 pub struct Seat<J: Naming> {
     pub(crate) number: u16,
@@ -190,7 +190,7 @@ impl<J: Naming, P: PathChoice + Drop> Core<J, P> {
         }) }
         ensures loaded { IfOk result (λ s. shown s.value.loaded ≡ all_serials self.old.value.state) }
         // A seat finds a subchannel where the subsystem has it.
-        ensures places { IfOk result (λ s. (word : ℕ) → place_named s.value.directory word ≡ place_of self.old.value.state word) }
+        ensures indices { IfOk result (λ s. (word : ℕ) → index_named s.value.directory word ≡ index_of self.old.value.state word) }
         ensures core { IfOk result (λ _. self.new ≡ record self.old { value = record self.old.value { seats = self.old.value.seats + 1 } }) }
         ensures refused { IfErr result (λ f. (f ≡ fault_spec.NoMemory) ⊎ ((f ≡ fault_spec.NotNow) × (self.old.value.seats ≡ 1024))) }
         ensures err { OnErr result (self.new ≡ self.old) }
@@ -220,7 +220,7 @@ impl<J: Naming, P: PathChoice + Drop> Core<J, P> {
         }) }
         ensures loaded { IfOk result (λ s. shown s.value.loaded ≡ all_serials self.old.value.state) }
         // A seat finds a subchannel where the subsystem has it.
-        ensures places { IfOk result (λ s. (word : ℕ) → place_named s.value.directory word ≡ place_of self.old.value.state word) }
+        ensures indices { IfOk result (λ s. (word : ℕ) → index_named s.value.directory word ≡ index_of self.old.value.state word) }
         ensures core { IfOk result (λ _. self.new ≡ record self.old { value = record self.old.value { seats = self.old.value.seats + 1 } }) }
         ensures refused { IfErr result (λ f. (f ≡ fault_spec.NoMemory) ⊎ ((f ≡ fault_spec.NotNow) × (self.old.value.seats ≡ 1024))) }
         ensures err { OnErr result (self.new ≡ self.old) }

@@ -2,7 +2,7 @@
 
 ghost use Rattle.std.specs.Prelude.{◌≡◌, ◌<◌, ◌≤◌, None, Some, IsSome, IfOk, IfErr, OnErr, is_some, length, slice_get};
 ghost use Rattle.chan_model.specs.declared.fault.Fault.TheVariants as fault_spec;
-ghost use Rattle.core_lock.specs.Directory.{place_named};
+ghost use Rattle.core_lock.specs.Directory.{index_named};
 ghost use Rattle.core_lock.specs.Entering.{Glances, LoadsAt, Looks};
 ghost use Rattle.core_lock.specs.Named.{cells_of, serials, shown};
 ghost use Rattle.machine_model.specs.State.{sub_of};
@@ -47,16 +47,16 @@ impl<J: Naming> Seat<J> {
     pub fn glance(&mut self, subchannel: u32) -> Result<Glance, Fault>
         ensures found { IfOk result (λ g. Glances self.old.value subchannel (serials g.made g.cleared) self.new.value) }
         ensures ordered { IfOk result (λ g. g.cleared ≤ g.made) }
-        ensures refused { IfErr result (λ f. (f ≡ fault_spec.NoSuchSubchannel) × (place_named self.old.value.directory subchannel ≡ None)) }
+        ensures refused { IfErr result (λ f. (f ≡ fault_spec.NoSuchSubchannel) × (index_named self.old.value.directory subchannel ≡ None)) }
         ensures same { OnErr result (self.new ≡ self.old) }
         ensures room { self.new.room ≡ self.old.room }
     {
-        let Some(place) = self.directory.place(subchannel) else {
+        let Some(index) = self.directory.index_of(subchannel) else {
             return Err(Fault::NoSuchSubchannel);
         };
-        let reader = &mut self.readers[place];
+        let reader = &mut self.readers[index];
         let loaded = reader.load();
-        let pair = self.pairs[place];
+        let pair = self.pairs[index];
         let found = greater(
             pair,
             Serials {
@@ -64,7 +64,7 @@ impl<J: Naming> Seat<J> {
                 cleared: loaded.cleared,
             },
         );
-        self.pairs[place] = found;
+        self.pairs[index] = found;
         Ok(Glance {
             made: found.made,
             cleared: found.cleared,
@@ -96,29 +96,29 @@ impl<J: Naming, P: PathChoice + Drop> Guarded<J, P> {
         ensures room { seat.new.room ≡ seat.old.room }
     {
         self.stands(seat);
-        let Some(place) = seat.directory.place(subchannel) else {
+        let Some(index) = seat.directory.index_of(subchannel) else {
             return Err(Fault::NoSuchSubchannel);
         };
-        let found = load_at(&mut self.writers, &mut seat.readers, place);
-        let pair = seat.pairs[place];
+        let found = load_at(&mut self.writers, &mut seat.readers, index);
+        let pair = seat.pairs[index];
         let raised = greater(pair, found);
-        seat.pairs[place] = raised;
+        seat.pairs[index] = raised;
         Ok(found)
     }
 }
 
-/// The reader of a place loads what the writer of that place has.
-fn load_at(writers: &mut Vec<Writer>, readers: &mut Vec<Reader>, place: usize) -> Serials
-    requires read { place < length readers.old.items }
-    requires written { place < length writers.old.items }
+/// The reader of an index loads what the writer of that index has.
+fn load_at(writers: &mut Vec<Writer>, readers: &mut Vec<Reader>, index: usize) -> Serials
+    requires read { index < length readers.old.items }
+    requires written { index < length writers.old.items }
     requires cells { cells_of readers.old.items ≡ cells_of writers.old.items }
-    ensures found { slice_get (shown writers.old.items) place ≡ Some result }
+    ensures found { slice_get (shown writers.old.items) index ≡ Some result }
     ensures ordered { result.cleared ≤ result.made }
     ensures writers { writers.new.items ≡ writers.old.items }
-    ensures readers { LoadsAt readers.old.items place result readers.new.items }
+    ensures readers { LoadsAt readers.old.items index result readers.new.items }
 {
-    let reader = &mut readers[place];
-    let loaded = reader.load_beside(&mut writers[place]);
+    let reader = &mut readers[index];
+    let loaded = reader.load_beside(&mut writers[index]);
     Serials {
         made: loaded.made,
         cleared: loaded.cleared,

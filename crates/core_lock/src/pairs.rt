@@ -38,7 +38,7 @@ pub fn publish<P: PathChoice + Drop>(
 {
     match touched {
         ChangedSerials::Nothing => {}
-        ChangedSerials::Place(place) => publish_one(writers, place, serials_at(subsystem, place)),
+        ChangedSerials::Place(index) => publish_one(writers, index, serials_at(subsystem, index)),
         ChangedSerials::All => publish_all(writers, subsystem),
     }
 }
@@ -49,32 +49,32 @@ fn publish_all<P: PathChoice + Drop>(writers: &mut Vec<Writer>, subsystem: &Subs
     ensures shown { shown writers.new.items ≡ all_serials subsystem.now.state }
     ensures cells { cells_of writers.new.items ≡ cells_of writers.old.items }
 {
-    for place in 0..writers.len() {
-        publish_one(writers, place, serials_at(subsystem, place));
+    for index in 0..writers.len() {
+        publish_one(writers, index, serials_at(subsystem, index));
     }
 }
 
-/// The serials of the subchannel at a place that there is.
-pub fn serials_at<P: PathChoice + Drop>(subsystem: &Subsystem<P>, place: usize) -> Serials
-    requires { place < length (all_serials subsystem.now.state) }
-    ensures value { slice_get (all_serials subsystem.now.state) place ≡ Some result }
+/// The serials of the subchannel at an index that there is.
+pub fn serials_at<P: PathChoice + Drop>(subsystem: &Subsystem<P>, index: usize) -> Serials
+    requires { index < length (all_serials subsystem.now.state) }
+    ensures value { slice_get (all_serials subsystem.now.state) index ≡ Some result }
     ensures ordered { result.cleared ≤ result.made }
 {
-    let Some(serials) = subsystem.serials_at(place) else {
+    let Some(serials) = subsystem.serials_at(index) else {
         unreachable!()
     };
     serials
 }
 
 /// Stores the serials of one subchannel.
-fn publish_one(writers: &mut Vec<Writer>, place: usize, now: Serials)
-    requires there { place < vec_len writers.old }
-    requires rises { (was : Serials) → slice_get (shown writers.old.items) place ≡ Some was → (was.made ≤ now.made) × (was.cleared ≤ now.cleared) }
+fn publish_one(writers: &mut Vec<Writer>, index: usize, now: Serials)
+    requires there { index < vec_len writers.old }
+    requires rises { (was : Serials) → slice_get (shown writers.old.items) index ≡ Some was → (was.made ≤ now.made) × (was.cleared ≤ now.cleared) }
     requires ordered { now.cleared ≤ now.made }
-    ensures shown { shown writers.new.items ≡ slice_set (shown writers.old.items) place now }
+    ensures shown { shown writers.new.items ≡ slice_set (shown writers.old.items) index now }
     ensures cells { cells_of writers.new.items ≡ cells_of writers.old.items }
 {
-    let writer = &mut writers[place];
+    let writer = &mut writers[index];
     writer.store(now.made, now.cleared);
 }
 
@@ -90,8 +90,8 @@ pub fn watch<S: CellSupply>(
     ensures memory { OnErr result (S.refused supply.new ≡ true) }
 {
     let mut readers = Vec::new(alloc);
-    for place in 0..writers.len() {
-        let reader = supply.reader(&mut writers[place])?;
+    for index in 0..writers.len() {
+        let reader = supply.reader(&mut writers[index])?;
         push(supply, &mut readers, reader)?;
     }
     Ok(readers)
@@ -110,8 +110,8 @@ pub fn first_pairs<S: Supply, P: PathChoice + Drop>(
 {
     let _first = subsystem.serials_at(0);
     let mut pairs = Vec::new(alloc);
-    for place in 0..subsystem.count() {
-        push(supply, &mut pairs, serials_at(subsystem, place))?;
+    for index in 0..subsystem.count() {
+        push(supply, &mut pairs, serials_at(subsystem, index))?;
     }
     Ok(pairs)
 }
@@ -147,16 +147,16 @@ fn last_brought<P: PathChoice + Drop>(subsystem: &Subsystem<P>) -> Option<Serial
     }
 }
 
-/// Raises the pair of a place to these serials.
-fn raise_at(pairs: &mut Vec<Serials>, place: Option<usize>, found: Serials)
-    ensures { pairs.new.items ≡ spec.raised_at pairs.old.items place found }
+/// Raises the pair of an index to these serials.
+fn raise_at(pairs: &mut Vec<Serials>, index: Option<usize>, found: Serials)
+    ensures { pairs.new.items ≡ spec.raised_at pairs.old.items index found }
 {
-    let Some(place) = place else {
+    let Some(index) = index else {
         return;
     };
-    if place < pairs.len() {
-        let was = pairs[place];
-        pairs[place] = greater(was, found);
+    if index < pairs.len() {
+        let was = pairs[index];
+        pairs[index] = greater(was, found);
     }
 }
 
@@ -188,6 +188,6 @@ pub fn raise<P: PathChoice + Drop>(
         return;
     };
     if let Some(found) = last_brought(subsystem) {
-        raise_at(pairs, directory.place(*subchannel), found);
+        raise_at(pairs, directory.index_of(*subchannel), found);
     }
 }

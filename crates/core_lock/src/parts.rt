@@ -84,7 +84,7 @@ fn writers_of<S: CellSupply>(
     ensures memory { OnErr result (S.refused supply.new ≡ true) }
 {
     let mut writers = Vec::new(alloc);
-    for _place in 0..count {
+    for _index in 0..count {
         let writer = supply.cell(alloc)?;
         push(supply, &mut writers, writer)?;
     }

@@ -17,24 +17,24 @@ pub(crate) fn path_turn_of<P: PathChoice + Drop>(
 ) -> Option<Event>
     ensures { result ≡ spec.path_turn_among subsystem.now.state chpid directory.now.setups }
 {
-    for place in 0..directory.count() {
-        if let Some(turn) = path_turn_at(subsystem, directory, place, chpid) {
+    for index in 0..directory.count() {
+        if let Some(turn) = path_turn_at(subsystem, directory, index, chpid) {
             return Some(turn);
         }
     }
     None
 }
 
-/// The event that there is for the subchannel of a place.
+/// The event that there is for the subchannel of an index.
 fn path_turn_at<P: PathChoice + Drop>(
     subsystem: &Subsystem<P>,
     directory: &Directory,
-    place: usize,
+    index: usize,
     chpid: u8,
 ) -> Option<Event>
-    ensures { result ≡ spec.path_turn_at subsystem.now.state chpid (slice_get directory.now.setups place) }
+    ensures { result ≡ spec.path_turn_at subsystem.now.state chpid (slice_get directory.now.setups index) }
 {
-    match directory.setups().get(place) {
+    match directory.setups().get(index) {
         Some(setup) => subsystem.path_turn(word_of(setup.id), chpid),
         None => None,
     }

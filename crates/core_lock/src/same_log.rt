@@ -33,11 +33,11 @@ fn is_part(number: u16, by: &[u16], history: &History, log: &History) -> bool
     ensures { IsTrue result ↔ (entries_by number by.now history.now ≡ log.now) }
 {
     let mut next = 0;
-    for place in 0..by.len() {
-        if by[place] != number {
+    for index in 0..by.len() {
+        if by[index] != number {
             continue;
         }
-        if !log.has_same(next, history, place) {
+        if !log.has_same(next, history, index) {
             return false;
         }
         next += 1;

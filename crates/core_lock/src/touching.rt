@@ -17,7 +17,7 @@ use subsystem::subsystem::Subsystem;
 #[derive(Clone, Copy, Debug)]
 pub enum ChangedSerials {
     Nothing,
-    /// The one at this place.
+    /// The one at this index.
     Place(usize),
     All,
 }
@@ -36,8 +36,8 @@ fn at_word<P: PathChoice + Drop>(subsystem: &Subsystem<P>, word: u32) -> Changed
     ensures value { result ≡ spec.touched_word subsystem.now.state word }
     ensures there { spec.IsThere result (length (all_serials subsystem.now.state)) }
 {
-    match subsystem.place(word) {
-        Some(place) => ChangedSerials::Place(place),
+    match subsystem.index_of(word) {
+        Some(index) => ChangedSerials::Place(index),
         None => ChangedSerials::Nothing,
     }
 }

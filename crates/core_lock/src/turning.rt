@@ -74,7 +74,7 @@ impl<J: Naming, P: PathChoice + Drop> Guarded<J, P> {
             Some(kept) => {
                 let kept = kept.copy();
                 seat.kept = None;
-                self.hand_in(seat, kept)
+                self.enter_report(seat, kept)
             }
             None => {
                 let turn = turn_by(roam, seat.left, unit, self.subsystem.unit_turn(unit));
@@ -92,12 +92,12 @@ impl<J: Naming, P: PathChoice + Drop> Guarded<J, P> {
     }
 
     /// Hands in a report that was kept.
-    fn hand_in(&mut self, seat: &mut Seat<J>, kept: WaitingReport) -> Result<bool, Fault>
-        ensures { turn_spec.HandsIn P.picks self.old seat.old kept result self.new.value seat.new.value }
+    fn enter_report(&mut self, seat: &mut Seat<J>, kept: WaitingReport) -> Result<bool, Fault>
+        ensures { turn_spec.EntersReport P.picks self.old seat.old kept result self.new.value seat.new.value }
     {
         let event = kept.event();
-        let came = self.try_enter(seat, &event);
-        match came {
+        let outcome = self.try_enter(seat, &event);
+        match outcome {
             Ok(entered) => Ok(entered),
             Err(fault) => seat.keep(&event, fault),
         }
@@ -145,7 +145,7 @@ impl<J: Naming> Seat<J> {
     /// Keeps the report of an event that was refused, where it is to be kept. A stale one is no refusal.
     fn keep(&mut self, event: &Event, fault: Fault) -> Result<bool, Fault>
         ensures result { result ≡ waiting_spec.refusal_of fault }
-        ensures seat { self.new.value ≡ turn_spec.with_kept self.old.value (waiting_spec.waits_after event.now fault) }
+        ensures seat { self.new.value ≡ turn_spec.with_waiting self.old.value (waiting_spec.waits_after event.now fault) }
         ensures room { self.new.room ≡ self.old.room }
     {
         keep_refused(&mut self.kept, event, fault);

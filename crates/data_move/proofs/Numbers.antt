@@ -7,7 +7,7 @@ use Rattle.storage_keys.specs.Storage.{Contents}
 use Rattle.ccw_walk.specs.declared.check.Check.{Check}
 use Rattle.ccw_walk.specs.declared.program.Advance.{Advance}
 use Rattle.ccw_walk.specs.declared.program.Advance.TheVariants.{Takes, Suspends, Stops}
-use Rattle.ccw_walk.specs.Places.{WalkPlace, after_acts, after_count_used_up}
+use Rattle.ccw_walk.specs.Positions.{WalkPosition, after_acts, after_count_used_up}
 use Rattle.ccw_walk.specs.Advancing.{advance_acts, advance_of_acts}
 use Rattle.data_move.specs.Moving as movement
 use Rattle.data_move.specs.Moving.{Moving}
@@ -20,13 +20,13 @@ use Rattle.data_move.specs.ToDevice.{with_chunk_counted, chunk_absorbed, with_by
 use Rattle.data_move.specs.Numbers.{IsSame, IsLaterTransfer, IsNew, IfBegins}
 
 -- how a command begins
-begins-new : (walk : WalkPlace) (n : ℕ) (a : Option Advance) → IfBegins (command_begins walk n a) (IsNew n)
+begins-new : (walk : WalkPosition) (n : ℕ) (a : Option Advance) → IfBegins (command_begins walk n a) (IsNew n)
 begins-new walk n None = tt
 begins-new walk n (Some (Takes ccw)) = record { command = refl; sequence = refl }
 begins-new walk n (Some Suspends) = tt
 begins-new walk n (Some (Stops check)) = tt
 
-pub goes_to-new : (storage : Contents) (n : ℕ) (old : WalkPlace) → IfBegins (goes_to storage n old).came (IsNew n)
+pub goes_to-new : (storage : Contents) (n : ℕ) (old : WalkPosition) → IfBegins (goes_to storage n old).outcome (IsNew n)
 goes_to-new storage n old = begins-new (after_acts old (advance_acts storage old)) n (advance_of_acts old (advance_acts storage old))
 
 -- a room is told, or a chunk given
@@ -69,7 +69,7 @@ given-same storage t =
     record { command = g.command ∙ l.command; sequence = g.sequence ∙ l.sequence }
 
 -- bytes are moved
-with_next_ccw-same : (t : Transfer) (walk : WalkPlace) (a : Option Advance) → IsSame t (with_next_ccw t walk a)
+with_next_ccw-same : (t : Transfer) (walk : WalkPosition) (a : Option Advance) → IsSame t (with_next_ccw t walk a)
 with_next_ccw-same t walk None = same t
 with_next_ccw-same t walk (Some (Takes ccw)) = record { command = refl; sequence = refl }
 with_next_ccw-same t walk (Some Suspends) = record { command = refl; sequence = refl }

@@ -11,7 +11,7 @@ use Rattle.ccw_walk.specs.declared.check.Check.TheVariants.{Program}
 use Rattle.ccw_walk.specs.declared.program.Advance.{Advance}
 use Rattle.ccw_walk.specs.declared.program.Advance.TheVariants.{Takes, Suspends, Stops}
 use Rattle.ccw_walk.specs.Acts.{End}
-use Rattle.ccw_walk.specs.Places.{WalkPlace, after_act, after_acts}
+use Rattle.ccw_walk.specs.Positions.{WalkPosition, after_act, after_acts}
 use Rattle.ccw_walk.specs.Advancing.{advance_acts, advance_of_acts}
 use Rattle.idaw.specs.Lists.{kind_of}
 use Rattle.data_move.specs.Moving as movement
@@ -19,7 +19,7 @@ use Rattle.data_move.specs.Moving.{Moving}
 use Rattle.data_move.specs.Accesses as access
 use Rattle.data_move.specs.declared.transfer.Transfer.{Transfer}
 use Rattle.data_move.specs.declared.transfer.CommandStart.{CommandStart}
-use Rattle.data_move.specs.declared.transfer.CommandStart.TheVariants as came
+use Rattle.data_move.specs.declared.transfer.CommandStart.TheVariants as outcome
 use Rattle.data_move.specs.declared.transfer.Beginning.{Beginning}
 use Rattle.data_move.specs.declared.transfer.WithRoom.{WithRoom}
 
@@ -28,10 +28,10 @@ abbrev pub is_skipped : ℕ → Ccw → Bool
 is_skipped code ccw = ccw.skip && not (is_outward code)
 
 -- the data of a block that took control in a command of this code
-abbrev pub data_of : WalkPlace → ℕ → Ccw → Moving
+abbrev pub data_of : WalkPosition → ℕ → Ccw → Moving
 data_of walk code ccw = movement.moving_begun (kind_of walk.orb) ccw (is_skipped code ccw)
 
-abbrev pub transfer_of : WalkPlace → ℕ → Ccw → Transfer
+abbrev pub transfer_of : WalkPosition → ℕ → Ccw → Transfer
 transfer_of walk n ccw = record {
   command = n;
   code = ccw.command;
@@ -47,21 +47,21 @@ transfer_of walk n ccw = record {
 }
 
 -- a program whose next block takes control begins a command; it is suspended, or ends with a check
-abbrev pub command_begins : WalkPlace → ℕ → Option Advance → CommandStart
-command_begins walk n (Some (Takes ccw)) = came.Begins (transfer_of walk n ccw)
-command_begins walk n (Some Suspends) = came.Suspends
-command_begins walk n (Some (Stops check)) = came.Stops check
-command_begins walk n None = came.Stops Program
+abbrev pub command_begins : WalkPosition → ℕ → Option Advance → CommandStart
+command_begins walk n (Some (Takes ccw)) = outcome.Begins (transfer_of walk n ccw)
+command_begins walk n (Some Suspends) = outcome.Suspends
+command_begins walk n (Some (Stops check)) = outcome.Stops check
+command_begins walk n None = outcome.Stops Program
 
 -- the command that a program goes on to from a place
-abbrev pub goes_to : Contents → ℕ → WalkPlace → Beginning
+abbrev pub goes_to : Contents → ℕ → WalkPosition → Beginning
 goes_to storage n old =
     let acts = advance_acts storage old in
-    record { walk = after_acts old acts; came = command_begins (after_acts old acts) n (advance_of_acts old acts) }
+    record { walk = after_acts old acts; outcome = command_begins (after_acts old acts) n (advance_of_acts old acts) }
 
 -- the first command of a program from where it stands: at its beginning, or where it was suspended; and the next after one
 -- that ended, with status modifier or without
-abbrev pub first_command : Contents → WalkPlace → Beginning
+abbrev pub first_command : Contents → WalkPosition → Beginning
 first_command storage walk = goes_to storage 1 walk
 
 abbrev pub next_command : Contents → Transfer → Bool → Beginning

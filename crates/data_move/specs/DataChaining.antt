@@ -4,7 +4,7 @@ use Rattle.storage_keys.specs.Storage.{Contents}
 use Rattle.ccw_walk.specs.declared.check.Check.TheVariants.{Program}
 use Rattle.ccw_walk.specs.declared.program.Advance.{Advance}
 use Rattle.ccw_walk.specs.declared.program.Advance.TheVariants.{Takes, Suspends, Stops}
-use Rattle.ccw_walk.specs.Places.{WalkPlace, after_acts, after_count_used_up}
+use Rattle.ccw_walk.specs.Positions.{WalkPosition, after_acts, after_count_used_up}
 use Rattle.ccw_walk.specs.Advancing.{advance_acts, advance_of_acts}
 use Rattle.data_move.specs.Moving as movement
 use Rattle.data_move.specs.declared.transfer.Transfer.{Transfer}
@@ -20,14 +20,14 @@ chains_data t count = not (count == 0) && ((movement.residual t.moving == 0) && 
 
 -- the next CCW takes control with its own address, count and flags, and its PCI flag may ask for an interruption; where it is suspended
 -- or can't take control, a check stops the transfer
-abbrev pub with_next_ccw : Transfer → WalkPlace → Option Advance → Transfer
+abbrev pub with_next_ccw : Transfer → WalkPosition → Option Advance → Transfer
 with_next_ccw t walk (Some (Takes ccw)) = record t { walk = walk; moving = data_of walk t.code ccw; pci_pending = ccw.program_controlled }
 with_next_ccw t walk (Some Suspends) = record t { walk = walk; fault = Some Program }
 with_next_ccw t walk (Some (Stops check)) = record t { walk = walk; fault = Some check }
 with_next_ccw t walk None = t
 
 -- the next CCW is fetched as the place of the program says, a transfer in channel (TIC) on the way included
-abbrev pub chained_from : Contents → Transfer → WalkPlace → Transfer
+abbrev pub chained_from : Contents → Transfer → WalkPosition → Transfer
 chained_from storage t place =
     let acts = advance_acts storage place in
     with_next_ccw t (after_acts place acts) (advance_of_acts place acts)

@@ -70,7 +70,7 @@ fn goes_to(storage: &Storage, command: u64, walk: Walk) -> Beginning
     let advance = walk.advance(storage);
     Beginning {
         walk,
-        came: begins(walk, command, advance),
+        outcome: begins(walk, command, advance),
     }
 }
 

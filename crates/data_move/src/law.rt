@@ -12,7 +12,7 @@ ghost use Rattle.data_move.specs.declared.transfer.Transfer.{Transfer};
 ghost use Rattle.data_move.specs.Commands.{first_command, next_command, with_room, begun_with_room};
 ghost use Rattle.data_move.specs.ToDevice.{chunk_absorbed, next_chunk};
 ghost use Rattle.data_move.specs.FromDevice.{chunk_stored};
-ghost use Rattle.ccw_walk.specs.Places.{WalkPlace};
+ghost use Rattle.ccw_walk.specs.Positions.{WalkPosition};
 ghost use Rattle.data_move.specs.Numbers.{IsSame, IsLaterTransfer, IsNew, IfBegins};
 
 /// The data of a command word, step by step, over the formula of places.
@@ -28,8 +28,8 @@ pub fn pieces()
 
 /// Commands of a program are numbered from 1, and the chunks of each too.
 pub fn command_numbers()
-    ensures first { (storage : Contents) (walk : WalkPlace) → IfBegins (first_command storage walk).came (IsNew 1) }
-    ensures next { (storage : Contents) (t : Transfer) (modifier : Bool) → IfBegins (next_command storage t modifier).came (IsNew (t.command + 1)) }
+    ensures first { (storage : Contents) (walk : WalkPosition) → IfBegins (first_command storage walk).outcome (IsNew 1) }
+    ensures next { (storage : Contents) (t : Transfer) (modifier : Bool) → IfBegins (next_command storage t modifier).outcome (IsNew (t.command + 1)) }
     ensures begun { (storage : Contents) (t : Transfer) → IsSame t (begun_with_room storage t).transfer }
     ensures room { (storage : Contents) (t : Transfer) → IsSame t (with_room storage t).transfer }
     ensures given { (storage : Contents) (t : Transfer) → IsSame t (next_chunk storage t).transfer }

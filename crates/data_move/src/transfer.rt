@@ -48,7 +48,7 @@ pub enum CommandStart {
 pub struct Beginning {
     /// Where the program stands then.
     pub walk: Walk,
-    pub came: CommandStart,
+    pub outcome: CommandStart,
 }
 
 /// A command with the room that its device is told of: how many bytes of a read may come, at most 256.

@@ -14,60 +14,60 @@ pub fn answer<D: Device>(device: &mut D, call: &Call) -> DeviceAnswer
     ensures answers { D.answers device.old call.now result device.new }
     ensures opening { D.opening device.new ≡ D.opening device.old }
 {
-    let mut place = DeviceAnswer::Begins;
-    answer_to(device, &call.lend(), &mut place);
-    place
+    let mut slot = DeviceAnswer::Begins;
+    answer_to(device, &call.lend(), &mut slot);
+    slot
 }
 
 /// Makes the call, as `answer` does; its bytes are lent, and the answer is written into its place.
-pub fn answer_to<D: Device>(device: &mut D, call: &LentCall<'_>, place: &mut DeviceAnswer)
-    ensures law { IsAnswer (lent_call call.now) place.new }
-    ensures answers { D.answers device.old (lent_call call.now) place.new device.new }
+pub fn answer_to<D: Device>(device: &mut D, call: &LentCall<'_>, slot: &mut DeviceAnswer)
+    ensures law { IsAnswer (lent_call call.now) slot.new }
+    ensures answers { D.answers device.old (lent_call call.now) slot.new device.new }
     ensures opening { D.opening device.new ≡ D.opening device.old }
 {
     match call {
-        Call::Initial { code } => initial_to(device, *code, place),
-        Call::Absorb { bytes } => absorb_to(device, bytes.as_slice(), place),
-        Call::Supply { most } => supply_to(device, *most, place),
+        Call::Initial { code } => initial_to(device, *code, slot),
+        Call::Absorb { bytes } => absorb_to(device, bytes.as_slice(), slot),
+        Call::Supply { most } => supply_to(device, *most, slot),
         Call::Finish => {
             let Finish { status, more } = device.finish();
-            *place = DeviceAnswer::Ended { status, more };
+            *slot = DeviceAnswer::Ended { status, more };
         }
     }
 }
 
 /// The answer that bytes of a write were absorbed, written into its place.
 #[inline(never)]
-fn absorb_to<D: Device>(device: &mut D, bytes: &[u8], place: &mut DeviceAnswer)
+fn absorb_to<D: Device>(device: &mut D, bytes: &[u8], slot: &mut DeviceAnswer)
     requires { length bytes.now ≤ 256 }
-    ensures law { IsAnswer (call_spec.Absorb bytes.now) place.new }
-    ensures answers { D.answers device.old (call_spec.Absorb bytes.now) place.new device.new }
+    ensures law { IsAnswer (call_spec.Absorb bytes.now) slot.new }
+    ensures answers { D.answers device.old (call_spec.Absorb bytes.now) slot.new device.new }
     ensures opening { D.opening device.new ≡ D.opening device.old }
 {
     let count = device.absorb(bytes) as u16;
-    *place = DeviceAnswer::Absorbed(count);
+    *slot = DeviceAnswer::Absorbed(count);
 }
 
 /// The answer that has bytes, written into its place.
 #[inline(never)]
-fn supply_to<D: Device>(device: &mut D, most: u16, place: &mut DeviceAnswer)
-    ensures law { IsAnswer (call_spec.Supply most) place.new }
-    ensures answers { D.answers device.old (call_spec.Supply most) place.new device.new }
+fn supply_to<D: Device>(device: &mut D, most: u16, slot: &mut DeviceAnswer)
+    ensures law { IsAnswer (call_spec.Supply most) slot.new }
+    ensures answers { D.answers device.old (call_spec.Supply most) slot.new device.new }
     ensures opening { D.opening device.new ≡ D.opening device.old }
 {
-    *place = DeviceAnswer::Supplied(device.supply(usize::from(most)));
+    *slot = DeviceAnswer::Supplied(device.supply(usize::from(most)));
 }
 
 /// The answer to an initial status, written into its place: an empty one begins the command, any other ends it or its channel's part.
-fn initial_to<D: Device>(device: &mut D, code: u8, place: &mut DeviceAnswer)
-    ensures law { IsAnswer (call_spec.Initial code) place.new }
-    ensures answers { D.answers device.old (call_spec.Initial code) place.new device.new }
+fn initial_to<D: Device>(device: &mut D, code: u8, slot: &mut DeviceAnswer)
+    ensures law { IsAnswer (call_spec.Initial code) slot.new }
+    ensures answers { D.answers device.old (call_spec.Initial code) slot.new device.new }
     ensures opening { D.opening device.new ≡ D.opening device.old }
 {
     let status = device.initial(code);
     match status.bits() {
-        0 => *place = DeviceAnswer::Begins,
-        _ => *place = DeviceAnswer::Ended {
+        0 => *slot = DeviceAnswer::Begins,
+        _ => *slot = DeviceAnswer::Ended {
             status,
             more: false,
         },

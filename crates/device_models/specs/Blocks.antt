@@ -78,9 +78,9 @@ room_of command moved = 0
 abbrev pub taken_of : Blocks → List ℕ → ℕ
 taken_of store bytes = min (room_of store.at_hand store.moved) (length bytes)
 
--- bytes laid over others from a place on; the rest is kept
+-- bytes laid over others from an index on; the rest is kept
 abbrev pub laid : List ℕ → ℕ → List ℕ → List ℕ
-laid old place bytes = take place old ++ bytes ++ drop (place + length bytes) old
+laid old index bytes = take index old ++ bytes ++ drop (index + length bytes) old
 
 abbrev pub laid_by : Option BlockCommand → Blocks → List ℕ → Blocks
 laid_by (Some Write) store bytes = record store { blocks = slice_set store.blocks store.current (laid (current_block store) store.moved bytes) }

@@ -21,9 +21,9 @@ answer_of_begun b = answer_of_initial (record { 0 = b.status })
 abbrev pub answer_of_ended : {S : Type 0} → EndingStatus S → DeviceAnswer
 answer_of_ended e = answer.Ended (record { 0 = e.status }) e.more
 
--- the bytes from a place on, at most so many
+-- the bytes from an index on, at most so many
 abbrev pub part : List ℕ → ℕ → ℕ → List ℕ
-part bytes place most = take most (drop place bytes)
+part bytes index most = take most (drop index bytes)
 
 -- the sense byte is zero once it is given
 abbrev pub sense_left : ℕ → List ℕ → ℕ

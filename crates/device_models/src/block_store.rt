@@ -79,10 +79,10 @@ impl BlockStore {
         ensures bound { length result ≤ most }
         ensures left { self.now.moved + length result ≤ block_size_of self.now.at_hand }
     {
-        let place = usize::from(self.moved);
+        let index = usize::from(self.moved);
         match self.at_hand {
-            Some(BlockCommand::Read) => part(&self.blocks[usize::from(self.current)], place, most),
-            Some(BlockCommand::Sense) => part(&[self.sense], place, most),
+            Some(BlockCommand::Read) => part(&self.blocks[usize::from(self.current)], index, most),
+            Some(BlockCommand::Sense) => part(&[self.sense], index, most),
             _ => Chunk::new(),
         }
     }
@@ -183,16 +183,16 @@ impl Device for BlockStore {
     fn absorb(&mut self, bytes: &[u8]) -> usize {
         let count = bytes.len().min(self.room());
         let taken = &bytes[..count];
-        let place = usize::from(self.moved);
+        let index = usize::from(self.moved);
         match self.at_hand {
             Some(BlockCommand::Write) => lay(
                 &mut self.blocks[usize::from(self.current)],
-                place,
+                index,
                 taken,
             ),
             Some(BlockCommand::Seek | BlockCommand::SearchEqual) => lay(
                 &mut self.number,
-                place,
+                index,
                 taken,
             ),
             _ => {}
@@ -224,10 +224,10 @@ impl Device for BlockStore {
     }
 }
 
-/// Lays bytes over others from a place on.
-fn lay(old: &mut [u8], place: usize, bytes: &[u8])
-    requires { place + length bytes.now ≤ length old.old }
-    ensures { old.new ≡ spec.laid old.old place bytes.now }
+/// Lays bytes over others from an index on.
+fn lay(old: &mut [u8], index: usize, bytes: &[u8])
+    requires { index + length bytes.now ≤ length old.old }
+    ensures { old.new ≡ spec.laid old.old index bytes.now }
 {
-    old[place..place + bytes.len()].copy_from_slice(bytes);
+    old[index..index + bytes.len()].copy_from_slice(bytes);
 }

@@ -60,10 +60,10 @@ impl Console {
         ensures bound { length result ≤ most }
         ensures left { self.now.given + length result ≤ spec.size_of self.now.at_hand self.now.line }
     {
-        let place = usize::from(self.given);
+        let index = usize::from(self.given);
         match self.at_hand {
-            Some(ConsoleCommand::Read) => part(self.line.as_slice(), place, most),
-            Some(ConsoleCommand::Sense) => part(&[self.sense], place, most),
+            Some(ConsoleCommand::Read) => part(self.line.as_slice(), index, most),
+            Some(ConsoleCommand::Sense) => part(&[self.sense], index, most),
             _ => Chunk::new(),
         }
     }

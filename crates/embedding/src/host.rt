@@ -125,7 +125,7 @@ impl Host {
         ensures { Turned 0x10000 1 result self.old.past self.new.past }
     {
         if let Some(report) = self.next_report() {
-            return self.hand_in(report);
+            return self.enter_report(report);
         }
         if self.take_down() || self.is_done(&up(0)) || self.is_done(&up(1)) {
             return Turn::Moved;
@@ -142,7 +142,7 @@ impl Host {
     }
 
     /// Hands in a report. The clock was called for it, so it is kept where there is no room for it yet.
-    fn hand_in(&mut self, report: Report) -> Turn
+    fn enter_report(&mut self, report: Report) -> Turn
         ensures { Turned 0x10000 1 result self.old.past self.new.past }
     {
         let event = Event::Report { unit: UNIT, report };

@@ -29,7 +29,7 @@ cut-append arena more start count within =
 entry-append : (arena more : List ℕ) (k : KeptEntry) → Fits (length arena) k → entry_at (arena ++ more) k ≡ entry_at arena k
 entry-append arena more k fits = ap (entry_in k) (cut-append arena more k.start (entry_length k) fits)
 
--- any entry, for a place that a list does not have
+-- any entry, for an index that a list does not have
 blank : KeptEntry
 blank = record { start = 0; event = event.SystemReset; reply = reply.Done }
 
@@ -57,7 +57,7 @@ entries-added arena bytes ks k fit is =
     map_push (entry_at (arena ++ bytes)) ks k
     ∙ ap₂ (λ (h : List Entry) (x : Entry). h ++ x ∷ []) (entries-append arena bytes ks fit) (entry-added arena bytes k is)
 
--- entries that end before a place fit in an arena that goes on
+-- entries that end before an index fit in an arena that goes on
 pub fit-within : (arena : List ℕ) (start : ℕ) (ks : List KeptEntry) → start ≤ length arena → All (Fits start) ks → AllFit arena ks
 fit-within arena start ks inside fit = λ i d within. omega (arith, fit i d within, inside)
 
@@ -87,8 +87,8 @@ pub told-behind : (arena more : List ℕ) (start : ℕ) (k : KeptReply) (r : Rep
 told-behind arena more start k r ends told = ap (reply_in k) (added-behind arena more start ends ∙ sym (append-nil more)) ∙ told []
 
 -- greater capacities have no less room
-pub room-grows : (places more count near far start : ℕ) → places ≤ more → near ≤ far → room_of (places - count) (near - start) ≤ room_of (more - count) (far - start)
-room-grows places more count near far start wider grows = omega (arith, wider, grows)
+pub room-grows : (slots more count near far start : ℕ) → slots ≤ more → near ≤ far → room_of (slots - count) (near - start) ≤ room_of (more - count) (far - start)
+room-grows slots more count near far start wider grows = omega (arith, wider, grows)
 
 -- an entry stands behind those that have ended, which are as before
 pub record IsBehind (items new : List KeptEntry) (count : ℕ) (k : KeptEntry) : Type 0 where

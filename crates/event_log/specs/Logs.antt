@@ -26,9 +26,9 @@ abbrev pub answer_in : {A : Type 0} → Result A Fault → Logged → Result Rep
 answer_in (Ok _) log = Ok log.reply
 answer_in (Err f) log = Err f
 
--- room for one more takes a place among the entries, and 768 bytes, as many as an entry may have
-abbrev pub room_of : (places bytes : ℕ) → ℕ
-room_of places bytes = min places (bytes / 768)
+-- room for one more takes a slot among the entries, and 768 bytes, as many as an entry may have
+abbrev pub room_of : (slots bytes : ℕ) → ℕ
+room_of slots bytes = min slots (bytes / 768)
 
 -- the entry whose bytes stand from its start on
 abbrev pub entry_at : List ℕ → KeptEntry → Entry
@@ -87,6 +87,6 @@ pub record IsPacked {Z : Type 0} (old new : Vec ℕ Z) (kept : KeptReply) (r : R
   pub size : vec_len new ≡ vec_len old + length (reply_bytes r)
   pub capacity : vec_capacity old ≤ vec_capacity new
 
--- entries have one at a place, and others have the same at another
+-- entries have one at an index, and others have the same at another
 abbrev pub HasSame : List Entry → ℕ → List Entry → ℕ → Type 0
-HasSame entries number others place = (number < length entries) × (slice_get entries number ≡ slice_get others place)
+HasSame entries number others index = (number < length entries) × (slice_get entries number ≡ slice_get others index)

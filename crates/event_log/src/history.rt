@@ -96,17 +96,17 @@ impl<'a> History<'a> {
     }
 
     /// Whether there is an entry of this number, and it is the same as that of another number in another history.
-    pub fn has_same(&self, number: usize, other: &History<'_>, place: usize) -> bool
-        ensures { IsTrue result ↔ HasSame self.now number other.now place }
+    pub fn has_same(&self, number: usize, other: &History<'_>, index: usize) -> bool
+        ensures { IsTrue result ↔ HasSame self.now number other.now index }
     {
-        match (self.entries.get(number), other.entries.get(place)) {
+        match (self.entries.get(number), other.entries.get(index)) {
             (Some(one), Some(two)) => same_at(one, self.bytes, two, other.bytes),
             _ => false,
         }
     }
 
     /// Whether both have the same entries in the same order. Where they are kept as the same, with the same bytes in the same
-    /// places, no entry is looked up.
+    /// indices, no entry is looked up.
     pub fn is_same(&self, other: &History<'_>) -> bool
         ensures { IsTrue result ↔ (self.now ≡ other.now) }
     {
@@ -194,15 +194,15 @@ fn are_kept_as(entries: &[KeptEntry], others: &[KeptEntry]) -> bool
     if entries.len() != others.len() {
         return false;
     }
-    for place in 0..entries.len() {
-        if !is_kept_as(&entries[place], &others[place]) {
+    for index in 0..entries.len() {
+        if !is_kept_as(&entries[index], &others[index]) {
             return false;
         }
     }
     true
 }
 
-/// Whether both are kept with the same numbers, and their bytes stand in the same places.
+/// Whether both are kept with the same numbers, and their bytes stand at the same indices.
 fn is_kept_as(one: &KeptEntry, other: &KeptEntry) -> bool
     ensures { IsTrue result ↔ (one.now ≡ other.now) }
 {

@@ -122,7 +122,7 @@ impl Log {
         ensures given { OnOk result (S.refused supply.new ≡ S.refused supply.old) }
         ensures memory { OnErr result (S.refused supply.new ≡ true) }
     {
-        ensure_place(supply, &mut self.entries, self.count)?;
+        ensure_slot(supply, &mut self.entries, self.count)?;
         let written = self.bytes.len() - self.start;
         ensure_room(supply, &mut self.bytes, ENTRY_BYTES - written)
     }
@@ -266,8 +266,8 @@ fn pack_down(
     KeptReply::met_down(signal, taken, sent)
 }
 
-/// Makes a place for an entry behind those that have ended, where there is none: in what memory a supply has.
-fn ensure_place<S: Supply>(
+/// Makes a slot for an entry behind those that have ended, where there is none: in what memory a supply has.
+fn ensure_slot<S: Supply>(
     supply: &mut S,
     entries: &mut Vec<KeptEntry>,
     count: usize,

@@ -28,15 +28,15 @@ mask-tied put setup p q scsw up rest mask set tied is of shows =
     ap (λ (x : Pmcw). put x mask) tied ∙ ap (put (pmcw_of (bare setup p scsw up rest))) (sym (mask-is mask small)) ∙ shows mask in
     subst (λ (x : Pmcw). x ≡ pmcw_of (bare setup x scsw up rest)) (sym is) same
 
--- and the subchannel shows the set of the mask, as `place` has it of its state
-pub mask-shown : (put : Pmcw → ℕ → Pmcw) (place : PmcwState → List Bool → PmcwState) (setup : SubchannelSetup) (p q : Pmcw) (scsw : Scsw) (up : List Bool) (rest : Rest) (mask : ℕ) (set : List Bool) (now : Unwired)
+-- and the subchannel shows the set of the mask, as `index` has it of its state
+pub mask-shown : (put : Pmcw → ℕ → Pmcw) (index : PmcwState → List Bool → PmcwState) (setup : SubchannelSetup) (p q : Pmcw) (scsw : Scsw) (up : List Bool) (rest : Rest) (mask : ℕ) (set : List Bool) (now : Unwired)
     → q ≡ put p mask → paths_of_mask mask ≡ set → unwired_of setup p scsw up rest ≡ now
-    → (let before = unwired_of setup p scsw up rest in unwired_of setup (put p mask) scsw up rest ≡ with_pmcw before (place before.state.pmcw (paths_of_mask mask)))
-    → unwired_of setup q scsw up rest ≡ with_pmcw now (place now.state.pmcw set)
-mask-shown put place setup p q scsw up rest mask set now is of before shows =
+    → (let before = unwired_of setup p scsw up rest in unwired_of setup (put p mask) scsw up rest ≡ with_pmcw before (index before.state.pmcw (paths_of_mask mask)))
+    → unwired_of setup q scsw up rest ≡ with_pmcw now (index now.state.pmcw set)
+mask-shown put index setup p q scsw up rest mask set now is of before shows =
     ap (λ (x : Pmcw). unwired_of setup x scsw up rest) is ∙ shows
-    ∙ ap (λ (paths : List Bool). with_pmcw (unwired_of setup p scsw up rest) (place (unwired_of setup p scsw up rest).state.pmcw paths)) of
-    ∙ ap (λ (x : Unwired). with_pmcw x (place x.state.pmcw set)) before
+    ∙ ap (λ (paths : List Bool). with_pmcw (unwired_of setup p scsw up rest) (index (unwired_of setup p scsw up rest).state.pmcw paths)) of
+    ∙ ap (λ (x : Unwired). with_pmcw x (index x.state.pmcw set)) before
 
 pub path-tied : (setup : SubchannelSetup) (p : Pmcw) (scsw : Scsw) (up : List Bool) (rest : Rest) (path : Option ℕ)
     → p ≡ pmcw_of (bare setup p scsw up rest) → IfSome path (λ n. n < 8)

@@ -208,7 +208,7 @@ pub(crate) fn cancel(state: &mut PackedState)
 }
 
 /// MODIFY SUBCHANNEL with code 0.
-pub fn place(state: &mut PackedState, given: &[u32; 7])
+pub fn write_pmcw(state: &mut PackedState, given: &[u32; 7])
     ensures { state.new ≡ with_state state.old (modify_spec.placed state.old.state (pmcw_of_words given.now)) }
 {
     state.modify(given);

@@ -100,7 +100,7 @@ pub fn msch(state: &mut PackedState, given: &[u32; 7]) -> ConditionCode
 {
     let code = codes::msch_code(state);
     if code == ConditionCode::Zero {
-        effects::place(state, given);
+        effects::write_pmcw(state, given);
     }
     code
 }

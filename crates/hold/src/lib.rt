@@ -83,7 +83,7 @@ impl Hold {
     /// this path; at Attn, that the subchannel can show it.
     pub fn take(&mut self, path: Path, signal: &LentUp<'_>, may: bool) -> Taken<PlainDown>
         ensures state { self.new ≡ table.hold_after self.old (table.hold_takes self.old path (lent_up signal.now) may) }
-        ensures came { map_taken plain_down result ≡ table.came_of (table.hold_takes self.old path (lent_up signal.now) may) }
+        ensures outcome { map_taken plain_down result ≡ table.outcome_of (table.hold_takes self.old path (lent_up signal.now) may) }
     {
         rows::takes(&mut self.state, path, signal, may)
     }
@@ -115,7 +115,7 @@ impl Hold {
     /// Lets the device go. None where no program is connected, and then nothing changes.
     pub fn let_go(&mut self) -> Option<OnPath<PlainDown>>
         ensures state { self.new ≡ table.hold_after self.old (table.letting_go self.old self.old.phase) }
-        ensures sent { map_sent plain_down result ≡ (table.came_of (table.letting_go self.old self.old.phase)).sent }
+        ensures sent { map_sent plain_down result ≡ (table.outcome_of (table.letting_go self.old self.old.phase)).sent }
     {
         let phase = self.state.phase;
         let HoldPhase::On { number, path, .. } = phase else {
@@ -139,7 +139,7 @@ impl Hold {
     /// Sends the Reset on a path. None where there is none to send, and then nothing changes.
     pub fn send_reset(&mut self, path: Path) -> Option<OnPath<PlainDown>>
         ensures state { self.new ≡ table.hold_after self.old (table.sending_reset self.old self.old.phase path) }
-        ensures sent { map_sent plain_down result ≡ (table.came_of (table.sending_reset self.old self.old.phase path)).sent }
+        ensures sent { map_sent plain_down result ≡ (table.outcome_of (table.sending_reset self.old self.old.phase path)).sent }
     {
         let HoldPhase::Reset { number } = self.state.phase else {
             return None;

@@ -12,12 +12,12 @@ use chan_model::names::Path;
 use chan_model::signal::{Down, Taken, Up};
 
 /// What came of a signal; none of those that the hold sends has bytes.
-type Came = Taken<PlainDown>;
+type Outcome = Taken<PlainDown>;
 
 /// A signal that came by a path.
-pub fn takes(hold: &mut HoldState, path: Path, signal: &LentUp<'_>, may: bool) -> Came
+pub fn takes(hold: &mut HoldState, path: Path, signal: &LentUp<'_>, may: bool) -> Outcome
     ensures state { hold.new ≡ table.hold_after hold.old (table.hold_takes hold.old path (lent_up signal.now) may) }
-    ensures came { map_taken plain_down result ≡ table.came_of (table.hold_takes hold.old path (lent_up signal.now) may) }
+    ensures outcome { map_taken plain_down result ≡ table.outcome_of (table.hold_takes hold.old path (lent_up signal.now) may) }
 {
     match *signal.kept {
         Up::Accept { number } => accepted(hold, number, may),
@@ -33,9 +33,9 @@ pub fn takes(hold: &mut HoldState, path: Path, signal: &LentUp<'_>, may: bool) -
 }
 
 /// Accept of the number that is offered: the program goes on, or lets the device go at once.
-fn accepted(hold: &mut HoldState, number: u64, goes_on: bool) -> Came
+fn accepted(hold: &mut HoldState, number: u64, goes_on: bool) -> Outcome
     ensures state { hold.new ≡ table.hold_after hold.old (table.offer_accepted hold.old hold.old.phase number goes_on) }
-    ensures came { map_taken plain_down result ≡ table.came_of (table.offer_accepted hold.old hold.old.phase number goes_on) }
+    ensures outcome { map_taken plain_down result ≡ table.outcome_of (table.offer_accepted hold.old hold.old.phase number goes_on) }
 {
     let phase = hold.phase;
     match phase {
@@ -48,9 +48,9 @@ fn accepted(hold: &mut HoldState, number: u64, goes_on: bool) -> Came
 }
 
 /// The program of this number was accepted on this path.
-fn begun(hold: &mut HoldState, number: u64, path: Path, goes_on: bool) -> Came
+fn begun(hold: &mut HoldState, number: u64, path: Path, goes_on: bool) -> Outcome
     ensures state { hold.new ≡ (table.program_begun hold.old number path goes_on).state }
-    ensures came { map_taken plain_down result ≡ table.came_of (Some (table.program_begun hold.old number path goes_on)) }
+    ensures outcome { map_taken plain_down result ≡ table.outcome_of (Some (table.program_begun hold.old number path goes_on)) }
 {
     hold.seen = 0;
     hold.first_path = Some(path);
@@ -68,9 +68,9 @@ fn begun(hold: &mut HoldState, number: u64, path: Path, goes_on: bool) -> Came
 }
 
 /// Busy at the number that is offered: the program waits again.
-fn found_busy(hold: &mut HoldState, number: u64) -> Came
+fn found_busy(hold: &mut HoldState, number: u64) -> Outcome
     ensures state { hold.new ≡ table.hold_after hold.old (table.found_busy hold.old hold.old.phase number) }
-    ensures came { map_taken plain_down result ≡ table.came_of (table.found_busy hold.old hold.old.phase number) }
+    ensures outcome { map_taken plain_down result ≡ table.outcome_of (table.found_busy hold.old hold.old.phase number) }
 {
     match hold.phase {
         HoldPhase::Offer {
@@ -85,9 +85,9 @@ fn found_busy(hold: &mut HoldState, number: u64) -> Came
 }
 
 /// Leave of the connection at hand.
-fn left(hold: &mut HoldState, number: u64, connection: u64) -> Came
+fn left(hold: &mut HoldState, number: u64, connection: u64) -> Outcome
     ensures state { hold.new ≡ table.hold_after hold.old (table.left hold.old hold.old.phase number connection) }
-    ensures came { map_taken plain_down result ≡ table.came_of (table.left hold.old hold.old.phase number connection) }
+    ensures outcome { map_taken plain_down result ≡ table.outcome_of (table.left hold.old hold.old.phase number connection) }
 {
     match hold.phase {
         HoldPhase::On {
@@ -109,9 +109,9 @@ fn asked_back(
     number: u64,
     connection: u64,
     path_allowed: bool,
-) -> Came
+) -> Outcome
     ensures state { hold.new ≡ table.hold_after hold.old (table.asked_back hold.old hold.old.phase path number connection path_allowed) }
-    ensures came { map_taken plain_down result ≡ table.came_of (table.asked_back hold.old hold.old.phase path number connection path_allowed) }
+    ensures outcome { map_taken plain_down result ≡ table.outcome_of (table.asked_back hold.old hold.old.phase path number connection path_allowed) }
 {
     match hold.phase {
         HoldPhase::On { number: held, .. } if number == held && hold.seen < connection => {
@@ -129,18 +129,18 @@ fn asked_back(
 }
 
 /// A connection is refused on the path by which it came.
-fn refusing(hold: &mut HoldState, path: Path, number: u64, connection: u64) -> Came
+fn refusing(hold: &mut HoldState, path: Path, number: u64, connection: u64) -> Outcome
     ensures state { hold.new ≡ (table.refusing hold.old path number connection).state }
-    ensures came { map_taken plain_down result ≡ table.came_of (Some (table.refusing hold.old path number connection)) }
+    ensures outcome { map_taken plain_down result ≡ table.outcome_of (Some (table.refusing hold.old path number connection)) }
 {
     hold.seen = connection;
     Taken::sending(path, PlainDown::of(Down::Refuse { number, connection }))
 }
 
 /// A connection is granted on the path by which it came.
-fn granting(hold: &mut HoldState, path: Path, number: u64, connection: u64) -> Came
+fn granting(hold: &mut HoldState, path: Path, number: u64, connection: u64) -> Outcome
     ensures state { hold.new ≡ (table.granting hold.old path number connection).state }
-    ensures came { map_taken plain_down result ≡ table.came_of (Some (table.granting hold.old path number connection)) }
+    ensures outcome { map_taken plain_down result ≡ table.outcome_of (Some (table.granting hold.old path number connection)) }
 {
     hold.seen = connection;
     hold.phase = HoldPhase::On {
@@ -152,9 +152,9 @@ fn granting(hold: &mut HoldState, path: Path, number: u64, connection: u64) -> C
 }
 
 /// Released of the number that is let go.
-fn released(hold: &mut HoldState, number: u64) -> Came
+fn released(hold: &mut HoldState, number: u64) -> Outcome
     ensures state { hold.new ≡ table.hold_after hold.old (table.released hold.old hold.old.phase number) }
-    ensures came { map_taken plain_down result ≡ table.came_of (table.released hold.old hold.old.phase number) }
+    ensures outcome { map_taken plain_down result ≡ table.outcome_of (table.released hold.old hold.old.phase number) }
 {
     match hold.phase {
         HoldPhase::Letting { number: let_go, .. } if number == let_go => {
@@ -166,9 +166,9 @@ fn released(hold: &mut HoldState, number: u64) -> Came
 }
 
 /// Cleared of the Reset's number.
-fn cleared(hold: &mut HoldState, number: u64) -> Came
+fn cleared(hold: &mut HoldState, number: u64) -> Outcome
     ensures state { hold.new ≡ table.hold_after hold.old (table.reset_cleared hold.old hold.old.phase number) }
-    ensures came { map_taken plain_down result ≡ table.came_of (table.reset_cleared hold.old hold.old.phase number) }
+    ensures outcome { map_taken plain_down result ≡ table.outcome_of (table.reset_cleared hold.old hold.old.phase number) }
 {
     match hold.phase {
         HoldPhase::Reset { number: last } if number == last => {
@@ -181,9 +181,9 @@ fn cleared(hold: &mut HoldState, number: u64) -> Came
 }
 
 /// Notice of more restarts than are known.
-fn noticed(hold: &mut HoldState, restarts: u64) -> Came
+fn noticed(hold: &mut HoldState, restarts: u64) -> Outcome
     ensures state { hold.new ≡ table.hold_after hold.old (table.noticed hold.old restarts) }
-    ensures came { map_taken plain_down result ≡ table.came_of (table.noticed hold.old restarts) }
+    ensures outcome { map_taken plain_down result ≡ table.outcome_of (table.noticed hold.old restarts) }
 {
     if hold.known < restarts {
         hold.known = restarts;
@@ -194,9 +194,9 @@ fn noticed(hold: &mut HoldState, restarts: u64) -> Came
 }
 
 /// Attn where nothing holds the device: answered where the subchannel can show it.
-fn attended(hold: &mut HoldState, path: Path, attention: u64, can_be_shown: bool) -> Came
+fn attended(hold: &mut HoldState, path: Path, attention: u64, can_be_shown: bool) -> Outcome
     ensures state { hold.new ≡ table.hold_after hold.old (table.attended hold.old hold.old.phase path attention can_be_shown) }
-    ensures came { map_taken plain_down result ≡ table.came_of (table.attended hold.old hold.old.phase path attention can_be_shown) }
+    ensures outcome { map_taken plain_down result ≡ table.outcome_of (table.attended hold.old hold.old.phase path attention can_be_shown) }
 {
     match hold.phase {
         HoldPhase::Free if can_be_shown => Taken::sending(

@@ -8,16 +8,16 @@ use Rattle.std.proofs.lemmas.Nat.Bits.{bit_at-lt, bit_at_above, bit_at_and, bit_
 use Rattle.std.proofs.Math.Nat.{pow-suc}
 use lib.Count.{count_leading_zeros}
 use Rattle.interruptions.proofs.Members.{apart}
-use Rattle.interruptions.specs.Places.{has_subclass}
+use Rattle.interruptions.specs.Indices.{has_subclass}
 
-place : (k : ℕ) → k < 8 → 31 - (24 + k) ≡ 7 - k
-place k small = omega (arith, small)
+index : (k : ℕ) → k < 8 → 31 - (24 + k) ≡ 7 - k
+index k small = omega (arith, small)
 
 pub as-bit : (byte k : ℕ) → k < 8 → has_subclass byte k ≡ (bit_at byte (7 - k) == 1)
-as-bit byte k small = ap (λ (i : ℕ). bit_at byte i == 1) (place k small)
+as-bit byte k small = ap (λ (i : ℕ). bit_at byte i == 1) (index k small)
 
-other-place : (c k : ℕ) → c < 8 → k < 8 → (c == k) ≡ false → 7 - k ≡ 7 - c → ⊥
-other-place c k a b other same = apart c k other (omega (arith, a, b, same))
+other-index : (c k : ℕ) → c < 8 → k < 8 → (c == k) ≡ false → 7 - k ≡ 7 - c → ⊥
+other-index c k a b other same = apart c k other (omega (arith, a, b, same))
 
 -- the bit of one subclass is set, or cleared
 pub bit-set : (summary c k : ℕ) → c < 8 → k < 8 → has_subclass (bit_or summary (1 * 2 ^ (7 - c) % 2 ^ 8)) k ≡ (if c == k then true else has_subclass summary k)
@@ -25,7 +25,7 @@ bit-set summary c k a b =
     as-bit (bit_or summary (1 * 2 ^ (7 - c) % 2 ^ 8)) k b
     ∙ (elim (c == k) as (λ t. c == k ≡ t → (bit_at (bit_or summary (1 * 2 ^ (7 - c) % 2 ^ 8)) (7 - k) == 1) ≡ (if t then true else has_subclass summary k)) [
       | true ↦ λ same. ap (λ (j : ℕ). bit_at (bit_or summary (1 * 2 ^ (7 - c) % 2 ^ 8)) (7 - j) == 1) (sym (eqb-true c k same)) ∙ ap (λ (n : ℕ). n == 1) (bit_at_set_same w8 summary (7 - c) (omega arith))
-      | false ↦ λ other. ap (λ (n : ℕ). n == 1) (bit_at_set_other w8 summary (7 - c) (omega arith) (7 - k) (other-place c k a b other)) ∙ sym (as-bit summary k b)
+      | false ↦ λ other. ap (λ (n : ℕ). n == 1) (bit_at_set_other w8 summary (7 - c) (omega arith) (7 - k) (other-index c k a b other)) ∙ sym (as-bit summary k b)
     ] refl)
 
 pub bit-cleared : (summary c k : ℕ) → c < 8 → k < 8 → has_subclass (bit_and summary (bit_not w8 (1 * 2 ^ (7 - c) % 2 ^ 8))) k ≡ (if c == k then false else has_subclass summary k)
@@ -34,7 +34,7 @@ bit-cleared summary c k a b =
     as-bit left k b
     ∙ (elim (c == k) as (λ t. c == k ≡ t → (bit_at left (7 - k) == 1) ≡ (if t then false else has_subclass summary k)) [
       | true ↦ λ same. ap (λ (j : ℕ). bit_at left (7 - j) == 1) (sym (eqb-true c k same)) ∙ ap (λ (n : ℕ). n == 1) (bit_at_clear_same w8 summary (7 - c) (omega arith))
-      | false ↦ λ other. ap (λ (n : ℕ). n == 1) (bit_at_clear_other w8 summary (7 - c) (omega arith) (7 - k) (omega arith) (other-place c k a b other)) ∙ sym (as-bit summary k b)
+      | false ↦ λ other. ap (λ (n : ℕ). n == 1) (bit_at_clear_other w8 summary (7 - c) (omega arith) (7 - k) (omega arith) (other-index c k a b other)) ∙ sym (as-bit summary k b)
     ] refl)
 
 -- no bit of 0

@@ -1,4 +1,4 @@
--- Lists of places under a test.
+-- Lists of indices under a test.
 use Rattle.std.proofs.Common.{◌≡◌, refl, sym, ◌∙◌, ap, ℕ, Bool, true, false, cond, ◌||◌, List, [], ◌∷◌, ◌++◌, nat_eq, eqb-true, eq-eqb, true≢false}
 use Rattle.std.specs.List.{IsDistinct, filter}
 use Rattle.std.proofs.lemmas.List.Folds.{list_any-append}

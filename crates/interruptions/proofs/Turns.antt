@@ -15,7 +15,7 @@ put_after c at number last = record { next = slice_set (slice_set c.next last nu
 abbrev pub joined_over : Circles → ℕ → ℕ → ℕ → Circles
 joined_over c number next former = record { next = slice_set (slice_set c.next former next) number number; former = slice_set (slice_set c.former next former) number number }
 
--- an item of a list that is changed at one place, and at two
+-- an item of a list that is changed at one index, and at two
 set-changed : (xs : List ℕ) (i v k : ℕ) → i < length xs → slice_index (slice_set xs i v) k ≡ changed (slice_index xs) i v k
 set-changed xs i v k below =
     elim (nat_eq i k) as (λ t. nat_eq i k ≡ t → slice_index (slice_set xs i v) k ≡ (if t then v else slice_index xs k)) [

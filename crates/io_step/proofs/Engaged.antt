@@ -8,12 +8,12 @@ pub engaged-none : (engaged : List Bool) → [] ≡ engaged_bytes engaged 0
 unfolding engaged_bytes
 engaged-none engaged = refl
 
-engaged-next : (engaged : List Bool) (place : ℕ) → engaged_bytes engaged place ++ engaged_byte engaged place ∷ [] ≡ engaged_bytes engaged (place + 1)
+engaged-next : (engaged : List Bool) (index : ℕ) → engaged_bytes engaged index ++ engaged_byte engaged index ∷ [] ≡ engaged_bytes engaged (index + 1)
 unfolding engaged_bytes
-engaged-next engaged place = sym (map-range_with_len_more (engaged_byte engaged) 0 place place (omega arith))
+engaged-next engaged index = sym (map-range_with_len_more (engaged_byte engaged) 0 index index (omega arith))
 
-pub engaged-more : (engaged : List Bool) (image : List ℕ) (place byte : ℕ) → place < length image → take place image ≡ engaged_bytes engaged place →
-    byte ≡ engaged_byte engaged place → take (place + 1) (slice_set image place byte) ≡ engaged_bytes engaged (place + 1)
-engaged-more engaged image place byte within done is =
-    take_more_set image place byte within
-    ∙ (ap (λ (b : ℕ). take place image ++ b ∷ []) is ∙ (ap (λ (bs : List ℕ). bs ++ engaged_byte engaged place ∷ []) done ∙ engaged-next engaged place))
+pub engaged-more : (engaged : List Bool) (image : List ℕ) (index byte : ℕ) → index < length image → take index image ≡ engaged_bytes engaged index →
+    byte ≡ engaged_byte engaged index → take (index + 1) (slice_set image index byte) ≡ engaged_bytes engaged (index + 1)
+engaged-more engaged image index byte within done is =
+    take_more_set image index byte within
+    ∙ (ap (λ (b : ℕ). take index image ++ b ∷ []) is ∙ (ap (λ (bs : List ℕ). bs ++ engaged_byte engaged index ∷ []) done ∙ engaged-next engaged index))

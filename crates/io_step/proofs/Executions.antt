@@ -11,7 +11,7 @@ use Rattle.schib_block.specs.Modify as modify
 use Rattle.schib_block.specs.Reading.{pmcw_of_words}
 use Rattle.schib_block.specs.SchibTable.{schib_tables}
 use Rattle.storage_keys.specs.declared.StorageFault.{StorageFault}
-use Rattle.storage_keys.specs.Storage.{Contents, operand_at, operand_check, operand_stored, where_permitted, absolute_places}
+use Rattle.storage_keys.specs.Storage.{Contents, operand_at, operand_check, operand_stored, where_permitted, absolute_addresses}
 use Rattle.chan_model.specs.declared.fault.Fault.{Fault}
 use Rattle.chan_model.specs.declared.fault.Fault.TheVariants as fault
 use Rattle.chan_events.specs.Replies.{Reply}
@@ -22,9 +22,9 @@ use Rattle.subchannel_model.specs.declared.state.Subchannel.{Subchannel}
 use Rattle.machine_model.specs.State.{State, with_sub}
 use Rattle.subchannel_model.specs.Store.{pmcw_of, schib_of}
 use Rattle.subchannel_model.specs.Enable.{enabling, enabling_schib, enabling_word}
-use Rattle.subchannel_model.specs.Places.{Found}
+use Rattle.subchannel_model.specs.Indices.{Found}
 use Rattle.subchannel_model.specs.Test.{tsch_code, irb_of}
-use Rattle.machine_model.specs.Turns.{Outcome, SubTurn, leaves, does, at_place}
+use Rattle.machine_model.specs.Results.{Outcome, SubResult, leaves, does, at_index}
 use Rattle.machine_model.specs.InstructionSteps.{code_at, modify_sub, enable_sub, test_with, with_irb, with_schib, with_enabling, stores_irb, start_at, modify_at, store_answer, PerformsStart, PerformsModify, PerformsEnable, performs_store, performs_test}
 use Rattle.io_step.specs.Executing.{state_with_storage}
 use Rattle.io_step.specs.Operands.{HasOrb, HasWord, from_storage}
@@ -59,25 +59,25 @@ permitted (Err f) x e = absurd (cc e)
 pub fetched : (before : Contents) (cpu address count : ℕ) (u : Unit {0}) → operand_check before cpu address count 4 ≡ Ok u →
     (image : List ℕ) × (operand_at before cpu address count 4 ≡ Ok image)
 fetched before cpu address count u checked =
-    let image : List ℕ = map (slice_index before.bytes) (absolute_places before cpu address count) in
+    let image : List ℕ = map (slice_index before.bytes) (absolute_addresses before cpu address count) in
     (image, ap (λ (x : Result (Unit {0}) StorageFault). where_permitted x image) checked)
 
--- an element written to the place where it stands
+-- an element written to the index where it stands
 set_there : {A : Type 0} (xs : List A) (i : ℕ) (x : A) → slice_get xs i ≡ Some x → slice_set xs i x ≡ xs
 set_there [] i x e = refl
 set_there (y ∷ ys) zero x e = ap (λ z. z ∷ ys) (sym (same_Some y x e))
 set_there (y ∷ ys) (suc i) x e = ap (λ zs. y ∷ zs) (set_there ys i x e)
 
-pub tests-sub : (s : State) (before after : Contents) (cpu address place : ℕ) (old new : Subchannel) (u : Unit {0}) (r : Reply) →
+pub tests-sub : (s : State) (before after : Contents) (cpu address index : ℕ) (old new : Subchannel) (u : Unit {0}) (r : Reply) →
     Ok u ≡ from_storage (operand_check before cpu address 64 4) →
     state_with_storage s after ≡ with_irb (state_with_storage s before) cpu address old (stores_irb (code_at tsch_code old)) →
     test_with old (code_at tsch_code old) ≡ leaves r new →
-    does r (with_sub (state_with_storage s after) place new) ≡ performs_test (state_with_storage s before) cpu address (Some (record { place = place; sub = old })) (operand_check before cpu address 64 4)
-tests-sub s before after cpu address place old new u r checked irb left =
+    does r (with_sub (state_with_storage s after) index new) ≡ performs_test (state_with_storage s before) cpu address (Some (record { index = index; sub = old })) (operand_check before cpu address 64 4)
+tests-sub s before after cpu address index old new u r checked irb left =
     let check : operand_check before cpu address 64 4 ≡ Ok u = permitted (operand_check before cpu address 64 4) u checked in
-    sym (ap (λ (x : Result (Unit {0}) StorageFault). performs_test (state_with_storage s before) cpu address (Some (record { place = place; sub = old })) x) check
-    ∙ (ap (λ (t : SubTurn). at_place (with_irb (state_with_storage s before) cpu address old (stores_irb (code_at tsch_code old))) place t) left
-    ∙ ap (λ (x : State). does r (with_sub x place new)) (sym irb)))
+    sym (ap (λ (x : Result (Unit {0}) StorageFault). performs_test (state_with_storage s before) cpu address (Some (record { index = index; sub = old })) x) check
+    ∙ (ap (λ (t : SubResult). at_index (with_irb (state_with_storage s before) cpu address old (stores_irb (code_at tsch_code old))) index t) left
+    ∙ ap (λ (x : State). does r (with_sub x index new)) (sym irb)))
 
 -- the IRB is stored with code 0 and 1
 pub irb-stored : (s : State) (before after : Contents) (cpu number address : ℕ) (sub : Subchannel) (code : ConditionCode) (image : List ℕ) (b : Bool) →
@@ -90,26 +90,26 @@ irb-stored s before after cpu number address sub code image b tested is passes w
     (stored ∙ (ap (λ (k : ℕ). operand_stored before k address image) named ∙ ap (λ (xs : List ℕ). operand_stored before cpu address xs) written))
     ∙ sym (ap (λ (x : Bool). with_irb (state_with_storage s before) cpu address sub x) performs_store)
 
-pub stores-sub : (s : State) (before after : Contents) (cpu number address place : ℕ) (sub : Subchannel) (image : List ℕ) (u : Unit {0}) →
-    slice_get s.subs place ≡ Some sub → Ok u ≡ from_storage (operand_check before cpu address 52 4) → number ≡ cpu →
+pub stores-sub : (s : State) (before after : Contents) (cpu number address index : ℕ) (sub : Subchannel) (image : List ℕ) (u : Unit {0}) →
+    slice_get s.subs index ≡ Some sub → Ok u ≡ from_storage (operand_check before cpu address 52 4) → number ≡ cpu →
     image ≡ image_of (schib_tables (schib_of sub)) → after ≡ operand_stored before number address image →
-    does (reply.Status (store_answer sub) sub.state.scsw) (with_sub (state_with_storage s after) place sub)
-    ≡ performs_store (state_with_storage s before) cpu address (Some (record { place = place; sub = sub })) (operand_check before cpu address 52 4)
-stores-sub s before after cpu number address place sub image u there checked named written stored =
+    does (reply.Status (store_answer sub) sub.state.scsw) (with_sub (state_with_storage s after) index sub)
+    ≡ performs_store (state_with_storage s before) cpu address (Some (record { index = index; sub = sub })) (operand_check before cpu address 52 4)
+stores-sub s before after cpu number address index sub image u there checked named written stored =
     let check : operand_check before cpu address 52 4 ≡ Ok u = permitted (operand_check before cpu address 52 4) u checked in
     let all : operand_stored before cpu address (image_of (schib_tables (schib_of sub))) ≡ after =
     ap (λ (xs : List ℕ). operand_stored before cpu address xs) (sym written)
     ∙ (ap (λ (k : ℕ). operand_stored before k address image) (sym named) ∙ sym stored) in
     let shown = reply.Status (store_answer sub) sub.state.scsw in
-    sym (ap (λ (x : Result (Unit {0}) StorageFault). performs_store (state_with_storage s before) cpu address (Some (record { place = place; sub = sub })) x) check
+    sym (ap (λ (x : Result (Unit {0}) StorageFault). performs_store (state_with_storage s before) cpu address (Some (record { index = index; sub = sub })) x) check
     ∙ (ap (λ (x : Contents). does shown (state_with_storage s x)) all
-    ∙ ap (λ (xs : List Subchannel). does shown (record s { storage = after; subs = xs })) (sym (set_there s.subs place sub there))))
+    ∙ ap (λ (xs : List Subchannel). does shown (record s { storage = after; subs = xs })) (sym (set_there s.subs index sub there))))
 
-pub enables-sub : (s : State) (before after : Contents) (cpu number subclass place : ℕ) (multipath : Bool) (old new : Subchannel) (word : Pmcw) (scsw : Scsw) (image words : List ℕ) (u : Unit {0}) (r : Reply) →
+pub enables-sub : (s : State) (before after : Contents) (cpu number subclass index : ℕ) (multipath : Bool) (old new : Subchannel) (word : Pmcw) (scsw : Scsw) (image words : List ℕ) (u : Unit {0}) (r : Reply) →
     Ok u ≡ from_storage (operand_check before cpu 0xF00 52 4) → number ≡ cpu → word ≡ enabling (pmcw_of old) subclass multipath → scsw ≡ old.state.scsw →
     image ≡ image_of (schib_tables (record { pmcw = word; scsw = scsw })) → after ≡ operand_stored before number 0xF00 image → pmcw_of_words words ≡ word → modify_sub old (pmcw_of_words words) ≡ leaves r new →
-    PerformsEnable (state_with_storage s before) cpu (Some (record { place = place; sub = old })) subclass multipath (operand_at before cpu 0xF00 52 4) (does r (with_sub (state_with_storage s after) place new))
-enables-sub s before after cpu number subclass place multipath old new word scsw image words u r checked named made shown written stored read left =
+    PerformsEnable (state_with_storage s before) cpu (Some (record { index = index; sub = old })) subclass multipath (operand_at before cpu 0xF00 52 4) (does r (with_sub (state_with_storage s after) index new))
+enables-sub s before after cpu number subclass index multipath old new word scsw image words u r checked named made shown written stored read left =
     let given : modify_sub old (enabling (pmcw_of old) subclass multipath) ≡ leaves r new =
     ap (modify_sub old) (sym made) ∙ (ap (modify_sub old) (sym read) ∙ left) in
     let bytes : image_of (schib_tables (enabling_schib old subclass multipath)) ≡ image =
@@ -118,11 +118,11 @@ enables-sub s before after cpu number subclass place multipath old new word scsw
     let all : operand_stored before cpu 0xF00 (image_of (schib_tables (enabling_schib old subclass multipath))) ≡ after =
     ap (λ (xs : List ℕ). operand_stored before cpu 0xF00 xs) bytes
     ∙ (ap (λ (k : ℕ). operand_stored before k 0xF00 image) (sym named) ∙ sym stored) in
-    let done : enable_sub (state_with_storage s before) cpu (record { place = place; sub = old }) subclass multipath ≡ does r (with_sub (state_with_storage s after) place new) =
-    ap (λ (t : SubTurn). at_place (with_schib (state_with_storage s before) cpu 0xF00 (enabling_schib old subclass multipath)) place t) given
-    ∙ ap (λ (x : Contents). does r (with_sub (state_with_storage s x) place new)) all in
+    let done : enable_sub (state_with_storage s before) cpu (record { index = index; sub = old }) subclass multipath ≡ does r (with_sub (state_with_storage s after) index new) =
+    ap (λ (t : SubResult). at_index (with_schib (state_with_storage s before) cpu 0xF00 (enabling_schib old subclass multipath)) index t) given
+    ∙ ap (λ (x : Contents). does r (with_sub (state_with_storage s x) index new)) all in
     let there = fetched before cpu 0xF00 52 u (permitted (operand_check before cpu 0xF00 52 4) u checked) in
-    subst (λ (x : Result (List ℕ) StorageFault). PerformsEnable (state_with_storage s before) cpu (Some (record { place = place; sub = old })) subclass multipath x (does r (with_sub (state_with_storage s after) place new)))
+    subst (λ (x : Result (List ℕ) StorageFault). PerformsEnable (state_with_storage s before) cpu (Some (record { index = index; sub = old })) subclass multipath x (does r (with_sub (state_with_storage s after) index new)))
     (sym there.1) (sym done)
 
 -- what enabling leaves where nothing is provided

@@ -9,7 +9,7 @@ use Rattle.chan_model.specs.declared.fault.Fault.{Fault}
 use Rattle.chan_events.specs.Replies.{Reply}
 use Rattle.subchannel_model.specs.declared.state.Subchannel.{Subchannel}
 use Rattle.interruptions.specs.Requests as requests
-use Rattle.machine_model.specs.OtherSteps.{LentWhole, OtherTurn, other_turn}
+use Rattle.machine_model.specs.OtherSteps.{LentWhole, OtherResult, other_result}
 use Rattle.machine_model.specs.Requests.{requests_after}
 use Rattle.io_step.specs.declared.instruction.ChannelPaths.{ChannelPaths}
 use Rattle.io_step.specs.Executing.{Executed, Executed_absent}
@@ -47,9 +47,9 @@ Performed old cpu i (Ok r) new =
 Performed old cpu i (Err f) new = Leaves old.storage old.sub cpu i (Err f) new.storage new.sub × (new ≡ old)
 
 -- a refusal changes nothing
-abbrev pub Comes : LentWhole → Result OtherTurn Fault → Result Reply Fault → LentWhole → Type 0
+abbrev pub Comes : LentWhole → Result OtherResult Fault → Result Reply Fault → LentWhole → Type 0
 Comes old outcome (Ok r) new = outcome ≡ Ok (record { answer = r; left = new })
 Comes old outcome (Err f) new = (outcome ≡ Err f) × (new ≡ old)
 
 abbrev pub Performed_other : LentWhole → ChannelPaths → ℕ → OtherInstruction → Result Reply Fault → LentWhole → Type 0
-Performed_other old paths cpu i r new = Comes old (other_turn old paths.up paths.engaged cpu i) r new
+Performed_other old paths cpu i r new = Comes old (other_result old paths.up paths.engaged cpu i) r new

@@ -12,13 +12,13 @@
 #![tactic(auto)]
 
 mod absent;
+mod effects;
 mod enabling;
 mod instruction;
 mod operands;
 mod others;
 mod performing;
 mod provided;
-mod turns;
 
 pub use absent::execute_absent;
 pub use instruction::{ChannelPaths, reply_code};

@@ -41,7 +41,7 @@ pub type PathTable = [bool; 256];
 /// Whether the interruption code may be stored at an address.
 fn check_code(storage: &Storage, cpu: Cpu, address: u32) -> Result<(), Fault>
     ensures checked { result ≡ from_storage (spec.code_check storage.now cpu address) }
-    ensures inside { OnOk result (spec.code_place address + spec.code_size address ≤ length storage.now.bytes) }
+    ensures inside { OnOk result (spec.code_address address + spec.code_size address ≤ length storage.now.bytes) }
 {
     if address == 0 {
         check_operand(storage, cpu, CODE, LONG_CODE_BYTES, WORD)
@@ -52,7 +52,7 @@ fn check_code(storage: &Storage, cpu: Cpu, address: u32) -> Result<(), Fault>
 
 /// The interruption code is stored at an address.
 fn store_code(storage: &mut Storage, cpu: Cpu, address: u32, code: IntCode)
-    requires inside { spec.code_place address + spec.code_size address ≤ length storage.old.bytes }
+    requires inside { spec.code_address address + spec.code_size address ≤ length storage.old.bytes }
     ensures { storage.new ≡ spec.code_stored storage.old cpu address (Some code) }
 {
     let [identification, parameter, interruption] = code.words();
@@ -76,9 +76,9 @@ pub fn tpi(
     mask: u8,
     address: u32,
 ) -> Result<Option<IntCode>, Fault>
-    ensures done { IfOk result (λ found. (queue : WaitingReports) → spec.tpi_turn (spec.lent_whole storage.old pending.old queue) cpu mask address ≡
+    ensures done { IfOk result (λ found. (queue : WaitingReports) → spec.tpi_result (spec.lent_whole storage.old pending.old queue) cpu mask address ≡
         spec.answers (reply.Interruption found) (spec.lent_whole storage.new pending.new queue)) }
-    ensures refused { IfErr result (λ f. (queue : WaitingReports) → spec.tpi_turn (spec.lent_whole storage.old pending.old queue) cpu mask address ≡ Err f) }
+    ensures refused { IfErr result (λ f. (queue : WaitingReports) → spec.tpi_result (spec.lent_whole storage.old pending.old queue) cpu mask address ≡ Err f) }
     ensures storage_kept { OnErr result (storage.new ≡ storage.old) }
     ensures pending_kept { OnErr result (pending.new ≡ pending.old) }
 {
@@ -98,9 +98,9 @@ pub fn stcrw(
     cpu: Cpu,
     address: u32,
 ) -> Result<Option<Crw>, Fault>
-    ensures done { IfOk result (λ report. (waiting : WaitingRequests) → spec.stcrw_turn (spec.lent_whole storage.old waiting reports.old) cpu address ≡
+    ensures done { IfOk result (λ report. (waiting : WaitingRequests) → spec.stcrw_result (spec.lent_whole storage.old waiting reports.old) cpu address ≡
         spec.answers (reply.ChannelReport report) (spec.lent_whole storage.new waiting reports.new)) }
-    ensures refused { IfErr result (λ f. (waiting : WaitingRequests) → spec.stcrw_turn (spec.lent_whole storage.old waiting reports.old) cpu address ≡ Err f) }
+    ensures refused { IfErr result (λ f. (waiting : WaitingRequests) → spec.stcrw_result (spec.lent_whole storage.old waiting reports.old) cpu address ≡ Err f) }
     ensures storage_kept { OnErr result (storage.new ≡ storage.old) }
     ensures reports_kept { OnErr result (reports.new ≡ reports.old) }
 {
@@ -114,9 +114,9 @@ pub fn stcrw(
 /// RESET CHANNEL PATH of the path that the last byte of general register 1 names; its other bits must be zero. `up` has
 /// the channel paths that are configured and not down.
 pub fn rchp(reports: &mut Reports, up: &PathTable, path: u32) -> Result<ConditionCode, Fault>
-    ensures done { IfOk result (λ code. (storage : Contents) (waiting : WaitingRequests) → spec.rchp_turn (spec.lent_whole storage waiting reports.old) up.now path ≡
+    ensures done { IfOk result (λ code. (storage : Contents) (waiting : WaitingRequests) → spec.rchp_result (spec.lent_whole storage waiting reports.old) up.now path ≡
         spec.answers (reply.PathReset code) (spec.lent_whole storage waiting reports.new)) }
-    ensures refused { IfErr result (λ f. (storage : Contents) (waiting : WaitingRequests) → spec.rchp_turn (spec.lent_whole storage waiting reports.old) up.now path ≡ Err f) }
+    ensures refused { IfErr result (λ f. (storage : Contents) (waiting : WaitingRequests) → spec.rchp_result (spec.lent_whole storage waiting reports.old) up.now path ≡ Err f) }
     ensures kept { OnErr result (reports.new ≡ reports.old) }
 {
     if field(path, 0, 23) != 0 {
@@ -127,13 +127,13 @@ pub fn rchp(reports: &mut Reports, up: &PathTable, path: u32) -> Result<Conditio
 }
 
 /// Eight channel paths, the first leftmost.
-fn engaged_byte(engaged: &PathTable, place: usize) -> u8
-    requires { place < 32 }
-    ensures { result ≡ spec.engaged_byte engaged.now place }
+fn engaged_byte(engaged: &PathTable, index: usize) -> u8
+    requires { index < 32 }
+    ensures { result ≡ spec.engaged_byte engaged.now index }
 {
     let mut set = PathSet::none();
     for path in PathSet::all().each_path() {
-        set.set(path, engaged[8 * place + path.index()]);
+        set.set(path, engaged[8 * index + path.index()]);
     }
     set.mask()
 }
@@ -142,8 +142,8 @@ fn engaged_bytes(engaged: &PathTable) -> [u8; PATH_STATUS_BYTES]
     ensures { result ≡ spec.engaged_bytes engaged.now 32 }
 {
     let mut image = [0; PATH_STATUS_BYTES];
-    for place in 0..PATH_STATUS_BYTES {
-        image[place] = engaged_byte(engaged, place);
+    for index in 0..PATH_STATUS_BYTES {
+        image[index] = engaged_byte(engaged, index);
     }
     image
 }
@@ -156,9 +156,9 @@ pub fn stcps(
     cpu: Cpu,
     address: u32,
 ) -> Result<[u8; PATH_STATUS_BYTES], Fault>
-    ensures done { IfOk result (λ stored. (waiting : WaitingRequests) (queue : WaitingReports) → spec.stcps_turn (spec.lent_whole storage.old waiting queue) engaged.now cpu address ≡
+    ensures done { IfOk result (λ stored. (waiting : WaitingRequests) (queue : WaitingReports) → spec.stcps_result (spec.lent_whole storage.old waiting queue) engaged.now cpu address ≡
         spec.answers (reply.Paths stored) (spec.lent_whole storage.new waiting queue)) }
-    ensures refused { IfErr result (λ f. (waiting : WaitingRequests) (queue : WaitingReports) → spec.stcps_turn (spec.lent_whole storage.old waiting queue) engaged.now cpu address ≡ Err f) }
+    ensures refused { IfErr result (λ f. (waiting : WaitingRequests) (queue : WaitingReports) → spec.stcps_result (spec.lent_whole storage.old waiting queue) engaged.now cpu address ≡ Err f) }
     ensures kept { OnErr result (storage.new ≡ storage.old) }
 {
     check_operand(

@@ -9,12 +9,12 @@ ghost use Rattle.machine_model.specs.Bounds.{CanCount};
 ghost use Rattle.subchannel_model.specs.Test.{tsch_code};
 ghost use Rattle.chan_events.specs.declared.event.Instruction.TheVariants as instruction_spec;
 
-use crate::enabling::enabling;
-use crate::operands::{ENABLE_BLOCK, WORD, check_operand, orb_at, word_at};
-use crate::turns::{
+use crate::effects::{
     cancel_sub, clear_sub, halt_sub, modify_sub, resume_sub, start_sub, store_reply, stores_irb,
     test_code_of, test_sub,
 };
+use crate::enabling::enabling;
+use crate::operands::{ENABLE_BLOCK, WORD, check_operand, orb_at, word_at};
 use chan_events::event::Instruction;
 use chan_events::reply::PlainReply;
 use chan_model::fault::Fault;

@@ -10,22 +10,22 @@ use Rattle.chan_model.specs.declared.names.Side.{Side}
 use Rattle.chan_model.specs.declared.names.Side.TheVariants.{First, Second}
 use Rattle.chan_model.specs.Sides.{same_side}
 use Rattle.subchannel_model.specs.declared.state.Subchannel.{Subchannel}
-use Rattle.subchannel_model.specs.Places.{first_place, is_named, reaches, one_later}
+use Rattle.subchannel_model.specs.Indices.{first_index, is_named, reaches, one_later}
 use Rattle.lookup.specs.Tables.{IsTable, Tables, Fits, HasSize, id_at, of_side, name_index, unit_index, with_entry, entered}
 
--- a place in the rest of a list, counted from the beginning of the list
+-- an index in the rest of a list, counted from the beginning of the list
 abbrev further : ℕ → Option ℕ → Option ℕ
 further n None = None
-further n (Some place) = Some (place + n)
+further n (Some index) = Some (index + n)
 
--- the first place from n on of a subchannel that passes the test of an entry
-abbrev place_from : (ℕ → Subchannel → Bool) → ℕ → List Subchannel → ℕ → Option ℕ
-place_from test n subs k = further n (first_place (test k) (drop n subs))
+-- the first index from n on of a subchannel that passes the test of an entry
+abbrev index_from : (ℕ → Subchannel → Bool) → ℕ → List Subchannel → ℕ → Option ℕ
+index_from test n subs k = further n (first_index (test k) (drop n subs))
 
 -- the tables are those of the subchannels from n on
 pub record FitsFrom (n : ℕ) (t : Tables) (subs : List Subchannel) : Type 0 where
-  pub named : IsTable (place_from (λ k. is_named (id_at k)) n subs) t.named
-  pub sides : (side : Side) → IsTable (place_from (λ u. reaches u side) n subs) (of_side side t)
+  pub named : IsTable (index_from (λ k. is_named (id_at k)) n subs) t.named
+  pub sides : (side : Side) → IsTable (index_from (λ u. reaches u side) n subs) (of_side side t)
 
 -- an entry is written
 table-set : (f g : ℕ → Option ℕ) (table : List (Option ℕ)) (i : ℕ) (v : Option ℕ) → IsTable f table → v ≡ g i → ((k : ℕ) → k ≢ i → f k ≡ g k) → IsTable g (slice_set table i v)
@@ -36,7 +36,7 @@ table-set f g (x ∷ xs) (suc i) v t here other zero p h = t zero p h ∙ other 
 table-set f g (x ∷ xs) (suc i) v t here other (suc k) p h =
     table-set (λ n. f (suc n)) (λ n. g (suc n)) xs i v (λ n. t (suc n)) here (λ n apart. other (suc n) (λ e. apart (omega (arith, e)))) k p h
 
--- the head passes, or the place is one of the rest
+-- the head passes, or the index is one of the rest
 further-here : (b : Bool) (o : Option ℕ) (n : ℕ) → b ≡ true → Some n ≡ further n (if b then Some 0 else o)
 further-here true o n e = let z : n ≡ 0 + n = omega arith in ap (λ (m : ℕ). Some m) z
 further-here false o n e = absurd (cc e)
@@ -46,21 +46,21 @@ further-rest true o n e = absurd (cc e)
 further-rest false None n e = refl
 further-rest false (Some p) n e = let z : p + (n + 1) ≡ p + 1 + n = omega arith in ap (λ (m : ℕ). Some m) z
 
--- whether an entry is at an index
+-- whether an entry is at an key
 abbrev is_at : Option ℕ → ℕ → Bool
 is_at None k = false
 is_at (Some i) k = i == k
 
 -- the entry of one more subchannel is written, where it has one
-table-entered : (test : ℕ → Subchannel → Bool) (index : Option ℕ) (n : ℕ) (subs : List Subchannel) (sub : Subchannel) (table : List (Option ℕ)) →
-    drop n subs ≡ sub ∷ drop (n + 1) subs → ((k : ℕ) → test k sub ≡ is_at index k) → IsTable (place_from test (n + 1) subs) table → IsTable (place_from test n subs) (with_entry table index n)
+table-entered : (test : ℕ → Subchannel → Bool) (key : Option ℕ) (n : ℕ) (subs : List Subchannel) (sub : Subchannel) (table : List (Option ℕ)) →
+    drop n subs ≡ sub ∷ drop (n + 1) subs → ((k : ℕ) → test k sub ≡ is_at key k) → IsTable (index_from test (n + 1) subs) table → IsTable (index_from test n subs) (with_entry table key n)
 table-entered test None n subs sub table split is t =
-    λ k p h. t k p h ∙ (further-rest (test k sub) (first_place (test k) (drop (n + 1) subs)) n (is k) ∙ ap (λ (xs : List Subchannel). further n (first_place (test k) xs)) (sym split))
+    λ k p h. t k p h ∙ (further-rest (test k sub) (first_index (test k) (drop (n + 1) subs)) n (is k) ∙ ap (λ (xs : List Subchannel). further n (first_index (test k) xs)) (sym split))
 table-entered test (Some i) n subs sub table split is t =
-    table-set (place_from test (n + 1) subs) (place_from test n subs) table i (Some n) t
-    (further-here (test i sub) (one_later (first_place (test i) (drop (n + 1) subs))) n (is i ∙ eq-eqb i i refl) ∙ ap (λ (xs : List Subchannel). further n (first_place (test i) xs)) (sym split))
-    (λ k apart. further-rest (test k sub) (first_place (test k) (drop (n + 1) subs)) n (is k ∙ ne_eqb i k (λ e. apart (sym e)))
-    ∙ ap (λ (xs : List Subchannel). further n (first_place (test k) xs)) (sym split))
+    table-set (index_from test (n + 1) subs) (index_from test n subs) table i (Some n) t
+    (further-here (test i sub) (one_later (first_index (test i) (drop (n + 1) subs))) n (is i ∙ eq-eqb i i refl) ∙ ap (λ (xs : List Subchannel). further n (first_index (test i) xs)) (sym split))
+    (λ k apart. further-rest (test k sub) (first_index (test k) (drop (n + 1) subs)) n (is k ∙ ne_eqb i k (λ e. apart (sym e)))
+    ∙ ap (λ (xs : List Subchannel). further n (first_index (test k) xs)) (sym split))
 
 -- the entry of a name is the one that stands for it
 name-case : (set number k : ℕ) (small : Bool) → nat_lt number 0x100 ≡ small →
@@ -88,8 +88,8 @@ unit-at unit false k = and_right (unit == k) false refl
 -- the tables of the sides, of which one has an entry more
 side-entered : (side : Side) (n : ℕ) (t : Tables) (subs : List Subchannel) (sub : Subchannel) →
     drop n subs ≡ sub ∷ drop (n + 1) subs →
-    IsTable (place_from (λ u. reaches u side) (n + 1) subs) (of_side side t) →
-    IsTable (place_from (λ u. reaches u side) n subs) (of_side side (entered n sub t))
+    IsTable (index_from (λ u. reaches u side) (n + 1) subs) (of_side side t) →
+    IsTable (index_from (λ u. reaches u side) n subs) (of_side side (entered n sub t))
 side-entered First n t subs sub split fits =
     table-entered (λ u. reaches u First) (unit_index First sub) n subs sub t.firsts split
     (unit-at sub.setup.«unit» (same_side sub.setup.side First)) fits
@@ -114,9 +114,9 @@ table-empty f (suc n) none zero p h = sym (same_Some None p h) ∙ none zero
 table-empty f (suc n) none (suc k) p h = table-empty (λ j. f (suc j)) n (λ j. none (suc j)) k p h
 
 none-left : (test : Subchannel → Bool) (subs : List Subchannel) →
-    None ≡ further (length subs) (first_place test (drop (length subs) subs))
+    None ≡ further (length subs) (first_index test (drop (length subs) subs))
 none-left test subs =
-    ap (λ (xs : List Subchannel). further (length subs) (first_place test xs)) (sym (drop_all (length subs) subs (omega arith)))
+    ap (λ (xs : List Subchannel). further (length subs) (first_index test xs)) (sym (drop_all (length subs) subs (omega arith)))
 
 pub fits-none : (entries : ℕ) (units : ℕ) (t : Tables) (subs : List Subchannel) → t.named ≡ replicate entries None →
     ((side : Side) → of_side side t ≡ replicate units None) → FitsFrom (length subs) t subs
@@ -132,14 +132,14 @@ further-none (Some p) = let z : p + 0 ≡ p = omega arith in ap (λ (m : ℕ). S
 
 pub fits-all : (t : Tables) (subs : List Subchannel) → FitsFrom 0 t subs → Fits t subs
 fits-all t subs f = record {
-  named = λ k p h. f.named k p h ∙ further-none (first_place (is_named (id_at k)) subs);
-  sides = λ side k p h. f.sides side k p h ∙ further-none (first_place (reaches k side) subs);
+  named = λ k p h. f.named k p h ∙ further-none (first_index (is_named (id_at k)) subs);
+  sides = λ side k p h. f.sides side k p h ∙ further-none (first_index (reaches k side) subs);
 }
 
 -- an entry that is written leaves a table as long as it was
-entry-long : (table : List (Option ℕ)) (index : Option ℕ) (place : ℕ) → length (with_entry table index place) ≡ length table
-entry-long table None place = refl
-entry-long table (Some i) place = length-set table i (Some place)
+entry-long : (table : List (Option ℕ)) (key : Option ℕ) (index : ℕ) → length (with_entry table key index) ≡ length table
+entry-long table None index = refl
+entry-long table (Some i) index = length-set table i (Some index)
 
 side-long : (side : Side) (n : ℕ) (t : Tables) (sub : Subchannel) → length (of_side side (entered n sub t)) ≡ length (of_side side t)
 side-long First n t sub = entry-long t.firsts (unit_index First sub) n

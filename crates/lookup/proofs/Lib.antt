@@ -1,4 +1,4 @@
-mod FirstPlaces
+mod FirstIndices
 mod Filling
 mod Lookups
 pub mod Serving

@@ -23,10 +23,10 @@ pub fn engaged(sub: &Subchannel) -> Option<u8>
         .copied()
 }
 
-/// Which subchannel the engine of each channel path serves, by its identifier (CHPID): the place of that subchannel, or none.
+/// Which subchannel the engine of each channel path serves, by its identifier (CHPID): the index of that subchannel, or none.
 #[derive(Drop)]
 pub struct Engines {
-    places: [Option<usize>; 256],
+    indices: [Option<usize>; 256],
 }
 
 impl Model for Engines {
@@ -34,7 +34,7 @@ impl Model for Engines {
 
     ghost Value = { List (Option ℕ) };
 
-    ghost view = { λ e. e.places };
+    ghost view = { λ e. e.indices };
 }
 
 impl Engines {
@@ -43,27 +43,27 @@ impl Engines {
         ensures { result ≡ replicate 0x100 None }
     {
         Engines {
-            places: [None; 256],
+            indices: [None; 256],
         }
     }
 
-    /// The place of the subchannel that the engine of this channel path serves; None where it serves none.
+    /// The index of the subchannel that the engine of this channel path serves; None where it serves none.
     pub fn server(&self, chpid: u8) -> Option<usize>
         ensures { result ≡ spec.server self.now chpid }
     {
-        self.places[usize::from(chpid)]
+        self.indices[usize::from(chpid)]
     }
 
-    /// The subchannel at this place, which engaged the engine `before`, comes to engage the engine `after`; either may be none,
+    /// The subchannel at this index, which engaged the engine `before`, comes to engage the engine `after`; either may be none,
     /// or both the same.
-    pub fn change(&mut self, place: usize, before: Option<u8>, after: Option<u8>)
-        ensures { self.new ≡ spec.served_at place before after self.old }
+    pub fn change(&mut self, index: usize, before: Option<u8>, after: Option<u8>)
+        ensures { self.new ≡ spec.served_at index before after self.old }
     {
         if let Some(chpid) = before {
-            self.places[usize::from(chpid)] = None;
+            self.indices[usize::from(chpid)] = None;
         }
         if let Some(chpid) = after {
-            self.places[usize::from(chpid)] = Some(place);
+            self.indices[usize::from(chpid)] = Some(index);
         }
     }
 }

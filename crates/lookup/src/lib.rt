@@ -2,7 +2,7 @@
 //!
 //! Used alone, this crate promises: `SubchannelIndex` answers what a search through the subchannels finds, the first that has a name
 //! or that reaches a side of a unit, whatever names there are; `Served` answers whether some subchannel engages the engine
-//! of a channel path. Tables of places are made in one pass, and stay right while no subchannel comes, goes or is set up
+//! of a channel path. Tables of indices are made in one pass, and stay right while no subchannel comes, goes or is set up
 //! otherwise; `SubchannelIndex::of` alone takes memory, and refuses only where its supply refused a request. The table of engines has one
 //! subchannel at most for each, and stays right where each change of a subchannel is told to `Engines::change`.
 #![tactic(auto)]

@@ -1,11 +1,11 @@
 //! Where each subchannel stands, by its name and by the side of the unit that it reaches.
 
 ghost use Rattle.std.specs.Prelude.{◌≡◌, ◌<◌, ◌++◌, IfOk, IfSome, None, OnOk, OnErr, length, replicate, slice_get, true};
-ghost use Rattle.subchannel_model.specs.Places as place_spec;
+ghost use Rattle.subchannel_model.specs.Indices as index_spec;
 ghost use Rattle.lookup.specs.Tables as spec;
 ghost use Rattle.memory.specs.Requests.{IsModest};
 
-use crate::walk::{place_in, reached_in};
+use crate::walk::{index_in, reached_in};
 use chan_model::names::Side;
 use channel_config::names::SubchannelId;
 use functions::Subchannel;
@@ -19,7 +19,7 @@ const NUMBERS_OF_A_SET: usize = 0x100;
 /// How many entries are asked for at a time: the most that one request may ask for.
 const PORTION: usize = 0x100_0000;
 
-/// The places of the subchannels of a machine, by their names and by the sides of units that they reach. It stays right while
+/// The indices of the subchannels of a machine, by their names and by the sides of units that they reach. It stays right while
 /// no subchannel comes, goes or is set up otherwise.
 #[derive(Drop)]
 pub struct SubchannelIndex {
@@ -96,26 +96,26 @@ fn unit_index(side: Side, sub: &Subchannel) -> Option<usize>
     }
 }
 
-/// The entry at an index; None beyond the table.
-fn entry(table: &[Option<usize>], index: usize) -> Option<Option<usize>>
-    ensures { result ≡ slice_get table.now index }
+/// The entry at an key; None beyond the table.
+fn entry(table: &[Option<usize>], key: usize) -> Option<Option<usize>>
+    ensures { result ≡ slice_get table.now key }
 {
-    table.get(index).copied()
+    table.get(key).copied()
 }
 
-/// Writes a place over the entry at an index. An index beyond the table, and none at all, leave the table as it is.
-fn write_entry(table: &mut Vec<Option<usize>>, index: Option<usize>, place: usize)
-    ensures { table.new.items ≡ spec.with_entry table.old.items index place }
+/// Writes an index over the entry at an key. An key beyond the table, and none at all, leave the table as it is.
+fn write_entry(table: &mut Vec<Option<usize>>, key: Option<usize>, index: usize)
+    ensures { table.new.items ≡ spec.with_entry table.old.items key index }
 {
-    if let Some(index) = index {
-        if let Some(entry) = table.get_mut(index) {
-            *entry = Some(place);
+    if let Some(key) = key {
+        if let Some(entry) = table.get_mut(key) {
+            *entry = Some(index);
         }
     }
 }
 
 impl SubchannelIndex {
-    /// The places of these subchannels: a table of the names of so many sets, and two of the sides of so many units.
+    /// The indices of these subchannels: a table of the names of so many sets, and two of the sides of so many units.
     ///
     /// A name or a unit beyond the tables is still found, by a search. There is no memory only where the supply refused a
     /// request; each table makes one for every 16,777,216 of its entries, or fewer that are left.
@@ -126,44 +126,44 @@ impl SubchannelIndex {
         units: usize,
         subs: &[Subchannel],
     ) -> Result<Self, AllocError>
-        ensures fits { IfOk result (λ places. spec.Fits places subs.now) }
-        ensures size { IfOk result (λ places. spec.HasSize places sets units) }
+        ensures fits { IfOk result (λ indices. spec.Fits indices subs.now) }
+        ensures size { IfOk result (λ indices. spec.HasSize indices sets units) }
         ensures given { OnOk result (S.refused supply.new ≡ S.refused supply.old) }
         ensures memory { OnErr result (S.refused supply.new ≡ true) }
     {
-        let mut places = SubchannelIndex {
+        let mut indices = SubchannelIndex {
             named: empty_table(alloc, supply, usize::from(sets) * NUMBERS_OF_A_SET)?,
             firsts: empty_table(alloc, supply, units)?,
             seconds: empty_table(alloc, supply, units)?,
         };
-        for place in (0..subs.len()).rev() {
-            places.enter(place, &subs[place]);
+        for index in (0..subs.len()).rev() {
+            indices.enter(index, &subs[index]);
         }
-        Ok(places)
+        Ok(indices)
     }
 
-    /// Writes the place of a subchannel over what its name and its side of its unit had.
-    fn enter(&mut self, place: usize, sub: &Subchannel)
-        ensures { self.new ≡ spec.entered place sub.now self.old }
+    /// Writes the index of a subchannel over what its name and its side of its unit had.
+    fn enter(&mut self, index: usize, sub: &Subchannel)
+        ensures { self.new ≡ spec.entered index sub.now self.old }
     {
-        write_entry(&mut self.named, name_index(sub.state.setup().id), place);
-        write_entry(&mut self.firsts, unit_index(Side::First, sub), place);
-        write_entry(&mut self.seconds, unit_index(Side::Second, sub), place);
+        write_entry(&mut self.named, name_index(sub.state.setup().id), index);
+        write_entry(&mut self.firsts, unit_index(Side::First, sub), index);
+        write_entry(&mut self.seconds, unit_index(Side::Second, sub), index);
     }
 
-    /// The place of the first subchannel of this name. None where no subchannel has it. `subs` are the subchannels that the
+    /// The index of the first subchannel of this name. None where no subchannel has it. `subs` are the subchannels that the
     /// tables were made of, as they are now.
-    pub fn place_in(&self, id: SubchannelId, subs: &[Subchannel]) -> Option<usize>
+    pub fn index_in(&self, id: SubchannelId, subs: &[Subchannel]) -> Option<usize>
         requires { spec.Fits self.now subs.now }
-        ensures place { result ≡ place_spec.place_in id subs.now }
-        ensures bound { IfSome result (λ place. place < length subs.now) }
+        ensures index { result ≡ index_spec.index_in id subs.now }
+        ensures bound { IfSome result (λ index. index < length subs.now) }
     {
-        let Some(index) = name_index(id) else {
-            return place_in(id, subs);
+        let Some(key) = name_index(id) else {
+            return index_in(id, subs);
         };
-        match entry(&self.named, index) {
-            Some(place) => place,
-            None => place_in(id, subs),
+        match entry(&self.named, key) {
+            Some(index) => index,
+            None => index_in(id, subs),
         }
     }
 
@@ -177,15 +177,15 @@ impl SubchannelIndex {
         }
     }
 
-    /// The place of the first subchannel that reaches this side of a unit. None where no subchannel does. `subs` are the
+    /// The index of the first subchannel that reaches this side of a unit. None where no subchannel does. `subs` are the
     /// subchannels that the tables were made of, as they are now.
     pub fn reached_in(&self, unit: usize, side: Side, subs: &[Subchannel]) -> Option<usize>
         requires { spec.Fits self.now subs.now }
-        ensures place { result ≡ place_spec.reached_in «unit» side subs.now }
-        ensures bound { IfSome result (λ place. place < length subs.now) }
+        ensures index { result ≡ index_spec.reached_in «unit» side subs.now }
+        ensures bound { IfSome result (λ index. index < length subs.now) }
     {
         match entry(self.of_side(side), unit) {
-            Some(place) => place,
+            Some(index) => index,
             None => reached_in(unit, side, subs),
         }
     }

@@ -23,15 +23,15 @@ use Rattle.subchannel_model.specs.declared.state.Chosen.TheVariants.{Idle, Reset
 use Rattle.subchannel_model.specs.declared.state.Subchannel.{Subchannel}
 use Rattle.subchannel_model.specs.declared.state.SubchannelState.{SubchannelState}
 use Rattle.subchannel_model.specs.Choosing.{candidate, chosen, clear_chosen, halt_sent, marked_sub, offered, path_use, paths_to_choose, reset_chosen, reset_sent, unsent_reset, halt_chosen, offer_chosen, chosen_of}
-use Rattle.subchannel_model.specs.Places.{Found, found_at, sub_at, found_with}
+use Rattle.subchannel_model.specs.Indices.{Found, found_at, sub_at, found_with}
 use Rattle.subchannel_model.specs.Sending.{carried_by, finds_full, with_any_sent}
 use Rattle.subchannel_model.specs.Losing.{path_index}
 use Rattle.machine_model.specs.ChooseSteps.{choose_sub, send_sub}
 use Rattle.machine_model.specs.Requests.{settled}
 use Rattle.chan_model.specs.PathSets.{cyclic_path}
-use Rattle.machine_model.specs.State.{State, place_of, sub_of}
+use Rattle.machine_model.specs.State.{State, index_of, sub_of}
 use Rattle.machine_model.specs.Steps.{Step}
-use Rattle.machine_model.specs.Turns.{Outcome, SubTurn, at_sub, leaves}
+use Rattle.machine_model.specs.Results.{Outcome, SubResult, at_sub, leaves}
 use Rattle.signal_step.specs.PathTurns.{has_to_choose, is_idle, lowest_path, path_turn_of, turn_at, turn_by, turn_on, waits_up}
 
 -- the first path of a set, in cyclic order, is a path of it, and there is one where the set has any
@@ -134,9 +134,9 @@ replies-idle sub PerformsHalt e = absurd (cc e)
 replies-idle sub FindsNoPath e = absurd (cc e)
 replies-idle sub (Offers c path) e = absurd (cc e)
 
-at-sub-replies : (Q : Reply → Type 0) (s : State) (place : ℕ) (x : Result SubTurn Fault) → IfOk x (λ t. Q t.reply) → IfOk (at_sub s place x) (λ t. Q t.reply)
-at-sub-replies Q s place (Ok t) q = q
-at-sub-replies Q s place (Err f) q = tt
+at-sub-replies : (Q : Reply → Type 0) (s : State) (index : ℕ) (x : Result SubResult Fault) → IfOk x (λ t. Q t.reply) → IfOk (at_sub s index x) (λ t. Q t.reply)
+at-sub-replies Q s index (Ok t) q = q
+at-sub-replies Q s index (Err f) q = tt
 
 settled-replies : (Q : Reply → Type 0) (s : State) (e : Event) (x : Outcome) → IfOk x (λ t. Q t.reply) → IfOk (settled s e x) (λ t. Q t.reply)
 settled-replies Q s e (Ok t) q = q
@@ -144,7 +144,7 @@ settled-replies Q s e (Err f) q = tt
 
 found-of : (subs : List Subchannel) (p : Option ℕ) (sub : Subchannel) → sub_at subs p ≡ Some sub → (f : Found) × (found_at subs p ≡ Some f) × (f.sub ≡ sub)
 found-of subs None sub e = absurd (cc e)
-found-of subs (Some place) sub e = (record { place = place; sub = sub }, ap (found_with place) e, refl)
+found-of subs (Some index) sub e = (record { index = index; sub = sub }, ap (found_with index) e, refl)
 
 -- what holds of the reply to each lawful choice holds of the reply of the step
 abbrev HoldsOfEach : (Reply → Type 0) → State → Subchannel → Type 0
@@ -153,14 +153,14 @@ HoldsOfEach Q s sub = (choice : Option ℕ) → IsChoice (paths_to_choose s.subs
 on-step : (Q : Reply → Type 0) (s : State) (word : ℕ) (sub : Subchannel) (r : Reply) (new : State) → sub_of s word ≡ Some sub → HoldsOfEach Q s sub →
     Step s (event.Choose word) r new → Q r
 on-step Q s word sub r new here each (t, does_so, is) =
-    let f = found-of s.subs (place_of s word) sub here in
+    let f = found-of s.subs (index_of s word) sub here in
     let by : HoldsOfEach Q s f.0.sub = subst (λ (x : Subchannel). HoldsOfEach Q s x) (sym f.2) each in
-    let met : (choice : Option ℕ) × IsChoice (paths_to_choose s.subs f.0.sub) choice × (t ≡ at_sub s f.0.place (choose_sub (marked_sub f.0.sub choice) (chosen f.0.sub choice))) =
+    let met : (choice : Option ℕ) × IsChoice (paths_to_choose s.subs f.0.sub) choice × (t ≡ at_sub s f.0.index (choose_sub (marked_sub f.0.sub choice) (chosen f.0.sub choice))) =
     subst (λ (o : Option Found). Rattle.machine_model.specs.ChooseSteps.Chooses s o t) f.1 does_so in
     subst (λ (x : Outcome). IfOk x (λ t. Q t.reply)) (sym is)
     (settled-replies Q s (event.Choose word) t
     (subst (λ (x : Outcome). IfOk x (λ t. Q t.reply)) (sym met.2)
-    (at-sub-replies Q s f.0.place (choose_sub (marked_sub f.0.sub met.0) (chosen f.0.sub met.0)) (by met.0 met.1))))
+    (at-sub-replies Q s f.0.index (choose_sub (marked_sub f.0.sub met.0) (chosen f.0.sub met.0)) (by met.0 met.1))))
 
 not-true : (b : Bool) → not b ≡ true → b ≡ false
 not-true true e = absurd (cc e)

@@ -21,9 +21,9 @@ posted-still [] w = refl
 posted-still (x ∷ xs) w = ap (posted_all xs xs) (none-made x.state.serials.made x w refl) ∙ posted-still xs w
 
 -- by the subchannel that changed, alone
-pub posted-at : (subs : List Subchannel) (place : ℕ) (sub new : Subchannel) (w : WaitingRequests) → slice_get subs place ≡ Some sub →
-    posted_all subs (slice_set subs place new) w ≡ posted_since sub.state.serials.made new w
-posted-at [] place sub new w e = absurd (cc e)
+pub posted-at : (subs : List Subchannel) (index : ℕ) (sub new : Subchannel) (w : WaitingRequests) → slice_get subs index ≡ Some sub →
+    posted_all subs (slice_set subs index new) w ≡ posted_since sub.state.serials.made new w
+posted-at [] index sub new w e = absurd (cc e)
 posted-at (x ∷ xs) zero sub new w e =
     posted-still xs (posted_for x new w) ∙ ap (λ (y : Subchannel). posted_for y new w) (same_Some x sub e)
 posted-at (x ∷ xs) (suc i) sub new w e =

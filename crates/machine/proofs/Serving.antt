@@ -18,7 +18,7 @@ use Rattle.machine_model.specs.State.{State}
 use Rattle.machine_model.specs.Steps.{Performs, Step}
 use Rattle.lookup.specs.Tables.{Serves, server, served_at, without_server, with_entry, engaged}
 use Rattle.lookup.proofs.Serving.{engages-is}
-use Rattle.step_laws.proofs.Places.{set-get, get-set, get-other}
+use Rattle.step_laws.proofs.Indices.{set-get, get-set, get-other}
 use Rattle.run_laws.specs.OneEngine.{IsAlone}
 use Rattle.run_laws.proofs.Machine.OneEngine.{alone-set, opened-idle, swept-engages}
 use Rattle.run_laws.proofs.Machine.SweptPaths.{IsSwept, is-swept}
@@ -39,29 +39,29 @@ freed-other : (table : List (Option ℕ)) (before : Option ℕ) (c : ℕ) → be
 freed-other table None c n = refl
 freed-other table (Some b) c n = get_or-set_other table b c None None (λ h. n (ap Some (sym h)))
 
-given-other : (table : List (Option ℕ)) (after : Option ℕ) (place c : ℕ) → after ≢ Some c → server (with_entry table after place) c ≡ server table c
-given-other table None place c n = refl
-given-other table (Some a) place c n = get_or-set_other table a c (Some place) None (λ h. n (ap Some (sym h)))
+given-other : (table : List (Option ℕ)) (after : Option ℕ) (index c : ℕ) → after ≢ Some c → server (with_entry table after index) c ≡ server table c
+given-other table None index c n = refl
+given-other table (Some a) index c n = get_or-set_other table a c (Some index) None (λ h. n (ap Some (sym h)))
 
 freed-long : (table : List (Option ℕ)) (before : Option ℕ) → length (without_server table before) ≡ length table
 freed-long table None = refl
 freed-long table (Some b) = length-set table b None
 
-pub served-long : (table : List (Option ℕ)) (place : ℕ) (before after : Option ℕ) → length (served_at place before after table) ≡ length table
-served-long table place before None = freed-long table before
-served-long table place before (Some a) = length-set (without_server table before) a (Some place) ∙ freed-long table before
+pub served-long : (table : List (Option ℕ)) (index : ℕ) (before after : Option ℕ) → length (served_at index before after table) ≡ length table
+served-long table index before None = freed-long table before
+served-long table index before (Some a) = length-set (without_server table before) a (Some index) ∙ freed-long table before
 
-entry-here : (table : List (Option ℕ)) (place c : ℕ) (before after : Option ℕ) → c < length table → after ≡ Some c → server (served_at place before after table) c ≡ Some place
-entry-here table place c before after within e =
-    subst (λ (a : Option ℕ). server (served_at place before a table) c ≡ Some place) (sym e)
-    (get_or-set_same (without_server table before) c (Some place) None (omega (arith, within, freed-long table before)))
+entry-here : (table : List (Option ℕ)) (index c : ℕ) (before after : Option ℕ) → c < length table → after ≡ Some c → server (served_at index before after table) c ≡ Some index
+entry-here table index c before after within e =
+    subst (λ (a : Option ℕ). server (served_at index before a table) c ≡ Some index) (sym e)
+    (get_or-set_same (without_server table before) c (Some index) None (omega (arith, within, freed-long table before)))
 
 entry-freed : (table : List (Option ℕ)) (c : ℕ) (before : Option ℕ) → c < length table → before ≡ Some c → server (without_server table before) c ≡ None
 entry-freed table c before within e =
     subst (λ (b : Option ℕ). server (without_server table b) c ≡ None) (sym e) (get_or-set_same table c None None within)
 
-entry-other : (table : List (Option ℕ)) (place c : ℕ) (before after : Option ℕ) → before ≢ Some c → after ≢ Some c → server (served_at place before after table) c ≡ server table c
-entry-other table place c before after n m = given-other (without_server table before) after place c m ∙ freed-other table before c n
+entry-other : (table : List (Option ℕ)) (index c : ℕ) (before after : Option ℕ) → before ≢ Some c → after ≢ Some c → server (served_at index before after table) c ≡ server table c
+entry-other table index c before after n m = given-other (without_server table before) after index c m ∙ freed-other table before c n
 
 -- one that engages an engine is the one that its entry names, and serves no other
 pub serves-alone : (table : List (Option ℕ)) (subs : List Subchannel) → Serves table subs → (c : ℕ) → c < 0x100 → IsAlone c subs
@@ -71,45 +71,45 @@ serves-alone table subs k c small i j x y a b e g = same_Some i j (sym (k.named 
 not-path : (o : Option ℕ) (c : ℕ) → is_path o c ≡ false → o ≢ Some c
 not-path o c e f = absurd (cc (sym (ap (λ (p : Option ℕ). is_path p c) f ∙ eq-eqb c c refl) ∙ e))
 
-module _ (table : List (Option ℕ)) (subs : List Subchannel) (place : ℕ) (old new : Subchannel) (there : slice_get subs place ≡ Some old) (k : Serves table subs) where
-  named-other : (c p : ℕ) (sub : Subchannel) → c < 0x100 → IsAlone c (slice_set subs place new) → p ≢ place → slice_get subs p ≡ Some sub → engages c sub ≡ true →
-      server (served_at place (engaged old) (engaged new) table) c ≡ Some p
+module _ (table : List (Option ℕ)) (subs : List Subchannel) (index : ℕ) (old new : Subchannel) (there : slice_get subs index ≡ Some old) (k : Serves table subs) where
+  named-other : (c p : ℕ) (sub : Subchannel) → c < 0x100 → IsAlone c (slice_set subs index new) → p ≢ index → slice_get subs p ≡ Some sub → engages c sub ≡ true →
+      server (served_at index (engaged old) (engaged new) table) c ≡ Some p
   named-other c p sub small alone n at e =
       let is = k.named c p sub small at e in
-      let here = get-set subs place old new there in
-      let other = get-other subs place new p n ∙ at in
-      entry-other table place c (engaged old) (engaged new)
-      (λ f. n (same_Some p place (sym is ∙ k.named c place old small there (one-engages old c f))))
-      (λ f. n (sym (alone place p new sub here other (one-engages new c f) e))) ∙ is
+      let here = get-set subs index old new there in
+      let other = get-other subs index new p n ∙ at in
+      entry-other table index c (engaged old) (engaged new)
+      (λ f. n (same_Some p index (sym is ∙ k.named c index old small there (one-engages old c f))))
+      (λ f. n (sym (alone index p new sub here other (one-engages new c f) e))) ∙ is
 
   -- whom an entry names that was left as it was
   abbrev Names : ℕ → ℕ → Type 0
-  Names c p = (sub : Subchannel) × (slice_get (slice_set subs place new) p ≡ Some sub) × (engages c sub ≡ true)
+  Names c p = (sub : Subchannel) × (slice_get (slice_set subs index new) p ≡ Some sub) × (engages c sub ≡ true)
 
   still-named : (c p : ℕ) (before : Bool) → c < 0x100 → is_path (engaged old) c ≡ before → server (without_server table (engaged old)) c ≡ Some p → Names c p
   still-named c p true small b e =
       absurd (cc (sym e ∙ entry-freed table c (engaged old) (omega (arith, small, k.size)) (path-is (engaged old) c b)))
   still-named c p false small b e =
       let q = k.engaged c p small (sym (freed-other table (engaged old) c (not-path (engaged old) c b)) ∙ e) in
-      let away : p ≢ place = λ h.
+      let away : p ≢ index = λ h.
       let same : q.0 ≡ old = same_Some q.0 old (sym q.1 ∙ (ap (slice_get subs) h ∙ there)) in
       absurd (cc (sym (sym (ap (engages c) same) ∙ q.2) ∙ (engages-is old c ∙ b))) in
-      (q.0, get-other subs place new p away ∙ q.1, q.2)
+      (q.0, get-other subs index new p away ∙ q.1, q.2)
 
-  now-named : (c p : ℕ) (after : Bool) → c < 0x100 → is_path (engaged new) c ≡ after → server (served_at place (engaged old) (engaged new) table) c ≡ Some p → Names c p
+  now-named : (c p : ℕ) (after : Bool) → c < 0x100 → is_path (engaged new) c ≡ after → server (served_at index (engaged old) (engaged new) table) c ≡ Some p → Names c p
   now-named c p true small a e =
       let is = path-is (engaged new) c a in
-      let same : p ≡ place = same_Some p place (sym e ∙ entry-here table place c (engaged old) (engaged new) (omega (arith, small, k.size)) is) in
-      (new, ap (slice_get (slice_set subs place new)) same ∙ get-set subs place old new there, one-engages new c is)
+      let same : p ≡ index = same_Some p index (sym e ∙ entry-here table index c (engaged old) (engaged new) (omega (arith, small, k.size)) is) in
+      (new, ap (slice_get (slice_set subs index new)) same ∙ get-set subs index old new there, one-engages new c is)
   now-named c p false small a e =
       still-named c p (is_path (engaged old) c) small refl
-      (sym (given-other (without_server table (engaged old)) (engaged new) place c (not-path (engaged new) c a)) ∙ e)
+      (sym (given-other (without_server table (engaged old)) (engaged new) index c (not-path (engaged new) c a)) ∙ e)
 
-  pub serves-changed : ((c : ℕ) → c < 0x100 → IsAlone c (slice_set subs place new)) → Serves (served_at place (engaged old) (engaged new) table) (slice_set subs place new)
+  pub serves-changed : ((c : ℕ) → c < 0x100 → IsAlone c (slice_set subs index new)) → Serves (served_at index (engaged old) (engaged new) table) (slice_set subs index new)
   serves-changed alone = record {
-    size = served-long table place (engaged old) (engaged new) ∙ k.size;
-    named = λ c p sub small at e. elim (set-get subs place new p sub at) [
-      | inl h ↦ entry-here table place c (engaged old) (engaged new) (omega (arith, small, k.size)) (engages-one new c (sym (ap (engages c) h.1) ∙ e)) ∙ ap Some (sym h.0)
+    size = served-long table index (engaged old) (engaged new) ∙ k.size;
+    named = λ c p sub small at e. elim (set-get subs index new p sub at) [
+      | inl h ↦ entry-here table index c (engaged old) (engaged new) (omega (arith, small, k.size)) (engages-one new c (sym (ap (engages c) h.1) ∙ e)) ∙ ap Some (sym h.0)
       | inr h ↦ named-other c p sub small (alone c small) h.0 h.1 e
     ];
     engaged = λ c p small e. now-named c p (is_path (engaged new) c) small refl e;
@@ -119,24 +119,24 @@ module _ (table : List (Option ℕ)) (subs : List Subchannel) (place : ℕ) (old
   same-engaged : engaged new ≡ engaged old → (c : ℕ) → engages c new ≡ engages c old
   same-engaged same c = engages-is new c ∙ (ap (λ (o : Option ℕ). is_path o c) same ∙ sym (engages-is old c))
 
-  named-still : (c p : ℕ) (here : Bool) → c < 0x100 → engaged new ≡ engaged old → (p == place) ≡ here → server table c ≡ Some p → Names c p
+  named-still : (c p : ℕ) (here : Bool) → c < 0x100 → engaged new ≡ engaged old → (p == index) ≡ here → server table c ≡ Some p → Names c p
   named-still c p true small same h e =
-      let is : p ≡ place = eqb-true p place h in
+      let is : p ≡ index = eqb-true p index h in
       let q = k.engaged c p small e in
       let was : q.0 ≡ old = same_Some q.0 old (sym q.1 ∙ (ap (slice_get subs) is ∙ there)) in
-      (new, ap (slice_get (slice_set subs place new)) is ∙ get-set subs place old new there, same-engaged same c ∙ (sym (ap (engages c) was) ∙ q.2))
+      (new, ap (slice_get (slice_set subs index new)) is ∙ get-set subs index old new there, same-engaged same c ∙ (sym (ap (engages c) was) ∙ q.2))
   named-still c p false small same h e =
       let q = k.engaged c p small e in
-      (q.0, get-other subs place new p (λ f. absurd (cc (sym (eq-eqb p place f) ∙ h))) ∙ q.1, q.2)
+      (q.0, get-other subs index new p (λ f. absurd (cc (sym (eq-eqb p index f) ∙ h))) ∙ q.1, q.2)
 
-  pub serves-still : engaged new ≡ engaged old → Serves table (slice_set subs place new)
+  pub serves-still : engaged new ≡ engaged old → Serves table (slice_set subs index new)
   serves-still same = record {
     size = k.size;
-    named = λ c p sub small at e. elim (set-get subs place new p sub at) [
-      | inl h ↦ k.named c place old small there (sym (same-engaged same c) ∙ (sym (ap (engages c) h.1) ∙ e)) ∙ ap Some (sym h.0)
+    named = λ c p sub small at e. elim (set-get subs index new p sub at) [
+      | inl h ↦ k.named c index old small there (sym (same-engaged same c) ∙ (sym (ap (engages c) h.1) ∙ e)) ∙ ap Some (sym h.0)
       | inr h ↦ k.named c p sub small h.1 e
     ];
-    engaged = λ c p small e. named-still c p (p == place) small same refl e;
+    engaged = λ c p small e. named-still c p (p == index) small same refl e;
   }
 
 -- what a step leaves
@@ -147,24 +147,24 @@ performed-alone : AreKeptAlone → (old new : State) (e : Event) (answer : Resul
 performed-alone kept old new e (Ok r) c step alone = kept old e r new c step alone
 performed-alone kept old new e (Err f) c refused alone = subst (λ (s : State). IsAlone c s.subs) (sym refused.1) alone
 
-pub served-performed : AreKeptAlone → (table later : List (Option ℕ)) (old new : State) (e : Event) (answer : Result Reply Fault) (place : ℕ) (sub after : Subchannel) (was is : Option ℕ) →
-    slice_get old.subs place ≡ Some sub → Serves table old.subs → Performs old e answer new → new.subs ≡ slice_set old.subs place after → was ≡ engaged sub → is ≡ engaged after →
-    later ≡ served_at place was is table → Serves later (slice_set old.subs place after)
-served-performed kept table later old new e answer place sub after was is there k done same before now changed =
-    subst (λ (t : List (Option ℕ)). Serves t (slice_set old.subs place after))
-    (sym (changed ∙ (ap (λ (o : Option ℕ). served_at place o is table) before ∙ ap (λ (o : Option ℕ). served_at place (engaged sub) o table) now)))
-    (serves-changed table old.subs place sub after there k
+pub served-performed : AreKeptAlone → (table later : List (Option ℕ)) (old new : State) (e : Event) (answer : Result Reply Fault) (index : ℕ) (sub after : Subchannel) (was is : Option ℕ) →
+    slice_get old.subs index ≡ Some sub → Serves table old.subs → Performs old e answer new → new.subs ≡ slice_set old.subs index after → was ≡ engaged sub → is ≡ engaged after →
+    later ≡ served_at index was is table → Serves later (slice_set old.subs index after)
+served-performed kept table later old new e answer index sub after was is there k done same before now changed =
+    subst (λ (t : List (Option ℕ)). Serves t (slice_set old.subs index after))
+    (sym (changed ∙ (ap (λ (o : Option ℕ). served_at index o is table) before ∙ ap (λ (o : Option ℕ). served_at index (engaged sub) o table) now)))
+    (serves-changed table old.subs index sub after there k
     (λ c small. subst (IsAlone c) same (performed-alone kept old new e answer c done (serves-alone table old.subs k c small))))
 
 -- what befalls one subchannel of all
-pub served-swept : (what : Sweep) (table later : List (Option ℕ)) (subs : List Subchannel) (place : ℕ) (sub after : Subchannel) → slice_get subs place ≡ Some sub → Serves table subs →
-    after ≡ swept what sub → later ≡ served_at place (engaged sub) (engaged after) table → Serves later (slice_set subs place after)
-served-swept what table later subs place sub after there k is changed =
+pub served-swept : (what : Sweep) (table later : List (Option ℕ)) (subs : List Subchannel) (index : ℕ) (sub after : Subchannel) → slice_get subs index ≡ Some sub → Serves table subs →
+    after ≡ swept what sub → later ≡ served_at index (engaged sub) (engaged after) table → Serves later (slice_set subs index after)
+served-swept what table later subs index sub after there k is changed =
     let alone = serves-alone table subs k in
-    subst (λ (t : List (Option ℕ)). Serves t (slice_set subs place after)) (sym changed)
-    (serves-changed table subs place sub after there k
-    (λ c small. alone-set subs place c after (alone c small)
-    (λ i x at e g. alone c small place i sub x there at (swept-engages c sub after (subst (IsSwept sub) (sym is) (is-swept what sub)) e) g)))
+    subst (λ (t : List (Option ℕ)). Serves t (slice_set subs index after)) (sym changed)
+    (serves-changed table subs index sub after there k
+    (λ c small. alone-set subs index c after (alone c small)
+    (λ i x at e g. alone c small index i sub x there at (swept-engages c sub after (subst (IsSwept sub) (sym is) (is-swept what sub)) e) g)))
 
 -- at the opening no engine serves a subchannel
 pub idle-serves : (setups : List SubchannelSetup) → Serves (replicate 0x100 None) (map opened setups)

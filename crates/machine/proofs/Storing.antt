@@ -11,9 +11,9 @@ use Rattle.interruptions.specs.Requests.{WaitingRequests}
 use Rattle.subchannel_model.specs.declared.state.Subchannel.{Subchannel}
 use Rattle.machine_model.specs.Requests.{requests_dropped}
 use Rattle.machine_model.specs.State.{State}
-use Rattle.machine_model.specs.StorageSteps.{storage_turn, put_turn, key_turn, prefix_turn, show_turn, show_turn_of}
+use Rattle.machine_model.specs.StorageSteps.{storage_result, put_result, key_result, prefix_result, show_result, show_result_of}
 use Rattle.machine_model.specs.Steps.{Does, Performs}
-use Rattle.machine_model.specs.Turns.{Outcome}
+use Rattle.machine_model.specs.Results.{Outcome}
 use Rattle.signal_step.specs.Giving.{Gives}
 use Rattle.machine.proofs.Lifting.{unchanged}
 
@@ -30,30 +30,30 @@ stays : (s : State) (e : Event) (outcome : Outcome) (r : Result Reply Fault) (ne
     ((x : Reply) (w : WaitingRequests) → requests_dropped s e x w ≡ w) → subs-of s outcome ≡ s.subs → Gives s outcome r new → Performs s e r new
 stays s e outcome r new does keeps same g = unchanged s e outcome r new does g (kept s outcome r new same g) keeps
 
-stored : (s : State) (x : Result Contents StorageFault) → subs-of s (storage_turn s x) ≡ s.subs
+stored : (s : State) (x : Result Contents StorageFault) → subs-of s (storage_result s x) ≡ s.subs
 stored s (Ok storage) = refl
 stored s (Err f) = refl
 
-told : (s : State) (x : Result (List ℕ) StorageFault) → subs-of s (show_turn_of s x) ≡ s.subs
+told : (s : State) (x : Result (List ℕ) StorageFault) → subs-of s (show_result_of s x) ≡ s.subs
 told s (Ok bytes) = refl
 told s (Err f) = refl
 
-pub put_performs : (s : State) (address : ℕ) (bytes : List ℕ) (r : Result Reply Fault) (new : State) → Gives s (put_turn s address bytes) r new →
+pub put_performs : (s : State) (address : ℕ) (bytes : List ℕ) (r : Result Reply Fault) (new : State) → Gives s (put_result s address bytes) r new →
     Performs s (event.Put address bytes) r new
 put_performs s address bytes r new g =
-    stays s (event.Put address bytes) (put_turn s address bytes) r new refl (λ x w. refl) (stored s (put s.storage address bytes)) g
+    stays s (event.Put address bytes) (put_result s address bytes) r new refl (λ x w. refl) (stored s (put s.storage address bytes)) g
 
-pub key_performs : (s : State) (address : ℕ) (key : Key) (r : Result Reply Fault) (new : State) → Gives s (key_turn s address key) r new →
+pub key_performs : (s : State) (address : ℕ) (key : Key) (r : Result Reply Fault) (new : State) → Gives s (key_result s address key) r new →
     Performs s (event.SetKey address key) r new
 key_performs s address key r new g =
-    stays s (event.SetKey address key) (key_turn s address key) r new refl (λ x w. refl) (stored s (key_set s.storage address key)) g
+    stays s (event.SetKey address key) (key_result s address key) r new refl (λ x w. refl) (stored s (key_set s.storage address key)) g
 
-pub prefix_performs : (s : State) (cpu address : ℕ) (r : Result Reply Fault) (new : State) → Gives s (prefix_turn s cpu address) r new →
+pub prefix_performs : (s : State) (cpu address : ℕ) (r : Result Reply Fault) (new : State) → Gives s (prefix_result s cpu address) r new →
     Performs s (event.SetPrefix cpu address) r new
 prefix_performs s cpu address r new g =
-    stays s (event.SetPrefix cpu address) (prefix_turn s cpu address) r new refl (λ x w. refl) (stored s (prefix_set s.storage cpu address)) g
+    stays s (event.SetPrefix cpu address) (prefix_result s cpu address) r new refl (λ x w. refl) (stored s (prefix_set s.storage cpu address)) g
 
-pub show_performs : (s : State) (address count : ℕ) (r : Result Reply Fault) (new : State) → Gives s (show_turn s address count) r new →
+pub show_performs : (s : State) (address count : ℕ) (r : Result Reply Fault) (new : State) → Gives s (show_result s address count) r new →
     Performs s (event.Show address count) r new
 show_performs s address count r new g =
-    stays s (event.Show address count) (show_turn s address count) r new refl (λ x w. refl) (told s (shown s.storage address count)) g
+    stays s (event.Show address count) (show_result s address count) r new refl (λ x w. refl) (told s (shown s.storage address count)) g

@@ -98,45 +98,45 @@ impl Machine {
         self.subs.len()
     }
 
-    /// The place of the subchannel that a subsystem-identification word names.
-    pub fn place_of(&self, places: &SubchannelIndex, word: u32) -> Option<usize>
-        requires fits { Fits places.now self.now.subs }
-        ensures place { result ≡ state_spec.place_of self.now word }
-        ensures bound { IfSome result (λ place. place < length self.now.subs) }
+    /// The index of the subchannel that a subsystem-identification word names.
+    pub fn index_of(&self, indices: &SubchannelIndex, word: u32) -> Option<usize>
+        requires fits { Fits indices.now self.now.subs }
+        ensures index { result ≡ state_spec.index_of self.now word }
+        ensures bound { IfSome result (λ index. index < length self.now.subs) }
     {
         match subchannel_named(self.sets, word) {
             None => None,
-            Some(id) => places.place_in(id, self.subs.as_slice()),
+            Some(id) => indices.index_in(id, self.subs.as_slice()),
         }
     }
 
     /// The serials of the subchannel that a word names.
-    pub fn serials(&self, places: &SubchannelIndex, word: u32) -> Option<Serials>
-        requires fits { Fits places.now self.now.subs }
+    pub fn serials(&self, indices: &SubchannelIndex, word: u32) -> Option<Serials>
+        requires fits { Fits indices.now self.now.subs }
         ensures { result ≡ state_spec.serials_in (state_spec.sub_of self.now word) }
     {
-        match self.place_of(places, word) {
+        match self.index_of(indices, word) {
             None => None,
-            Some(place) => self.serials_at(place),
+            Some(index) => self.serials_at(index),
         }
     }
 
-    /// The serials of the subchannel at a place.
-    pub fn serials_at(&self, place: usize) -> Option<Serials>
-        ensures { result ≡ state_spec.serials_in (slice_get self.now.subs place) }
+    /// The serials of the subchannel at an index.
+    pub fn serials_at(&self, index: usize) -> Option<Serials>
+        ensures { result ≡ state_spec.serials_in (slice_get self.now.subs index) }
     {
-        let sub = self.subs.get(place)?;
+        let sub = self.subs.get(index)?;
         Some(sub.state.rest().serials)
     }
 
     #[inline(always)]
     fn execute(
         &mut self,
-        places: &SubchannelIndex,
+        indices: &SubchannelIndex,
         cpu: Cpu,
         instruction: &Instruction,
     ) -> Result<PlainReply, Fault>
-        requires fits { Fits places.now self.old.subs }
+        requires fits { Fits indices.now self.old.subs }
         requires roomy { All CanCount self.old.subs }
         requires postable { All IsPostable self.old.subs }
         requires requests { self.old.requests.numbers ≡ 0x100 }
@@ -147,16 +147,16 @@ impl Machine {
         let Some(id) = subchannel_named(self.sets, instruction.subchannel_word()) else {
             return Err(Fault::Operand);
         };
-        let Some(place) = places.place_in(id, self.subs.as_slice()) else {
+        let Some(index) = indices.index_in(id, self.subs.as_slice()) else {
             return execute_absent(&mut self.storage, cpu, instruction);
         };
-        let sub = &mut self.subs[place];
+        let sub = &mut self.subs[index];
         let before = engaged(sub);
         let made = made_by(sub);
         let answer = perform_provided(&mut self.storage, sub, &mut self.pending, cpu, instruction);
         post(&mut self.pending, sub, made);
         let after = engaged(sub);
-        self.engines.change(place, before, after);
+        self.engines.change(index, before, after);
         answer
     }
 
@@ -186,11 +186,11 @@ impl Machine {
     #[inline(always)]
     fn choose<P: PathChoice>(
         &mut self,
-        places: &SubchannelIndex,
+        indices: &SubchannelIndex,
         choice: &P,
         word: u32,
     ) -> Result<PlainReply, Fault>
-        requires fits { Fits places.now self.old.subs }
+        requires fits { Fits indices.now self.old.subs }
         requires roomy { All CanCount self.old.subs }
         requires postable { All IsPostable self.old.subs }
         requires requests { self.old.requests.numbers ≡ 0x100 }
@@ -198,19 +198,19 @@ impl Machine {
         ensures ruled { GoesByRule P.picks self.old (event_spec.Choose word) (plain_outcome result) self.new }
     {
         engines();
-        let Some(place) = self.place_of(places, word) else {
+        let Some(index) = self.index_of(indices, word) else {
             return Err(Fault::NoSuchSubchannel);
         };
         let served = Served::of(self.subs.as_slice(), &self.engines);
-        let paths = paths_to_choose(&served, &self.subs[place]);
-        let sub = &mut self.subs[place];
+        let paths = paths_to_choose(&served, &self.subs[index]);
+        let sub = &mut self.subs[index];
         let path = choice.choose(&paths, last_path_of(sub));
         let what = chosen(sub, path);
         let before = engaged(sub);
         let made = made_by(sub);
         let answer = choose_sub(sub, &path, what);
         let after = engaged(sub);
-        self.engines.change(place, before, after);
+        self.engines.change(index, before, after);
         post(&mut self.pending, sub, made);
         answer
     }
@@ -218,12 +218,12 @@ impl Machine {
     #[inline(never)]
     fn up(
         &mut self,
-        places: &SubchannelIndex,
+        indices: &SubchannelIndex,
         word: u32,
         path: u32,
         log: &mut Log,
     ) -> Result<(), Fault>
-        requires fits { Fits places.now self.old.subs }
+        requires fits { Fits indices.now self.old.subs }
         requires roomy { All CanCount self.old.subs }
         requires postable { All IsPostable self.old.subs }
         requires requests { self.old.requests.numbers ≡ 0x100 }
@@ -234,47 +234,47 @@ impl Machine {
         ensures refused { OnErr result (log.new ≡ log.old) }
     {
         engines();
-        let Some(place) = self.place_of(places, word) else {
+        let Some(index) = self.index_of(indices, word) else {
             return Err(Fault::NoSuchSubchannel);
         };
-        let Some(path) = path_of(&self.subs[place], path) else {
+        let Some(path) = path_of(&self.subs[index], path) else {
             return Err(Fault::NoSuchPath);
         };
         let served = Served::of(self.subs.as_slice(), &self.engines);
-        let returns = returns_at(&served, &self.subs[place], path);
-        let sub = &mut self.subs[place];
+        let returns = returns_at(&served, &self.subs[index], path);
+        let sub = &mut self.subs[index];
         let before = engaged(sub);
         let made = made_by(sub);
         let answer = up_sub(&mut self.storage, sub, path, returns, &mut self.sent, log);
         post(&mut self.pending, sub, made);
         let after = engaged(sub);
-        self.engines.change(place, before, after);
+        self.engines.change(index, before, after);
         answer
     }
 
     #[inline(never)]
     fn down(
         &mut self,
-        places: &SubchannelIndex,
+        indices: &SubchannelIndex,
         word: u32,
         path: u32,
         log: &mut Log,
     ) -> Result<(), Fault>
-        requires fits { Fits places.now self.old.subs }
+        requires fits { Fits indices.now self.old.subs }
         requires room { 1 ≤ log.old.room }
         requires fresh { log.old.reply ≡ reply_spec.Done }
         ensures performs { spec.Performs self.old (event_spec.Down word path) (answer_in result log.new) self.new }
         ensures kept { IsKept log.old log.new }
         ensures refused { OnErr result (log.new ≡ log.old) }
     {
-        let Some(place) = self.place_of(places, word) else {
+        let Some(index) = self.index_of(indices, word) else {
             return Err(Fault::NoSuchSubchannel);
         };
-        let number = usize::from(reached_unit(&self.subs[place]));
+        let number = usize::from(reached_unit(&self.subs[index]));
         if number >= self.units.len() {
             return Err(Fault::NoSuchUnit);
         }
-        let sub = &mut self.subs[place];
+        let sub = &mut self.subs[index];
         let unit = &mut self.units[number];
         down_sub(sub, unit, &mut self.sharing, path, log)
     }
@@ -282,11 +282,11 @@ impl Machine {
     #[inline(always)]
     fn report(
         &mut self,
-        places: &SubchannelIndex,
+        indices: &SubchannelIndex,
         number: u32,
         report: &Report,
     ) -> Result<PlainReply, Fault>
-        requires fits { Fits places.now self.old.subs }
+        requires fits { Fits indices.now self.old.subs }
         requires roomy { All CanUnitCount self.old.units }
         ensures { spec.Performs self.old (event_spec.Report number report.now) (plain_outcome result) self.new }
     {
@@ -294,10 +294,10 @@ impl Machine {
         if number >= self.units.len() {
             return Err(Fault::NoSuchUnit);
         }
-        let Some(place) = places.reached_in(number, report.side, self.subs.as_slice()) else {
+        let Some(index) = indices.reached_in(number, report.side, self.subs.as_slice()) else {
             return Err(Fault::NotNow);
         };
-        let sub = &mut self.subs[place];
+        let sub = &mut self.subs[index];
         let unit = &mut self.units[number];
         report_sub(sub, unit, report)
     }
@@ -306,12 +306,12 @@ impl Machine {
     #[inline(never)]
     fn tell_code(
         &mut self,
-        places: &SubchannelIndex,
+        indices: &SubchannelIndex,
         cpu: Cpu,
         instruction: &Instruction,
         log: &mut Log,
     ) -> Result<(), Fault>
-        requires fits { Fits places.now self.old.subs }
+        requires fits { Fits indices.now self.old.subs }
         requires roomy { All CanCount self.old.subs }
         requires postable { All IsPostable self.old.subs }
         requires requests { self.old.requests.numbers ≡ 0x100 }
@@ -321,19 +321,19 @@ impl Machine {
         ensures kept { IsKept log.old log.new }
         ensures refused { OnErr result (log.new ≡ log.old) }
     {
-        log.tell(&self.execute(places, cpu, instruction))
+        log.tell(&self.execute(indices, cpu, instruction))
     }
 
     /// `choose`, with its reply in the log.
     #[inline(never)]
     fn tell_choice<P: PathChoice>(
         &mut self,
-        places: &SubchannelIndex,
+        indices: &SubchannelIndex,
         choice: &P,
         word: u32,
         log: &mut Log,
     ) -> Result<(), Fault>
-        requires fits { Fits places.now self.old.subs }
+        requires fits { Fits indices.now self.old.subs }
         requires roomy { All CanCount self.old.subs }
         requires postable { All IsPostable self.old.subs }
         requires requests { self.old.requests.numbers ≡ 0x100 }
@@ -344,19 +344,19 @@ impl Machine {
         ensures kept { IsKept log.old log.new }
         ensures refused { OnErr result (log.new ≡ log.old) }
     {
-        log.tell(&self.choose(places, choice, word))
+        log.tell(&self.choose(indices, choice, word))
     }
 
     /// `report`, with its reply in the log.
     #[inline(never)]
     fn tell_report(
         &mut self,
-        places: &SubchannelIndex,
+        indices: &SubchannelIndex,
         number: u32,
         report: &Report,
         log: &mut Log,
     ) -> Result<(), Fault>
-        requires fits { Fits places.now self.old.subs }
+        requires fits { Fits indices.now self.old.subs }
         requires roomy { All CanUnitCount self.old.units }
         requires room { 1 ≤ log.old.room }
         requires fresh { log.old.reply ≡ reply_spec.Done }
@@ -364,17 +364,17 @@ impl Machine {
         ensures kept { IsKept log.old log.new }
         ensures refused { OnErr result (log.new ≡ log.old) }
     {
-        log.tell(&self.report(places, number, report))
+        log.tell(&self.report(indices, number, report))
     }
 
     #[inline(never)]
     fn act(
         &mut self,
-        places: &SubchannelIndex,
+        indices: &SubchannelIndex,
         number: u32,
         act: UnitAct,
     ) -> Result<PlainReply, Fault>
-        requires fits { Fits places.now self.old.subs }
+        requires fits { Fits indices.now self.old.subs }
         requires roomy { All CanUnitCount self.old.units }
         ensures { spec.Performs self.old (event_spec.Act number act) (plain_outcome result) self.new }
     {
@@ -383,12 +383,12 @@ impl Machine {
             return Err(Fault::NoSuchUnit);
         }
         let Some(side) = side_of_act(&self.units[number], act) else {
-            return Err(not_held(places, number, act, self.subs.as_slice()));
+            return Err(not_held(indices, number, act, self.subs.as_slice()));
         };
-        let Some(place) = places.reached_in(number, side, self.subs.as_slice()) else {
+        let Some(index) = indices.reached_in(number, side, self.subs.as_slice()) else {
             return Err(Fault::NotNow);
         };
-        let sub = &mut self.subs[place];
+        let sub = &mut self.subs[index];
         let unit = &mut self.units[number];
         act_sub(sub, unit, act)
     }
@@ -411,12 +411,12 @@ impl Machine {
     #[tactic(auto, using(crate::proofs::Storing::put_performs, crate::proofs::Storing::key_performs, crate::proofs::Storing::prefix_performs, crate::proofs::Storing::show_performs))]
     pub fn perform<P: PathChoice>(
         &mut self,
-        places: &SubchannelIndex,
+        indices: &SubchannelIndex,
         choice: &P,
         event: &Event,
         log: &mut Log,
     ) -> Result<(), Fault>
-        requires fits { Fits places.now self.old.subs }
+        requires fits { Fits indices.now self.old.subs }
         requires subs { All CanCount self.old.subs }
         requires units { All CanUnitCount self.old.units }
         requires postable { All IsPostable self.old.subs }
@@ -429,17 +429,17 @@ impl Machine {
         ensures refused { OnErr result (log.new ≡ log.old) }
     {
         let answer = match event {
-            Event::Up { subchannel, path } => return self.up(places, *subchannel, *path, log),
-            Event::Down { subchannel, path } => return self.down(places, *subchannel, *path, log),
-            Event::Report { unit, report } => return self.tell_report(places, *unit, report, log),
+            Event::Up { subchannel, path } => return self.up(indices, *subchannel, *path, log),
+            Event::Down { subchannel, path } => return self.down(indices, *subchannel, *path, log),
+            Event::Report { unit, report } => return self.tell_report(indices, *unit, report, log),
             Event::Choose { subchannel } => {
-                return self.tell_choice(places, choice, *subchannel, log);
+                return self.tell_choice(indices, choice, *subchannel, log);
             }
             Event::Execute { cpu, instruction } => {
-                return self.tell_code(places, *cpu, instruction, log);
+                return self.tell_code(indices, *cpu, instruction, log);
             }
             Event::Show { address, length } => return self.show(*address, *length, log),
-            Event::Act { unit, act } => self.act(places, *unit, *act),
+            Event::Act { unit, act } => self.act(indices, *unit, *act),
             Event::Put { address, bytes } => self.put(*address, bytes),
             Event::SetKey { address, key } => self.set_key(*address, *key),
             Event::SetPrefix { cpu, address } => self.set_prefix(*cpu, *address),

@@ -112,7 +112,7 @@ fn shared<S: Supply>(alloc: Global, supply: &mut S, config: &Config) -> Result<S
     Sharing::new_with(alloc, supply, groups.as_slice())
 }
 
-/// The units and the subchannels of a configuration at its opening, and the places of these.
+/// The units and the subchannels of a configuration at its opening, and the indices of these.
 fn opened_sides<S: Supply>(
     alloc: Global,
     supply: &mut S,
@@ -127,14 +127,14 @@ fn opened_sides<S: Supply>(
 {
     let units = idle_units(alloc, supply, config.units())?;
     let subs = opened_all(alloc, supply, config.subchannels())?;
-    let places = SubchannelIndex::of(
+    let indices = SubchannelIndex::of(
         alloc,
         supply,
         config.set_count(),
         units.len(),
         subs.as_slice(),
     )?;
-    Ok((places, units, subs))
+    Ok((indices, units, subs))
 }
 
 /// What the subsystem keeps beside them at the opening: storage, the channel paths, what control units keep, and requests for
@@ -162,7 +162,7 @@ fn opened_rest<S: Supply>(
     Ok((storage, chpids, sharing, pending))
 }
 
-/// The machine of a configuration, with the places of its subchannels. It is refused only where the supply refuses a
+/// The machine of a configuration, with the indices of its subchannels. It is refused only where the supply refuses a
 /// growth.
 pub fn opened_machine<S: Supply>(
     alloc: Global,
@@ -175,7 +175,7 @@ pub fn opened_machine<S: Supply>(
     ensures given { OnOk result (S.refused supply.new ≡ S.refused supply.old) }
     ensures memory { OnErr result (S.refused supply.new ≡ true) }
 {
-    let (places, units, subs) = opened_sides(alloc, supply, config)?;
+    let (indices, units, subs) = opened_sides(alloc, supply, config)?;
     let (storage, chpids, sharing, pending) = opened_rest(alloc, supply, config)?;
     let engines = Engines::new();
     let machine = Machine {
@@ -191,5 +191,5 @@ pub fn opened_machine<S: Supply>(
         engines,
         sent: SentDown::new(),
     };
-    Ok((places, machine))
+    Ok((indices, machine))
 }

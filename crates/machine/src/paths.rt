@@ -47,10 +47,10 @@ fn sweep(sub: &mut Subchannel, what: Sweep)
     }
 }
 
-/// What befalls all subchannels befalls the one at this place: its request is posted, and its engine goes by it.
+/// What befalls all subchannels befalls the one at this index: its request is posted, and its engine goes by it.
 fn sweep_one(
     sub: &mut Subchannel,
-    place: usize,
+    index: usize,
     pending: &mut Pending,
     engines: &mut Engines,
     what: Sweep,
@@ -59,14 +59,14 @@ fn sweep_one(
     requires postable { sub.old.setup.id.number < pending.old.numbers }
     ensures swept { sub.new ≡ path_spec.swept what sub.old }
     ensures posted { pending.new ≡ requests_spec.posted_for sub.old sub.new pending.old }
-    ensures served { engines.new ≡ served_at place (engaged_by sub.old) (engaged_by sub.new) engines.old }
+    ensures served { engines.new ≡ served_at index (engaged_by sub.old) (engaged_by sub.new) engines.old }
 {
     let before = engaged(sub);
     let made = made_by(sub);
     sweep(sub, what);
     post(pending, sub, made);
     let after = engaged(sub);
-    engines.change(place, before, after);
+    engines.change(index, before, after);
 }
 
 /// What befalls all subchannels, in the order of their configuration.
@@ -80,8 +80,8 @@ fn sweep_all(subs: &mut Vec<Subchannel>, pending: &mut Pending, engines: &mut En
         requests_spec.posted_all subs.old.items (map (path_spec.swept what) subs.old.items) pending.old }
     ensures served { Serves engines.new subs.new.items }
 {
-    for (place, sub) in subs.iter_mut().enumerate() {
-        sweep_one(sub, place, pending, engines, what);
+    for (index, sub) in subs.iter_mut().enumerate() {
+        sweep_one(sub, index, pending, engines, what);
     }
 }
 

@@ -18,11 +18,11 @@ use storage_keys::StorageFault;
 use storage_keys::key::Key;
 
 /// The answer of an event that storage has done or refused.
-fn done(came: Result<(), StorageFault>) -> Result<PlainReply, Fault>
-    ensures done { OnOk came (result ≡ Ok reply_spec.Done) }
-    ensures refused { IfErr came (λ f. result ≡ Err (fault_spec.Storage f)) }
+fn done(outcome: Result<(), StorageFault>) -> Result<PlainReply, Fault>
+    ensures done { OnOk outcome (result ≡ Ok reply_spec.Done) }
+    ensures refused { IfErr outcome (λ f. result ≡ Err (fault_spec.Storage f)) }
 {
-    match came {
+    match outcome {
         Ok(()) => Ok(Reply::Done),
         Err(fault) => Err(Fault::Storage(fault)),
     }
@@ -31,21 +31,21 @@ fn done(came: Result<(), StorageFault>) -> Result<PlainReply, Fault>
 impl Machine {
     #[inline(never)]
     pub(crate) fn put(&mut self, address: u32, bytes: &Chunk) -> Result<PlainReply, Fault>
-        ensures { giving_spec.Gives self.old (storage_spec.put_turn self.old address bytes.now) (plain_outcome result) self.new }
+        ensures { giving_spec.Gives self.old (storage_spec.put_result self.old address bytes.now) (plain_outcome result) self.new }
     {
         done(self.storage.put(address, bytes.as_slice()))
     }
 
     #[inline(never)]
     pub(crate) fn set_key(&mut self, address: u32, key: Key) -> Result<PlainReply, Fault>
-        ensures { giving_spec.Gives self.old (storage_spec.key_turn self.old address key) (plain_outcome result) self.new }
+        ensures { giving_spec.Gives self.old (storage_spec.key_result self.old address key) (plain_outcome result) self.new }
     {
         done(self.storage.set_key(address, key))
     }
 
     #[inline(never)]
     pub(crate) fn set_prefix(&mut self, cpu: Cpu, address: u32) -> Result<PlainReply, Fault>
-        ensures { giving_spec.Gives self.old (storage_spec.prefix_turn self.old cpu address) (plain_outcome result) self.new }
+        ensures { giving_spec.Gives self.old (storage_spec.prefix_result self.old cpu address) (plain_outcome result) self.new }
     {
         done(self.storage.set_prefix(cpu.number(), address))
     }
@@ -54,7 +54,7 @@ impl Machine {
     pub(crate) fn show(&self, address: u32, length: ChunkLength, log: &mut Log) -> Result<(), Fault>
         requires room { 1 ≤ log.old.room }
         requires fresh { log.old.reply ≡ reply_spec.Done }
-        ensures gives { giving_spec.Gives self.now (storage_spec.show_turn self.now address length) (answer_in result log.new) self.now }
+        ensures gives { giving_spec.Gives self.now (storage_spec.show_result self.now address length) (answer_in result log.new) self.now }
         ensures kept { IsKept log.old log.new }
         ensures refused { OnErr result (log.new ≡ log.old) }
     {

@@ -17,35 +17,39 @@ use signal_step::unit_turns::turn_of_unit;
 
 impl Machine {
     /// The event of a path worker's turn for the subchannel that a word names, on the channel path of this identifier.
-    pub fn path_turn(&self, places: &SubchannelIndex, word: u32, chpid: u8) -> Option<Event>
-        requires fits { Fits places.now self.now.subs }
+    pub fn path_turn(&self, indices: &SubchannelIndex, word: u32, chpid: u8) -> Option<Event>
+        requires fits { Fits indices.now self.now.subs }
         ensures { result ≡ turn_spec.path_turn_of self.now word chpid }
     {
-        let place = self.place_of(places, word)?;
+        let index = self.index_of(indices, word)?;
         let served = Served::of(self.subs.as_slice(), &self.engines);
-        turn_at(&served, &self.subs[place], word, chpid)
+        turn_at(&served, &self.subs[index], word, chpid)
     }
 
     /// What a unit is to do next.
-    pub fn unit_turn(&self, places: &SubchannelIndex, number: u32) -> Option<UnitTurn>
-        requires fits { Fits places.now self.now.subs }
+    pub fn unit_turn(&self, indices: &SubchannelIndex, number: u32) -> Option<UnitTurn>
+        requires fits { Fits indices.now self.now.subs }
         ensures { result ≡ state_spec.unit_turn_of self.now number }
     {
-        match self.lent_turn(places, number) {
+        match self.lent_turn(indices, number) {
             None => None,
             Some(turn) => Some(turn.own()),
         }
     }
 
     /// What a unit is to do next, as `unit_turn` has it; the bytes that are to be absorbed are lent.
-    pub fn lent_turn(&self, places: &SubchannelIndex, number: u32) -> Option<UnitTurn<LentWork<'_>>>
-        requires fits { Fits places.now self.now.subs }
+    pub fn lent_turn(
+        &self,
+        indices: &SubchannelIndex,
+        number: u32,
+    ) -> Option<UnitTurn<LentWork<'_>>>
+        requires fits { Fits indices.now self.now.subs }
         ensures { lent_turns result ≡ state_spec.unit_turn_of self.now number }
     {
         let number = number as usize;
         if number >= self.units.len() {
             return None;
         }
-        Some(turn_of_unit(places, number, &self.units[number], self.subs.as_slice()))
+        Some(turn_of_unit(indices, number, &self.units[number], self.subs.as_slice()))
     }
 }

@@ -9,7 +9,7 @@ use Rattle.unit_driver.specs.declared.waiting.WaitingReport.{WaitingReport}
 use Rattle.channel_config.specs.Setup.{Setup}
 use Rattle.core_lock.specs.Seats.{Seated}
 use Rattle.machine_lock.specs.Working.{MakesOwed}
-use Rattle.core_lock.specs.Turns.{Calls, Grew, IsAnswered, IsCalled, IsKeptFrom, IsOfWorker, IsOwedBy, WorksUnit, one_call_more}
+use Rattle.core_lock.specs.Turns.{Calls, Grew, IsAnswered, IsCalled, IsWaitingFrom, IsOfWorker, IsOwedBy, WorksUnit, one_call_more}
 use Rattle.unit_driver.specs.Reporting.{report_of}
 
 none_owed : (o : Option OwedCall) → is_some o ≡ false → o ≡ None
@@ -40,16 +40,16 @@ called old new owed answer was is = record {
   kept = subst (λ (o : Option OwedCall). IsAnswered o old.kept new.kept) (sym was) (answer, ap (λ (s : Seated). s.kept) is);
 }
 
-kept_called : (d : Setup) (roam : Bool) (at : ℕ) (first old new : Option WaitingReport) (o : Option OwedCall) → IsOwedBy d roam at o → IsAnswered o old new → IsKeptFrom d roam at first old → IsKeptFrom d roam at first new
-kept_called d roam at first old new None by is from = subst (IsKeptFrom d roam at first) (sym is) from
-kept_called d roam at first old new (Some owed) by (answer, is) from = subst (IsKeptFrom d roam at first) (sym is) (inl (owed, answer, by, refl))
+waiting_called : (d : Setup) (roam : Bool) (at : ℕ) (first old new : Option WaitingReport) (o : Option OwedCall) → IsOwedBy d roam at o → IsAnswered o old new → IsWaitingFrom d roam at first old → IsWaitingFrom d roam at first new
+waiting_called d roam at first old new None by is from = subst (IsWaitingFrom d roam at first) (sym is) from
+waiting_called d roam at first old new (Some owed) by (answer, is) from = subst (IsWaitingFrom d roam at first) (sym is) (inl (owed, answer, by, refl))
 
 pub works_called : (roam : Bool) (at : ℕ) (a b c : Seated) (n : ℕ) → WorksUnit roam at a b n → IsOwedBy a.setup roam at b.owed → IsCalled b c → WorksUnit roam at a c n
 works_called roam at a b c n works by called = record {
   number = called.number ∙ works.number;
   setup = called.setup ∙ works.setup;
   directory = called.directory ∙ works.directory;
-  kept = kept_called a.setup roam at a.kept b.kept c.kept b.owed by called.kept works.kept;
+  kept = waiting_called a.setup roam at a.kept b.kept c.kept b.owed by called.kept works.kept;
   log = subst (λ (l : List Entry). Grew (IsOfWorker a.setup roam at a.kept) a.log l n) (sym called.log) works.log;
 }
 

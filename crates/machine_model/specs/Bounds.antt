@@ -27,18 +27,18 @@ IsAtWithin n None = Unit {0}
 IsAtWithin n (Some x) = x.sequence ≤ n
 
 -- the last connection of the program that holds a unit has at most this number
-abbrev pub IsPlaceWithin : ℕ → Connection → Type 0
-IsPlaceWithin n (On p c) = c ≤ n
-IsPlaceWithin n (Ask p c) = c ≤ n
-IsPlaceWithin n (Away c) = c ≤ n
+abbrev pub IsConnectionWithin : ℕ → Connection → Type 0
+IsConnectionWithin n (On p c) = c ≤ n
+IsConnectionWithin n (Ask p c) = c ≤ n
+IsConnectionWithin n (Away c) = c ≤ n
 
 abbrev pub IsOwnWithin : ℕ → Own → Type 0
 IsOwnWithin n Idle = Unit {0}
-IsOwnWithin n (Owned side t place) = IsPlaceWithin n place
+IsOwnWithin n (Owned side t connection) = IsConnectionWithin n connection
 
 -- the numbers of a unit are at most n
 pub record IsUnitWithin (n : ℕ) (u : UnitState) : Type 0 where
-  pub at_hand : IsAtWithin n u.at_hand
+  pub current : IsAtWithin n u.current
   pub connection : IsOwnWithin n u.own
   pub attentions : u.attentions ≤ n
   pub restarts : u.restarts ≤ n

@@ -16,22 +16,22 @@ use Rattle.subchannel_model.specs.declared.state.Chosen.{Chosen}
 use Rattle.subchannel_model.specs.declared.state.Chosen.TheVariants.{Idle, Resets, PerformsClear, Halts, PerformsHalt, FindsNoPath, Offers}
 use Rattle.subchannel_model.specs.Causes.{with_cause}
 use Rattle.subchannel_model.specs.Choosing.{chosen, marked_sub, paths_to_choose, reset_sent, halt_sent, offered}
-use Rattle.machine_model.specs.Turns.{Outcome, SubTurn, leaves, with_state, at_sub}
-use Rattle.subchannel_model.specs.Places.{Found}
+use Rattle.machine_model.specs.Results.{Outcome, SubResult, leaves, with_state, at_sub}
+use Rattle.subchannel_model.specs.Indices.{Found}
 use Rattle.subchannel_model.specs.Sending.{carried_by, finds_full, with_any_sent}
 
 -- a signal is sent
-abbrev pub send_sub : Subchannel → SubchannelState → ℕ → Down → Reply → Result SubTurn Fault
+abbrev pub send_sub : Subchannel → SubchannelState → ℕ → Down → Reply → Result SubResult Fault
 send_sub sub state path signal r =
     let sent = carried_by sub (Some (record { path = path; signal = signal })) in
     if finds_full sub.wires.down sent then Err fault.WireFull
     else Ok (leaves r (record sub { state = state; wires = record sub.wires { down = with_any_sent sub.wires.down sent } }))
 
 -- a status is made pending
-abbrev pub pend_sub : Subchannel → StatusCause → Result SubTurn Fault
+abbrev pub pend_sub : Subchannel → StatusCause → Result SubResult Fault
 pend_sub sub cause = Ok (leaves reply.Pending (with_state sub (with_cause sub.state cause)))
 
-abbrev pub choose_sub : Subchannel → Chosen → Result SubTurn Fault
+abbrev pub choose_sub : Subchannel → Chosen → Result SubResult Fault
 choose_sub sub Idle = Ok (leaves reply.Idle sub)
 choose_sub sub (Resets r path) = send_sub sub (reset_sent sub.state path) path (down.Reset r sub.state.hold.known) (reply.ResetSent r path)
 choose_sub sub PerformsClear = pend_sub sub cause.ClearDone
@@ -44,4 +44,4 @@ choose_sub sub (Offers c path) =
 abbrev pub Chooses : State → Option Found → Outcome → Type 0
 Chooses s None r = r ≡ Err fault.NoSuchSubchannel
 Chooses s (Some f) r =
-    (choice : Option ℕ) × IsChoice (paths_to_choose s.subs f.sub) choice × (r ≡ at_sub s f.place (choose_sub (marked_sub f.sub choice) (chosen f.sub choice)))
+    (choice : Option ℕ) × IsChoice (paths_to_choose s.subs f.sub) choice × (r ≡ at_sub s f.index (choose_sub (marked_sub f.sub choice) (chosen f.sub choice)))

@@ -34,17 +34,17 @@ use Rattle.subchannel_model.specs.declared.state.SubchannelState.{SubchannelStat
 use Rattle.subchannel_model.specs.declared.state.Subchannel.{Subchannel}
 use Rattle.machine_model.specs.State.{State}
 use Rattle.subchannel_model.specs.declared.status.Condition.{Condition}
-use Rattle.subchannel_model.specs.Places.{Found, place_in, found_at}
+use Rattle.subchannel_model.specs.Indices.{Found, index_in, found_at}
 use Rattle.subchannel_model.specs.Conditions.{condition_of, left_by}
 use Rattle.subchannel_model.specs.Enable.{enabling, enabling_schib, enabling_word}
-use Rattle.machine_model.specs.Turns.{Outcome, does, where_tested, SubTurn, leaves, with_state, at_place}
+use Rattle.machine_model.specs.Results.{Outcome, does, where_tested, SubResult, leaves, with_state, at_index}
 
 -- an instruction answers the condition code that its table gives for what it finds, with the serials as they are left, and with
 -- code 0 its effect is left
 abbrev pub code_at : (Condition → ConditionCode) → Subchannel → ConditionCode
 code_at code sub = code (condition_of (Some sub.state))
 
-abbrev pub function_sub : Subchannel → ConditionCode → SubchannelState → SubTurn
+abbrev pub function_sub : Subchannel → ConditionCode → SubchannelState → SubResult
 function_sub sub code effect =
     let state = left_by code sub.state effect in leaves (reply.Code (answer_of_code code state.serials)) (with_state sub state)
 
@@ -54,7 +54,7 @@ not_provided s code = does (reply.Code (answer_of_code (code (condition_of None)
 
 abbrev pub function_at : State → Option Found → (Condition → ConditionCode) → (Subchannel → SubchannelState) → Outcome
 function_at s None code effect = not_provided s code
-function_at s (Some f) code effect = at_place s f.place (function_sub f.sub (code_at code f.sub) (effect f.sub))
+function_at s (Some f) code effect = at_index s f.index (function_sub f.sub (code_at code f.sub) (effect f.sub))
 
 -- where the operand could be fetched, the instruction goes on with it
 abbrev pub WhereFetched : Result (List ℕ) StorageFault → (List ℕ → Outcome → Type 0) → Outcome → Type 0
@@ -83,14 +83,14 @@ abbrev pub with_irb : State → ℕ → ℕ → Subchannel → Bool → State
 with_irb s cpu address sub stores =
     if stores then record s { storage = operand_stored s.storage cpu address (image_of (irb_tables (irb_of sub.state))) } else s
 
-abbrev pub test_with : Subchannel → ConditionCode → SubTurn
+abbrev pub test_with : Subchannel → ConditionCode → SubResult
 test_with sub code =
     let state = left_by code sub.state (tested_wholly sub.state) in
     let answer = answer_of_code code state.serials in
     leaves (if stores_irb code then reply.Status answer sub.state.scsw else reply.Code answer) (with_state sub state)
 
 abbrev pub test_sub : State → ℕ → ℕ → Found → ConditionCode → Outcome
-test_sub s cpu address f code = at_place (with_irb s cpu address f.sub (stores_irb code)) f.place (test_with f.sub code)
+test_sub s cpu address f code = at_index (with_irb s cpu address f.sub (stores_irb code)) f.index (test_with f.sub code)
 
 abbrev pub test_at : State → ℕ → ℕ → Option Found → Outcome
 test_at s cpu address found = elim found [ None ↦ not_provided s tsch_code | Some f ↦ test_sub s cpu address f (code_at tsch_code f.sub) ]
@@ -114,7 +114,7 @@ abbrev pub performs_store : State → ℕ → ℕ → Option Found → Result (U
 performs_store s cpu address found r = where_tested r (store_at s cpu address found)
 
 -- MODIFY: the contents of the SCHIB are tested before the condition code is
-abbrev pub modify_sub : Subchannel → block.Pmcw → SubTurn
+abbrev pub modify_sub : Subchannel → block.Pmcw → SubResult
 modify_sub sub given = function_sub sub (code_at msch_code sub) (modified_state sub given)
 
 abbrev pub modify_at : State → Option Found → block.Pmcw → Outcome
@@ -134,7 +134,7 @@ PerformsModify s found image r = WhereFetched image (Modifies_by s found) r
 -- The SCHIB that STORE stored has what MODIFY allows.
 abbrev pub enable_sub : State → ℕ → Found → ℕ → Bool → Outcome
 enable_sub s cpu f subclass multipath =
-    at_place (with_schib s cpu 0xF00 (enabling_schib f.sub subclass multipath)) f.place (modify_sub f.sub (enabling (pmcw_of f.sub) subclass multipath))
+    at_index (with_schib s cpu 0xF00 (enabling_schib f.sub subclass multipath)) f.index (modify_sub f.sub (enabling (pmcw_of f.sub) subclass multipath))
 
 -- where nothing was stored, they are placed in the word that stands at F04, and MODIFY tests what stands at F00
 abbrev pub with_enabling : State → ℕ → List ℕ → ℕ → Bool → State
@@ -165,7 +165,7 @@ Executes_at s cpu (instruction.Xsch word) found r = r ≡ function_at s found xs
 
 -- a word that names no subchannel is an operand exception
 abbrev pub Executes_on : State → ℕ → Instruction → Option SubchannelId → Outcome → Type 0
-Executes_on s cpu i named r = elim named [ None ↦ r ≡ Err fault.Operand | Some id ↦ Executes_at s cpu i (found_at s.subs (place_in id s.subs)) r ]
+Executes_on s cpu i named r = elim named [ None ↦ r ≡ Err fault.Operand | Some id ↦ Executes_at s cpu i (found_at s.subs (index_in id s.subs)) r ]
 
 abbrev pub Executes : State → ℕ → Instruction → Outcome → Type 0
 Executes s cpu i r = Executes_on s cpu i (subchannel_named s.sets (subchannel_word i)) r

@@ -1,7 +1,7 @@
 pub mod UnitTurns
 pub mod State
 pub mod Setups
-pub mod Turns
+pub mod Results
 pub mod StorageSteps
 pub mod InstructionSteps
 pub mod OtherSteps

@@ -22,18 +22,18 @@ use Rattle.chan_events.specs.declared.reply.Reply.TheVariants as reply
 use Rattle.subchannel_model.specs.declared.state.Subchannel.{Subchannel}
 use Rattle.subchannel_model.specs.Choosing.{any_engages}
 use Rattle.machine_model.specs.State.{State}
-use Rattle.machine_model.specs.Turns.{Outcome, does}
+use Rattle.machine_model.specs.Results.{Outcome, does}
 
 -- TEST PENDING INTERRUPTION: two words at the address, which is on a word boundary; with address 0 three words at real 184.
 -- They are tested even where nothing will be stored.
-abbrev pub code_place : ℕ → ℕ
-code_place address = if address == 0 then 184 else address
+abbrev pub code_address : ℕ → ℕ
+code_address address = if address == 0 then 184 else address
 
 abbrev pub code_size : ℕ → ℕ
 code_size address = if address == 0 then 12 else 8
 
 abbrev pub code_check : Contents → ℕ → ℕ → Result (Unit {0}) StorageFault
-code_check storage cpu address = operand_check storage cpu (code_place address) (code_size address) 4
+code_check storage cpu address = operand_check storage cpu (code_address address) (code_size address) 4
 
 -- the subsystem-identification word and the parameter; at 188 and beyond the interruption-identification word too
 abbrev pub code_words : ℕ → IntCode → List ℕ
@@ -42,7 +42,7 @@ code_words address code = if address == 0 then map word_of (code_tables code) el
 -- nothing is stored with code 0
 abbrev pub code_stored : Contents → ℕ → ℕ → Option IntCode → Contents
 code_stored storage cpu address None = storage
-code_stored storage cpu address (Some code) = operand_stored storage cpu (code_place address) (bytes_of_words (code_words address code))
+code_stored storage cpu address (Some code) = operand_stored storage cpu (code_address address) (bytes_of_words (code_words address code))
 
 -- up: the channel paths that are configured and not down
 abbrev pub is_up : List Bool → ℕ → Bool
@@ -50,7 +50,7 @@ is_up up path = slice_index_or up path false
 
 -- STORE CHANNEL PATH STATUS: 32 bytes on a boundary of 32; bit n is one where the channel path n is engaged
 abbrev pub engaged_byte : List Bool → ℕ → ℕ
-engaged_byte engaged place = mask_of_paths (each_path (λ p. slice_index_or engaged (8 * place + p) false))
+engaged_byte engaged index = mask_of_paths (each_path (λ p. slice_index_or engaged (8 * index + p) false))
 
 unfoldable pub engaged_bytes : List Bool → ℕ → List ℕ
 engaged_bytes engaged count = map (engaged_byte engaged) (range_with_len 0 count)
@@ -69,59 +69,59 @@ abbrev pub lent_whole : Contents → requests.WaitingRequests → reports.Waitin
 lent_whole storage waiting queue = record { storage = storage; requests = waiting; reports = queue }
 
 -- what it answers, and leaves of that
-pub record OtherTurn : Type 0 where
+pub record OtherResult : Type 0 where
   pub answer : Reply
   pub left : LentWhole
 
-abbrev pub answers : Reply → LentWhole → Result OtherTurn Fault
+abbrev pub answers : Reply → LentWhole → Result OtherResult Fault
 answers answer left = Ok (record { answer = answer; left = left })
 
 -- where the operand was tested
-abbrev pub where_stored : Result (Unit {0}) StorageFault → Result OtherTurn Fault → Result OtherTurn Fault
+abbrev pub where_stored : Result (Unit {0}) StorageFault → Result OtherResult Fault → Result OtherResult Fault
 where_stored (Ok u) turn = turn
 where_stored (Err f) turn = Err (fault.Storage f)
 
-abbrev pub tpi_turn : LentWhole → ℕ → ℕ → ℕ → Result OtherTurn Fault
-tpi_turn old cpu mask address =
+abbrev pub tpi_result : LentWhole → ℕ → ℕ → ℕ → Result OtherResult Fault
+tpi_result old cpu mask address =
     let found = requests.answer old.requests mask in
     where_stored (code_check old.storage cpu address) (answers (reply.Interruption found)
     (record old { storage = code_stored old.storage cpu address found; requests = requests.after_answer old.requests found }))
 
 -- STORE CHANNEL REPORT WORD
-abbrev pub stcrw_turn : LentWhole → ℕ → ℕ → Result OtherTurn Fault
-stcrw_turn old cpu address =
+abbrev pub stcrw_result : LentWhole → ℕ → ℕ → Result OtherResult Fault
+stcrw_result old cpu address =
     let report = reports.oldest old.reports in
     let storage = operand_stored old.storage cpu address (bytes_of_words (report_word report ∷ [])) in
     where_stored (operand_check old.storage cpu address 4 4)
     (answers (reply.ChannelReport report) (record old { storage = storage; reports = reports.without_oldest old.reports }))
 
 -- RESET CHANNEL PATH: of general register 1 bits 0 to 23 are zero, and bits 24 to 31 name the path
-abbrev pub rchp_turn : LentWhole → List Bool → ℕ → Result OtherTurn Fault
-rchp_turn old up path =
+abbrev pub rchp_result : LentWhole → List Bool → ℕ → Result OtherResult Fault
+rchp_result old up path =
     let named = field_of path 24 31 in
     let code = rchp_code (is_up up named) (reports.is_asked old.reports named) in
     let left = record old { reports = reports.with_rchp old.reports named (is_up up named) } in
     if field_of path 0 23 == 0 then answers (reply.PathReset code) left else Err fault.Operand
 
-abbrev pub stcps_turn : LentWhole → List Bool → ℕ → ℕ → Result OtherTurn Fault
-stcps_turn old engaged cpu address =
+abbrev pub stcps_result : LentWhole → List Bool → ℕ → ℕ → Result OtherResult Fault
+stcps_result old engaged cpu address =
     let bytes = engaged_bytes engaged 32 in
     where_stored (operand_check old.storage cpu address 32 32)
     (answers (reply.Paths bytes) (record old { storage = operand_stored old.storage cpu address bytes }))
 
 -- up: the channel paths that are configured and not down; engaged: those whose engine serves a subchannel
-abbrev pub other_turn : LentWhole → List Bool → List Bool → ℕ → OtherInstruction → Result OtherTurn Fault
-other_turn old up engaged cpu (other.Tpi mask address) = tpi_turn old cpu mask address
-other_turn old up engaged cpu (other.Rchp path) = rchp_turn old up path
-other_turn old up engaged cpu (other.Stcrw address) = stcrw_turn old cpu address
-other_turn old up engaged cpu (other.Stcps address) = stcps_turn old engaged cpu address
+abbrev pub other_result : LentWhole → List Bool → List Bool → ℕ → OtherInstruction → Result OtherResult Fault
+other_result old up engaged cpu (other.Tpi mask address) = tpi_result old cpu mask address
+other_result old up engaged cpu (other.Rchp path) = rchp_result old up path
+other_result old up engaged cpu (other.Stcrw address) = stcrw_result old cpu address
+other_result old up engaged cpu (other.Stcps address) = stcps_result old engaged cpu address
 
 abbrev pub with_lent : State → LentWhole → State
 with_lent s left = record s { storage = left.storage; requests = left.requests; reports = left.reports }
 
-abbrev pub other_done : State → Result OtherTurn Fault → Outcome
+abbrev pub other_done : State → Result OtherResult Fault → Outcome
 other_done s (Ok t) = does t.answer (with_lent s t.left)
 other_done s (Err f) = Err f
 
 abbrev pub other_at : State → ℕ → OtherInstruction → Outcome
-other_at s cpu i = other_done s (other_turn (lent_whole s.storage s.requests s.reports) s.up (engaged_chpids s.subs 0x100) cpu i)
+other_at s cpu i = other_done s (other_result (lent_whole s.storage s.requests s.reports) s.up (engaged_chpids s.subs 0x100) cpu i)

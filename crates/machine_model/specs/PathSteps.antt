@@ -12,7 +12,7 @@ use Rattle.subchannel_model.specs.SystemReset.{reset_by_system}
 use Rattle.machine_model.specs.declared.state.Sweep.{Sweep}
 use Rattle.machine_model.specs.declared.state.Sweep.TheVariants as sweep
 use Rattle.machine_model.specs.State.{State}
-use Rattle.machine_model.specs.Turns.{Outcome}
+use Rattle.machine_model.specs.Results.{Outcome}
 
 -- what befalls each subchannel, in the order of their configuration (own)
 abbrev pub swept : Sweep → Subchannel → Subchannel

@@ -15,7 +15,7 @@ use Rattle.chan_events.specs.declared.reply.Reply.TheVariants as reply
 use Rattle.interruptions.specs.Requests as requests
 use Rattle.subchannel_model.specs.declared.state.Subchannel.{Subchannel}
 use Rattle.machine_model.specs.State.{State, sub_of}
-use Rattle.machine_model.specs.Turns.{Turn, Outcome}
+use Rattle.machine_model.specs.Results.{StepResult, Outcome}
 use Rattle.chan_events.specs.Instructions.{subchannel_word}
 
 -- the condition code that an instruction with this reply set; STORE CHANNEL PATH STATUS sets none
@@ -68,7 +68,7 @@ posted_all (old ∷ olds) [] waiting = waiting
 posted_all (old ∷ olds) (new ∷ news) waiting = posted_all olds news (posted_for old new waiting)
 
 -- what an event came to, with the requests that are left of it: one may be dropped, and others are posted
-abbrev pub requests_settled : State → Event → Turn → requests.WaitingRequests
+abbrev pub requests_settled : State → Event → StepResult → requests.WaitingRequests
 requests_settled s e t = posted_all s.subs t.state.subs (requests_dropped s e t.reply t.state.requests)
 
 abbrev pub settled : State → Event → Outcome → Outcome

@@ -8,8 +8,8 @@ use Rattle.chan_events.specs.Replies.{Reply}
 use Rattle.path_select.specs.Choice.{Rule, IsChoice}
 use Rattle.subchannel_model.specs.Choosing.{chosen, marked_sub, paths_to_choose}
 use Rattle.machine_model.specs.State.{State, found_of}
-use Rattle.subchannel_model.specs.Places.{Found}
-use Rattle.machine_model.specs.Turns.{Outcome, does, at_sub}
+use Rattle.subchannel_model.specs.Indices.{Found}
+use Rattle.machine_model.specs.Results.{Outcome, does, at_sub}
 use Rattle.machine_model.specs.ChooseSteps.{choose_sub}
 use Rattle.machine_model.specs.Requests.{settled}
 
@@ -20,7 +20,7 @@ RulesAt picks s None r = r ≡ Err fault.NoSuchSubchannel
 RulesAt picks s (Some f) r =
     (choice : Option ℕ) × IsChoice (paths_to_choose s.subs f.sub) choice
     × picks (paths_to_choose s.subs f.sub) f.sub.state.last_path choice
-    × (r ≡ at_sub s f.place (choose_sub (marked_sub f.sub choice) (chosen f.sub choice)))
+    × (r ≡ at_sub s f.index (choose_sub (marked_sub f.sub choice) (chosen f.sub choice)))
 
 -- what a call answered and left goes by the rule; of the events, Choose alone takes a path of its own choice
 abbrev pub GoesByRule : Rule → State → Event → Result Reply Fault → State → Type 0

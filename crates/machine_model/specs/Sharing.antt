@@ -14,29 +14,29 @@ is_asked_for u side (down.Select t) = not (side_of u side).fresh && (nat_lt (sid
 is_asked_for u side signal = false
 
 abbrev pub may_take : List Member → ℕ → Bool → Bool
-may_take members place asks = not asks || may_serve members place
+may_take members index asks = not asks || may_serve members index
 
 -- the unit is begun, or refused, where it was asked for; it is over where a program held its device and none does any more
 abbrev pub members_asked : List Member → ℕ → Bool → List Member
-members_asked members place true = member_begun members place
-members_asked members place false = asked members place false
+members_asked members index true = member_begun members index
+members_asked members index false = asked members index false
 
 abbrev pub is_let_go : UnitState → UnitState → Bool
 is_let_go old new = not (is_idle old.own) && is_idle new.own
 
 abbrev pub members_over : List Member → ℕ → Bool → List Member
-members_over members place ends = if ends then over members place else members
+members_over members index ends = if ends then over members index else members
 
 abbrev pub members_after : List Member → ℕ → Bool → UnitState → UnitState → List Member
-members_after members place asks old new =
-    if asks then members_asked members place (may_serve members place) else members_over members place (is_let_go old new)
+members_after members index asks old new =
+    if asks then members_asked members index (may_serve members index) else members_over members index (is_let_go old new)
 
 -- as it is over, a control-unit end may be owed, which the unit's next attention says
 abbrev pub is_owed_after : List Member → ℕ → UnitState → UnitState → Bool
-is_owed_after members place old new = is_let_go old new && is_owed members place
+is_owed_after members index old new = is_let_go old new && is_owed members index
 
 abbrev pub owing : Bool → UnitState → UnitState
 owing owed u = record u { end_owed = u.end_owed || owed }
 
 abbrev pub owing_after : List Member → ℕ → UnitState → UnitState → UnitState
-owing_after members place old new = owing (is_owed_after members place old new) new
+owing_after members index old new = owing (is_owed_after members index old new) new

@@ -30,7 +30,7 @@ use Rattle.subchannel_model.specs.declared.state.Subchannel.{Subchannel}
 use Rattle.chan_model.specs.PathSets.{cyclic_path}
 use Rattle.subchannel_model.specs.Opening.{opened}
 use Rattle.subchannel_model.specs.Store.{available_paths}
-use Rattle.subchannel_model.specs.Places.{place_of_id, sub_at, reached_sub, Found, found_at}
+use Rattle.subchannel_model.specs.Indices.{index_of_id, sub_at, reached_sub, Found, found_at}
 
 -- storage, how many sets of subchannels there are, the identifiers of the channel paths, and by identifier whether a path is
 -- configured and not down; the subchannels in the order of their configuration; the units, and what control units keep of
@@ -88,24 +88,24 @@ opening_of setup = record {
   reports = no_reports_wait;
 }
 
--- the place of the subchannel that a subsystem-identification word names, where it is provided
-abbrev pub place_of : State → ℕ → Option ℕ
-place_of s word = place_of_id s.subs (subchannel_named s.sets word)
+-- the index of the subchannel that a subsystem-identification word names, where it is provided
+abbrev pub index_of : State → ℕ → Option ℕ
+index_of s word = index_of_id s.subs (subchannel_named s.sets word)
 
 -- the subchannel that a word names
 abbrev pub sub_of : State → ℕ → Option Subchannel
-sub_of s word = sub_at s.subs (place_of s word)
+sub_of s word = sub_at s.subs (index_of s word)
 
 -- the same with its place
 abbrev pub found_of : State → ℕ → Option Found
-found_of s word = found_at s.subs (place_of s word)
+found_of s word = found_at s.subs (index_of s word)
 
--- the state with this subchannel at this place
+-- the state with this subchannel at this index
 abbrev pub with_sub : State → ℕ → Subchannel → State
-with_sub s place sub = record s { subs = slice_set s.subs place sub }
+with_sub s index sub = record s { subs = slice_set s.subs index sub }
 
 abbrev pub state_with_unit : State → ℕ → UnitState → State
-state_with_unit s place u = record s { units = slice_set s.units place u }
+state_with_unit s index u = record s { units = slice_set s.units index u }
 
 -- the serials of the subchannel that a word names
 abbrev pub serials_in : Option Subchannel → Option Serials
@@ -138,28 +138,28 @@ abbrev pub away_path : Option Subchannel → ℕ → Option ℕ
 away_path None c = None
 away_path (Some sub) c = cyclic_path (available_paths sub) 8 c
 
-abbrev pub turn_of_place : List Subchannel → ℕ → Side → Connection → UnitTurn
-turn_of_place subs place side (Away c) = unit_turn.Away (away_path (reached_sub place side subs) c)
-turn_of_place subs place side other = Rests
+abbrev pub turn_of_connection : List Subchannel → ℕ → Side → Connection → UnitTurn
+turn_of_connection subs index side (Away c) = unit_turn.Away (away_path (reached_sub index side subs) c)
+turn_of_connection subs index side other = Rests
 
 abbrev pub turn_of_own : List Subchannel → ℕ → Own → UnitTurn
-turn_of_own subs place Idle = Rests
-turn_of_own subs place (Owned side t at) = turn_of_place subs place side at
+turn_of_own subs index Idle = Rests
+turn_of_own subs index (Owned side t at) = turn_of_connection subs index side at
 
 -- what a unit is to do, the first that there is: take a signal, of its first side before its second; what its program
 -- asks for; ask for a path
 abbrev pub turn_by_work : State → ℕ → UnitState → Option Work → UnitTurn
-turn_by_work s place u None = turn_of_own s.subs place u.own
-turn_by_work s place u (Some w) = Works w
+turn_by_work s index u None = turn_of_own s.subs index u.own
+turn_by_work s index u (Some w) = Works w
 
 abbrev pub turn_or : Option UnitTurn → UnitTurn → UnitTurn
 turn_or None later = later
 turn_or (Some turn) later = turn
 
 abbrev pub turn_of_unit : State → ℕ → Option UnitState → Option UnitTurn
-turn_of_unit s place None = None
-turn_of_unit s place (Some u) =
-    Some (turn_or (takes_from (reached_sub place First s.subs)) (turn_or (takes_from (reached_sub place Second s.subs)) (turn_by_work s place u (unit_work u))))
+turn_of_unit s index None = None
+turn_of_unit s index (Some u) =
+    Some (turn_or (takes_from (reached_sub index First s.subs)) (turn_or (takes_from (reached_sub index Second s.subs)) (turn_by_work s index u (unit_work u))))
 
 abbrev pub unit_turn_of : State → ℕ → Option UnitTurn
-unit_turn_of s place = turn_of_unit s place (slice_get s.units place)
+unit_turn_of s index = turn_of_unit s index (slice_get s.units index)

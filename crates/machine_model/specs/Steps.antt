@@ -10,8 +10,8 @@ use Rattle.chan_events.specs.declared.reply.Entry.{Entry}
 use Rattle.channel_config.specs.Setup.{Setup}
 use Rattle.machine_model.specs.State.{State, opening_of, found_of}
 use Rattle.machine_model.specs.Setups.{IsSetUp}
-use Rattle.machine_model.specs.Turns.{Outcome, does}
-use Rattle.machine_model.specs.StorageSteps.{put_turn, key_turn, prefix_turn, show_turn}
+use Rattle.machine_model.specs.Results.{Outcome, does}
+use Rattle.machine_model.specs.StorageSteps.{put_result, key_result, prefix_result, show_result}
 use Rattle.machine_model.specs.InstructionSteps.{Executes}
 use Rattle.machine_model.specs.OtherSteps.{is_up, other_at}
 use Rattle.machine_model.specs.ChooseSteps.{Chooses}
@@ -25,18 +25,18 @@ use Rattle.machine_model.specs.Requests.{settled}
 
 -- What an event itself comes to: its turn, or its refusal.
 abbrev pub Does : State → Event → Outcome → Type 0
-Does s (event.Put address bytes) r = r ≡ put_turn s address bytes
-Does s (event.SetKey address key) r = r ≡ key_turn s address key
-Does s (event.SetPrefix cpu address) r = r ≡ prefix_turn s cpu address
-Does s (event.Show address count) r = r ≡ show_turn s address count
+Does s (event.Put address bytes) r = r ≡ put_result s address bytes
+Does s (event.SetKey address key) r = r ≡ key_result s address key
+Does s (event.SetPrefix cpu address) r = r ≡ prefix_result s cpu address
+Does s (event.Show address count) r = r ≡ show_result s address count
 Does s (event.Execute cpu i) r = Executes s cpu i r
 Does s (event.ExecuteOther cpu i) r = r ≡ other_at s cpu i
 Does s (event.Choose word) r = Chooses s (found_of s word) r
 Does s (event.Up word path) r = r ≡ up_at s (found_of s word) path
 Does s (event.Down word path) r = r ≡ down_at s (found_of s word) path
-Does s (event.Report place report) r = r ≡ report_at s place (slice_get s.units place) report
-Does s (event.Act place act) r = r ≡ act_at s place (slice_get s.units place) act
-Does s (event.Restart place) r = r ≡ restart_at s place (slice_get s.units place)
+Does s (event.Report index report) r = r ≡ report_at s index (slice_get s.units index) report
+Does s (event.Act index act) r = r ≡ act_at s index (slice_get s.units index) act
+Does s (event.Restart index) r = r ≡ restart_at s index (slice_get s.units index)
 Does s (event.PathDown chpid) r = r ≡ where_path s chpid (is_up s.up chpid) (does reply.Done (down_path s chpid))
 Does s (event.PathUp chpid) r = r ≡ where_path s chpid (not (is_up s.up chpid)) (does reply.Done (up_path s chpid))
 Does s (event.PathReset chpid) r = r ≡ where_path s chpid (reports.is_asked s.reports chpid) (does reply.Done (reset_path s chpid))

@@ -13,22 +13,22 @@ use Rattle.subchannel_model.specs.declared.state.Subchannel.{Subchannel}
 use Rattle.machine_model.specs.State.{State}
 use Rattle.subchannel_model.specs.declared.state.UpStep.{UpStep}
 use Rattle.subchannel_model.specs.Taking.{takes_up}
-use Rattle.machine_model.specs.Turns.{Outcome, UpTurn, at_storage}
-use Rattle.subchannel_model.specs.Places.{Found}
+use Rattle.machine_model.specs.Results.{Outcome, UpResult, at_storage}
+use Rattle.subchannel_model.specs.Indices.{Found}
 use Rattle.subchannel_model.specs.Sending.{carried_by, finds_full, with_any_sent}
 
 abbrev pub with_met : Subchannel → ℕ → UpStep → Subchannel
 with_met sub path step =
-    record sub { state = step.state; wires = record { down = with_any_sent sub.wires.down (carried_by sub step.came.sent); up = taken sub.wires.up path } }
+    record sub { state = step.state; wires = record { down = with_any_sent sub.wires.down (carried_by sub step.outcome.sent); up = taken sub.wires.up path } }
 
-abbrev pub up_front : Bool → Contents → Subchannel → ℕ → Option Up → Result UpTurn Fault
+abbrev pub up_front : Bool → Contents → Subchannel → ℕ → Option Up → Result UpResult Fault
 up_front returns storage sub path None = Err fault.NotSent
 up_front returns storage sub path (Some signal) =
     let m = takes_up returns storage sub.state path signal in
-    if finds_full sub.wires.down (carried_by sub m.step.came.sent) then Err fault.WireFull
-    else Ok (record { reply = reply.Up signal m.step.came.taken m.step.came.sent; sub = with_met sub path m.step; storage = m.storage })
+    if finds_full sub.wires.down (carried_by sub m.step.outcome.sent) then Err fault.WireFull
+    else Ok (record { reply = reply.Up signal m.step.outcome.taken m.step.outcome.sent; sub = with_met sub path m.step; storage = m.storage })
 
-abbrev pub up_sub : Bool → Contents → Subchannel → ℕ → Result UpTurn Fault
+abbrev pub up_sub : Bool → Contents → Subchannel → ℕ → Result UpResult Fault
 up_sub returns storage sub path =
     if nat_lt path (length sub.setup.paths) then up_front returns storage sub path (slice_get (queue sub.wires.up path) 0)
     else Err fault.NoSuchPath
@@ -45,4 +45,4 @@ returns_at subs sub path = returns_by subs sub path (slice_get (queue sub.wires.
 
 abbrev pub up_at : State → Option Found → ℕ → Outcome
 up_at s None path = Err fault.NoSuchSubchannel
-up_at s (Some f) path = at_storage s f.place (up_sub (returns_at s.subs f.sub path) s.storage f.sub path)
+up_at s (Some f) path = at_storage s f.index (up_sub (returns_at s.subs f.sub path) s.storage f.sub path)

@@ -3,5 +3,5 @@ pub mod UnitOrders
 pub mod UnitGrowth
 pub mod LinkSent
 pub mod LinkOrders
-pub mod PlaceOrders
+pub mod IndexOrders
 pub mod RunOrders

@@ -19,7 +19,7 @@ pub mod Resetting
 pub mod WaitsUp
 pub mod Pairs
 pub mod Tales
-pub mod TaleEvents
+pub mod TraceEvents
 pub mod Swept
 pub mod Ended
 pub mod PathSets

@@ -1,6 +1,6 @@
 -- What a unit does with signals and reports.
 pub mod UnitSides
 pub mod RunSides
-pub mod UnitHands
+pub mod UnitCurrents
 pub mod UnitActs
 pub mod UnitTold

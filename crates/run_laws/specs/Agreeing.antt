@@ -14,7 +14,7 @@ use Rattle.chan_model.specs.UnitTable.{side_of, resets}
 use Rattle.chan_model.specs.declared.signal.Down.TheVariants as down
 use Rattle.wires.specs.Queues.{first_of}
 use Rattle.subchannel_model.specs.declared.state.Subchannel.{Subchannel}
-use Rattle.machine_model.specs.State.{State, place_of}
+use Rattle.machine_model.specs.State.{State, index_of}
 use Rattle.machine_model.specs.Steps.{Run}
 
 pub record IsAgreed (phase : HoldPhase) (u : UnitState) (side : Side) : Type 0 where
@@ -25,7 +25,7 @@ pub record IsAgreed (phase : HoldPhase) (u : UnitState) (side : Side) : Type 0 w
 
 -- each subchannel and its unit do
 abbrev pub AllAgree : State → Type 0
-AllAgree s = (place : ℕ) (sub : Subchannel) (u : UnitState) → slice_get s.subs place ≡ Some sub → slice_get s.units sub.setup.«unit» ≡ Some u →
+AllAgree s = (index : ℕ) (sub : Subchannel) (u : UnitState) → slice_get s.subs index ≡ Some sub → slice_get s.units sub.setup.«unit» ≡ Some u →
     IsAgreed sub.state.hold.phase u sub.setup.side
 
 -- these entries lead to a state in which they do
@@ -38,17 +38,17 @@ IsEnd sub u (reply.Down (down.Reset r b) taken sent) = (taken ≡ true) × (sub.
 IsEnd sub u r = ⊥
 
 abbrev pub IsDownTo : State → Event → ℕ → Type 0
-IsDownTo s (event.Down word path) place = place_of s word ≡ Some place
-IsDownTo s e place = ⊥
+IsDownTo s (event.Down word path) index = index_of s word ≡ Some index
+IsDownTo s e index = ⊥
 
 -- a reset that isn't yet taken stays so in a step, but where in that step the unit takes it, and they agree right after
 abbrev pub HoldEndsByReset : State → Event → Reply → State → Type 0
-HoldEndsByReset s e r new = (place : ℕ) (sub after : Subchannel) (u v : UnitState) → slice_get s.subs place ≡ Some sub → slice_get new.subs place ≡ Some after →
+HoldEndsByReset s e r new = (index : ℕ) (sub after : Subchannel) (u v : UnitState) → slice_get s.subs index ≡ Some sub → slice_get new.subs index ≡ Some after →
     slice_get s.units sub.setup.«unit» ≡ Some u → slice_get new.units sub.setup.«unit» ≡ Some v → IsOutstanding sub.state.hold.phase (side_of u sub.setup.side) →
     IsOutstanding after.state.hold.phase (side_of v sub.setup.side)
-    ⊎ (IsDownTo s e place × IsEnd sub u r × Agrees after.state.hold.phase (owner_of v.own sub.setup.side))
+    ⊎ (IsDownTo s e index × IsEnd sub u r × Agrees after.state.hold.phase (owner_of v.own sub.setup.side))
 
 -- where the signal that waits longest on a wire down is a Reset that the unit would take, its number is above the floor
 abbrev pub AreAbove : State → Type 0
-AreAbove s = (place : ℕ) (sub : Subchannel) (u : UnitState) (p r b : ℕ) → slice_get s.subs place ≡ Some sub → slice_get s.units sub.setup.«unit» ≡ Some u →
+AreAbove s = (index : ℕ) (sub : Subchannel) (u : UnitState) (p r b : ℕ) → slice_get s.subs index ≡ Some sub → slice_get s.units sub.setup.«unit» ≡ Some u →
     first_of sub.wires.down p ≡ Some (down.Reset r b) → resets u sub.setup.side r b ≡ true → (side_of u sub.setup.side).floor < r

@@ -7,15 +7,15 @@ use Rattle.chan_events.specs.declared.event.Instruction.TheVariants as instructi
 use Rattle.chan_events.specs.Replies.{Reply}
 use Rattle.chan_events.specs.declared.reply.Reply.TheVariants as reply
 use Rattle.subchannel_model.specs.declared.state.Subchannel.{Subchannel}
-use Rattle.machine_model.specs.State.{State, place_of}
+use Rattle.machine_model.specs.State.{State, index_of}
 
 -- START SUBCHANNEL with code 0
 abbrev pub IsStart : State → Event → Reply → ℕ → Type 0
-IsStart s (event.Execute cpu (instruction.Ssch word address)) (reply.Code (answer.Zero serials)) place = place_of s word ≡ Some place
-IsStart s e r place = ⊥
+IsStart s (event.Execute cpu (instruction.Ssch word address)) (reply.Code (answer.Zero serials)) index = index_of s word ≡ Some index
+IsStart s e r index = ⊥
 
 -- it leaves the count zero; and where no status is made, the count stands, or becomes zero
 abbrev pub CountsByStatus : State → Event → Reply → State → Type 0
-CountsByStatus s e r new = (place : ℕ) (sub after : Subchannel) → slice_get s.subs place ≡ Some sub → slice_get new.subs place ≡ Some after →
-    (IsStart s e r place → after.state.scsw.count ≡ 0)
+CountsByStatus s e r new = (index : ℕ) (sub after : Subchannel) → slice_get s.subs index ≡ Some sub → slice_get new.subs index ≡ Some after →
+    (IsStart s e r index → after.state.scsw.count ≡ 0)
     × (after.state.serials.made ≡ sub.state.serials.made → (after.state.scsw.count ≡ sub.state.scsw.count) ⊎ (after.state.scsw.count ≡ 0))

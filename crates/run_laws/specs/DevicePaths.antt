@@ -39,7 +39,7 @@ way_met path r ways = ways
 -- the program of this side that holds the device asks for a path, under its next connection
 abbrev pub way_asked : Side → ℕ → Option Held → Ways → Ways
 way_asked side path None ways = ways
-way_asked side path (Some h) ways = if same_side h.side side then with_way h.number (connection_of h.place + 1) path ways else ways
+way_asked side path (Some h) ways = if same_side h.side side then with_way h.number (connection_of h.connection + 1) path ways else ways
 
 -- the subchannel reaches this side of this unit
 abbrev pub is_at : ℕ → Side → Option SubchannelSetup → Bool
@@ -48,7 +48,7 @@ is_at at side (Some x) = (x.«unit» == at) && same_side x.side side
 
 abbrev pub ways_after : ℕ → List SubchannelSetup → ℕ → Side → Event → Reply → Holding → Ways → Ways
 ways_after sets subs at side (event.Down word path) r k ways = if is_at at side (setup_named subs (subchannel_named sets word)) then way_met path r ways else ways
-ways_after sets subs at side (event.Act place (act.Ask path)) r k ways = if place == at then way_asked side path k.holder ways else ways
+ways_after sets subs at side (event.Act index (act.Ask path)) r k ways = if index == at then way_asked side path k.holder ways else ways
 ways_after sets subs at side e r k ways = ways
 
 -- a signal that came up, or down, by this path
@@ -66,7 +66,7 @@ IsDownBy ways path signal = Unit {0}
 
 -- a Give was taken where the device is connected by its path and connection
 abbrev pub IsGivenTo : Holding → ℕ → ℕ → Type 0
-IsGivenTo k path c = (h : Held) × (k.holder ≡ Some h) × (h.place ≡ Connected path c)
+IsGivenTo k path c = (h : Held) × (k.holder ≡ Some h) × (h.connection ≡ Connected path c)
 
 abbrev pub IsTakenBy : Holding → ℕ → Down → Bool → Option (OnPath Up) → Type 0
 IsTakenBy k path (down.Give bytes t c n s) true None = IsGivenTo k path c

@@ -46,7 +46,7 @@ pub record Transfer : Type 0 where
 pub record Held : Type 0 where
   pub side : Side
   pub number : ℕ
-  pub place : Connection
+  pub connection : Connection
   pub command : ℕ
   pub transfer : Option Transfer
   pub halted : Bool
@@ -113,7 +113,7 @@ asking path (Asking p c) = Asking path (c + 1)
 asking path (Apart c) = Asking path (c + 1)
 
 abbrev pub moved : (Connection → Connection) → Held → Held
-moved to h = record h { place = to h.place }
+moved to h = record h { connection = to h.connection }
 
 -- a command begins: its code is odd where its bytes go to the device
 abbrev pub commanded : ℕ → ℕ → Held → Held
@@ -151,7 +151,7 @@ with_restart k = record {
 -- more, nor by Cleared where it was of this side
 abbrev pub held_after : Side → ℕ → Up → Holding → Holding
 held_after side path (up.Accept t) k =
-    record (with_answered k side t) { holder = Some (record { side = side; number = t; place = Connected path 0; command = 0; transfer = None; halted = false }) }
+    record (with_answered k side t) { holder = Some (record { side = side; number = t; connection = Connected path 0; command = 0; transfer = None; halted = false }) }
 held_after side path (up.Busy t) k = with_answered k side t
 held_after side path (up.Released t) k = let_go k
 held_after side path (up.Cleared r) k = with_seen (if is_held_by k.holder side then let_go k else k) side (record { number = r; restarted = false })
@@ -187,9 +187,9 @@ holding_met at (Some x) path r k = if x.«unit» == at then held_met x.side path
 
 abbrev pub holding_after : ℕ → List SubchannelSetup → ℕ → Event → Reply → Holding → Holding
 holding_after sets subs at (event.Down word path) r k = holding_met at (setup_named subs (subchannel_named sets word)) path r k
-holding_after sets subs at (event.Report place report) r k = if place == at then with_holder (with_transfer (reported report.answer)) k else k
-holding_after sets subs at (event.Act place what) r k = if place == at then acted_after what k else k
-holding_after sets subs at (event.Restart place) r k = if place == at then with_restart k else k
+holding_after sets subs at (event.Report index report) r k = if index == at then with_holder (with_transfer (reported report.answer)) k else k
+holding_after sets subs at (event.Act index what) r k = if index == at then acted_after what k else k
+holding_after sets subs at (event.Restart index) r k = if index == at then with_restart k else k
 holding_after sets subs at e r k = k
 
 -- before all

@@ -50,7 +50,7 @@ GoesByIdle sets k e r = Unit {0}
 
 -- STORE CHANNEL PATH STATUS: bit n of 32 bytes is one where the engine of channel path n serves a subchannel
 abbrev pub status_byte : (ℕ → Bool) → ℕ → ℕ
-status_byte is_active place = mask_of_paths (each_path (λ p. is_active (8 * place + p)))
+status_byte is_active index = mask_of_paths (each_path (λ p. is_active (8 * index + p)))
 
 unfoldable pub status_bytes : (ℕ → Bool) → List ℕ
 status_bytes is_active = map (status_byte is_active) (range_with_len 0 32)

@@ -14,4 +14,4 @@ pub record IsShown (up : List Bool) (sub : Subchannel) : Type 0 where
       (queue sub.wires.down p ≡ []) × (queue sub.wires.up p ≡ [])
 
 abbrev pub AreShown : State → Type 0
-AreShown s = (place : ℕ) (sub : Subchannel) → slice_get s.subs place ≡ Some sub → IsShown s.up sub
+AreShown s = (index : ℕ) (sub : Subchannel) → slice_get s.subs index ≡ Some sub → IsShown s.up sub

@@ -19,10 +19,10 @@ IsAlone chpid subs = (i j : ℕ) (x y : Subchannel) → slice_get subs i ≡ Som
 pub record IsOnePath (s : State) : Type 0 where
   pub subchannel : (chpid : ℕ) → IsAlone chpid s.subs
   -- a subchannel has one engine at most that serves it
-  pub engine : (place c d : ℕ) (x : Subchannel) → slice_get s.subs place ≡ Some x → engages c x ≡ true → engages d x ≡ true → c ≡ d
+  pub engine : (index c d : ℕ) (x : Subchannel) → slice_get s.subs index ≡ Some x → engages c x ≡ true → engages d x ≡ true → c ≡ d
   -- that engine is of a path that is available
-  pub available : (place p : ℕ) (x : Subchannel) → slice_get s.subs place ≡ Some x → engaged_path x.state.hold.phase ≡ Some p →
+  pub available : (index p : ℕ) (x : Subchannel) → slice_get s.subs index ≡ Some x → engaged_path x.state.hold.phase ≡ Some p →
       is_member (available_paths x) p ≡ true
   -- a device moves data by one path at most, whichever of its sides it is of
-  pub device : (place p q : ℕ) (a b : Side) (u : UnitState) → slice_get s.units place ≡ Some u → device_path u.own a ≡ Some p →
+  pub device : (index p q : ℕ) (a b : Side) (u : UnitState) → slice_get s.units index ≡ Some u → device_path u.own a ≡ Some p →
       device_path u.own b ≡ Some q → (a ≡ b) × (p ≡ q)

@@ -78,8 +78,8 @@ is_asked (Some x) side a = same_side x.side side && (a == x.number)
 -- a Grant of the connection that is asked for is taken, and an older one answered by Leave
 abbrev pub grant_due : Option Held → Side → ℕ → ℕ → ℕ → Reply
 grant_due holder side path t c =
-    if holds_and (λ h. is_asking h.place c) holder side t then takes_if true (down.Grant t c)
-    else answers_if (holds_and (λ h. nat_lt c (connection_of h.place)) holder side t) path (down.Grant t c) (up.Leave t c)
+    if holds_and (λ h. is_asking h.connection c) holder side t then takes_if true (down.Grant t c)
+    else answers_if (holds_and (λ h. nat_lt c (connection_of h.connection)) holder side t) path (down.Grant t c) (up.Leave t c)
 
 -- A signal to a side that was not restarted since its Cleared. A Select is ignored where its number is not above the one that the side
 -- answered last; else Accept answers it where the control unit is free, and Busy where it is not. Of the program that holds the device
@@ -91,11 +91,11 @@ works_due k side path free (down.Select t) =
     answers_if (nat_lt (side_seen k side).number t) path (down.Select t) (if free then up.Accept t else up.Busy t)
 works_due k side path free (down.Command t n code room) = takes_if (holds_and (λ h. n == h.command + 1) k.holder side t) (down.Command t n code room)
 works_due k side path free (down.Grant t c) = grant_due k.holder side path t c
-works_due k side path free (down.Refuse t c) = takes_if (holds_and (λ h. is_asking h.place c) k.holder side t) (down.Refuse t c)
+works_due k side path free (down.Refuse t c) = takes_if (holds_and (λ h. is_asking h.connection c) k.holder side t) (down.Refuse t c)
 works_due k side path free (down.Took t n s room) =
     takes_if (holds_and (λ h. (n == h.command) && is_unanswered h.transfer s) k.holder side t) (down.Took t n s room)
 works_due k side path free (down.Give bytes t c n s) =
-    takes_if (holds_and (λ h. is_connected_by h.place c && ((n == h.command) && is_next h.transfer s)) k.holder side t) (down.Give bytes t c n s)
+    takes_if (holds_and (λ h. is_connected_by h.connection c && ((n == h.command) && is_next h.transfer s)) k.holder side t) (down.Give bytes t c n s)
 works_due k side path free (down.Halt t) = takes_if (holds_and (λ h. not h.halted) k.holder side t) (down.Halt t)
 works_due k side path free (down.Release t) = answers_if (is_holder k.holder side t) path (down.Release t) (up.Released t)
 works_due k side path free (down.Reset r b) =
@@ -145,7 +145,7 @@ IsSetRight groups seen (Some x) path r = IsDownRight groups seen x.«unit» x.si
 
 -- what a device reports is of the program that holds it, connected, for its last command
 abbrev pub IsReportRight : Holding → Report → Type 0
-IsReportRight k report = holds_and (λ h. is_connected h.place && (report.command == h.command)) k.holder report.side report.number ≡ true
+IsReportRight k report = holds_and (λ h. is_connected h.connection && (report.command == h.command)) k.holder report.side report.number ≡ true
 
 -- a program that is connected leaves its path, one that is not asks for one; a unit that none holds asks a side for attention, and a
 -- side is told of a restart, where it is due
@@ -154,8 +154,8 @@ is_held_and test None = false
 is_held_and test (Some h) = test h
 
 abbrev pub IsActRight : Holding → UnitAct → Type 0
-IsActRight k act.Leave = is_held_and (λ h. is_connected h.place) k.holder ≡ true
-IsActRight k (act.Ask path) = is_held_and (λ h. not (is_connected h.place)) k.holder ≡ true
+IsActRight k act.Leave = is_held_and (λ h. is_connected h.connection) k.holder ≡ true
+IsActRight k (act.Ask path) = is_held_and (λ h. not (is_connected h.connection)) k.holder ≡ true
 IsActRight k (act.Attention path side) = (k.holder ≡ None) × ((side_seen k side).restarted ≡ false)
 IsActRight k (act.Notice path side) = (side_seen k side).restarted ≡ true
 

@@ -26,7 +26,7 @@ use Rattle.channel_config.specs.Setup.{Setup, set_count}
 use Rattle.channel_config.specs.SubchannelWords.{subchannel_named}
 use Rattle.run_laws.specs.StateClaims.{is_id}
 use Rattle.chan_events.specs.Instructions.{subchannel_word}
-use Rattle.subchannel_model.specs.Places.{first_place}
+use Rattle.subchannel_model.specs.Indices.{first_index}
 use Rattle.subchannel_model.specs.Test.{ends_suspended}
 use Rattle.run_laws.specs.Functions.{keeps_functions}
 use Rattle.run_laws.specs.BeginsItsOwn.{is_code_zero, over_by, over_chosen, IsAnswered}
@@ -157,32 +157,32 @@ TellsBy true st former storage (event.Down word path) r k after = after ≡ reco
 TellsBy mine st former storage (event.Report at report) r k after = (after.started ≡ k.started) × HasAbsorbed k.program after.program
 TellsBy mine st former storage e r k after = after ≡ k
 
--- the place of the subchannel that an entry's word names, by the set-up
-abbrev pub place_named : List SubchannelSetup → Option SubchannelId → Option ℕ
-place_named subs named = option_and_then (λ id. first_place (λ (x : SubchannelSetup). is_id (Some x.id) id) subs) named
+-- the index of the subchannel that an entry's word names, by the set-up
+abbrev pub index_named : List SubchannelSetup → Option SubchannelId → Option ℕ
+index_named subs named = option_and_then (λ id. first_index (λ (x : SubchannelSetup). is_id (Some x.id) id) subs) named
 
 abbrev pub is_named_at : ℕ → List SubchannelSetup → ℕ → ℕ → Bool
-is_named_at sets subs place word = is_path (place_named subs (subchannel_named sets word)) place
+is_named_at sets subs index word = is_path (index_named subs (subchannel_named sets word)) index
 
 abbrev pub is_about : ℕ → List SubchannelSetup → ℕ → Event → Bool
-is_about sets subs place (event.Execute cpu i) = is_named_at sets subs place (subchannel_word i)
-is_about sets subs place (event.Choose word) = is_named_at sets subs place word
-is_about sets subs place (event.Up word path) = is_named_at sets subs place word
-is_about sets subs place (event.Down word path) = is_named_at sets subs place word
-is_about sets subs place e = false
+is_about sets subs index (event.Execute cpu i) = is_named_at sets subs index (subchannel_word i)
+is_about sets subs index (event.Choose word) = is_named_at sets subs index word
+is_about sets subs index (event.Up word path) = is_named_at sets subs index word
+is_about sets subs index (event.Down word path) = is_named_at sets subs index word
+is_about sets subs index e = false
 
 -- entry by entry, and after each all is right; the status that an entry made is shown by the next
 abbrev pub AreTold : ℕ → List SubchannelSetup → ℕ → Contents → Standing → Told → List Entry → List Contents → Told → Type 0
-AreTold sets subs place storage st k [] [] last = last ≡ k
-AreTold sets subs place storage st k (entry ∷ entries) (after ∷ later) last =
-    let mine : Bool = is_about sets subs place entry.event in
+AreTold sets subs index storage st k [] [] last = last ≡ k
+AreTold sets subs index storage st k (entry ∷ entries) (after ∷ later) last =
+    let mine : Bool = is_about sets subs index entry.event in
     (told : Told) × TellsBy mine st storage after entry.event entry.reply k told × IfSome told.program TraceCorrect
     × IsStatusTold st.over st.behind st.stored.passed (shown_by mine entry.event entry.reply) k.program
-    × AreTold sets subs place after (standing_after mine entry.event entry.reply st) told entries later last
-AreTold sets subs place storage st k entries later last = ⊥
+    × AreTold sets subs index after (standing_after mine entry.event entry.reply st) told entries later last
+AreTold sets subs index storage st k entries later last = ⊥
 
-abbrev pub nothing_told : Told
-nothing_told = record { started = None; program = None }
+abbrev pub nothing_traced : Told
+nothing_traced = record { started = None; program = None }
 
 abbrev pub nothing_over : Standing
 nothing_over = record { over = false; halted = false; behind = false; stored = record { shown = None; passed = None } }
@@ -195,5 +195,5 @@ pub record AreProgramsTold (setup : Setup) (h : List Entry) : Type 0 where
   pub later : List Contents
   pub last : Contents
   pub stored : AreStored (opening_storage setup) h later last
-  pub told : (place : ℕ) (sub : SubchannelSetup) → slice_get setup.subchannels place ≡ Some sub →
-      (k : Told) × AreTold (set_count setup) setup.subchannels place (opening_storage setup) nothing_over nothing_told h later k
+  pub told : (index : ℕ) (sub : SubchannelSetup) → slice_get setup.subchannels index ≡ Some sub →
+      (k : Told) × AreTold (set_count setup) setup.subchannels index (opening_storage setup) nothing_over nothing_traced h later k

@@ -10,7 +10,7 @@ use Rattle.chan_events.specs.declared.event.Instruction.TheVariants as instructi
 use Rattle.chan_events.specs.Replies.{Reply}
 use Rattle.chan_events.specs.declared.reply.Reply.TheVariants as reply
 use Rattle.subchannel_model.specs.declared.state.Subchannel.{Subchannel}
-use Rattle.machine_model.specs.State.{State, place_of}
+use Rattle.machine_model.specs.State.{State, index_of}
 
 -- the hold rests on this channel path
 abbrev pub RestsOn : Subchannel → ℕ → Type 0
@@ -19,27 +19,27 @@ RestsOn sub chpid = (p : ℕ) × (slice_get sub.setup.paths p ≡ Some chpid) ×
 -- the causes: an accepted CLEAR SUBCHANNEL, a Notice of more restarts than are known, a path that goes down or is reset and on which
 -- the hold rests, and a reset of the subsystem
 abbrev pub IsResetCause : State → Event → Reply → ℕ → Subchannel → Type 0
-IsResetCause s (event.Execute cpu (instruction.Csch word)) (reply.Code (answer.Zero serials)) place sub = place_of s word ≡ Some place
-IsResetCause s (event.Up word path) (reply.Up (up.Notice b) true sent) place sub = (place_of s word ≡ Some place) × (sub.state.hold.known < b)
-IsResetCause s (event.PathDown chpid) r place sub = RestsOn sub chpid
-IsResetCause s (event.PathReset chpid) r place sub = RestsOn sub chpid
-IsResetCause s event.SystemReset r place sub = Unit {0}
-IsResetCause s e r place sub = ⊥
+IsResetCause s (event.Execute cpu (instruction.Csch word)) (reply.Code (answer.Zero serials)) index sub = index_of s word ≡ Some index
+IsResetCause s (event.Up word path) (reply.Up (up.Notice b) true sent) index sub = (index_of s word ≡ Some index) × (sub.state.hold.known < b)
+IsResetCause s (event.PathDown chpid) r index sub = RestsOn sub chpid
+IsResetCause s (event.PathReset chpid) r index sub = RestsOn sub chpid
+IsResetCause s event.SystemReset r index sub = Unit {0}
+IsResetCause s e r index sub = ⊥
 
 -- a hold that is to be reset was so already, or one of these causes befell it in this step, under a fresh number
 abbrev pub ResetsByCause : State → Event → Reply → State → Type 0
-ResetsByCause s e r new = (place n : ℕ) (sub after : Subchannel) → slice_get s.subs place ≡ Some sub → slice_get new.subs place ≡ Some after →
-    after.state.hold.phase ≡ hold.Reset n → (sub.state.hold.phase ≡ hold.Reset n) ⊎ ((n ≡ sub.state.drawn + 1) × IsResetCause s e r place sub)
+ResetsByCause s e r new = (index n : ℕ) (sub after : Subchannel) → slice_get s.subs index ≡ Some sub → slice_get new.subs index ≡ Some after →
+    after.state.hold.phase ≡ hold.Reset n → (sub.state.hold.phase ≡ hold.Reset n) ⊎ ((n ≡ sub.state.drawn + 1) × IsResetCause s e r index sub)
 
 -- the subchannel took the Cleared of this number
 abbrev pub IsCleared : State → Event → Reply → ℕ → ℕ → Type 0
-IsCleared s (event.Up word path) (reply.Up (up.Cleared r) true sent) place n = (place_of s word ≡ Some place) × (r ≡ n)
-IsCleared s e r place n = ⊥
+IsCleared s (event.Up word path) (reply.Up (up.Cleared r) true sent) index n = (index_of s word ≡ Some index) × (r ≡ n)
+IsCleared s e r index n = ⊥
 
 -- and it stays so until its Cleared comes, or a newer reset
 abbrev pub StaysReset : State → Event → Reply → State → Type 0
-StaysReset s e r new = (place n : ℕ) (sub after : Subchannel) → slice_get s.subs place ≡ Some sub → slice_get new.subs place ≡ Some after →
+StaysReset s e r new = (index n : ℕ) (sub after : Subchannel) → slice_get s.subs index ≡ Some sub → slice_get new.subs index ≡ Some after →
     sub.state.hold.phase ≡ hold.Reset n →
     (after.state.hold.phase ≡ hold.Reset n)
-    ⊎ ((after.state.hold.phase ≡ hold.Reset (sub.state.drawn + 1)) × IsResetCause s e r place sub)
-    ⊎ ((after.state.hold.phase ≡ hold.Free) × IsCleared s e r place n)
+    ⊎ ((after.state.hold.phase ≡ hold.Reset (sub.state.drawn + 1)) × IsResetCause s e r index sub)
+    ⊎ ((after.state.hold.phase ≡ hold.Free) × IsCleared s e r index n)

@@ -29,9 +29,9 @@ use Rattle.subchannel_model.specs.declared.state.SubchannelState.{SubchannelStat
 use Rattle.subchannel_model.specs.Choosing.{unsent_reset, clear_chosen}
 use Rattle.subchannel_model.specs.Ends.{has_status_modifier, has_unit_exception, is_unit_check_alone, is_channel_end_alone}
 use Rattle.chan_model.specs.Signals.{load_bytes}
-use Rattle.machine_model.specs.State.{State, place_of}
+use Rattle.machine_model.specs.State.{State, index_of}
 use Rattle.machine_model.specs.Steps.{Run, Opened, Stepped}
-use Rattle.run_laws.specs.Traces.{CommandTrace, no_trace, ProgramTrace, told_after}
+use Rattle.run_laws.specs.Traces.{CommandTrace, no_trace, ProgramTrace, traced_after}
 use Rattle.chan_model.specs.ResetCauses.{is_path}
 use Rattle.run_laws.specs.DataAreas.{data_areas, counts}
 use Rattle.run_laws.specs.Fetches.{AddsFetched}
@@ -87,7 +87,7 @@ Accepted storage s next sent k after =
     × (is_some (command_sent sent) ≡ true → OnlyInterrupts s next k after))
 
 -- How many bytes a Data moves: of a write, of those that the device says it absorbed, where it is the next, as many as there is room
--- for at the next places; and of a write, how many are given next
+-- for at the next indices; and of a write, how many are given next
 abbrev pub has_stopped : CommandTrace → Bool
 has_stopped k = k.stopped || k.kept
 
@@ -249,24 +249,24 @@ abbrev pub ShowsBy : Event → SubchannelState → SubchannelState → Option Pr
 ShowsBy (event.Choose word) s next k = IsShownOfChoice (clear_chosen (unsent_reset s.hold) s.scsw.activity.clear_pending) s next k
 ShowsBy e s next k = IsShownOf s next k
 
--- of the subchannel at a place, before a step and after it
-abbrev pub AtPlace : ℕ → State → State → (SubchannelState → SubchannelState → Type 0) → Type 0
-AtPlace place s new P = (sub next : Subchannel) → slice_get s.subs place ≡ Some sub → slice_get new.subs place ≡ Some next → P sub.state next.state
+-- of the subchannel at an index, before a step and after it
+abbrev pub AtIndex : ℕ → State → State → (SubchannelState → SubchannelState → Type 0) → Type 0
+AtIndex index s new P = (sub next : Subchannel) → slice_get s.subs index ≡ Some sub → slice_get new.subs index ≡ Some next → P sub.state next.state
 
 -- each event: a signal that comes up is of the subchannel that meets it, and makes no status at another
 abbrev pub GoesBy : ℕ → State → Event → Reply → State → Option ProgramTrace → Option ProgramTrace → Type 0
-GoesBy place s (event.Up word path) (reply.Up signal taken sent) new k after =
-    (is_path (place_of s word) place ≡ false → (after ≡ k) × AtPlace place s new (λ sub next. next.serials.made ≡ sub.serials.made))
-    × (is_path (place_of s word) place ≡ true →
-    AtPlace place s new (λ sub next. OfBoth (MeetsNone s.storage new.storage sub next signal) (Meets s.storage new.storage sub next signal taken sent) k after))
-GoesBy place s e r new k after = (after ≡ told_after place s e r k) × AtPlace place s new (λ sub next. ShowsBy e sub next k)
+GoesBy index s (event.Up word path) (reply.Up signal taken sent) new k after =
+    (is_path (index_of s word) index ≡ false → (after ≡ k) × AtIndex index s new (λ sub next. next.serials.made ≡ sub.serials.made))
+    × (is_path (index_of s word) index ≡ true →
+    AtIndex index s new (λ sub next. OfBoth (MeetsNone s.storage new.storage sub next signal) (Meets s.storage new.storage sub next signal taken sent) k after))
+GoesBy index s e r new k after = (after ≡ traced_after index s e r k) × AtIndex index s new (λ sub next. ShowsBy e sub next k)
 
--- what is done for the program of a place, throughout a run: none at first, and in each step it goes on by what is seen, and is correct
+-- what is done for the program of an index, throughout a run: none at first, and in each step it goes on by what is seen, and is correct
 abbrev pub IsTold : ℕ → (opening : State) (h : List Entry) (s : State) → Run opening h s → Option ProgramTrace → Type 0
-IsTold place opening _ _ Opened k = k ≡ None
-IsTold place opening _ _ (Stepped h old e r new run step) k =
-    (before : Option ProgramTrace) × IsTold place opening h old run before × GoesBy place old e r new before k × IfSome k TraceCorrect
+IsTold index opening _ _ Opened k = k ≡ None
+IsTold index opening _ _ (Stepped h old e r new run step) k =
+    (before : Option ProgramTrace) × IsTold index opening h old run before × GoesBy index old e r new before k × IfSome k TraceCorrect
 
 -- so it can be told of each subchannel
 abbrev pub AllTold : (opening : State) (h : List Entry) (s : State) → Run opening h s → Type 0
-AllTold opening h s run = (place : ℕ) (sub : Subchannel) → slice_get s.subs place ≡ Some sub → (k : Option ProgramTrace) × IsTold place opening h s run k
+AllTold opening h s run = (index : ℕ) (sub : Subchannel) → slice_get s.subs index ≡ Some sub → (k : Option ProgramTrace) × IsTold index opening h s run k

@@ -18,8 +18,8 @@ use Rattle.ccw_walk.specs.Acts.{Act, PlacedBytes}
 use Rattle.ccw_walk.specs.Programs.{commands}
 use Rattle.subchannel_model.specs.declared.state.Program.{Program}
 use Rattle.subchannel_model.specs.declared.state.Subchannel.{Subchannel}
-use Rattle.subchannel_model.specs.Places.{reached_in}
-use Rattle.machine_model.specs.State.{State, place_of}
+use Rattle.subchannel_model.specs.Indices.{reached_in}
+use Rattle.machine_model.specs.State.{State, index_of}
 
 -- bytes that were stored, and storage as it stood before
 pub record Arrival : Type 0 where
@@ -76,7 +76,7 @@ pub record ProgramTrace : Type 0 where
 abbrev pub trace_offered : ℕ → Orb → ProgramTrace
 trace_offered t orb = record { number = t; orb = orb; earlier = 0; sent = 0; now = no_trace; before = no_trace; taken = Nothing; absorbed = [] }
 
--- what was done before: the acts, and the places of the bytes that the last command moved
+-- what was done before: the acts, and the indices of the bytes that the last command moved
 abbrev pub past_part : CommandTrace → CommandTrace
 past_part p = record no_trace { acts = p.acts; moved = p.moved }
 
@@ -110,16 +110,16 @@ absorbs count (Some x) k = elim x.given [ None ↦ k | Some bytes ↦ record k {
 
 abbrev pub reported : UnitState → Report → DeviceAnswer → ProgramTrace → ProgramTrace
 reported u report told k =
-    elim told [ Absorbed count ↦ if report.number == k.number then absorbs count u.at_hand k else k | answer ↦ k ]
+    elim told [ Absorbed count ↦ if report.number == k.number then absorbs count u.current k else k | answer ↦ k ]
 
 abbrev pub reported_at : Option UnitState → Report → Option ProgramTrace → Option ProgramTrace
 reported_at (Some u) report (Some k) = Some (reported u report report.answer k)
 reported_at u report k = k
 
--- what an offer, a command that the device takes, and a report tell, where the subchannel is that of the place
-abbrev pub told_after : ℕ → State → Event → Reply → Option ProgramTrace → Option ProgramTrace
-told_after place s (event.Choose word) r k = if is_path (place_of s word) place then chosen_at (slice_get s.subs place) r k else k
-told_after place s (event.Down word path) r k = if is_path (place_of s word) place then taken_at r k else k
-told_after place s (event.Report at report) r k =
-    if is_path (reached_in at report.side s.subs) place then reported_at (slice_get s.units at) report k else k
-told_after place s e r k = k
+-- what an offer, a command that the device takes, and a report tell, where the subchannel is that of the index
+abbrev pub traced_after : ℕ → State → Event → Reply → Option ProgramTrace → Option ProgramTrace
+traced_after index s (event.Choose word) r k = if is_path (index_of s word) index then chosen_at (slice_get s.subs index) r k else k
+traced_after index s (event.Down word path) r k = if is_path (index_of s word) index then taken_at r k else k
+traced_after index s (event.Report at report) r k =
+    if is_path (reached_in at report.side s.subs) index then reported_at (slice_get s.units at) report k else k
+traced_after index s e r k = k

@@ -10,7 +10,7 @@ ghost use Rattle.run_laws.specs.ProgramTold.{AreProgramsTold};
 ghost use Rattle.run_laws.specs.Tells.{AllTold};
 
 use crate::states::{reset_numbers, setups, steps};
-use ccw_walk::law as place_laws;
+use ccw_walk::law as position_laws;
 use data_move::law as moves;
 use step_laws::walks;
 use storage_keys::law as storage;
@@ -72,9 +72,9 @@ pub fn programs()
     step_laws::walks();
     crate::states::reset_numbers();
     moves::pieces();
-    place_laws::places();
-    place_laws::advances();
-    place_laws::programs();
+    position_laws::positions();
+    position_laws::advances();
+    position_laws::programs();
     storage::fetched_bytes();
     storage::put_bytes();
 }

@@ -28,7 +28,7 @@ mixed-lt : (keep take a b : ℕ) → keep < 2 ^ 32 → take < 2 ^ 32 → mixed k
 mixed-lt keep take a b x y = or_lt 32 (bit_and a keep) (bit_and b take) (omega (arith, x, and_le_r a keep)) (omega (arith, y, and_le_r b take))
 
 pub seven-fit : (a b c d e f g : ℕ) → a < 2 ^ 32 → b < 2 ^ 32 → c < 2 ^ 32 → d < 2 ^ 32 → e < 2 ^ 32 → f < 2 ^ 32 → g < 2 ^ 32
-    → (place : ℕ) → slice_index (a ∷ b ∷ c ∷ d ∷ e ∷ f ∷ g ∷ []) place < 2 ^ 32
+    → (index : ℕ) → slice_index (a ∷ b ∷ c ∷ d ∷ e ∷ f ∷ g ∷ []) index < 2 ^ 32
 seven-fit a b c d e f g p q r s t u v zero = p
 seven-fit a b c d e f g p q r s t u v (suc zero) = q
 seven-fit a b c d e f g p q r s t u v (suc (suc zero)) = r
@@ -36,9 +36,9 @@ seven-fit a b c d e f g p q r s t u v (suc (suc (suc zero))) = s
 seven-fit a b c d e f g p q r s t u v (suc (suc (suc (suc zero)))) = t
 seven-fit a b c d e f g p q r s t u v (suc (suc (suc (suc (suc zero))))) = u
 seven-fit a b c d e f g p q r s t u v (suc (suc (suc (suc (suc (suc zero)))))) = v
-seven-fit a b c d e f g p q r s t u v (suc (suc (suc (suc (suc (suc (suc place))))))) = lit< tt
+seven-fit a b c d e f g p q r s t u v (suc (suc (suc (suc (suc (suc (suc index))))))) = lit< tt
 
-pub modified-are : (w g : List ℕ) → ArePmcwWords w → ((place : ℕ) → slice_index g place < 2 ^ 32) → ArePmcwWords (modified_words w g)
+pub modified-are : (w g : List ℕ) → ArePmcwWords w → ((index : ℕ) → slice_index g index < 2 ^ 32) → ArePmcwWords (modified_words w g)
 modified-are w g are fit = record {
   seven = refl;
   fit = seven-fit (slice_index g 0) (mixed 3346792447 948174848 (slice_index w 1) (slice_index g 1)) (mixed 16777215 4278190080 (slice_index w 2) (slice_index g 2))

@@ -5,7 +5,7 @@ use Rattle.zbits.specs.Layout.{AllShow}
 use Rattle.zbits.specs.Words.{word_at, words_from, words_of}
 
 -- the first seven of the words
-pub first_seven : (image words : List ℕ) → ((place : ℕ) → place < 13 → slice_index words place ≡ word_at image place)
+pub first_seven : (image words : List ℕ) → ((index : ℕ) → index < 13 → slice_index words index ≡ word_at image index)
     → slice_index words 0 ∷ slice_index words 1 ∷ slice_index words 2 ∷ slice_index words 3 ∷ slice_index words 4 ∷ slice_index words 5 ∷ slice_index words 6 ∷ [] ≡ words_of 7 image
 unfolding words_from
 first_seven image words same =
@@ -19,7 +19,7 @@ first_seven image words same =
     cc
 
 -- the three of the subchannel-status word
-pub status_three : (image words : List ℕ) → ((place : ℕ) → place < 13 → slice_index words place ≡ word_at image place)
+pub status_three : (image words : List ℕ) → ((index : ℕ) → index < 13 → slice_index words index ≡ word_at image index)
     → slice_index words 7 ∷ slice_index words 8 ∷ slice_index words 9 ∷ [] ≡ words_from 7 3 image
 unfolding words_from
 status_three image words same =

@@ -155,12 +155,12 @@ impl Pmcw {
     }
 
     /// The flag at a bit of a word.
-    fn bit(word: u32, place: u32) -> bool
-        requires { place < 32 }
-        ensures number { layout_spec.bit_number result ≡ field_of word place place }
-        ensures test { result ≡ flag_of word place }
+    fn bit(word: u32, index: u32) -> bool
+        requires { index < 32 }
+        ensures number { layout_spec.bit_number result ≡ field_of word index index }
+        ensures test { result ≡ flag_of word index }
     {
-        field(word, place, place) == 1
+        field(word, index, index) == 1
     }
 
     fn controls(&self) -> u32

@@ -310,7 +310,7 @@ fn are_bytes(ids: &[u8; 8])
 
 /// Each is a word. A law, with nothing to do.
 fn are_words(words: &[u32; 7])
-    ensures { (place : ℕ) → slice_index words.now place < 2 ^ 32 }
+    ensures { (index : ℕ) → slice_index words.now index < 2 ^ 32 }
 {
     let _first = words[0];
 }

@@ -3,8 +3,8 @@ use Rattle.std.proofs.Common.{◌≡◌, ◌≤◌, ◌<◌, ℕ, ◌+◌, ◌�
 use Rattle.std.proofs.Math.Seq.{drop-append_seam, take-length}
 use Rattle.std.proofs.lemmas.List.{same_lists, take-append-le, drop-append-le, get_or-map, length-map, map_push}
 use Rattle.script.specs.declared.Line.{Line}
-use Rattle.script_rows.specs.Places.{action_length}
-use Rattle.script_rows.specs.declared.places.KeptAction.TheVariants as kept_action
+use Rattle.script_rows.specs.Slots.{action_length}
+use Rattle.script_rows.specs.declared.slots.KeptAction.TheVariants as kept_action
 use Rattle.script.specs.declared.kept.KeptLine.{KeptLine}
 use Rattle.script.specs.Keeping.{line_in, line_at, lines_at, Fits, AllFit}
 
@@ -18,7 +18,7 @@ cut-append arena more start count within =
 line-append : (arena more : List ℕ) (k : KeptLine) → Fits (length arena) k → line_at (arena ++ more) k ≡ line_at arena k
 line-append arena more k fits = ap (line_in k) (cut-append arena more k.start (action_length k.action) fits)
 
--- any line, for a place that a list does not have
+-- any line, for an index that a list does not have
 blank : KeptLine
 blank = record { number = 0; start = 0; action = kept_action.Dev 0 }
 

@@ -1,4 +1,4 @@
--- The first piece of a text, by the place of the first separator.
+-- The first piece of a text, by the index of the first separator.
 use Rattle.std.proofs.Common.{◌≡◌, ℕ, ◌+◌, ◌<◌, Bool, true, false, ◌&&◌, subst, List, [], ◌∷◌, ◌++◌, length, take, drop, get_or, map, ap, ◌∙◌, refl, sym, suc, zero, arith, inl, inr, append-nil, ◌≤◌, ◌-◌}
 use Rattle.std.proofs.lemmas.List.{length-drop, take_all, drop_all, drop_more, drop-drop, get_or-drop}
 use Rattle.std.specs.Prelude.{if◌then◌else◌}
@@ -70,15 +70,15 @@ pub parted : {A : Type 0} (f : A → List ℕ) (items new : List A) (x : A) (sep
 parted f items new x sep k rest after bytes e g inv w =
     joined f items new x sep rest after bytes e inv (w ∙ ap (λ (t : List ℕ). t ∷ pieces sep after) (sym g))
 
--- the piece between a place and the next separator
-pub next : (sep : ℕ) (xs : List ℕ) (start place : ℕ) → start ≤ place → place < length xs → ((k : ℕ) → start ≤ k → k < place → get_or xs k 0 ≡ sep → ⊥)
-    → get_or xs place 0 ≡ sep → pieces sep (drop start xs) ≡ take (place - start) (drop start xs) ∷ pieces sep (drop (place + 1) xs)
-next sep xs start place le lt before found =
-    let at : start + (place - start) ≡ place = omega arith in
-    let rest = drop-drop (place - start) start xs ∙ ap (λ (n : ℕ). drop n xs) at ∙ drop_more xs place 0 lt in
-    cut sep (drop start xs) (place - start) (get_or xs place 0) (drop (place + 1) xs)
+-- the piece between an index and the next separator
+pub next : (sep : ℕ) (xs : List ℕ) (start index : ℕ) → start ≤ index → index < length xs → ((k : ℕ) → start ≤ k → k < index → get_or xs k 0 ≡ sep → ⊥)
+    → get_or xs index 0 ≡ sep → pieces sep (drop start xs) ≡ take (index - start) (drop start xs) ∷ pieces sep (drop (index + 1) xs)
+next sep xs start index le lt before found =
+    let at : start + (index - start) ≡ index = omega arith in
+    let rest = drop-drop (index - start) start xs ∙ ap (λ (n : ℕ). drop n xs) at ∙ drop_more xs index 0 lt in
+    cut sep (drop start xs) (index - start) (get_or xs index 0) (drop (index + 1) xs)
     (λ j less e. before (start + j) (omega arith) (omega arith) (sym (get_or-drop start xs j 0) ∙ e))
-    (λ less. get_or-drop start xs (place - start) 0 ∙ ap (λ (n : ℕ). get_or xs n 0) at ∙ found)
+    (λ less. get_or-drop start xs (index - start) 0 ∙ ap (λ (n : ℕ). get_or xs n 0) at ∙ found)
     rest
 
 -- the piece behind the last separator

@@ -111,7 +111,7 @@ parity : (b : Bool) (m : ℕ) → (cond b 1 0 + 2 * m) % 2 ≡ cond b 1 0
 parity true m = omega arith
 parity false m = omega arith
 
--- the marks of what stands behind some places
+-- the marks of what stands behind some indices
 shifted : (ms : List Bool) (n : ℕ) → mask_l ms / 2 ^ n ≡ mask_l (drop n ms)
 shifted ms zero = div-one (mask_l ms)
 shifted [] (suc n) = zero-div (2 ^ suc n)
@@ -123,7 +123,7 @@ shifted (b ∷ bs) (suc n) =
 pub marks-behind : (xs : List ℕ) (b n m : ℕ) → m ≡ mask_l (map (is b) xs) → m / 2 ^ n ≡ mask_l (map (is b) (drop n xs))
 marks-behind xs b n m marks = ap (λ (k : ℕ). k / 2 ^ n) marks ∙ shifted (map (is b) xs) n ∙ ap mask_l (drop-map (is b) n xs)
 
--- the marks of so many places
+-- the marks of so many indices
 low : (ms : List Bool) (n : ℕ) → mask_l ms % 2 ^ n ≡ mask_l (take n ms)
 low ms zero = mod-one (mask_l ms)
 low [] (suc n) = zero-mod (2 ^ suc n)

@@ -1,6 +1,6 @@
 -- Packed lines over one arena of bytes, and the lines that they are.
 use Rattle.std.specs.Prelude.{ℕ, ◌+◌, ◌≤◌, List, All, length, take, drop, map}
-use Rattle.script_rows.specs.Places.{action_in, action_length}
+use Rattle.script_rows.specs.Slots.{action_in, action_length}
 use Rattle.script.specs.declared.Line.{Line}
 use Rattle.script.specs.declared.kept.KeptLine.{KeptLine}
 

@@ -4,7 +4,7 @@ ghost use Rattle.std.specs.Prelude.{◌≡◌, ◌≢◌, ◌∷◌, ℕ, Bool, 
 ghost use Rattle.script.specs.Pieces.{lines_of, words_between_blanks};
 ghost use Rattle.script.specs.Saying.{Sets, action_said, first_is_storage, has_words as words_stand, is_ascii, race_said, words_say};
 ghost use Rattle.script_rows.specs.Actions.{action_row};
-ghost use Rattle.script_rows.specs.Places.{action_at, row_at};
+ghost use Rattle.script_rows.specs.Slots.{action_at, row_at};
 ghost use Rattle.script.specs.Scripts as spec;
 ghost use Rattle.script.specs.Drafts.{context, Hears, IsNext, IsDraftOf};
 ghost use Rattle.script.specs.Reading.{BreaksRule, BadIn, bad_by};
@@ -17,9 +17,9 @@ use crate::{RaceLine, ScriptBad};
 use channel_config::config::{Config, ConfigFault};
 use memory::Supply;
 use script_rows::actions::{action_row, common_row};
-use script_rows::places::ActionPlace;
 use script_rows::race::{Race, race_row};
 use script_rows::settings::{Setting, configure, setting_row};
+use script_rows::slots::ActionSlot;
 use script_rows::words::{LineFault, LineRule, is_name};
 use std::alloc::{AllocError, Global};
 
@@ -53,11 +53,11 @@ struct Sentence<'w, 'a> {
     others: &'w [&'a [u8]],
 }
 
-/// Where a line is taken apart: room for its words, and a place for its action. Both may hold those of a line before it.
+/// Where a line is taken apart: room for its words, and a slot for its action. Both may hold those of a line before it.
 #[derive(Drop)]
 struct Desk<'a> {
     words: Vec<&'a [u8]>,
-    place: ActionPlace,
+    slot: ActionSlot,
 }
 
 /// Whether the line's first word is `storage`.
@@ -124,24 +124,24 @@ fn race(
     Ok(())
 }
 
-/// Takes the action that stands in a place, or the rule that its line breaks.
+/// Takes the action that stands in a slot, or the rule that its line breaks.
 #[inline(always)]
 fn act<S: Supply>(
     supply: &mut S,
     draft: &mut ScriptBuilder,
-    place: &ActionPlace,
+    slot: &ActionSlot,
     number: u64,
     said: Result<(), LineRule>,
 ) -> Result<(), LineFault>
-    ensures ok { OnOk result ((may : Bool) → (spec.broken_by (context draft.old) may (action_said (Some (row_at said (action_at place.now)))) ≡ None) ×
-        Hears draft.old number (action_said (Some (row_at said (action_at place.now)))) draft.new) }
-    ensures err { IfErr result (λ f. (may : Bool) → BreaksRule f (spec.broken_by (context draft.old) may (action_said (Some (row_at said (action_at place.now)))))) }
+    ensures ok { OnOk result ((may : Bool) → (spec.broken_by (context draft.old) may (action_said (Some (row_at said (action_at slot.now)))) ≡ None) ×
+        Hears draft.old number (action_said (Some (row_at said (action_at slot.now)))) draft.new) }
+    ensures err { IfErr result (λ f. (may : Bool) → BreaksRule f (spec.broken_by (context draft.old) may (action_said (Some (row_at said (action_at slot.now)))))) }
     ensures given { OnOk result (S.refused supply.new ≡ S.refused supply.old) }
     ensures memory { result ≡ Err LineFault.NoMemory → S.refused supply.new ≡ true }
 {
     match said {
         Ok(()) => {
-            draft.lines.add(supply, number, place)?;
+            draft.lines.add(supply, number, slot)?;
             draft.acted = true;
             Ok(())
         }
@@ -149,11 +149,11 @@ fn act<S: Supply>(
     }
 }
 
-/// Takes what the words of a line ask the machine for, by the first of them; the action is written to a place.
+/// Takes what the words of a line ask the machine for, by the first of them; the action is written to a slot.
 fn drive<S: Supply>(
     supply: &mut S,
     draft: &mut ScriptBuilder,
-    place: &mut ActionPlace,
+    slot: &mut ActionSlot,
     number: u64,
     word: &[u8],
     words: &[&[u8]],
@@ -164,8 +164,8 @@ fn drive<S: Supply>(
     ensures given { OnOk result (S.refused supply.new ≡ S.refused supply.old) }
     ensures memory { result ≡ Err LineFault.NoMemory → S.refused supply.new ≡ true }
 {
-    match action_row(place, word, words) {
-        Some(said) => act(supply, draft, place, number, said),
+    match action_row(slot, word, words) {
+        Some(said) => act(supply, draft, slot, number, said),
         None => Err(LineFault::Rule(LineRule::UnknownWord)),
     }
 }
@@ -177,7 +177,7 @@ fn hear_other<S: Supply>(
     alloc: Global,
     supply: &mut S,
     draft: &mut ScriptBuilder,
-    place: &mut ActionPlace,
+    slot: &mut ActionSlot,
     given: &GivenLine<'_>,
     said: &Sentence<'_, '_>,
 ) -> Result<(), LineFault>
@@ -195,7 +195,7 @@ fn hear_other<S: Supply>(
     if is_name(said.first, b"race".as_slice()) {
         return race(draft, given, race_row(said.others));
     }
-    drive(supply, draft, place, given.number, said.first, said.others)
+    drive(supply, draft, slot, given.number, said.first, said.others)
 }
 
 /// Takes what the words of a line say, by the first of them.
@@ -203,7 +203,7 @@ fn hear<S: Supply>(
     alloc: Global,
     supply: &mut S,
     draft: &mut ScriptBuilder,
-    place: &mut ActionPlace,
+    slot: &mut ActionSlot,
     given: &GivenLine<'_>,
     words: &[&[u8]],
 ) -> Result<(), LineFault>
@@ -216,13 +216,13 @@ fn hear<S: Supply>(
     let [first, others @ ..] = words else {
         return Err(LineFault::Rule(LineRule::UnknownWord));
     };
-    match common_row(place, first, others) {
-        Some(said) => act(supply, draft, place, given.number, said),
+    match common_row(slot, first, others) {
+        Some(said) => act(supply, draft, slot, given.number, said),
         None => hear_other(
             alloc,
             supply,
             draft,
-            place,
+            slot,
             given,
             &Sentence { first, others },
         ),
@@ -256,7 +256,7 @@ fn take_words<'a, S: Supply>(
         alloc,
         supply,
         draft,
-        &mut desk.place,
+        &mut desk.slot,
         given,
         desk.words.as_slice(),
     )?;
@@ -340,7 +340,7 @@ pub fn draft_of<S: Supply>(
     let mut draft = draft;
     let mut desk = Desk {
         words: Vec::new(alloc),
-        place: ActionPlace::new(),
+        slot: ActionSlot::new(),
     };
     let mut number = 0;
     let mut rest = text;

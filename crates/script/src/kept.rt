@@ -2,10 +2,10 @@
 
 ghost use Rattle.std.specs.Prelude.{◌≡◌, ◌≤◌, ◌<◌, ◌++◌, ◌∷◌, [], ℕ, List, length, vec_len, vec_capacity};
 ghost use Rattle.script.specs.Keeping as spec;
-ghost use Rattle.script_rows.specs.Places.{action_length};
+ghost use Rattle.script_rows.specs.Slots.{action_length};
 
 use crate::Line;
-use script_rows::places::KeptAction;
+use script_rows::slots::KeptAction;
 
 /// A line: the bytes of its action stand from `start` on.
 #[derive(Clone, Copy)]

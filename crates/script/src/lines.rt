@@ -1,12 +1,12 @@
 //! The lines of a script, packed over one arena of their bytes.
 
 ghost use Rattle.std.specs.Prelude.{◌≡◌, ◌≤◌, ◌++◌, ◌∷◌, [], true, IfOk, IfSome, MatchOption, Some, None, OnOk, OnErr, length, slice_get, vec_capacity};
-ghost use Rattle.script_rows.specs.Places.{action_at, action_in, action_length};
+ghost use Rattle.script_rows.specs.Slots.{action_at, action_in, action_length};
 
 use crate::Line;
 use crate::kept::{KeptLine, push};
 use memory::{Supply, extend, make_room};
-use script_rows::places::{ActionPlace, KeptAction};
+use script_rows::slots::{ActionSlot, KeptAction};
 use std::alloc::{AllocError, Global};
 use std::marker::Model;
 
@@ -52,7 +52,7 @@ fn add_bytes<S: Supply>(supply: &mut S, list: &mut Vec<u8>, bytes: &[u8]) -> Res
 }
 
 /// Room for so many lines, of which there are none.
-fn places<S: Supply>(
+fn indices<S: Supply>(
     alloc: Global,
     supply: &mut S,
     count: usize,
@@ -79,7 +79,7 @@ impl Lines {
         ensures memory { OnErr result (S.refused supply.new ≡ true) }
     {
         Ok(Lines {
-            kept: places(alloc, supply, count)?,
+            kept: indices(alloc, supply, count)?,
             bytes: Vec::new(alloc),
         })
     }
@@ -91,24 +91,24 @@ impl Lines {
         self.kept.len()
     }
 
-    /// The line at this place, from 0; None where there is none.
-    pub fn get(&self, place: usize) -> Option<Line>
-        ensures { result ≡ slice_get self.now place }
+    /// The line at this index, from 0; None where there is none.
+    pub fn get(&self, index: usize) -> Option<Line>
+        ensures { result ≡ slice_get self.now index }
     {
-        match self.kept.as_slice().get(place) {
+        match self.kept.as_slice().get(index) {
             None => None,
             Some(kept) => Some(kept.at(self.bytes.as_slice())),
         }
     }
 
-    /// The line at this place; None where there is none.
+    /// The line at this index; None where there is none.
     #[inline(always)]
-    pub fn kept(&self, place: usize) -> Option<LentLine<'_>>
-        ensures line { MatchOption result (slice_get self.now place ≡ None)
-            (λ k. slice_get self.now place ≡ Some (record { number = k.number; action = action_in k.action.now k.bytes.now })) }
+    pub fn kept(&self, index: usize) -> Option<LentLine<'_>>
+        ensures line { MatchOption result (slice_get self.now index ≡ None)
+            (λ k. slice_get self.now index ≡ Some (record { number = k.number; action = action_in k.action.now k.bytes.now })) }
         ensures length { IfSome result (λ k. action_length k.action.now ≤ length k.bytes.now) }
     {
-        match self.kept.as_slice().get(place) {
+        match self.kept.as_slice().get(index) {
             None => None,
             Some(kept) => Some(LentLine {
                 number: kept.number,
@@ -118,23 +118,23 @@ impl Lines {
         }
     }
 
-    /// Adds a line with the action that stands in a place. Where the growth is refused the lines stay as they were.
+    /// Adds a line with the action that stands in a slot. Where the growth is refused the lines stay as they were.
     #[inline(always)]
     pub fn add<S: Supply>(
         &mut self,
         supply: &mut S,
         number: u64,
-        place: &ActionPlace,
+        slot: &ActionSlot,
     ) -> Result<(), AllocError>
-        ensures added { OnOk result (self.new ≡ self.old ++ record { number = number; action = action_at place.now } ∷ []) }
+        ensures added { OnOk result (self.new ≡ self.old ++ record { number = number; action = action_at slot.now } ∷ []) }
         ensures kept { OnErr result (self.new ≡ self.old) }
         ensures given { OnOk result (S.refused supply.new ≡ S.refused supply.old) }
         ensures memory { OnErr result (S.refused supply.new ≡ true) }
     {
         supply.reserve(&mut self.kept, 1)?;
         let start = self.bytes.len();
-        add_bytes(supply, &mut self.bytes, place.bytes())?;
-        push(&mut self.kept, number, start, place.kept);
+        add_bytes(supply, &mut self.bytes, slot.bytes())?;
+        push(&mut self.kept, number, start, slot.kept);
         Ok(())
     }
 }

@@ -1,14 +1,14 @@
--- The bytes at the front of a place.
+-- The bytes at the front of a slot.
 use Rattle.std.proofs.Common.{◌≡◌, ℕ, List, take, refl, ap, le_refl}
 use Rattle.std.proofs.lemmas.List.{take-take}
 use Rattle.chan_events.specs.Events.{Event, KeptEvent, event_in, event_length}
 use Rattle.chan_events.specs.declared.event.Event.TheVariants as event
 use Rattle.chan_model.specs.declared.report.DeviceAnswer.TheVariants as answer
 use Rattle.chan_model.specs.Reports.{DeviceAnswer, KeptAnswer, answer_in, answer_length}
-use Rattle.script_rows.specs.Places.{action_in, action_length}
+use Rattle.script_rows.specs.Slots.{action_in, action_length}
 use Rattle.script_rows.specs.declared.Action.TheVariants as action
-use Rattle.script_rows.specs.declared.places.KeptAction.{KeptAction}
-use Rattle.script_rows.specs.declared.places.KeptAction.TheVariants as kept_action
+use Rattle.script_rows.specs.declared.slots.KeptAction.{KeptAction}
+use Rattle.script_rows.specs.declared.slots.KeptAction.TheVariants as kept_action
 
 -- an answer and an event want no more bytes than they have
 answer-front : (k : KeptAnswer) (bytes : List ℕ) → answer_in k (take (answer_length k) bytes) ≡ answer_in k bytes

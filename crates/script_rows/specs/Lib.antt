@@ -3,4 +3,4 @@ pub mod Settings
 pub mod Actions
 pub mod Faults
 pub mod Races
-pub mod Places
+pub mod Slots

@@ -4,12 +4,12 @@ ghost use Rattle.std.specs.Prelude.{◌≡◌, IfSome, is_some, codes, true, fal
 ghost use Rattle.std.specs.Str.{bytes_eq};
 ghost use Rattle.script_rows.specs.Words.{number_up_to};
 ghost use Rattle.script_rows.specs.Actions as spec;
-ghost use Rattle.script_rows.specs.Places.{action_at, rows_at, row_at};
+ghost use Rattle.script_rows.specs.Slots.{action_at, rows_at, row_at};
 ghost use Rattle.script_rows.specs.Settings.{setting_row};
 
 use crate::acts::act_row;
 use crate::paths::path_row;
-use crate::places::{ActionPlace, KeptAction};
+use crate::slots::{ActionSlot, KeptAction};
 use crate::words::{
     LineRule, hex_bytes, is_name, number, number_up_to, one, subchannel, three, two,
 };
@@ -213,69 +213,69 @@ fn cpu_named(word: &[u8]) -> Option<Cpu>
 }
 
 fn on_cpu(
-    place: &mut ActionPlace,
+    slot: &mut ActionSlot,
     cpu: Option<Cpu>,
     said: Result<Instruction, LineRule>,
 ) -> Result<(), LineRule>
-    ensures { row_at result (action_at place.new) ≡ spec.on_cpu cpu said }
+    ensures { row_at result (action_at slot.new) ≡ spec.on_cpu cpu said }
 {
     let instruction = said?;
     let cpu = cpu.ok_or(LineRule::BadWord)?;
-    place.kept = KeptAction::Event(Event::Execute { cpu, instruction });
+    slot.kept = KeptAction::Event(Event::Execute { cpu, instruction });
     Ok(())
 }
 
 fn other_on_cpu(
-    place: &mut ActionPlace,
+    slot: &mut ActionSlot,
     cpu: Option<Cpu>,
     said: Result<OtherInstruction, LineRule>,
 ) -> Result<(), LineRule>
-    ensures { row_at result (action_at place.new) ≡ spec.other_on_cpu cpu said }
+    ensures { row_at result (action_at slot.new) ≡ spec.other_on_cpu cpu said }
 {
     let instruction = said?;
     let cpu = cpu.ok_or(LineRule::BadWord)?;
-    place.kept = KeptAction::Event(Event::ExecuteOther { cpu, instruction });
+    slot.kept = KeptAction::Event(Event::ExecuteOther { cpu, instruction });
     Ok(())
 }
 
 /// What a CPU executes, where a line's first word names an instruction.
 fn executed_row(
-    place: &mut ActionPlace,
+    slot: &mut ActionSlot,
     cpu: Option<Cpu>,
     word: &[u8],
     words: &[&[u8]],
 ) -> Option<Result<(), LineRule>>
-    ensures { rows_at result (action_at place.new) ≡ spec.executed_row cpu word.now (map (λ w. w.now) words.now) }
+    ensures { rows_at result (action_at slot.new) ≡ spec.executed_row cpu word.now (map (λ w. w.now) words.now) }
 {
     match instruction_row(word, words) {
-        Some(said) => Some(on_cpu(place, cpu, said)),
+        Some(said) => Some(on_cpu(slot, cpu, said)),
         None => match other_row(word, words) {
-            Some(said) => Some(other_on_cpu(place, cpu, said)),
+            Some(said) => Some(other_on_cpu(slot, cpu, said)),
             None => None,
         },
     }
 }
 
-fn cpu_row(place: &mut ActionPlace, words: &[&[u8]]) -> Result<(), LineRule>
-    ensures { row_at result (action_at place.new) ≡ spec.cpu_row (map (λ w. w.now) words.now) }
+fn cpu_row(slot: &mut ActionSlot, words: &[&[u8]]) -> Result<(), LineRule>
+    ensures { row_at result (action_at slot.new) ≡ spec.cpu_row (map (λ w. w.now) words.now) }
 {
     match words {
         [] => Err(LineRule::UnknownWord),
         [_] => Err(LineRule::UnknownWord),
-        [cpu, word, others @ ..] => match executed_row(place, cpu_named(cpu), word, others) {
+        [cpu, word, others @ ..] => match executed_row(slot, cpu_named(cpu), word, others) {
             Some(said) => said,
             None => Err(LineRule::UnknownWord),
         },
     }
 }
 
-fn put_row(place: &mut ActionPlace, words: &[&[u8]]) -> Result<(), LineRule>
-    ensures { row_at result (action_at place.new) ≡ spec.put_row (map (λ w. w.now) words.now) }
+fn put_row(slot: &mut ActionSlot, words: &[&[u8]]) -> Result<(), LineRule>
+    ensures { row_at result (action_at slot.new) ≡ spec.put_row (map (λ w. w.now) words.now) }
 {
     let (address, bytes) = two(words).ok_or(LineRule::WrongCount)?;
     let address = number(address).ok_or(LineRule::BadWord)?;
     let bytes = hex_bytes(bytes).ok_or(LineRule::BadWord)?;
-    place.put(address, &bytes);
+    slot.put(address, &bytes);
     Ok(())
 }
 
@@ -290,23 +290,23 @@ fn key_named(word: &[u8]) -> Option<Key>
     }
 }
 
-fn key_row(place: &mut ActionPlace, words: &[&[u8]]) -> Result<(), LineRule>
-    ensures { row_at result (action_at place.new) ≡ spec.key_row (map (λ w. w.now) words.now) }
+fn key_row(slot: &mut ActionSlot, words: &[&[u8]]) -> Result<(), LineRule>
+    ensures { row_at result (action_at slot.new) ≡ spec.key_row (map (λ w. w.now) words.now) }
 {
     let (address, key) = two(words).ok_or(LineRule::WrongCount)?;
     let address = number(address).ok_or(LineRule::BadWord)?;
     let key = key_named(key).ok_or(LineRule::BadWord)?;
-    place.kept = KeptAction::Event(Event::SetKey { address, key });
+    slot.kept = KeptAction::Event(Event::SetKey { address, key });
     Ok(())
 }
 
-fn prefix_row(place: &mut ActionPlace, words: &[&[u8]]) -> Result<(), LineRule>
-    ensures { row_at result (action_at place.new) ≡ spec.prefix_row (map (λ w. w.now) words.now) }
+fn prefix_row(slot: &mut ActionSlot, words: &[&[u8]]) -> Result<(), LineRule>
+    ensures { row_at result (action_at slot.new) ≡ spec.prefix_row (map (λ w. w.now) words.now) }
 {
     let (cpu, address) = two(words).ok_or(LineRule::WrongCount)?;
     let cpu = cpu_named(cpu).ok_or(LineRule::BadWord)?;
     let address = number(address).ok_or(LineRule::BadWord)?;
-    place.kept = KeptAction::Event(Event::SetPrefix { cpu, address });
+    slot.kept = KeptAction::Event(Event::SetPrefix { cpu, address });
     Ok(())
 }
 
@@ -322,168 +322,164 @@ fn show_length(word: &[u8]) -> Option<ChunkLength>
     }
 }
 
-fn show_row(place: &mut ActionPlace, words: &[&[u8]]) -> Result<(), LineRule>
-    ensures { row_at result (action_at place.new) ≡ spec.show_row (map (λ w. w.now) words.now) }
+fn show_row(slot: &mut ActionSlot, words: &[&[u8]]) -> Result<(), LineRule>
+    ensures { row_at result (action_at slot.new) ≡ spec.show_row (map (λ w. w.now) words.now) }
 {
     let (address, length) = two(words).ok_or(LineRule::WrongCount)?;
     let address = number(address).ok_or(LineRule::BadWord)?;
     let length = show_length(length).ok_or(LineRule::BadWord)?;
-    place.kept = KeptAction::Event(Event::Show { address, length });
+    slot.kept = KeptAction::Event(Event::Show { address, length });
     Ok(())
 }
 
 #[inline(always)]
-fn choose_row(place: &mut ActionPlace, words: &[&[u8]]) -> Result<(), LineRule>
-    ensures { row_at result (action_at place.new) ≡ spec.choose_row (map (λ w. w.now) words.now) }
+fn choose_row(slot: &mut ActionSlot, words: &[&[u8]]) -> Result<(), LineRule>
+    ensures { row_at result (action_at slot.new) ≡ spec.choose_row (map (λ w. w.now) words.now) }
 {
     let word = one(words).ok_or(LineRule::WrongCount)?;
     let subchannel = subchannel(word).ok_or(LineRule::BadWord)?;
-    place.kept = KeptAction::Event(Event::Choose { subchannel });
+    slot.kept = KeptAction::Event(Event::Choose { subchannel });
     Ok(())
 }
 
 #[inline(always)]
-fn up_row(place: &mut ActionPlace, words: &[&[u8]]) -> Result<(), LineRule>
-    ensures { row_at result (action_at place.new) ≡ spec.up_row (map (λ w. w.now) words.now) }
+fn up_row(slot: &mut ActionSlot, words: &[&[u8]]) -> Result<(), LineRule>
+    ensures { row_at result (action_at slot.new) ≡ spec.up_row (map (λ w. w.now) words.now) }
 {
     let (word, path) = two(words).ok_or(LineRule::WrongCount)?;
     let subchannel = subchannel(word).ok_or(LineRule::BadWord)?;
     let path = number(path).ok_or(LineRule::BadWord)?;
-    place.kept = KeptAction::Event(Event::Up { subchannel, path });
+    slot.kept = KeptAction::Event(Event::Up { subchannel, path });
     Ok(())
 }
 
 #[inline(always)]
-fn down_row(place: &mut ActionPlace, words: &[&[u8]]) -> Result<(), LineRule>
-    ensures { row_at result (action_at place.new) ≡ spec.down_row (map (λ w. w.now) words.now) }
+fn down_row(slot: &mut ActionSlot, words: &[&[u8]]) -> Result<(), LineRule>
+    ensures { row_at result (action_at slot.new) ≡ spec.down_row (map (λ w. w.now) words.now) }
 {
     let (word, path) = two(words).ok_or(LineRule::WrongCount)?;
     let subchannel = subchannel(word).ok_or(LineRule::BadWord)?;
     let path = number(path).ok_or(LineRule::BadWord)?;
-    place.kept = KeptAction::Event(Event::Down { subchannel, path });
+    slot.kept = KeptAction::Event(Event::Down { subchannel, path });
     Ok(())
 }
 
 #[inline(always)]
-fn dev_row(place: &mut ActionPlace, words: &[&[u8]]) -> Result<(), LineRule>
-    ensures { row_at result (action_at place.new) ≡ spec.dev_row (map (λ w. w.now) words.now) }
+fn dev_row(slot: &mut ActionSlot, words: &[&[u8]]) -> Result<(), LineRule>
+    ensures { row_at result (action_at slot.new) ≡ spec.dev_row (map (λ w. w.now) words.now) }
 {
     let unit = one(words).ok_or(LineRule::WrongCount)?;
     let unit = number(unit).ok_or(LineRule::BadWord)?;
-    place.kept = KeptAction::Dev(unit);
+    slot.kept = KeptAction::Dev(unit);
     Ok(())
 }
 
-fn glance_row(place: &mut ActionPlace, words: &[&[u8]]) -> Result<(), LineRule>
-    ensures { row_at result (action_at place.new) ≡ spec.glance_row (map (λ w. w.now) words.now) }
+fn glance_row(slot: &mut ActionSlot, words: &[&[u8]]) -> Result<(), LineRule>
+    ensures { row_at result (action_at slot.new) ≡ spec.glance_row (map (λ w. w.now) words.now) }
 {
     let word = one(words).ok_or(LineRule::WrongCount)?;
     let subchannel = subchannel(word).ok_or(LineRule::BadWord)?;
-    place.kept = KeptAction::Glance(subchannel);
+    slot.kept = KeptAction::Glance(subchannel);
     Ok(())
 }
 
 /// The lines that set and show storage.
-fn storage_row(
-    place: &mut ActionPlace,
-    word: &[u8],
-    words: &[&[u8]],
-) -> Option<Result<(), LineRule>>
-    ensures { rows_at result (action_at place.new) ≡ spec.storage_row word.now (map (λ w. w.now) words.now) }
+fn storage_row(slot: &mut ActionSlot, word: &[u8], words: &[&[u8]]) -> Option<Result<(), LineRule>>
+    ensures { rows_at result (action_at slot.new) ≡ spec.storage_row word.now (map (λ w. w.now) words.now) }
 {
     if is_name(word, b"put".as_slice()) {
-        return Some(put_row(place, words));
+        return Some(put_row(slot, words));
     }
     if is_name(word, b"key".as_slice()) {
-        return Some(key_row(place, words));
+        return Some(key_row(slot, words));
     }
     if is_name(word, b"prefix".as_slice()) {
-        return Some(prefix_row(place, words));
+        return Some(prefix_row(slot, words));
     }
     if is_name(word, b"show".as_slice()) {
-        return Some(show_row(place, words));
+        return Some(show_row(slot, words));
     }
     None
 }
 
 /// The lines of the subsystem and its devices.
 fn subsystem_row(
-    place: &mut ActionPlace,
+    slot: &mut ActionSlot,
     word: &[u8],
     words: &[&[u8]],
 ) -> Option<Result<(), LineRule>>
-    ensures { rows_at result (action_at place.new) ≡ spec.subsystem_row word.now (map (λ w. w.now) words.now) }
+    ensures { rows_at result (action_at slot.new) ≡ spec.subsystem_row word.now (map (λ w. w.now) words.now) }
 {
     if is_name(word, b"cpu".as_slice()) {
-        return Some(cpu_row(place, words));
+        return Some(cpu_row(slot, words));
     }
     if is_name(word, b"choose".as_slice()) {
-        return Some(choose_row(place, words));
+        return Some(choose_row(slot, words));
     }
     if is_name(word, b"up".as_slice()) {
-        return Some(up_row(place, words));
+        return Some(up_row(slot, words));
     }
     if is_name(word, b"down".as_slice()) {
-        return Some(down_row(place, words));
+        return Some(down_row(slot, words));
     }
     if is_name(word, b"dev".as_slice()) {
-        return Some(dev_row(place, words));
+        return Some(dev_row(slot, words));
     }
     if is_name(word, b"glance".as_slice()) {
-        return Some(glance_row(place, words));
+        return Some(glance_row(slot, words));
     }
     None
 }
 
-fn event_row(place: &mut ActionPlace, word: &[u8], words: &[&[u8]]) -> Option<Result<(), LineRule>>
-    ensures { rows_at result (action_at place.new) ≡ spec.event_row word.now (map (λ w. w.now) words.now) }
+fn event_row(slot: &mut ActionSlot, word: &[u8], words: &[&[u8]]) -> Option<Result<(), LineRule>>
+    ensures { rows_at result (action_at slot.new) ≡ spec.event_row word.now (map (λ w. w.now) words.now) }
 {
-    match storage_row(place, word, words) {
+    match storage_row(slot, word, words) {
         Some(said) => Some(said),
-        None => match subsystem_row(place, word, words) {
+        None => match subsystem_row(slot, word, words) {
             Some(said) => Some(said),
-            None => match act_row(place, word, words) {
+            None => match act_row(slot, word, words) {
                 Some(said) => Some(said),
-                None => path_row(place, word, words),
+                None => path_row(slot, word, words),
             },
         },
     }
 }
 
-/// Writes to a place what a line's words ask the machine for, where its first word is known. An instruction without `cpu` is of CPU 0.
+/// Writes to a slot what a line's words ask the machine for, where its first word is known. An instruction without `cpu` is of CPU 0.
 pub fn action_row(
-    place: &mut ActionPlace,
+    slot: &mut ActionSlot,
     word: &[u8],
     words: &[&[u8]],
 ) -> Option<Result<(), LineRule>>
-    ensures { rows_at result (action_at place.new) ≡ spec.action_row word.now (map (λ w. w.now) words.now) }
+    ensures { rows_at result (action_at slot.new) ≡ spec.action_row word.now (map (λ w. w.now) words.now) }
 {
-    match executed_row(place, Cpu::new(0), word, words) {
+    match executed_row(slot, Cpu::new(0), word, words) {
         Some(said) => Some(said),
-        None => event_row(place, word, words),
+        None => event_row(slot, word, words),
     }
 }
 
-/// Writes to a place what the words of a line ask the machine for, where it is one of those of a start, of its signals, of its
+/// Writes to a slot what the words of a line ask the machine for, where it is one of those of a start, of its signals, of its
 /// device's turns and of its end: most lines are such, and their names are told from all others at one look. None where it is
 /// another line.
 #[inline(always)]
 pub fn common_row(
-    place: &mut ActionPlace,
+    slot: &mut ActionSlot,
     word: &[u8],
     words: &[&[u8]],
 ) -> Option<Result<(), LineRule>>
     ensures known { is_some result ≡ spec.is_common word.now }
-    ensures says { IfSome result (λ said. spec.action_row word.now (map (λ w. w.now) words.now) ≡ Some (row_at said (action_at place.new))) }
+    ensures says { IfSome result (λ said. spec.action_row word.now (map (λ w. w.now) words.now) ≡ Some (row_at said (action_at slot.new))) }
     ensures sole { IfSome result (λ said. (setting_row word.now (map (λ w. w.now) words.now) ≡ None) × (bytes_eq word.now (codes "race") ≡ false)) }
 {
     match word {
-        [b'u', b'p'] => Some(up_row(place, words)),
-        [b'd', b'o', b'w', b'n'] => Some(down_row(place, words)),
-        [b'd', b'e', b'v'] => Some(dev_row(place, words)),
-        [b's', b's', b'c', b'h'] => Some(on_cpu(place, Cpu::new(0), ssch_row(words))),
-        [b't', b's', b'c', b'h'] => Some(on_cpu(place, Cpu::new(0), tsch_row(words))),
-        _ if is_name(word, b"choose".as_slice()) => Some(choose_row(place, words)),
+        [b'u', b'p'] => Some(up_row(slot, words)),
+        [b'd', b'o', b'w', b'n'] => Some(down_row(slot, words)),
+        [b'd', b'e', b'v'] => Some(dev_row(slot, words)),
+        [b's', b's', b'c', b'h'] => Some(on_cpu(slot, Cpu::new(0), ssch_row(words))),
+        [b't', b's', b'c', b'h'] => Some(on_cpu(slot, Cpu::new(0), tsch_row(words))),
+        _ if is_name(word, b"choose".as_slice()) => Some(choose_row(slot, words)),
         _ => None,
     }
 }

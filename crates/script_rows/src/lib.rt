@@ -4,9 +4,9 @@
 pub mod actions;
 mod acts;
 mod paths;
-pub mod places;
 pub mod race;
 pub mod settings;
+pub mod slots;
 pub mod words;
 
 use chan_events::event::Event;

@@ -63,9 +63,9 @@ entering p q b e (Err fault.Operand) enters k = stayed p q b enters.2 k
 written : (old : Past) (b : Books) (new : Installed) (e : Event) (r : Result Reply Fault) → Enters old e r new.past → new.books ≡ booked b e r → Keeps b old.history → Kept new
 written old b new e r enters is k = subst (λ (c : Books). Keeps c new.past.history) (sym is) (entering old new.past b e r enters k)
 
-followed : (old : Installed) (place : ℕ) (report : Result Report Fault) (r : Result Reply Fault) (new : Installed) → Follows old place report r new → Kept old → Kept new
-followed old place (Ok report) r new turn k = written old.past old.books new (event.Report place report) r turn.0 turn.1 k
-followed old place (Err f) r new turn k = subst (λ (i : Installed). Kept i) (sym turn.1) k
+followed : (old : Installed) (index : ℕ) (report : Result Report Fault) (r : Result Reply Fault) (new : Installed) → Follows old index report r new → Kept old → Kept new
+followed old index (Ok report) r new turn k = written old.past old.books new (event.Report index report) r turn.0 turn.1 k
+followed old index (Err f) r new turn k = subst (λ (i : Installed). Kept i) (sym turn.1) k
 
 -- a look leaves the number and the log of the seat
 looking : (s : State) (b : Books) (history : List Entry) (word : ℕ) (own : Option Serials) (seat : Seated) → SeatLooks s b.seat word own seat → Keeps b history
@@ -80,8 +80,8 @@ looked_on old word own r new looks k =
 
 pub acted : (old : Installed) (a : Action) (r : ActionOutcome) (new : Installed) → PerformsAction old a r new → Kept old → Kept new
 acted old (action.Event e) r new acts k = written old.past old.books new e acts.0 acts.2.0 acts.2.1 k
-acted old (action.Dev place) r new acts k =
-    followed (record old { devices = (device_turn_of old place).devices }) place (device_turn_of old place).report acts.0 new acts.2 (record { beside = k.beside; logged = k.logged })
+acted old (action.Dev index) r new acts k =
+    followed (record old { devices = (device_turn_of old index).devices }) index (device_turn_of old index).report acts.0 new acts.2 (record { beside = k.beside; logged = k.logged })
 acted old (action.Glance word) r new acts k = looked_on old word _ r new acts k
 
 pub ran : (old : Installed) (actions : List Action) (outcomes : List ActionOutcome) (new : Installed) → Runs old actions outcomes new → Kept old → Kept new

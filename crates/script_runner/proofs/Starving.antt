@@ -46,16 +46,16 @@ entered_longer p q e (Err (fault.ScriptBad line rule)) enters = same_length p q 
 entered_longer p q e (Err (fault.Storage kind)) enters = same_length p q enters.2.history
 entered_longer p q e (Err fault.Operand) enters = same_length p q enters.2.history
 
-followed_longer : (old : Installed) (place : ℕ) (report : Result Report Fault) (r : Result Reply Fault) (new : Installed) → Follows old place report r new
+followed_longer : (old : Installed) (index : ℕ) (report : Result Report Fault) (r : Result Reply Fault) (new : Installed) → Follows old index report r new
     → length old.past.history ≤ length new.past.history
-followed_longer old place (Ok report) r new turn = entered_longer old.past new.past (event.Report place report) r turn.0
-followed_longer old place (Err f) r new turn = same_length old.past new.past (ap (λ (i : Installed). i.past.history) turn.1)
+followed_longer old index (Ok report) r new turn = entered_longer old.past new.past (event.Report index report) r turn.0
+followed_longer old index (Err f) r new turn = same_length old.past new.past (ap (λ (i : Installed). i.past.history) turn.1)
 
 -- no action makes the history shorter
 pub acted_longer : (old : Installed) (a : Action) (r : ActionOutcome) (new : Installed) → PerformsAction old a r new → length old.past.history ≤ length new.past.history
 acted_longer old (action.Event e) r new acts = entered_longer old.past new.past e acts.0 acts.2.0
-acted_longer old (action.Dev place) r new acts =
-    followed_longer (record old { devices = (device_turn_of old place).devices }) place (device_turn_of old place).report acts.0 new acts.2
+acted_longer old (action.Dev index) r new acts =
+    followed_longer (record old { devices = (device_turn_of old index).devices }) index (device_turn_of old index).report acts.0 new acts.2
 acted_longer old (action.Glance word) r new acts = same_length old.past new.past (ap (λ (i : Installed). i.past.history) acts.2)
 
 reaches : (n a b : ℕ) → n ≤ a + 1 → a ≤ b → n ≤ b + 1
@@ -83,16 +83,16 @@ with_lacks : (call : AskedCall) (answer : Option DeviceAnswer) → report_with c
 with_lacks call None is = absurd (cc)
 with_lacks call (Some answer) is = absurd (cc)
 
-next_lacks : (devices : List AnyDevice) (place : ℕ) (next : NextReport Report AskedCall) → (turn_by_next devices place next).report ≢ lacking
-next_lacks devices place (Told report) is = absurd (cc)
-next_lacks devices place (Asked asks) is = with_lacks asks (answer_by (slice_get devices place) asks.call) is
-next_lacks devices place Nothing is = absurd (cc)
+next_lacks : (devices : List AnyDevice) (index : ℕ) (next : NextReport Report AskedCall) → (turn_by_next devices index next).report ≢ lacking
+next_lacks devices index (Told report) is = absurd (cc)
+next_lacks devices index (Asked asks) is = with_lacks asks (answer_by (slice_get devices index) asks.call) is
+next_lacks devices index Nothing is = absurd (cc)
 
 -- a unit has a report, or not, whatever memory there is
-pub turn_lacks : (devices : List AnyDevice) (place : ℕ) (kept : Option (Option WaitingReport)) (turn : Option UnitTurn) → (turn_by devices place kept turn).report ≢ lacking
-turn_lacks devices place None turn is = absurd (cc)
-turn_lacks devices place (Some kept) None is = absurd (cc)
-turn_lacks devices place (Some kept) (Some turn) is = next_lacks devices place (next_of kept turn) is
+pub turn_lacks : (devices : List AnyDevice) (index : ℕ) (kept : Option (Option WaitingReport)) (turn : Option UnitTurn) → (turn_by devices index kept turn).report ≢ lacking
+turn_lacks devices index None turn is = absurd (cc)
+turn_lacks devices index (Some kept) None is = absurd (cc)
+turn_lacks devices index (Some kept) (Some turn) is = next_lacks devices index (next_of kept turn) is
 
 -- an action whose outcome is so is refused so
 pub starved_by : (r : Result Acted Fault) (h : List Entry) → is_starved (outcome_of r h) ≡ true → r ≡ Err fault.NoMemory
@@ -124,5 +124,5 @@ abbrev no_report : Fault → Result Report Fault
 no_report f = Err f
 
 -- where a unit has no report, its turn is not refused for want of memory
-pub turn_has_memory : (devices : List AnyDevice) (place : ℕ) (kept : Option (Option WaitingReport)) (turn : Option UnitTurn) (f : Fault) → (turn_by devices place kept turn).report ≡ no_report f → refusal f ≢ refusal fault.NoMemory
-turn_has_memory devices place kept turn f is same = turn_lacks devices place kept turn (is ∙ ap no_report (ap fault_in same))
+pub turn_has_memory : (devices : List AnyDevice) (index : ℕ) (kept : Option (Option WaitingReport)) (turn : Option UnitTurn) (f : Fault) → (turn_by devices index kept turn).report ≡ no_report f → refusal f ≢ refusal fault.NoMemory
+turn_has_memory devices index kept turn f is same = turn_lacks devices index kept turn (is ∙ ap no_report (ap fault_in same))

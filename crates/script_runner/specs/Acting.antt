@@ -125,8 +125,8 @@ answer_by None call = None
 answer_by (Some device) call = Some (answer_of device call)
 
 abbrev pub called : List AnyDevice → ℕ → Option AnyDevice → Call → List AnyDevice
-called devices place None call = devices
-called devices place (Some device) call = slice_set devices place (after device call)
+called devices index None call = devices
+called devices index (Some device) call = slice_set devices index (after device call)
 
 -- the report with what the device answers to the call that is asked; and the devices after it
 abbrev pub report_with : AskedCall → Option DeviceAnswer → Result Report Fault
@@ -134,27 +134,27 @@ report_with call None = Err fault.NoSuchUnit
 report_with call (Some answer) = Ok (answered call answer)
 
 abbrev pub asked : List AnyDevice → ℕ → AskedCall → DeviceTurn
-asked devices place asks = record {
-  report = report_with asks (answer_by (slice_get devices place) asks.call);
-  devices = called devices place (slice_get devices place) asks.call;
+asked devices index asks = record {
+  report = report_with asks (answer_by (slice_get devices index) asks.call);
+  devices = called devices index (slice_get devices index) asks.call;
 }
 
 -- the report that a unit hands in next: one that is there, or one with what its device answers
 abbrev pub turn_by_next : List AnyDevice → ℕ → NextReport Report AskedCall → DeviceTurn
-turn_by_next devices place (Told report) = hands devices report
-turn_by_next devices place (Asked asks) = asked devices place asks
-turn_by_next devices place Nothing = turn_refused devices fault.NotNow
+turn_by_next devices index (Told report) = hands devices report
+turn_by_next devices index (Asked asks) = asked devices index asks
+turn_by_next devices index Nothing = turn_refused devices fault.NotNow
 
 -- the report that is kept for a unit, else the one of its work
 abbrev pub turn_by : List AnyDevice → ℕ → Option (Option WaitingReport) → Option UnitTurn → DeviceTurn
-turn_by devices place None turn = turn_refused devices fault.NoSuchUnit
-turn_by devices place (Some kept) None = turn_refused devices fault.NoSuchUnit
-turn_by devices place (Some kept) (Some turn) = turn_by_next devices place (next_of kept turn)
+turn_by devices index None turn = turn_refused devices fault.NoSuchUnit
+turn_by devices index (Some kept) None = turn_refused devices fault.NoSuchUnit
+turn_by devices index (Some kept) (Some turn) = turn_by_next devices index (next_of kept turn)
 
 abbrev pub device_turn_of : Installed → ℕ → DeviceTurn
-device_turn_of old place = turn_by old.devices place (slice_get old.kept place) (unit_turn_of old.past.state place)
+device_turn_of old index = turn_by old.devices index (slice_get old.kept index) (unit_turn_of old.past.state index)
 
--- where an answer was given it stands in a place; and so does a report
+-- where an answer was given it stands in an index; and so does a report
 abbrev pub answer_when : Bool → DeviceAnswer → Option DeviceAnswer
 answer_when true answer = Some answer
 answer_when false answer = None
@@ -163,26 +163,26 @@ abbrev pub reported : Result Unit Fault → Report → Result Report Fault
 reported (Ok done) report = Ok report
 reported (Err f) report = Err f
 
--- the event that hands in the report of a unit stands in a place, where there is one
+-- the event that hands in the report of a unit stands in an index, where there is one
 abbrev pub IsWritten : ℕ → Result Unit Fault → Event → Result Report Fault → Type 0
-IsWritten place (Ok done) e r = (report : Report) × (e ≡ event.Report place report) × (r ≡ Ok report)
-IsWritten place (Err f) e r = r ≡ Err f
+IsWritten index (Ok done) e r = (report : Report) × (e ≡ event.Report index report) × (r ≡ Ok report)
+IsWritten index (Err f) e r = r ≡ Err f
 
 -- a report is kept where it was refused for want of memory or of room on a wire, and only there
-abbrev pub HandsIn : Installed → ℕ → Report → Result Reply Fault → Installed → Type 0
-HandsIn old place report r new =
-    Enters old.past (event.Report place report) r new.past
-    × (new.books ≡ booked old.books (event.Report place report) r)
+abbrev pub EntersReport : Installed → ℕ → Report → Result Reply Fault → Installed → Type 0
+EntersReport old index report r new =
+    Enters old.past (event.Report index report) r new.past
+    × (new.books ≡ booked old.books (event.Report index report) r)
     × (new.devices ≡ old.devices)
-    × (new.kept ≡ slice_set old.kept place (waits_by (event.Report place report) r))
+    × (new.kept ≡ slice_set old.kept index (waits_by (event.Report index report) r))
 
 -- a turn of the device of a unit: its report is handed in, or it has none and nothing changes
 abbrev pub Follows : Installed → ℕ → Result Report Fault → Result Reply Fault → Installed → Type 0
-Follows old place (Ok report) r new = HandsIn old place report r new
-Follows old place (Err f) r new = (r ≡ Err f) × (new ≡ old)
+Follows old index (Ok report) r new = EntersReport old index report r new
+Follows old index (Err f) r new = (r ≡ Err f) × (new ≡ old)
 
 abbrev pub TakesTurn : Installed → ℕ → Result Reply Fault → Installed → Type 0
-TakesTurn old place r new = Follows (record old { devices = (device_turn_of old place).devices }) place (device_turn_of old place).report r new
+TakesTurn old index r new = Follows (record old { devices = (device_turn_of old index).devices }) index (device_turn_of old index).report r new
 
 -- a look at the serials of a subchannel: refused where it is not configured
 abbrev pub glanced : Option Serials → ActionOutcome
@@ -209,11 +209,11 @@ LooksFrom old word own r new =
 
 -- where a restart of a unit was accepted its device is put back to its opening; a report that is kept for it is kept on
 abbrev pub put_back : List AnyDevice → ℕ → Option AnyDevice → List AnyDevice
-put_back devices place None = devices
-put_back devices place (Some device) = slice_set devices place (device_opening device)
+put_back devices index None = devices
+put_back devices index (Some device) = slice_set devices index (device_opening device)
 
 abbrev pub devices_restarted : List AnyDevice → Event → List AnyDevice
-devices_restarted devices (event.Restart place) = put_back devices place (slice_get devices place)
+devices_restarted devices (event.Restart index) = put_back devices index (slice_get devices index)
 devices_restarted devices other = devices
 
 abbrev pub devices_left : List AnyDevice → Event → Result Reply Fault → List AnyDevice
@@ -230,7 +230,7 @@ Happens old e r new =
 abbrev pub PerformsAction : Installed → Action → ActionOutcome → Installed → Type 0
 PerformsAction old (action.Event e) r new =
     (came : Result Reply Fault) × (r ≡ told_of came) × Happens old e came new
-PerformsAction old (action.Dev place) r new = (came : Result Reply Fault) × (r ≡ told_of came) × TakesTurn old place came new
+PerformsAction old (action.Dev index) r new = (came : Result Reply Fault) × (r ≡ told_of came) × TakesTurn old index came new
 PerformsAction old (action.Glance word) r new = LooksFrom old word (serials_in (sub_of old.past.state word)) r new
 
 -- the actions in order come to these outcomes

@@ -110,7 +110,7 @@ HasRaced race old new =
 abbrev pub HaveRaced : Race → List Runner → List Runner → Type 0
 HaveRaced race old new =
     (length new ≡ length old)
-    × ((place : ℕ) (other : Runner) → place < length old → HasRaced race (slice_index_or old place other) (slice_index_or new place other))
+    × ((index : ℕ) (other : Runner) → index < length old → HasRaced race (slice_index_or old index other) (slice_index_or new index other))
 
 -- what came of all, the last of them first, after what came of others
 abbrev pub total_after : Tally → List Runner → Tally

@@ -40,15 +40,15 @@ impl EventBuffers {
 }
 
 /// Writes to its place that a subchannel takes a signal.
-pub(crate) fn write_up(place: &mut Event, word: u32, index: u32)
-    ensures { place.new ≡ event_spec.Up word index }
+pub(crate) fn write_up(slot: &mut Event, word: u32, index: u32)
+    ensures { slot.new ≡ event_spec.Up word index }
 {
-    match place {
+    match slot {
         Event::Up { subchannel, path } => {
             *subchannel = word;
             *path = index;
         }
-        _ => *place = Event::Up {
+        _ => *slot = Event::Up {
             subchannel: word,
             path: index,
         },
@@ -56,15 +56,15 @@ pub(crate) fn write_up(place: &mut Event, word: u32, index: u32)
 }
 
 /// Writes to its place that a unit takes a signal.
-pub(crate) fn write_down(place: &mut Event, word: u32, index: u32)
-    ensures { place.new ≡ event_spec.Down word index }
+pub(crate) fn write_down(slot: &mut Event, word: u32, index: u32)
+    ensures { slot.new ≡ event_spec.Down word index }
 {
-    match place {
+    match slot {
         Event::Down { subchannel, path } => {
             *subchannel = word;
             *path = index;
         }
-        _ => *place = Event::Down {
+        _ => *slot = Event::Down {
             subchannel: word,
             path: index,
         },
@@ -72,25 +72,25 @@ pub(crate) fn write_down(place: &mut Event, word: u32, index: u32)
 }
 
 /// Writes to its place that a path is chosen for a subchannel.
-pub(crate) fn write_choose(place: &mut Event, word: u32)
-    ensures { place.new ≡ event_spec.Choose word }
+pub(crate) fn write_choose(slot: &mut Event, word: u32)
+    ensures { slot.new ≡ event_spec.Choose word }
 {
-    match place {
+    match slot {
         Event::Choose { subchannel } => *subchannel = word,
-        _ => *place = Event::Choose { subchannel: word },
+        _ => *slot = Event::Choose { subchannel: word },
     }
 }
 
 /// Writes to its place that a CPU executes an instruction.
-pub(crate) fn write_execute(place: &mut Event, by: Cpu, given: Instruction)
-    ensures { place.new ≡ event_spec.Execute by given }
+pub(crate) fn write_execute(slot: &mut Event, by: Cpu, given: Instruction)
+    ensures { slot.new ≡ event_spec.Execute by given }
 {
-    match place {
+    match slot {
         Event::Execute { cpu, instruction } => {
             *cpu = by;
             *instruction = given;
         }
-        _ => *place = Event::Execute {
+        _ => *slot = Event::Execute {
             cpu: by,
             instruction: given,
         },

@@ -2,7 +2,7 @@
 
 ghost use Rattle.std.specs.Prelude.{◌≡◌, ◌≤◌, Ok, false, is_err, length};
 ghost use Rattle.event_log.specs.Logs.{last_reply};
-ghost use Rattle.script_rows.specs.Places.{action_in, action_length};
+ghost use Rattle.script_rows.specs.Slots.{action_in, action_length};
 ghost use Rattle.script_text.specs.Text.{event_line};
 ghost use Rattle.script_text.specs.declared.ActionResult.TheVariants as told;
 ghost use Rattle.script_runner.specs.Acting.{outcome_of};
@@ -39,7 +39,7 @@ pub struct PerformedLines {
     pub refused: bool,
 }
 
-/// Writes what an action came to that was refused or was a look, through a place of its own: apart, as it is rare.
+/// Writes what an action came to that was refused or was a look, through a slot of its own: apart, as it is rare.
 #[cold]
 #[inline(never)]
 fn write_outcome<S: Sink>(
@@ -57,7 +57,7 @@ fn write_outcome<S: Sink>(
     }
 }
 
-/// Writes what an event came to that was accepted, through a place of its own: its reply is that of the last entry.
+/// Writes what an event came to that was accepted, through a slot of its own: its reply is that of the last entry.
 fn write_reply<J: Naming, S: Sink>(
     installation: &ScriptedMachine<J>,
     number: u64,
@@ -76,7 +76,7 @@ fn write_reply<J: Naming, S: Sink>(
     }
 }
 
-/// Writes what an action came to, through a place of its own.
+/// Writes what an action came to, through a slot of its own.
 fn write<J: Naming, S: Sink>(
     installation: &ScriptedMachine<J>,
     acted: Result<Acted, Fault>,
@@ -125,8 +125,8 @@ pub fn perform<J: Naming, M: Supply, S: Sink>(
 {
     let mut buffers = EventBuffers::new();
     let mut refused = false;
-    for place in 0..lines.len() {
-        let Some(line) = lines.kept(place) else {
+    for index in 0..lines.len() {
+        let Some(line) = lines.kept(index) else {
             break;
         };
         let written = perform_one(installation, supply, &line, &mut buffers, sink);

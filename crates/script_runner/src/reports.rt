@@ -1,4 +1,4 @@
-//! The reports of units, each in a place.
+//! The reports of units, each in a slot.
 
 ghost use Rattle.std.specs.Prelude.{◌≡◌, Some, slice_get};
 ghost use Rattle.chan_model.specs.Reports.{lent_call};
@@ -13,7 +13,7 @@ use machine_model::state::UnitTurn;
 use unit_driver::reporting::{NextReport, next_report};
 use unit_driver::waiting::WaitingReport;
 
-/// The report that is kept for a unit, else the one of its next work where this is its turn, written into a place. Where there is
+/// The report that is kept for a unit, else the one of its next work where this is its turn, written into a slot. Where there is
 /// a call of its device, it is made.
 pub(crate) fn reported_by(
     devices: &mut Vec<AnyDevice>,
@@ -38,20 +38,20 @@ pub(crate) fn reported_by(
     }
 }
 
-/// Calls the device of a unit, whose answer is written into a place; false where there is none.
+/// Calls the device of a unit, whose answer is written into a slot; false where there is none.
 fn called(
     devices: &mut Vec<AnyDevice>,
     unit: u32,
     call: &LentCall<'_>,
-    place: &mut DeviceAnswer,
+    slot: &mut DeviceAnswer,
 ) -> bool
-    ensures answer { spec.answer_when result place.new ≡ spec.answer_by (slice_get devices.old.items «unit») (lent_call call.now) }
+    ensures answer { spec.answer_when result slot.new ≡ spec.answer_by (slice_get devices.old.items «unit») (lent_call call.now) }
     ensures calls { devices.new.items ≡
         spec.called devices.old.items «unit» (slice_get devices.old.items «unit») (lent_call call.now) }
 {
     let Some(device) = devices.get_mut(unit as usize) else {
         return false;
     };
-    answer_to(device, call, place);
+    answer_to(device, call, slot);
     true
 }

@@ -9,7 +9,7 @@ ghost use Rattle.script_runner.specs.Racing.{HasAll, IsRaced};
 ghost use Rattle.machine_model.specs.Setups.{IsSetUp};
 ghost use Rattle.machine_model.specs.Steps.{HasRun};
 ghost use Rattle.subsystem.specs.Headline.{HasHeld};
-ghost use Rattle.script_runner.specs.Acting.{books_of, past_of, PerformsAction, Happens, IsAudited, IsOpening, LooksFrom, TakesTurn, HandsIn, outcome_of};
+ghost use Rattle.script_runner.specs.Acting.{books_of, past_of, PerformsAction, Happens, IsAudited, IsOpening, LooksFrom, TakesTurn, EntersReport, outcome_of};
 ghost use Rattle.machine_model.specs.State.{opening_of, sub_of, serials_in, unit_turn_of};
 ghost use Rattle.event_log.specs.Logs.{last_reply};
 ghost use Rattle.subsystem.specs.Keeping.{all_serials, answer_of};
@@ -18,7 +18,7 @@ ghost use Rattle.core_lock.specs.Seats.{entries_by};
 ghost use Rattle.device_models.specs.declared.any_device.AnyDevice.{AnyDevice};
 ghost use Rattle.chan_model.specs.Reports as report_spec;
 ghost use Rattle.chan_events.specs.Events.{event_in, event_length};
-ghost use Rattle.script_rows.specs.Places.{action_in, action_length};
+ghost use Rattle.script_rows.specs.Slots.{action_in, action_length};
 ghost use Rattle.chan_events.specs.declared.event.Event.TheVariants as event_spec;
 
 use crate::buffers::{EventBuffers, write_choose, write_down, write_execute, write_up};
@@ -38,8 +38,8 @@ use device_models::any_device::AnyDevice;
 use event_log::history::LentReply;
 use memory::Supply;
 use path_select::Rotating;
-use script_rows::places::KeptAction;
 use script_rows::race::Race;
+use script_rows::slots::KeptAction;
 use script_text::RaceCount;
 use scsw_irb::serials::Serials;
 use std::alloc::{AllocError, Global};
@@ -282,7 +282,7 @@ impl<J: Naming> ScriptedMachine<J> {
         }
     }
 
-    /// Takes a turn of a unit's device, whose report is written into a place.
+    /// Takes a turn of a unit's device, whose report is written into a slot.
     fn take_turn<M: Supply>(
         &mut self,
         supply: &mut M,
@@ -294,10 +294,10 @@ impl<J: Naming> ScriptedMachine<J> {
         ensures memory { result ≡ Err fault_spec.NoMemory → (M.refused supply.new ≡ true) ⊎ spec.IsUsedUp self.old.past }
     {
         self.write_report(unit, event)?;
-        self.hand_in(supply, unit, event)
+        self.enter_report(supply, unit, event)
     }
 
-    /// Writes the event of the report of a unit into a place.
+    /// Writes the event of the report of a unit into a slot.
     fn write_report(&mut self, unit: u32, event: &mut Event) -> Result<(), Fault>
         ensures report { spec.IsWritten «unit» result event.new (spec.device_turn_of self.old «unit»).report }
         ensures calls { self.new ≡ record self.old { devices = (spec.device_turn_of self.old «unit»).devices } }
@@ -311,7 +311,7 @@ impl<J: Naming> ScriptedMachine<J> {
         }
     }
 
-    /// The same, where no report stood in the place.
+    /// The same, where no report stood in the slot.
     #[cold]
     #[inline(never)]
     fn write_anew(&mut self, unit: u32, event: &mut Event) -> Result<(), Fault>
@@ -324,7 +324,7 @@ impl<J: Naming> ScriptedMachine<J> {
         came
     }
 
-    /// The report that is kept for a unit, else the one of its next work, written into a place.
+    /// The report that is kept for a unit, else the one of its next work, written into a slot.
     fn next_report(&mut self, unit: u32, report: &mut Report) -> Result<(), Fault>
         ensures report { spec.reported result report.new ≡ (spec.device_turn_of self.old «unit»).report }
         ensures calls { self.new ≡ record self.old { devices = (spec.device_turn_of self.old «unit»).devices } }
@@ -333,9 +333,14 @@ impl<J: Naming> ScriptedMachine<J> {
     }
 
     /// Hands in a report. It is kept where it is refused for want of memory or of room on a wire, and only there.
-    fn hand_in<M: Supply>(&mut self, supply: &mut M, unit: u32, event: &Event) -> Result<(), Fault>
+    fn enter_report<M: Supply>(
+        &mut self,
+        supply: &mut M,
+        unit: u32,
+        event: &Event,
+    ) -> Result<(), Fault>
         ensures handed { (report : report_spec.Report) → event.now ≡ event_spec.Report «unit» report →
-            HandsIn self.old «unit» report (answer_of result self.new.past.history) self.new }
+            EntersReport self.old «unit» report (answer_of result self.new.past.history) self.new }
         ensures given { result ≢ Err fault_spec.NoMemory → M.refused supply.new ≡ M.refused supply.old }
         ensures memory { result ≡ Err fault_spec.NoMemory → (M.refused supply.new ≡ true) ⊎ spec.IsUsedUp self.old.past }
     {
@@ -350,7 +355,7 @@ impl<J: Naming> ScriptedMachine<J> {
     }
 }
 
-/// The report that is kept among these for a unit, else the one of its next work, written into a place.
+/// The report that is kept among these for a unit, else the one of its next work, written into a slot.
 fn report_among<J: Naming>(
     core: &Core<J, Rotating>,
     devices: &mut Vec<AnyDevice>,

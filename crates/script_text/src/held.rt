@@ -8,7 +8,7 @@ use streams::Sink;
 /// How many bytes there is room for.
 const HELD_BYTES: usize = 640;
 
-/// Up to 640 bytes, in a place of their own. It fails where there are more: then it has a beginning of them. The number with which
+/// Up to 640 bytes, in a slot of their own. It fails where there are more: then it has a beginning of them. The number with which
 /// the last line began is kept.
 #[derive(Drop)]
 pub struct Held {

@@ -456,8 +456,8 @@ pub fn put_event_line<S: Sink>(
     put_event_line_at_once(sink, &mut Held::new(), line, outcome)
 }
 
-/// The same, through a place where the line waits until it is whole: it goes into the sink at once, where it is no
-/// longer than 640 bytes. What the place held before is forgotten.
+/// The same, through a slot where the line waits until it is whole: it goes into the sink at once, where it is no
+/// longer than 640 bytes. What the slot held before is forgotten.
 pub fn put_event_line_at_once<S: Sink>(
     sink: &mut S,
     held: &mut Held,

@@ -124,7 +124,7 @@ pub first-is : (words : List ℕ) (v : ℕ) → length words ≡ 3 → scsw_of_w
 first-is [] v h = absurd (omega (arith, h))
 first-is (a ∷ ws) v h = refl
 
-first-fits : (a v : ℕ) (ws : List ℕ) → ((place : ℕ) → slice_index (a ∷ ws) place < 2 ^ 32) → v < 2 ^ 32 → (place : ℕ) → slice_index (v ∷ ws) place < 2 ^ 32
+first-fits : (a v : ℕ) (ws : List ℕ) → ((index : ℕ) → slice_index (a ∷ ws) index < 2 ^ 32) → v < 2 ^ 32 → (index : ℕ) → slice_index (v ∷ ws) index < 2 ^ 32
 first-fits a v ws fit small zero = small
 first-fits a v ws fit small (suc k) = fit (suc k)
 
@@ -185,7 +185,7 @@ chosen-is keep old given b c y z fits h =
     ∙ ap (λ (d : DeferredCode). scsw_by flag (field_of w 0 3) (key-lt w) d y z) (chosen-code keep old given fits (code-parts (field_of keep 6 7) parts.1))
     ∙ chosen-key keep old given b c y z flag code fits (key-parts (field_of keep 0 3) parts.0)
 
-pub three-fit : (a b c : ℕ) → a < 2 ^ 32 → b < 2 ^ 32 → c < 2 ^ 32 → (place : ℕ) → slice_index (a ∷ b ∷ c ∷ []) place < 2 ^ 32
+pub three-fit : (a b c : ℕ) → a < 2 ^ 32 → b < 2 ^ 32 → c < 2 ^ 32 → (index : ℕ) → slice_index (a ∷ b ∷ c ∷ []) index < 2 ^ 32
 three-fit a b c x y z zero = x
 three-fit a b c x y z (suc zero) = y
 three-fit a b c x y z (suc (suc zero)) = z

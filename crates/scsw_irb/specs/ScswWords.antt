@@ -63,5 +63,5 @@ scsw_of_words words = scsw_of (slice_index words 0) (slice_index words 1) (slice
 -- three words of 32 bits, of which those bits are zero that are zero in each status word
 pub record AreScswWords (words : List ℕ) : Type 0 where
   pub three : length words ≡ 3
-  pub fit : (place : ℕ) → slice_index words place < 2 ^ 32
+  pub fit : (index : ℕ) → slice_index words index < 2 ^ 32
   pub reserved : IsScsw words

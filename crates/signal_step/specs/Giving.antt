@@ -2,7 +2,7 @@
 use Rattle.std.specs.Prelude.{◌≡◌, ◌<◌, ◌+◌, ℕ, Bool, true, false, not, nat_lt, is_some, if◌then◌else◌, Option, None, Some, List, length, Result, Ok, Err}
 use Rattle.storage_keys.specs.Storage.{Contents}
 use Rattle.chan_model.specs.declared.fault.Fault.{Fault}
-use Rattle.chan_model.specs.UnitTable.{UnitStep, path_of_place, unit_takes}
+use Rattle.chan_model.specs.UnitTable.{UnitStep, path_of_connection, unit_takes}
 use Rattle.chan_model.specs.declared.names.Side.{Side}
 use Rattle.chan_model.specs.Signals.{Down}
 use Rattle.chan_model.specs.declared.signal.Down.TheVariants as down
@@ -24,7 +24,7 @@ use Rattle.control_units.specs.Units.{may_serve}
 use Rattle.machine_model.specs.Sharing.{is_asked_for, may_take, members_asked}
 use Rattle.machine_model.specs.State.{State}
 use Rattle.machine_model.specs.Requests.{request_of}
-use Rattle.machine_model.specs.Turns.{Outcome, does, SubTurn, leaves, UpTurn, DownTurn, SharedTurn}
+use Rattle.machine_model.specs.Results.{Outcome, does, SubResult, leaves, UpResult, DownResult, SharedResult}
 use Rattle.machine_model.specs.UpSteps.{returns_at}
 
 -- where the outcome of an event is determined: its turn, or its refusal, which changed nothing
@@ -33,22 +33,22 @@ Gives old outcome (Ok r) new = outcome ≡ does r new
 Gives old outcome (Err f) new = (outcome ≡ Err f) × (new ≡ old)
 
 -- the same of one subchannel
-abbrev pub GivesSub : Subchannel → Result SubTurn Fault → Result Reply Fault → Subchannel → Type 0
+abbrev pub GivesSub : Subchannel → Result SubResult Fault → Result Reply Fault → Subchannel → Type 0
 GivesSub old outcome (Ok r) new = outcome ≡ Ok (leaves r new)
 GivesSub old outcome (Err f) new = (outcome ≡ Err f) × (new ≡ old)
 
 -- the same of one subchannel and its unit
-abbrev pub GivesBoth : Subchannel → UnitState → Result DownTurn Fault → Result Reply Fault → Subchannel → UnitState → Type 0
+abbrev pub GivesBoth : Subchannel → UnitState → Result DownResult Fault → Result Reply Fault → Subchannel → UnitState → Type 0
 GivesBoth old u outcome (Ok r) new v = outcome ≡ Ok (record { reply = r; sub = new; «unit» = v })
 GivesBoth old u outcome (Err f) new v = (outcome ≡ Err f) × ((new ≡ old) × (v ≡ u))
 
 -- the same of one subchannel, its unit, and what control units keep
-abbrev pub GivesShared : Subchannel → UnitState → List Member → Result SharedTurn Fault → Result Reply Fault → Subchannel → UnitState → List Member → Type 0
+abbrev pub GivesShared : Subchannel → UnitState → List Member → Result SharedResult Fault → Result Reply Fault → Subchannel → UnitState → List Member → Type 0
 GivesShared old u members outcome (Ok r) new v later = outcome ≡ Ok (record { turn = record { reply = r; sub = new; «unit» = v }; members = later })
 GivesShared old u members outcome (Err f) new v later = (outcome ≡ Err f) × ((new ≡ old) × ((v ≡ u) × (later ≡ members)))
 
 -- the same of one subchannel and of storage
-abbrev pub GivesStorage : Contents → Subchannel → Result UpTurn Fault → Result Reply Fault → Contents → Subchannel → Type 0
+abbrev pub GivesStorage : Contents → Subchannel → Result UpResult Fault → Result Reply Fault → Contents → Subchannel → Type 0
 GivesStorage before old outcome (Ok r) after new = outcome ≡ Ok (record { reply = r; sub = new; storage = after })
 GivesStorage before old outcome (Err f) after new = (outcome ≡ Err f) × ((new ≡ old) × (after ≡ before))
 
@@ -94,18 +94,18 @@ MayReturn subs sub path may = nat_lt path (length sub.setup.paths) ≡ true → 
 
 -- what the control units keep once one was asked, where it must be
 abbrev pub members_begun : List Member → ℕ → Bool → List Member
-members_begun members place asks = if asks then members_asked members place (may_serve members place) else members
+members_begun members index asks = if asks then members_asked members index (may_serve members index) else members
 
 -- a unit's step with a signal, its control unit being asked where it must be
 abbrev pub shared_step : List Member → ℕ → UnitState → Side → ℕ → Down → Option UnitStep
-shared_step members place u side path d = unit_takes u side path d (may_take members place (is_asked_for u side d))
+shared_step members index u side path d = unit_takes u side path d (may_take members index (is_asked_for u side d))
 
 -- the path of a program that is connected
 abbrev pub connected_path : Own → Option ℕ
 connected_path Idle = None
-connected_path (Owned side t place) = path_of_place place
+connected_path (Owned side t connection) = path_of_connection connection
 
 -- a program holds the device and is not connected
 abbrev pub is_without_path : Own → Bool
 is_without_path Idle = false
-is_without_path (Owned side t place) = not (is_some (path_of_place place))
+is_without_path (Owned side t connection) = not (is_some (path_of_connection connection))

@@ -7,7 +7,7 @@ ghost use Rattle.machine_model.specs.ActSteps as spec;
 ghost use Rattle.machine_model.specs.Bounds.{CanUnitCount};
 ghost use Rattle.machine_model.specs.ReportSteps as report_spec;
 ghost use Rattle.signal_step.specs.Giving as giving_spec;
-ghost use Rattle.subchannel_model.specs.Places as place_spec;
+ghost use Rattle.subchannel_model.specs.Indices as index_spec;
 ghost use Rattle.chan_events.specs.Replies.{plain_outcome};
 
 use crate::sending::{finds_up_full, send_any_up};
@@ -24,11 +24,11 @@ use functions::Subchannel;
 use lookup::tables::SubchannelIndex;
 use unit::Unit;
 
-/// The path of a place that has one: of a program that is connected.
-fn path_of_place(place: Connection) -> Option<Path>
-    ensures { result ≡ unit_spec.path_of_place place }
+/// The path of a connection that has one: of a program that is connected.
+fn path_of_connection(connection: Connection) -> Option<Path>
+    ensures { result ≡ unit_spec.path_of_connection connection }
 {
-    match place {
+    match connection {
         Connection::On { path, .. } => Some(path),
         _ => None,
     }
@@ -40,7 +40,7 @@ fn connected_path(own: Own) -> Option<Path>
 {
     match own {
         Own::Idle => None,
-        Own::Owned { place, .. } => path_of_place(place),
+        Own::Owned { connection, .. } => path_of_connection(connection),
     }
 }
 
@@ -51,7 +51,7 @@ fn is_without_path(own: Own) -> bool
     matches!(
         own,
         Own::Owned {
-            place: Connection::Ask { .. } | Connection::Away { .. },
+            connection: Connection::Ask { .. } | Connection::Away { .. },
             ..
         }
     )
@@ -176,31 +176,36 @@ pub fn side_of_act(unit: &Unit, act: UnitAct) -> Option<Side>
 
 /// Whether the subchannel of a side has a path of this index.
 fn has_path_at(
-    places: &SubchannelIndex,
+    connections: &SubchannelIndex,
     unit: usize,
     side: Side,
     path: u32,
     subs: &[Subchannel],
 ) -> bool
-    requires { Fits places.now subs.now }
-    ensures { result ≡ spec.has_path_at (place_spec.reached_sub «unit» side subs.now) path }
+    requires { Fits connections.now subs.now }
+    ensures { result ≡ spec.has_path_at (index_spec.reached_sub «unit» side subs.now) path }
 {
-    match reached_sub(places, unit, side, subs) {
+    match reached_sub(connections, unit, side, subs) {
         None => false,
         Some(sub) => (path as usize) < sub.state.setup().paths.as_slice().len(),
     }
 }
 
 /// Why an act of a program is refused where no program holds the device: a path to ask for must be one of some side.
-pub fn not_held(places: &SubchannelIndex, unit: usize, act: UnitAct, subs: &[Subchannel]) -> Fault
-    requires { Fits places.now subs.now }
+pub fn not_held(
+    connections: &SubchannelIndex,
+    unit: usize,
+    act: UnitAct,
+    subs: &[Subchannel],
+) -> Fault
+    requires { Fits connections.now subs.now }
     ensures { result ≡ spec.not_held subs.now «unit» act }
 {
     let UnitAct::Ask { path } = act else {
         return Fault::NotNow;
     };
-    if has_path_at(places, unit, Side::First, path, subs)
-        || has_path_at(places, unit, Side::Second, path, subs)
+    if has_path_at(connections, unit, Side::First, path, subs)
+        || has_path_at(connections, unit, Side::Second, path, subs)
     {
         Fault::NotNow
     } else {

@@ -2,7 +2,7 @@
 //! request that it posts; and what a turn of a channel path or of a unit comes to there.
 //!
 //! Used alone, this crate promises: each step answers and leaves what the machine's definitions give at that subchannel, or
-//! refuses it and changes nothing but the place of the answer. It takes no memory, and nothing is kept of what went before.
+//! refuses it and changes nothing but the slot of the answer. It takes no memory, and nothing is kept of what went before.
 #![tactic(auto)]
 
 pub mod acts;

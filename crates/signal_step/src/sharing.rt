@@ -101,13 +101,13 @@ pub fn take(
         (unit_spec.unit_after «unit».old (giving_spec.shared_step sharing.old number «unit».old side path (lent_down signal.now))) }
     ensures members { sharing.new ≡ spec.members_after sharing.old number (spec.is_asked_for «unit».old side (lent_down signal.now)) «unit».old
         (unit_spec.unit_after «unit».old (giving_spec.shared_step sharing.old number «unit».old side path (lent_down signal.now))) }
-    ensures came { map_taken plain_up result ≡ unit_spec.came_of (giving_spec.shared_step sharing.old number «unit».old side path (lent_down signal.now)) }
+    ensures outcome { map_taken plain_up result ≡ unit_spec.outcome_of (giving_spec.shared_step sharing.old number «unit».old side path (lent_down signal.now)) }
 {
     let may = may_take(sharing, number, unit, side, signal);
     let was_idle = unit.is_idle();
-    let came = unit.take(side, path, signal, may);
+    let outcome = unit.take(side, path, signal, may);
     end(sharing, number, unit, was_idle);
-    came
+    outcome
 }
 
 /// The unit is restarted.

@@ -41,8 +41,8 @@ fn engaged(subs: &Served<'_>) -> PathTable
 
 /// The same where the instruction asks for it, STORE CHANNEL PATH STATUS alone; else no channel path.
 pub fn engaged_for(subs: &Served<'_>, instruction: OtherInstruction) -> PathTable
-    ensures { (lent : LentWhole) (up : List Bool) (cpu : ℕ) → other_spec.other_turn lent up result cpu instruction
-        ≡ other_spec.other_turn lent up (other_spec.engaged_chpids subs.now 0x100) cpu instruction }
+    ensures { (lent : LentWhole) (up : List Bool) (cpu : ℕ) → other_spec.other_result lent up result cpu instruction
+        ≡ other_spec.other_result lent up (other_spec.engaged_chpids subs.now 0x100) cpu instruction }
 {
     match instruction {
         OtherInstruction::Stcps { .. } => engaged(subs),

@@ -7,7 +7,7 @@ ghost use Rattle.subchannel_model.specs.Sending as sending_spec;
 ghost use Rattle.machine_model.specs.UpSteps as up_spec;
 ghost use Rattle.machine_model.specs.DownSteps as down_spec;
 ghost use Rattle.machine_model.specs.ReportSteps as report_spec;
-ghost use Rattle.machine_model.specs.Turns as turn_spec;
+ghost use Rattle.machine_model.specs.Results as result_spec;
 ghost use Rattle.control_units.specs.declared.Member.{Member};
 ghost use Rattle.subchannel.specs.Answering as answering_spec;
 ghost use Rattle.chan_model.specs.Lent.{lent_down, lent_up};
@@ -72,7 +72,7 @@ fn chosen_finds_full(sub: &Subchannel, chosen: &Chosen) -> bool
 fn reset_on(sub: &mut Subchannel, number: u64, path: Path) -> PlainReply
     requires due { choosing_spec.IsFitFor (chosen_spec.Resets number path) sub.old.state.hold }
     requires room { giving_spec.HasRoomForChosen sub.old (chosen_spec.Resets number path) }
-    ensures gives { choose_spec.choose_sub sub.old (chosen_spec.Resets number path) ≡ Ok (turn_spec.leaves (reply_of result) sub.new) }
+    ensures gives { choose_spec.choose_sub sub.old (chosen_spec.Resets number path) ≡ Ok (result_spec.leaves (reply_of result) sub.new) }
     ensures setup { sub.new.setup ≡ sub.old.setup }
 {
     let available = sub.state.up();
@@ -85,7 +85,7 @@ fn reset_on(sub: &mut Subchannel, number: u64, path: Path) -> PlainReply
 #[inline(never)]
 fn halt_on(sub: &mut Subchannel, number: u64, path: Path) -> PlainReply
     requires { giving_spec.HasRoomForChosen sub.old (chosen_spec.Halts number path) }
-    ensures gives { choose_spec.choose_sub sub.old (chosen_spec.Halts number path) ≡ Ok (turn_spec.leaves (reply_of result) sub.new) }
+    ensures gives { choose_spec.choose_sub sub.old (chosen_spec.Halts number path) ≡ Ok (result_spec.leaves (reply_of result) sub.new) }
     ensures setup { sub.new.setup ≡ sub.old.setup }
 {
     let available = sub.state.up();
@@ -104,7 +104,7 @@ fn offer_on(sub: &mut Subchannel, candidate: Candidate, path: Path) -> PlainRepl
     requires drawn { sub.old.state.drawn < 2 ^ 63 }
     requires free { choosing_spec.IsFitFor (chosen_spec.Offers candidate path) sub.old.state.hold }
     requires room { giving_spec.HasRoomForChosen sub.old (chosen_spec.Offers candidate path) }
-    ensures gives { choose_spec.choose_sub sub.old (chosen_spec.Offers candidate path) ≡ Ok (turn_spec.leaves (reply_of result) sub.new) }
+    ensures gives { choose_spec.choose_sub sub.old (chosen_spec.Offers candidate path) ≡ Ok (result_spec.leaves (reply_of result) sub.new) }
     ensures setup { sub.new.setup ≡ sub.old.setup }
 {
     let available = sub.state.up();
@@ -121,7 +121,7 @@ fn offer_on(sub: &mut Subchannel, candidate: Candidate, path: Path) -> PlainRepl
 #[inline(never)]
 fn pend_sub(sub: &mut Subchannel, cause: &StatusCause) -> PlainReply
     requires { sub.old.state.serials.made < 2 ^ 63 }
-    ensures gives { choose_spec.pend_sub sub.old cause.now ≡ Ok (turn_spec.leaves (reply_of result) sub.new) }
+    ensures gives { choose_spec.pend_sub sub.old cause.now ≡ Ok (result_spec.leaves (reply_of result) sub.new) }
     ensures setup { sub.new.setup ≡ sub.old.setup }
 {
     make_pending(&mut sub.state, cause);
@@ -134,7 +134,7 @@ fn act_on_choice(sub: &mut Subchannel, chosen: Chosen) -> PlainReply
     requires made { sub.old.state.serials.made < 2 ^ 63 }
     requires fits { choosing_spec.IsFitFor chosen sub.old.state.hold }
     requires room { giving_spec.HasRoomForChosen sub.old chosen }
-    ensures gives { choose_spec.choose_sub sub.old chosen ≡ Ok (turn_spec.leaves (reply_of result) sub.new) }
+    ensures gives { choose_spec.choose_sub sub.old chosen ≡ Ok (result_spec.leaves (reply_of result) sub.new) }
     ensures setup { sub.new.setup ≡ sub.old.setup }
 {
     match chosen {
@@ -197,7 +197,7 @@ fn up_finds_full(
 ) -> bool
     requires { CanCount sub.now }
     ensures { giving_spec.TellsFull sub.now.wires.down (sending_spec.carried_by sub.now
-        (takes_up returns storage.now sub.now.state path (lent_up signal.now)).step.came.sent) result }
+        (takes_up returns storage.now sub.now.state path (lent_up signal.now)).step.outcome.sent) result }
 {
     answer_paths();
     if !answers_may_find_full(sub, path) {
@@ -242,7 +242,7 @@ fn may_come_up(storage: &Storage, sub: &Subchannel, path: Path, returns: bool) -
     ensures waits { OnOk result (0 < length (queue sub.now.wires.up path)) }
     ensures room { OnOk result ((signal : signals.Up) → first_of sub.now.wires.up path ≡ Some signal →
         giving_spec.TellsFull sub.now.wires.down (sending_spec.carried_by sub.now
-        (takes_up returns storage.now sub.now.state path signal).step.came.sent) false) }
+        (takes_up returns storage.now sub.now.state path signal).step.outcome.sent) false) }
     ensures refused { IfErr result (λ f. up_spec.up_sub returns storage.now sub.now path ≡ Err f) }
 {
     let Some(front) = sub.wires.front_up(path) else {
@@ -302,7 +302,7 @@ pub fn reached_unit(sub: &Subchannel) -> u16
 /// Whether the answer of a unit to a signal finds its wire full. What the control unit may do makes no difference.
 fn answer_finds_full(sub: &Subchannel, unit: &Unit, path: Path, signal: &LentDown<'_>) -> bool
     ensures { (may : Bool) → giving_spec.TellsFull sub.now.wires.up (sending_spec.carried_by sub.now
-        (unit_spec.came_of (unit_spec.unit_takes «unit».now sub.now.setup.side path (lent_down signal.now) may)).sent) result }
+        (unit_spec.outcome_of (unit_spec.unit_takes «unit».now sub.now.setup.side path (lent_down signal.now) may)).sent) result }
 {
     finds_up_full(sub, path) && unit.answers(reached_side(sub), signal)
 }
@@ -313,7 +313,7 @@ fn may_go_down(sub: &Subchannel, unit: &Unit, path: Path) -> Result<(), Fault>
     ensures waits { OnOk result (0 < length (queue sub.now.wires.down path)) }
     ensures room { OnOk result ((signal : signals.Down) (may : Bool) → first_of sub.now.wires.down path ≡ Some signal →
         giving_spec.TellsFull sub.now.wires.up (sending_spec.carried_by sub.now
-        (unit_spec.came_of (unit_spec.unit_takes «unit».now sub.now.setup.side path signal may)).sent) false) }
+        (unit_spec.outcome_of (unit_spec.unit_takes «unit».now sub.now.setup.side path signal may)).sent) false) }
     ensures refused { IfErr result (λ f. (members : List Member) → down_spec.down_shared members sub.now path «unit».now ≡ Err f) }
 {
     let Some(front) = sub.wires.front_down(path) else {
@@ -350,9 +350,9 @@ pub fn down_sub(
     let side = reached_side(sub);
     let number = reached_unit(sub);
     let front = first_down(&sub.wires, path);
-    let came = take(sharing, number, unit, side, path, &front);
-    let answer = lend_up(&came.sent);
-    log.meet_down(&front, came.taken, &answer);
+    let outcome = take(sharing, number, unit, side, path, &front);
+    let answer = lend_up(&outcome.sent);
+    log.meet_down(&front, outcome.taken, &answer);
     sub.wires.drop_down(path);
     send_any_up(sub, &answer);
     Ok(())
@@ -361,7 +361,7 @@ pub fn down_sub(
 /// Whether what comes of a report, whose path is this, finds its wire full.
 fn report_finds_full(sub: &Subchannel, path: &ReportPath) -> bool
     ensures { (step : Option UnitStep) → reports_spec.report_path step ≡ path.now →
-        giving_spec.TellsFull sub.now.wires.up (sending_spec.carried_by sub.now (unit_spec.came_of step).sent) result }
+        giving_spec.TellsFull sub.now.wires.up (sending_spec.carried_by sub.now (unit_spec.outcome_of step).sent) result }
 {
     match path {
         ReportPath::SentOn(path) => finds_up_full(sub, *path),
@@ -373,7 +373,7 @@ fn report_finds_full(sub: &Subchannel, path: &ReportPath) -> bool
 fn report_from(
     sub: &mut Subchannel,
     unit: &mut Unit,
-    place: &Connection,
+    connection: &Connection,
     report: &Report,
 ) -> Result<PlainReply, Fault>
     requires roomy { CanUnitCount «unit».old }
@@ -381,19 +381,19 @@ fn report_from(
     ensures engaged { engaged sub.new ≡ engaged sub.old }
     ensures state { sub.new.state ≡ sub.old.state }
     ensures gives { giving_spec.GivesBoth sub.old «unit».old (report_spec.report_taken sub.old
-        (reports_spec.report_on «unit».old report.now.number place.now «unit».old.at_hand report.now))
+        (reports_spec.report_on «unit».old report.now.number connection.now «unit».old.current report.now))
         (plain_outcome result) sub.new «unit».new }
 {
-    let path = unit.path_from(place, report);
+    let path = unit.path_from(connection, report);
     if let ReportPath::Refused = path {
         return Err(Fault::NotNow);
     }
     if report_finds_full(sub, &path) {
         return Err(Fault::WireFull);
     }
-    let reported = unit.report_from(place, report);
-    let came = unit.lend(&reported);
-    send_any_up(sub, &came.sent);
+    let reported = unit.report_from(connection, report);
+    let outcome = unit.lend(&reported);
+    send_any_up(sub, &outcome.sent);
     Ok(Reply::Done)
 }
 
@@ -411,6 +411,6 @@ pub fn report_sub(
 {
     match unit.reporting(report) {
         None => Err(Fault::NotNow),
-        Some(place) => report_from(sub, unit, &place, report),
+        Some(connection) => report_from(sub, unit, &connection, report),
     }
 }

@@ -5,7 +5,7 @@ ghost use Rattle.chan_model.specs.PathSets as set_spec;
 ghost use Rattle.chan_model.specs.UnitReports as report_spec;
 ghost use Rattle.chan_model.specs.declared.names.Side.TheVariants.{Second};
 ghost use Rattle.machine_model.specs.State as state_spec;
-ghost use Rattle.subchannel_model.specs.Places as place_spec;
+ghost use Rattle.subchannel_model.specs.Indices as index_spec;
 ghost use Rattle.subchannel_model.specs.Store as store_spec;
 ghost use Rattle.machine_model.specs.State.{State};
 ghost use Rattle.machine_model.specs.UnitTurns.{lent_turn};
@@ -60,17 +60,17 @@ fn signal_path(wires: &Wires) -> Option<u32>
 
 /// The subchannel that reaches this side of a unit.
 pub fn reached_sub<'a>(
-    places: &SubchannelIndex,
+    indices: &SubchannelIndex,
     unit: usize,
     side: Side,
     subs: &'a [Subchannel],
 ) -> Option<&'a Subchannel>
-    requires { Fits places.now subs.now }
-    ensures { MatchOption result (place_spec.reached_sub «unit» side subs.now ≡ None)
-        (λ sub. place_spec.reached_sub «unit» side subs.now ≡ Some sub.now) }
+    requires { Fits indices.now subs.now }
+    ensures { MatchOption result (index_spec.reached_sub «unit» side subs.now ≡ None)
+        (λ sub. index_spec.reached_sub «unit» side subs.now ≡ Some sub.now) }
 {
-    let place = places.reached_in(unit, side, subs)?;
-    subs.get(place)
+    let index = indices.reached_in(unit, side, subs)?;
+    subs.get(index)
 }
 
 /// The subchannel and the path of a signal that waits for a unit.
@@ -82,16 +82,16 @@ struct Waiting {
 
 /// The signal that waits for a side of a unit.
 fn taken_from(
-    places: &SubchannelIndex,
+    indices: &SubchannelIndex,
     unit: usize,
     side: Side,
     subs: &[Subchannel],
 ) -> Option<Waiting>
-    requires { Fits places.now subs.now }
-    ensures { MatchOption result (state_spec.takes_from (place_spec.reached_sub «unit» side subs.now) ≡ None)
-        (λ w. state_spec.takes_from (place_spec.reached_sub «unit» side subs.now) ≡ Some (turn.Takes w.subchannel w.path)) }
+    requires { Fits indices.now subs.now }
+    ensures { MatchOption result (state_spec.takes_from (index_spec.reached_sub «unit» side subs.now) ≡ None)
+        (λ w. state_spec.takes_from (index_spec.reached_sub «unit» side subs.now) ≡ Some (turn.Takes w.subchannel w.path)) }
 {
-    let sub = reached_sub(places, unit, side, subs)?;
+    let sub = reached_sub(indices, unit, side, subs)?;
     let path = signal_path(&sub.wires)?;
     Some(Waiting {
         subchannel: sub.state.setup().id,
@@ -116,36 +116,36 @@ fn available_paths(sub: &Subchannel) -> PathSet
 
 /// The path that a program of this side may ask for, whose last connection had this number.
 fn away_path(
-    places: &SubchannelIndex,
+    indices: &SubchannelIndex,
     unit: usize,
     side: Side,
     connection: u64,
     subs: &[Subchannel],
 ) -> Option<u32>
-    requires { Fits places.now subs.now }
-    ensures { result ≡ state_spec.away_path (place_spec.reached_sub «unit» side subs.now) connection }
+    requires { Fits indices.now subs.now }
+    ensures { result ≡ state_spec.away_path (index_spec.reached_sub «unit» side subs.now) connection }
 {
-    let sub = reached_sub(places, unit, side, subs)?;
+    let sub = reached_sub(indices, unit, side, subs)?;
     cyclic_path(&available_paths(sub), connection)
 }
 
 /// What a unit without a signal and without work is to do.
 fn turn_of_own(
-    places: &SubchannelIndex,
+    indices: &SubchannelIndex,
     unit: usize,
     own: Own,
     subs: &[Subchannel],
 ) -> UnitTurn<LentWork<'static>>
-    requires { Fits places.now subs.now }
+    requires { Fits indices.now subs.now }
     ensures { lent_turn result ≡ state_spec.turn_of_own subs.now «unit» own }
 {
     match own {
         Own::Owned {
             side,
-            place: Connection::Away { connection },
+            connection: Connection::Away { connection },
             ..
         } => UnitTurn::Away {
-            path: away_path(places, unit, side, connection, subs),
+            path: away_path(indices, unit, side, connection, subs),
         },
         _ => UnitTurn::Rests,
     }
@@ -153,52 +153,52 @@ fn turn_of_own(
 
 /// What a unit without a signal is to do: what its program asks for; else its program may ask for a path.
 fn turn_of_work<'a>(
-    places: &SubchannelIndex,
+    indices: &SubchannelIndex,
     number: usize,
     unit: &'a Unit,
     subs: &[Subchannel],
 ) -> UnitTurn<LentWork<'a>>
-    requires { Fits places.now subs.now }
+    requires { Fits indices.now subs.now }
     ensures { (s : State) → s.subs ≡ subs.now → lent_turn result ≡
         state_spec.turn_by_work s number «unit».now (report_spec.unit_work «unit».now) }
 {
     match unit.lent_work() {
         Some(work) => UnitTurn::Works(work),
-        None => turn_of_own(places, number, unit.own(), subs),
+        None => turn_of_own(indices, number, unit.own(), subs),
     }
 }
 
 /// What a unit without a signal for its first side is to do: it takes the one for its second side; else what its program asks for.
 fn turn_of_second<'a>(
-    places: &SubchannelIndex,
+    indices: &SubchannelIndex,
     number: usize,
     unit: &'a Unit,
     subs: &[Subchannel],
 ) -> UnitTurn<LentWork<'a>>
-    requires { Fits places.now subs.now }
+    requires { Fits indices.now subs.now }
     ensures { (s : State) → s.subs ≡ subs.now → lent_turn result ≡
-        state_spec.turn_or (state_spec.takes_from (place_spec.reached_sub number Second s.subs))
+        state_spec.turn_or (state_spec.takes_from (index_spec.reached_sub number Second s.subs))
         (state_spec.turn_by_work s number «unit».now (report_spec.unit_work «unit».now)) }
 {
-    match taken_from(places, number, Side::Second, subs) {
+    match taken_from(indices, number, Side::Second, subs) {
         Some(Waiting { subchannel, path }) => UnitTurn::Takes { subchannel, path },
-        None => turn_of_work(places, number, unit, subs),
+        None => turn_of_work(indices, number, unit, subs),
     }
 }
 
 /// What a unit is to do next: it takes the signal that waits, of its first side before its second; else does what its
 /// program asks for; else its program may ask for a path. The bytes that are to be absorbed are lent.
 pub fn turn_of_unit<'a>(
-    places: &SubchannelIndex,
+    indices: &SubchannelIndex,
     number: usize,
     unit: &'a Unit,
     subs: &[Subchannel],
 ) -> UnitTurn<LentWork<'a>>
-    requires { Fits places.now subs.now }
+    requires { Fits indices.now subs.now }
     ensures { (s : State) → s.subs ≡ subs.now → state_spec.turn_of_unit s number (Some «unit».now) ≡ Some (lent_turn result) }
 {
-    match taken_from(places, number, Side::First, subs) {
+    match taken_from(indices, number, Side::First, subs) {
         Some(Waiting { subchannel, path }) => UnitTurn::Takes { subchannel, path },
-        None => turn_of_second(places, number, unit, subs),
+        None => turn_of_second(indices, number, unit, subs),
     }
 }

@@ -39,7 +39,7 @@ use Rattle.interruptions.specs.Requests as requests
 use Rattle.interruptions.specs.Requests.{WaitingRequests}
 use Rattle.scsw_irb.specs.declared.code.IntCode.{IntCode}
 use Rattle.machine_model.specs.State.{State, sub_of}
-use Rattle.machine_model.specs.Turns.{UpTurn}
+use Rattle.machine_model.specs.Results.{UpResult}
 use Rattle.chan_events.specs.Instructions.{subchannel_word}
 use Rattle.machine_model.specs.UpSteps.{returns_at, up_front, up_sub}
 use Rattle.machine_model.specs.DownSteps.{asks_at}
@@ -48,8 +48,8 @@ use Rattle.machine_model.specs.Steps.{Step}
 use Rattle.machine_model.specs.Sharing.{is_let_go, members_asked, members_over, members_after}
 use Rattle.machine_model.specs.Setups.{group_of}
 use Rattle.machine_model.specs.OtherSteps.{code_stored}
-use Rattle.step_laws.proofs.Turns as turn
-use Rattle.step_laws.proofs.Turns.{TurnOf, HasTurn, step-turn}
+use Rattle.step_laws.proofs.Results as turn
+use Rattle.step_laws.proofs.Results.{ResultOf, HasResult, step-turn}
 
 -- storage of so many blocks
 abbrev IsOf : ℕ → Contents → Type 0
@@ -130,14 +130,14 @@ met-of n returns storage s p (up.Cleared r) k = k
 met-of n returns storage s p (up.Notice b) k = k
 met-of n returns storage s p (up.Attn a status) k = k
 
-abbrev UpOf : ℕ → Result UpTurn Fault → Type 0
+abbrev UpOf : ℕ → Result UpResult Fault → Type 0
 UpOf n r = IfOk r (λ t. IsOf n t.storage)
 
 front-of : (n : ℕ) (returns : Bool) (storage : Contents) (sub : Subchannel) (path : ℕ) (front : Option Up) → IsOf n storage →
     UpOf n (up_front returns storage sub path front)
 front-of n returns storage sub path None k = tt
 front-of n returns storage sub path (Some signal) k =
-    either (UpOf n) (finds_full sub.wires.down (carried_by sub (takes_up returns storage sub.state path signal).step.came.sent)) _ _ tt
+    either (UpOf n) (finds_full sub.wires.down (carried_by sub (takes_up returns storage sub.state path signal).step.outcome.sent)) _ _ tt
     (met-of n returns storage sub.state path signal k)
 
 up-of : (n : ℕ) (returns : Bool) (storage : Contents) (sub : Subchannel) (path : ℕ) → IsOf n storage → UpOf n (up_sub returns storage sub path)
@@ -146,41 +146,41 @@ up-of n returns storage sub path k =
     (front-of n returns storage sub path (slice_get (queue sub.wires.up path) 0) k) tt
 
 -- the groups of units stay as what control units keep changes
-set-groups : (members : List Member) (place : ℕ) (m new : Member) → slice_get members place ≡ Some m → new.group ≡ m.group →
-    map group_of (slice_set members place new) ≡ map group_of members
-set-groups [] place m new e k = refl
+set-groups : (members : List Member) (index : ℕ) (m new : Member) → slice_get members index ≡ Some m → new.group ≡ m.group →
+    map group_of (slice_set members index new) ≡ map group_of members
+set-groups [] index m new e k = refl
 set-groups (x ∷ xs) zero m new e k = let same : x ≡ m = cc e in ap (λ (g : ℕ). g ∷ map group_of xs) (k ∙ sym (ap group_of same))
-set-groups (x ∷ xs) (suc place) m new e k = ap (λ (gs : List ℕ). x.group ∷ gs) (set-groups xs place m new e k)
+set-groups (x ∷ xs) (suc index) m new e k = ap (λ (gs : List ℕ). x.group ∷ gs) (set-groups xs index m new e k)
 
-begun-groups : (members : List Member) (place : ℕ) (q : Option Member) → slice_get members place ≡ q → map group_of (begun_at members place q) ≡ map group_of members
-begun-groups members place None e = refl
-begun-groups members place (Some m) e = set-groups members place m (record m { begun = true }) e refl
+begun-groups : (members : List Member) (index : ℕ) (q : Option Member) → slice_get members index ≡ q → map group_of (begun_at members index q) ≡ map group_of members
+begun-groups members index None e = refl
+begun-groups members index (Some m) e = set-groups members index m (record m { begun = true }) e refl
 
-refused-groups : (members : List Member) (place : ℕ) (q : Option Member) → slice_get members place ≡ q → map group_of (refused_at members place q) ≡ map group_of members
-refused-groups members place None e = refl
-refused-groups members place (Some m) e = set-groups members place m (record m { refused = true }) e refl
+refused-groups : (members : List Member) (index : ℕ) (q : Option Member) → slice_get members index ≡ q → map group_of (refused_at members index q) ≡ map group_of members
+refused-groups members index None e = refl
+refused-groups members index (Some m) e = set-groups members index m (record m { refused = true }) e refl
 
 told-groups : (group : ℕ) (members : List Member) → map group_of (map (member_told group) members) ≡ map group_of members
 told-groups group [] = refl
 told-groups group (m ∷ ms) =
     ap (λ (g : ℕ). g ∷ map group_of (map (member_told group) ms)) (either (λ (x : Member). x.group ≡ m.group) (m.group == group) (record m { refused = false }) m refl refl) ∙ ap (λ (gs : List ℕ). m.group ∷ gs) (told-groups group ms)
 
-ended-groups : (members : List Member) (place : ℕ) (q : Option Member) → slice_get members place ≡ q → map group_of (over_at members place q) ≡ map group_of members
-ended-groups members place None e = refl
-ended-groups members place (Some m) e =
-    told-groups m.group (slice_set members place (record m { begun = false })) ∙ set-groups members place m (record m { begun = false }) e refl
+ended-groups : (members : List Member) (index : ℕ) (q : Option Member) → slice_get members index ≡ q → map group_of (over_at members index q) ≡ map group_of members
+ended-groups members index None e = refl
+ended-groups members index (Some m) e =
+    told-groups m.group (slice_set members index (record m { begun = false })) ∙ set-groups members index m (record m { begun = false }) e refl
 
-over-groups : (members : List Member) (place : ℕ) (ends : Bool) → map group_of (members_over members place ends) ≡ map group_of members
-over-groups members place true = ended-groups members place (slice_get members place) refl
-over-groups members place false = refl
+over-groups : (members : List Member) (index : ℕ) (ends : Bool) → map group_of (members_over members index ends) ≡ map group_of members
+over-groups members index true = ended-groups members index (slice_get members index) refl
+over-groups members index false = refl
 
-asked-groups : (members : List Member) (place : ℕ) (may : Bool) → map group_of (members_asked members place may) ≡ map group_of members
-asked-groups members place true = begun-groups members place (slice_get members place) refl
-asked-groups members place false = refused-groups members place (slice_get members place) refl
+asked-groups : (members : List Member) (index : ℕ) (may : Bool) → map group_of (members_asked members index may) ≡ map group_of members
+asked-groups members index true = begun-groups members index (slice_get members index) refl
+asked-groups members index false = refused-groups members index (slice_get members index) refl
 
-after-groups : (members : List Member) (place : ℕ) (asks : Bool) (old new : UnitState) → map group_of (members_after members place asks old new) ≡ map group_of members
-after-groups members place true old new = asked-groups members place (may_serve members place)
-after-groups members place false old new = over-groups members place (is_let_go old new)
+after-groups : (members : List Member) (index : ℕ) (asks : Bool) (old new : UnitState) → map group_of (members_after members index asks old new) ≡ map group_of members
+after-groups members index true old new = asked-groups members index (may_serve members index)
+after-groups members index false old new = over-groups members index (is_let_go old new)
 
 -- an operator's acts
 made-of : (n : ℕ) (r : Result Contents StorageFault) (storage : Contents) → AreOf n r → r ≡ Ok storage → IsOf n storage
@@ -209,16 +209,16 @@ answer-room : (waiting : WaitingRequests) (found : Option IntCode) → (requests
 answer-room waiting None = refl
 answer-room waiting (Some code) = refl
 
-turn-as : (s : State) (e : Event) (r : Reply) (new : State) → TurnOf s e r new → IsAs s new
+turn-as : (s : State) (e : Event) (r : Reply) (new : State) → ResultOf s e r new → IsAs s new
 turn-as s _ _ _ (turn.Puts address bytes storage e) = (put-of s.storage storage address bytes e, refl, refl, refl)
 turn-as s _ _ _ (turn.SetsKey address key storage e) = (key-of s.storage storage address key e, refl, refl, refl)
 turn-as s _ _ _ (turn.SetsPrefix cpu address storage e) = (cpu_prefix-of s.storage storage cpu address e, refl, refl, refl)
 turn-as s _ _ _ (turn.Executes cpu i id q r storage subs n e blocks left done) = (blocks, refl, refl, refl)
 turn-as s _ _ _ (turn.Interrupts cpu mask address) = (code-of s.storage cpu address _, refl, refl, answer-room s.requests (requests.answer s.requests mask))
-turn-as s _ _ _ (turn.Meets word path place sub t named there ok) =
+turn-as s _ _ _ (turn.Meets word path index sub t named there ok) =
     let n : ℕ = length s.storage.keys in
     (subst (UpOf n) ok (up-of n (returns_at s.subs sub path) s.storage sub path refl), refl, refl, refl)
-turn-as s _ _ _ (turn.Takes word path place sub u t named there found ok) =
+turn-as s _ _ _ (turn.Takes word path index sub u t named there found ok) =
     (refl, refl, after-groups s.members sub.setup.«unit» (asks_at sub path u) u t.«unit», refl)
 turn-as s _ _ _ (turn.Restarts at u found) = (refl, refl, over-groups s.members at (is_let_go u (restarted u)), refl)
 turn-as s _ _ _ t = (refl, refl, refl, refl)
@@ -245,7 +245,7 @@ dropped-room s e r waiting = refl
 
 step-as : (s : State) (e : Event) (r : Reply) (new : State) → Step s e r new → IsAs s new
 step-as s e r new step =
-    let is : HasTurn s e r new = step-turn s e r new step in
+    let is : HasResult s e r new = step-turn s e r new step in
     let k : IsAs s is.left = turn-as s e r is.left is.turn in
     subst (IsAs s) (sym is.settles)
     (k.0, k.1, k.2, posted_all-room s.subs is.left.subs (requests_dropped s e r is.left.requests) ∙ (dropped-room s e r is.left.requests ∙ k.3))

@@ -20,17 +20,17 @@ use Rattle.subchannel_model.specs.Conditions.{condition_of, left_by}
 use Rattle.subchannel_model.specs.Enable.{enabling, enabling_schib}
 use Rattle.subchannel_model.specs.Halt.{halted}
 use Rattle.subchannel_model.specs.Modify.{msch_code, modified_state}
-use Rattle.subchannel_model.specs.Places.{Found, found_at}
+use Rattle.subchannel_model.specs.Indices.{Found, found_at}
 use Rattle.subchannel_model.specs.Resume.{resumed}
 use Rattle.subchannel_model.specs.Start.{started}
 use Rattle.subchannel_model.specs.Store.{pmcw_of, schib_of}
 use Rattle.subchannel_model.specs.Test.{tsch_code, tested_wholly}
 use Rattle.machine_model.specs.State.{State}
-use Rattle.machine_model.specs.Turns.{Outcome, with_state}
+use Rattle.machine_model.specs.Results.{Outcome, with_state}
 use Rattle.machine_model.specs.InstructionSteps.{code_at, function_at, stores_irb, with_irb, with_schib, with_enabling, test_sub, Modifies_by, Enables_with, Executes_at, PerformsStart, performs_test, performs_store, PerformsModify, PerformsEnable}
 use Rattle.interruptions.specs.Requests.{WaitingRequests}
 use Rattle.step_laws.specs.Codes.{code_by}
-use Rattle.step_laws.proofs.Places.{found-there}
+use Rattle.step_laws.proofs.Indices.{found-there}
 
 -- the effect of an instruction with code 0
 abbrev pub IsEffect : Instruction → Subchannel → SubchannelState → Type 0
@@ -61,7 +61,7 @@ pub record IsLeft (s : State) (i : Instruction) (r : Reply) (new : State) (f : F
   pub effect : SubchannelState
   pub is : IsEffect i f.sub effect
   pub replies : r ≡ reply_of i (code_for i f.sub) f.sub.state (state_left i f.sub effect)
-  pub subs : new.subs ≡ slice_set s.subs f.place (with_state f.sub (state_left i f.sub effect))
+  pub subs : new.subs ≡ slice_set s.subs f.index (with_state f.sub (state_left i f.sub effect))
 
 -- where no subchannel is found, nothing is left of any
 abbrev pub absent_reply : Instruction → Reply
@@ -131,14 +131,14 @@ module _ (s : State) where
       ]
 
   test-left : (word address : ℕ) (f : Found) (c : ConditionCode) (new : State) → code_for (instruction.Tsch word address) f.sub ≡ c →
-      new.subs ≡ slice_set s.subs f.place (with_state f.sub (left_by c f.sub.state (tested_wholly f.sub.state))) →
+      new.subs ≡ slice_set s.subs f.index (with_state f.sub (left_by c f.sub.state (tested_wholly f.sub.state))) →
       IsLeft s (instruction.Tsch word address) (reply_of (instruction.Tsch word address) c f.sub.state (left_by c f.sub.state (tested_wholly f.sub.state))) new f
   test-left word address f c new e same = record {
     effect = tested_wholly f.sub.state;
     is = refl;
     replies =
         ap (λ (x : ConditionCode). reply_of (instruction.Tsch word address) x f.sub.state (left_by x f.sub.state (tested_wholly f.sub.state))) (sym e);
-    subs = same ∙ ap (λ (x : ConditionCode). slice_set s.subs f.place (with_state f.sub (left_by x f.sub.state (tested_wholly f.sub.state)))) (sym e);
+    subs = same ∙ ap (λ (x : ConditionCode). slice_set s.subs f.index (with_state f.sub (left_by x f.sub.state (tested_wholly f.sub.state)))) (sym e);
   }
 
   test-stored : (cpu word address : ℕ) (f : Found) (c : ConditionCode) → code_for (instruction.Tsch word address) f.sub ≡ c →
@@ -165,7 +165,7 @@ module _ (s : State) where
     own = refl;
     blocks = refl;
     storage = refl;
-    done = record { effect = f.sub.state; is = refl; replies = refl; subs = sym (set-same s.subs f.place f.sub (found-there s.subs p f e).1) };
+    done = record { effect = f.sub.state; is = refl; replies = refl; subs = sym (set-same s.subs f.index f.sub (found-there s.subs p f e).1) };
   }
 
   modified-done : (cpu : ℕ) (i : Instruction) (q : Option Found) (storage : Contents) (image : List ℕ) (o : Outcome) →

@@ -1,7 +1,7 @@
 pub mod Executed
-pub mod Turns
+pub mod Results
 mod Walk
 mod Suiting
-pub mod Places
+pub mod Indices
 pub mod Marks
 mod Blocks

@@ -5,8 +5,8 @@ use Rattle.chan_events.specs.Replies.{Reply}
 use Rattle.interruptions.specs.Requests.{WaitingRequests}
 use Rattle.chan_model.specs.declared.names.Side.{Side}
 use Rattle.chan_model.specs.UnitTable.{restarted}
-use Rattle.subchannel_model.specs.Places.{reaches, Found, found_at, place_in, place_of_id}
-use Rattle.machine_model.specs.State.{State, place_of}
+use Rattle.subchannel_model.specs.Indices.{reaches, Found, found_at, index_in, index_of_id}
+use Rattle.machine_model.specs.State.{State, index_of}
 use Rattle.machine_model.specs.UpSteps.{returns_at}
 use Rattle.machine_model.specs.DownSteps.{asks_at}
 use Rattle.machine_model.specs.Sharing.{may_take, is_owed_after}
@@ -14,10 +14,10 @@ use Rattle.machine_model.specs.Steps.{Step}
 use Rattle.machine_model.specs.declared.state.Sweep.TheVariants as sweep
 use Rattle.step_laws.specs.Walks as walked
 use Rattle.step_laws.specs.Walks.{Walked, OneSub, IsExecuted, IsQuiet, is_start, Resumes, Halts, Clears, Cancels}
-use Rattle.step_laws.proofs.Turns as turn
-use Rattle.step_laws.proofs.Turns.{TurnOf, HasTurn, step-turn}
+use Rattle.step_laws.proofs.Results as turn
+use Rattle.step_laws.proofs.Results.{ResultOf, HasResult, step-turn}
 use Rattle.step_laws.proofs.Suiting.{chosen-suits}
-use Rattle.step_laws.proofs.Places.{first-passes, reached-there, found-there}
+use Rattle.step_laws.proofs.Indices.{first-passes, reached-there, found-there}
 use Rattle.std.specs.Prelude.{slice_get, slice_set}
 use Rattle.orb_block.specs.declared.Orb.{Orb}
 use Rattle.chan_events.specs.declared.event.Event.TheVariants as event
@@ -30,7 +30,7 @@ use Rattle.subchannel_model.specs.Enable.{enabling}
 use Rattle.subchannel_model.specs.Start.{started}
 use Rattle.subchannel_model.specs.Store.{pmcw_of}
 use Rattle.chan_events.specs.Instructions.{subchannel_word}
-use Rattle.machine_model.specs.Turns.{with_state}
+use Rattle.machine_model.specs.Results.{with_state}
 use Rattle.step_laws.proofs.Executed.{IsDone, IsLeft, absent_reply, code_for, reply_of, state_left, set-same}
 
 module _ (s : State) where
@@ -40,12 +40,12 @@ module _ (s : State) where
 
   -- the effect is this one
   one-left : (i : Instruction) (r : Reply) (new : State) (f : Found) (x : SubchannelState) (k : IsLeft s i r new f) → k.effect ≡ x →
-      slice_get s.subs f.place ≡ Some f.sub → new.sets ≡ s.sets → new.up ≡ s.up → new.units ≡ s.units → OneSub s new f.place f.sub (with_state f.sub (state_left i f.sub x))
+      slice_get s.subs f.index ≡ Some f.sub → new.sets ≡ s.sets → new.up ≡ s.up → new.units ≡ s.units → OneSub s new f.index f.sub (with_state f.sub (state_left i f.sub x))
   one-left i r new f x k is there sets up units = record {
     there = there;
     sets = sets;
     up = up;
-    subs = k.subs ∙ ap (λ (y : SubchannelState). slice_set s.subs f.place (with_state f.sub (state_left i f.sub y))) is;
+    subs = k.subs ∙ ap (λ (y : SubchannelState). slice_set s.subs f.index (with_state f.sub (state_left i f.sub y))) is;
     units = units;
   }
 
@@ -53,67 +53,67 @@ module _ (s : State) where
       r ≡ reply_of i (code_for i f.sub) f.sub.state (state_left i f.sub x)
   replied i r new f x k is = k.replies ∙ ap (λ (y : SubchannelState). reply_of i (code_for i f.sub) f.sub.state (state_left i f.sub y)) is
 
-  at-word : (cpu word place : ℕ) (i : ℕ → Instruction) → place_of s word ≡ Some place → IsExecuted s (event.Execute cpu (i word)) place i
-  at-word cpu word place i n = record { cpu = cpu; word = word; event = refl; at = n }
+  at-word : (cpu word index : ℕ) (i : ℕ → Instruction) → index_of s word ≡ Some index → IsExecuted s (event.Execute cpu (i word)) index i
+  at-word cpu word index i n = record { cpu = cpu; word = word; event = refl; at = n }
 
-  left-walks : (cpu : ℕ) (i : Instruction) (f : Found) (r : Reply) (new : State) → place_of s (subchannel_word i) ≡ Some f.place → slice_get s.subs f.place ≡ Some f.sub →
+  left-walks : (cpu : ℕ) (i : Instruction) (f : Found) (r : Reply) (new : State) → index_of s (subchannel_word i) ≡ Some f.index → slice_get s.subs f.index ≡ Some f.sub →
       new.sets ≡ s.sets → new.up ≡ s.up → new.units ≡ s.units → IsLeft s i r new f → Walked s (event.Execute cpu i) r new
   left-walks cpu (instruction.Ssch word address) f r new n there sets up units k =
       let i : Instruction = instruction.Ssch word address in
       let orb : Orb = k.is.0 in
       subst (λ (x : Reply). Walked s (event.Execute cpu i) x new) (sym (replied i r new f (started f.sub.state orb) k k.is.1))
-      (walked.Started cpu word address f.place f.sub orb (code_for i f.sub) new n (one-left i r new f (started f.sub.state orb) k k.is.1 there sets up units))
+      (walked.Started cpu word address f.index f.sub orb (code_for i f.sub) new n (one-left i r new f (started f.sub.state orb) k k.is.1 there sets up units))
   left-walks cpu (instruction.Tsch word address) f r new n there sets up units k =
       let i : Instruction = instruction.Tsch word address in
-      walked.Tested (event.Execute cpu i) r f.place f.sub (code_for i f.sub) new tt (one-left i r new f _ k k.is there sets up units) address
-      (at-word cpu word f.place (λ w. instruction.Tsch w address) n) (replied i r new f _ k k.is)
+      walked.Tested (event.Execute cpu i) r f.index f.sub (code_for i f.sub) new tt (one-left i r new f _ k k.is there sets up units) address
+      (at-word cpu word f.index (λ w. instruction.Tsch w address) n) (replied i r new f _ k k.is)
   left-walks cpu (instruction.Stsch word address) f r new n there sets up units k =
       let i : Instruction = instruction.Stsch word address in
-      walked.Stays _ _ _ tt sets ((one-left i r new f f.sub.state k k.is there sets up units).subs ∙ set-same s.subs f.place f.sub there) units up
+      walked.Stays _ _ _ tt sets ((one-left i r new f f.sub.state k k.is there sets up units).subs ∙ set-same s.subs f.index f.sub there) units up
   left-walks cpu (instruction.Msch word address) f r new n there sets up units k =
       let i : Instruction = instruction.Msch word address in
-      walked.Modified _ _ f.place f.sub k.is.0 (code_for i f.sub) _ tt (one-left i r new f _ k k.is.1 there sets up units)
+      walked.Modified _ _ f.index f.sub k.is.0 (code_for i f.sub) _ tt (one-left i r new f _ k k.is.1 there sets up units)
   left-walks cpu (instruction.Enable word subclass multipath) f r new n there sets up units k =
       let i : Instruction = instruction.Enable word subclass multipath in
-      walked.Modified _ _ f.place f.sub (enabling (pmcw_of f.sub) subclass multipath) (code_for i f.sub) _ tt (one-left i r new f _ k k.is there sets up units)
+      walked.Modified _ _ f.index f.sub (enabling (pmcw_of f.sub) subclass multipath) (code_for i f.sub) _ tt (one-left i r new f _ k k.is there sets up units)
   left-walks cpu (instruction.Rsch word) f r new n there sets up units k =
       let i : Instruction = instruction.Rsch word in
-      walked.Performed _ _ f.place f.sub Resumes (code_for i f.sub) _ tt (one-left i r new f _ k k.is there sets up units) (at-word cpu word f.place _ n) (replied i r new f _ k k.is)
+      walked.Performed _ _ f.index f.sub Resumes (code_for i f.sub) _ tt (one-left i r new f _ k k.is there sets up units) (at-word cpu word f.index _ n) (replied i r new f _ k k.is)
   left-walks cpu (instruction.Hsch word) f r new n there sets up units k =
       let i : Instruction = instruction.Hsch word in
-      walked.Performed _ _ f.place f.sub Halts (code_for i f.sub) _ tt (one-left i r new f _ k k.is there sets up units) (at-word cpu word f.place _ n) (replied i r new f _ k k.is)
+      walked.Performed _ _ f.index f.sub Halts (code_for i f.sub) _ tt (one-left i r new f _ k k.is there sets up units) (at-word cpu word f.index _ n) (replied i r new f _ k k.is)
   left-walks cpu (instruction.Csch word) f r new n there sets up units k =
       let i : Instruction = instruction.Csch word in
-      walked.Performed _ _ f.place f.sub Clears (code_for i f.sub) _ tt (one-left i r new f _ k k.is there sets up units) (at-word cpu word f.place _ n) (replied i r new f _ k k.is)
+      walked.Performed _ _ f.index f.sub Clears (code_for i f.sub) _ tt (one-left i r new f _ k k.is there sets up units) (at-word cpu word f.index _ n) (replied i r new f _ k k.is)
   left-walks cpu (instruction.Xsch word) f r new n there sets up units k =
       let i : Instruction = instruction.Xsch word in
-      walked.Performed _ _ f.place f.sub Cancels (code_for i f.sub) _ tt (one-left i r new f _ k k.is there sets up units) (at-word cpu word f.place _ n) (replied i r new f _ k k.is)
+      walked.Performed _ _ f.index f.sub Cancels (code_for i f.sub) _ tt (one-left i r new f _ k k.is there sets up units) (at-word cpu word f.index _ n) (replied i r new f _ k k.is)
 
   executed-walks : (cpu : ℕ) (i : Instruction) (id : SubchannelId) (q : Option Found) (r : Reply) (new : State) (waiting : WaitingRequests) →
-      subchannel_named s.sets (subchannel_word i) ≡ Some id → found_at s.subs (place_in id s.subs) ≡ q → new.sets ≡ s.sets → new.up ≡ s.up → new.units ≡ s.units →
+      subchannel_named s.sets (subchannel_word i) ≡ Some id → found_at s.subs (index_in id s.subs) ≡ q → new.sets ≡ s.sets → new.up ≡ s.up → new.units ≡ s.units →
       IsDone s i q r new → Walked s (event.Execute cpu i) r (record new { requests = waiting })
   executed-walks cpu i id None r new waiting n e sets up units k = walked.Stays _ _ _ (absent-quiet cpu i r k.replies) sets k.subs units up
   executed-walks cpu i id (Some f) r new waiting n e sets up units k =
-      let there : (place_in id s.subs ≡ Some f.place) × (slice_get s.subs f.place ≡ Some f.sub) = found-there s.subs (place_in id s.subs) f e in
-      left-walks cpu i f r (record new { requests = waiting }) (ap (place_of_id s.subs) n ∙ there.0) there.1 sets up units
+      let there : (index_in id s.subs ≡ Some f.index) × (slice_get s.subs f.index ≡ Some f.sub) = found-there s.subs (index_in id s.subs) f e in
+      left-walks cpu i f r (record new { requests = waiting }) (ap (index_of_id s.subs) n ∙ there.0) there.1 sets up units
       (record { effect = k.effect; is = k.is; replies = k.replies; subs = k.subs })
 
   -- whatever requests are left of it
-  turn-walks : (e : Event) (r : Reply) (new : State) (waiting : WaitingRequests) → TurnOf s e r new → Walked s e r (record new { requests = waiting })
+  turn-walks : (e : Event) (r : Reply) (new : State) (waiting : WaitingRequests) → ResultOf s e r new → Walked s e r (record new { requests = waiting })
   turn-walks _ _ _ waiting (turn.Executes cpu i id q r storage subs n e blocks left done) = executed-walks cpu i id q r _ waiting n e refl refl refl done
-  turn-walks _ _ _ waiting (turn.Chosen word place sub choice t named there is ok) =
-      walked.Chosen word place sub choice t _ named is (chosen-suits sub choice) ok (record { there = there; sets = refl; up = refl; subs = refl; units = refl })
-  turn-walks _ _ _ waiting (turn.Meets word path place sub t named there ok) =
-      walked.Met word path (returns_at s.subs sub path) place sub t _ named ok (record { there = there; sets = refl; up = refl; subs = refl; units = refl }) refl
-  turn-walks _ _ _ waiting (turn.Takes word path place sub u t named there found ok) =
-      walked.Sunk word path (may_take s.members sub.setup.«unit» (asks_at sub path u)) (is_owed_after s.members sub.setup.«unit» u t.«unit») place sub u t _ named ok
+  turn-walks _ _ _ waiting (turn.Chosen word index sub choice t named there is ok) =
+      walked.Chosen word index sub choice t _ named is (chosen-suits sub choice) ok (record { there = there; sets = refl; up = refl; subs = refl; units = refl })
+  turn-walks _ _ _ waiting (turn.Meets word path index sub t named there ok) =
+      walked.Met word path (returns_at s.subs sub path) index sub t _ named ok (record { there = there; sets = refl; up = refl; subs = refl; units = refl }) refl
+  turn-walks _ _ _ waiting (turn.Takes word path index sub u t named there found ok) =
+      walked.Sunk word path (may_take s.members sub.setup.«unit» (asks_at sub path u)) (is_owed_after s.members sub.setup.«unit» u t.«unit») index sub u t _ named ok
       (record { there = there; found = found; sets = refl; up = refl; subs = refl; units = refl })
-  turn-walks _ _ _ waiting (turn.Reports at place sub u report t found first there ok) =
-      walked.Reported at place sub u report t _ first (first-passes (reaches at report.side) s.subs place sub first there) ok
+  turn-walks _ _ _ waiting (turn.Reports at index sub u report t found first there ok) =
+      walked.Reported at index sub u report t _ first (first-passes (reaches at report.side) s.subs index sub first there) ok
       (record { there = there; found = found; sets = refl; up = refl; subs = refl; units = refl })
-  turn-walks _ _ _ waiting (turn.Acts at place sub u what side t found is first there ok) =
-      let reached : (sub.setup.«unit» ≡ at) × (sub.setup.side ≡ side) = reached-there at side sub (first-passes (reaches at side) s.subs place sub first there) in
-      walked.Acted at place sub u what t _ (is ∙ ap (λ (x : Side). Some x) (sym reached.1)) reached.0 ok
+  turn-walks _ _ _ waiting (turn.Acts at index sub u what side t found is first there ok) =
+      let reached : (sub.setup.«unit» ≡ at) × (sub.setup.side ≡ side) = reached-there at side sub (first-passes (reaches at side) s.subs index sub first there) in
+      walked.Acted at index sub u what t _ (is ∙ ap (λ (x : Side). Some x) (sym reached.1)) reached.0 ok
       (record { there = there; found = found; sets = refl; up = refl; subs = refl; units = refl })
   turn-walks _ _ _ waiting (turn.Restarts at u found) = walked.Restarted at (is_owed_after s.members at u (restarted u)) u _ _ found refl refl refl refl
   turn-walks _ _ _ waiting (turn.GoesDown chpid) = walked.Swept _ _ (sweep.GoesDown chpid) _ tt refl refl refl (record { event = refl; up = refl })
@@ -124,4 +124,4 @@ module _ (s : State) where
 
   pub step-walks : (e : Event) (r : Reply) (new : State) → Step s e r new → Walked s e r new
   step-walks e r new step =
-      let is : HasTurn s e r new = step-turn s e r new step in subst (Walked s e r) (sym is.settles) (turn-walks e r is.left _ is.turn)
+      let is : HasResult s e r new = step-turn s e r new step in subst (Walked s e r) (sym is.settles) (turn-walks e r is.left _ is.turn)

@@ -19,14 +19,14 @@ use Rattle.subchannel_model.specs.declared.state.Program.{Program}
 use Rattle.subchannel_model.specs.declared.state.ProgramPosition.{ProgramPosition}
 use Rattle.subchannel_model.specs.declared.state.Subchannel.{Subchannel}
 use Rattle.subchannel_model.specs.declared.state.SubchannelState.{SubchannelState}
-use Rattle.machine_model.specs.State.{State, place_of}
-use Rattle.subchannel_model.specs.Places.{reaches, reached_in}
+use Rattle.machine_model.specs.State.{State, index_of}
+use Rattle.subchannel_model.specs.Indices.{reaches, reached_in}
 use Rattle.subchannel_model.specs.Resume.{resumed}
 use Rattle.subchannel_model.specs.Halt.{halted}
 use Rattle.subchannel_model.specs.Clear.{cleared}
 use Rattle.subchannel_model.specs.Cancel.{cancelled}
 use Rattle.subchannel_model.specs.Choosing.{IsFitFor, chosen, marked_sub, paths_to_choose}
-use Rattle.machine_model.specs.Turns.{SubTurn, UpTurn, DownTurn}
+use Rattle.machine_model.specs.Results.{SubResult, UpResult, DownResult}
 use Rattle.subchannel_model.specs.Start.{started}
 use Rattle.subchannel_model.specs.Modify.{modified_state}
 use Rattle.machine_model.specs.InstructionSteps.{test_with, function_sub}
@@ -70,12 +70,12 @@ instruction_of Halts word = instruction.Hsch word
 instruction_of Clears word = instruction.Csch word
 instruction_of Cancels word = instruction.Xsch word
 
--- the event is this instruction, on the subchannel of a place
-pub record IsExecuted (s : State) (e : Event) (place : ℕ) (i : ℕ → Instruction) : Type 0 where
+-- the event is this instruction, on the subchannel of an index
+pub record IsExecuted (s : State) (e : Event) (index : ℕ) (i : ℕ → Instruction) : Type 0 where
   pub cpu : ℕ
   pub word : ℕ
   pub event : e ≡ event.Execute cpu (i word)
-  pub at : place_of s word ≡ Some place
+  pub at : index_of s word ≡ Some index
 
 abbrev pub effect_of : Function → SubchannelState → SubchannelState
 effect_of Resumes s = resumed s
@@ -83,21 +83,21 @@ effect_of Halts s = halted s
 effect_of Clears s = cleared s
 effect_of Cancels s = cancelled s
 
--- the subchannel of a place was changed, and nothing else of subchannels, units and the states of paths
-pub record OneSub (s new : State) (place : ℕ) (sub after : Subchannel) : Type 0 where
-  pub there : slice_get s.subs place ≡ Some sub
+-- the subchannel of an index was changed, and nothing else of subchannels, units and the states of paths
+pub record OneSub (s new : State) (index : ℕ) (sub after : Subchannel) : Type 0 where
+  pub there : slice_get s.subs index ≡ Some sub
   pub sets : new.sets ≡ s.sets
   pub up : new.up ≡ s.up
-  pub subs : new.subs ≡ slice_set s.subs place after
+  pub subs : new.subs ≡ slice_set s.subs index after
   pub units : new.units ≡ s.units
 
--- the subchannel of a place and the unit of a place were
-pub record OneUnit (s new : State) (place : ℕ) (sub after : Subchannel) (at : ℕ) (u v : UnitState) : Type 0 where
-  pub there : slice_get s.subs place ≡ Some sub
+-- the subchannel of an index and the unit of an index were
+pub record OneUnit (s new : State) (index : ℕ) (sub after : Subchannel) (at : ℕ) (u v : UnitState) : Type 0 where
+  pub there : slice_get s.subs index ≡ Some sub
   pub found : slice_get s.units at ≡ Some u
   pub sets : new.sets ≡ s.sets
   pub up : new.up ≡ s.up
-  pub subs : new.subs ≡ slice_set s.subs place after
+  pub subs : new.subs ≡ slice_set s.subs index after
   pub units : new.units ≡ slice_set s.units at v
 
 -- a program is there that waits, or one that is suspended
@@ -139,30 +139,30 @@ pub record IsSweep (s : State) (e : Event) (what : Sweep) (new : State) : Type 0
 pub data Walked (s : State) : Event → Reply → State → Type 0 where
   Stays : (e : Event) (r : Reply) (new : State) → IsQuiet e r → new.sets ≡ s.sets → new.subs ≡ s.subs → new.units ≡ s.units → new.up ≡ s.up →
       Walked s e r new
-  Started : (cpu word address place : ℕ) (sub : Subchannel) (orb : Orb) (c : ConditionCode) (new : State) → place_of s word ≡ Some place →
-      OneSub s new place sub (function_sub sub c (started sub.state orb)).sub → Walked s (event.Execute cpu (instruction.Ssch word address)) (function_sub sub c (started sub.state orb)).reply new
-  Tested : (e : Event) (r : Reply) (place : ℕ) (sub : Subchannel) (c : ConditionCode) (new : State) → IsQuiet e r →
-      OneSub s new place sub (test_with sub c).sub → (address : ℕ) → IsExecuted s e place (λ word. instruction.Tsch word address) →
+  Started : (cpu word address index : ℕ) (sub : Subchannel) (orb : Orb) (c : ConditionCode) (new : State) → index_of s word ≡ Some index →
+      OneSub s new index sub (function_sub sub c (started sub.state orb)).sub → Walked s (event.Execute cpu (instruction.Ssch word address)) (function_sub sub c (started sub.state orb)).reply new
+  Tested : (e : Event) (r : Reply) (index : ℕ) (sub : Subchannel) (c : ConditionCode) (new : State) → IsQuiet e r →
+      OneSub s new index sub (test_with sub c).sub → (address : ℕ) → IsExecuted s e index (λ word. instruction.Tsch word address) →
       r ≡ (test_with sub c).reply → Walked s e r new
-  Modified : (e : Event) (r : Reply) (place : ℕ) (sub : Subchannel) (given : block.Pmcw) (c : ConditionCode) (new : State) → IsQuiet e r →
-      OneSub s new place sub (function_sub sub c (modified_state sub given)).sub → Walked s e r new
-  Performed : (e : Event) (r : Reply) (place : ℕ) (sub : Subchannel) (f : Function) (c : ConditionCode) (new : State) → IsQuiet e r →
-      OneSub s new place sub (function_sub sub c (effect_of f sub.state)).sub → IsExecuted s e place (instruction_of f) →
+  Modified : (e : Event) (r : Reply) (index : ℕ) (sub : Subchannel) (given : block.Pmcw) (c : ConditionCode) (new : State) → IsQuiet e r →
+      OneSub s new index sub (function_sub sub c (modified_state sub given)).sub → Walked s e r new
+  Performed : (e : Event) (r : Reply) (index : ℕ) (sub : Subchannel) (f : Function) (c : ConditionCode) (new : State) → IsQuiet e r →
+      OneSub s new index sub (function_sub sub c (effect_of f sub.state)).sub → IsExecuted s e index (instruction_of f) →
       r ≡ (function_sub sub c (effect_of f sub.state)).reply → Walked s e r new
-  Chosen : (word place : ℕ) (sub : Subchannel) (choice : Option ℕ) (t : SubTurn) (new : State) → place_of s word ≡ Some place →
+  Chosen : (word index : ℕ) (sub : Subchannel) (choice : Option ℕ) (t : SubResult) (new : State) → index_of s word ≡ Some index →
       IsChoice (paths_to_choose s.subs sub) choice → Suits (chosen sub choice) sub.state → choose_sub (marked_sub sub choice) (chosen sub choice) ≡ Ok t →
-      OneSub s new place sub t.sub →
+      OneSub s new index sub t.sub →
       Walked s (event.Choose word) t.reply new
-  Met : (word path : ℕ) (returns : Bool) (place : ℕ) (sub : Subchannel) (t : UpTurn) (new : State) → place_of s word ≡ Some place →
-      up_sub returns s.storage sub path ≡ Ok t → OneSub s new place sub t.sub → returns ≡ returns_at s.subs sub path →
+  Met : (word path : ℕ) (returns : Bool) (index : ℕ) (sub : Subchannel) (t : UpResult) (new : State) → index_of s word ≡ Some index →
+      up_sub returns s.storage sub path ≡ Ok t → OneSub s new index sub t.sub → returns ≡ returns_at s.subs sub path →
       Walked s (event.Up word path) t.reply new
-  Sunk : (word path : ℕ) (may owed : Bool) (place : ℕ) (sub : Subchannel) (u : UnitState) (t : DownTurn) (new : State) → place_of s word ≡ Some place →
-      down_sub may sub path u ≡ Ok t → OneUnit s new place sub t.sub sub.setup.«unit» u (owing owed t.«unit») → Walked s (event.Down word path) t.reply new
-  Reported : (at place : ℕ) (sub : Subchannel) (u : UnitState) (report : Report) (t : DownTurn) (new : State) → reached_in at report.side s.subs ≡ Some place →
-      reaches at report.side sub ≡ true → report_sub sub u report ≡ Ok t → OneUnit s new place sub t.sub at u t.«unit» →
+  Sunk : (word path : ℕ) (may owed : Bool) (index : ℕ) (sub : Subchannel) (u : UnitState) (t : DownResult) (new : State) → index_of s word ≡ Some index →
+      down_sub may sub path u ≡ Ok t → OneUnit s new index sub t.sub sub.setup.«unit» u (owing owed t.«unit») → Walked s (event.Down word path) t.reply new
+  Reported : (at index : ℕ) (sub : Subchannel) (u : UnitState) (report : Report) (t : DownResult) (new : State) → reached_in at report.side s.subs ≡ Some index →
+      reaches at report.side sub ≡ true → report_sub sub u report ≡ Ok t → OneUnit s new index sub t.sub at u t.«unit» →
       Walked s (event.Report at report) t.reply new
-  Acted : (at place : ℕ) (sub : Subchannel) (u : UnitState) (what : UnitAct) (t : DownTurn) (new : State) → IsOfSide u sub.setup.side what →
-      sub.setup.«unit» ≡ at → act_sub sub u what ≡ Ok t → OneUnit s new place sub t.sub at u t.«unit» → Walked s (event.Act at what) t.reply new
+  Acted : (at index : ℕ) (sub : Subchannel) (u : UnitState) (what : UnitAct) (t : DownResult) (new : State) → IsOfSide u sub.setup.side what →
+      sub.setup.«unit» ≡ at → act_sub sub u what ≡ Ok t → OneUnit s new index sub t.sub at u t.«unit» → Walked s (event.Act at what) t.reply new
   Restarted : (at : ℕ) (owed : Bool) (u : UnitState) (r : Reply) (new : State) → slice_get s.units at ≡ Some u → new.sets ≡ s.sets → new.subs ≡ s.subs →
       new.units ≡ slice_set s.units at (owing owed (restarted u)) → new.up ≡ s.up → Walked s (event.Restart at) r new
   Swept : (e : Event) (r : Reply) (what : Sweep) (new : State) → IsQuiet e r → new.sets ≡ s.sets → new.subs ≡ map (swept what) s.subs →

@@ -5,7 +5,7 @@ use Rattle.std.specs.List.{range_with_len}
 use Rattle.std.proofs.lemmas.Bool.Decides.{nat_tests}
 use Rattle.std.proofs.lemmas.Grind.{common_steps}
 use Rattle.std.proofs.lemmas.List.{take-append-drop, get_or-set_other, get_or-set_same, length-set}
-use Rattle.storage_keys.specs.Storage.{Contents, IsStorage, absolute_under, absolute, absolute_places, is_inside, where_permitted, fetched, with_values, operand_stored, put_at, check_by, keys_permit, key_permits_fetch}
+use Rattle.storage_keys.specs.Storage.{Contents, IsStorage, absolute_under, absolute, absolute_addresses, is_inside, where_permitted, fetched, with_values, operand_stored, put_at, check_by, keys_permit, key_permits_fetch}
 use Rattle.storage_keys.proofs.OperandLemmas.{map-slice_index-range}
 
 -- what is_inside tells of some bytes
@@ -24,16 +24,16 @@ pub fetched_bytes : (s : Contents) (key address count : ℕ) (bytes : List ℕ) 
 fetched_bytes s key address count bytes e =
     bytes_found s.bytes bytes address count (is_inside s address count) (keys_permit (key_permits_fetch key) s address count) (inside_le address count (length s.bytes)) e
 
-bytes_past : (bytes new : List ℕ) (a place : ℕ) → a + length new ≤ length bytes → a + length new ≤ place → get_or (take a bytes ++ (new ++ drop (a + length new) bytes)) place 0 ≡ get_or bytes place 0
-bytes_past bytes new a place h above = grind (arith, common_steps)
+bytes_past : (bytes new : List ℕ) (a address : ℕ) → a + length new ≤ length bytes → a + length new ≤ address → get_or (take a bytes ++ (new ++ drop (a + length new) bytes)) address 0 ≡ get_or bytes address 0
+bytes_past bytes new a address h above = grind (arith, common_steps)
 
 -- the bytes past those that are put
-bytes_after : (bytes new : List ℕ) (a place : ℕ) → (0 < length new → a + length new ≤ length bytes) → a + length new ≤ place → get_or (take a bytes ++ (new ++ drop (a + length new) bytes)) place 0 ≡ get_or bytes place 0
-bytes_after bytes [] a place h above = ap (λ (xs : List ℕ). get_or xs place 0) (let e : a + 0 ≡ a = omega arith in rw e (take-append-drop a bytes))
-bytes_after bytes (v ∷ vs) a place h above = bytes_past bytes (v ∷ vs) a place (h (omega arith)) above
+bytes_after : (bytes new : List ℕ) (a address : ℕ) → (0 < length new → a + length new ≤ length bytes) → a + length new ≤ address → get_or (take a bytes ++ (new ++ drop (a + length new) bytes)) address 0 ≡ get_or bytes address 0
+bytes_after bytes [] a address h above = ap (λ (xs : List ℕ). get_or xs address 0) (let e : a + 0 ≡ a = omega arith in rw e (take-append-drop a bytes))
+bytes_after bytes (v ∷ vs) a address h above = bytes_past bytes (v ∷ vs) a address (h (omega arith)) above
 
-pub put_after : (s : Contents) (address : ℕ) (bytes : List ℕ) → IsTrue (is_inside s address (length bytes)) → (place : ℕ) → address + length bytes ≤ place → slice_index (put_at s address bytes).bytes place ≡ slice_index s.bytes place
-put_after s address bytes inside place above = bytes_after s.bytes bytes address place (inside_le address (length bytes) (length s.bytes) inside) above
+pub put_after : (s : Contents) (address : ℕ) (bytes : List ℕ) → IsTrue (is_inside s address (length bytes)) → (other : ℕ) → address + length bytes ≤ other → slice_index (put_at s address bytes).bytes other ≡ slice_index s.bytes other
+put_after s address bytes inside other above = bytes_after s.bytes bytes address other (inside_le address (length bytes) (length s.bytes) inside) above
 
 -- two real addresses have two absolute ones, which are in storage where they are
 absolute_under-inj : (prefix a b : ℕ) → prefix % 8192 ≡ 0 → absolute_under prefix a ≡ absolute_under prefix b → a ≡ b
@@ -42,14 +42,14 @@ absolute_under-inj prefix a b aligned same = grind (arith, nat_tests)
 absolute_under-lt : (prefix size real : ℕ) → 8192 ≤ size → prefix + 8192 ≤ size → real < size → absolute_under prefix real < size
 absolute_under-lt prefix size real least named inside = grind (arith, nat_tests)
 
--- values at places f a, f (a + 1) and so on
-values_others : (f : ℕ → ℕ) (vs bytes : List ℕ) (a place : ℕ) → ((i : ℕ) → i < length vs → place ≢ f (a + i))
-    → get_or (with_values bytes (map f (range_with_len a (length vs))) vs) place 0 ≡ get_or bytes place 0
-values_others f [] bytes a place apart = refl
-values_others f (v ∷ vs) bytes a place apart =
-    let later : (i : ℕ) → i < length vs → place ≢ f (a + 1 + i) = λ i h. let e : a + 1 + i ≡ a + suc i = omega arith in subst (λ (k : ℕ). place ≢ f k) (sym e) (apart (suc i) (omega arith)) in
-    let here : place ≢ f a = let e : a + 0 ≡ a = omega arith in subst (λ (k : ℕ). place ≢ f k) e (apart 0 (omega arith)) in
-    values_others f vs (set bytes (f a) v) (a + 1) place later ∙ get_or-set_other bytes (f a) place v 0 here
+-- values at addresses f a, f (a + 1) and so on
+values_others : (f : ℕ → ℕ) (vs bytes : List ℕ) (a address : ℕ) → ((i : ℕ) → i < length vs → address ≢ f (a + i))
+    → get_or (with_values bytes (map f (range_with_len a (length vs))) vs) address 0 ≡ get_or bytes address 0
+values_others f [] bytes a address apart = refl
+values_others f (v ∷ vs) bytes a address apart =
+    let later : (i : ℕ) → i < length vs → address ≢ f (a + 1 + i) = λ i h. let e : a + 1 + i ≡ a + suc i = omega arith in subst (λ (k : ℕ). address ≢ f k) (sym e) (apart (suc i) (omega arith)) in
+    let here : address ≢ f a = let e : a + 0 ≡ a = omega arith in subst (λ (k : ℕ). address ≢ f k) e (apart 0 (omega arith)) in
+    values_others f vs (set bytes (f a) v) (a + 1) address later ∙ get_or-set_other bytes (f a) address v 0 here
 
 values_placed : (f : ℕ → ℕ) → ((a b : ℕ) → f a ≡ f b → a ≡ b) → (vs bytes : List ℕ) (a i : ℕ) → ((k : ℕ) → k < length vs → f (a + k) < length bytes) → i < length vs
     → get_or (with_values bytes (map f (range_with_len a (length vs))) vs) (f (a + i)) 0 ≡ get_or vs i 0
@@ -67,14 +67,14 @@ values_placed f inj (v ∷ vs) bytes a (suc i) inside below =
     ap (λ (k : ℕ). get_or (with_values (set bytes (f a) v) (map f (range_with_len (a + 1) (length vs))) vs) (f k) 0) (e i)
     ∙ values_placed f inj vs (set bytes (f a) v) (a + 1) i later (omega arith)
 
-pub operand_others : (s : Contents) (cpu address : ℕ) (values : List ℕ) (place : ℕ) → ((i : ℕ) → i < length values → place ≢ absolute s cpu (address + i))
-    → slice_index (operand_stored s cpu address values).bytes place ≡ slice_index s.bytes place
-unfolding absolute_places
-operand_others s cpu address values place apart = values_others (absolute s cpu) values s.bytes address place apart
+pub operand_others : (s : Contents) (cpu address : ℕ) (values : List ℕ) (other : ℕ) → ((i : ℕ) → i < length values → other ≢ absolute s cpu (address + i))
+    → slice_index (operand_stored s cpu address values).bytes other ≡ slice_index s.bytes other
+unfolding absolute_addresses
+operand_others s cpu address values other apart = values_others (absolute s cpu) values s.bytes address other apart
 
 pub operand_placed : (s : Contents) (cpu address : ℕ) (values : List ℕ) → IsStorage s → address + length values ≤ length s.bytes → (i : ℕ) → i < length values
     → slice_index (operand_stored s cpu address values).bytes (absolute s cpu (address + i)) ≡ slice_index values i
-unfolding absolute_places
+unfolding absolute_addresses
 operand_placed s cpu address values h inside i below =
     values_placed (absolute s cpu) (λ a b. absolute_under-inj (slice_index s.prefixes cpu) a b (h.prefixes cpu).0) values s.bytes address i
     (λ k lt. absolute_under-lt (slice_index s.prefixes cpu) (length s.bytes) (address + k) (omega (arith, h.least)) (h.prefixes cpu).1 (omega arith)) below

@@ -12,7 +12,7 @@ use Rattle.std.proofs.lemmas.List.Edits.{sets-eq}
 use Rattle.std.proofs.lemmas.List.FromFn.{length-range_with_len, get_or-range_with_len, length-map-range_with_len, get_or-map-range_with_len}
 use Rattle.std.proofs.lemmas.Bool.Decides.{nat_tests}
 use Rattle.std.proofs.lemmas.Grind.{get_or_default_zero}
-use Rattle.storage_keys.specs.Storage.{Contents, IsStorage, IsPrefix, absolute_under, absolute, absolute_places, is_inside, is_operand_inside, with_values, operand_stored, put_at}
+use Rattle.storage_keys.specs.Storage.{Contents, IsStorage, IsPrefix, absolute_under, absolute, absolute_addresses, is_inside, is_operand_inside, with_values, operand_stored, put_at}
 
 -- a real address is in storage where its absolute address is
 below-absolute_under : (prefix size real : ℕ) → 8192 ≤ size → prefix + 8192 ≤ size → nat_lt (absolute_under prefix real) size ≡ nat_lt real size
@@ -23,24 +23,24 @@ absolute_under-add : (prefix real n i : ℕ) → prefix % 8192 ≡ 0 → real % 
 absolute_under-add prefix real n i a b h = grind (arith, nat_tests)
 
 all_inside : (prefix size : ℕ) → 8192 ≤ size → prefix + 8192 ≤ size → (address count : ℕ)
-    → list_all (λ place. nat_lt place size) (map (absolute_under prefix) (range_with_len address count)) ≡ (count == 0 || nat_le (address + count) size)
+    → list_all (λ other. nat_lt other size) (map (absolute_under prefix) (range_with_len address count)) ≡ (count == 0 || nat_le (address + count) size)
 all_inside prefix size a b address zero = refl
 all_inside prefix size a b address (suc count) =
     let rest = all_inside prefix size a b (address + 1) count in
     let both : (nat_lt address size && (count == 0 || nat_le (address + 1 + count) size)) ≡ (suc count == 0 || nat_le (address + suc count) size) = grind (arith, nat_tests) in
-    ap (λ (x : Bool). x && list_all (λ place. nat_lt place size) (map (absolute_under prefix) (range_with_len (address + 1) count))) (below-absolute_under prefix size address a b)
+    ap (λ (x : Bool). x && list_all (λ other. nat_lt other size) (map (absolute_under prefix) (range_with_len (address + 1) count))) (below-absolute_under prefix size address a b)
     ∙ ap (λ (x : Bool). nat_lt address size && x) rest
     ∙ both
 
 pub is_operand_inside-is : (s : Contents) → IsStorage s → (cpu address count : ℕ) → is_operand_inside s cpu address count ≡ is_inside s address count
-unfolding absolute_places
+unfolding absolute_addresses
 is_operand_inside-is s h cpu address count =
     all_inside (slice_index s.prefixes cpu) (length s.bytes) (omega (arith, h.least)) (h.prefixes cpu).1 address count
 
 -- bytes of one area stand in a row
-places-one_area : (s : Contents) → IsStorage s → (cpu real n : ℕ) → real % 8192 + n ≤ 8192 → absolute_places s cpu real n ≡ range_with_len (absolute s cpu real) n
-unfolding absolute_places
-places-one_area s h cpu real n fits =
+addresses-one_area : (s : Contents) → IsStorage s → (cpu real n : ℕ) → real % 8192 + n ≤ 8192 → absolute_addresses s cpu real n ≡ range_with_len (absolute s cpu real) n
+unfolding absolute_addresses
+addresses-one_area s h cpu real n fits =
     same_lists (map (absolute s cpu) (range_with_len real n)) (range_with_len (absolute s cpu real) n)
     (length-map-range_with_len (absolute s cpu) real n ∙ sym (length-range_with_len (absolute s cpu real) n))
     (λ k d below.
@@ -81,13 +81,13 @@ range_with_len-add a (suc m) n =
     ap (range_with_len a) more
     ∙ ap (λ (xs : List ℕ). a ∷ xs) (range_with_len-add (a + 1) m n ∙ ap (λ (k : ℕ). range_with_len (a + 1) m ++ range_with_len k n) next)
 
-pub places-add : (s : Contents) (cpu address m n : ℕ) → absolute_places s cpu address (m + n) ≡ absolute_places s cpu address m ++ absolute_places s cpu (address + m) n
-unfolding absolute_places
-places-add s cpu address m n =
+pub addresses-add : (s : Contents) (cpu address m n : ℕ) → absolute_addresses s cpu address (m + n) ≡ absolute_addresses s cpu address m ++ absolute_addresses s cpu (address + m) n
+unfolding absolute_addresses
+addresses-add s cpu address m n =
     ap (map (absolute s cpu)) (range_with_len-add address m n) ∙ map-append (absolute s cpu) (range_with_len address m) (range_with_len (address + m) n)
 
-length-places : (s : Contents) (cpu address n : ℕ) → length (absolute_places s cpu address n) ≡ n
-unfolding absolute_places
+length-places : (s : Contents) (cpu address n : ℕ) → length (absolute_addresses s cpu address n) ≡ n
+unfolding absolute_addresses
 length-places s cpu address n = length-map-range_with_len (absolute s cpu) address n
 
 with_values-append : (bytes ps qs vs ws : List ℕ) → length ps ≡ length vs → with_values bytes (ps ++ qs) (vs ++ ws) ≡ with_values (with_values bytes ps vs) qs ws
@@ -114,36 +114,36 @@ pub piece_inside : (s : Contents) → IsStorage s → (cpu real n : ℕ) → rea
 piece_inside s h cpu real n area inside = area_inside (slice_index s.prefixes cpu) (length s.bytes) real n (h.prefixes cpu) area inside (omega (arith, h.least))
 
 pub piece_read : (s : Contents) → IsStorage s → (cpu real n : ℕ) → real % 8192 + n ≤ 8192 → real + n ≤ length s.bytes
-    → slice_range s.bytes (absolute s cpu real) (absolute s cpu real + n) ≡ map (slice_index s.bytes) (absolute_places s cpu real n)
+    → slice_range s.bytes (absolute s cpu real) (absolute s cpu real + n) ≡ map (slice_index s.bytes) (absolute_addresses s cpu real n)
 piece_read s h cpu real n area inside =
-    sym (ap (map (slice_index s.bytes)) (places-one_area s h cpu real n area) ∙ map-slice_index-range s.bytes (absolute s cpu real) n (λ _. piece_inside s h cpu real n area inside))
+    sym (ap (map (slice_index s.bytes)) (addresses-one_area s h cpu real n area) ∙ map-slice_index-range s.bytes (absolute s cpu real) n (λ _. piece_inside s h cpu real n area inside))
 
 pub piece_stored : (s : Contents) → IsStorage s → (cpu real : ℕ) (values : List ℕ) → real % 8192 + length values ≤ 8192 → real + length values ≤ length s.bytes
     → put_at s (absolute s cpu real) values ≡ operand_stored s cpu real values
 piece_stored s h cpu real values area inside =
-    let same : with_values s.bytes (absolute_places s cpu real (length values)) values ≡ take (absolute s cpu real) s.bytes ++ (values ++ drop (absolute s cpu real + length values) s.bytes) =
-    ap (λ (ps : List ℕ). with_values s.bytes ps values) (places-one_area s h cpu real (length values) area)
+    let same : with_values s.bytes (absolute_addresses s cpu real (length values)) values ≡ take (absolute s cpu real) s.bytes ++ (values ++ drop (absolute s cpu real + length values) s.bytes) =
+    ap (λ (ps : List ℕ). with_values s.bytes ps values) (addresses-one_area s h cpu real (length values) area)
     ∙ with_values-range values s.bytes (absolute s cpu real) (piece_inside s h cpu real (length values) area inside) in
     ap (λ (bytes : List ℕ). let t : Contents = record s { bytes = bytes } in t) (sym same)
 
 -- an operand is stored one part after another
 pub operand_stored-append : (s : Contents) (cpu address : ℕ) (vs ws : List ℕ)
     → operand_stored s cpu address (vs ++ ws) ≡ operand_stored (operand_stored s cpu address vs) cpu (address + length vs) ws
-unfolding absolute_places
+unfolding absolute_addresses
 operand_stored-append s cpu address vs ws =
-    let whole : absolute_places s cpu address (length (vs ++ ws)) ≡ absolute_places s cpu address (length vs) ++ absolute_places s cpu (address + length vs) (length ws) =
-    ap (absolute_places s cpu address) (length-append vs ws) ∙ places-add s cpu address (length vs) (length ws) in
-    let same : with_values s.bytes (absolute_places s cpu address (length (vs ++ ws))) (vs ++ ws) ≡ (operand_stored (operand_stored s cpu address vs) cpu (address + length vs) ws).bytes =
+    let whole : absolute_addresses s cpu address (length (vs ++ ws)) ≡ absolute_addresses s cpu address (length vs) ++ absolute_addresses s cpu (address + length vs) (length ws) =
+    ap (absolute_addresses s cpu address) (length-append vs ws) ∙ addresses-add s cpu address (length vs) (length ws) in
+    let same : with_values s.bytes (absolute_addresses s cpu address (length (vs ++ ws))) (vs ++ ws) ≡ (operand_stored (operand_stored s cpu address vs) cpu (address + length vs) ws).bytes =
     ap (λ (ps : List ℕ). with_values s.bytes ps (vs ++ ws)) whole
-    ∙ with_values-append s.bytes (absolute_places s cpu address (length vs)) (absolute_places s cpu (address + length vs) (length ws)) vs ws (length-places s cpu address (length vs)) in
+    ∙ with_values-append s.bytes (absolute_addresses s cpu address (length vs)) (absolute_addresses s cpu (address + length vs) (length ws)) vs ws (length-places s cpu address (length vs)) in
     ap (λ (bytes : List ℕ). let t : Contents = record s { bytes = bytes } in t) same
 
 pub operand_stored-nil : (s : Contents) (cpu address : ℕ) → operand_stored s cpu address [] ≡ s
-unfolding absolute_places
+unfolding absolute_addresses
 operand_stored-nil s cpu address = refl
 
 pub length-operand_stored : (s : Contents) (cpu address : ℕ) (values : List ℕ) → length (operand_stored s cpu address values).bytes ≡ length s.bytes
-length-operand_stored s cpu address values = length-with_values s.bytes (absolute_places s cpu address (length values)) values
+length-operand_stored s cpu address values = length-with_values s.bytes (absolute_addresses s cpu address (length values)) values
 
 -- a turn of the loop that stores an operand
 pub stored_more : (s t new : Contents) (cpu address done n : ℕ) (values : List ℕ) → done + n ≤ length values → t ≡ operand_stored s cpu address (take done values)
@@ -159,19 +159,19 @@ stored_more s t new cpu address done n values within before step =
     ∙ sym (operand_stored-append s cpu address (take done values) (take n (drop done values)))
     ∙ ap (operand_stored s cpu address) (sym whole)
 
-pub read-nil : (s : Contents) (cpu address : ℕ) → [] ≡ map (slice_index s.bytes) (absolute_places s cpu address 0)
-unfolding absolute_places
+pub read-nil : (s : Contents) (cpu address : ℕ) → [] ≡ map (slice_index s.bytes) (absolute_addresses s cpu address 0)
+unfolding absolute_addresses
 read-nil s cpu address = refl
 
-pub length-read : (s : Contents) (cpu address n : ℕ) → length (map (slice_index s.bytes) (absolute_places s cpu address n)) ≡ n
-length-read s cpu address n = length-map (absolute_places s cpu address n) (slice_index s.bytes) ∙ length-places s cpu address n
+pub length-read : (s : Contents) (cpu address n : ℕ) → length (map (slice_index s.bytes) (absolute_addresses s cpu address n)) ≡ n
+length-read s cpu address n = length-map (absolute_addresses s cpu address n) (slice_index s.bytes) ∙ length-places s cpu address n
 
 -- a turn of the loop that reads an operand
-pub read_more : (s : Contents) (cpu address done n k : ℕ) (bytes piece : List ℕ) → done + n ≤ length bytes → take done bytes ≡ map (slice_index s.bytes) (absolute_places s cpu address done)
-    → piece ≡ map (slice_index s.bytes) (absolute_places s cpu (address + done) n) → take (done + n) (put_mid done k bytes piece) ≡ map (slice_index s.bytes) (absolute_places s cpu address (done + n))
+pub read_more : (s : Contents) (cpu address done n k : ℕ) (bytes piece : List ℕ) → done + n ≤ length bytes → take done bytes ≡ map (slice_index s.bytes) (absolute_addresses s cpu address done)
+    → piece ≡ map (slice_index s.bytes) (absolute_addresses s cpu (address + done) n) → take (done + n) (put_mid done k bytes piece) ≡ map (slice_index s.bytes) (absolute_addresses s cpu address (done + n))
 read_more s cpu address done n k bytes piece within before step =
     let size : length piece ≡ n = ap length step ∙ length-read s cpu (address + done) n in
     take-put_mid done k bytes piece (done + n) (omega arith) (omega arith)
     ∙ ap (λ (xs : List ℕ). xs ++ piece) before
-    ∙ ap (λ (xs : List ℕ). map (slice_index s.bytes) (absolute_places s cpu address done) ++ xs) step
-    ∙ sym (ap (map (slice_index s.bytes)) (places-add s cpu address done n) ∙ map-append (slice_index s.bytes) (absolute_places s cpu address done) (absolute_places s cpu (address + done) n))
+    ∙ ap (λ (xs : List ℕ). map (slice_index s.bytes) (absolute_addresses s cpu address done) ++ xs) step
+    ∙ sym (ap (map (slice_index s.bytes)) (addresses-add s cpu address done n) ∙ map-append (slice_index s.bytes) (absolute_addresses s cpu address done) (absolute_addresses s cpu (address + done) n))

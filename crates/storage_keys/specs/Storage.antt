@@ -119,12 +119,12 @@ absolute storage cpu real = absolute_under (slice_index storage.prefixes cpu) re
 -- Operands of instructions (chapter 14): real addresses, turned to absolute byte by byte, with key 0
 
 -- the absolute addresses of so many bytes from a real address on
-unfoldable pub absolute_places : Contents → ℕ → ℕ → ℕ → List ℕ
-absolute_places storage cpu address count = map (absolute storage cpu) (range_with_len address count)
+unfoldable pub absolute_addresses : Contents → ℕ → ℕ → ℕ → List ℕ
+absolute_addresses storage cpu address count = map (absolute storage cpu) (range_with_len address count)
 
 -- whether each byte of an operand is in storage
 abbrev pub is_operand_inside : Contents → ℕ → ℕ → ℕ → Bool
-is_operand_inside storage cpu address count = list_all (λ place. nat_lt place (length storage.bytes)) (absolute_places storage cpu address count)
+is_operand_inside storage cpu address count = list_all (λ other. nat_lt other (length storage.bytes)) (absolute_addresses storage cpu address count)
 
 -- an operand is on its boundary and in storage, or why not: the boundary comes first
 abbrev pub operand_check : Contents → ℕ → ℕ → ℕ → ℕ → Result (Unit {0}) StorageFault
@@ -135,17 +135,17 @@ operand_check storage cpu address count boundary =
 -- the bytes of an operand
 abbrev pub operand_at : Contents → ℕ → ℕ → ℕ → ℕ → Result (List ℕ) StorageFault
 operand_at storage cpu address count boundary =
-    where_permitted (operand_check storage cpu address count boundary) (map (slice_index storage.bytes) (absolute_places storage cpu address count))
+    where_permitted (operand_check storage cpu address count boundary) (map (slice_index storage.bytes) (absolute_addresses storage cpu address count))
 
 -- bytes with each of these values at its place, in order
 abbrev pub with_values : List ℕ → List ℕ → List ℕ → List ℕ
-with_values bytes (place ∷ places) (value ∷ values) = with_values (slice_set bytes place value) places values
-with_values bytes places values = bytes
+with_values bytes (address ∷ addresses) (value ∷ values) = with_values (slice_set bytes address value) addresses values
+with_values bytes addresses values = bytes
 
 -- storage with an operand stored
 abbrev pub operand_stored : Contents → ℕ → ℕ → List ℕ → Contents
 operand_stored storage cpu address values =
-    record storage { bytes = with_values storage.bytes (absolute_places storage cpu address (length values)) values }
+    record storage { bytes = with_values storage.bytes (absolute_addresses storage cpu address (length values)) values }
 
 -- The operator's acts (own): no key is asked
 

@@ -14,8 +14,8 @@ pub fn fetched_bytes()
 pub fn put_bytes()
     ensures size { (storage : Contents) (address : ℕ) (bytes : List ℕ) → IsTrue (is_inside storage address (length bytes)) → length (put_at storage address bytes).bytes ≡ length storage.bytes }
     ensures placed { (storage : Contents) (address : ℕ) (bytes : List ℕ) → IsTrue (is_inside storage address (length bytes)) → (i : ℕ) → i < length bytes → slice_index (put_at storage address bytes).bytes (address + i) ≡ slice_index bytes i }
-    ensures before { (storage : Contents) (address : ℕ) (bytes : List ℕ) → IsTrue (is_inside storage address (length bytes)) → (place : ℕ) → place < address → slice_index (put_at storage address bytes).bytes place ≡ slice_index storage.bytes place }
-    ensures after { (storage : Contents) (address : ℕ) (bytes : List ℕ) → IsTrue (is_inside storage address (length bytes)) → (place : ℕ) → address + length bytes ≤ place → slice_index (put_at storage address bytes).bytes place ≡ slice_index storage.bytes place }
+    ensures before { (storage : Contents) (address : ℕ) (bytes : List ℕ) → IsTrue (is_inside storage address (length bytes)) → (other : ℕ) → other < address → slice_index (put_at storage address bytes).bytes other ≡ slice_index storage.bytes other }
+    ensures after { (storage : Contents) (address : ℕ) (bytes : List ℕ) → IsTrue (is_inside storage address (length bytes)) → (other : ℕ) → address + length bytes ≤ other → slice_index (put_at storage address bytes).bytes other ≡ slice_index storage.bytes other }
 {}
 
 /// The bytes of an operand that is stored stand at the absolute addresses of its real ones, in
@@ -23,7 +23,7 @@ pub fn put_bytes()
 pub fn operand_bytes()
     ensures size { (storage : Contents) (cpu address : ℕ) (bytes : List ℕ) → length (operand_stored storage cpu address bytes).bytes ≡ length storage.bytes }
     ensures placed { (storage : Contents) (cpu address : ℕ) (bytes : List ℕ) → IsStorage storage → address + length bytes ≤ length storage.bytes → (i : ℕ) → i < length bytes → slice_index (operand_stored storage cpu address bytes).bytes (absolute storage cpu (address + i)) ≡ slice_index bytes i }
-    ensures others { (storage : Contents) (cpu address : ℕ) (bytes : List ℕ) (place : ℕ) → ((i : ℕ) → i < length bytes → place ≢ absolute storage cpu (address + i)) → slice_index (operand_stored storage cpu address bytes).bytes place ≡ slice_index storage.bytes place }
+    ensures others { (storage : Contents) (cpu address : ℕ) (bytes : List ℕ) (other : ℕ) → ((i : ℕ) → i < length bytes → other ≢ absolute storage cpu (address + i)) → slice_index (operand_stored storage cpu address bytes).bytes other ≡ slice_index storage.bytes other }
 {}
 
 /// Storage stays what it is, whatever is done to it.

@@ -269,7 +269,7 @@ impl Storage {
     fn read_operand(&self, cpu: u8, address: u32, bytes: &mut [u8])
         requires cpu { cpu < 16 }
         requires inside { 0 < length bytes.old → address + length bytes.old ≤ length self.now.bytes }
-        ensures { bytes.new ≡ map (slice_index self.now.bytes) (spec.absolute_places self.now cpu address (length bytes.old)) }
+        ensures { bytes.new ≡ map (slice_index self.now.bytes) (spec.absolute_addresses self.now cpu address (length bytes.old)) }
     {
         let mut done = 0;
         let mut real = address;
@@ -285,7 +285,7 @@ impl Storage {
         requires cpu { cpu < 16 }
         requires one_area { real % 8192 + count ≤ 8192 }
         requires inside { real + count ≤ length self.now.bytes }
-        ensures piece { result.now ≡ map (slice_index self.now.bytes) (spec.absolute_places self.now cpu real count) }
+        ensures piece { result.now ≡ map (slice_index self.now.bytes) (spec.absolute_addresses self.now cpu real count) }
         ensures sound { spec.IsStorage self.now }
     {
         self.part(self.piece_address(cpu, real, count), count)

@@ -8,15 +8,15 @@ use Rattle.chan_model.specs.declared.hold_state.HoldState.{HoldState}
 use Rattle.chan_model.specs.Signals.{Load}
 use Rattle.chan_model.specs.Signals.{Up}
 use Rattle.chan_model.specs.declared.signal.Up.TheVariants as up
-use Rattle.chan_model.specs.HoldTable.{HoldStep, hold_quietly, program_begun, offer_accepted, found_busy, left, refusing, granting, asked_back, released, reset_cleared, attended, came_of, letting_go, is_connected, is_on}
+use Rattle.chan_model.specs.HoldTable.{HoldStep, hold_quietly, program_begun, offer_accepted, found_busy, left, refusing, granting, asked_back, released, reset_cleared, attended, outcome_of, letting_go, is_connected, is_on}
 use Rattle.chan_model.specs.Loads.{load_length}
 use Rattle.chan_model.specs.UnitReports.{is_last_end, is_outward, has_device_end}
-use Rattle.ccw_walk.specs.Places.{WalkPlace}
+use Rattle.ccw_walk.specs.Positions.{WalkPosition}
 use Rattle.data_move.specs.Moving.{residual}
 use Rattle.active_program.specs.Sent.{sent_path}
 use Rattle.data_move.specs.declared.transfer.Beginning.{Beginning}
 use Rattle.data_move.specs.declared.transfer.CommandStart.{CommandStart}
-use Rattle.data_move.specs.declared.transfer.CommandStart.TheVariants as came
+use Rattle.data_move.specs.declared.transfer.CommandStart.TheVariants as outcome
 use Rattle.data_move.specs.ToDevice.{chunk_absorbed, next_chunk}
 use Rattle.data_move.specs.FromDevice.{chunk_stored}
 use Rattle.data_move.specs.ChunkNumbers.{is_answered}
@@ -46,7 +46,7 @@ use Rattle.subchannel.specs.Answering.{IsAnswerPath}
 
 -- what a signal of this path, at a hold in this phase, is answered by
 abbrev Goes : HoldPhase → ℕ → UpStep → Type 0
-Goes phase p step = IsAnswerPath phase p (sent_path step.came.sent)
+Goes phase p step = IsAnswerPath phase p (sent_path step.outcome.sent)
 
 if-goes : (b : Bool) (phase : HoldPhase) (p : ℕ) (x y : UpStep) → Goes phase p x → Goes phase p y → Goes phase p (if b then x else y)
 if-goes true phase p x y e f = e
@@ -56,12 +56,12 @@ if-met : (b : Bool) (phase : HoldPhase) (p : ℕ) (x y : SignalOutcome) → Goes
 if-met true phase p x y e f = e
 if-met false phase p x y e f = f
 
-if-came : (b : Bool) (phase : HoldPhase) (p : ℕ) (step : HoldStep) → IsAnswerPath phase p (sent_path step.sent) → IsAnswerPath phase p (sent_path (came_of (if b then Some step else None)).sent)
+if-came : (b : Bool) (phase : HoldPhase) (p : ℕ) (step : HoldStep) → IsAnswerPath phase p (sent_path step.sent) → IsAnswerPath phase p (sent_path (outcome_of (if b then Some step else None)).sent)
 if-came true phase p step e = e
 if-came false phase p step e = tt
 
 -- the device is let go by the path of the program that is connected
-letting : (h : HoldState) (phase : HoldPhase) (p : ℕ) → IsAnswerPath phase p (sent_path (came_of (letting_go h phase)).sent)
+letting : (h : HoldState) (phase : HoldPhase) (p : ℕ) → IsAnswerPath phase p (sent_path (outcome_of (letting_go h phase)).sent)
 letting h hold.Free p = tt
 letting h (hold.Offer t q) p = tt
 letting h (hold.On t q c) p = inr refl
@@ -70,13 +70,13 @@ letting h (hold.Letting t q) p = tt
 letting h (hold.Reset r) p = tt
 
 let-goes : (s : SubchannelState) (h : HoldState) (p : ℕ) → s.hold ≡ h → Goes h.phase p (device_released s)
-let-goes s h p e = subst (λ (x : HoldState). IsAnswerPath x.phase p (sent_path (device_released s).came.sent)) e (letting s.hold s.hold.phase p)
+let-goes s h p e = subst (λ (x : HoldState). IsAnswerPath x.phase p (sent_path (device_released s).outcome.sent)) e (letting s.hold s.hold.phase p)
 
 hold-if : (b : Bool) (x y : SubchannelState) (h : HoldState) → x.hold ≡ h → y.hold ≡ h → (if b then x else y).hold ≡ h
 hold-if true x y h e f = e
 hold-if false x y h e f = f
 
-suspending-hold : (s : SubchannelState) (program : Program) (walk : WalkPlace) (count : ℕ) → (program_suspended s program walk count).hold ≡ s.hold
+suspending-hold : (s : SubchannelState) (program : Program) (walk : WalkPosition) (count : ℕ) → (program_suspended s program walk count).hold ≡ s.hold
 suspending-hold s program walk count = hold-if program.orb.suppress_suspended _ _ s.hold refl refl
 
 begun-hold : (b : Option ActiveProgram) (s : SubchannelState) → (without_begun b s).hold ≡ s.hold
@@ -85,19 +85,19 @@ begun-hold (Some b) s = refl
 
 -- Accept: the program is connected by the path of its offer, and lets the device go by it
 offered-goes : (y : SubchannelState) (t q p : ℕ) → y.hold.phase ≡ hold.On t q 0 → Goes (hold.Offer t q) p (device_released y)
-offered-goes y t q p e = subst (λ (phase : HoldPhase). IsAnswerPath (hold.Offer t q) p (sent_path (came_of (letting_go y.hold phase)).sent)) (sym e) (inr refl)
+offered-goes y t q p e = subst (λ (phase : HoldPhase). IsAnswerPath (hold.Offer t q) p (sent_path (outcome_of (letting_go y.hold phase)).sent)) (sym e) (inr refl)
 
-begun-goes : (storage : Contents) (s : SubchannelState) (t q p : ℕ) (st : ProgramPosition) (walk : WalkPlace) (x : CommandStart) → s.hold.phase ≡ hold.On t q 0 →
+begun-goes : (storage : Contents) (s : SubchannelState) (t q p : ℕ) (st : ProgramPosition) (walk : WalkPosition) (x : CommandStart) → s.hold.phase ≡ hold.On t q 0 →
     Goes (hold.Offer t q) p (first_ccw_outcome storage s q t st walk x)
-begun-goes storage s t q p st walk (came.Begins transfer) e = inr refl
-begun-goes storage s t q p st walk came.Suspends e =
+begun-goes storage s t q p st walk (outcome.Begins transfer) e = inr refl
+begun-goes storage s t q p st walk outcome.Suspends e =
     offered-goes (program_suspended s st.program walk st.count) t q p (ap (λ (h : HoldState). h.phase) (suspending-hold s st.program walk st.count) ∙ e)
-begun-goes storage s t q p st walk (came.Stops check) e =
+begun-goes storage s t q p st walk (outcome.Stops check) e =
     offered-goes (with_cause s (cause.FetchFault walk.tried check st.count)) t q p (ap (λ (h : HoldState). h.phase) (begun-hold s.begun s) ∙ e)
 
 standing-goes : (storage : Contents) (s : SubchannelState) (t q p : ℕ) (st : Option ProgramPosition) → s.hold.phase ≡ hold.On t q 0 → Goes (hold.Offer t q) p (begins_at storage s q t st)
 standing-goes storage s t q p None e = tt
-standing-goes storage s t q p (Some st) e = begun-goes storage s t q p st (first_command storage st.walk).walk (first_command storage st.walk).came e
+standing-goes storage s t q p (Some st) e = begun-goes storage s t q p st (first_command storage st.walk).walk (first_command storage st.walk).outcome e
 
 offer-goes : (storage : Contents) (s : SubchannelState) (t q p : ℕ) (same may : Bool) → Goes (hold.Offer t q) p (takes_accept storage s (if same then Some (program_begun s.hold t q may) else None))
 offer-goes storage s t q p false may = tt
@@ -114,10 +114,10 @@ accept-goes storage s (hold.Letting t q) p u may = tt
 accept-goes storage s (hold.Reset r) p u may = tt
 
 -- what the hold alone takes
-quiet-goes : (b : Bool) (phase : HoldPhase) (p : ℕ) (h : HoldState) → IsAnswerPath phase p (sent_path (came_of (if b then Some (hold_quietly h) else None)).sent)
+quiet-goes : (b : Bool) (phase : HoldPhase) (p : ℕ) (h : HoldState) → IsAnswerPath phase p (sent_path (outcome_of (if b then Some (hold_quietly h) else None)).sent)
 quiet-goes b phase p h = if-came b phase p (hold_quietly h) tt
 
-busy-goes : (h : HoldState) (phase : HoldPhase) (p u : ℕ) → IsAnswerPath phase p (sent_path (came_of (found_busy h phase u)).sent)
+busy-goes : (h : HoldState) (phase : HoldPhase) (p u : ℕ) → IsAnswerPath phase p (sent_path (outcome_of (found_busy h phase u)).sent)
 busy-goes h hold.Free p u = tt
 busy-goes h (hold.Offer t q) p u = quiet-goes (u == t) (hold.Offer t q) p _
 busy-goes h (hold.On t q c) p u = tt
@@ -125,7 +125,7 @@ busy-goes h (hold.Away t) p u = tt
 busy-goes h (hold.Letting t q) p u = tt
 busy-goes h (hold.Reset r) p u = tt
 
-left-goes : (h : HoldState) (phase : HoldPhase) (p u d : ℕ) → IsAnswerPath phase p (sent_path (came_of (left h phase u d)).sent)
+left-goes : (h : HoldState) (phase : HoldPhase) (p u d : ℕ) → IsAnswerPath phase p (sent_path (outcome_of (left h phase u d)).sent)
 left-goes h hold.Free p u d = tt
 left-goes h (hold.Offer t q) p u d = tt
 left-goes h (hold.On t q c) p u d = quiet-goes ((u == t) && (d == c)) (hold.On t q c) p _
@@ -133,7 +133,7 @@ left-goes h (hold.Away t) p u d = tt
 left-goes h (hold.Letting t q) p u d = tt
 left-goes h (hold.Reset r) p u d = tt
 
-released-goes : (h : HoldState) (phase : HoldPhase) (p u : ℕ) → IsAnswerPath phase p (sent_path (came_of (released h phase u)).sent)
+released-goes : (h : HoldState) (phase : HoldPhase) (p u : ℕ) → IsAnswerPath phase p (sent_path (outcome_of (released h phase u)).sent)
 released-goes h hold.Free p u = tt
 released-goes h (hold.Offer t q) p u = tt
 released-goes h (hold.On t q c) p u = tt
@@ -142,12 +142,12 @@ released-goes h (hold.Letting t q) p u = quiet-goes (u == t) (hold.Letting t q) 
 released-goes h (hold.Reset r) p u = tt
 
 away-goes : (h : HoldState) (phase : HoldPhase) (t p c : ℕ) (b may : Bool) →
-    IsAnswerPath phase p (sent_path (came_of (if b then (if may then Some (granting h p t c) else Some (refusing h p t c)) else None)).sent)
+    IsAnswerPath phase p (sent_path (outcome_of (if b then (if may then Some (granting h p t c) else Some (refusing h p t c)) else None)).sent)
 away-goes h phase t p c true true = inl refl
 away-goes h phase t p c true false = inl refl
 away-goes h phase t p c false may = tt
 
-back-goes : (h : HoldState) (phase : HoldPhase) (p u c : ℕ) (may : Bool) → IsAnswerPath phase p (sent_path (came_of (asked_back h phase p u c may)).sent)
+back-goes : (h : HoldState) (phase : HoldPhase) (p u c : ℕ) (may : Bool) → IsAnswerPath phase p (sent_path (outcome_of (asked_back h phase p u c may)).sent)
 back-goes h hold.Free p u c may = tt
 back-goes h (hold.Offer t q) p u c may = tt
 back-goes h (hold.On t q d) p u c may = if-came ((u == t) && nat_lt h.seen c) (hold.On t q d) p (refusing h p t c) (inl refl)
@@ -167,7 +167,7 @@ cleared-goes s (hold.Away t) p u = tt
 cleared-goes s (hold.Letting t q) p u = tt
 cleared-goes s (hold.Reset r) p u = cleared-by s (hold.Reset r) p (u == r) _
 
-attended-goes : (h : HoldState) (phase : HoldPhase) (p a : ℕ) (may : Bool) → IsAnswerPath phase p (sent_path (came_of (attended h phase p a may)).sent)
+attended-goes : (h : HoldState) (phase : HoldPhase) (p a : ℕ) (may : Bool) → IsAnswerPath phase p (sent_path (outcome_of (attended h phase p a may)).sent)
 attended-goes h hold.Free p a may = if-came may hold.Free p _ (inl refl)
 attended-goes h (hold.Offer t q) p a may = tt
 attended-goes h (hold.On t q c) p a may = tt
@@ -187,12 +187,12 @@ moved-goes storage s (Some b) signal load =
     tt
 
 -- End: the next command goes by its path
-chaining-goes : (storage : Contents) (s : SubchannelState) (b : ActiveProgram) (signal : EndSignal) (walk : WalkPlace) (x : CommandStart) → Goes s.hold.phase signal.path (next_ccw_outcome storage s b signal walk x)
-chaining-goes storage s b signal walk (came.Begins transfer) = inl refl
-chaining-goes storage s b signal walk came.Suspends =
+chaining-goes : (storage : Contents) (s : SubchannelState) (b : ActiveProgram) (signal : EndSignal) (walk : WalkPosition) (x : CommandStart) → Goes s.hold.phase signal.path (next_ccw_outcome storage s b signal walk x)
+chaining-goes storage s b signal walk (outcome.Begins transfer) = inl refl
+chaining-goes storage s b signal walk outcome.Suspends =
     let y : SubchannelState = program_suspended (with_allegiance_after_end s signal) b.program walk (residual b.transfer.moving) in
     let-goes y s.hold signal.path (suspending-hold (with_allegiance_after_end s signal) b.program walk (residual b.transfer.moving))
-chaining-goes storage s b signal walk (came.Stops check) =
+chaining-goes storage s b signal walk (outcome.Stops check) =
     let c : StatusCause = cause.FetchFault walk.tried check (residual b.transfer.moving) in
     let-goes (with_cause (with_allegiance_after_end s signal) c) s.hold signal.path (begun-hold s.begun (with_allegiance_after_end s signal))
 
@@ -208,12 +208,12 @@ ended-goes storage s (Some b) signal =
     let next : Beginning = next_command storage (with_first_end b).transfer (has_status_modifier signal.status) in
     if-goes (signal.command == b.transfer.command) phase signal.path (ends_command storage s b signal) (signal_ignored s)
     (if-goes (chains_command s.scsw b signal.status signal.more) phase signal.path (chains_at_device_end storage s (with_first_end b) signal) (concludes s b signal)
-    (if-goes (has_device_end signal.status) phase signal.path (next_ccw_outcome storage s (with_first_end b) signal next.walk next.came) _ (chaining-goes storage s (with_first_end b) signal next.walk next.came) tt)
+    (if-goes (has_device_end signal.status) phase signal.path (next_ccw_outcome storage s (with_first_end b) signal next.walk next.outcome) _ (chaining-goes storage s (with_first_end b) signal next.walk next.outcome) tt)
     (stops-goes s b signal))
     tt
 
 pub answer_goes : (returns : Bool) (storage : Contents) (s : SubchannelState) (p : ℕ) (signal : Up) →
-    IsAnswerPath s.hold.phase p (sent_path (takes_up returns storage s p signal).step.came.sent)
+    IsAnswerPath s.hold.phase p (sent_path (takes_up returns storage s p signal).step.outcome.sent)
 answer_goes returns storage s p (up.Accept t) = accept-goes storage s s.hold.phase p t (takes_device s)
 answer_goes returns storage s p (up.Busy t) = busy-goes s.hold s.hold.phase p t
 answer_goes returns storage s p (up.Leave t c) = left-goes s.hold s.hold.phase p t c

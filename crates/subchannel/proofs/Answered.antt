@@ -19,7 +19,7 @@ use Rattle.active_program.specs.Working.{Moved, moved_of, moved_at, moved_by, da
 use Rattle.subchannel.proofs.Working.{data_takes}
 
 abbrev answers : SignalOutcome → Option ℕ
-answers met = sent_path met.step.came.sent
+answers met = sent_path met.step.outcome.sent
 
 both : (b : Bool) (x y : SignalOutcome) (u : Option ℕ) → answers x ≡ u → answers y ≡ u → answers (if b then x else y) ≡ u
 both true x y u e f = e
@@ -52,7 +52,7 @@ signal-path storage s load signal =
     ∙ moved-path storage s load signal.path (moved_at s signal) (at-path _ (moved_of s.begun signal) signal.path (of-path s.begun signal))
 
 pub data_answers : (returns : Bool) (storage : Contents) (s : SubchannelState) (p : ℕ) (told : Up) → is_data told ≡ true →
-    sent_path (takes_up returns storage s p told).step.came.sent ≡ (if is_some (moved_by s p told) then Some p else None)
+    sent_path (takes_up returns storage s p told).step.outcome.sent ≡ (if is_some (moved_by s p told) then Some p else None)
 data_answers returns storage s p (up.Accept t) is = absurd (cc is)
 data_answers returns storage s p (up.Busy t) is = absurd (cc is)
 data_answers returns storage s p (up.Leave t c) is = absurd (cc is)

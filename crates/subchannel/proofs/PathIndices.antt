@@ -1,6 +1,6 @@
 -- The index of a channel path among those of a subchannel.
 use Rattle.std.proofs.Common.{◌≡◌, refl, ap, ◌∙◌, ℕ, ◌+◌, ◌<◌, ◌==◌, zero, suc, Bool, false, None, Some, List, [], ◌∷◌, length, get_or, if◌then◌else◌, eq-eqb, ne_eqb, arith}
-use Rattle.subchannel_model.specs.Places.{one_later}
+use Rattle.subchannel_model.specs.Indices.{one_later}
 use Rattle.subchannel_model.specs.Losing.{path_index}
 
 pub path_index-at : (chpid : ℕ) (paths : List ℕ) (i : ℕ) → i < length paths → ((k : ℕ) → k < i → get_or paths k 0 ≡ chpid → ⊥) →

@@ -38,7 +38,7 @@ pub fn standing_path(hold: &HoldState) -> Option<Path>
 #[tactic(auto, using(crate::proofs::AnswerPaths::answer_goes))]
 pub fn answer_paths()
     ensures { (returns : Bool) (storage : Contents) (s : SubchannelState) (path : ℕ) (signal : signals.Up) →
-        spec.IsAnswerPath s.hold.phase path (sent_path (taking_spec.takes_up returns storage s path signal).step.came.sent) }
+        spec.IsAnswerPath s.hold.phase path (sent_path (taking_spec.takes_up returns storage s path signal).step.outcome.sent) }
 {}
 
 /// Whether the program that is connected answers a Data of this path: one of its command, and not of a chunk before the last.
@@ -71,7 +71,7 @@ pub fn answer_path(
     requires made { state.now.state.serials.made < 2 ^ 63 }
     requires drawn { state.now.state.drawn < 2 ^ 63 }
     requires below { command_spec.AreNumbersBelow state.now.state.begun }
-    ensures { sent_path (taking_spec.takes_up returns storage.now state.now.state path (lent_up signal.now)).step.came.sent ≡ result }
+    ensures { sent_path (taking_spec.takes_up returns storage.now state.now.state path (lent_up signal.now)).step.outcome.sent ≡ result }
 {
     match *signal.kept {
         Up::Data { .. } if answers_data(state, path, signal) => Some(path),
@@ -92,7 +92,7 @@ fn unmoved_path(
     requires drawn { state.now.state.drawn < 2 ^ 63 }
     requires below { command_spec.AreNumbersBelow state.now.state.begun }
     requires unmoved { spec.is_data (lent_up signal.now) ≡ false }
-    ensures { sent_path (taking_spec.takes_up returns storage.now state.now.state path (lent_up signal.now)).step.came.sent ≡ result }
+    ensures { sent_path (taking_spec.takes_up returns storage.now state.now.state path (lent_up signal.now)).step.outcome.sent ≡ result }
 {
     let mut copy = state.copy();
     let mut sent = SentDown::new();

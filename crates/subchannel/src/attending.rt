@@ -3,7 +3,7 @@
 ghost use Rattle.std.specs.Prelude.{◌≡◌, ◌<◌, ◌^◌};
 ghost use Rattle.chan_model.specs.HoldTable.{hold_takes};
 ghost use Rattle.chan_model.specs.Lent.{lent_up};
-ghost use Rattle.active_program.specs.Sent.{came_so};
+ghost use Rattle.active_program.specs.Sent.{outcome_with};
 ghost use Rattle.subchannel_model.specs.Attention as on_attention;
 ghost use Rattle.active_program.specs.Stepping.{subchannel_stepped};
 
@@ -54,7 +54,7 @@ pub(crate) fn attend(
     sent: &mut SentDown,
 ) -> Met
     requires { state.old.state.serials.made < 2 ^ 63 }
-    ensures step { subchannel_stepped state.new.state (came_so result sent.new) ≡ on_attention.takes_attention state.old.state status (hold_takes state.old.state.hold path (lent_up signal.now) (on_attention.may_take_attention state.old.state)) }
+    ensures step { subchannel_stepped state.new.state (outcome_with result sent.new) ≡ on_attention.takes_attention state.old.state status (hold_takes state.old.state.hold path (lent_up signal.now) (on_attention.may_take_attention state.old.state)) }
     ensures setup { state.new.setup ≡ state.old.setup }
 {
     let may = may_attend(state);

@@ -4,7 +4,7 @@ ghost use Rattle.std.specs.Prelude.{◌≡◌, ◌<◌, ◌+◌, ◌^◌, if◌t
 ghost use Rattle.chan_model.specs.PathSets.{is_any};
 ghost use Rattle.chan_model.specs.Lent.{plain_down};
 ghost use Rattle.chan_model.specs.Signals.{map_sent};
-ghost use Rattle.chan_model.specs.HoldTable.{came_of, offering, sending_reset};
+ghost use Rattle.chan_model.specs.HoldTable.{outcome_of, offering, sending_reset};
 ghost use Rattle.allegiance.specs.PathUse.{reachable_paths};
 ghost use Rattle.subchannel_model.specs.Choosing as spec;
 ghost use Rattle.functions.specs.Unwired.{with_state};
@@ -250,7 +250,7 @@ pub fn mark_lost_paths(sub: &mut Subchannel, choice: &Option<Path>)
 /// The Reset that is due is sent on a path; nothing is sent where there is none.
 pub fn send_reset(state: &mut PackedState, path: Path) -> Option<OnPath<PlainDown>>
     ensures state { state.new ≡ with_state state.old (spec.reset_sent state.old.state path) }
-    ensures sent { map_sent plain_down result ≡ (came_of (sending_reset state.old.state.hold state.old.state.hold.phase path)).sent }
+    ensures sent { map_sent plain_down result ≡ (outcome_of (sending_reset state.old.state.hold state.old.state.hold.phase path)).sent }
 {
     let rest = state.rest_mut();
     let mut hold = Hold::of(rest.hold);

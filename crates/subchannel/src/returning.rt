@@ -3,7 +3,7 @@
 ghost use Rattle.std.specs.Prelude.{◌≡◌, Some};
 ghost use Rattle.chan_model.specs.HoldTable.{hold_takes};
 ghost use Rattle.chan_model.specs.Lent.{lent_up};
-ghost use Rattle.active_program.specs.Sent.{came_so};
+ghost use Rattle.active_program.specs.Sent.{outcome_with};
 ghost use Rattle.subchannel_model.specs.Back as on_back;
 ghost use Rattle.active_program.specs.Stepping.{subchannel_stepped};
 
@@ -24,7 +24,7 @@ pub(crate) fn come_back(
     returns: bool,
     sent: &mut SentDown,
 ) -> Met
-    ensures step { subchannel_stepped state.new.state (came_so result sent.new) ≡ on_back.takes_back state.old.state path (hold_takes state.old.state.hold path (lent_up signal.now) returns) }
+    ensures step { subchannel_stepped state.new.state (outcome_with result sent.new) ≡ on_back.takes_back state.old.state path (hold_takes state.old.state.hold path (lent_up signal.now) returns) }
     ensures setup { state.new.setup ≡ state.old.setup }
 {
     let met = by_hold(state, path, signal, returns, sent);

@@ -3,7 +3,7 @@
 ghost use Rattle.std.specs.Prelude.{◌≡◌, ◌<◌, ◌^◌, false};
 ghost use Rattle.chan_model.specs.HoldTable.{hold_takes};
 ghost use Rattle.chan_model.specs.Lent.{lent_up};
-ghost use Rattle.active_program.specs.Sent.{came_so};
+ghost use Rattle.active_program.specs.Sent.{outcome_with};
 ghost use Rattle.subchannel.specs.Answering.{is_data};
 ghost use Rattle.active_program.specs.Stepping.{subchannel_stepped};
 ghost use Rattle.subchannel_model.specs.Cleared as on_cleared;
@@ -45,7 +45,7 @@ fn do_clear(state: &mut PackedState)
 /// Cleared: the device was reset.
 fn reset_taken(state: &mut PackedState, path: Path, signal: &LentUp<'_>, sent: &mut SentDown) -> Met
     requires { state.old.state.serials.made < 2 ^ 63 }
-    ensures step { subchannel_stepped state.new.state (came_so result sent.new) ≡ on_cleared.takes_cleared state.old.state (hold_takes state.old.state.hold path (lent_up signal.now) false) }
+    ensures step { subchannel_stepped state.new.state (outcome_with result sent.new) ≡ on_cleared.takes_cleared state.old.state (hold_takes state.old.state.hold path (lent_up signal.now) false) }
     ensures setup { state.new.setup ≡ state.old.setup }
 {
     let mut hold = Hold::of(state.rest().hold);
@@ -62,7 +62,7 @@ fn reset_taken(state: &mut PackedState, path: Path, signal: &LentUp<'_>, sent: &
 fn notice(state: &mut PackedState, restarts: u64, sent: &mut SentDown) -> Met
     requires made { state.old.state.serials.made < 2 ^ 63 }
     requires drawn { state.old.state.drawn < 2 ^ 63 }
-    ensures step { subchannel_stepped state.new.state (came_so result sent.new) ≡ on_notice.takes_notice state.old.state restarts }
+    ensures step { subchannel_stepped state.new.state (outcome_with result sent.new) ≡ on_notice.takes_notice state.old.state restarts }
     ensures setup { state.new.setup ≡ state.old.setup }
 {
     if restarts <= state.rest().hold.known {
@@ -73,7 +73,7 @@ fn notice(state: &mut PackedState, restarts: u64, sent: &mut SentDown) -> Met
     quiet(sent)
 }
 
-/// A subchannel takes a signal that moves no bytes, so that storage stays: whether it was taken, with what is sent in a place.
+/// A subchannel takes a signal that moves no bytes, so that storage stays: whether it was taken, with what is sent in a slot.
 /// `returns`: a program that is away may come back by the path.
 #[tactic(auto, using(crate::proofs::Working::end_takes))]
 pub fn take_unmoved(
@@ -88,7 +88,7 @@ pub fn take_unmoved(
     requires drawn { state.old.state.drawn < 2 ^ 63 }
     requires below { command.AreNumbersBelow state.old.state.begun }
     requires unmoved { is_data (lent_up signal.now) ≡ false }
-    ensures met { outcomes.with_storage storage.now (subchannel_stepped state.new.state (came_so result sent.new)) ≡ spec.takes_up returns storage.now state.old.state path (lent_up signal.now) }
+    ensures met { outcomes.with_storage storage.now (subchannel_stepped state.new.state (outcome_with result sent.new)) ≡ spec.takes_up returns storage.now state.old.state path (lent_up signal.now) }
     ensures setup { state.new.setup ≡ state.old.setup }
 {
     match *signal.kept {
@@ -102,7 +102,7 @@ pub fn take_unmoved(
     }
 }
 
-/// A subchannel takes a signal: whether it was taken, with what is sent in a place. The bytes of a read are stored.
+/// A subchannel takes a signal: whether it was taken, with what is sent in a slot. The bytes of a read are stored.
 /// `returns`: a program that is away may come back by the path.
 pub fn take_up(
     storage: &mut Storage,
@@ -115,7 +115,7 @@ pub fn take_up(
     requires made { state.old.state.serials.made < 2 ^ 63 }
     requires drawn { state.old.state.drawn < 2 ^ 63 }
     requires below { command.AreNumbersBelow state.old.state.begun }
-    ensures met { outcomes.with_storage storage.new (subchannel_stepped state.new.state (came_so result sent.new)) ≡ spec.takes_up returns storage.old state.old.state path (lent_up signal.now) }
+    ensures met { outcomes.with_storage storage.new (subchannel_stepped state.new.state (outcome_with result sent.new)) ≡ spec.takes_up returns storage.old state.old.state path (lent_up signal.now) }
     ensures setup { state.new.setup ≡ state.old.setup }
 {
     match *signal.kept {

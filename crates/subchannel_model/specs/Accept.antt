@@ -10,9 +10,9 @@ use Rattle.chan_model.specs.declared.hold_state.HoldPhase.TheVariants as hold
 use Rattle.chan_model.specs.declared.hold_state.HoldState.{HoldState}
 use Rattle.chan_model.specs.declared.signal.Taken.{Taken}
 use Rattle.chan_model.specs.Signals.{Down}
-use Rattle.chan_model.specs.HoldTable.{HoldStep, hold_after, came_of}
+use Rattle.chan_model.specs.HoldTable.{HoldStep, hold_after, outcome_of}
 use Rattle.ccw_walk.specs.Sequences.{Nothing}
-use Rattle.ccw_walk.specs.Places.{WalkPlace, walk_place}
+use Rattle.ccw_walk.specs.Positions.{WalkPosition, walk_position}
 use Rattle.data_move.specs.declared.transfer.Beginning.{Beginning}
 use Rattle.data_move.specs.declared.transfer.CommandStart.{CommandStart}
 use Rattle.data_move.specs.declared.transfer.CommandStart.TheVariants as start
@@ -32,7 +32,7 @@ use Rattle.subchannel_model.specs.Command.{sends_command}
 
 -- a program that waits begins with its first CCW
 abbrev pub position_at_start : Program → ProgramPosition
-position_at_start program = record { program = program; walk = walk_place program.orb Nothing; count = 0 }
+position_at_start program = record { program = program; walk = walk_position program.orb Nothing; count = 0 }
 
 -- a program that is suspended goes on from where it stands, where it is the one of this start
 abbrev pub suspended_position : Option ProgramPosition → ℕ → Option ProgramPosition
@@ -79,7 +79,7 @@ abbrev pub sends_first_command : SubchannelState → ℕ → ℕ → Program →
 sends_first_command s path t program x = sends_command (with_program_at_work s program x.transfer) path t x
 
 -- the first CCW takes control and its command is sent; or it suspends the program, or a check ends it, and the device is let go
-abbrev pub first_ccw_outcome : Contents → SubchannelState → ℕ → ℕ → ProgramPosition → WalkPlace → CommandStart → UpStep
+abbrev pub first_ccw_outcome : Contents → SubchannelState → ℕ → ℕ → ProgramPosition → WalkPosition → CommandStart → UpStep
 first_ccw_outcome storage s path t position walk (start.Begins transfer) =
     sends_first_command s path t position.program (begun_with_room storage transfer)
 first_ccw_outcome storage s path t position walk start.Suspends = device_released (program_suspended s position.program walk position.count)
@@ -88,7 +88,7 @@ first_ccw_outcome storage s path t position walk (start.Stops check) =
 
 -- first: what the fetch of the first CCW came to
 abbrev pub begins_with : Contents → SubchannelState → ℕ → ℕ → ProgramPosition → Beginning → UpStep
-begins_with storage s path t position first = first_ccw_outcome storage s path t position first.walk first.came
+begins_with storage s path t position first = first_ccw_outcome storage s path t position first.walk first.outcome
 
 -- where the program is over nothing is sent
 abbrev pub begins_at : Contents → SubchannelState → ℕ → ℕ → Option ProgramPosition → UpStep
@@ -104,8 +104,8 @@ abbrev pub accepted_in_phase : Contents → SubchannelState → HoldPhase → Ta
 accepted_in_phase storage s (hold.On t path c) taken =
     begins_at storage (record s { pmcw = with_path_used s.pmcw path }) path t (offered_position s)
 accepted_in_phase storage s (hold.Letting t path) taken =
-    record { state = halt_performed (record s { pmcw = with_path_used s.pmcw path }); came = taken }
-accepted_in_phase storage s phase taken = record { state = s; came = taken }
+    record { state = halt_performed (record s { pmcw = with_path_used s.pmcw path }); outcome = taken }
+accepted_in_phase storage s phase taken = record { state = s; outcome = taken }
 
 -- an Accept that the hold does not take is ignored
 abbrev pub accepted_by : Contents → SubchannelState → HoldState → Taken Down → UpStep
@@ -114,4 +114,4 @@ accepted_by storage s hold taken =
 
 -- Accept: step is what the hold does with it
 abbrev pub takes_accept : Contents → SubchannelState → Option HoldStep → UpStep
-takes_accept storage s step = accepted_by storage s (hold_after s.hold step) (came_of step)
+takes_accept storage s step = accepted_by storage s (hold_after s.hold step) (outcome_of step)

@@ -2,7 +2,7 @@
 use Rattle.std.specs.Prelude.{Bool, not, ◌&&◌, ◌||◌, if◌then◌else◌, Option}
 use Rattle.scsw_irb.specs.declared.scsw.ActivityControl.{ActivityControl}
 use Rattle.scsw_irb.specs.declared.status.DeviceStatus.{DeviceStatus}
-use Rattle.chan_model.specs.HoldTable.{HoldStep, hold_after, came_of}
+use Rattle.chan_model.specs.HoldTable.{HoldStep, hold_after, outcome_of}
 use Rattle.subchannel_model.specs.declared.state.SubchannelState.{SubchannelState}
 use Rattle.subchannel_model.specs.declared.state.UpStep.{UpStep}
 use Rattle.subchannel_model.specs.declared.cause.StatusCause.TheVariants as cause
@@ -28,4 +28,4 @@ with_attention s shows = if shows then with_cause s cause.Attention else s
 abbrev pub takes_attention : SubchannelState → DeviceStatus → Option HoldStep → UpStep
 takes_attention s status step =
     let next = record s { hold = hold_after s.hold step } in
-    record { state = with_attention next ((came_of step).taken && not (is_control_unit_end_alone status)); came = came_of step }
+    record { state = with_attention next ((outcome_of step).taken && not (is_control_unit_end_alone status)); outcome = outcome_of step }

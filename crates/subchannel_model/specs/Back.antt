@@ -4,7 +4,7 @@ use Rattle.std.specs.Prelude.{ℕ, Bool, true, false, if◌then◌else◌, Optio
 use Rattle.chan_model.specs.Signals.{Down}
 use Rattle.chan_model.specs.declared.signal.OnPath.{OnPath}
 use Rattle.chan_model.specs.declared.signal.Down.TheVariants as down
-use Rattle.chan_model.specs.HoldTable.{HoldStep, hold_after, came_of}
+use Rattle.chan_model.specs.HoldTable.{HoldStep, hold_after, outcome_of}
 use Rattle.subchannel_model.specs.declared.state.SubchannelState.{SubchannelState}
 use Rattle.subchannel_model.specs.declared.state.UpStep.{UpStep}
 
@@ -28,4 +28,4 @@ with_granted_path s path granted = record s {
 -- Back: step is what the hold does with it
 abbrev pub takes_back : SubchannelState → ℕ → Option HoldStep → UpStep
 takes_back s path step =
-    record { state = with_granted_path (record s { hold = hold_after s.hold step }) path (is_granted (came_of step).sent); came = came_of step }
+    record { state = with_granted_path (record s { hold = hold_after s.hold step }) path (is_granted (outcome_of step).sent); outcome = outcome_of step }

@@ -1,6 +1,6 @@
 -- Cleared: the unit performed the Reset that the hold sent (SA22-7832, chapter 15, clear function; the signal is this project's own).
 use Rattle.std.specs.Prelude.{if◌then◌else◌, Option, None, Some}
-use Rattle.chan_model.specs.HoldTable.{HoldStep, came_of}
+use Rattle.chan_model.specs.HoldTable.{HoldStep, outcome_of}
 use Rattle.subchannel_model.specs.declared.state.SubchannelState.{SubchannelState}
 use Rattle.subchannel_model.specs.declared.state.UpStep.{UpStep}
 use Rattle.subchannel_model.specs.declared.cause.StatusCause.TheVariants as cause
@@ -14,4 +14,4 @@ clear_performed s = if s.scsw.activity.clear_pending then with_cause s cause.Cle
 -- Cleared: step is what the hold does with it
 abbrev pub takes_cleared : SubchannelState → Option HoldStep → UpStep
 takes_cleared s None = signal_ignored s
-takes_cleared s (Some step) = record { state = clear_performed (record s { hold = step.state }); came = came_of (Some step) }
+takes_cleared s (Some step) = record { state = clear_performed (record s { hold = step.state }); outcome = outcome_of (Some step) }

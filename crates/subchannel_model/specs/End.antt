@@ -6,7 +6,7 @@ use Rattle.allegiance.specs.declared.allegiances.AllegianceCause.TheVariants as 
 use Rattle.storage_keys.specs.Storage.{Contents}
 use Rattle.chan_model.specs.HoldTable.{is_on}
 use Rattle.chan_model.specs.UnitReports.{is_last_end, has_device_end, has_unit_check}
-use Rattle.ccw_walk.specs.Places.{WalkPlace}
+use Rattle.ccw_walk.specs.Positions.{WalkPosition}
 use Rattle.data_move.specs.Moving.{residual}
 use Rattle.data_move.specs.declared.transfer.Beginning.{Beginning}
 use Rattle.data_move.specs.declared.transfer.CommandStart.{CommandStart}
@@ -44,7 +44,7 @@ abbrev pub sends_next_command : SubchannelState → ActiveProgram → EndSignal 
 sends_next_command s b signal x = sends_command (with_transfer s b x.transfer) signal.path signal.number x
 
 -- the next CCW takes control and its command is sent; or it suspends the program, or a check ends it, and the device is let go
-abbrev pub next_ccw_outcome : Contents → SubchannelState → ActiveProgram → EndSignal → WalkPlace → CommandStart → UpStep
+abbrev pub next_ccw_outcome : Contents → SubchannelState → ActiveProgram → EndSignal → WalkPosition → CommandStart → UpStep
 next_ccw_outcome storage s b signal walk (start.Begins transfer) = sends_next_command s b signal (begun_with_room storage transfer)
 next_ccw_outcome storage s b signal walk start.Suspends =
     device_released (program_suspended (with_allegiance_after_end s signal) b.program walk (residual b.transfer.moving))
@@ -53,7 +53,7 @@ next_ccw_outcome storage s b signal walk (start.Stops check) =
 
 -- next: what the fetch of the next CCW came to
 abbrev pub chains_with : Contents → SubchannelState → ActiveProgram → EndSignal → Beginning → UpStep
-chains_with storage s b signal next = next_ccw_outcome storage s b signal next.walk next.came
+chains_with storage s b signal next = next_ccw_outcome storage s b signal next.walk next.outcome
 
 -- the next command is chained to at device end; with channel end alone the program waits for that
 abbrev pub chains_at_device_end : Contents → SubchannelState → ActiveProgram → EndSignal → UpStep

@@ -1,6 +1,6 @@
 pub mod Status
 pub mod Opening
-pub mod Places
+pub mod Indices
 pub mod Conditions
 pub mod Programs
 pub mod Start

@@ -10,7 +10,7 @@ use Rattle.subchannel_model.specs.declared.state.PmcwState.{PmcwState}
 use Rattle.subchannel_model.specs.declared.state.Subchannel.{Subchannel}
 use Rattle.subchannel_model.specs.declared.state.SubchannelState.{SubchannelState}
 use Rattle.subchannel_model.specs.Causes.{with_cause}
-use Rattle.subchannel_model.specs.Places.{first_place}
+use Rattle.subchannel_model.specs.Indices.{first_index}
 use Rattle.subchannel_model.specs.Programs.{has_any}
 
 abbrev pub is_offered_or_held : HoldPhase → Bool
@@ -34,7 +34,7 @@ path_lost s p = if rests_on s.hold p then reset_for s else s
 
 -- the index of a channel path, where the subchannel has it
 abbrev pub path_index : ℕ → List ℕ → Option ℕ
-path_index chpid paths = first_place (λ x. x == chpid) paths
+path_index chpid paths = first_index (λ x. x == chpid) paths
 
 abbrev pub loses_at : Option ℕ → Subchannel → Subchannel
 loses_at None sub = sub

@@ -130,5 +130,5 @@ pub enum Chosen {
 #[derive(Drop)]
 pub struct UpStep {
     pub state: SubchannelState,
-    pub came: Taken<Down>,
+    pub outcome: Taken<Down>,
 }

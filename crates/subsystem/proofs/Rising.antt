@@ -17,9 +17,9 @@ use Rattle.chan_events.specs.Replies.{Reply}
 use Rattle.channel_config.specs.Setup.{Setup}
 use Rattle.subchannel_model.specs.declared.state.Subchannel.{Subchannel}
 use Rattle.subchannel_model.specs.Conditions.{condition_of}
-use Rattle.subchannel_model.specs.Places.{sub_at}
+use Rattle.subchannel_model.specs.Indices.{sub_at}
 use Rattle.chan_events.specs.Instructions.{subchannel_word}
-use Rattle.machine_model.specs.State.{State, opening_of, place_of, sub_of}
+use Rattle.machine_model.specs.State.{State, opening_of, index_of, sub_of}
 use Rattle.machine_model.specs.Steps.{HasRun, Performs, Run, Step, Stepped}
 use Rattle.run_laws.specs.StateClaims.{IsLaterSubchannel, IsPendingUncleared}
 use Rattle.run_laws.specs.CodeSteps.{IsByTable, serials_of, state_of}
@@ -43,31 +43,31 @@ count-stays [] (y ∷ ys) z = absurd z
 count-stays (x ∷ xs) [] z = absurd z
 count-stays (x ∷ xs) (y ∷ ys) z = ap suc (count-stays xs ys z.1)
 
-one-later : (xs ys : List Subchannel) (place : ℕ) (a b : Serials) → AllZip IsLaterSubchannel xs ys →
-    slice_get (map (λ (sub : Subchannel). sub.state.serials) xs) place ≡ Some a → slice_get (map (λ (sub : Subchannel). sub.state.serials) ys) place ≡ Some b →
+one-later : (xs ys : List Subchannel) (index : ℕ) (a b : Serials) → AllZip IsLaterSubchannel xs ys →
+    slice_get (map (λ (sub : Subchannel). sub.state.serials) xs) index ≡ Some a → slice_get (map (λ (sub : Subchannel). sub.state.serials) ys) index ≡ Some b →
     (a.made ≤ b.made) × (a.cleared ≤ b.cleared)
-one-later [] ys place a b z p q = absurd (cc p)
-one-later (x ∷ xs) [] place a b z p q = absurd z
+one-later [] ys index a b z p q = absurd (cc p)
+one-later (x ∷ xs) [] index a b z p q = absurd z
 one-later (x ∷ xs) (y ∷ ys) zero a b z p q =
     let m : x.state.serials ≡ a = same_Some x.state.serials a p in
     let n : y.state.serials ≡ b = same_Some y.state.serials b q in (
       omega (arith, z.0.made, ap (λ (u : Serials). u.made) m, ap (λ (u : Serials). u.made) n),
       omega (arith, z.0.cleared, ap (λ (u : Serials). u.cleared) m, ap (λ (u : Serials). u.cleared) n),
     )
-one-later (x ∷ xs) (y ∷ ys) (suc place) a b z p q = one-later xs ys place a b z.1 p q
+one-later (x ∷ xs) (y ∷ ys) (suc index) a b z p q = one-later xs ys index a b z.1 p q
 
 later-rises : (old new : State) → AllZip IsLaterSubchannel old.subs new.subs → Rises (all_serials old) (all_serials new)
 later-rises old new z = record {
   count = count-stays old.subs new.subs z;
-  made = λ place a b p q. (one-later old.subs new.subs place a b z p q).0;
-  cleared = λ place a b p q. (one-later old.subs new.subs place a b z p q).1;
+  made = λ index a b p q. (one-later old.subs new.subs index a b z p q).0;
+  cleared = λ index a b p q. (one-later old.subs new.subs index a b z p q).1;
 }
 
 pub same-rises : (xs : List Serials) → Rises xs xs
 same-rises xs = record {
   count = refl;
-  made = λ place a b p q. omega (arith, ap (λ (u : Serials). u.made) (same_Some a b (sym p ∙ q)));
-  cleared = λ place a b p q. omega (arith, ap (λ (u : Serials). u.cleared) (same_Some a b (sym p ∙ q)));
+  made = λ index a b p q. omega (arith, ap (λ (u : Serials). u.made) (same_Some a b (sym p ∙ q)));
+  cleared = λ index a b p q. omega (arith, ap (λ (u : Serials). u.cleared) (same_Some a b (sym p ∙ q)));
 }
 
 pub performed-rises : StepsLater → (h : List Entry) (old : State) (e : Event) (a : Result Reply Fault) (new : State) → HasRun h old → Performs old e a new →
@@ -82,14 +82,14 @@ past-ordered pending h s past =
     All-map IsOrdered (λ (sub : Subchannel). sub.state.serials) s.subs
     (All-weaker IsPendingUncleared (λ (sub : Subchannel). IsOrdered sub.state.serials) (λ sub k. k.order) s.subs (pending past.0.0 h s (past.1 past.0.0 past.0.1)))
 
-ordered-in : (subs : List Subchannel) (place : ℕ) (o : Option Subchannel) → All IsPendingUncleared subs → slice_get subs place ≡ o → IsOrdered (serials_of o)
-ordered-in subs place None all e = omega arith
-ordered-in subs place (Some sub) all e =
-    (All-contains IsPendingUncleared subs sub all (place, slice_get_within subs place sub e, get_or_from_slice_get subs place sub sub e)).order
+ordered-in : (subs : List Subchannel) (index : ℕ) (o : Option Subchannel) → All IsPendingUncleared subs → slice_get subs index ≡ o → IsOrdered (serials_of o)
+ordered-in subs index None all e = omega arith
+ordered-in subs index (Some sub) all e =
+    (All-contains IsPendingUncleared subs sub all (index, slice_get_within subs index sub e, get_or_from_slice_get subs index sub sub e)).order
 
 ordered-at : (subs : List Subchannel) (p : Option ℕ) → All IsPendingUncleared subs → IsOrdered (serials_of (sub_at subs p))
 ordered-at subs None all = omega arith
-ordered-at subs (Some place) all = ordered-in subs place (slice_get subs place) all refl
+ordered-at subs (Some index) all = ordered-in subs index (slice_get subs index) all refl
 
 answered : (k : ConditionCode) (x : Serials) → IsOrdered x → IfSome (serials_brought (Some (answer_of_code k x))) IsOrdered
 answered code.Zero x h = h
@@ -101,7 +101,7 @@ brings : (s : State) (e : Event) (r : Reply) (new : State) → IsByTable s e r n
 brings s (event.Execute cpu i) r new table all =
     subst (λ (a : Option Answer). IfSome (serials_brought a) IsOrdered) (sym table)
     (answered (code_by i (condition_of (state_of (sub_of s (subchannel_word i))))) (serials_of (sub_of new (subchannel_word i)))
-    (ordered-at new.subs (place_of new (subchannel_word i)) all))
+    (ordered-at new.subs (index_of new (subchannel_word i)) all))
 brings s (event.Put address bytes) r new table all = tt
 brings s (event.SetKey address key) r new table all = tt
 brings s (event.SetPrefix cpu address) r new table all = tt
@@ -110,9 +110,9 @@ brings s (event.ExecuteOther cpu i) r new table all = tt
 brings s (event.Choose word) r new table all = tt
 brings s (event.Up word path) r new table all = tt
 brings s (event.Down word path) r new table all = tt
-brings s (event.Report place report) r new table all = tt
-brings s (event.Act place act) r new table all = tt
-brings s (event.Restart place) r new table all = tt
+brings s (event.Report index report) r new table all = tt
+brings s (event.Act index act) r new table all = tt
+brings s (event.Restart index) r new table all = tt
 brings s (event.PathDown chpid) r new table all = tt
 brings s (event.PathUp chpid) r new table all = tt
 brings s (event.PathReset chpid) r new table all = tt

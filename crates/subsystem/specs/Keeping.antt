@@ -37,8 +37,8 @@ IsOrdered serials = serials.cleared ≤ serials.made
 -- no subchannel comes or goes, and of none does either count fall
 pub record Rises (old new : List Serials) : Type 0 where
   pub count : length new ≡ length old
-  pub made : (place : ℕ) (before after : Serials) → slice_get old place ≡ Some before → slice_get new place ≡ Some after → before.made ≤ after.made
-  pub cleared : (place : ℕ) (before after : Serials) → slice_get old place ≡ Some before → slice_get new place ≡ Some after → before.cleared ≤ after.cleared
+  pub made : (index : ℕ) (before after : Serials) → slice_get old index ≡ Some before → slice_get new index ≡ Some after → before.made ≤ after.made
+  pub cleared : (index : ℕ) (before after : Serials) → slice_get old index ≡ Some before → slice_get new index ≡ Some after → before.cleared ≤ after.cleared
 
 -- the serials that an instruction's reply brings are in order
 abbrev pub serials_with : Answer → Option Serials

@@ -24,15 +24,15 @@ pub fn keep_step<S: Supply, P: PathChoice + Drop>(
     machine: &mut Machine,
     history: &mut Log,
     supply: &mut S,
-    places: &SubchannelIndex,
+    indices: &SubchannelIndex,
     choice: &P,
     event: &Event,
 ) -> Result<(), Fault>
     requires run { HasRun history.old.entries machine.old }
-    requires fits { Fits places.now machine.old.subs }
+    requires fits { Fits indices.now machine.old.subs }
     requires fresh { history.old.reply ≡ reply_spec.Done }
     ensures run { HasRun history.new.entries machine.new }
-    ensures fits { Fits places.now machine.new.subs }
+    ensures fits { Fits indices.now machine.new.subs }
     ensures fresh { history.new.reply ≡ reply_spec.Done }
     ensures answered { IsStep P.picks (past_of machine.old history.old) event.now (answer_of result history.new.entries) (past_of machine.new history.new) }
     ensures given { result ≢ Err fault_spec.NoMemory → S.refused supply.new ≡ S.refused supply.old }
@@ -49,7 +49,7 @@ pub fn keep_step<S: Supply, P: PathChoice + Drop>(
     if history.make_room_with(supply).is_err() {
         return Err(Fault::NoMemory);
     }
-    match machine.perform(places, choice, event, history) {
+    match machine.perform(indices, choice, event, history) {
         Ok(()) => {
             history.finish(event);
             Ok(())

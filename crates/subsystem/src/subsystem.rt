@@ -47,7 +47,7 @@ use std::marker::Model;
 #[derive(Drop)]
 pub struct Subsystem<P: Drop> {
     choice: P,
-    places: SubchannelIndex,
+    indices: SubchannelIndex,
     machine: Machine,
     history: Log,
 }
@@ -67,7 +67,7 @@ impl<P: Drop> Model for Subsystem<P> {
       room = s.history.room;
     } };
 
-    ghost invariant = { λ s. HasRun s.history.entries s.machine × (Fits s.places s.machine.subs × (s.history.reply ≡ reply_spec.Done)) };
+    ghost invariant = { λ s. HasRun s.history.entries s.machine × (Fits s.indices s.machine.subs × (s.history.reply ≡ reply_spec.Done)) };
 }
 
 /// There was no memory for a subsystem: what it was to be made of.
@@ -104,9 +104,9 @@ impl<P: PathChoice + Drop> Subsystem<P> {
         ensures memory { OnErr result (S.refused supply.new ≡ true) }
     {
         match opened_machine(alloc, supply, &config) {
-            Ok((places, machine)) => Ok(Subsystem {
+            Ok((indices, machine)) => Ok(Subsystem {
                 choice,
-                places,
+                indices,
                 machine,
                 history: Log::new(alloc),
             }),
@@ -160,7 +160,7 @@ impl<P: PathChoice + Drop> Subsystem<P> {
             &mut self.machine,
             &mut self.history,
             supply,
-            &self.places,
+            &self.indices,
             &self.choice,
             event,
         )
@@ -303,29 +303,29 @@ impl<P: PathChoice + Drop> Subsystem<P> {
         self.machine.count()
     }
 
-    /// The place of the subchannel that a subsystem-identification word names, in the order of the configuration, from 0;
+    /// The index of the subchannel that a subsystem-identification word names, in the order of the configuration, from 0;
     /// None where it is not configured.
-    pub fn place(&self, subchannel: u32) -> Option<usize>
-        ensures place { result ≡ state_spec.place_of self.now.state subchannel }
-        ensures bound { IfSome result (λ place. place < length (all_serials self.now.state)) }
+    pub fn index_of(&self, subchannel: u32) -> Option<usize>
+        ensures index { result ≡ state_spec.index_of self.now.state subchannel }
+        ensures bound { IfSome result (λ index. index < length (all_serials self.now.state)) }
     {
-        self.machine.place_of(&self.places, subchannel)
+        self.machine.index_of(&self.indices, subchannel)
     }
 
-    /// The serials of the subchannel at a place; None where there is none.
-    pub fn serials_at(&self, place: usize) -> Option<Serials>
-        ensures serials { result ≡ slice_get (all_serials self.now.state) place }
+    /// The serials of the subchannel at an index; None where there is none.
+    pub fn serials_at(&self, index: usize) -> Option<Serials>
+        ensures serials { result ≡ slice_get (all_serials self.now.state) index }
         ensures ordered { All IsOrdered (all_serials self.now.state) }
     {
         numbers();
-        self.machine.serials_at(place)
+        self.machine.serials_at(index)
     }
 
     /// The serials of the subchannel that a subsystem-identification word names; None where it is not configured.
     pub fn serials(&self, subchannel: u32) -> Option<Serials>
         ensures { result ≡ state_spec.serials_in (state_spec.sub_of self.now.state subchannel) }
     {
-        self.machine.serials(&self.places, subchannel)
+        self.machine.serials(&self.indices, subchannel)
     }
 
     /// The event of a turn of a channel path's worker, for a subchannel: the signal that waits longest on the wire up of the
@@ -334,21 +334,21 @@ impl<P: PathChoice + Drop> Subsystem<P> {
     pub fn path_turn(&self, subchannel: u32, chpid: u8) -> Option<Event>
         ensures { result ≡ path_spec.path_turn_of self.now.state subchannel chpid }
     {
-        self.machine.path_turn(&self.places, subchannel, chpid)
+        self.machine.path_turn(&self.indices, subchannel, chpid)
     }
 
     /// What a unit is to do next; None where it is not configured.
     pub fn unit_turn(&self, unit: u32) -> Option<UnitTurn>
         ensures { result ≡ state_spec.unit_turn_of self.now.state «unit» }
     {
-        self.machine.unit_turn(&self.places, unit)
+        self.machine.unit_turn(&self.indices, unit)
     }
 
     /// What a unit is to do next, as `unit_turn` has it; the bytes that are to be absorbed are lent.
     pub fn lent_turn(&self, unit: u32) -> Option<UnitTurn<LentWork<'_>>>
         ensures { lent_turns result ≡ state_spec.unit_turn_of self.now.state «unit» }
     {
-        self.machine.lent_turn(&self.places, unit)
+        self.machine.lent_turn(&self.indices, unit)
     }
 }
 

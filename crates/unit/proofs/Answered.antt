@@ -10,7 +10,7 @@ use Rattle.chan_model.specs.declared.unit_state.Own.{Own}
 use Rattle.chan_model.specs.declared.unit_state.Own.TheVariants.{Idle, Owned}
 use Rattle.chan_model.specs.declared.unit_state.UnitState.{UnitState}
 use Rattle.chan_model.specs.Sides.{same_side}
-use Rattle.chan_model.specs.UnitTable.{UnitStep, came_of, side_of, is_owner, raised, resets, selected, granted, granted_at, unit_takes}
+use Rattle.chan_model.specs.UnitTable.{UnitStep, outcome_of, side_of, is_owner, raised, resets, selected, granted, granted_at, unit_takes}
 use Rattle.unit.specs.UnitWords.{is_unit_answered}
 
 -- a signal is sent whatever stands for it
@@ -20,7 +20,7 @@ is_some-map_sent f (Some s) = refl
 
 -- the step sends a signal
 abbrev pub sends_one : Option UnitStep → Bool
-sends_one step = is_some (came_of step).sent
+sends_one step = is_some (outcome_of step).sent
 
 pub sends_one-if : (b : Bool) (s t s' t' : Option UnitStep) → sends_one s ≡ sends_one s' → sends_one t ≡ sends_one t'
     → sends_one (if b then s else t) ≡ sends_one (if b then s' else t')
@@ -30,10 +30,10 @@ sends_one-if false s t s' t' e f = f
 pub sends_one-selected : (u : UnitState) (own : Own) (side : Side) (p t : ℕ) (may : Bool) → sends_one (selected u own side p t may) ≡ true
 sends_one-selected u Idle side p t true = refl
 sends_one-selected u Idle side p t false = refl
-sends_one-selected u (Owned k v place) side p t may = refl
+sends_one-selected u (Owned k v connection) side p t may = refl
 
-pub sends_one-granted_at : (u : UnitState) (side : Side) (t : ℕ) (place : Connection) (p q c : ℕ)
-    → sends_one (granted_at u side t place p c) ≡ sends_one (granted_at u side t place q c)
+pub sends_one-granted_at : (u : UnitState) (side : Side) (t : ℕ) (connection : Connection) (p q c : ℕ)
+    → sends_one (granted_at u side t connection p c) ≡ sends_one (granted_at u side t connection q c)
 sends_one-granted_at u side t (Ask r d) p q c =
     sends_one-if (c == d) _ _ _ _ refl (sends_one-if (nat_lt c d) _ _ _ _ refl refl)
 sends_one-granted_at u side t (On r d) p q c = sends_one-if (nat_lt c d) _ _ _ _ refl refl
@@ -42,8 +42,8 @@ sends_one-granted_at u side t (Away d) p q c = sends_one-if (nat_lt c d) _ _ _ _
 pub sends_one-granted : (u : UnitState) (own : Own) (side : Side) (p q t c : ℕ)
     → sends_one (granted u own side p t c) ≡ sends_one (granted u own side q t c)
 sends_one-granted u Idle side p q t c = refl
-sends_one-granted u (Owned k v place) side p q t c =
-    sends_one-if (same_side k side && (t == v)) _ _ _ _ (sends_one-granted_at u k v place p q c) refl
+sends_one-granted u (Owned k v connection) side p q t c =
+    sends_one-if (same_side k side && (t == v)) _ _ _ _ (sends_one-granted_at u k v connection p q c) refl
 
 pub sends_one-unit_takes : (u : UnitState) (side : Side) (p : ℕ) (d : Down) (may : Bool)
     → sends_one (unit_takes u side p d may) ≡ is_unit_answered u side d

@@ -34,11 +34,11 @@ apart Second Second e = refl
 
 pub owns-other : (own : Own) (side : Side) → owns own side ≡ true → owns own (other_of side) ≡ false
 owns-other Idle side e = cc
-owns-other (Owned k v place) side e = apart k side e
+owns-other (Owned k v connection) side e = apart k side e
 
 -- nothing changed
 pub leaves-same : (side : Side) (u : UnitState) → LeavesOther side u u
-leaves-same side u = record { kept = refl; owner = refl; program = λ h. record { own = refl; last_command = refl; at_hand = refl; halted = refl } }
+leaves-same side u = record { kept = refl; owner = refl; program = λ h. record { own = refl; last_command = refl; current = refl; halted = refl } }
 
 -- the sides are as before, and the program changed of a side that held the device or held it afterwards
 pub leaves-program : (side : Side) (u v : UnitState) → v.first ≡ u.first → v.second ≡ u.second
@@ -59,13 +59,13 @@ leaves-then side u v w f g =
     record { kept = g.kept ∙ f.kept; owner = g.owner ∙ f.owner; program = λ h. same (f.program h) (g.program (f.owner ∙ h)) }
   where
     same : IsSameProgram u v → IsSameProgram v w → IsSameProgram u w
-    same a b = record { own = b.own ∙ a.own; last_command = b.last_command ∙ a.last_command; at_hand = b.at_hand ∙ a.at_hand; halted = b.halted ∙ a.halted }
+    same a b = record { own = b.own ∙ a.own; last_command = b.last_command ∙ a.last_command; current = b.current ∙ a.current; halted = b.halted ∙ a.halted }
 
 pub leaves-with_side : (side : Side) (u : UnitState) (s : SideState) → LeavesOther side u (with_side u side s)
 leaves-with_side First u s =
-    record { kept = refl; owner = refl; program = λ h. record { own = refl; last_command = refl; at_hand = refl; halted = refl } }
+    record { kept = refl; owner = refl; program = λ h. record { own = refl; last_command = refl; current = refl; halted = refl } }
 leaves-with_side Second u s =
-    record { kept = refl; owner = refl; program = λ h. record { own = refl; last_command = refl; at_hand = refl; halted = refl } }
+    record { kept = refl; owner = refl; program = λ h. record { own = refl; last_command = refl; current = refl; halted = refl } }
 
 -- Select
 pub leaves-held : (side : Side) (u : UnitState) (t p : ℕ) → u.own ≡ Idle → LeavesOther side u (held u side t p)
@@ -82,11 +82,11 @@ pub leaves-changed : (side : Side) (u v : UnitState) → owns u.own side ≡ tru
 leaves-changed side u v e first second own =
     leaves-program side u v first second (owns-other u.own side e) (ap (λ o. owns o (other_of side)) own ∙ owns-other u.own side e)
 
-owns-at : (u : UnitState) (side : Side) (t : ℕ) (place : Connection) → IsAt u side t place → owns u.own side ≡ true
-owns-at u side t place is = ap (λ own. owns own side) is ∙ same-side side
+owns-at : (u : UnitState) (side : Side) (t : ℕ) (connection : Connection) → IsAt u side t connection → owns u.own side ≡ true
+owns-at u side t connection is = ap (λ own. owns own side) is ∙ same-side side
 
-leaves-place : (side : Side) (u : UnitState) (t : ℕ) (place new : Connection) → IsAt u side t place → LeavesOther side u (record u { own = Owned side t new })
-leaves-place side u t place new is = leaves-program side u _ refl refl (owns-other u.own side (owns-at u side t place is)) (same_side-other side)
+leaves-connection : (side : Side) (u : UnitState) (t : ℕ) (connection new : Connection) → IsAt u side t connection → LeavesOther side u (record u { own = Owned side t new })
+leaves-connection side u t connection new is = leaves-program side u _ refl refl (owns-other u.own side (owns-at u side t connection is)) (same_side-other side)
 
 -- Release, Reset
 leaves-freed : (side : Side) (u : UnitState) → owns u.own side ≡ true → LeavesOther side u (freed u)
@@ -102,8 +102,8 @@ leaves-reset_side side u r =
 
 -- Got
 leaves-forgotten : (side : Side) (u : UnitState) → LeavesOther side u (record u { attention = None })
-leaves-forgotten First u = record { kept = refl; owner = refl; program = λ h. record { own = refl; last_command = refl; at_hand = refl; halted = refl } }
-leaves-forgotten Second u = record { kept = refl; owner = refl; program = λ h. record { own = refl; last_command = refl; at_hand = refl; halted = refl } }
+leaves-forgotten First u = record { kept = refl; owner = refl; program = λ h. record { own = refl; last_command = refl; current = refl; halted = refl } }
+leaves-forgotten Second u = record { kept = refl; owner = refl; program = λ h. record { own = refl; last_command = refl; current = refl; halted = refl } }
 
 leaves-taken : (side : Side) (u : UnitState) (p : ℕ) (d : Down) (step : Option UnitStep) → Takes u side p d step → Leaves side u step
 leaves-taken side u p _ _ (Ignores d) = leaves-same side u
@@ -111,14 +111,14 @@ leaves-taken side u p _ _ (Notices d fresh) = leaves-same side u
 leaves-taken side u p _ _ (Accepts t above idle) =
     leaves-then side u (raised u side t) _ (leaves-with_side side u _) (leaves-held side (raised u side t) t p (own-with_side u side _ ∙ idle))
 leaves-taken side u p _ _ (Denies t above) = leaves-with_side side u _
-leaves-taken side u p _ _ (Begins t n code room place is next) = leaves-changed side u _ (owns-at u side t place is) refl refl refl
-leaves-taken side u p _ _ (Joins t c q is) = leaves-place side u t (Ask q c) (On q c) is
-leaves-taken side u p _ _ (taken.Leaves t c place is) = leaves-same side u
-leaves-taken side u p _ _ (Parts t c q is) = leaves-place side u t (Ask q c) (Away c) is
-leaves-taken side u p _ _ (Answers t s room place x load is hand last loaded) = leaves-changed side u _ (owns-at u side t place is) refl refl refl
+leaves-taken side u p _ _ (Begins t n code room connection is next) = leaves-changed side u _ (owns-at u side t connection is) refl refl refl
+leaves-taken side u p _ _ (Joins t c q is) = leaves-connection side u t (Ask q c) (On q c) is
+leaves-taken side u p _ _ (taken.Leaves t c connection is) = leaves-same side u
+leaves-taken side u p _ _ (Parts t c q is) = leaves-connection side u t (Ask q c) (Away c) is
+leaves-taken side u p _ _ (Answers t s room connection x load is hand last loaded) = leaves-changed side u _ (owns-at u side t connection is) refl refl refl
 leaves-taken side u p _ _ (Gives bytes t c s q x is hand next) = leaves-changed side u _ (owns-at u side t (On q c) is) refl refl refl
-leaves-taken side u p _ _ (Halts t place is first) = leaves-changed side u _ (owns-at u side t place is) refl refl refl
-leaves-taken side u p _ _ (Frees t place is) = leaves-freed side u (owns-at u side t place is)
+leaves-taken side u p _ _ (Halts t connection is first) = leaves-changed side u _ (owns-at u side t connection is) refl refl refl
+leaves-taken side u p _ _ (Frees t connection is) = leaves-freed side u (owns-at u side t connection is)
 leaves-taken side u p _ _ (Resets r b is) = leaves-reset_side side u r
 leaves-taken side u p _ _ (Forgets a) = leaves-forgotten side u
 

@@ -11,7 +11,7 @@ data_sent_with p t c n s load = record { taken = true; sent = Some (record { pat
 abbrev pub data_kept : ℕ → ℕ → ℕ → ℕ → ℕ → KeptLoad → Taken KeptUp
 data_kept p t c n s kept = record { taken = true; sent = Some (record { path = p; signal = up.Data kept t c n s }) }
 
-pub reported-data : (unanswered : Option Load) (load : Load) (kept : KeptLoad) (came : Taken KeptUp) (p t c n s : ℕ)
-    → unanswered ≡ Some load → load_in kept (load_bytes load) ≡ load → came ≡ data_kept p t c n s kept
-    → IfSome unanswered (λ l. map_taken (λ signal. up_in signal (bytes_of unanswered)) came ≡ data_sent_with p t c n s l)
-reported-data unanswered load kept came p t c n s e k f = rw (e, f) (ap (λ (l : Load). data_sent_with p t c n s l) k)
+pub reported-data : (unanswered : Option Load) (load : Load) (kept : KeptLoad) (outcome : Taken KeptUp) (p t c n s : ℕ)
+    → unanswered ≡ Some load → load_in kept (load_bytes load) ≡ load → outcome ≡ data_kept p t c n s kept
+    → IfSome unanswered (λ l. map_taken (λ signal. up_in signal (bytes_of unanswered)) outcome ≡ data_sent_with p t c n s l)
+reported-data unanswered load kept outcome p t c n s e k f = rw (e, f) (ap (λ (l : Load). data_sent_with p t c n s l) k)

@@ -13,11 +13,11 @@ use Rattle.chan_model.specs.declared.unit_state.CurrentCommand.{CurrentCommand}
 use Rattle.chan_model.specs.declared.unit_state.UnitState.{UnitState}
 use Rattle.chan_model.specs.Reports.{Report}
 use Rattle.chan_model.specs.UnitReports.{report_on}
-use Rattle.chan_model.specs.UnitTable.{unit_takes, came_of, side_of, owns, is_owner, is_owner_on}
+use Rattle.chan_model.specs.UnitTable.{unit_takes, outcome_of, side_of, owns, is_owner, is_owner_on}
 
 -- the signal is answered; neither its path nor what the control unit may do decides that
 abbrev pub is_unit_answered : UnitState → Side → Down → Bool
-is_unit_answered u side signal = is_some (came_of (unit_takes u side 0 signal false)).sent
+is_unit_answered u side signal = is_some (outcome_of (unit_takes u side 0 signal false)).sent
 
 -- a Took or a Give is of the last command of the program that holds the device, and a Give of the connection at hand
 abbrev pub is_of_command : UnitState → Side → Down → Bool
@@ -33,7 +33,7 @@ connection_of (Away c) = c
 
 abbrev pub last_connection : Own → ℕ
 last_connection Idle = 0
-last_connection (Owned side t place) = connection_of place
+last_connection (Owned side t connection) = connection_of connection
 
 -- the number of the last chunk of the command at hand
 abbrev pub last_sequence : Option CurrentCommand → ℕ
@@ -51,14 +51,14 @@ unanswered_bytes (Some x) = bytes_of x.unanswered
 
 -- what came of a report: the bytes of its Data are those that are not answered, which are as many
 abbrev pub reported : Option CurrentCommand → Taken KeptUp → Taken Up
-reported at_hand came = map_taken (λ signal. up_in signal (unanswered_bytes at_hand)) came
+reported current outcome = map_taken (λ signal. up_in signal (unanswered_bytes current)) outcome
 
-abbrev pub AreAtHand : Option CurrentCommand → Taken KeptUp → Type 0
-AreAtHand at_hand came = IfSome came.sent (λ sent. up_length sent.signal ≤ length (unanswered_bytes at_hand))
+abbrev pub AreOfCurrent : Option CurrentCommand → Taken KeptUp → Type 0
+AreOfCurrent current outcome = IfSome outcome.sent (λ sent. up_length sent.signal ≤ length (unanswered_bytes current))
 
 -- a report of the program that is connected is neither stale nor against the law of devices
 abbrev pub IsAllowed : UnitState → Report → Type 0
-IsAllowed u r = is_some (report_on u 0 (On 0 0) u.at_hand r) ≡ true
+IsAllowed u r = is_some (report_on u 0 (On 0 0) u.current r) ≡ true
 
 -- A unit's other side.
 abbrev pub other_of : Side → Side
@@ -69,7 +69,7 @@ other_of Second = First
 pub record IsSameProgram (old new : UnitState) : Type 0 where
   pub own : new.own ≡ old.own
   pub last_command : new.last_command ≡ old.last_command
-  pub at_hand : new.at_hand ≡ old.at_hand
+  pub current : new.current ≡ old.current
   pub halted : new.halted ≡ old.halted
 
 -- a signal of a side leaves the other side as it was, and its program, and gives it none

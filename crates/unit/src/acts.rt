@@ -16,31 +16,31 @@ use scsw_irb::status::DeviceStatus;
 /// Leave: the program that is connected works on without the path.
 pub fn leaving(unit: &mut UnitState) -> Sent
     ensures state { unit.new ≡ table.unit_after unit.old (table.leaving unit.old unit.old.own) }
-    ensures sent { map_sent plain_up result ≡ (table.came_of (table.leaving unit.old unit.old.own)).sent }
+    ensures sent { map_sent plain_up result ≡ (table.outcome_of (table.leaving unit.old unit.old.own)).sent }
 {
     match unit.own {
         Own::Idle => None,
         Own::Owned {
             side,
             number,
-            place,
-        } => leaving_from(unit, side, number, place),
+            connection: own_connection,
+        } => leaving_from(unit, side, number, own_connection),
     }
 }
 
-/// Leave from a place of the program that holds the device.
-fn leaving_from(unit: &mut UnitState, side: Side, number: u64, place: Connection) -> Sent
-    ensures state { unit.new ≡ table.unit_after unit.old (table.leaving_from unit.old side number place) }
-    ensures sent { map_sent plain_up result ≡ (table.came_of (table.leaving_from unit.old side number place)).sent }
+/// Leave from a connection of the program that holds the device.
+fn leaving_from(unit: &mut UnitState, side: Side, number: u64, own_connection: Connection) -> Sent
+    ensures state { unit.new ≡ table.unit_after unit.old (table.leaving_from unit.old side number own_connection) }
+    ensures sent { map_sent plain_up result ≡ (table.outcome_of (table.leaving_from unit.old side number own_connection)).sent }
 {
-    match place {
+    match own_connection {
         Connection::On { path, connection } => {
             unit.own = Own::Owned {
                 side,
                 number,
-                place: Connection::Away { connection },
+                connection: Connection::Away { connection },
             };
-            mark_again(&mut unit.at_hand);
+            mark_again(&mut unit.current);
             Some(OnPath {
                 path,
                 signal: PlainUp::of(Up::Leave { number, connection }),
@@ -51,10 +51,10 @@ fn leaving_from(unit: &mut UnitState, side: Side, number: u64, place: Connection
 }
 
 /// A Data that is not answered will be sent again.
-fn mark_again(at_hand: &mut Option<CurrentCommand>)
-    ensures { at_hand.new ≡ table.marked_again at_hand.old }
+fn mark_again(current: &mut Option<CurrentCommand>)
+    ensures { current.new ≡ table.marked_again current.old }
 {
-    if let Some(command) = at_hand {
+    if let Some(command) = current {
         command.again = command.again || command.unanswered.is_some();
     }
 }
@@ -63,19 +63,19 @@ fn mark_again(at_hand: &mut Option<CurrentCommand>)
 pub fn asking(unit: &mut UnitState, path: Path) -> Sent
     requires { words.last_connection unit.old.own < 2 ^ 63 }
     ensures state { unit.new ≡ table.unit_after unit.old (table.asking unit.old unit.old.own path) }
-    ensures sent { map_sent plain_up result ≡ (table.came_of (table.asking unit.old unit.old.own path)).sent }
+    ensures sent { map_sent plain_up result ≡ (table.outcome_of (table.asking unit.old unit.old.own path)).sent }
 {
     match unit.own {
         Own::Owned {
             side,
             number,
-            place: Connection::Ask { connection, .. } | Connection::Away { connection },
+            connection: Connection::Ask { connection, .. } | Connection::Away { connection },
         } => {
             let connection = connection + 1;
             unit.own = Own::Owned {
                 side,
                 number,
-                place: Connection::Ask { path, connection },
+                connection: Connection::Ask { path, connection },
             };
             Some(OnPath {
                 path,
@@ -90,7 +90,7 @@ pub fn asking(unit: &mut UnitState, path: Path) -> Sent
 pub fn attending(unit: &mut UnitState, side: Side, path: Path) -> Sent
     requires { unit.old.attentions < 2 ^ 63 }
     ensures state { unit.new ≡ table.unit_after unit.old (table.attending unit.old side path) }
-    ensures sent { map_sent plain_up result ≡ (table.came_of (table.attending unit.old side path)).sent }
+    ensures sent { map_sent plain_up result ≡ (table.outcome_of (table.attending unit.old side path)).sent }
 {
     if !is_idle(unit.own) || side_of(unit, side).fresh {
         return None;
@@ -141,7 +141,7 @@ pub fn restart(unit: &mut UnitState)
 
 /// Notice: of a side that is fresh.
 pub fn noticing(unit: &UnitState, side: Side, path: Path) -> Sent
-    ensures { map_sent plain_up result ≡ (table.came_of (table.noticing unit.now side path)).sent }
+    ensures { map_sent plain_up result ≡ (table.outcome_of (table.noticing unit.now side path)).sent }
 {
     if side_of(unit, side).fresh {
         Some(OnPath {

@@ -6,7 +6,7 @@ ghost use Rattle.chan_model.specs.Lent.{lent_down, plain_up};
 ghost use Rattle.chan_model.specs.Signals.{map_taken};
 ghost use Rattle.unit.specs.UnitWords as words;
 
-use crate::parts::{Came, follows, is_owner, is_owner_on};
+use crate::parts::{Outcome, follows, is_owner, is_owner_on};
 use chan_model::chunk::Chunk;
 use chan_model::lent::LentDown;
 use chan_model::names::Side;
@@ -21,13 +21,13 @@ pub fn commanded(
     command: u64,
     code: u8,
     room: u16,
-) -> Came
+) -> Outcome
     ensures state { unit.new ≡ table.unit_after unit.old (table.commanded unit.old side number command code room) }
-    ensures came { map_taken plain_up result ≡ table.came_of (table.commanded unit.old side number command code room) }
+    ensures outcome { map_taken plain_up result ≡ table.outcome_of (table.commanded unit.old side number command code room) }
 {
     if is_owner(unit, side, number) && follows(command, unit.last_command) {
         unit.last_command = command;
-        unit.at_hand = Some(new_command(code, room));
+        unit.current = Some(new_command(code, room));
         Taken::quietly()
     } else {
         Taken::ignored()
@@ -73,12 +73,12 @@ pub fn is_of_command(unit: &UnitState, side: Side, signal: &LentDown<'_>) -> boo
 }
 
 /// Give of the command at hand: the chunk that follows the last.
-pub fn given(unit: &mut UnitState, sequence: u64, bytes: &[u8]) -> Came
+pub fn given(unit: &mut UnitState, sequence: u64, bytes: &[u8]) -> Outcome
     requires { length bytes.now ≤ 256 }
-    ensures state { unit.new ≡ table.unit_after unit.old (table.given_next unit.old unit.old.at_hand sequence bytes.now) }
-    ensures came { map_taken plain_up result ≡ table.came_of (table.given_next unit.old unit.old.at_hand sequence bytes.now) }
+    ensures state { unit.new ≡ table.unit_after unit.old (table.given_next unit.old unit.old.current sequence bytes.now) }
+    ensures outcome { map_taken plain_up result ≡ table.outcome_of (table.given_next unit.old unit.old.current sequence bytes.now) }
 {
-    match &mut unit.at_hand {
+    match &mut unit.current {
         Some(command) if follows(sequence, command.sequence) => {
             give(command, sequence, bytes);
             Taken::quietly()
@@ -122,11 +122,11 @@ pub fn forget(kept: &mut Option<Chunk>)
 }
 
 /// Took of the last chunk of the command at hand, where its Data is not answered.
-pub fn answered(unit: &mut UnitState, sequence: u64, room: u16) -> Came
-    ensures state { unit.new ≡ table.unit_after unit.old (table.answered_last unit.old unit.old.at_hand sequence room) }
-    ensures came { map_taken plain_up result ≡ table.came_of (table.answered_last unit.old unit.old.at_hand sequence room) }
+pub fn answered(unit: &mut UnitState, sequence: u64, room: u16) -> Outcome
+    ensures state { unit.new ≡ table.unit_after unit.old (table.answered_last unit.old unit.old.current sequence room) }
+    ensures outcome { map_taken plain_up result ≡ table.outcome_of (table.answered_last unit.old unit.old.current sequence room) }
 {
-    match &mut unit.at_hand {
+    match &mut unit.current {
         Some(command) if sequence == command.sequence && command.unanswered.is_some() => {
             settle(command, room);
             Taken::quietly()
@@ -137,7 +137,7 @@ pub fn answered(unit: &mut UnitState, sequence: u64, room: u16) -> Came
 
 /// The Data that was not answered is answered: no room, or fewer bytes than were asked for, stop the transfer.
 fn settle(command: &mut CurrentCommand, room: u16)
-    ensures { IfSome command.old.unanswered (λ load. command.new ≡ table.at_hand_answered command.old load room) }
+    ensures { IfSome command.old.unanswered (λ load. command.new ≡ table.current_answered command.old load room) }
 {
     let asked = usize::from(command.asked);
     let short = command

@@ -53,7 +53,7 @@ impl Unit {
                 second: quiet,
                 own: Own::Idle,
                 last_command: 0,
-                at_hand: None,
+                current: None,
                 halted: false,
                 attentions: 0,
                 attention: None,
@@ -92,7 +92,7 @@ impl Unit {
         may: bool,
     ) -> Taken<PlainUp>
         ensures state { self.new ≡ table.unit_after self.old (table.unit_takes self.old side path (lent_down signal.now) may) }
-        ensures came { map_taken plain_up result ≡ table.came_of (table.unit_takes self.old side path (lent_down signal.now) may) }
+        ensures outcome { map_taken plain_up result ≡ table.outcome_of (table.unit_takes self.old side path (lent_down signal.now) may) }
 
         // An answer goes by the path of the signal; the other side is left as it was.
         ensures path { IfSome result.sent (λ sent. sent.path ≡ path) }
@@ -104,10 +104,10 @@ impl Unit {
 
     /// Whether a signal of a side is answered. Its path, and what the control unit may do, make no difference.
     pub fn answers(&self, side: Side, signal: &LentDown<'_>) -> bool
-        ensures answers { (path : ℕ) (may : Bool) → result ≡ is_some (table.came_of (table.unit_takes self.now side path (lent_down signal.now) may)).sent }
+        ensures answers { (path : ℕ) (may : Bool) → result ≡ is_some (table.outcome_of (table.unit_takes self.now side path (lent_down signal.now) may)).sent }
 
         // Its answer goes by the path that the signal came by.
-        ensures path { (path : ℕ) (may : Bool) → IfSome (table.came_of (table.unit_takes self.now side path (lent_down signal.now) may)).sent (λ s. s.path ≡ path) }
+        ensures path { (path : ℕ) (may : Bool) → IfSome (table.outcome_of (table.unit_takes self.now side path (lent_down signal.now) may)).sent (λ s. s.path ≡ path) }
     {
         signals::answers(&self.state, side, signal)
     }
@@ -116,49 +116,49 @@ impl Unit {
     /// changes. Nothing is sent where a read begins. The unit keeps the bytes of a Data that it sends until they are
     /// answered, and `lend` has them.
     pub fn report(&mut self, report: &Report) -> Taken<KeptUp>
-        requires { words.last_sequence self.old.at_hand < 2 ^ 63 }
+        requires { words.last_sequence self.old.current < 2 ^ 63 }
         ensures state { self.new ≡ table.unit_after self.old (reports.unit_reports self.old report.now) }
-        ensures came { words.reported self.new.at_hand result ≡ table.came_of (reports.unit_reports self.old report.now) }
-        ensures bytes { words.AreAtHand self.new.at_hand result }
+        ensures outcome { words.reported self.new.current result ≡ table.outcome_of (reports.unit_reports self.old report.now) }
+        ensures bytes { words.AreOfCurrent self.new.current result }
     {
         reports::reports(&mut self.state, report)
     }
 
     /// What came of the last report, the bytes of its Data lent.
-    pub fn lend<'a>(&'a self, came: &'a Taken<KeptUp>) -> Taken<LentUp<'a>>
-        requires { words.AreAtHand self.now.at_hand came.now }
-        ensures { map_taken lent_up result ≡ words.reported self.now.at_hand came.now }
+    pub fn lend<'a>(&'a self, outcome: &'a Taken<KeptUp>) -> Taken<LentUp<'a>>
+        requires { words.AreOfCurrent self.now.current outcome.now }
+        ensures { map_taken lent_up result ≡ words.reported self.now.current outcome.now }
     {
-        reports::lend(&self.state, came)
+        reports::lend(&self.state, outcome)
     }
 
     /// Where the program of a report stands, asked before the report is taken; None where the report is stale or against the
     /// law of devices.
     pub fn reporting(&self, report: &Report) -> Option<Connection>
-        ensures place { MatchOption result (reports.unit_reports self.now report.now ≡ None)
-            (λ place. reports.unit_reports self.now report.now ≡ reports.report_on self.now report.now.number place self.now.at_hand report.now) }
-        ensures allowed { IfSome result (λ place. words.IsAllowed self.now report.now) }
+        ensures connection { MatchOption result (reports.unit_reports self.now report.now ≡ None)
+            (λ connection. reports.unit_reports self.now report.now ≡ reports.report_on self.now report.now.number connection self.now.current report.now) }
+        ensures allowed { IfSome result (λ connection. words.IsAllowed self.now report.now) }
     {
         reports::reporting(&self.state, report)
     }
 
     /// The path that the signal of a report is sent on whose program stands there.
-    pub fn path_from(&self, place: &Connection, report: &Report) -> ReportPath
+    pub fn path_from(&self, connection: &Connection, report: &Report) -> ReportPath
         requires { words.IsAllowed self.now report.now }
-        ensures { (number : ℕ) → result ≡ reports.report_path (reports.report_on self.now number place.now self.now.at_hand report.now) }
+        ensures { (number : ℕ) → result ≡ reports.report_path (reports.report_on self.now number connection.now self.now.current report.now) }
     {
-        reports::path_from(&self.state, *place, report)
+        reports::path_from(&self.state, *connection, report)
     }
 
     /// Takes the device's answer, as `report` does, of a report whose program stands there.
-    pub fn report_from(&mut self, place: &Connection, report: &Report) -> Taken<KeptUp>
-        requires below { words.last_sequence self.old.at_hand < 2 ^ 63 }
+    pub fn report_from(&mut self, connection: &Connection, report: &Report) -> Taken<KeptUp>
+        requires below { words.last_sequence self.old.current < 2 ^ 63 }
         requires allowed { words.IsAllowed self.old report.now }
-        ensures state { self.new ≡ table.unit_after self.old (reports.report_on self.old report.now.number place.now self.old.at_hand report.now) }
-        ensures came { words.reported self.new.at_hand result ≡ table.came_of (reports.report_on self.old report.now.number place.now self.old.at_hand report.now) }
-        ensures bytes { words.AreAtHand self.new.at_hand result }
+        ensures state { self.new ≡ table.unit_after self.old (reports.report_on self.old report.now.number connection.now self.old.current report.now) }
+        ensures outcome { words.reported self.new.current result ≡ table.outcome_of (reports.report_on self.old report.now.number connection.now self.old.current report.now) }
+        ensures bytes { words.AreOfCurrent self.new.current result }
     {
-        reports::report_on(&mut self.state, *place, report)
+        reports::report_on(&mut self.state, *connection, report)
     }
 
     /// The path that the signal of a report is sent on, asked before the report is taken.
@@ -188,7 +188,7 @@ impl Unit {
     /// Leaves the path of its program, which works on. None where no program is connected, and then nothing changes.
     pub fn leave(&mut self) -> Option<OnPath<PlainUp>>
         ensures state { self.new ≡ table.unit_after self.old (table.leaving self.old self.old.own) }
-        ensures sent { map_sent plain_up result ≡ (table.came_of (table.leaving self.old self.old.own)).sent }
+        ensures sent { map_sent plain_up result ≡ (table.outcome_of (table.leaving self.old self.old.own)).sent }
     {
         acts::leaving(&mut self.state)
     }
@@ -197,7 +197,7 @@ impl Unit {
     pub fn ask(&mut self, path: Path) -> Option<OnPath<PlainUp>>
         requires { words.last_connection self.old.own < 2 ^ 63 }
         ensures state { self.new ≡ table.unit_after self.old (table.asking self.old self.old.own path) }
-        ensures sent { map_sent plain_up result ≡ (table.came_of (table.asking self.old self.old.own path)).sent }
+        ensures sent { map_sent plain_up result ≡ (table.outcome_of (table.asking self.old self.old.own path)).sent }
     {
         acts::asking(&mut self.state, path)
     }
@@ -206,7 +206,7 @@ impl Unit {
     pub fn attention(&mut self, side: Side, path: Path) -> Option<OnPath<PlainUp>>
         requires { self.old.attentions < 2 ^ 63 }
         ensures state { self.new ≡ table.unit_after self.old (table.attending self.old side path) }
-        ensures sent { map_sent plain_up result ≡ (table.came_of (table.attending self.old side path)).sent }
+        ensures sent { map_sent plain_up result ≡ (table.outcome_of (table.attending self.old side path)).sent }
     {
         acts::attending(&mut self.state, side, path)
     }
@@ -228,7 +228,7 @@ impl Unit {
 
     /// Tells a side that is fresh how often it was restarted. None where the side is not fresh.
     pub fn notice(&self, side: Side, path: Path) -> Option<OnPath<PlainUp>>
-        ensures { map_sent plain_up result ≡ (table.came_of (table.noticing self.now side path)).sent }
+        ensures { map_sent plain_up result ≡ (table.outcome_of (table.noticing self.now side path)).sent }
     {
         acts::noticing(&self.state, side, path)
     }

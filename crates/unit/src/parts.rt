@@ -9,7 +9,7 @@ use chan_model::signal::{OnPath, Taken};
 use chan_model::unit_state::{Connection, Own, SideState, UnitState};
 
 /// What came of a signal; none of those that the unit answers with has bytes.
-pub type Came = Taken<PlainUp>;
+pub type Outcome = Taken<PlainUp>;
 
 /// What the unit sends of itself; it has no bytes.
 pub type Sent = Option<OnPath<PlainUp>>;
@@ -57,16 +57,16 @@ pub fn is_owner_on(unit: &UnitState, side: Side, number: u64, connection: u64) -
         Own::Owned {
             side: owner,
             number: held,
-            place,
-        } => owner.same(side) && number == held && is_place_on(place, connection),
+            connection: own_connection,
+        } => owner.same(side) && number == held && is_connected_on(own_connection, connection),
     }
 }
 
-/// Whether a place is on a path by this connection.
-fn is_place_on(place: Connection, connection: u64) -> bool
-    ensures { result ≡ table.is_place_on place connection }
+/// Whether a connection is on a path by this connection.
+fn is_connected_on(own_connection: Connection, connection: u64) -> bool
+    ensures { result ≡ table.is_connected_on own_connection connection }
 {
-    match place {
+    match own_connection {
         Connection::On {
             connection: last,
             ..
@@ -91,8 +91,8 @@ pub fn free(unit: &mut UnitState)
 {
     unit.own = Own::Idle;
     unit.last_command = 0;
-    if unit.at_hand.is_some() {
-        unit.at_hand = None;
+    if unit.current.is_some() {
+        unit.current = None;
     }
     unit.halted = false;
 }

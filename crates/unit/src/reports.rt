@@ -118,9 +118,9 @@ pub fn is_outward(code: u8) -> bool
 
 /// Whether a report of the program that is connected is neither stale nor against the law of devices.
 fn is_allowed(unit: &UnitState, report: &Report) -> bool
-    ensures { result ≡ is_some (reports.report_on unit.now 0 (On 0 0) unit.now.at_hand report.now) }
+    ensures { result ≡ is_some (reports.report_on unit.now 0 (On 0 0) unit.now.current report.now) }
 {
-    match &unit.at_hand {
+    match &unit.current {
         None => false,
         Some(command) => {
             report.sequence == command.sequence && is_answer_allowed(unit, command, &report.answer)
@@ -159,29 +159,29 @@ fn is_of(unit: &UnitState, side: Side, number: u64, report: &Report) -> bool
 
 /// Where the program of a report stands. None where the report is stale or against the law of devices.
 pub fn reporting(unit: &UnitState, report: &Report) -> Option<Connection>
-    ensures place { MatchOption result (reports.unit_reports unit.now report.now ≡ None)
-        (λ place. reports.unit_reports unit.now report.now ≡ reports.report_on unit.now report.now.number place unit.now.at_hand report.now) }
-    ensures allowed { IfSome result (λ place. is_some (reports.report_on unit.now 0 (On 0 0) unit.now.at_hand report.now) ≡ true) }
+    ensures own_connection { MatchOption result (reports.unit_reports unit.now report.now ≡ None)
+        (λ own_connection. reports.unit_reports unit.now report.now ≡ reports.report_on unit.now report.now.number own_connection unit.now.current report.now) }
+    ensures allowed { IfSome result (λ own_connection. is_some (reports.report_on unit.now 0 (On 0 0) unit.now.current report.now) ≡ true) }
 {
     match unit.own {
         Own::Owned {
             side,
             number,
-            place,
-        } if is_of(unit, side, number, report) && is_allowed(unit, report) => Some(place),
+            connection: own_connection,
+        } if is_of(unit, side, number, report) && is_allowed(unit, report) => Some(own_connection),
         _ => None,
     }
 }
 
 /// What a report does. It is not taken where it is stale or against the law of devices, and then nothing changes.
 pub fn reports(unit: &mut UnitState, report: &Report) -> Reported
-    requires below { words.last_sequence unit.old.at_hand < 2 ^ 63 }
+    requires below { words.last_sequence unit.old.current < 2 ^ 63 }
     ensures state { unit.new ≡ table.unit_after unit.old (reports.unit_reports unit.old report.now) }
-    ensures came { words.reported unit.new.at_hand result ≡ table.came_of (reports.unit_reports unit.old report.now) }
-    ensures bytes { words.AreAtHand unit.new.at_hand result }
+    ensures outcome { words.reported unit.new.current result ≡ table.outcome_of (reports.unit_reports unit.old report.now) }
+    ensures bytes { words.AreOfCurrent unit.new.current result }
 {
     match reporting(unit, report) {
-        Some(place) => report_on(unit, place, report),
+        Some(own_connection) => report_on(unit, own_connection, report),
         None => Taken::ignored(),
     }
 }
@@ -191,20 +191,20 @@ pub fn report_path(unit: &UnitState, report: &Report) -> ReportPath
     ensures { result ≡ reports.report_path (reports.unit_reports unit.now report.now) }
 {
     match reporting(unit, report) {
-        Some(place) => path_from(unit, place, report),
+        Some(own_connection) => path_from(unit, own_connection, report),
         None => ReportPath::Refused,
     }
 }
 
 /// The path of a report that is allowed.
-pub fn path_from(unit: &UnitState, place: Connection, report: &Report) -> ReportPath
-    requires { is_some (reports.report_on unit.now 0 (On 0 0) unit.now.at_hand report.now) ≡ true }
-    ensures { (number : ℕ) → result ≡ reports.report_path (reports.report_on unit.now number place unit.now.at_hand report.now) }
+pub fn path_from(unit: &UnitState, own_connection: Connection, report: &Report) -> ReportPath
+    requires { is_some (reports.report_on unit.now 0 (On 0 0) unit.now.current report.now) ≡ true }
+    ensures { (number : ℕ) → result ≡ reports.report_path (reports.report_on unit.now number own_connection unit.now.current report.now) }
 {
-    let Connection::On { path, .. } = place else {
+    let Connection::On { path, .. } = own_connection else {
         return ReportPath::Refused;
     };
-    match (&unit.at_hand, &report.answer) {
+    match (&unit.current, &report.answer) {
         (Some(command), DeviceAnswer::Begins) if !is_outward(command.code) => {
             ReportPath::NothingSent
         }
@@ -213,14 +213,14 @@ pub fn path_from(unit: &UnitState, place: Connection, report: &Report) -> Report
 }
 
 /// What a report does that is allowed: Data or End is sent on the path of the program, or a read is begun.
-pub fn report_on(unit: &mut UnitState, place: Connection, report: &Report) -> Reported
-    requires below { words.last_sequence unit.old.at_hand < 2 ^ 63 }
-    requires allowed { is_some (reports.report_on unit.old 0 (On 0 0) unit.old.at_hand report.now) ≡ true }
-    ensures state { unit.new ≡ table.unit_after unit.old (reports.report_on unit.old report.now.number place unit.old.at_hand report.now) }
-    ensures came { words.reported unit.new.at_hand result ≡ table.came_of (reports.report_on unit.old report.now.number place unit.old.at_hand report.now) }
-    ensures bytes { words.AreAtHand unit.new.at_hand result }
+pub fn report_on(unit: &mut UnitState, own_connection: Connection, report: &Report) -> Reported
+    requires below { words.last_sequence unit.old.current < 2 ^ 63 }
+    requires allowed { is_some (reports.report_on unit.old 0 (On 0 0) unit.old.current report.now) ≡ true }
+    ensures state { unit.new ≡ table.unit_after unit.old (reports.report_on unit.old report.now.number own_connection unit.old.current report.now) }
+    ensures outcome { words.reported unit.new.current result ≡ table.outcome_of (reports.report_on unit.old report.now.number own_connection unit.old.current report.now) }
+    ensures bytes { words.AreOfCurrent unit.new.current result }
 {
-    let Connection::On { path, connection } = place else {
+    let Connection::On { path, connection } = own_connection else {
         return Taken::ignored();
     };
     let program = Program {
@@ -229,7 +229,7 @@ pub fn report_on(unit: &mut UnitState, place: Connection, report: &Report) -> Re
         connection,
         command: unit.last_command,
     };
-    let Some(command) = &mut unit.at_hand else {
+    let Some(command) = &mut unit.current else {
         return Taken::ignored();
     };
     match &report.answer {
@@ -282,10 +282,10 @@ fn supply(command: &mut CurrentCommand, bytes: &Chunk)
 
 /// The bytes of a read that were sent last and are not answered.
 fn unanswered(unit: &UnitState) -> &[u8]
-    ensures value { result.now ≡ words.unanswered_bytes unit.now.at_hand }
+    ensures value { result.now ≡ words.unanswered_bytes unit.now.current }
     ensures bound { length result.now ≤ 256 }
 {
-    let Some(command) = &unit.at_hand else {
+    let Some(command) = &unit.current else {
         return &[];
     };
     match &command.unanswered {
@@ -295,18 +295,18 @@ fn unanswered(unit: &UnitState) -> &[u8]
 }
 
 /// What came of a report, the bytes of its Data lent.
-pub fn lend<'a>(unit: &'a UnitState, came: &'a Taken<KeptUp>) -> Taken<LentUp<'a>>
-    requires { words.AreAtHand unit.now.at_hand came.now }
-    ensures { map_taken lent_up result ≡ words.reported unit.now.at_hand came.now }
+pub fn lend<'a>(unit: &'a UnitState, outcome: &'a Taken<KeptUp>) -> Taken<LentUp<'a>>
+    requires { words.AreOfCurrent unit.now.current outcome.now }
+    ensures { map_taken lent_up result ≡ words.reported unit.now.current outcome.now }
 {
-    let Some(sent) = &came.sent else {
+    let Some(sent) = &outcome.sent else {
         return Taken {
-            taken: came.taken,
+            taken: outcome.taken,
             sent: None,
         };
     };
     Taken {
-        taken: came.taken,
+        taken: outcome.taken,
         sent: Some(OnPath {
             path: sent.path,
             signal: sent.signal.lend(unanswered(unit)),
@@ -333,7 +333,7 @@ impl Program {
             signal = up.Data load self.now.number self.now.connection self.now.command command.now.sequence;
           });
         }) }
-        ensures bytes { words.AreAtHand (Some command.now) result }
+        ensures bytes { words.AreOfCurrent (Some command.now) result }
     {
         let Some(load) = &command.unanswered else {
             return Taken::ignored();

@@ -9,16 +9,22 @@ ghost use Rattle.chan_model.specs.Signals.{map_taken};
 ghost use Rattle.unit.specs.UnitWords as words;
 
 use crate::commands::{answered, commanded, given, is_of_command};
-use crate::parts::{Came, free, is_owner, keep_side, owns, side_of};
+use crate::parts::{Outcome, free, is_owner, keep_side, owns, side_of};
 use chan_model::lent::{LentDown, PlainUp};
 use chan_model::names::{Path, Side};
 use chan_model::signal::{Down, Taken, Up};
 use chan_model::unit_state::{Connection, Own, SideState, UnitState};
 
 /// A signal of a side that came by a path.
-pub fn takes(unit: &mut UnitState, side: Side, path: Path, signal: &LentDown<'_>, may: bool) -> Came
+pub fn takes(
+    unit: &mut UnitState,
+    side: Side,
+    path: Path,
+    signal: &LentDown<'_>,
+    may: bool,
+) -> Outcome
     ensures state { unit.new ≡ table.unit_after unit.old (table.unit_takes unit.old side path (lent_down signal.now) may) }
-    ensures came { map_taken plain_up result ≡ table.came_of (table.unit_takes unit.old side path (lent_down signal.now) may) }
+    ensures outcome { map_taken plain_up result ≡ table.outcome_of (table.unit_takes unit.old side path (lent_down signal.now) may) }
 {
     if let Down::Reset { number, restarts } = *signal.kept {
         reset(unit, side, path, number, restarts)
@@ -30,9 +36,9 @@ pub fn takes(unit: &mut UnitState, side: Side, path: Path, signal: &LentDown<'_>
 }
 
 /// A signal of a side that is not fresh, but Reset.
-fn works(unit: &mut UnitState, side: Side, path: Path, signal: &LentDown<'_>, may: bool) -> Came
+fn works(unit: &mut UnitState, side: Side, path: Path, signal: &LentDown<'_>, may: bool) -> Outcome
     ensures state { unit.new ≡ table.unit_after unit.old (table.unit_works unit.old side path (lent_down signal.now) may) }
-    ensures came { map_taken plain_up result ≡ table.came_of (table.unit_works unit.old side path (lent_down signal.now) may) }
+    ensures outcome { map_taken plain_up result ≡ table.outcome_of (table.unit_works unit.old side path (lent_down signal.now) may) }
 {
     match *signal.kept {
         Down::Select { number } => offered(unit, side, path, number, may),
@@ -58,8 +64,8 @@ fn works(unit: &mut UnitState, side: Side, path: Path, signal: &LentDown<'_>, ma
 }
 
 /// In a side that is fresh: how often the device was restarted.
-fn telling(unit: &UnitState, path: Path) -> Came
-    ensures { map_taken plain_up result ≡ table.came_of (table.telling unit.now path) }
+fn telling(unit: &UnitState, path: Path) -> Outcome
+    ensures { map_taken plain_up result ≡ table.outcome_of (table.telling unit.now path) }
 {
     Taken::sending(
         path,
@@ -70,9 +76,9 @@ fn telling(unit: &UnitState, path: Path) -> Came
 }
 
 /// Select: ignored at or below the floor of its side.
-fn offered(unit: &mut UnitState, side: Side, path: Path, number: u64, may_serve: bool) -> Came
+fn offered(unit: &mut UnitState, side: Side, path: Path, number: u64, may_serve: bool) -> Outcome
     ensures state { unit.new ≡ table.unit_after unit.old (table.unit_works unit.old side path (down.Select number) may_serve) }
-    ensures came { map_taken plain_up result ≡ table.came_of (table.unit_works unit.old side path (down.Select number) may_serve) }
+    ensures outcome { map_taken plain_up result ≡ table.outcome_of (table.unit_works unit.old side path (down.Select number) may_serve) }
 {
     let own = unit.own;
     if side_of(unit, side).floor < number {
@@ -106,9 +112,9 @@ fn selected(
     path: Path,
     number: u64,
     may_serve: bool,
-) -> Came
+) -> Outcome
     ensures state { unit.new ≡ table.unit_after unit.old (table.selected unit.old own side path number may_serve) }
-    ensures came { map_taken plain_up result ≡ table.came_of (table.selected unit.old own side path number may_serve) }
+    ensures outcome { map_taken plain_up result ≡ table.outcome_of (table.selected unit.old own side path number may_serve) }
 {
     match own {
         Own::Idle if may_serve => {
@@ -127,7 +133,7 @@ fn hold(unit: &mut UnitState, side: Side, path: Path, number: u64)
     unit.own = Own::Owned {
         side,
         number,
-        place: Connection::On {
+        connection: Connection::On {
             path,
             connection: 0,
         },
@@ -135,18 +141,18 @@ fn hold(unit: &mut UnitState, side: Side, path: Path, number: u64)
 }
 
 /// Grant: of the connection asked for; an older one is answered by Leave.
-fn granted(unit: &mut UnitState, side: Side, path: Path, number: u64, connection: u64) -> Came
+fn granted(unit: &mut UnitState, side: Side, path: Path, number: u64, connection: u64) -> Outcome
     ensures state { unit.new ≡ table.unit_after unit.old (table.granted unit.old unit.old.own side path number connection) }
-    ensures came { map_taken plain_up result ≡ table.came_of (table.granted unit.old unit.old.own side path number connection) }
+    ensures outcome { map_taken plain_up result ≡ table.outcome_of (table.granted unit.old unit.old.own side path number connection) }
 {
     let own = unit.own;
     match own {
         Own::Owned {
             side: owner,
             number: held,
-            place,
+            connection: own_connection,
         } if owner.same(side) && number == held => {
-            granted_at(unit, owner, held, place, path, connection)
+            granted_at(unit, owner, held, own_connection, path, connection)
         }
         _ => Taken::ignored(),
     }
@@ -157,14 +163,14 @@ fn granted_at(
     unit: &mut UnitState,
     side: Side,
     number: u64,
-    place: Connection,
+    own_connection: Connection,
     path: Path,
     connection: u64,
-) -> Came
-    ensures state { unit.new ≡ table.unit_after unit.old (table.granted_at unit.old side number place path connection) }
-    ensures came { map_taken plain_up result ≡ table.came_of (table.granted_at unit.old side number place path connection) }
+) -> Outcome
+    ensures state { unit.new ≡ table.unit_after unit.old (table.granted_at unit.old side number own_connection path connection) }
+    ensures outcome { map_taken plain_up result ≡ table.outcome_of (table.granted_at unit.old side number own_connection path connection) }
 {
-    match place {
+    match own_connection {
         Connection::Ask {
             path: asked,
             connection: last,
@@ -173,7 +179,7 @@ fn granted_at(
                 unit.own = Own::Owned {
                     side,
                     number,
-                    place: Connection::On {
+                    connection: Connection::On {
                         path: asked,
                         connection: last,
                     },
@@ -192,7 +198,7 @@ fn granted_at(
 }
 
 /// Grant of an older connection than the last.
-fn granted_late(number: u64, path: Path, connection: u64, last: u64) -> Came
+fn granted_late(number: u64, path: Path, connection: u64, last: u64) -> Outcome
     ensures { map_taken plain_up result ≡ (if nat_lt connection last
         then record { taken = true; sent = Some (record { path = path; signal = up.Leave number connection }) }
         else record { taken = false; sent = None }) }
@@ -205,15 +211,15 @@ fn granted_late(number: u64, path: Path, connection: u64, last: u64) -> Came
 }
 
 /// Refuse: of the connection asked for.
-fn refused(unit: &mut UnitState, side: Side, number: u64, connection: u64) -> Came
+fn refused(unit: &mut UnitState, side: Side, number: u64, connection: u64) -> Outcome
     ensures state { unit.new ≡ table.unit_after unit.old (table.grant_refused unit.old unit.old.own side number connection) }
-    ensures came { map_taken plain_up result ≡ table.came_of (table.grant_refused unit.old unit.old.own side number connection) }
+    ensures outcome { map_taken plain_up result ≡ table.outcome_of (table.grant_refused unit.old unit.old.own side number connection) }
 {
     match unit.own {
         Own::Owned {
             side: owner,
             number: held,
-            place: Connection::Ask {
+            connection: Connection::Ask {
                 connection: last,
                 ..
             },
@@ -221,7 +227,7 @@ fn refused(unit: &mut UnitState, side: Side, number: u64, connection: u64) -> Ca
             unit.own = Own::Owned {
                 side: owner,
                 number: held,
-                place: Connection::Away { connection: last },
+                connection: Connection::Away { connection: last },
             };
             Taken::quietly()
         }
@@ -230,9 +236,9 @@ fn refused(unit: &mut UnitState, side: Side, number: u64, connection: u64) -> Ca
 }
 
 /// Halt: once for a program.
-fn halting(unit: &mut UnitState, side: Side, number: u64) -> Came
+fn halting(unit: &mut UnitState, side: Side, number: u64) -> Outcome
     ensures state { unit.new ≡ table.unit_after unit.old (table.unit_halting unit.old side number) }
-    ensures came { map_taken plain_up result ≡ table.came_of (table.unit_halting unit.old side number) }
+    ensures outcome { map_taken plain_up result ≡ table.outcome_of (table.unit_halting unit.old side number) }
 {
     if is_owner(unit, side, number) && !unit.halted {
         unit.halted = true;
@@ -243,9 +249,9 @@ fn halting(unit: &mut UnitState, side: Side, number: u64) -> Came
 }
 
 /// Release: by the program that holds the device.
-fn releasing(unit: &mut UnitState, side: Side, path: Path, number: u64) -> Came
+fn releasing(unit: &mut UnitState, side: Side, path: Path, number: u64) -> Outcome
     ensures state { unit.new ≡ table.unit_after unit.old (table.releasing unit.old side path number) }
-    ensures came { map_taken plain_up result ≡ table.came_of (table.releasing unit.old side path number) }
+    ensures outcome { map_taken plain_up result ≡ table.outcome_of (table.releasing unit.old side path number) }
 {
     if is_owner(unit, side, number) {
         free(unit);
@@ -256,9 +262,9 @@ fn releasing(unit: &mut UnitState, side: Side, path: Path, number: u64) -> Came
 }
 
 /// Reset: taken with the device's own restart count, where its side is fresh or its number above the floor.
-fn reset(unit: &mut UnitState, side: Side, path: Path, number: u64, restarts: u64) -> Came
+fn reset(unit: &mut UnitState, side: Side, path: Path, number: u64, restarts: u64) -> Outcome
     ensures state { unit.new ≡ table.unit_after unit.old (table.unit_takes unit.old side path (down.Reset number restarts) false) }
-    ensures came { map_taken plain_up result ≡ table.came_of (table.unit_takes unit.old side path (down.Reset number restarts) false) }
+    ensures outcome { map_taken plain_up result ≡ table.outcome_of (table.unit_takes unit.old side path (down.Reset number restarts) false) }
 {
     if resets(unit, side, number, restarts) {
         reset_side(unit, side, number);
@@ -296,9 +302,9 @@ fn reset_side(unit: &mut UnitState, side: Side, number: u64)
 }
 
 /// Got: of the attention that is not answered.
-fn forgetting(unit: &mut UnitState, side: Side, attention: u64) -> Came
+fn forgetting(unit: &mut UnitState, side: Side, attention: u64) -> Outcome
     ensures state { unit.new ≡ table.unit_after unit.old (table.forgetting unit.old unit.old.attention side attention) }
-    ensures came { map_taken plain_up result ≡ table.came_of (table.forgetting unit.old unit.old.attention side attention) }
+    ensures outcome { map_taken plain_up result ≡ table.outcome_of (table.forgetting unit.old unit.old.attention side attention) }
 {
     match unit.attention {
         Some(last) if last.side.same(side) && attention == last.number => {
@@ -322,7 +328,7 @@ pub fn answers(unit: &UnitState, side: Side, signal: &LentDown<'_>) -> bool
 
 /// Whether a signal of a side that is not fresh is answered.
 fn is_work_answered(unit: &UnitState, side: Side, signal: &LentDown<'_>) -> bool
-    ensures { result ≡ is_some (table.came_of (table.unit_works unit.now side 0 (lent_down signal.now) false)).sent }
+    ensures { result ≡ is_some (table.outcome_of (table.unit_works unit.now side 0 (lent_down signal.now) false)).sent }
 {
     match *signal.kept {
         Down::Select { number } => side_of(unit, side).floor < number,
@@ -334,14 +340,14 @@ fn is_work_answered(unit: &UnitState, side: Side, signal: &LentDown<'_>) -> bool
 
 /// Whether a Grant is of an older connection than the last of the program that holds the device.
 fn is_granted_late(unit: &UnitState, side: Side, number: u64, connection: u64) -> bool
-    ensures { result ≡ is_some (table.came_of (table.granted unit.now unit.now.own side 0 number connection)).sent }
+    ensures { result ≡ is_some (table.outcome_of (table.granted unit.now unit.now.own side 0 number connection)).sent }
 {
     match unit.own {
         Own::Idle => false,
         Own::Owned {
             side: owner,
             number: held,
-            place: Connection::On {
+            connection: Connection::On {
                 connection: last,
                 ..
             }

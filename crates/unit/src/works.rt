@@ -15,12 +15,12 @@ use scsw_irb::status::DeviceStatus;
 pub fn work(unit: &UnitState) -> Option<LentWork<'_>>
     ensures { lent_works result ≡ reports.unit_work unit.now }
 {
-    match (unit.own, &unit.at_hand) {
+    match (unit.own, &unit.current) {
         (
             Own::Owned {
                 side,
                 number,
-                place: Connection::On { .. },
+                connection: Connection::On { .. },
             },
             Some(command),
         ) => work_at(unit, side, number, command),

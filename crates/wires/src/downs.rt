@@ -10,7 +10,7 @@ use memory::{Supply, make_room, push};
 use std::alloc::{AllocError, Global};
 use std::marker::Model;
 
-/// A ring of eight places, which stay where they are: sending writes the one behind the last signal, and nothing else is
+/// A ring of eight slots, which stay where they are: sending writes the one behind the last signal, and nothing else is
 /// touched.
 #[derive(Drop)]
 pub(crate) struct Downs {

@@ -4,8 +4,8 @@
 //! signal that is sent goes to the end of its queue and the one that is let go was its front, so signals arrive in the order
 //! in which they were sent, once each; only `lose` makes signals vanish, and then all of one path, both ways. No call changes a
 //! queue but those that it names. Sending has the condition that there is room, and letting go that a signal waits;
-//! `down_is_full` and `front_down` tell that beforehand, and so do their like for the way up. A queue is a ring of places that
-//! are made with the wires and stay where they are, also where the wires are moved: sending writes one place, and a signal is
+//! `down_is_full` and `front_down` tell that beforehand, and so do their like for the way up. A queue is a ring of slots that
+//! are made with the wires and stay where they are, also where the wires are moved: sending writes one slot, and a signal is
 //! read where it stands. Only the making takes memory.
 #![tactic(auto)]
 

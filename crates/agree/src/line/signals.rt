@@ -30,11 +30,11 @@ pub fn with_path(up: &[bool; 8], path: Path, is_up: bool) -> [bool; 8]
 }
 
 /// Makes room for one more, where a list has none. Where no memory is left the list stays full.
-fn make_place<T>(list: &mut Vec<T>) -> Result<(), Fault>
+fn make_slot<T>(list: &mut Vec<T>) -> Result<(), Fault>
     ensures items { list.new.items ≡ list.old.items }
     ensures len { vec_len list.new ≡ vec_len list.old }
     ensures capacity { vec_capacity list.old ≤ vec_capacity list.new }
-    ensures place { OnOk result (vec_len list.new < vec_capacity list.new) }
+    ensures index { OnOk result (vec_len list.new < vec_capacity list.new) }
     ensures full { OnErr result (vec_capacity list.new ≤ vec_len list.new) }
     ensures fault { IfErr result (λ f. f ≡ fault_spec.NoMemory) }
 {
@@ -71,7 +71,7 @@ pub fn post(
     if !is_up(up, signal.path) {
         return Ok(());
     }
-    make_place(downs)?;
+    make_slot(downs)?;
     add(downs, signal);
     Ok(())
 }
@@ -89,8 +89,8 @@ pub fn make_room(ups: &mut Vec<OnPath<Up>>, accepted: &mut Vec<u64>) -> Result<(
     ensures fault { IfErr result (λ f. f ≡ fault_spec.NoMemory) }
     ensures full { OnErr result ((vec_capacity ups.new ≤ vec_len ups.new) ⊎ (vec_capacity accepted.new ≤ vec_len accepted.new)) }
 {
-    make_place(ups)?;
-    make_place(accepted)
+    make_slot(ups)?;
+    make_slot(accepted)
 }
 
 /// Sends a signal from the unit, for which there is room. On a path that is down it vanishes.

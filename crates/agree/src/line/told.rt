@@ -17,37 +17,37 @@ use chan_model::report::Report;
 use unit::Unit;
 
 impl SideLine {
-    /// The unit takes the signal at a place.
+    /// The unit takes the signal at an index.
     pub fn meet(
         &mut self,
         unit: &mut Unit,
         side: Side,
-        place: usize,
+        index: usize,
         keep: bool,
         may: bool,
     ) -> Result<WorldReply, Fault>
-        ensures reply { IfOk result (λ r. r ≡ reply_spec.met_reply side unit.old (slice_get self.old.line.link.downs place) may) }
-        ensures gives { spec.GivesTurn (spec.unit_line unit.old self.old.line) (spec.unit_meets (spec.unit_line unit.old self.old.line) side place keep may) (room_spec.IsFullUp self.new.room) result (spec.unit_line unit.new self.new.line) }
+        ensures reply { IfOk result (λ r. r ≡ reply_spec.met_reply side unit.old (slice_get self.old.line.link.downs index) may) }
+        ensures gives { spec.GivesResult (spec.unit_line unit.old self.old.line) (spec.unit_meets (spec.unit_line unit.old self.old.line) side index keep may) (room_spec.IsFullUp self.new.room) result (spec.unit_line unit.new self.new.line) }
         ensures room { room_spec.LineTakes result self.old.room self.new.room }
     {
-        if place >= self.downs.len() {
+        if index >= self.downs.len() {
             return Err(Fault::NotSent);
         }
         make_room(&mut self.ups, &mut self.accepted)?;
-        let signal = self.downs[place].copy();
+        let signal = self.downs[index].copy();
         let kept = signal.signal.keep();
         let lent = kept.lend(signal.signal.bytes());
-        let came = unit.take(side, signal.path, &lent, may);
+        let outcome = unit.take(side, signal.path, &lent, may);
         if !keep {
-            self.downs.remove(place);
+            self.downs.remove(index);
         }
-        let sent = lend_up(&came.sent);
+        let sent = lend_up(&outcome.sent);
         let answer = own_up(&sent);
         tell(&mut self.ups, &mut self.accepted, &self.up, &sent);
         Ok(WorldReply::Down {
             side,
             signal,
-            taken: came.taken,
+            taken: outcome.taken,
             sent: answer,
         })
     }
@@ -55,15 +55,15 @@ impl SideLine {
     /// The unit leaves the path of its program.
     pub fn leave(&mut self, unit: &mut Unit, side: Side) -> Result<WorldReply, Fault>
         ensures reply { IfOk result (λ r. r ≡ reply_spec.unit_reply side unit.old moving.Leaves) }
-        ensures gives { spec.GivesTurn (spec.unit_line unit.old self.old.line) (spec.acts_for (spec.unit_line unit.old self.old.line) moving.Leaves) (room_spec.IsFullUp self.new.room) result (spec.unit_line unit.new self.new.line) }
+        ensures gives { spec.GivesResult (spec.unit_line unit.old self.old.line) (spec.acts_for (spec.unit_line unit.old self.old.line) moving.Leaves) (room_spec.IsFullUp self.new.room) result (spec.unit_line unit.new self.new.line) }
         ensures room { room_spec.LineTakes result self.old.room self.new.room }
     {
         make_room(&mut self.ups, &mut self.accepted)?;
-        let came = unit.leave();
-        if came.is_none() {
+        let outcome = unit.leave();
+        if outcome.is_none() {
             return Err(Fault::NotNow);
         }
-        let sent = lend_up(&came);
+        let sent = lend_up(&outcome);
         let reply = WorldReply::of_unit(side, &sent);
         tell(&mut self.ups, &mut self.accepted, &self.up, &sent);
         Ok(reply)
@@ -73,15 +73,15 @@ impl SideLine {
     pub fn ask(&mut self, unit: &mut Unit, side: Side, path: Path) -> Result<WorldReply, Fault>
         requires { words.last_connection unit.old.own < 2 ^ 63 }
         ensures reply { IfOk result (λ r. r ≡ reply_spec.unit_reply side unit.old (moving.Asks path)) }
-        ensures gives { spec.GivesTurn (spec.unit_line unit.old self.old.line) (spec.acts_for (spec.unit_line unit.old self.old.line) (moving.Asks path)) (room_spec.IsFullUp self.new.room) result (spec.unit_line unit.new self.new.line) }
+        ensures gives { spec.GivesResult (spec.unit_line unit.old self.old.line) (spec.acts_for (spec.unit_line unit.old self.old.line) (moving.Asks path)) (room_spec.IsFullUp self.new.room) result (spec.unit_line unit.new self.new.line) }
         ensures room { room_spec.LineTakes result self.old.room self.new.room }
     {
         make_room(&mut self.ups, &mut self.accepted)?;
-        let came = unit.ask(path);
-        if came.is_none() {
+        let outcome = unit.ask(path);
+        if outcome.is_none() {
             return Err(Fault::NotNow);
         }
-        let sent = lend_up(&came);
+        let sent = lend_up(&outcome);
         let reply = WorldReply::of_unit(side, &sent);
         tell(&mut self.ups, &mut self.accepted, &self.up, &sent);
         Ok(reply)
@@ -96,15 +96,15 @@ impl SideLine {
     ) -> Result<WorldReply, Fault>
         requires { unit.old.attentions < 2 ^ 63 }
         ensures reply { IfOk result (λ r. r ≡ reply_spec.unit_reply side unit.old (moving.Attends side path)) }
-        ensures gives { spec.GivesTurn (spec.unit_line unit.old self.old.line) (spec.acts_for (spec.unit_line unit.old self.old.line) (moving.Attends side path)) (room_spec.IsFullUp self.new.room) result (spec.unit_line unit.new self.new.line) }
+        ensures gives { spec.GivesResult (spec.unit_line unit.old self.old.line) (spec.acts_for (spec.unit_line unit.old self.old.line) (moving.Attends side path)) (room_spec.IsFullUp self.new.room) result (spec.unit_line unit.new self.new.line) }
         ensures room { room_spec.LineTakes result self.old.room self.new.room }
     {
         make_room(&mut self.ups, &mut self.accepted)?;
-        let came = unit.attention(side, path);
-        if came.is_none() {
+        let outcome = unit.attention(side, path);
+        if outcome.is_none() {
             return Err(Fault::NotNow);
         }
-        let sent = lend_up(&came);
+        let sent = lend_up(&outcome);
         let reply = WorldReply::of_unit(side, &sent);
         tell(&mut self.ups, &mut self.accepted, &self.up, &sent);
         Ok(reply)
@@ -113,15 +113,15 @@ impl SideLine {
     /// The unit tells this side how often it was restarted.
     pub fn notice(&mut self, unit: &Unit, side: Side, path: Path) -> Result<WorldReply, Fault>
         ensures reply { IfOk result (λ r. r ≡ reply_spec.unit_reply side unit.now (moving.Notices side path)) }
-        ensures gives { spec.GivesTurn (spec.unit_line unit.now self.old.line) (spec.acts_for (spec.unit_line unit.now self.old.line) (moving.Notices side path)) (room_spec.IsFullUp self.new.room) result (spec.unit_line unit.now self.new.line) }
+        ensures gives { spec.GivesResult (spec.unit_line unit.now self.old.line) (spec.acts_for (spec.unit_line unit.now self.old.line) (moving.Notices side path)) (room_spec.IsFullUp self.new.room) result (spec.unit_line unit.now self.new.line) }
         ensures room { room_spec.LineTakes result self.old.room self.new.room }
     {
         make_room(&mut self.ups, &mut self.accepted)?;
-        let came = unit.notice(side, path);
-        if came.is_none() {
+        let outcome = unit.notice(side, path);
+        if outcome.is_none() {
             return Err(Fault::NotNow);
         }
-        let sent = lend_up(&came);
+        let sent = lend_up(&outcome);
         let reply = WorldReply::of_unit(side, &sent);
         tell(&mut self.ups, &mut self.accepted, &self.up, &sent);
         Ok(reply)
@@ -134,19 +134,19 @@ impl SideLine {
         side: Side,
         report: &Report,
     ) -> Result<WorldReply, Fault>
-        requires { words.last_sequence unit.old.at_hand < 2 ^ 63 }
+        requires { words.last_sequence unit.old.current < 2 ^ 63 }
         ensures reply { IfOk result (λ r. r ≡ reply_spec.unit_reply side unit.old (moving.Reports report.now)) }
-        ensures gives { spec.GivesTurn (spec.unit_line unit.old self.old.line) (spec.acts_for (spec.unit_line unit.old self.old.line) (moving.Reports report.now)) (room_spec.IsFullUp self.new.room) result (spec.unit_line unit.new self.new.line) }
+        ensures gives { spec.GivesResult (spec.unit_line unit.old self.old.line) (spec.acts_for (spec.unit_line unit.old self.old.line) (moving.Reports report.now)) (room_spec.IsFullUp self.new.room) result (spec.unit_line unit.new self.new.line) }
         ensures room { room_spec.LineTakes result self.old.room self.new.room }
     {
         make_room(&mut self.ups, &mut self.accepted)?;
-        let came = unit.report(report);
-        if !came.taken {
+        let outcome = unit.report(report);
+        if !outcome.taken {
             return Err(Fault::NotNow);
         }
-        let came = unit.lend(&came);
-        let reply = WorldReply::of_unit(side, &came.sent);
-        tell(&mut self.ups, &mut self.accepted, &self.up, &came.sent);
+        let outcome = unit.lend(&outcome);
+        let reply = WorldReply::of_unit(side, &outcome.sent);
+        tell(&mut self.ups, &mut self.accepted, &self.up, &outcome.sent);
         Ok(reply)
     }
 }

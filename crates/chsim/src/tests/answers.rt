@@ -8,9 +8,9 @@ use std::sync::Wait;
 use std::thread::Threads;
 
 /// A word of a line, from 0, as a number; none where there is no such word or it is none.
-fn word_of(line: &[u8], place: u64) -> Option<u64> {
+fn word_of(line: &[u8], index: u64) -> Option<u64> {
     let mut rest = line;
-    for _ in 0..place {
+    for _ in 0..index {
         rest = parted(rest, b' ').1?;
     }
     number(parted(rest, b' ').0)
@@ -49,12 +49,12 @@ fn answer_to(line: &[u8], told: &'static [u8]) -> &'static [u8] {
 
 /// A line of the first write, from 1, and what it prints.
 fn first_line(count: u64) -> (&'static [u8], &'static [u8]) {
-    let mut place = 1u64;
+    let mut index = 1u64;
     for row in FIRST_WRITE {
-        if place == count {
+        if index == count {
             return row;
         }
-        place = place.wrapping_add(1);
+        index = index.wrapping_add(1);
     }
     (b"", b"")
 }

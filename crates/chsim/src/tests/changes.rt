@@ -52,11 +52,11 @@ fn a_write_is_cut_after_each_byte(rt: HostRuntime) {
     assert!(rt; last == LINES + 1);
 }
 
-/// A text with another byte in one place.
-fn replaced<R: AllocGlobal>(rt: &R, text: &[u8], place: usize, byte: u8) -> Vec<u8> {
+/// A text with another byte at one index.
+fn replaced<R: AllocGlobal>(rt: &R, text: &[u8], index: usize, byte: u8) -> Vec<u8> {
     let mut changed = Vec::new(rt.alloc());
     let _ = changed.extend_from_slice(text);
-    if let Some(old) = changed.get_mut(place) {
+    if let Some(old) = changed.get_mut(index) {
         *old = byte;
     }
     changed
@@ -72,18 +72,18 @@ fn a_write_has_each_byte_replaced(rt: HostRuntime) {
     let write = first_write(&rt);
     let mut line = 1u64;
     let mut good = 0u64;
-    for place in 0..write.text().len() {
-        let old = write.text().get(place).copied().unwrap_or(0);
+    for index in 0..write.text().len() {
+        let old = write.text().get(index).copied().unwrap_or(0);
         for byte in BYTES {
             if byte != old {
-                let text = replaced(&rt, write.text(), place, byte);
+                let text = replaced(&rt, write.text(), index, byte);
                 let all = line <= SETTINGS || line == WRITTEN;
                 let until = if all { LINES } else { line };
                 assert!(rt;
                     is_right(&rt, &["run", "check"], text.as_slice(), until),
-                    "{place}: {byte}"
+                    "{index}: {byte}"
                 );
-                assert!(rt; is_bad_near(text.as_slice(), line, byte), "{place}: {byte}");
+                assert!(rt; is_bad_near(text.as_slice(), line, byte), "{index}: {byte}");
                 good = good.wrapping_add(if bad_line(text.as_slice()).is_none() {
                     1
                 } else {

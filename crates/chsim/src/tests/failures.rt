@@ -101,7 +101,7 @@ fn stops<R: Threads + Wait + Sync + AllocGlobal>(
     Some(begins && left.outcome == Outcome::Ended(Ending::Stopped { refused }))
 }
 
-/// In each place among the actions of the first write one stands that is refused, and each call of a writer fails in turn, which
+/// In each index among the actions of the first write one stands that is refused, and each call of a writer fails in turn, which
 /// takes a part of a line or a short one whole. What the command ends with says that it was performed just where its own line was to
 /// be written: so no action is performed after one whose line is not written.
 #[test]

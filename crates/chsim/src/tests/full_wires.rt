@@ -31,8 +31,8 @@ impl Wire {
     }
 
     fn send(&mut self, number: u64) {
-        if let Some(place) = self.sent.get_mut(self.count) {
-            *place = number;
+        if let Some(slot) = self.sent.get_mut(self.count) {
+            *slot = number;
         }
         self.count = self.count.wrapping_add(1);
     }

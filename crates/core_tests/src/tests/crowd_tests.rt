@@ -3,9 +3,9 @@
 use crate::tests::crowds::{
     KINDS, LEAST, Mind, disturbance_of, glances_in_order, instruction_of, kind_of,
 };
-use crate::tests::hands::{Hand, Task, add_hand, add_worker};
 use crate::tests::machines::{accepts, accepts_all, enable, loads, word_of};
-use crate::tests::stories::{Story, goes};
+use crate::tests::racers::{Racer, Task, add_racer, add_worker};
+use crate::tests::scenarios::{Scenario, goes};
 use chan_events::reply::Reply;
 use chan_model::fault::Fault;
 use chan_model::names::Cpu;
@@ -40,16 +40,16 @@ const WORKERS: u32 = 64;
 /// How many entries the first seat makes: a program lies in storage, and all subchannels are enabled.
 const FIRST: u64 = 3 + WORKERS as u64;
 
-/// How many hands there are: of the CPUs, of the workers of all channel paths and of all units, and of the operator.
-const HANDS: u64 = 89;
+/// How many racers there are: of the CPUs, of the workers of all channel paths and of all units, and of the operator.
+const RACERS: u64 = 89;
 
-/// What all hands did.
+/// What all racers did.
 #[derive(Drop)]
 pub struct Done {
     /// How many entries were answered.
     entries: AtomicU64,
-    /// How many hands had one answered.
-    hands: AtomicU64,
+    /// How many racers had one answered.
+    racers: AtomicU64,
     /// Of how many kinds the operator had enough accepted.
     kinds: AtomicU64,
 }
@@ -59,15 +59,15 @@ impl Done {
     fn new() -> Self {
         Done {
             entries: AtomicU64::new(0),
-            hands: AtomicU64::new(0),
+            racers: AtomicU64::new(0),
             kinds: AtomicU64::new(0),
         }
     }
 
-    /// Whether there are entries enough, each hand has one, and the operator has enough of each kind.
+    /// Whether there are entries enough, each racer has one, and the operator has enough of each kind.
     fn is_enough(&self) -> bool {
         self.entries.load(Ordering::SeqCst) >= ENTRIES
-            && self.hands.load(Ordering::SeqCst) >= HANDS
+            && self.racers.load(Ordering::SeqCst) >= RACERS
             && self.kinds.load(Ordering::SeqCst) >= KINDS as u64
     }
 }
@@ -80,7 +80,7 @@ fn count_of(answer: &Result<Reply, Fault>) -> u64 {
     }
 }
 
-impl<J: Naming> Hand<J> {
+impl<J: Naming> Racer<J> {
     /// What a CPU does in a round: an instruction, and then a glance at its subchannel. How many entries were answered, and whether
     /// the glance is in order.
     fn instructs<R: Wait>(
@@ -122,7 +122,7 @@ impl<J: Naming> Hand<J> {
         }
     }
 
-    /// A round, whose entries are counted, and so is the hand as its first entry is answered. How many entries it made.
+    /// A round, whose entries are counted, and so is the racer as its first entry is answered. How many entries it made.
     fn counted<R: Wait>(
         &mut self,
         rt: &R,
@@ -134,7 +134,7 @@ impl<J: Naming> Hand<J> {
         let (more, in_order) = self.round(rt, machine, round, mind);
         self.well = self.well && in_order;
         if self.answered == 0 && more > 0 {
-            done.hands.fetch_add(1, Ordering::SeqCst);
+            done.racers.fetch_add(1, Ordering::SeqCst);
         }
         self.answered = self.answered.saturating_add(more);
         done.entries.fetch_add(more, Ordering::SeqCst);
@@ -145,7 +145,7 @@ impl<J: Naming> Hand<J> {
         more
     }
 
-    /// Works until there are entries enough, each hand has one and the operator many: which thread comes to run is nobody's promise. After a round that
+    /// Works until there are entries enough, each racer has one and the operator many: which thread comes to run is nobody's promise. After a round that
     /// made no entry it lets others go first.
     fn works<R: Wait>(&mut self, rt: &R, machine: &Machine<J, Rotating>, done: &Done) {
         let mut mind = Mind::new();
@@ -161,31 +161,31 @@ impl<J: Naming> Hand<J> {
     }
 }
 
-/// The hands of all CPUs, of the workers of all channel paths and of all units, and of the operator.
+/// The racers of all CPUs, of the workers of all channel paths and of all units, and of the operator.
 fn add_all<J: Naming>(
     alloc: Global,
     core: &mut Core<J, Rotating>,
-    hands: &mut Vec<Hand<J>>,
+    racers: &mut Vec<Racer<J>>,
 ) -> bool {
     for number in 0..CPUS {
         let Some(cpu) = Cpu::new(number) else {
             return false;
         };
-        if !add_hand(core, hands, Task::Program(cpu)) {
+        if !add_racer(core, racers, Task::Program(cpu)) {
             return false;
         }
     }
     for path in 0..PATHS {
-        if !add_hand(core, hands, Task::Path(0x10 + path)) {
+        if !add_racer(core, racers, Task::Path(0x10 + path)) {
             return false;
         }
     }
     for worker in 0..WORKERS {
-        if !add_worker(alloc, core, hands, worker, 1) {
+        if !add_worker(alloc, core, racers, worker, 1) {
             return false;
         }
     }
-    add_hand(core, hands, Task::Operator)
+    add_racer(core, racers, Task::Operator)
 }
 
 /// A program lies in storage, and all subchannels are enabled.
@@ -204,35 +204,35 @@ fn begins<J: Naming>(core: &mut Core<J, Rotating>, seat: &mut Seat<J>) -> bool {
     true
 }
 
-/// That is entered, and there are all hands.
+/// That is entered, and there are all racers.
 pub fn begins_crowd<J: Naming>(
     alloc: Global,
     core: &mut Core<J, Rotating>,
     first: &mut Seat<J>,
-    hands: &mut Vec<Hand<J>>,
+    racers: &mut Vec<Racer<J>>,
 ) -> bool {
-    begins(core, first) && add_all(alloc, core, hands)
+    begins(core, first) && add_all(alloc, core, racers)
 }
 
-/// How many entries were answered to these hands.
-pub fn answered<J: Naming>(hands: &[Hand<J>]) -> u64 {
+/// How many entries were answered to these racers.
+pub fn answered<J: Naming>(racers: &[Racer<J>]) -> u64 {
     let mut sum = 0u64;
-    for hand in hands {
-        sum = sum.saturating_add(hand.answered);
+    for racer in racers {
+        sum = sum.saturating_add(racer.answered);
     }
     sum
 }
 
-/// Whether there are entries enough in the end, all of them counted: the first ones, and those that were answered to hands.
+/// Whether there are entries enough in the end, all of them counted: the first ones, and those that were answered to racers.
 pub fn are_enough(answered: u64, entries: Option<u64>) -> bool {
     let counted = FIRST.saturating_add(answered);
     counted >= ENTRIES && entries == Some(counted)
 }
 
-/// Whether each hand has an entry, and all glances were in order.
-fn have_all<J: Naming>(hands: &[Hand<J>]) -> bool {
-    for hand in hands {
-        if hand.answered == 0 || !hand.well {
+/// Whether each racer has an entry, and all glances were in order.
+fn have_all<J: Naming>(racers: &[Racer<J>]) -> bool {
+    for racer in racers {
+        if racer.answered == 0 || !racer.well {
             return false;
         }
     }
@@ -265,26 +265,26 @@ pub fn has_been_disturbed(history: &History<'_>) -> bool {
     true
 }
 
-/// All hands work, each on a thread of its own, until there are entries enough, and each of them has one. Then each log is what the
+/// All racers work, each on a thread of its own, until there are entries enough, and each of them has one. Then each log is what the
 /// history has of it, all entries are counted, none is lost, and a fresh subsystem answers them in the same way.
 pub fn crowds<J: Naming + Send + Sync, R: Threads + Wait + Sync>(
     rt: &R,
     machine: &Machine<J, Rotating>,
-    hands: Vec<Hand<J>>,
-) -> Option<Vec<Hand<J>>> {
+    racers: Vec<Racer<J>>,
+) -> Option<Vec<Racer<J>>> {
     let done = Done::new();
     let worked = thread::map_vec(
         rt,
-        hands,
-        &|hand: Hand<J>| {
-            let mut hand = hand;
-            hand.works(rt, machine, &done);
-            hand
+        racers,
+        &|racer: Racer<J>| {
+            let mut racer = racer;
+            racer.works(rt, machine, &done);
+            racer
         },
     );
-    let hands = worked.ok()?;
-    if have_all(hands.as_slice()) {
-        Some(hands)
+    let racers = worked.ok()?;
+    if have_all(racers.as_slice()) {
+        Some(racers)
     } else {
         None
     }
@@ -292,5 +292,5 @@ pub fn crowds<J: Naming + Send + Sync, R: Threads + Wait + Sync>(
 
 #[test]
 fn nothing_is_lost_in_a_crowd(rt: HostRuntime) {
-    assert!(rt; goes(&rt, rt.alloc(), Story::Crowds));
+    assert!(rt; goes(&rt, rt.alloc(), Scenario::Crowds));
 }

@@ -13,7 +13,7 @@ use core_lock::naming::Naming;
 pub const EACH: u32 = 4;
 
 /// The real address at which a CPU stores.
-fn place_of(cpu: Cpu) -> u32 {
+fn index_of(cpu: Cpu) -> u32 {
     0x4000 + 0x100 * u32::from(cpu.number())
 }
 
@@ -28,7 +28,7 @@ pub const KINDS: usize = 5;
 /// How many of each kind there are to be at least: an operator among so many comes to the lock seldom.
 pub const LEAST: u64 = 2;
 
-/// What a hand keeps in mind: of a CPU what was seen last of each of its subchannels, how many statuses were made and how many
+/// What a racer keeps in mind: of a CPU what was seen last of each of its subchannels, how many statuses were made and how many
 /// cleared; of an operator how many events of each kind were accepted.
 #[derive(Drop)]
 pub struct Mind {
@@ -144,7 +144,7 @@ fn rare(cpu: Cpu, subchannel: u32) -> Instruction {
 
 /// TEST PENDING INTERRUPTION and STORE CHANNEL PATH STATUS.
 fn other(cpu: Cpu, round: u64) -> CpuInstruction {
-    let address = place_of(cpu);
+    let address = index_of(cpu);
     if round % 16 < 8 {
         return CpuInstruction::OfSubsystem(OtherInstruction::Tpi {
             mask: 0x80,
@@ -157,7 +157,7 @@ fn other(cpu: Cpu, round: u64) -> CpuInstruction {
 /// What a CPU executes in a round.
 pub fn instruction_of(cpu: Cpu, round: u64) -> CpuInstruction {
     let subchannel = subchannel_of(cpu, round);
-    let address = place_of(cpu);
+    let address = index_of(cpu);
     let instruction = match round % 8 {
         0 => Instruction::Ssch {
             subchannel,

@@ -1,8 +1,8 @@
 //! A device is called outside the lock: calls of two devices meet.
 
-use crate::tests::hands::{Hand, add_worker};
 use crate::tests::machines::{accepts, accepts_all, enable, loads, ssch, word_of};
-use crate::tests::stories::{Story, goes};
+use crate::tests::racers::{Racer, add_worker};
+use crate::tests::scenarios::{Scenario, goes};
 use chan_events::event::Event;
 use chan_model::names::Cpu;
 use core_lock::gate::Gate;
@@ -86,32 +86,32 @@ pub fn begins_both<J: Naming>(
     alloc: Global,
     core: &mut Core<J, Rotating>,
     program: &mut Seat<J>,
-    hands: &mut Vec<Hand<J>>,
+    racers: &mut Vec<Racer<J>>,
 ) -> bool {
     accepts_all(core, program, &loads())
         && begins(core, program, word_of(0))
         && begins(core, program, word_of(1))
-        && add_worker(alloc, core, hands, 0, 1)
-        && add_worker(alloc, core, hands, 1, 1)
+        && add_worker(alloc, core, racers, 0, 1)
+        && add_worker(alloc, core, racers, 1, 1)
 }
 
 /// Two units have a command to take, and the first calls of their workers meet at the gate.
 pub fn meets<J: Naming + Send + Sync, R: Threads + Wait + Sync>(
     rt: &R,
     machine: &Machine<J, Rotating>,
-    hands: Vec<Hand<J>>,
-) -> Option<Vec<Hand<J>>> {
+    racers: Vec<Racer<J>>,
+) -> Option<Vec<Racer<J>>> {
     let gate = Meeting {
         came: AtomicU64::new(0),
         met: AtomicU64::new(0),
     };
     let worked = thread::map_vec(
         rt,
-        hands,
-        &|hand: Hand<J>| {
-            let mut hand = hand;
-            let _ = hand.turns(rt, machine, &gate, false, TURNS);
-            hand
+        racers,
+        &|racer: Racer<J>| {
+            let mut racer = racer;
+            let _ = racer.turns(rt, machine, &gate, false, TURNS);
+            racer
         },
     );
     let met = gate.met.load(Ordering::SeqCst);
@@ -120,5 +120,5 @@ pub fn meets<J: Naming + Send + Sync, R: Threads + Wait + Sync>(
 
 #[test]
 fn two_calls_of_devices_run_at_once(rt: HostRuntime) {
-    assert!(rt; goes(&rt, rt.alloc(), Story::Meets));
+    assert!(rt; goes(&rt, rt.alloc(), Scenario::Meets));
 }

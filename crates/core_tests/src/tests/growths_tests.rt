@@ -2,9 +2,9 @@
 
 ghost use Rattle.std.specs.Prelude.{◌≡◌, IfSome, None};
 
-use crate::tests::hands::{Hand, Task, hold};
 use crate::tests::machines::{WORD, enable, tsch};
-use crate::tests::stories::{Story, goes, setting};
+use crate::tests::racers::{Racer, Task, hold};
+use crate::tests::scenarios::{Scenario, goes, setting};
 use chan_events::event::{Event, Instruction};
 use chan_model::fault::Fault;
 use chan_model::names::Cpu;
@@ -136,7 +136,7 @@ fn starved<J: Naming>(core: &mut Core<J, Rotating>, seat: &mut Seat<J>) -> Optio
 pub fn grows<J: Naming>(
     core: &mut Core<J, Rotating>,
     first: &mut Seat<J>,
-    hands: &mut Vec<Hand<J>>,
+    racers: &mut Vec<Racer<J>>,
 ) -> bool {
     let event = Event::SystemReset;
     let entered = (
@@ -145,7 +145,7 @@ pub fn grows<J: Naming>(
     );
     match seat_in_turn(core) {
         Some((seat, requests)) => {
-            hold(hands, seat, Task::Looks) && requests == 4 && entered == (Some(3), Some(0))
+            hold(racers, seat, Task::Looks) && requests == 4 && entered == (Some(3), Some(0))
         }
         None => false,
     }
@@ -153,17 +153,17 @@ pub fn grows<J: Naming>(
 
 #[test]
 fn each_request_of_a_core_and_of_a_seat_is_refused_in_turn(rt: HostRuntime) {
-    assert!(rt; goes(&rt, rt.alloc(), Story::Grows));
+    assert!(rt; goes(&rt, rt.alloc(), Scenario::Grows));
 }
 
 #[test]
 fn each_request_of_many_entries_is_refused_in_turn(rt: HostRuntime) {
-    assert!(rt; goes(&rt, rt.alloc(), Story::Starves));
+    assert!(rt; goes(&rt, rt.alloc(), Scenario::Starves));
 }
 
 /// How many requests the parts of a machine make, which are refused each in turn and then made; None where it is otherwise.
 fn requests_of_parts(alloc: Global) -> Option<u64> {
-    let config = setting(alloc, Story::Grows);
+    let config = setting(alloc, Scenario::Grows);
     for left in 0..MANY {
         let mut supply = granting(left);
         let made = Parts::new_with(alloc, &mut supply, &config).is_ok();

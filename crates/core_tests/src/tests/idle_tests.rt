@@ -2,9 +2,9 @@
 
 ghost use Rattle.std.specs.Prelude.{◌≡◌, None};
 
-use crate::tests::hands::{Hand, Task, add_hand};
 use crate::tests::machines::{WORD, tsch};
-use crate::tests::stories::{Story, goes};
+use crate::tests::racers::{Racer, Task, add_racer};
+use crate::tests::scenarios::{Scenario, goes};
 use chan_model::names::Cpu;
 use core_lock::executing::CpuInstruction;
 use core_lock::gate::Open;
@@ -53,11 +53,11 @@ impl Work {
 }
 
 /// A CPU, and a worker of the one channel path, which has nothing to do.
-pub fn begins_idle<J: Naming>(core: &mut Core<J, Rotating>, hands: &mut Vec<Hand<J>>) -> bool {
+pub fn begins_idle<J: Naming>(core: &mut Core<J, Rotating>, racers: &mut Vec<Racer<J>>) -> bool {
     let Some(cpu) = Cpu::new(0) else {
         return false;
     };
-    add_hand(core, hands, Task::Program(cpu)) && add_hand(core, hands, Task::Path(0x10))
+    add_racer(core, racers, Task::Program(cpu)) && add_racer(core, racers, Task::Path(0x10))
 }
 
 /// Whether an instruction of a CPU is answered.
@@ -74,7 +74,7 @@ fn tests<J: Naming, R: Wait>(
     machine.instruct(rt, seat, cpu, test).is_ok()
 }
 
-impl<J: Naming> Hand<J> {
+impl<J: Naming> Racer<J> {
     /// How many instructions of a CPU are answered while the worker is at work.
     fn answered_beside<R: Wait>(
         &mut self,
@@ -112,19 +112,19 @@ impl<J: Naming> Hand<J> {
 pub fn idles<J: Naming + Send + Sync, R: Threads + Wait + Sync>(
     rt: &R,
     machine: &Machine<J, Rotating>,
-    hands: Vec<Hand<J>>,
-) -> Option<Vec<Hand<J>>> {
+    racers: Vec<Racer<J>>,
+) -> Option<Vec<Racer<J>>> {
     let work = Work {
         begun: AtomicU64::new(0),
         done: AtomicU64::new(0),
     };
     let worked = thread::map_vec(
         rt,
-        hands,
-        &|hand: Hand<J>| {
-            let mut hand = hand;
-            hand.answered = hand.beside(rt, machine, &work);
-            hand
+        racers,
+        &|racer: Racer<J>| {
+            let mut racer = racer;
+            racer.answered = racer.beside(rt, machine, &work);
+            racer
         },
     );
     worked.ok()
@@ -137,5 +137,5 @@ pub fn are_beside(answered: u64, entries: Option<u64>) -> bool {
 
 #[test]
 fn instructions_are_answered_beside_a_workers_idle_turns(rt: HostRuntime) {
-    assert!(rt; goes(&rt, rt.alloc(), Story::Idles));
+    assert!(rt; goes(&rt, rt.alloc(), Scenario::Idles));
 }

@@ -2,10 +2,10 @@
 
 ghost use Rattle.std.specs.Prelude.{◌≡◌, None};
 
-use crate::tests::hands::{Hand, Task, add_hand};
 use crate::tests::machines::{WORD, accepts, accepts_all, enable, tsch};
+use crate::tests::racers::{Racer, Task, add_racer};
+use crate::tests::scenarios::{Scenario, goes};
 use crate::tests::seats_tests::seen;
-use crate::tests::stories::{Story, goes};
 use chan_events::event::{Event, Instruction};
 use chan_events::reply::Reply;
 use chan_model::answer::Answer;
@@ -58,13 +58,13 @@ fn makes<J: Naming, R: Wait>(
 fn makes_all<J: Naming, R: Wait>(
     rt: &R,
     machine: &Machine<J, Rotating>,
-    hand: &mut Hand<J>,
+    racer: &mut Racer<J>,
 ) -> bool {
     let Some(cpu) = Cpu::new(0) else {
         return false;
     };
     for _status in 0..STATUSES {
-        if !makes(rt, machine, &mut hand.seat, cpu) {
+        if !makes(rt, machine, &mut racer.seat, cpu) {
             return false;
         }
     }
@@ -72,10 +72,10 @@ fn makes_all<J: Naming, R: Wait>(
 }
 
 /// Whether nothing falls between one look and the next, and no status is seen cleared that is not seen made.
-fn never_falls<J: Naming>(hand: &mut Hand<J>) -> bool {
+fn never_falls<J: Naming>(racer: &mut Racer<J>) -> bool {
     let mut last = (0, 0);
     for look in 0..PATIENCE {
-        let Some(now) = seen(&mut hand.seat) else {
+        let Some(now) = seen(&mut racer.seat) else {
             return false;
         };
         if now.0 < last.0 || now.1 < last.1 || now.0 < now.1 {
@@ -89,16 +89,16 @@ fn never_falls<J: Naming>(hand: &mut Hand<J>) -> bool {
     false
 }
 
-/// Whether all that a hand does comes out as it must: one looks, and the other makes and clears.
+/// Whether all that a racer does comes out as it must: one looks, and the other makes and clears.
 fn goes_well<J: Naming, R: Wait>(
     rt: &R,
     machine: &Machine<J, Rotating>,
-    hand: &mut Hand<J>,
+    racer: &mut Racer<J>,
 ) -> bool {
-    if let Task::Looks = &hand.task {
-        never_falls(hand)
+    if let Task::Looks = &racer.task {
+        never_falls(racer)
     } else {
-        makes_all(rt, machine, hand)
+        makes_all(rt, machine, racer)
     }
 }
 
@@ -111,21 +111,21 @@ fn begins<J: Naming>(core: &mut Core<J, Rotating>, seat: &mut Seat<J>) -> bool {
         && accepts_all(core, seat, &[Event::PathDown { chpid: 0x10 }])
 }
 
-/// That is entered, and there are a hand that makes statuses and one that looks.
+/// That is entered, and there are a racer that makes statuses and one that looks.
 pub fn begins_looks<J: Naming>(
     core: &mut Core<J, Rotating>,
     first: &mut Seat<J>,
-    hands: &mut Vec<Hand<J>>,
+    racers: &mut Vec<Racer<J>>,
 ) -> bool {
     begins(core, first)
-        && add_hand(core, hands, Task::Path(0x10))
-        && add_hand(core, hands, Task::Looks)
+        && add_racer(core, racers, Task::Path(0x10))
+        && add_racer(core, racers, Task::Looks)
 }
 
-/// Whether all went well with a hand, and it sees all statuses made and cleared.
-fn has_seen<J: Naming>(hand: Option<&mut Hand<J>>) -> bool {
-    match hand {
-        Some(hand) => hand.well && seen(&mut hand.seat) == Some((STATUSES, STATUSES)),
+/// Whether all went well with a racer, and it sees all statuses made and cleared.
+fn has_seen<J: Naming>(racer: Option<&mut Racer<J>>) -> bool {
+    match racer {
+        Some(racer) => racer.well && seen(&mut racer.seat) == Some((STATUSES, STATUSES)),
         None => false,
     }
 }
@@ -134,20 +134,20 @@ fn has_seen<J: Naming>(hand: Option<&mut Hand<J>>) -> bool {
 pub fn looks<J: Naming + Send + Sync, R: Threads + Wait + Sync>(
     rt: &R,
     machine: &Machine<J, Rotating>,
-    hands: Vec<Hand<J>>,
-) -> Option<Vec<Hand<J>>> {
+    racers: Vec<Racer<J>>,
+) -> Option<Vec<Racer<J>>> {
     let worked = thread::map_vec(
         rt,
-        hands,
-        &|hand: Hand<J>| {
-            let mut hand = hand;
-            hand.well = goes_well(rt, machine, &mut hand);
-            hand
+        racers,
+        &|racer: Racer<J>| {
+            let mut racer = racer;
+            racer.well = goes_well(rt, machine, &mut racer);
+            racer
         },
     );
-    let mut hands = worked.ok()?;
-    if has_seen(hands.get_mut(0)) && has_seen(hands.get_mut(1)) {
-        Some(hands)
+    let mut racers = worked.ok()?;
+    if has_seen(racers.get_mut(0)) && has_seen(racers.get_mut(1)) {
+        Some(racers)
     } else {
         None
     }
@@ -160,5 +160,5 @@ pub fn has_made(entries: Option<u64>) -> bool {
 
 #[test]
 fn nothing_falls_while_another_makes_and_clears(rt: HostRuntime) {
-    assert!(rt; goes(&rt, rt.alloc(), Story::Looks));
+    assert!(rt; goes(&rt, rt.alloc(), Scenario::Looks));
 }

@@ -2,9 +2,9 @@
 
 ghost use Rattle.std.specs.Prelude.{◌≡◌, None};
 
-use crate::tests::hands::{Hand, Task, add_hand};
 use crate::tests::machines::{WORD, accepts, accepts_all, enable, tsch};
-use crate::tests::stories::{Story, goes};
+use crate::tests::racers::{Racer, Task, add_racer};
+use crate::tests::scenarios::{Scenario, goes};
 use chan_events::event::{Event, Instruction};
 use chan_events::reply::Reply;
 use chan_model::answer::Answer;
@@ -40,7 +40,7 @@ pub fn seen<J: Naming>(seat: &mut Seat<J>) -> Option<(u64, u64)>
 fn sees_other<J: Naming>(
     core: &mut Core<J, Rotating>,
     maker: &mut Seat<J>,
-    looker: &mut Hand<J>,
+    looker: &mut Racer<J>,
 ) -> bool {
     let before = seen(&mut looker.seat);
     let done = makes_and_clears(core, maker);
@@ -56,12 +56,12 @@ fn sees_other<J: Naming>(
 pub fn sees<J: Naming>(
     core: &mut Core<J, Rotating>,
     maker: &mut Seat<J>,
-    hands: &mut Vec<Hand<J>>,
+    racers: &mut Vec<Racer<J>>,
 ) -> bool {
-    if !add_hand(core, hands, Task::Looks) {
+    if !add_racer(core, racers, Task::Looks) {
         return false;
     }
-    match hands.get_mut(0) {
+    match racers.get_mut(0) {
         Some(looker) => sees_other(core, maker, looker),
         None => false,
     }
@@ -95,9 +95,9 @@ pub fn leaves_out<J: Naming>(core: &mut Core<J, Rotating>) -> bool {
 }
 
 /// As many seats are made as there can be, and one more is refused.
-pub fn fills<J: Naming>(core: &mut Core<J, Rotating>, hands: &mut Vec<Hand<J>>) -> bool {
+pub fn fills<J: Naming>(core: &mut Core<J, Rotating>, racers: &mut Vec<Racer<J>>) -> bool {
     for _ in 1..MOST_SEATS {
-        if !add_hand(core, hands, Task::Looks) {
+        if !add_racer(core, racers, Task::Looks) {
             return false;
         }
     }
@@ -106,20 +106,20 @@ pub fn fills<J: Naming>(core: &mut Core<J, Rotating>, hands: &mut Vec<Hand<J>>) 
 
 #[test]
 fn one_seat_sees_what_another_made_and_cleared(rt: HostRuntime) {
-    assert!(rt; goes(&rt, rt.alloc(), Story::Sees));
+    assert!(rt; goes(&rt, rt.alloc(), Scenario::Sees));
 }
 
 #[test]
 fn the_last_reply_is_lent_and_stays_where_another_event_is_refused(rt: HostRuntime) {
-    assert!(rt; goes(&rt, rt.alloc(), Story::Answers));
+    assert!(rt; goes(&rt, rt.alloc(), Scenario::Answers));
 }
 
 #[test]
 fn a_seat_left_out_is_told(rt: HostRuntime) {
-    assert!(rt; goes(&rt, rt.alloc(), Story::LeavesOut));
+    assert!(rt; goes(&rt, rt.alloc(), Scenario::LeavesOut));
 }
 
 #[test]
 fn no_seat_follows_the_1024th(rt: HostRuntime) {
-    assert!(rt; goes(&rt, rt.alloc(), Story::Fills));
+    assert!(rt; goes(&rt, rt.alloc(), Scenario::Fills));
 }

@@ -3,9 +3,9 @@
 ghost use Rattle.std.specs.Prelude.{◌≡◌, None};
 
 use crate::tests::gate_tests::begins;
-use crate::tests::hands::{Hand, Task, add_hand, add_worker};
 use crate::tests::machines::{WORD, accepts_all, loads, ssch};
-use crate::tests::stories::{Story, goes};
+use crate::tests::racers::{Racer, Task, add_racer, add_worker};
+use crate::tests::scenarios::{Scenario, goes};
 use crate::tests::workers_tests::{cleared, roams};
 use chan_events::event::{Event, Instruction};
 use chan_model::fault::Fault;
@@ -91,7 +91,7 @@ fn late_report() -> Report {
     }
 }
 
-/// Whether the device is to be called, and its answer is of the command and the place of that report.
+/// Whether the device is to be called, and its answer is of the command and the index of that report.
 fn is_due<J: Naming>(core: &Core<J, Rotating>) -> bool {
     let late = late_report();
     match core.subsystem().unit_turn(0) {
@@ -115,12 +115,12 @@ fn is_due<J: Naming>(core: &Core<J, Rotating>) -> bool {
     }
 }
 
-/// A program is begun, and its unit takes a command. There are a hand that resets, and the unit's worker.
+/// A program is begun, and its unit takes a command. There are a racer that resets, and the unit's worker.
 pub fn begins_late<J: Naming>(
     alloc: Global,
     core: &mut Core<J, Rotating>,
     program: &mut Seat<J>,
-    hands: &mut Vec<Hand<J>>,
+    racers: &mut Vec<Racer<J>>,
 ) -> bool {
     let take = Event::Down {
         subchannel: WORD,
@@ -130,8 +130,8 @@ pub fn begins_late<J: Naming>(
         && begins(core, program, WORD)
         && accepts_all(core, program, &[take])
         && is_due(core)
-        && add_hand(core, hands, Task::Path(CHPID))
-        && add_worker(alloc, core, hands, 0, 1)
+        && add_racer(core, racers, Task::Path(CHPID))
+        && add_worker(alloc, core, racers, 0, 1)
 }
 
 /// CLEAR SUBCHANNEL, and the Reset that it asks for: it is sent, the unit takes it, and the subchannel takes the answer. The
@@ -152,7 +152,7 @@ fn resets<J: Naming, R: Wait>(rt: &R, machine: &Machine<J, Rotating>, seat: &mut
     asked.is_ok() && sent == 1 && taken == 1 && answered == 1
 }
 
-impl<J: Naming> Hand<J> {
+impl<J: Naming> Racer<J> {
     /// What it does: one resets while the call of the other waits, whose report then adds nothing. Whether that comes out so.
     fn goes_late<R: Wait>(
         &mut self,
@@ -170,10 +170,10 @@ impl<J: Naming> Hand<J> {
     }
 }
 
-/// Whether all went well with these hands.
-fn are_well<J: Naming>(hands: &[Hand<J>]) -> bool {
-    for hand in hands {
-        if !hand.well {
+/// Whether all went well with these racers.
+fn are_well<J: Naming>(racers: &[Racer<J>]) -> bool {
+    for racer in racers {
+        if !racer.well {
             return false;
         }
     }
@@ -201,8 +201,8 @@ pub fn comes_late<J: Naming + Send + Sync, R: Threads + Wait + Sync>(
     rt: &R,
     machine: &Machine<J, Rotating>,
     program: &mut Seat<J>,
-    hands: Vec<Hand<J>>,
-) -> Option<Vec<Hand<J>>> {
+    racers: Vec<Racer<J>>,
+) -> Option<Vec<Racer<J>>> {
     let gate = Barrier {
         reached: AtomicU64::new(0),
         reset: AtomicU64::new(0),
@@ -210,17 +210,17 @@ pub fn comes_late<J: Naming + Send + Sync, R: Threads + Wait + Sync>(
     };
     let worked = thread::map_vec(
         rt,
-        hands,
-        &|hand: Hand<J>| {
-            let mut hand = hand;
-            hand.well = hand.goes_late(rt, machine, &gate);
-            hand
+        racers,
+        &|racer: Racer<J>| {
+            let mut racer = racer;
+            racer.well = racer.goes_late(rt, machine, &gate);
+            racer
         },
     );
-    let hands = worked.ok()?;
+    let racers = worked.ok()?;
     let passed = gate.passed.load(Ordering::SeqCst) == 1;
-    if passed && are_well(hands.as_slice()) && starts_again(rt, machine, program) {
-        roams(rt, machine, program, hands)
+    if passed && are_well(racers.as_slice()) && starts_again(rt, machine, program) {
+        roams(rt, machine, program, racers)
     } else {
         None
     }
@@ -237,8 +237,8 @@ fn number_of(event: &Event) -> Option<u64> {
 /// Whether a history has reports, and none of the program that was cleared.
 pub fn has_dropped(history: &History<'_>) -> bool {
     let mut reported = false;
-    for place in 0..history.len() {
-        let Some(entry) = history.get(place) else {
+    for index in 0..history.len() {
+        let Some(entry) = history.get(index) else {
             return false;
         };
         match number_of(&entry.event) {
@@ -262,5 +262,5 @@ pub fn is_refused<J: Naming>(core: &mut Core<J, Rotating>, seat: &mut Seat<J>) -
 
 #[test]
 fn a_report_is_refused_after_a_reset_and_dropped(rt: HostRuntime) {
-    assert!(rt; goes(&rt, rt.alloc(), Story::ComesLate));
+    assert!(rt; goes(&rt, rt.alloc(), Scenario::ComesLate));
 }

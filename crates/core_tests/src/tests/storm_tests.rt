@@ -3,7 +3,7 @@
 
 use crate::tests::draws::{Draws, SUBCHANNELS, UNITS, instruction, outside, programs};
 use crate::tests::machines::{tsch, word_of};
-use crate::tests::stories::{Story, goes};
+use crate::tests::scenarios::{Scenario, goes};
 use chan_events::event::{Event, Instruction, OtherInstruction, UnitAct};
 use chan_events::reply::{Entry, Reply};
 use chan_model::answer::Answer;
@@ -296,5 +296,5 @@ pub fn has_stormed(history: &History<'_>) -> bool {
 
 #[test]
 fn a_million_events_are_kept(rt: HostRuntime) {
-    assert!(rt; goes(&rt, rt.alloc(), Story::Storms));
+    assert!(rt; goes(&rt, rt.alloc(), Scenario::Storms));
 }

@@ -1,8 +1,8 @@
 //! Workers of eight channel paths and of a unit that roams bring a program to its end, on threads of their own.
 
-use crate::tests::hands::{Hand, Task, add_hand, add_worker};
 use crate::tests::machines::{WORD, accepts, accepts_all, enable, loads, ssch, tsch};
-use crate::tests::stories::{Story, goes};
+use crate::tests::racers::{Racer, Task, add_racer, add_worker};
+use crate::tests::scenarios::{Scenario, goes};
 use chan_events::event::{Event, UnitAct};
 use chan_events::reply::Reply;
 use chan_model::answer::Answer;
@@ -42,17 +42,17 @@ pub fn begins_work<J: Naming>(
     alloc: Global,
     core: &mut Core<J, Rotating>,
     program: &mut Seat<J>,
-    hands: &mut Vec<Hand<J>>,
+    racers: &mut Vec<Racer<J>>,
 ) -> bool {
     if !starts(core, program) {
         return false;
     }
     for path in 0..8u8 {
-        if !add_hand(core, hands, Task::Path(0x10 + path)) {
+        if !add_racer(core, racers, Task::Path(0x10 + path)) {
             return false;
         }
     }
-    add_worker(alloc, core, hands, 0, 1)
+    add_worker(alloc, core, racers, 0, 1)
 }
 
 /// Whether a status is the one that is due.
@@ -81,19 +81,19 @@ pub fn cleared<J: Naming, R: Wait>(
     }
 }
 
-/// A round of all hands, each on a thread of its own.
+/// A round of all racers, each on a thread of its own.
 fn round<J: Naming + Send + Sync, R: Threads + Wait + Sync>(
     rt: &R,
     machine: &Machine<J, Rotating>,
-    hands: Vec<Hand<J>>,
-) -> Option<Vec<Hand<J>>> {
+    racers: Vec<Racer<J>>,
+) -> Option<Vec<Racer<J>>> {
     let worked = thread::map_vec(
         rt,
-        hands,
-        &|hand: Hand<J>| {
-            let mut hand = hand;
-            let _ = hand.turns(rt, machine, &Open, true, TURNS);
-            hand
+        racers,
+        &|racer: Racer<J>| {
+            let mut racer = racer;
+            let _ = racer.turns(rt, machine, &Open, true, TURNS);
+            racer
         },
     );
     worked.ok()
@@ -104,13 +104,13 @@ pub fn roams<J: Naming + Send + Sync, R: Threads + Wait + Sync>(
     rt: &R,
     machine: &Machine<J, Rotating>,
     program: &mut Seat<J>,
-    hands: Vec<Hand<J>>,
-) -> Option<Vec<Hand<J>>> {
-    let mut hands = hands;
+    racers: Vec<Racer<J>>,
+) -> Option<Vec<Racer<J>>> {
+    let mut racers = racers;
     for _round in 0..ROUNDS {
-        hands = round(rt, machine, hands)?;
+        racers = round(rt, machine, racers)?;
         if let Some(due) = cleared(rt, machine, program, &STATUS) {
-            return if due { Some(hands) } else { None };
+            return if due { Some(racers) } else { None };
         }
     }
     None
@@ -140,5 +140,5 @@ pub fn has_roamed(history: &History<'_>) -> bool {
 
 #[test]
 fn workers_bring_a_program_to_its_end(rt: HostRuntime) {
-    assert!(rt; goes(&rt, rt.alloc(), Story::Roams));
+    assert!(rt; goes(&rt, rt.alloc(), Scenario::Roams));
 }

@@ -28,11 +28,11 @@ fn an_image_is_read_and_written(rt: HostRuntime) {
 
 #[test]
 fn each_forbidden_bit_is_refused(rt: HostRuntime) {
-    for (place, bits) in [(5usize, 4u8), (7, 0x20), (7, 2), (7, 1), (8, 0x80)] {
+    for (index, bits) in [(5usize, 4u8), (7, 0x20), (7, 2), (7, 1), (8, 0x80)] {
         let mut image = [0; 12];
-        if place < 12 {
-            image[place] = bits;
+        if index < 12 {
+            image[index] = bits;
         }
-        assert!(rt; Orb::read(&image) == Err(Operand), "byte {place}");
+        assert!(rt; Orb::read(&image) == Err(Operand), "byte {index}");
     }
 }

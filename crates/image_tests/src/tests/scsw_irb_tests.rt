@@ -47,9 +47,9 @@ fn an_ended_program_is_shown(rt: HostRuntime) {
     let front = [
         0, 0x80, 0x60, 0x07, 0, 0, 0x20, 0x08, 0x0C, 0x40, 1, 2, 0, 0x40, 0, 0,
     ];
-    for (place, byte) in front.iter().enumerate() {
-        if place < 64 {
-            assert!(rt; image[place] == *byte, "byte {place}");
+    for (index, byte) in front.iter().enumerate() {
+        if index < 64 {
+            assert!(rt; image[index] == *byte, "byte {index}");
         }
     }
     for byte in &image[16..] {

@@ -89,8 +89,8 @@ fn four(alloc: Global) -> Result<Vec<Subchannel>, AllocError> {
 #[test]
 fn the_first_subchannel_of_a_name_is_found(rt: HostRuntime) -> Result<(), AllocError> {
     let subs = four(rt.alloc())?;
-    let places = SubchannelIndex::of(rt.alloc(), &mut Given { refused: false }, 2, 3, &subs)?;
-    for (set, number, place) in [
+    let indices = SubchannelIndex::of(rt.alloc(), &mut Given { refused: false }, 2, 3, &subs)?;
+    for (set, number, index) in [
         (0, 5, Some(0)),
         (1, 0, Some(1)),
         (1, 0xFF, Some(2)),
@@ -99,8 +99,8 @@ fn the_first_subchannel_of_a_name_is_found(rt: HostRuntime) -> Result<(), AllocE
         (0, 0x105, None),
         (2, 5, None),
     ] {
-        let found = places.place_in(SubchannelId { set, number }, &subs);
-        assert!(rt; found == place, "at {set} {number}");
+        let found = indices.index_in(SubchannelId { set, number }, &subs);
+        assert!(rt; found == index, "at {set} {number}");
     }
     Ok(())
 }
@@ -108,10 +108,11 @@ fn the_first_subchannel_of_a_name_is_found(rt: HostRuntime) -> Result<(), AllocE
 #[test]
 fn a_name_beyond_the_tables_is_found(rt: HostRuntime) -> Result<(), AllocError> {
     let subs = four(rt.alloc())?;
-    let places = SubchannelIndex::of(rt.alloc(), &mut Given { refused: false }, 1, 0, &subs)?;
+    let indices = SubchannelIndex::of(rt.alloc(), &mut Given { refused: false }, 1, 0, &subs)?;
     let id = SubchannelId { set: 1, number: 0 };
     assert!(rt;
-        places.place_in(id, &subs) == Some(1) && places.reached_in(2, Side::First, &subs) == Some(0)
+        indices.index_in(id, &subs) == Some(1)
+            && indices.reached_in(2, Side::First, &subs) == Some(0)
     );
     Ok(())
 }
@@ -119,7 +120,7 @@ fn a_name_beyond_the_tables_is_found(rt: HostRuntime) -> Result<(), AllocError> 
 #[test]
 fn the_subchannel_of_a_side_is_found(rt: HostRuntime) -> Result<(), AllocError> {
     let subs = four(rt.alloc())?;
-    let places = SubchannelIndex::of(rt.alloc(), &mut Given { refused: false }, 2, 3, &subs)?;
+    let indices = SubchannelIndex::of(rt.alloc(), &mut Given { refused: false }, 2, 3, &subs)?;
     for (unit, first, second) in [
         (0, Some(1), Some(2)),
         (1, None, None),
@@ -127,11 +128,11 @@ fn the_subchannel_of_a_side_is_found(rt: HostRuntime) -> Result<(), AllocError> 
         (9, None, Some(3)),
     ] {
         assert!(rt;
-            places.reached_in(unit, Side::First, &subs) == first,
+            indices.reached_in(unit, Side::First, &subs) == first,
             "at {unit}"
         );
         assert!(rt;
-            places.reached_in(unit, Side::Second, &subs) == second,
+            indices.reached_in(unit, Side::Second, &subs) == second,
             "at {unit}"
         );
     }
@@ -152,11 +153,11 @@ fn a_subchannel_engages_the_engine_of_its_path(rt: HostRuntime) -> Result<(), Al
     Ok(())
 }
 
-/// Whether there are places of the four subchannels, by which the second of them is found.
+/// Whether there are indices of the four subchannels, by which the second of them is found.
 fn are_made<S: Supply>(alloc: Global, supply: &mut S, units: usize, subs: &[Subchannel]) -> bool {
     let id = SubchannelId { set: 1, number: 0 };
     match SubchannelIndex::of(alloc, supply, 2, units, subs) {
-        Ok(places) => places.place_in(id, subs) == Some(1),
+        Ok(indices) => indices.index_in(id, subs) == Some(1),
         Err(_) => false,
     }
 }
@@ -171,7 +172,7 @@ fn are_made_of_four<S: Supply>(
     Ok(are_made(alloc, supply, units, &subs))
 }
 
-/// Whether the places are made where so many requests are granted, and whether one was refused.
+/// Whether the indices are made where so many requests are granted, and whether one was refused.
 fn refusing(alloc: Global, left: u64, units: usize) -> Result<(bool, bool), AllocError> {
     let mut supply = FailingMemory {
         left,
@@ -181,7 +182,7 @@ fn refusing(alloc: Global, left: u64, units: usize) -> Result<(bool, bool), Allo
     Ok((made, supply.refused))
 }
 
-/// Whether the places are made where each request is granted, and whether one was refused.
+/// Whether the indices are made where each request is granted, and whether one was refused.
 fn granting(alloc: Global, units: usize) -> Result<(bool, bool), AllocError> {
     let mut supply = Given { refused: false };
     let made = are_made_of_four(alloc, &mut supply, units)?;

@@ -42,7 +42,7 @@ fn tpi_stores_the_code_and_takes_it_out(rt: HostRuntime) {
     assert!(rt; taken, "the request is taken out");
     assert!(rt; stored, "its code is stored");
     assert!(rt; taken_again, "the second request is taken out");
-    assert!(rt; stored_assigned, "its code is stored at the assigned place");
+    assert!(rt; stored_assigned, "its code is stored at the assigned index");
     assert!(rt; left_none, "no request is left");
 }
 

@@ -1,4 +1,4 @@
-//! What is written into a place stands there, bytes and all, whatever stood there before.
+//! What is written into a slot stands there, bytes and all, whatever stood there before.
 
 use active_program::sent::SentDown;
 use chan_model::chunk::Chunk;
@@ -19,7 +19,7 @@ fn put_give(sent: &mut SentDown, path: Path, sequence: u64, bytes: Chunk) {
     sent.put(path, &kept.lend(give.bytes()));
 }
 
-/// Whether the last of two Gives is put into another place, with its own bytes alone.
+/// Whether the last of two Gives is put into another slot, with its own bytes alone.
 fn is_last_put(sent: &mut SentDown, path: Path) -> bool {
     put_give(sent, path, 4, Chunk::of(&[0xC1, 0xC2, 0xC3]));
     put_give(sent, path, 5, Chunk::of(&[0xC4]));
@@ -44,7 +44,7 @@ fn is_halt_put(sent: &mut SentDown, path: Path) -> bool {
 }
 
 #[test]
-fn a_place_has_what_was_written_last(rt: HostRuntime) {
+fn a_slot_has_what_was_written_last(rt: HostRuntime) {
     let path = Path::new(5).unwrap();
     let mut sent = SentDown::new();
     let empty = sent.get().is_none();

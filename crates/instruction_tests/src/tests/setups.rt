@@ -107,7 +107,7 @@ pub(crate) fn begun_by(alloc: Global, code: u8, flags: u8) -> Option<ActiveProgr
     storage
         .put(0x1000, &[code, flags, 0, 4, 0, 0, 0x20, 0])
         .ok()?;
-    let CommandStart::Begins(transfer) = first_command(&storage, Walk::start(program.orb)).came
+    let CommandStart::Begins(transfer) = first_command(&storage, Walk::start(program.orb)).outcome
     else {
         return None;
     };

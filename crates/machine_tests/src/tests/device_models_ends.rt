@@ -51,7 +51,7 @@ impl Device for Rewinding {
 
 /// The unit takes a report, while its chunks have small numbers.
 fn reported(unit: &mut Unit, report: &Report) -> Option<KeptUp> {
-    let last = match &unit.state().at_hand {
+    let last = match &unit.state().current {
         Some(command) => command.sequence,
         None => 0,
     };

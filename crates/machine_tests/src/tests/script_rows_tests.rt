@@ -6,8 +6,8 @@ use channel_config::config::Config;
 use memory::Given;
 use script_rows::Action;
 use script_rows::actions::action_row;
-use script_rows::places::ActionPlace;
 use script_rows::settings::{Setting, configure, setting_row};
+use script_rows::slots::ActionSlot;
 use script_rows::words::{LineFault, LineRule};
 use std::alloc::{AllocError, Global};
 
@@ -67,21 +67,15 @@ const DRIVING: [(&[u8], &[u8], [u32; 4]); 5] = [
 ];
 
 /// Whether a line asks a machine for this, with these numbers.
-fn asks(
-    alloc: Global,
-    place: &mut ActionPlace,
-    line: &[u8],
-    name: &[u8],
-    numbers: [u32; 4],
-) -> bool {
+fn asks(alloc: Global, slot: &mut ActionSlot, line: &[u8], name: &[u8], numbers: [u32; 4]) -> bool {
     let Ok(words) = words_of(alloc, line) else {
         return false;
     };
     match words.as_slice() {
         [] => false,
-        [first, others @ ..] => match action_row(place, first, others) {
+        [first, others @ ..] => match action_row(slot, first, others) {
             Some(Ok(())) => {
-                let action = place.kept.with(place.bytes());
+                let action = slot.kept.with(slot.bytes());
                 shown(&action) == (name, numbers)
             }
             _ => false,
@@ -91,9 +85,9 @@ fn asks(
 
 #[test]
 fn driving_lines_are_read(rt: HostRuntime) {
-    let mut place = ActionPlace::new();
+    let mut slot = ActionSlot::new();
     for (line, name, numbers) in DRIVING {
-        assert!(rt; asks(rt.alloc(), &mut place, line, name, numbers));
+        assert!(rt; asks(rt.alloc(), &mut slot, line, name, numbers));
     }
 }
 
@@ -105,13 +99,13 @@ const WRONG: [(&[u8], LineRule); 3] = [
 ];
 
 /// The rule that a line breaks, as it is to drive a machine.
-fn broken(alloc: Global, place: &mut ActionPlace, line: &[u8]) -> Option<LineRule> {
+fn broken(alloc: Global, slot: &mut ActionSlot, line: &[u8]) -> Option<LineRule> {
     let Ok(words) = words_of(alloc, line) else {
         return None;
     };
     match words.as_slice() {
         [] => None,
-        [first, others @ ..] => match action_row(place, first, others) {
+        [first, others @ ..] => match action_row(slot, first, others) {
             Some(Err(rule)) => Some(rule),
             _ => None,
         },
@@ -120,9 +114,9 @@ fn broken(alloc: Global, place: &mut ActionPlace, line: &[u8]) -> Option<LineRul
 
 #[test]
 fn wrong_driving_lines_break_a_rule(rt: HostRuntime) {
-    let mut place = ActionPlace::new();
+    let mut slot = ActionSlot::new();
     for (line, rule) in WRONG {
-        assert!(rt; broken(rt.alloc(), &mut place, line) == Some(rule));
+        assert!(rt; broken(rt.alloc(), &mut slot, line) == Some(rule));
     }
 }
 

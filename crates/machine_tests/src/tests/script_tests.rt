@@ -64,9 +64,9 @@ const WANTED: [(u64, &[u8], u32); 14] = [
     (26, b"event", 0),
 ];
 
-/// Whether the line at a place has this number and asks for this.
-fn asks(lines: &Lines, place: usize, number: u64, name: &[u8], value: u32) -> bool {
-    match lines.get(place) {
+/// Whether the line at an index has this number and asks for this.
+fn asks(lines: &Lines, index: usize, number: u64, name: &[u8], value: u32) -> bool {
+    match lines.get(index) {
         Some(line) => {
             let (kind, said) = shown(&line.action);
             line.number == number && kind == name && said == value
@@ -75,11 +75,11 @@ fn asks(lines: &Lines, place: usize, number: u64, name: &[u8], value: u32) -> bo
     }
 }
 
-/// The first place whose line asks for something else.
+/// The first index whose line asks for something else.
 fn first_other(lines: &Lines) -> Option<usize> {
-    for (place, (number, name, value)) in WANTED.into_iter().enumerate() {
-        if !asks(lines, place, number, name, value) {
-            return Some(place);
+    for (index, (number, name, value)) in WANTED.into_iter().enumerate() {
+        if !asks(lines, index, number, name, value) {
+            return Some(index);
         }
     }
     None

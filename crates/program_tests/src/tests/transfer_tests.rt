@@ -25,7 +25,7 @@ fn first(storage: &Storage) -> Option<Beginning> {
 }
 
 fn began(storage: &Storage) -> Option<Transfer> {
-    match first(storage)?.came {
+    match first(storage)?.outcome {
         CommandStart::Begins(transfer) => Some(transfer),
         _ => None,
     }
@@ -72,7 +72,7 @@ fn followed_by(storage: &Storage, transfer: &Transfer, modifier: bool) -> Option
     if transfer.command >= 9 {
         return None;
     }
-    match next_command(storage, transfer, modifier).came {
+    match next_command(storage, transfer, modifier).outcome {
         CommandStart::Begins(next) => Some((next.command, next.code)),
         _ => None,
     }
@@ -195,7 +195,7 @@ fn what_a_program_may_not_begin_with(rt: HostRuntime) {
         };
         assert!(rt;
             found.walk.tried() == 0x1008
-                && matches!(found.came, CommandStart::Stops(Check::Program))
+                && matches!(found.outcome, CommandStart::Stops(Check::Program))
         );
     }
 }
@@ -223,5 +223,7 @@ fn a_program_that_may_be_suspended_is(rt: HostRuntime) {
     };
     let found = first_command(&storage, Walk::start(orb));
     drop(storage);
-    assert!(rt; matches!(found.came, CommandStart::Suspends) && found.walk.next() == Some(0x1000));
+    assert!(rt;
+        matches!(found.outcome, CommandStart::Suspends) && found.walk.next() == Some(0x1000)
+    );
 }

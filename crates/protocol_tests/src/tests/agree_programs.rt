@@ -12,31 +12,31 @@ use scsw_irb::status::DeviceStatus;
 
 const SIDE: Side = Side::First;
 
-/// The signal at a place arrives at the unit.
-fn down(place: usize, keep: bool) -> WorldEvent {
+/// The signal at an index arrives at the unit.
+fn down(index: usize, keep: bool) -> WorldEvent {
     WorldEvent::Down {
         side: SIDE,
-        place,
+        index,
         keep,
         may: true,
     }
 }
 
-/// The signal at a place arrives at the hold; its program waits for it.
-fn up(place: usize, keep: bool) -> WorldEvent {
+/// The signal at an index arrives at the hold; its program waits for it.
+fn up(index: usize, keep: bool) -> WorldEvent {
     WorldEvent::Up {
         side: SIDE,
-        place,
+        index,
         keep,
         may: true,
     }
 }
 
-/// The signal at a place arrives at the hold again; its program waits for none.
-fn up_again(place: usize) -> WorldEvent {
+/// The signal at an index arrives at the hold again; its program waits for none.
+fn up_again(index: usize) -> WorldEvent {
     WorldEvent::Up {
         side: SIDE,
-        place,
+        index,
         keep: true,
         may: false,
     }
@@ -46,7 +46,7 @@ fn up_again(place: usize) -> WorldEvent {
 fn lose_down() -> WorldEvent {
     WorldEvent::LoseDown {
         side: SIDE,
-        place: 0,
+        index: 0,
     }
 }
 
@@ -54,7 +54,7 @@ fn lose_down() -> WorldEvent {
 fn lose_up() -> WorldEvent {
     WorldEvent::LoseUp {
         side: SIDE,
-        place: 0,
+        index: 0,
     }
 }
 

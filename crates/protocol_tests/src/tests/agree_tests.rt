@@ -24,7 +24,7 @@ fn choose(side: Side, path: u8) -> WorldEvent {
 fn down(side: Side) -> WorldEvent {
     WorldEvent::Down {
         side,
-        place: 0,
+        index: 0,
         keep: false,
         may: true,
     }
@@ -33,7 +33,7 @@ fn down(side: Side) -> WorldEvent {
 fn up(side: Side) -> WorldEvent {
     WorldEvent::Up {
         side,
-        place: 0,
+        index: 0,
         keep: false,
         may: true,
     }
@@ -58,10 +58,10 @@ fn is_held_by(world: &World, side: Side, path: u32, connection: u64) -> bool {
 
 /// The path that the program that holds the device is connected by.
 fn owned_by(world: &World) -> Option<usize> {
-    let Own::Owned { place, .. } = world.own() else {
+    let Own::Owned { connection, .. } = world.own() else {
         return None;
     };
-    let Connection::On { path, .. } = place else {
+    let Connection::On { path, .. } = connection else {
         return None;
     };
     Some(path.index())
@@ -122,7 +122,7 @@ fn a_program_is_accepted_and_let_go(rt: HostRuntime) {
 fn repeats_select(world: &mut World, side: Side) -> bool {
     let again = WorldEvent::Down {
         side,
-        place: 0,
+        index: 0,
         keep: true,
         may: true,
     };
@@ -132,8 +132,8 @@ fn repeats_select(world: &mut World, side: Side) -> bool {
 /// Whether a signal each way vanishes.
 fn loses_both(world: &mut World, side: Side) -> bool {
     let lost = [
-        WorldEvent::LoseDown { side, place: 0 },
-        WorldEvent::LoseUp { side, place: 0 },
+        WorldEvent::LoseDown { side, index: 0 },
+        WorldEvent::LoseUp { side, index: 0 },
     ];
     accepts(world, &lost)
 }
@@ -359,8 +359,8 @@ fn refuses_signals(world: &mut World, side: Side) -> bool {
     let events = [
         down(side),
         up(side),
-        WorldEvent::LoseDown { side, place: 0 },
-        WorldEvent::LoseUp { side, place: 1 },
+        WorldEvent::LoseDown { side, index: 0 },
+        WorldEvent::LoseUp { side, index: 1 },
     ];
     are_not_sent(world, &events)
 }

@@ -136,10 +136,10 @@ pub(crate) fn is_notice(sent: &Option<OnPath<PlainUp>>) -> bool {
 
 /// The path on which the unit is connected.
 pub(crate) fn connected_path(unit: &Unit) -> Option<usize> {
-    let Own::Owned { place, .. } = unit.own() else {
+    let Own::Owned { connection, .. } = unit.own() else {
         return None;
     };
-    let Connection::On { path, .. } = place else {
+    let Connection::On { path, .. } = connection else {
         return None;
     };
     Some(path.index())

@@ -94,7 +94,7 @@ fn takes(unit: &mut Unit, side: Side, path: Path, signal: &Down) -> bool {
 
 /// The unit takes a report, while its chunks have small numbers.
 fn reported(unit: &mut Unit, report: &Report) -> Taken<Up> {
-    let last = match &unit.state().at_hand {
+    let last = match &unit.state().current {
         Some(command) => command.sequence,
         None => 0,
     };
@@ -115,10 +115,10 @@ fn reported(unit: &mut Unit, report: &Report) -> Taken<Up> {
 
 /// What the unit sends to ask for a path, while its connections have small numbers.
 fn asked_for(unit: &mut Unit, path: Path) -> Option<OnPath<PlainUp>> {
-    let Own::Owned { place, .. } = unit.own() else {
+    let Own::Owned { connection, .. } = unit.own() else {
         return None;
     };
-    let Connection::Away { connection } = place else {
+    let Connection::Away { connection } = connection else {
         return None;
     };
     if connection < 8 { unit.ask(path) } else { None }

@@ -14,7 +14,7 @@ use Rattle.ccw_walk.specs.Sequences.{Sequence, Nothing, ◌▸◌, ◌▸▸◌,
 use Rattle.ccw_walk.specs.Acts.{Act, Used_up}
 use Rattle.ccw_walk.specs.Programs.{IsProgram, Command, role_of, latest, next, tried, commands, commands_after, join_last}
 use Rattle.ccw_walk.specs.Advancing.{acts_from_next, advance_acts, advance_of_acts}
-use Rattle.ccw_walk.specs.Places.{after_count_used_up, WalkPlace, walk_place, after_acts}
+use Rattle.ccw_walk.specs.Positions.{after_count_used_up, WalkPosition, walk_position, after_acts}
 use Rattle.idaw.specs.Lists.{block, kind_of}
 use Rattle.idaw.specs.Places.{Reach, place_of_byte, each_below}
 use Rattle.run_laws.specs.DataAreas.{places_of_bytes, reach, data_areas, reaches_after, reaches_with}
@@ -53,7 +53,7 @@ module _ (laws : AreLaws) where
   joined-length Nothing ccw = refl
   joined-length (xs ▸ x) ccw = refl
 
-  joined-spot : (orb : Orb) (cs : Sequence Command) (rs : Sequence Reach) (t : Transfer) (walk : WalkPlace) (ps : List (Option ℕ)) (ccw : Ccw) → walk.orb ≡ orb → HasCode cs t.code →
+  joined-spot : (orb : Orb) (cs : Sequence Command) (rs : Sequence Reach) (t : Transfer) (walk : WalkPosition) (ps : List (Option ℕ)) (ccw : Ccw) → walk.orb ≡ orb → HasCode cs t.code →
       ps ≡ places_of_bytes (block (kind_of orb)) rs → IsMovedTo orb (reaches_with true cs rs ccw) (record t { walk = walk; moving = data_of walk t.code ccw; pci_pending = ccw.program_controlled }) ps
   joined-spot orb Nothing rs t walk ps ccw e h w = absurd h
   joined-spot orb (xs ▸ x) rs t walk ps ccw e h w =
@@ -61,8 +61,8 @@ module _ (laws : AreLaws) where
 
   -- so many commands were sent under earlier numbers
   module _ (earlier : ℕ) where
-    joins : (orb : Orb) (before acts : Sequence Act) (t : Transfer) (walk : WalkPlace) (ps : List (Option ℕ)) (ccw : Ccw) →
-        walk ≡ walk_place orb acts → IsProgram orb acts → (role_of orb before).chained ≡ true → HasCode (commands orb before) t.code → t.moving.kind ≡ kind_of orb →
+    joins : (orb : Orb) (before acts : Sequence Act) (t : Transfer) (walk : WalkPosition) (ps : List (Option ℕ)) (ccw : Ccw) →
+        walk ≡ walk_position orb acts → IsProgram orb acts → (role_of orb before).chained ≡ true → HasCode (commands orb before) t.code → t.moving.kind ≡ kind_of orb →
         count (commands orb before) ≡ earlier + t.command → IsMovedTo orb (data_areas orb before) t ps → residual t.moving ≡ 0 →
         commands orb acts ≡ commands_after (role_of orb before).chained (commands orb before) (Takes ccw) →
         data_areas orb acts ≡ reaches_after (role_of orb before).chained (commands orb before) (data_areas orb before) (Takes ccw) → next orb acts ≡ None →
@@ -79,17 +79,17 @@ module _ (laws : AreLaws) where
           stands = n;
           chained = λ x. i;
           coded = subst (λ (xs : Sequence Command). HasCode xs t.code) (sym commanded) (joined-code cs ccw t.code h);
-          kind = ap (λ (x : WalkPlace). kind_of x.orb) w;
+          kind = ap (λ (x : WalkPosition). kind_of x.orb) w;
           spot =
               subst (λ (rs : Sequence Reach). IsMovedTo orb rs (record t { walk = walk; moving = data_of walk t.code ccw; pci_pending = ccw.program_controlled }) ps) (sym reached)
-              (joined-spot orb cs (data_areas orb before) t walk ps ccw (ap (λ (x : WalkPlace). x.orb) w) h (whole orb (data_areas orb before) t ps z s));
+              (joined-spot orb cs (data_areas orb before) t walk ps ccw (ap (λ (x : WalkPosition). x.orb) w) h (whole orb (data_areas orb before) t ps z s));
           number = ap count commanded ∙ joined-length cs ccw ∙ l;
           ends = en;
           checked = λ x. hc;
         }
 
     -- none is: the program stopped
-    unjoined : (orb : Orb) (before acts : Sequence Act) (t : Transfer) (walk : WalkPlace) (ps : List (Option ℕ)) (check : Check) → walk ≡ walk_place orb acts → IsProgram orb acts →
+    unjoined : (orb : Orb) (before acts : Sequence Act) (t : Transfer) (walk : WalkPosition) (ps : List (Option ℕ)) (check : Check) → walk ≡ walk_position orb acts → IsProgram orb acts →
         HasCode (commands orb before) t.code → t.moving.kind ≡ kind_of orb → count (commands orb before) ≡ earlier + t.command → IsMovedTo orb (data_areas orb before) t ps →
         commands orb acts ≡ commands orb before → data_areas orb acts ≡ data_areas orb before → next orb acts ≡ None → EndsAtCheck orb acts →
         Tied earlier orb acts ps (record t { walk = walk; fault = Some check })
@@ -113,7 +113,7 @@ module _ (laws : AreLaws) where
         Tied earlier orb (before ▸ Used_up) ps t
     stays-tied orb before t ps n k = record {
       walk =
-          k.walk ∙ ap (λ (x : Option ℕ). (let p : WalkPlace = record { orb = orb; role = role_of orb before; latest = latest orb before; next = x; tried = tried orb before } in p)) (k.stands ∙ sym n);
+          k.walk ∙ ap (λ (x : Option ℕ). (let p : WalkPosition = record { orb = orb; role = role_of orb before; latest = latest orb before; next = x; tried = tried orb before } in p)) (k.stands ∙ sym n);
       program = (k.stands, k.program);
       stands = n;
       chained = k.chained;
@@ -125,7 +125,7 @@ module _ (laws : AreLaws) where
       checked = k.checked;
     }
 
-    chained-by : (storage : Contents) (orb : Orb) (before acts : Sequence Act) (t : Transfer) (walk : WalkPlace) (ps : List (Option ℕ)) (a : Option Advance) → walk ≡ walk_place orb acts →
+    chained-by : (storage : Contents) (orb : Orb) (before acts : Sequence Act) (t : Transfer) (walk : WalkPosition) (ps : List (Option ℕ)) (a : Option Advance) → walk ≡ walk_position orb acts →
         IsProgram orb acts → (role_of orb before).chained ≡ true → residual t.moving ≡ 0 → Tied earlier orb before ps t →
         Went (role_of orb before).chained (commands orb before) (commands orb acts) (data_areas orb before) (data_areas orb acts) (next orb acts) (role_of orb acts) a →
         ((x : Advance) → a ≡ Some x → Stands orb acts x) → (a ≡ None → Tied earlier orb acts ps t) → EndsAtCheck orb acts × UnlessStops a (has_check orb acts) →
@@ -142,7 +142,7 @@ module _ (laws : AreLaws) where
         residual t.moving ≡ 0 → Tied earlier orb acts ps t → Tied earlier orb (acts ▸▸ chained_acts storage t) ps (data_chained storage t)
     chained-tied storage orb acts ps t f d z k =
         let used : Sequence Act = acts ▸ Used_up in
-        let old : WalkPlace = walk_place orb used in
+        let old : WalkPosition = walk_position orb used in
         let news : Sequence Act = advance_acts storage old in
         let by : Tied earlier orb (used ▸▸ news) ps (chained_from storage t old) =
         chained-by storage orb acts (used ▸▸ news) t (after_acts old news) ps (advance_of_acts old news) (laws.leads orb used news) (laws.goes storage orb used (k.stands, k.program)) (k.chained f ∙ d) z
@@ -154,7 +154,7 @@ module _ (laws : AreLaws) where
         let none : news ≡ Nothing = ap (λ (x : Option ℕ). acts_from_next storage old x) n in
         subst (λ (xs : Sequence Act). Tied earlier orb (used ▸▸ xs) ps t) (sym none) (stays-tied orb acts t ps n k))
         (advance-ends storage orb used (k.checked f) k.ends) in
-        subst (λ (w : WalkPlace). Tied earlier orb (acts ▸▸ (Nothing ▸ Used_up ▸▸ advance_acts storage (after_count_used_up w))) ps (chained_from storage t (after_count_used_up w))) (sym k.walk)
+        subst (λ (w : WalkPosition). Tied earlier orb (acts ▸▸ (Nothing ▸ Used_up ▸▸ advance_acts storage (after_count_used_up w))) ps (chained_from storage t (after_count_used_up w))) (sym k.walk)
         (subst (λ (xs : Sequence Act). Tied earlier orb xs ps (chained_from storage t old)) (sym (joined-in-order acts (Nothing ▸ Used_up) news)) by)
 
     after_bytes_moved-by : (storage : Contents) (orb : Orb) (p : CommandTrace) (t : Transfer) (n : ℕ) (b : Bool) → chains_data (with_bytes_moved t n) n ≡ b → n ≤ t.moving.left →

@@ -8,19 +8,19 @@ use Rattle.chan_model.specs.declared.hold_state.HoldPhase.{HoldPhase}
 use Rattle.chan_model.specs.declared.hold_state.HoldPhase.TheVariants as hold
 use Rattle.chan_model.specs.Signals.{Load, Up, load_bytes}
 use Rattle.chan_model.specs.declared.signal.Up.TheVariants as up
-use Rattle.chan_model.specs.HoldTable.{HoldStep, hold_takes, hold_after, came_of, is_connected, is_on}
+use Rattle.chan_model.specs.HoldTable.{HoldStep, hold_takes, hold_after, outcome_of, is_connected, is_on}
 use Rattle.chan_model.specs.Loads.{load_length}
 use Rattle.chan_model.specs.UnitReports.{is_outward, has_device_end}
 use Rattle.ccw_walk.specs.declared.check.Check.{Check}
 use Rattle.ccw_walk.specs.Sequences.{Sequence, Nothing, count}
 use Rattle.ccw_walk.specs.Acts.{Act}
 use Rattle.ccw_walk.specs.Programs.{commands}
-use Rattle.ccw_walk.specs.Places.{WalkPlace, walk_place}
+use Rattle.ccw_walk.specs.Positions.{WalkPosition, walk_position}
 use Rattle.data_move.specs.Moving.{room}
 use Rattle.data_move.specs.Accesses as access
 use Rattle.data_move.specs.declared.transfer.Transfer.{Transfer}
 use Rattle.data_move.specs.declared.transfer.CommandStart.{CommandStart}
-use Rattle.data_move.specs.declared.transfer.CommandStart.TheVariants as came
+use Rattle.data_move.specs.declared.transfer.CommandStart.TheVariants as outcome
 use Rattle.data_move.specs.Commands.{first_command, next_command, located_transfer, has_stopped}
 use Rattle.data_move.specs.DataChaining.{chains_data, with_bytes_moved}
 use Rattle.data_move.specs.ToDevice.{with_chunk_counted, chunk_absorbed}
@@ -104,14 +104,14 @@ module _ (accesses : AreAccesses) where
       let u : Transfer = located_transfer storage a in
       copy-if storage u (with_acts (trace_answered storage t s count p) (located_acts storage a)) (has_stopped u) (answer-if storage t s count p (s == t.sequence + 1) c)
 
-  -- the story
+  -- the trace
   goes-copied : (storage : Contents) (c : CommandStart) (acts : Sequence Act) (k : ProgramTrace) → AreCopied k → AreCopied (stories.trace_goes_on storage c acts k)
-  goes-copied storage (came.Begins t) acts k c = (All-nil IsCopied, c.0)
-  goes-copied storage came.Suspends acts k c = c
-  goes-copied storage (came.Stops check) acts k c = c
+  goes-copied storage (outcome.Begins t) acts k c = (All-nil IsCopied, c.0)
+  goes-copied storage outcome.Suspends acts k c = c
+  goes-copied storage (outcome.Stops check) acts k c = c
 
-  begins-copied : (storage : Contents) (walk : WalkPlace) (k : ProgramTrace) → AreCopied k → AreCopied (stories.trace_begins storage walk k)
-  begins-copied storage walk k c = goes-copied storage (first_command storage walk).came (first_acts storage walk) k c
+  begins-copied : (storage : Contents) (walk : WalkPosition) (k : ProgramTrace) → AreCopied k → AreCopied (stories.trace_begins storage walk k)
+  begins-copied storage walk k c = goes-copied storage (first_command storage walk).outcome (first_acts storage walk) k c
 
   again-if : (storage : Contents) (st : ProgramPosition) (k : ProgramTrace) (b : Bool) → AreCopied k → AreCopied (if b then stories.begins_again storage st k else k)
   again-if storage st k true c = begins-copied storage st.walk (record k { earlier = count (commands k.orb k.now.acts); now = past_part k.now }) (All-nil IsCopied, c.1)
@@ -124,7 +124,7 @@ module _ (accesses : AreAccesses) where
   anew-if : (storage : Contents) (program : Program) (suspended : Option ProgramPosition) (start : ℕ) (k : ProgramTrace) (b : Bool) → AreCopied k →
       AreCopied (if b then stories.begins_anew storage program k else stories.again_as storage suspended start k)
   anew-if storage program suspended start k true c =
-      begins-copied storage (walk_place program.orb Nothing) (record k { orb = program.orb; earlier = 0; now = no_trace }) (All-nil IsCopied, c.1)
+      begins-copied storage (walk_position program.orb Nothing) (record k { orb = program.orb; earlier = 0; now = no_trace }) (All-nil IsCopied, c.1)
   anew-if storage program suspended start k false c = again-copied storage suspended start k c
 
   begins_as-copied : (storage : Contents) (waiting : Option Program) (suspended : Option ProgramPosition) (start : ℕ) (k : ProgramTrace) → AreCopied k →
@@ -160,9 +160,9 @@ module _ (accesses : AreAccesses) where
   data-if storage s n seq load k false c = c
 
   chains-if : (storage : Contents) (b : ActiveProgram) (status : DeviceStatus) (k : ProgramTrace) (x y : Bool) → AreCopied k →
-      AreCopied (if x then (if y then stories.trace_goes_on storage (next_command storage b.transfer (has_status_modifier status)).came (next_acts storage b.transfer (has_status_modifier status)) k else stories.with_ended k)
+      AreCopied (if x then (if y then stories.trace_goes_on storage (next_command storage b.transfer (has_status_modifier status)).outcome (next_acts storage b.transfer (has_status_modifier status)) k else stories.with_ended k)
       else stories.ends_alone status k)
-  chains-if storage b status k true true c = goes-copied storage (next_command storage b.transfer (has_status_modifier status)).came (next_acts storage b.transfer (has_status_modifier status)) k c
+  chains-if storage b status k true true c = goes-copied storage (next_command storage b.transfer (has_status_modifier status)).outcome (next_acts storage b.transfer (has_status_modifier status)) k c
   chains-if storage b status k true false c = c
   chains-if storage b status k false y c = c
 
@@ -184,7 +184,7 @@ module _ (accesses : AreAccesses) where
   pub meets-copied : (storage : Contents) (s : SubchannelState) (p : ℕ) (signal : Up) (k : ProgramTrace) → AreCopied k → AreCopied (trace_meets storage s p signal k)
   meets-copied storage s p (up.Accept t) k c =
       let step : Option HoldStep = hold_takes s.hold p (up.Accept t) (takes_device s) in
-      accept-if storage s step k (came_of step).taken c
+      accept-if storage s step k (outcome_of step).taken c
   meets-copied storage s p (up.Data load t d n seq) k c = data-if storage s n seq load k (is_connected s.hold.phase p t d) c
   meets-copied storage s p (up.End t n status more) k c = on-if storage s n status more k (is_on s.hold.phase t) c
   meets-copied storage s p x k c = c

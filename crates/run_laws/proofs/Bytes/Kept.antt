@@ -14,7 +14,7 @@ use Rattle.ccw_walk.specs.declared.program.Advance.TheVariants as advance
 use Rattle.ccw_walk.specs.Sequences.{Sequence, Nothing, ◌▸◌, ◌▸▸◌}
 use Rattle.ccw_walk.specs.Acts.{Act, Used_up}
 use Rattle.ccw_walk.specs.Programs.{role_of, commands, next}
-use Rattle.ccw_walk.specs.Places.{WalkPlace, walk_place, after_acts, after_count_used_up}
+use Rattle.ccw_walk.specs.Positions.{WalkPosition, walk_position, after_acts, after_count_used_up}
 use Rattle.ccw_walk.specs.Advancing.{advance_acts, advance_of_acts}
 use Rattle.idaw.specs.declared.ListKind.{ListKind}
 use Rattle.idaw.specs.declared.ListKind.TheVariants.{Short, LongByFourK, LongByTwoK}
@@ -144,7 +144,7 @@ module _ (earlier : ℕ) where
     short-same orb acts ps t k ∙ n,
     λ word next.
         let w = word-of storage orb (data_areas orb acts) t ps word k.kind k.spot next in
-        f word (ap (λ (x : WalkPlace). access.word_fetched storage x.orb.key t.moving) k.walk ∙ w.0) w.1,
+        f word (ap (λ (x : WalkPosition). access.word_fetched storage x.orb.key t.moving) k.walk ∙ w.0) w.1,
   )
 
   -- the next bytes are located, or they can't be reached
@@ -223,7 +223,7 @@ module _ (earlier : ℕ) where
   located-checks storage orb acts t = located-by-checks storage orb acts t (is_some t.fault) (needs_word t.moving) (access.word_fetched storage t.walk.orb.key t.moving)
 
   -- data is chained to a block, which may show a check
-  with_next_ccw-kept : (orb : Orb) (acts : Sequence Act) (t : Transfer) (walk : WalkPlace) (a : Option Advance) → UnlessStops a (has_check orb acts) → (a ≡ Some advance.Suspends → ⊥) →
+  with_next_ccw-kept : (orb : Orb) (acts : Sequence Act) (t : Transfer) (walk : WalkPosition) (a : Option Advance) → UnlessStops a (has_check orb acts) → (a ≡ Some advance.Suspends → ⊥) →
       is_some (with_next_ccw t walk a).fault ≡ true → (is_some t.fault ≡ true) ⊎ (has_check orb acts ≡ true)
   with_next_ccw-kept orb acts t walk (Some (advance.Takes ccw)) u n e = inl e
   with_next_ccw-kept orb acts t walk (Some advance.Suspends) u n e = absurd (n refl)
@@ -235,22 +235,22 @@ module _ (earlier : ℕ) where
         Tied earlier orb acts ps t → is_some (data_chained storage t).fault ≡ true → (is_some t.fault ≡ true) ⊎ (has_check orb (acts ▸▸ chained_acts storage t) ≡ true)
     chained-kept storage orb acts ps t f d k =
         let used : Sequence Act = acts ▸ Used_up in
-        let old : WalkPlace = walk_place orb used in
+        let old : WalkPosition = walk_position orb used in
         let news : Sequence Act = advance_acts storage old in
         let ends = advance-ends storage orb used (k.checked f) k.ends in
         let by : is_some (with_next_ccw t (after_acts old news) (advance_of_acts old news)).fault ≡ true → (is_some t.fault ≡ true) ⊎ (has_check orb (used ▸▸ news) ≡ true) =
         with_next_ccw-kept orb (used ▸▸ news) t (after_acts old news) (advance_of_acts old news) ends.1
         (λ s. not-suspended storage orb acts (k.chained f ∙ d) s) in
         subst
-        (λ (w : WalkPlace). is_some (with_next_ccw t (after_acts (after_count_used_up w) (advance_acts storage (after_count_used_up w))) (advance_of_acts (after_count_used_up w) (advance_acts storage (after_count_used_up w)))).fault ≡ true →
+        (λ (w : WalkPosition). is_some (with_next_ccw t (after_acts (after_count_used_up w) (advance_acts storage (after_count_used_up w))) (advance_of_acts (after_count_used_up w) (advance_acts storage (after_count_used_up w)))).fault ≡ true →
         (is_some t.fault ≡ true) ⊎ (has_check orb (acts ▸▸ (Nothing ▸ Used_up ▸▸ advance_acts storage (after_count_used_up w))) ≡ true)) (sym k.walk)
         (λ e. elim (by e) [ inl x ↦ inl x | inr x ↦ inr (ap (has_check orb) (joined-in-order acts (Nothing ▸ Used_up) news) ∙ x) ])
       where
         not-suspended : (storage : Contents) (orb : Orb) (acts : Sequence Act) → (role_of orb acts).chained ≡ true →
-            advance_of_acts (walk_place orb (acts ▸ Used_up)) (advance_acts storage (walk_place orb (acts ▸ Used_up))) ≡ Some advance.Suspends → ⊥
+            advance_of_acts (walk_position orb (acts ▸ Used_up)) (advance_acts storage (walk_position orb (acts ▸ Used_up))) ≡ Some advance.Suspends → ⊥
         not-suspended storage orb acts c s =
             let used : Sequence Act = acts ▸ Used_up in
-            let news : Sequence Act = advance_acts storage (walk_place orb used) in
+            let news : Sequence Act = advance_acts storage (walk_position orb used) in
             let went = subst (λ (a : Option Advance). Went (role_of orb used).chained (commands orb used) (commands orb (used ▸▸ news)) (data_areas orb used) (data_areas orb (used ▸▸ news)) (next orb (used ▸▸ news))
             (role_of orb (used ▸▸ news)) a) s (advance-went storage orb used) in
             cc (sym (went.2 ∙ c) ∙ suspended-unchained orb (used ▸▸ news) (acts-stand orb used news advance.Suspends (laws.leads orb used) s))
@@ -296,7 +296,7 @@ module _ (earlier : ℕ) where
         let m : Moving = t.moving in
         let some : 1 ≤ room m = fetch-some storage t.walk.orb.key m.piece (room m) check e in
         let within : room m ≤ m.left = min-le_left m.left 256 in
-        let key : t.walk.orb.key ≡ orb.key = ap (λ (x : WalkPlace). x.orb.key) k.walk in (
+        let key : t.walk.orb.key ≡ orb.key = ap (λ (x : WalkPosition). x.orb.key) k.walk in (
           m.piece,
           next-begins orb acts ps t k s (omega (arith, some, within)),
           λ bytes o. cc (sym e ∙ ap (λ (x : ℕ). checked (fetched storage x m.piece (room m))) key ∙ ap (λ (n : ℕ). checked (fetched storage orb.key m.piece n)) (room-same orb acts ps t k)

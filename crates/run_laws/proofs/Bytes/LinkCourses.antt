@@ -13,7 +13,7 @@ use Rattle.chan_model.specs.declared.signal.OnPath.{OnPath}
 use Rattle.chan_model.specs.declared.unit_state.CurrentCommand.{CurrentCommand}
 use Rattle.chan_model.specs.declared.unit_state.UnitState.{UnitState}
 use Rattle.chan_model.specs.Sides.{same_side}
-use Rattle.chan_model.specs.UnitTable.{UnitStep, came_of, unit_takes, unit_after}
+use Rattle.chan_model.specs.UnitTable.{UnitStep, outcome_of, unit_takes, unit_after}
 use Rattle.chan_model.specs.UnitReports.{is_outward}
 use Rattle.ccw_walk.specs.Sequences.{Sequence, ◌▸◌}
 use Rattle.ccw_walk.specs.Acts.{PlacedBytes}
@@ -44,8 +44,8 @@ use Rattle.run_laws.proofs.Links.LinkNeeds.{IsLast, work-last}
 use Rattle.run_laws.proofs.Commands.LinkOrders.{number_of, took_of}
 use Rattle.run_laws.proofs.Links.LinkReports.{mode-reports}
 use Rattle.run_laws.proofs.Links.LinkViews.{view_of}
-use Rattle.run_laws.proofs.Links.LinkWires.{HandClosed, IsGiving, IsTelling, IsClosed, IsWired}
-use Rattle.run_laws.proofs.Bytes.LinkModes.{AnyGive, AnyData, HandFlow, Mode, Waits, Over, Reads, Writes, ModeOf, IsFit, fit-closed, mode-carried, mode-down}
+use Rattle.run_laws.proofs.Links.LinkWires.{CurrentClosed, IsGiving, IsTelling, IsClosed, IsWired}
+use Rattle.run_laws.proofs.Bytes.LinkModes.{AnyGive, AnyData, CurrentFlow, Mode, Waits, Over, Reads, Writes, ModeOf, IsFit, fit-closed, mode-carried, mode-down}
 use Rattle.run_laws.proofs.Traces.Sequences.{backward}
 
 -- the command of the program that is at work or over; or one of a program that was over before the device was done with it
@@ -54,7 +54,7 @@ pub data Course (side : Side) (begun : Option ActiveProgram) (k : ProgramTrace) 
   Cut : begun ≡ None → (b : ActiveProgram) → HasWork (Some b) k → Mode side (Some b) k downs ups u → Course side begun k downs ups u
 
 abbrev pub CourseOf : Side → Option ActiveProgram → Option ProgramTrace → List (List Down) → List (List Up) → UnitState → Type 0
-CourseOf side begun None downs ups u = IsWired side 0 0 HandClosed AnyGive AnyData downs ups u
+CourseOf side begun None downs ups u = IsWired side 0 0 CurrentClosed AnyGive AnyData downs ups u
 CourseOf side begun (Some k) downs ups u = Course side begun k downs ups u
 
 -- the program is over
@@ -74,7 +74,7 @@ pub course-carried : (side : Side) (begun : Option ActiveProgram) (k : Option Pr
     ((P : Option CurrentCommand → Type 0) (Q : ℕ → List ℕ → Type 0) (R : ℕ → Load → Type 0) → IsFit P Q → IsWired side (number_of k) (length (took_of k)) P Q R downs ups u →
     IsWired side (number_of k) (length (took_of k)) P Q R downs' ups' v) →
     CourseOf side begun k downs ups u → CourseOf side begun k downs' ups' v
-course-carried side begun None downs downs' ups ups' u v f c = f HandClosed AnyGive AnyData fit-closed c
+course-carried side begun None downs downs' ups ups' u v f c = f CurrentClosed AnyGive AnyData fit-closed c
 course-carried side begun (Some k) downs downs' ups ups' u v f (Follows m) = Follows (mode-carried side begun k downs downs' ups ups' u v f m)
 course-carried side begun (Some k) downs downs' ups ups' u v f (Cut e b w m) = Cut e b w (mode-carried side (Some b) k downs downs' ups ups' u v f m)
 
@@ -101,7 +101,7 @@ pub answered-course : (side : Side) (begun : Option ActiveProgram) (k : Option P
 answered-course side begun k downs ups u available one c =
     fewer-course side begun k downs downs (with_any_sent ups one) (with_any_sent ups (carried available one)) u (λ P a. a) (carried-fewer ups available one) c
 
--- what the unit does leaves the command that is at work for the story
+-- what the unit does leaves the command that is at work for the trace
 abbrev pub WorkOf : ActiveProgram → Option ProgramTrace → Type 0
 WorkOf b None = Unit {0}
 WorkOf b (Some k) = HasWork (Some b) k
@@ -114,7 +114,7 @@ takes-work : (b : ActiveProgram) (k : ProgramTrace) (d : Down) → HasWork (Some
 takes-work b k (down.Command t n code room) w = takes-if b k code (t == k.number) w
 takes-work b k d w = w
 
-taken-work : (b : ActiveProgram) (k : ProgramTrace) (d : Down) (came : Bool) (sent : Option (OnPath Up)) → HasWork (Some b) k → WorkOf b (taken_at (reply.Down d came sent) (Some k))
+taken-work : (b : ActiveProgram) (k : ProgramTrace) (d : Down) (outcome : Bool) (sent : Option (OnPath Up)) → HasWork (Some b) k → WorkOf b (taken_at (reply.Down d outcome sent) (Some k))
 taken-work b k d true None w = takes-work b k d w
 taken-work b k d true (Some x) w = w
 taken-work b k d false sent w = w
@@ -135,11 +135,11 @@ same-last k b c w e = let same : b ≡ c = cc e in subst (λ (x : ActiveProgram)
 pub course-down : (may : Bool) → (side : Side) (drawn : ℕ) (k : ProgramTrace) (downs : List (List Down)) (ups : List (List Up)) (u : UnitState) (path : ℕ) → IsOrdered side drawn k.number k.sent (codes_of k) (backward k.taken) downs u →
     (begun : Option ActiveProgram) (d : Down) → ((b : ActiveProgram) → begun ≡ Some b → IsLast (codes_of k) k.sent b.transfer) → slice_get (queue downs path) 0 ≡ Some d →
     IsDown drawn k.number k.sent (codes_of k) d → Course side begun k downs ups u →
-    CourseOf side begun (taken_at (reply.Down d (came_of (unit_takes u side path d may)).taken (came_of (unit_takes u side path d may)).sent) (Some k)) (taken downs path)
-    (with_any_sent ups (came_of (unit_takes u side path d may)).sent) (unit_after u (unit_takes u side path d may))
+    CourseOf side begun (taken_at (reply.Down d (outcome_of (unit_takes u side path d may)).taken (outcome_of (unit_takes u side path d may)).sent) (Some k)) (taken downs path)
+    (with_any_sent ups (outcome_of (unit_takes u side path d may)).sent) (unit_after u (unit_takes u side path d may))
 course-down may side drawn k downs ups u path o begun d last q i (Follows m) = follows-of side begun _ _ _ _ (mode-down side drawn k downs ups u path o may begun d last q i m)
 course-down may side drawn k downs ups u path o begun d last q i (Cut e b w m) =
-    cut-of side begun b _ _ _ _ e (taken-work b k d (came_of (unit_takes u side path d may)).taken (came_of (unit_takes u side path d may)).sent w)
+    cut-of side begun b _ _ _ _ e (taken-work b k d (outcome_of (unit_takes u side path d may)).taken (outcome_of (unit_takes u side path d may)).sent w)
     (mode-down side drawn k downs ups u path o may (Some b) d (λ c f. same-last k b c w f) q i m)
 
 -- Report
@@ -156,7 +156,7 @@ report-if b k count x true w = absorbs-work b k count x w
 report-if b k count x false w = w
 
 reported-work : (b : ActiveProgram) (k : ProgramTrace) (u : UnitState) (report : Report) (a : DeviceAnswer) → HasWork (Some b) k → HasWork (Some b) (reported u report a k)
-reported-work b k u report (answer.Absorbed count) w = report-if b k count u.at_hand (report.number == k.number) w
+reported-work b k u report (answer.Absorbed count) w = report-if b k count u.current (report.number == k.number) w
 reported-work b k u report other w = w
 
 pub course-reports : (side : Side) (drawn : ℕ) (begun : Option ActiveProgram) (k : ProgramTrace) (downs : List (List Down)) (ups : List (List Up)) (u : UnitState) (report : Report) (y : UnitStep) →
@@ -180,7 +180,7 @@ mode-marked side b c k downs ups u i (Writes d e g o lead f w) =
     let views : view_of d.transfer k.now ≡ view_of c.transfer k.now =
     ap (λ (x : ActiveProgram). view_of x.transfer k.now) (sym same) ∙ sym (ap (λ (q : ℕ). V q c.transfer.moving) i.sequence ∙ ap (V b.transfer.sequence) i.moving) in
     let codes : d.transfer.code ≡ c.transfer.code = ap (λ (x : ActiveProgram). x.transfer.code) (sym same) ∙ sym i.code in
-    let P : View → ℕ → Type 0 = λ x y. IsWired side k.number (length (backward k.taken)) (HandFlow y x lead) (IsGive x) (IsData x lead) downs ups u in
+    let P : View → ℕ → Type 0 = λ x y. IsWired side k.number (length (backward k.taken)) (CurrentFlow y x lead) (IsGive x) (IsData x lead) downs ups u in
     Writes c refl g (ap is_outward (sym codes) ∙ o) lead (subst (λ (x : View). Flow x k.absorbed lead) views f)
     (subst (λ (x : View). P x c.transfer.code) views (subst (λ (y : ℕ). P (view_of d.transfer k.now) y) codes w))
 
@@ -205,7 +205,7 @@ mode-with side begun k downs ups u (Over e n z a w) = Over e n z a w
 mode-with side begun k downs ups u (Reads b e n o z w) = Reads b e n o z w
 mode-with side begun k downs ups u (Writes b e n o lead f w) = Writes b e n o lead f w
 
--- what was absorbed is of the command that the story has last
+-- what was absorbed is of the command that the trace has last
 module _ (laws : AreLaws) (k : ProgramTrace) where
   flow-begins : (t : Transfer) (lead : Option ℕ) → Tied k.earlier k.orb k.now.acts k.now.moved t → IsLead (view_of t k.now) lead → IsBeginning (lead_places (view_of t k.now) lead) (places_of k.orb k.now.acts)
   flow-begins t None i l = spot-begins k.orb (data_areas k.orb k.now.acts) t k.now.moved i.spot

@@ -17,7 +17,7 @@ use Rattle.chan_model.specs.declared.unit_state.Own.{Own}
 use Rattle.chan_model.specs.declared.unit_state.Connection.TheVariants.{On}
 use Rattle.chan_model.specs.declared.unit_state.UnitState.{UnitState}
 use Rattle.chan_model.specs.Sides.{same_side}
-use Rattle.chan_model.specs.UnitTable.{UnitStep, came_of, is_owner, unit_takes, unit_after}
+use Rattle.chan_model.specs.UnitTable.{UnitStep, outcome_of, is_owner, unit_takes, unit_after}
 use Rattle.chan_model.specs.UnitReports.{unit_reports}
 use Rattle.wires.specs.Queues.{queue, taken}
 use Rattle.subchannel_model.specs.Notice as on_notice
@@ -47,16 +47,16 @@ use Rattle.run_laws.proofs.Traces.Caused.{path-begun}
 use Rattle.run_laws.proofs.Traces.Holds.{IsPhase, IsHeld, IsUnheld, HasWork, HeldBy}
 use Rattle.run_laws.proofs.Units.UnitSides.{other-owner}
 use Rattle.run_laws.proofs.Commands.UnitOrders.{IsDown, IsNumbered, on-first}
-use Rattle.run_laws.proofs.Units.UnitHands.{IsCalm, IsQuiet, other-calm}
+use Rattle.run_laws.proofs.Units.UnitCurrents.{IsCalm, IsQuiet, other-calm}
 use Rattle.run_laws.proofs.Units.UnitTold.{IsTold, Begins_in, Tells_again, Ends, IsReportTaken, report-taken}
 use Rattle.run_laws.proofs.Links.LinkNeeds.{held-needs}
 use Rattle.run_laws.proofs.Commands.LinkOrders.{IsLinked, number_of, took_of, number-drawn}
 use Rattle.run_laws.proofs.Links.LinkIdle.{IsIdle, IsNoOffer, idle-meets}
 use Rattle.run_laws.proofs.Bytes.LinkCourses.{Course, Follows, Cut, CourseOf, over-course, course-carried, carried-course, answered-course, course-down, course-reports}
-use Rattle.run_laws.proofs.Links.LinkWires.{HandClosed, IsClosed, IsOfCommand, IsGiving, IsTelling, IsWired, IsAnswered, wired-holds, wired-sends, sent-hold, wired-offers, wired-calm, wired-gentle, wired-takes, wired-tells, first-tells}
+use Rattle.run_laws.proofs.Links.LinkWires.{CurrentClosed, IsClosed, IsOfCommand, IsGiving, IsTelling, IsWired, IsAnswered, wired-holds, wired-sends, sent-hold, wired-offers, wired-calm, wired-gentle, wired-takes, wired-tells, first-tells}
 use Rattle.run_laws.proofs.Links.LinkViews.{view_of}
 use Rattle.run_laws.proofs.Bytes.LinkModes as modes
-use Rattle.run_laws.proofs.Bytes.LinkModes.{AnyGive, NoGive, AnyData, HandPlain, HandFlow, Mode, Waits, Reads, Writes, fit-closed, mode-carried, absorbs-none}
+use Rattle.run_laws.proofs.Bytes.LinkModes.{AnyGive, NoGive, AnyData, CurrentPlain, CurrentFlow, Mode, Waits, Reads, Writes, fit-closed, mode-carried, absorbs-none}
 use Rattle.run_laws.proofs.Bytes.UnitFlows.{IsGive, IsData}
 use Rattle.run_laws.proofs.Units.UnitActs.{IsGentle, if-ok}
 use Rattle.run_laws.proofs.Links.Vanishing.{send-ok}
@@ -72,22 +72,22 @@ AtSub side sub k u = CourseOf side sub.state.begun k sub.wires.down sub.wires.up
 -- Choose: a greater number is drawn
 mode-offer : (side : Side) (drawn : ℕ) (begun : Option ActiveProgram) (k : ProgramTrace) (took : List ℕ) (downs : List (List Down)) (ups : List (List Up)) (u : UnitState) (path : ℕ) → k.number ≤ drawn →
     IsNumbered side drawn k.number took u → Mode side begun k downs ups u →
-    IsWired side (drawn + 1) 0 HandClosed AnyGive AnyData (with_any_sent downs (Some (record { path = path; signal = down.Select (drawn + 1) }))) ups u
+    IsWired side (drawn + 1) 0 CurrentClosed AnyGive AnyData (with_any_sent downs (Some (record { path = path; signal = down.Select (drawn + 1) }))) ups u
 mode-offer side drawn begun k took downs ups u path l n (Waits b h g q y a w) =
-    wired-offers side drawn k.number (drawn + 1) (length (backward k.taken)) took HandClosed HandClosed AnyGive AnyGive AnyData AnyData downs ups u path l (omega arith) n w
+    wired-offers side drawn k.number (drawn + 1) (length (backward k.taken)) took CurrentClosed CurrentClosed AnyGive AnyGive AnyData AnyData downs ups u path l (omega arith) n w
 mode-offer side drawn begun k took downs ups u path l n (modes.Over h g q a w) =
-    wired-offers side drawn k.number (drawn + 1) (length (backward k.taken)) took HandClosed HandClosed AnyGive AnyGive AnyData AnyData downs ups u path l (omega arith) n w
+    wired-offers side drawn k.number (drawn + 1) (length (backward k.taken)) took CurrentClosed CurrentClosed AnyGive AnyGive AnyData AnyData downs ups u path l (omega arith) n w
 mode-offer side drawn begun k took downs ups u path l n (Reads b h g o q w) =
-    wired-offers side drawn k.number (drawn + 1) (length (backward k.taken)) took HandPlain HandClosed NoGive AnyGive AnyData AnyData downs ups u path l (omega arith) n w
+    wired-offers side drawn k.number (drawn + 1) (length (backward k.taken)) took CurrentPlain CurrentClosed NoGive AnyGive AnyData AnyData downs ups u path l (omega arith) n w
 mode-offer side drawn begun k took downs ups u path l n (Writes b h g o lead f w) =
-    wired-offers side drawn k.number (drawn + 1) (length (backward k.taken)) took (HandFlow b.transfer.code (view_of b.transfer k.now) lead) HandClosed (IsGive (view_of b.transfer k.now)) AnyGive
+    wired-offers side drawn k.number (drawn + 1) (length (backward k.taken)) took (CurrentFlow b.transfer.code (view_of b.transfer k.now) lead) CurrentClosed (IsGive (view_of b.transfer k.now)) AnyGive
     (IsData (view_of b.transfer k.now) lead) AnyData downs ups u path l (omega arith) n w
 
 offer-wires : (side : Side) (drawn : ℕ) (begun : Option ActiveProgram) (k : Option ProgramTrace) (took : List ℕ) (downs : List (List Down)) (ups : List (List Up)) (u : UnitState) (path : ℕ) → number_of k ≤ drawn →
     IsNumbered side drawn (number_of k) took u → CourseOf side begun k downs ups u →
-    IsWired side (drawn + 1) 0 HandClosed AnyGive AnyData (with_any_sent downs (Some (record { path = path; signal = down.Select (drawn + 1) }))) ups u
+    IsWired side (drawn + 1) 0 CurrentClosed AnyGive AnyData (with_any_sent downs (Some (record { path = path; signal = down.Select (drawn + 1) }))) ups u
 offer-wires side drawn begun None took downs ups u path l n w =
-    wired-offers side drawn 0 (drawn + 1) 0 took HandClosed HandClosed AnyGive AnyGive AnyData AnyData downs ups u path l (omega arith) n w
+    wired-offers side drawn 0 (drawn + 1) 0 took CurrentClosed CurrentClosed AnyGive AnyGive AnyData AnyData downs ups u path l (omega arith) n w
 offer-wires side drawn begun (Some k) took downs ups u path l n (Follows m) = mode-offer side drawn begun k took downs ups u path l n m
 offer-wires side drawn begun (Some k) took downs ups u path l n (Cut e b w m) = mode-offer side drawn (Some b) k took downs ups u path l n m
 
@@ -96,9 +96,9 @@ offers-over : (sub : Subchannel) (path : ℕ) (t : Subchannel) (k : Option Progr
     AtSub sub.setup.side sub k u → t.wires.down ≡ with_any_sent sub.wires.down (Some (record { path = path; signal = down.Select (sub.state.drawn + 1) })) → t.wires.up ≡ sub.wires.up →
     t.state.begun ≡ None → new.number ≡ sub.state.drawn + 1 → new.sent ≡ 0 → new.taken ≡ Nothing → new.absorbed ≡ [] → AtSub sub.setup.side t (Some new) u
 offers-over sub path t k new u h l a d x b i n g z =
-    let w : IsWired sub.setup.side (sub.state.drawn + 1) 0 HandClosed AnyGive AnyData (with_any_sent sub.wires.down (Some (record { path = path; signal = down.Select (sub.state.drawn + 1) }))) sub.wires.up u =
+    let w : IsWired sub.setup.side (sub.state.drawn + 1) 0 CurrentClosed AnyGive AnyData (with_any_sent sub.wires.down (Some (record { path = path; signal = down.Select (sub.state.drawn + 1) }))) sub.wires.up u =
     offer-wires sub.setup.side sub.state.drawn sub.state.begun k _ sub.wires.down sub.wires.up u path (number-drawn k sub.state (held-needs k sub.state h)) l.kept a in
-    let P : ℕ → ℕ → List (List Down) → List (List Up) → Type 0 = λ i m downs ups. IsWired sub.setup.side i m HandClosed AnyGive AnyData downs ups u in
+    let P : ℕ → ℕ → List (List Down) → List (List Up) → Type 0 = λ i m downs ups. IsWired sub.setup.side i m CurrentClosed AnyGive AnyData downs ups u in
     let v : P new.number (length (backward new.taken)) t.wires.down t.wires.up =
     subst (λ (y : ℕ). P y (length (backward new.taken)) t.wires.down t.wires.up) (sym i)
     (subst (λ (y : Sequence ℕ). P (sub.state.drawn + 1) (length (backward y)) t.wires.down t.wires.up) (sym g)
@@ -172,10 +172,10 @@ sent-no-offer s k b h w t p e =
 module _ (laws : AreLaws) (accesses : AreAccesses) where
   cut-meets : (returns : Bool) → (storage : Contents) (side : Side) (s : SubchannelState) (k : ProgramTrace) (downs : List (List Down)) (ups : List (List Up)) (u : UnitState) (path : ℕ) (x : Up) (b : ActiveProgram) → IsHeld s k →
       s.begun ≡ None → HasWork (Some b) k → Mode side (Some b) k downs ups u →
-      Course side (takes_up returns storage s path x).step.state.begun (trace_meets storage s path x k) (with_any_sent downs (takes_up returns storage s path x).step.came.sent) (taken ups path) u
+      Course side (takes_up returns storage s path x).step.state.begun (trace_meets storage s path x k) (with_any_sent downs (takes_up returns storage s path x).step.outcome.sent) (taken ups path) u
   cut-meets returns storage side s k downs ups u path x b h e w m =
       let i : IsIdle s (takes_up returns storage s path x).step (trace_meets storage s path x) = idle-meets storage s e returns (sent-no-offer s k b h w) path x in
-      let one : Option (OnPath Down) = (takes_up returns storage s path x).step.came.sent in
+      let one : Option (OnPath Down) = (takes_up returns storage s path x).step.outcome.sent in
       subst (λ (y : ProgramTrace). Course side (takes_up returns storage s path x).step.state.begun y (with_any_sent downs one) (taken ups path) u) (sym (i.same k))
       (Cut (i.begun ∙ e) b w
       (mode-carried side (Some b) k downs (with_any_sent downs one) ups (taken ups path) u u
@@ -187,7 +187,7 @@ module _ (laws : AreLaws) (accesses : AreAccesses) where
   reset-course s false side k downs ups u h c = c
 
   notice-course : (s : SubchannelState) (b : ℕ) (more : Bool) (side : Side) (k : ProgramTrace) (downs : List (List Down)) (ups : List (List Up)) (u : UnitState) → IsHeld s k →
-      Course side s.begun k downs ups u → Course side (if more then outcomes.signal_taken (reset_for (on_notice.with_known s b)) else outcomes.signal_ignored s).state.begun k (with_any_sent downs (if more then outcomes.signal_taken (reset_for (on_notice.with_known s b)) else outcomes.signal_ignored s).came.sent) ups u
+      Course side s.begun k downs ups u → Course side (if more then outcomes.signal_taken (reset_for (on_notice.with_known s b)) else outcomes.signal_ignored s).state.begun k (with_any_sent downs (if more then outcomes.signal_taken (reset_for (on_notice.with_known s b)) else outcomes.signal_ignored s).outcome.sent) ups u
   notice-course s b true side k downs ups u h c =
       reset-course (on_notice.with_known s b) (is_offered_or_held s.hold.phase && has_any s.waiting s.begun s.suspended) side k downs ups u
       (record { number = h.number; phase = h.phase; drawn = h.drawn; work = h.work; standing = h.standing }) c
@@ -195,7 +195,7 @@ module _ (laws : AreLaws) (accesses : AreAccesses) where
 
   course-meets : (returns : Bool) → (storage : Contents) (side : Side) (s : SubchannelState) (k : ProgramTrace) (downs : List (List Down)) (ups : List (List Up)) (u : UnitState) (path : ℕ) (x : Up) →
       slice_get (queue ups path) 0 ≡ Some x → IsHeld s k → Course side s.begun k downs ups u →
-      Course side (takes_up returns storage s path x).step.state.begun (trace_meets storage s path x k) (with_any_sent downs (takes_up returns storage s path x).step.came.sent) (taken ups path) u
+      Course side (takes_up returns storage s path x).step.state.begun (trace_meets storage s path x k) (with_any_sent downs (takes_up returns storage s path x).step.outcome.sent) (taken ups path) u
   course-meets returns storage side s k downs ups u path (up.Notice b) e h (Follows m) =
       notice-course s b (nat_lt s.hold.known b) side k downs (taken ups path) u h (Follows (quiet laws accesses storage side s k downs ups u path h m s.begun None refl tt))
   course-meets returns storage side s k downs ups u path x e h (Cut z b w m) = cut-meets returns storage side s k downs ups u path x b h z w m
@@ -205,12 +205,12 @@ module _ (laws : AreLaws) (accesses : AreAccesses) where
   met-flows : (returns : Bool) → (storage : Contents) (sub : Subchannel) (path : ℕ) (x : Up) (k : Option ProgramTrace) (u : UnitState) → slice_get (queue sub.wires.up path) 0 ≡ Some x → HeldBy sub.state k →
       AtSub sub.setup.side sub k u →
       CourseOf sub.setup.side (takes_up returns storage sub.state path x).step.state.begun (met_with storage sub.state path (Some x) k)
-      (with_any_sent sub.wires.down (takes_up returns storage sub.state path x).step.came.sent) (taken sub.wires.up path) u
+      (with_any_sent sub.wires.down (takes_up returns storage sub.state path x).step.outcome.sent) (taken sub.wires.up path) u
   met-flows returns storage sub path x None u e h a =
-      let one : Option (OnPath Down) = (takes_up returns storage sub.state path x).step.came.sent in
+      let one : Option (OnPath Down) = (takes_up returns storage sub.state path x).step.outcome.sent in
       let i : IsIdle sub.state (takes_up returns storage sub.state path x).step (trace_meets storage sub.state path x) =
       idle-meets storage sub.state h.begun returns (untold-no-offer sub.state.hold.phase sub.state.drawn h.phase) path x in
-      wired-holds sub.setup.side 0 0 HandClosed HandClosed AnyGive AnyGive AnyData AnyData sub.wires.down sub.wires.up u one path (λ i y. y) (λ i bytes y. y) (λ i l y. y)
+      wired-holds sub.setup.side 0 0 CurrentClosed CurrentClosed AnyGive AnyGive AnyData AnyData sub.wires.down sub.wires.up u one path (λ i y. y) (λ i bytes y. y) (λ i l y. y)
       (sent-hold 0 0 AnyGive one i.sends) a
   met-flows returns storage sub path x (Some k) u e h a = course-meets returns storage sub.setup.side sub.state k sub.wires.down sub.wires.up u path x e h a
 
@@ -219,9 +219,9 @@ module _ (laws : AreLaws) (accesses : AreAccesses) where
   up_front-flows returns storage sub path None k u e h a = tt
   up_front-flows returns storage sub path (Some x) k u e h a =
       let step : UpStep = (takes_up returns storage sub.state path x).step in
-      if-ok (λ t. AtSub sub.setup.side t.sub (met_with storage sub.state path (Some x) k) u) (finds_full sub.wires.down (carried_by sub step.came.sent)) (Err fault.WireFull) _ tt
+      if-ok (λ t. AtSub sub.setup.side t.sub (met_with storage sub.state path (Some x) k) u) (finds_full sub.wires.down (carried_by sub step.outcome.sent)) (Err fault.WireFull) _ tt
       (carried-course sub.setup.side step.state.begun (met_with storage sub.state path (Some x) k) sub.wires.down (taken sub.wires.up path) u
-      sub.state.pmcw.available step.came.sent (met-flows returns storage sub path x k u e h a))
+      sub.state.pmcw.available step.outcome.sent (met-flows returns storage sub path x k u e h a))
 
   pub up-flows : (returns : Bool) → (storage : Contents) (sub : Subchannel) (path : ℕ) (k : Option ProgramTrace) (u : UnitState) → HeldBy sub.state k → AtSub sub.setup.side sub k u →
       IfOk (up_sub returns storage sub path) (λ t. AtSub sub.setup.side t.sub (met_at storage (Some sub) path k) u)
@@ -234,7 +234,7 @@ none-answered : (may : Bool) → (side : Side) (drawn : ℕ) (u : UnitState) (pa
 none-answered may side drawn u path (down.Command t n code room) i = λ e. absurd (let k = i.1 e in omega (arith, k.0, k.1.count))
 none-answered may side drawn u path d i = tt
 
-none-taken : (d : Down) (came : Bool) (sent : Option (OnPath Up)) → taken_at (reply.Down d came sent) None ≡ None
+none-taken : (d : Down) (outcome : Bool) (sent : Option (OnPath Up)) → taken_at (reply.Down d outcome sent) None ≡ None
 none-taken d true None = refl
 none-taken d true (Some x) = refl
 none-taken d false sent = refl
@@ -242,14 +242,14 @@ none-taken d false sent = refl
 sunk-flows : (may : Bool) → (sub : Subchannel) (path : ℕ) (d : Down) (k : Option ProgramTrace) (u : UnitState) → slice_get (queue sub.wires.down path) 0 ≡ Some d → HeldBy sub.state k →
     IsLinked sub.setup.side sub.state.drawn sub.wires.down k u → AtSub sub.setup.side sub k u →
     CourseOf sub.setup.side sub.state.begun
-    (taken_at (reply.Down d (came_of (unit_takes u sub.setup.side path d may)).taken (came_of (unit_takes u sub.setup.side path d may)).sent) k) (taken sub.wires.down path)
-    (with_any_sent sub.wires.up (came_of (unit_takes u sub.setup.side path d may)).sent) (unit_after u (unit_takes u sub.setup.side path d may))
+    (taken_at (reply.Down d (outcome_of (unit_takes u sub.setup.side path d may)).taken (outcome_of (unit_takes u sub.setup.side path d may)).sent) k) (taken sub.wires.down path)
+    (with_any_sent sub.wires.up (outcome_of (unit_takes u sub.setup.side path d may)).sent) (unit_after u (unit_takes u sub.setup.side path d may))
 sunk-flows may sub path d None u e h l a =
     let i : IsDown sub.state.drawn 0 0 [] d = on-first (IsDown sub.state.drawn 0 0 []) sub.wires.down path d l.downs e in
     subst (λ (x : Option ProgramTrace). CourseOf sub.setup.side sub.state.begun x (taken sub.wires.down path)
-    (with_any_sent sub.wires.up (came_of (unit_takes u sub.setup.side path d may)).sent) (unit_after u (unit_takes u sub.setup.side path d may)))
-    (sym (none-taken d (came_of (unit_takes u sub.setup.side path d may)).taken (came_of (unit_takes u sub.setup.side path d may)).sent))
-    (wired-takes may sub.setup.side sub.state.drawn 0 0 0 [] HandClosed AnyGive AnyData sub.wires.down sub.wires.up u path d e i fit-closed.none fit-closed.answered fit-closed.gives l.kept.last
+    (with_any_sent sub.wires.up (outcome_of (unit_takes u sub.setup.side path d may)).sent) (unit_after u (unit_takes u sub.setup.side path d may)))
+    (sym (none-taken d (outcome_of (unit_takes u sub.setup.side path d may)).taken (outcome_of (unit_takes u sub.setup.side path d may)).sent))
+    (wired-takes may sub.setup.side sub.state.drawn 0 0 0 [] CurrentClosed AnyGive AnyData sub.wires.down sub.wires.up u path d e i fit-closed.none fit-closed.answered fit-closed.gives l.kept.last
     (none-answered may sub.setup.side sub.state.drawn u path d i) a)
 sunk-flows may sub path d (Some k) u e h l a =
     let i : IsDown sub.state.drawn k.number k.sent _ d = on-first (IsDown sub.state.drawn k.number k.sent _) sub.wires.down path d l.downs e in
@@ -261,9 +261,9 @@ down_front-flows : (may : Bool) → (sub : Subchannel) (path : ℕ) (u : UnitSta
 down_front-flows may sub path u None k e h l a = tt
 down_front-flows may sub path u (Some d) k e h l a =
     let step : Option UnitStep = unit_takes u sub.setup.side path d may in
-    if-ok (λ t. AtSub sub.setup.side t.sub (taken_at t.reply k) t.«unit») (finds_full sub.wires.up (carried_by sub (came_of step).sent)) (Err fault.WireFull) _ tt
-    (answered-course sub.setup.side sub.state.begun (taken_at (reply.Down d (came_of step).taken (came_of step).sent) k) (taken sub.wires.down path)
-    sub.wires.up (unit_after u step) sub.state.pmcw.available (came_of step).sent (sunk-flows may sub path d k u e h l a))
+    if-ok (λ t. AtSub sub.setup.side t.sub (taken_at t.reply k) t.«unit») (finds_full sub.wires.up (carried_by sub (outcome_of step).sent)) (Err fault.WireFull) _ tt
+    (answered-course sub.setup.side sub.state.begun (taken_at (reply.Down d (outcome_of step).taken (outcome_of step).sent) k) (taken sub.wires.down path)
+    sub.wires.up (unit_after u step) sub.state.pmcw.available (outcome_of step).sent (sunk-flows may sub path d k u e h l a))
 
 pub down-flows : (may : Bool) → (sub : Subchannel) (path : ℕ) (u : UnitState) (k : Option ProgramTrace) → HeldBy sub.state k → IsLinked sub.setup.side sub.state.drawn sub.wires.down k u → AtSub sub.setup.side sub k u →
     IfOk (down_sub may sub path u) (λ t. AtSub sub.setup.side t.sub (taken_at t.reply k) t.«unit»)
@@ -280,15 +280,15 @@ none-told u p t c x _ _ number m E (Ends given shown more) f = f
 none-told u p t c x _ _ number m E other f = (f.0, λ e. ((f.1 e).0, λ i. tt))
 
 reported-none : (side : Side) (drawn : ℕ) (downs : List (List Down)) (ups : List (List Up)) (u : UnitState) (report : Report) (y : UnitStep) → same_side side report.side ≡ true → IsNumbered side drawn 0 [] u →
-    IsReportTaken u report y → IsWired side 0 0 HandClosed AnyGive AnyData downs ups u → IsWired side 0 0 HandClosed AnyGive AnyData downs (with_any_sent ups y.sent) y.state
+    IsReportTaken u report y → IsWired side 0 0 CurrentClosed AnyGive AnyData downs ups u → IsWired side 0 0 CurrentClosed AnyGive AnyData downs (with_any_sent ups y.sent) y.state
 reported-none side drawn downs ups u report y s n t w =
     let owner : is_owner u.own side report.number ≡ true = report-owner side u report y s t in
     let zero : report.number ≡ 0 = omega (arith, n.named report.number owner) in
     let mine : is_owner u.own side 0 ≡ true = subst (λ (i : ℕ). is_owner u.own side i ≡ true) zero owner in
     let last : u.last_command ≡ 0 = n.last mine in
-    let closed : HandClosed y.state.at_hand =
-    told-closed u t.path report.number t.connection t.hand report.answer y t.told (subst HandClosed t.at_hand (w.hand mine)) in
-    wired-tells side 0 0 HandClosed HandClosed AnyGive AnyData AnyData downs ups u y.state y.sent (λ o. closed) (λ i l r. r) (λ z o. closed)
+    let closed : CurrentClosed y.state.current =
+    told-closed u t.path report.number t.connection t.hand report.answer y t.told (subst CurrentClosed t.current (w.hand mine)) in
+    wired-tells side 0 0 CurrentClosed CurrentClosed AnyGive AnyData AnyData downs ups u y.state y.sent (λ o. closed) (λ i l r. r) (λ z o. closed)
     (none-told u t.path report.number t.connection t.hand report.answer y 0 0 (IsClosed side 0 y.state) t.told (omega (arith, zero), λ e. (omega (arith, last), λ i o. closed))) w
 
 pub report-flows : (sub : Subchannel) (u : UnitState) (report : Report) (k : Option ProgramTrace) (step : Option UnitStep) → unit_reports u report ≡ step → same_side sub.setup.side report.side ≡ true →
@@ -322,7 +322,7 @@ other-down_front : (may : Bool) → (other : Subchannel) (side : Side) (path : �
     IfOk (down_front may other path u front) (λ t. IsCalm side u t.«unit»)
 other-down_front may other side path u None e = tt
 other-down_front may other side path u (Some d) e =
-    if-ok (λ t. IsCalm side u t.«unit») (finds_full other.wires.up (carried_by other (came_of (unit_takes u other.setup.side path d may)).sent)) (Err fault.WireFull) _ tt (other-calm may side u other.setup.side path d e)
+    if-ok (λ t. IsCalm side u t.«unit») (finds_full other.wires.up (carried_by other (outcome_of (unit_takes u other.setup.side path d may)).sent)) (Err fault.WireFull) _ tt (other-calm may side u other.setup.side path d e)
 
 pub other-down : (may : Bool) → (other : Subchannel) (side : Side) (path : ℕ) (u : UnitState) → same_side other.setup.side side ≡ false → IfOk (down_sub may other path u) (λ t. IsCalm side u t.«unit»)
 other-down may other side path u e =

@@ -10,7 +10,7 @@ use Rattle.ccw_walk.specs.declared.check.Check.{Check}
 use Rattle.ccw_walk.specs.Sequences.{Sequence, count, each}
 use Rattle.ccw_walk.specs.Acts.{Act}
 use Rattle.ccw_walk.specs.Programs.{Command, commands, code}
-use Rattle.ccw_walk.specs.Places.{WalkPlace}
+use Rattle.ccw_walk.specs.Positions.{WalkPosition}
 use Rattle.idaw.specs.Places.{each_below}
 use Rattle.data_move.specs.Accesses as access
 use Rattle.data_move.specs.Accesses.{checked}
@@ -183,7 +183,7 @@ module _ (earlier : ℕ) where
         let some : 1 ≤ length bytes = refused storage t.walk.orb.key m.piece bytes check e in
         let place : next_place m 0 ≡ Some m.piece =
         ap (λ (b : Bool). if b then None else Some (m.piece + 0)) s ∙ ap (λ (n : ℕ). Some n) (let z : m.piece + 0 ≡ m.piece = omega arith in z) in
-        let key : t.walk.orb.key ≡ orb.key = ap (λ (x : WalkPlace). x.orb.key) k.walk in (
+        let key : t.walk.orb.key ≡ orb.key = ap (λ (x : WalkPosition). x.orb.key) k.walk in (
           m.piece,
           subst (λ (x : Option ℕ). IsBeginning (p.moved ++ x ∷ []) (places_of orb p.acts)) place
               (spot-begins orb (data_areas orb p.acts) (with_bytes_moved t 1) (p.moved ++ each_below (next_place m) 1)

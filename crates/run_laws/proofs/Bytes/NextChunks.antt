@@ -7,7 +7,7 @@ use Rattle.storage_keys.specs.Storage.{Contents}
 use Rattle.ccw_walk.specs.declared.check.Check.{Check}
 use Rattle.ccw_walk.specs.Sequences.{Sequence}
 use Rattle.ccw_walk.specs.Acts.{Act}
-use Rattle.ccw_walk.specs.Places.{WalkPlace, after_acts, after_count_used_up}
+use Rattle.ccw_walk.specs.Positions.{WalkPosition, after_acts, after_count_used_up}
 use Rattle.ccw_walk.specs.Advancing.{advance_acts, advance_of_acts}
 use Rattle.ccw_walk.specs.declared.program.Advance.{Advance}
 use Rattle.ccw_walk.specs.declared.program.Advance.TheVariants as advance
@@ -37,13 +37,13 @@ use Rattle.run_laws.proofs.Bytes.Moves.{given_by, gives-told, cant-by, brought-t
 abbrev SameFlags : Transfer → Transfer → Type 0
 SameFlags t u = (u.sequence ≡ t.sequence) × (u.offered ≡ t.offered) × (u.stopped ≡ t.stopped) × (u.ended ≡ t.ended) × (u.unchained ≡ t.unchained)
 
-with_next_ccw-flags : (t : Transfer) (walk : WalkPlace) (a : Option Advance) → SameFlags t (with_next_ccw t walk a)
+with_next_ccw-flags : (t : Transfer) (walk : WalkPosition) (a : Option Advance) → SameFlags t (with_next_ccw t walk a)
 with_next_ccw-flags t walk (Some (advance.Takes ccw)) = (refl, refl, refl, refl, refl)
 with_next_ccw-flags t walk other = (refl, refl, refl, refl, refl)
 
 after_bytes_moved-flags : (storage : Contents) (t : Transfer) (n : ℕ) (b : Bool) → SameFlags t (if b then data_chained storage (with_bytes_moved t n) else with_bytes_moved t n)
 after_bytes_moved-flags storage t n true =
-    let old : WalkPlace = after_count_used_up t.walk in with_next_ccw-flags (with_bytes_moved t n) (after_acts old (advance_acts storage old)) (advance_of_acts old (advance_acts storage old))
+    let old : WalkPosition = after_count_used_up t.walk in with_next_ccw-flags (with_bytes_moved t n) (after_acts old (advance_acts storage old)) (advance_of_acts old (advance_acts storage old))
 after_bytes_moved-flags storage t n false = (refl, refl, refl, refl, refl)
 
 located-flags : (t : Transfer) (r : Result Moving Check) (b : Bool) → SameFlags t (if b then t else with_located t r)

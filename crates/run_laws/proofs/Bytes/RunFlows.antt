@@ -1,5 +1,5 @@
 -- After each run of a lawful set-up what a device absorbed for its command are the first bytes of chunks that were copied
--- for it, side by side from the first place on.
+-- for it, side by side from the first index on.
 use Rattle.std.proofs.Common.{◌≡◌, refl, sym, ap, subst, ℕ, ◌+◌, Bool, true, false, ◌==◌, ◌&&◌, Option, None, Some, Result, Ok, List, inl, inr, arith, ◌∙◌}
 use Rattle.std.specs.Prelude.{if◌then◌else◌, slice_get, IfOk}
 use Rattle.std.proofs.lemmas.Bool.{eq-eqb, eqb-true}
@@ -33,7 +33,7 @@ use Rattle.machine_model.specs.declared.state.Sweep.{Sweep}
 use Rattle.machine_model.specs.PathSteps.{swept}
 use Rattle.machine_model.specs.State.{State, opening_of}
 use Rattle.subchannel_model.specs.Opening.{opened}
-use Rattle.machine_model.specs.Turns.{with_state, SubTurn, UpTurn, DownTurn}
+use Rattle.machine_model.specs.Results.{with_state, SubResult, UpResult, DownResult}
 use Rattle.machine_model.specs.ChooseSteps.{choose_sub}
 use Rattle.machine_model.specs.UpSteps.{up_sub}
 use Rattle.machine_model.specs.Steps.{Run, Opened, Stepped}
@@ -43,27 +43,27 @@ use Rattle.step_laws.specs.Walks.{Suits}
 use Rattle.run_laws.specs.Traces.{ProgramTrace, chosen_at, taken_at, reported_at}
 use Rattle.run_laws.proofs.Traces.MachineTraces.{met_at, trace, trace_after}
 use Rattle.run_laws.specs.ProgramClaims.{AbsorbsInOrder, part_of}
-use Rattle.run_laws.proofs.Traces.Turns.{PlaceStep, Stays, Starts_with_orb, Is_tested, Is_resumed, Is_halted, Is_cleared, Is_cancelled, Is_modified, Is_chosen, Meets, Sinks, Is_reported, Other_sinks, Other_reported, Unit_acts, Is_swept, step-happens}
+use Rattle.run_laws.proofs.Traces.Turns.{IndexStep, Stays, Starts_with_orb, Is_tested, Is_resumed, Is_halted, Is_cleared, Is_cancelled, Is_modified, Is_chosen, Meets, Sinks, Is_reported, Other_sinks, Other_reported, Unit_acts, Is_swept, step-happens}
 use Rattle.run_laws.proofs.Traces.Ties.{AreLaws}
 use Rattle.run_laws.proofs.Bytes.Accesses.{AreAccesses}
 use Rattle.run_laws.proofs.Traces.Holds.{HasWork, HeldBy, marked-held}
 use Rattle.run_laws.proofs.Links.Vanishing.{Fewer, lost-fewer}
 use Rattle.run_laws.proofs.Traces.Sweeps.{swept-kept}
-use Rattle.run_laws.proofs.Units.UnitHands.{IsCalm}
+use Rattle.run_laws.proofs.Units.UnitCurrents.{IsCalm}
 use Rattle.run_laws.proofs.Links.LinkNeeds.{held-needs}
 use Rattle.run_laws.proofs.Commands.LinkOrders.{AtUnit, IsLinked}
 use Rattle.run_laws.proofs.Traces.Caused.{tested-begun, halted-begun}
-use Rattle.run_laws.proofs.Links.LinkWires.{HandClosed, IsGiving, IsTelling, IsClosed, IsWired}
+use Rattle.run_laws.proofs.Links.LinkWires.{CurrentClosed, IsGiving, IsTelling, IsClosed, IsWired}
 use Rattle.run_laws.proofs.Bytes.LinkModes.{AnyGive, AnyData, Mode, Waits, Over, Reads, Writes, absorbs-none}
 use Rattle.run_laws.proofs.Bytes.LinkCourses.{Course, CourseOf, Follows, Cut, over-course, fewer-course, flow-absorbs}
 use Rattle.run_laws.proofs.Bytes.LinkFlows.{AtSub, choose-flows, up-flows, down-flows, report-flows, calm-flows, gentle-flows, other-down, other-told}
 use Rattle.run_laws.proofs.Units.RunSides.{run-one-sided}
 use Rattle.run_laws.proofs.Commands.RunOrders.{AllNeeds, on-none, unit-there, idle-there, run-linked}
-use Rattle.step_laws.proofs.Places.{map-get}
+use Rattle.step_laws.proofs.Indices.{map-get}
 use Rattle.ccw_walk.specs.Sequences.{count}
 use Rattle.run_laws.proofs.Traces.Sequences.{length-backward}
 
--- at one place
+-- at one index
 abbrev Flows : Side → Subchannel → Option ProgramTrace → Option UnitState → Type 0
 Flows side sub k u = AtUnit (AtSub side sub k) u
 
@@ -74,12 +74,12 @@ flows-as side new x k m u v a b c d l =
     (subst (λ (y : Option ProgramTrace). Flows side x y v) (sym c)
     (subst (λ (y : Option UnitState). Flows side x k y) (sym d) l)))
 
-chosen-flows : (sub : Subchannel) (c : Chosen) (k : Option ProgramTrace) (u : Option UnitState) (t : SubTurn) → Suits c sub.state → choose_sub sub c ≡ Ok t → HeldBy sub.state k →
+chosen-flows : (sub : Subchannel) (c : Chosen) (k : Option ProgramTrace) (u : Option UnitState) (t : SubResult) → Suits c sub.state → choose_sub sub c ≡ Ok t → HeldBy sub.state k →
     HeldBy t.sub.state (chosen_at (Some sub) t.reply k) → AtUnit (IsLinked sub.setup.side sub.state.drawn sub.wires.down k) u → Flows sub.setup.side sub k u →
     Flows sub.setup.side t.sub (chosen_at (Some sub) t.reply k) u
 chosen-flows sub c k None t f e h i l a = absurd l
 chosen-flows sub c k (Some u) t f e h i l a =
-    (subst (λ (r : Result SubTurn Fault). IfOk r (λ t. HeldBy t.sub.state (chosen_at (Some sub) t.reply k) → AtSub sub.setup.side t.sub (chosen_at (Some sub) t.reply k) u)) e
+    (subst (λ (r : Result SubResult Fault). IfOk r (λ t. HeldBy t.sub.state (chosen_at (Some sub) t.reply k) → AtSub sub.setup.side t.sub (chosen_at (Some sub) t.reply k) u)) e
     (choose-flows sub c k u f h l a)) i
 
 -- a state with the same program at work
@@ -124,13 +124,13 @@ swept-flows what x k u h a =
     (λ f. over-flows x (state_reset x.state) k u h refl f) what a
 
 module _ (laws : AreLaws) (accesses : AreAccesses) where
-  met-flows : (returns : Bool) → (storage : Contents) (sub : Subchannel) (path : ℕ) (k : Option ProgramTrace) (u : Option UnitState) (t : UpTurn) → up_sub returns storage sub path ≡ Ok t → HeldBy sub.state k →
+  met-flows : (returns : Bool) → (storage : Contents) (sub : Subchannel) (path : ℕ) (k : Option ProgramTrace) (u : Option UnitState) (t : UpResult) → up_sub returns storage sub path ≡ Ok t → HeldBy sub.state k →
       Flows sub.setup.side sub k u → Flows sub.setup.side t.sub (met_at storage (Some sub) path k) u
   met-flows returns storage sub path k None t e h a = absurd a
   met-flows returns storage sub path k (Some u) t e h a =
-      subst (λ (r : Result UpTurn Fault). IfOk r (λ t. AtSub sub.setup.side t.sub (met_at storage (Some sub) path k) u)) e (up-flows laws accesses returns storage sub path k u h a)
+      subst (λ (r : Result UpResult Fault). IfOk r (λ t. AtSub sub.setup.side t.sub (met_at storage (Some sub) path k) u)) e (up-flows laws accesses returns storage sub path k u h a)
 
-  happens-flows : (storage : Contents) (old new : Subchannel) (u v : Option UnitState) (f : Option ProgramTrace → Option ProgramTrace) → PlaceStep storage old new u v f → new.setup ≡ old.setup →
+  happens-flows : (storage : Contents) (old new : Subchannel) (u v : Option UnitState) (f : Option ProgramTrace → Option ProgramTrace) → IndexStep storage old new u v f → new.setup ≡ old.setup →
       (k : Option ProgramTrace) → HeldBy old.state k → HeldBy new.state (f k) → AtUnit (IsLinked old.setup.side old.state.drawn old.wires.down k) u → Flows old.setup.side old k u →
       Flows new.setup.side new (f k) v
   happens-flows storage old new u v f (Stays e w s) i k n m l a = flows-as old.setup.side new old k (f k) u v (ap (λ (x : SubchannelSetup). x.side) i) e (s k) w a
@@ -160,21 +160,21 @@ module _ (laws : AreLaws) (accesses : AreAccesses) where
   happens-flows storage old new u v f (Sinks path may owed x t is c e w s) i k n m l a =
       flows-as old.setup.side new t.sub (taken_at t.reply k) (f k) (Some (owing owed t.«unit»)) v (ap (λ (x : SubchannelSetup). x.side) i) e (s k) w
       (calm-flows old.setup.side t.sub (taken_at t.reply k) t.«unit» (owing owed t.«unit») (λ n o. (o, refl))
-      (subst (λ (r : Result DownTurn Fault). IfOk r (λ t. AtSub old.setup.side t.sub (taken_at t.reply k) t.«unit»)) c
+      (subst (λ (r : Result DownResult Fault). IfOk r (λ t. AtSub old.setup.side t.sub (taken_at t.reply k) t.«unit»)) c
       (down-flows may old path x k n (subst (AtUnit (IsLinked old.setup.side old.state.drawn old.wires.down k)) is l) (subst (Flows old.setup.side old k) is a))))
   happens-flows storage old new u v f (Is_reported report x t is same c e w s) i k n m l a =
       flows-as old.setup.side new t.sub (reported_at (Some x) report k) (f k) (Some t.«unit») v (ap (λ (x : SubchannelSetup). x.side) i) e (s k) w
-      (subst (λ (r : Result DownTurn Fault). IfOk r (λ t. AtSub old.setup.side t.sub (reported_at (Some x) report k) t.«unit»)) c
+      (subst (λ (r : Result DownResult Fault). IfOk r (λ t. AtSub old.setup.side t.sub (reported_at (Some x) report k) t.«unit»)) c
       (report-flows old x report k (unit_reports x report) refl same (subst (AtUnit (IsLinked old.setup.side old.state.drawn old.wires.down k)) is l) (subst (Flows old.setup.side old k) is a)))
   happens-flows storage old new u v f (Other_sinks other path may owed x t apart is c e w s) i k n m l a =
       flows-as old.setup.side new old k (f k) (Some (owing owed t.«unit»)) v (ap (λ (x : SubchannelSetup). x.side) i) e (s k) w
       (calm-flows old.setup.side old k t.«unit» (owing owed t.«unit») (λ n o. (o, refl))
       (calm-flows old.setup.side old k x t.«unit»
-      (subst (λ (r : Result DownTurn Fault). IfOk r (λ t. IsCalm old.setup.side x t.«unit»)) c (other-down may other old.setup.side path x apart)) (subst (Flows old.setup.side old k) is a)))
+      (subst (λ (r : Result DownResult Fault). IfOk r (λ t. IsCalm old.setup.side x t.«unit»)) c (other-down may other old.setup.side path x apart)) (subst (Flows old.setup.side old k) is a)))
   happens-flows storage old new u v f (Other_reported other report x t apart is same c e w s) i k n m l a =
       flows-as old.setup.side new old k (f k) (Some t.«unit») v (ap (λ (x : SubchannelSetup). x.side) i) e (s k) w
       (calm-flows old.setup.side old k x t.«unit»
-      (subst (λ (r : Result DownTurn Fault). IfOk r (λ t. IsCalm old.setup.side x t.«unit»)) c (other-told other old.setup.side x report (unit_reports x report) refl apart same))
+      (subst (λ (r : Result DownResult Fault). IfOk r (λ t. IsCalm old.setup.side x t.«unit»)) c (other-told other old.setup.side x report (unit_reports x report) refl apart same))
       (subst (Flows old.setup.side old k) is a))
   happens-flows storage old new u v f (Unit_acts x y sends is gentle quiet e w s) i k n m l a =
       flows-as old.setup.side new (with_any_up old sends) k (f k) (Some y) v (ap (λ (x : SubchannelSetup). x.side) i) e (s k) w
@@ -183,38 +183,38 @@ module _ (laws : AreLaws) (accesses : AreAccesses) where
       flows-as (swept what old).setup.side new (swept what old) k (f k) u v (ap (λ (x : Subchannel). x.setup.side) e) e (s k) w (swept-flows what old k u n a)
 
   -- at the opening
-  opens-wired : (side : Side) → IsWired side 0 0 HandClosed AnyGive AnyData no_queues.down no_queues.up idle_unit
+  opens-wired : (side : Side) → IsWired side 0 0 CurrentClosed AnyGive AnyData no_queues.down no_queues.up idle_unit
   opens-wired side = record {
     hand = λ o. tt;
     gives = on-none (IsGiving 0 0 AnyGive) 8;
     tells = on-none (IsTelling 0 0 AnyData (IsClosed side 0 idle_unit)) 8;
   }
 
-  opens-flows : (setup : Setup) → IsLawful setup → (place : ℕ) (sub : Subchannel) → slice_get (opening_of setup).subs place ≡ Some sub →
+  opens-flows : (setup : Setup) → IsLawful setup → (index : ℕ) (sub : Subchannel) → slice_get (opening_of setup).subs index ≡ Some sub →
       Flows sub.setup.side sub None (slice_get (opening_of setup).units sub.setup.«unit»)
-  opens-flows setup lawful place sub e =
-      let a : (s : SubchannelSetup) × (slice_get setup.subchannels place ≡ Some s) × (opened s ≡ sub) = map-get opened setup.subchannels place sub e in
-      let kind = unit-there setup lawful place a.0 a.1 in
+  opens-flows setup lawful index sub e =
+      let a : (s : SubchannelSetup) × (slice_get setup.subchannels index ≡ Some s) × (opened s ≡ sub) = map-get opened setup.subchannels index sub e in
+      let kind = unit-there setup lawful index a.0 a.1 in
       subst (λ (x : Subchannel). Flows x.setup.side x None (slice_get (opening_of setup).units x.setup.«unit»)) a.2
       (subst (Flows a.0.side (opened a.0) None) (sym (idle-there setup.units a.0.«unit» kind.0 kind.1)) (opens-wired a.0.side))
 
   -- after a run, given what is kept of the programs
   abbrev pub AllHeld : Setup → Type 0
-  AllHeld setup = (h : List Entry) (s : State) (run : Run (opening_of setup) h s) (place : ℕ) (sub : Subchannel) → slice_get s.subs place ≡ Some sub →
-      HeldBy sub.state (trace place (opening_of setup) h s run)
+  AllHeld setup = (h : List Entry) (s : State) (run : Run (opening_of setup) h s) (index : ℕ) (sub : Subchannel) → slice_get s.subs index ≡ Some sub →
+      HeldBy sub.state (trace index (opening_of setup) h s run)
 
   held-all : (setup : Setup) → AllHeld setup → AllNeeds setup
-  held-all setup held h s run place sub e = held-needs (trace place (opening_of setup) h s run) sub.state (held h s run place sub e)
+  held-all setup held h s run index sub e = held-needs (trace index (opening_of setup) h s run) sub.state (held h s run index sub e)
 
-  run-flows : (setup : Setup) → IsLawful setup → AllHeld setup → (h : List Entry) (s : State) (run : Run (opening_of setup) h s) (place : ℕ) (sub : Subchannel) → slice_get s.subs place ≡ Some sub →
-      Flows sub.setup.side sub (trace place (opening_of setup) h s run) (slice_get s.units sub.setup.«unit»)
-  run-flows setup lawful held _ _ Opened place sub e = opens-flows setup lawful place sub e
-  run-flows setup lawful held _ _ (Stepped h old e r new run step) place sub at =
-      let a = step-happens old (run-one-sided laws.walks setup lawful h old run) place e r new (laws.walks old e r new step) sub at in
-      subst (λ (x : SubchannelSetup). Flows sub.setup.side sub (trace_after place old e r (trace place (opening_of setup) h old run)) (slice_get new.units x.«unit»)) (sym a.2)
-      (happens-flows old.storage a.0 sub (slice_get old.units a.0.setup.«unit») (slice_get new.units a.0.setup.«unit») (trace_after place old e r) a.3 a.2
-      (trace place (opening_of setup) h old run) (held h old run place a.0 a.1) (held _ new (Stepped h old e r new run step) place sub at)
-      (run-linked laws.walks setup lawful (λ h s run. laws.above setup h s lawful run) (held-all setup held) h old run place a.0 a.1) (run-flows setup lawful held h old run place a.0 a.1))
+  run-flows : (setup : Setup) → IsLawful setup → AllHeld setup → (h : List Entry) (s : State) (run : Run (opening_of setup) h s) (index : ℕ) (sub : Subchannel) → slice_get s.subs index ≡ Some sub →
+      Flows sub.setup.side sub (trace index (opening_of setup) h s run) (slice_get s.units sub.setup.«unit»)
+  run-flows setup lawful held _ _ Opened index sub e = opens-flows setup lawful index sub e
+  run-flows setup lawful held _ _ (Stepped h old e r new run step) index sub at =
+      let a = step-happens old (run-one-sided laws.walks setup lawful h old run) index e r new (laws.walks old e r new step) sub at in
+      subst (λ (x : SubchannelSetup). Flows sub.setup.side sub (trace_after index old e r (trace index (opening_of setup) h old run)) (slice_get new.units x.«unit»)) (sym a.2)
+      (happens-flows old.storage a.0 sub (slice_get old.units a.0.setup.«unit») (slice_get new.units a.0.setup.«unit») (trace_after index old e r) a.3 a.2
+      (trace index (opening_of setup) h old run) (held h old run index a.0 a.1) (held _ new (Stepped h old e r new run step) index sub at)
+      (run-linked laws.walks setup lawful (λ h s run. laws.above setup h s lawful run) (held-all setup held) h old run index a.0 a.1) (run-flows setup lawful held h old run index a.0 a.1))
 
   -- what it means
   part-now : (k : ProgramTrace) (b : Bool) → b ≡ true → AbsorbsInOrder k.orb k.now k.absorbed → AbsorbsInOrder k.orb (if b then k.now else k.before) k.absorbed
@@ -251,8 +251,8 @@ module _ (laws : AreLaws) (accesses : AreAccesses) where
   unit-absorbs sub k None h a = absurd a
   unit-absorbs sub k (Some u) h a = course-absorbs sub.setup.side sub.state.begun k sub.wires.down sub.wires.up u h.work a
 
-  pub run-absorbs : (setup : Setup) → IsLawful setup → AllHeld setup → (h : List Entry) (s : State) (run : Run (opening_of setup) h s) (place : ℕ) (sub : Subchannel) (k : ProgramTrace) →
-      slice_get s.subs place ≡ Some sub → trace place (opening_of setup) h s run ≡ Some k → AbsorbsInOrder k.orb (part_of k) k.absorbed
-  run-absorbs setup lawful held h s run place sub k at e =
-      unit-absorbs sub k (slice_get s.units sub.setup.«unit») (subst (λ (x : Option ProgramTrace). HeldBy sub.state x) e (held h s run place sub at))
-      (subst (λ (x : Option ProgramTrace). Flows sub.setup.side sub x (slice_get s.units sub.setup.«unit»)) e (run-flows setup lawful held h s run place sub at))
+  pub run-absorbs : (setup : Setup) → IsLawful setup → AllHeld setup → (h : List Entry) (s : State) (run : Run (opening_of setup) h s) (index : ℕ) (sub : Subchannel) (k : ProgramTrace) →
+      slice_get s.subs index ≡ Some sub → trace index (opening_of setup) h s run ≡ Some k → AbsorbsInOrder k.orb (part_of k) k.absorbed
+  run-absorbs setup lawful held h s run index sub k at e =
+      unit-absorbs sub k (slice_get s.units sub.setup.«unit») (subst (λ (x : Option ProgramTrace). HeldBy sub.state x) e (held h s run index sub at))
+      (subst (λ (x : Option ProgramTrace). Flows sub.setup.side sub x (slice_get s.units sub.setup.«unit»)) e (run-flows setup lawful held h s run index sub at))

@@ -11,7 +11,7 @@ use Rattle.chan_model.specs.declared.unit_state.CurrentCommand.{CurrentCommand}
 use Rattle.chan_model.specs.declared.unit_state.Progress.{Progress}
 use Rattle.chan_model.specs.declared.unit_state.Progress.TheVariants as progress
 use Rattle.chan_model.specs.Loads.{load_length}
-use Rattle.chan_model.specs.UnitTable.{with_given, at_hand_answered, new_command, kept_bytes}
+use Rattle.chan_model.specs.UnitTable.{with_given, current_answered, new_command, kept_bytes}
 use Rattle.ccw_walk.specs.Acts.{PlacedBytes}
 use Rattle.idaw.specs.Places.{each_below}
 use Rattle.run_laws.specs.ProgramClaims.{IsFirstOf, first_bytes}
@@ -89,7 +89,7 @@ give-hand v lead x s bytes (Pending q a l p) k e = absurd (omega (arith, k.0, e,
 give-hand v lead x s bytes (Ahead q g j l a b) k e = absurd (omega (arith, k.0, e, q))
 
 -- Took
-pub answer-hand : (v : View) (lead : Option ℕ) (x : CurrentCommand) (l : Load) (room : ℕ) → Hand v lead x → Hand v lead (at_hand_answered x l room)
+pub answer-hand : (v : View) (lead : Option ℕ) (x : CurrentCommand) (l : Load) (room : ℕ) → Hand v lead x → Hand v lead (current_answered x l room)
 answer-hand v lead x l room (Level q g m) = Level q g m
 answer-hand v lead x l room (Pending q a m p) = Pending q refl m p
 answer-hand v lead x l room (Ahead q g j m a b) = Ahead q g j m (λ y e. absurd (cc e)) b

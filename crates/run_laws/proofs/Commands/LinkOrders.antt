@@ -28,7 +28,7 @@ use Rattle.subchannel_model.specs.declared.state.Subchannel.{Subchannel}
 use Rattle.subchannel_model.specs.declared.state.SubchannelState.{SubchannelState}
 use Rattle.subchannel_model.specs.Choosing.{reset_sent, halt_sent, offered}
 use Rattle.subchannel_model.specs.Taking.{takes_up}
-use Rattle.machine_model.specs.Turns.{UpTurn}
+use Rattle.machine_model.specs.Results.{UpResult}
 use Rattle.subchannel_model.specs.Sending.{carried, carried_by, with_any_sent, finds_full}
 use Rattle.machine_model.specs.ChooseSteps.{choose_sub}
 use Rattle.machine_model.specs.UpSteps.{up_front, up_sub}
@@ -52,7 +52,7 @@ use Rattle.run_laws.proofs.Links.Vanishing.{Fewer, carried-fewer, send-ok}
 use Rattle.subchannel_model.specs.declared.state.UpStep.{UpStep}
 use Rattle.run_laws.proofs.Traces.Sequences.{count-each, backward, length-backward}
 
--- the orders between the story and a unit
+-- the orders between the trace and a unit
 abbrev pub number_of : Option ProgramTrace → ℕ
 number_of None = 0
 number_of (Some k) = k.number
@@ -190,15 +190,15 @@ choose-linked sub other k u w n l = l
 met-linked : (returns : Bool) → (storage : Contents) (sub : Subchannel) (path : ℕ) (x : Up) (k : Option ProgramTrace) (u : UnitState) (drawn : ℕ) →
     drawn ≡ (takes_up returns storage sub.state path x).step.state.drawn → Needs k sub.state →
     Needs (met_with storage sub.state path (Some x) k) (takes_up returns storage sub.state path x).step.state → IsLinked sub.setup.side drawn sub.wires.down k u →
-    IsLinked sub.setup.side drawn (with_any_sent sub.wires.down (takes_up returns storage sub.state path x).step.came.sent) (met_with storage sub.state path (Some x) k) u
+    IsLinked sub.setup.side drawn (with_any_sent sub.wires.down (takes_up returns storage sub.state path x).step.outcome.sent) (met_with storage sub.state path (Some x) k) u
 met-linked returns storage sub path x None u drawn same n m l =
-    hold-sends sub.setup.side drawn 0 0 0 [] [] [] sub.wires.down u (takes_up returns storage sub.state path x).step.came.sent l (omega arith)
-    (if-some (λ d. IsOf (takes_up returns storage sub.state path x).step.state d.signal) (λ d. IsDown drawn 0 0 [] d.signal) (takes_up returns storage sub.state path x).step.came.sent
+    hold-sends sub.setup.side drawn 0 0 0 [] [] [] sub.wires.down u (takes_up returns storage sub.state path x).step.outcome.sent l (omega arith)
+    (if-some (λ d. IsOf (takes_up returns storage sub.state path x).step.state d.signal) (λ d. IsDown drawn 0 0 [] d.signal) (takes_up returns storage sub.state path x).step.outcome.sent
     (λ d h. subst (λ (i : ℕ). IsDown i 0 0 [] d.signal) (sym same) (down-untold (takes_up returns storage sub.state path x).step.state d.signal m h)) (up-sends returns storage sub.state path x))
 met-linked returns storage sub path x (Some k) u drawn same n m l =
     let new : ProgramTrace = trace_meets storage sub.state path x k in
     let s : SubchannelState = (takes_up returns storage sub.state path x).step.state in
-    let one : Option (OnPath Down) = (takes_up returns storage sub.state path x).step.came.sent in
+    let one : Option (OnPath Down) = (takes_up returns storage sub.state path x).step.outcome.sent in
     let g : IsGrown k new = meets-grown storage sub.state path x k n.unbegun in
     let sends : IfSome one (λ d. IsDown drawn new.number new.sent (codes_of new) d.signal) =
     if-some (λ d. IsOf s d.signal) (λ d. IsDown drawn new.number new.sent (codes_of new) d.signal) one
@@ -216,12 +216,12 @@ met-linked returns storage sub path x (Some k) u drawn same n m l =
     ] in
     subst (λ (t : Sequence ℕ). Q new.number (codes_of new) (backward t)) (sym g.taken) (subst (λ (i : ℕ). Q i (codes_of new) (backward k.taken)) (sym g.number) made)
 
-abbrev pub IsMet : Subchannel → Option ProgramTrace → UnitState → UpTurn → Type 0
+abbrev pub IsMet : Subchannel → Option ProgramTrace → UnitState → UpResult → Type 0
 IsMet sub k u t = Needs k t.sub.state → IsLinked sub.setup.side t.sub.state.drawn t.sub.wires.down k u
 
 signal-linked : (returns : Bool) → (storage : Contents) (sub : Subchannel) (path : ℕ) (x : Up) (k : Option ProgramTrace) (u : UnitState) → Needs k sub.state →
     Needs (met_with storage sub.state path (Some x) k) (takes_up returns storage sub.state path x).step.state → IsLinked sub.setup.side sub.state.drawn sub.wires.down k u →
-    IsLinked sub.setup.side (takes_up returns storage sub.state path x).step.state.drawn (with_any_sent sub.wires.down (takes_up returns storage sub.state path x).step.came.sent)
+    IsLinked sub.setup.side (takes_up returns storage sub.state path x).step.state.drawn (with_any_sent sub.wires.down (takes_up returns storage sub.state path x).step.outcome.sent)
     (met_with storage sub.state path (Some x) k) u
 signal-linked returns storage sub path x k u n m l =
     met-linked returns storage sub path x k u (takes_up returns storage sub.state path x).step.state.drawn refl n m
@@ -232,8 +232,8 @@ up_front-linked : (returns : Bool) → (storage : Contents) (sub : Subchannel) (
 up_front-linked returns storage sub path None k u n l = tt
 up_front-linked returns storage sub path (Some x) k u n l =
     let step : UpStep = (takes_up returns storage sub.state path x).step in
-    if-ok (IsMet sub (met_with storage sub.state path (Some x) k) u) (finds_full sub.wires.down (carried_by sub step.came.sent)) (Err fault.WireFull) _ tt
-    (λ m. carried-linked sub.setup.side step.state.drawn sub.wires.down sub.state.pmcw.available step.came.sent
+    if-ok (IsMet sub (met_with storage sub.state path (Some x) k) u) (finds_full sub.wires.down (carried_by sub step.outcome.sent)) (Err fault.WireFull) _ tt
+    (λ m. carried-linked sub.setup.side step.state.drawn sub.wires.down sub.state.pmcw.available step.outcome.sent
     (met_with storage sub.state path (Some x) k) u (signal-linked returns storage sub path x k u n m l))
 
 pub up-linked : (returns : Bool) → (storage : Contents) (sub : Subchannel) (path : ℕ) (k : Option ProgramTrace) (u : UnitState) → Needs k sub.state →
@@ -243,8 +243,8 @@ up-linked returns storage sub path k u n l =
     (up_front-linked returns storage sub path (slice_get (queue sub.wires.up path) 0) k u n l) tt
 
 -- Down
-took-story : (side : Side) (drawn : ℕ) (wires : List (List Down)) (v : UnitState) (d : Down) (came : Bool) (sent : Option (OnPath Up)) (k : Option ProgramTrace) →
-    IsOrdered side drawn (number_of k) (sent_of k) (all_codes k) (took_after (number_of k) (silent_by came sent) d (took_of k)) wires v → IsLinked side drawn wires (taken_at (reply.Down d came sent) k) v
+took-story : (side : Side) (drawn : ℕ) (wires : List (List Down)) (v : UnitState) (d : Down) (outcome : Bool) (sent : Option (OnPath Up)) (k : Option ProgramTrace) →
+    IsOrdered side drawn (number_of k) (sent_of k) (all_codes k) (took_after (number_of k) (silent_by outcome sent) d (took_of k)) wires v → IsLinked side drawn wires (taken_at (reply.Down d outcome sent) k) v
 took-story side drawn wires v d true (Some x) k o = o
 took-story side drawn wires v d false (Some x) k o = o
 took-story side drawn wires v d false None k o = o
@@ -291,8 +291,8 @@ down_front-linked : (may : Bool) → (sub : Subchannel) (path : ℕ) (u : UnitSt
 down_front-linked may sub path u None k e a n l = tt
 down_front-linked may sub path u (Some d) k e a n l =
     let step : Option UnitStep = unit_takes u sub.setup.side path d may in
-    if-ok (λ t. IsLinked sub.setup.side t.sub.state.drawn t.sub.wires.down (taken_at t.reply k) t.«unit») (finds_full sub.wires.up (carried_by sub (unit_table.came_of step).sent)) (Err fault.WireFull) _ tt
-    (took-story sub.setup.side sub.state.drawn (taken sub.wires.down path) (unit_after u step) d (unit_table.came_of step).taken (unit_table.came_of step).sent k
+    if-ok (λ t. IsLinked sub.setup.side t.sub.state.drawn t.sub.wires.down (taken_at t.reply k) t.«unit») (finds_full sub.wires.up (carried_by sub (unit_table.outcome_of step).sent)) (Err fault.WireFull) _ tt
+    (took-story sub.setup.side sub.state.drawn (taken sub.wires.down path) (unit_after u step) d (unit_table.outcome_of step).taken (unit_table.outcome_of step).sent k
     (with-wires sub.setup.side sub.state.drawn (number_of k) (sent_of k) (all_codes k) _ sub.wires.down (taken sub.wires.down path) (unit_after u step)
     (on-taken (IsDown sub.state.drawn (number_of k) (sent_of k) (all_codes k)) sub.wires.down path l.downs)
     (unit-takes may sub.setup.side sub.state.drawn (number_of k) (sent_of k) (all_codes k) (took_of k) sub.wires.down u path d (number-drawn k sub.state n)
@@ -332,7 +332,7 @@ reported-if side drawn wires v k new false l m = l
 reported-same : (side : Side) (drawn : ℕ) (wires : List (List Down)) (v u : UnitState) (report : Report) (a : DeviceAnswer) (k : ProgramTrace) → IsLinked side drawn wires (Some k) v →
     IsLinked side drawn wires (Some (reported u report a k)) v
 reported-same side drawn wires v u report (answer.Absorbed count) k l =
-    reported-if side drawn wires v k (absorbs count u.at_hand k) (report.number == k.number) l (absorbs-same side drawn wires v k count u.at_hand l)
+    reported-if side drawn wires v k (absorbs count u.current k) (report.number == k.number) l (absorbs-same side drawn wires v k count u.current l)
 reported-same side drawn wires v u report other k l = l
 
 reported-linked : (side : Side) (drawn : ℕ) (wires : List (List Down)) (v u : UnitState) (report : Report) (k : Option ProgramTrace) → IsLinked side drawn wires k v →
@@ -355,7 +355,7 @@ other-down_front : (may : Bool) → (sub other : Subchannel) (path : ℕ) (u : U
 other-down_front may sub other path u None k e l = tt
 other-down_front may sub other path u (Some d) k e l =
     let step : Option UnitStep = unit_takes u other.setup.side path d may in
-    if-ok (λ t. IsLinked sub.setup.side sub.state.drawn sub.wires.down k t.«unit») (finds_full other.wires.up (carried_by other (unit_table.came_of step).sent)) (Err fault.WireFull) _ tt
+    if-ok (λ t. IsLinked sub.setup.side sub.state.drawn sub.wires.down k t.«unit») (finds_full other.wires.up (carried_by other (unit_table.outcome_of step).sent)) (Err fault.WireFull) _ tt
     (still-linked sub.setup.side sub.state.drawn sub.wires.down k u step (other-still sub.setup.side u other.setup.side path d may e) l)
 
 pub other-down : (may : Bool) → (sub other : Subchannel) (path : ℕ) (u : UnitState) (k : Option ProgramTrace) → same_side other.setup.side sub.setup.side ≡ false →

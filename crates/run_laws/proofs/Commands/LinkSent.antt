@@ -11,11 +11,11 @@ use Rattle.chan_model.specs.declared.signal.Down.TheVariants as down
 use Rattle.chan_model.specs.declared.signal.OnPath.{OnPath}
 use Rattle.chan_model.specs.declared.signal.Taken.{Taken}
 use Rattle.chan_model.specs.declared.signal.Up.TheVariants as up
-use Rattle.chan_model.specs.HoldTable.{HoldStep, refusing, granting, program_begun, offer_accepted, left, asked_back, found_busy, released, reset_cleared, attended, hold_after, came_of, is_connected, is_on, letting_go}
+use Rattle.chan_model.specs.HoldTable.{HoldStep, refusing, granting, program_begun, offer_accepted, left, asked_back, found_busy, released, reset_cleared, attended, hold_after, outcome_of, is_connected, is_on, letting_go}
 use Rattle.chan_model.specs.UnitReports.{is_last_end, is_outward, has_device_end}
-use Rattle.ccw_walk.specs.Places.{WalkPlace}
+use Rattle.ccw_walk.specs.Positions.{WalkPosition}
 use Rattle.data_move.specs.declared.transfer.CommandStart.{CommandStart}
-use Rattle.data_move.specs.declared.transfer.CommandStart.TheVariants as came
+use Rattle.data_move.specs.declared.transfer.CommandStart.TheVariants as outcome
 use Rattle.data_move.specs.declared.transfer.WithRoom.{WithRoom}
 use Rattle.data_move.specs.Commands.{first_command, next_command, begun_with_room}
 use Rattle.data_move.specs.ChunkNumbers.{is_answered}
@@ -59,7 +59,7 @@ abbrev pub IsSent : SubchannelState → Option (OnPath Down) → Type 0
 IsSent s one = IfSome one (λ x. IsOf s x.signal)
 
 abbrev Sends : UpStep → Type 0
-Sends step = IsSent step.state step.came.sent
+Sends step = IsSent step.state step.outcome.sent
 
 if-sends : (c : Bool) (x y : UpStep) → Sends x → Sends y → Sends (if c then x else y)
 if-sends true x y e f = e
@@ -79,7 +79,7 @@ IsOfHold (down.Got a) = Unit {0}
 IsOfHold d = ⊥
 
 abbrev pub SendsHoldSignal : Option HoldStep → Type 0
-SendsHoldSignal step = IfSome (came_of step).sent (λ x. IsOfHold x.signal)
+SendsHoldSignal step = IfSome (outcome_of step).sent (λ x. IsOfHold x.signal)
 
 of-hold : (s : SubchannelState) (d : Down) → IsOfHold d → IsOf s d
 of-hold s (down.Grant t c) h = tt
@@ -136,7 +136,7 @@ attended-mutters h hold.Free p a may = if-mutters may _ None tt nothing
 attended-mutters h other p a may = nothing
 
 hold_outcome-sends : (s : SubchannelState) (step : Option HoldStep) → SendsHoldSignal step → Sends (hold_outcome s step)
-hold_outcome-sends s step m = muttered (hold_outcome s step).state (came_of step).sent m
+hold_outcome-sends s step m = muttered (hold_outcome s step).state (outcome_of step).sent m
 
 -- the device is let go
 pub letting-mutters : (h : HoldState) (phase : HoldPhase) → SendsHoldSignal (letting_go h phase)
@@ -144,7 +144,7 @@ letting-mutters h (hold.On t p c) = tt
 letting-mutters h other = nothing
 
 device_released-sends : (s : SubchannelState) → Sends (device_released s)
-device_released-sends s = muttered (device_released s).state (came_of (letting_go s.hold s.hold.phase)).sent (letting-mutters s.hold s.hold.phase)
+device_released-sends s = muttered (device_released s).state (outcome_of (letting_go s.hold s.hold.phase)).sent (letting-mutters s.hold s.hold.phase)
 
 -- Accept
 -- a command that begins is the one at work
@@ -157,33 +157,33 @@ work-sends s x b t i e = record {
   on = ap (λ (h : HoldState). is_on h.phase t) i.kept.hold ∙ e;
 }
 
-beginning-sends : (storage : Contents) (s : SubchannelState) (p t : ℕ) (st : ProgramPosition) (walk : WalkPlace) (r : CommandStart) → is_on s.hold.phase t ≡ true →
+beginning-sends : (storage : Contents) (s : SubchannelState) (p t : ℕ) (st : ProgramPosition) (walk : WalkPosition) (r : CommandStart) → is_on s.hold.phase t ≡ true →
     Sends (first_ccw_outcome storage s p t st walk r)
-beginning-sends storage s p t st walk (came.Begins transfer) e =
+beginning-sends storage s p t st walk (outcome.Begins transfer) e =
     let next : SubchannelState = with_program_at_work s st.program (begun_with_room storage transfer).transfer in
     let b : ActiveProgram = record { program = st.program; primary_shown = false; transfer = (begun_with_room storage transfer).transfer } in
     work-sends next _ b t (interrupted-work next b refl) e
-beginning-sends storage s p t st walk came.Suspends e = device_released-sends _
-beginning-sends storage s p t st walk (came.Stops check) e = device_released-sends _
+beginning-sends storage s p t st walk outcome.Suspends e = device_released-sends _
+beginning-sends storage s p t st walk (outcome.Stops check) e = device_released-sends _
 
 standing-sends : (storage : Contents) (s : SubchannelState) (p t : ℕ) (st : Option ProgramPosition) → is_on s.hold.phase t ≡ true → Sends (begins_at storage s p t st)
 standing-sends storage s p t None e = tt
 standing-sends storage s p t (Some st) e =
-    beginning-sends storage s p t st (first_command storage st.walk).walk (first_command storage st.walk).came e
+    beginning-sends storage s p t st (first_command storage st.walk).walk (first_command storage st.walk).outcome e
 
 is-self : (t p c : ℕ) → is_on (hold.On t p c) t ≡ true
 is-self t p c = eq-eqb t t refl
 
-accepted_in_phase-sends : (storage : Contents) (s : SubchannelState) (phase : HoldPhase) (came : Taken Down) → s.hold.phase ≡ phase → IfSome came.sent (λ x. IsOfHold x.signal) →
-    Sends (accepted_in_phase storage s phase came)
-accepted_in_phase-sends storage s (hold.On t p c) came e m =
+accepted_in_phase-sends : (storage : Contents) (s : SubchannelState) (phase : HoldPhase) (outcome : Taken Down) → s.hold.phase ≡ phase → IfSome outcome.sent (λ x. IsOfHold x.signal) →
+    Sends (accepted_in_phase storage s phase outcome)
+accepted_in_phase-sends storage s (hold.On t p c) outcome e m =
     standing-sends storage (record s { pmcw = with_path_used s.pmcw p }) p t (offered_position s) (ap (λ (x : HoldPhase). is_on x t) e ∙ is-self t p c)
-accepted_in_phase-sends storage s (hold.Letting t p) came e m = muttered (halt_performed (record s { pmcw = with_path_used s.pmcw p })) came.sent m
-accepted_in_phase-sends storage s other came e m = muttered s came.sent m
+accepted_in_phase-sends storage s (hold.Letting t p) outcome e m = muttered (halt_performed (record s { pmcw = with_path_used s.pmcw p })) outcome.sent m
+accepted_in_phase-sends storage s other outcome e m = muttered s outcome.sent m
 
 accept-sends : (storage : Contents) (s : SubchannelState) (step : Option HoldStep) → SendsHoldSignal step → Sends (takes_accept storage s step)
 accept-sends storage s step m =
-    if-sends (came_of step).taken _ _ (accepted_in_phase-sends storage (record s { hold = hold_after s.hold step }) (hold_after s.hold step).phase (came_of step) refl m) tt
+    if-sends (outcome_of step).taken _ _ (accepted_in_phase-sends storage (record s { hold = hold_after s.hold step }) (hold_after s.hold step).phase (outcome_of step) refl m) tt
 
 -- Data
 moves_bytes-sends : (storage : Contents) (s : SubchannelState) (b : ActiveProgram) (signal : DataSignal) (load : Load) → Sends (moves_bytes storage s b signal load).step
@@ -197,20 +197,20 @@ takes_data-sends : (storage : Contents) (s : SubchannelState) (signal : DataSign
 takes_data-sends storage s signal load = if-met (is_connected s.hold.phase signal.path signal.number signal.connection) _ _ (moves_data-sends storage s s.begun signal load) tt
 
 -- End
-chaining-sends : (storage : Contents) (s : SubchannelState) (b : ActiveProgram) (signal : EndSignal) (walk : WalkPlace) (r : CommandStart) → is_on s.hold.phase signal.number ≡ true →
+chaining-sends : (storage : Contents) (s : SubchannelState) (b : ActiveProgram) (signal : EndSignal) (walk : WalkPosition) (r : CommandStart) → is_on s.hold.phase signal.number ≡ true →
     Sends (next_ccw_outcome storage s b signal walk r)
-chaining-sends storage s b signal walk (came.Begins transfer) e =
+chaining-sends storage s b signal walk (outcome.Begins transfer) e =
     let x : WithRoom = begun_with_room storage transfer in
     let c : ActiveProgram = record b { transfer = x.transfer } in
     let next : SubchannelState = with_transfer s b x.transfer in
     work-sends next (after_chunk s b x.transfer) c signal.number (interrupted-work next c refl) e
-chaining-sends storage s b signal walk came.Suspends e = device_released-sends _
-chaining-sends storage s b signal walk (came.Stops check) e = device_released-sends _
+chaining-sends storage s b signal walk outcome.Suspends e = device_released-sends _
+chaining-sends storage s b signal walk (outcome.Stops check) e = device_released-sends _
 
 chains_at_device_end-sends : (storage : Contents) (s : SubchannelState) (b : ActiveProgram) (signal : EndSignal) → is_on s.hold.phase signal.number ≡ true → Sends (chains_at_device_end storage s b signal)
 chains_at_device_end-sends storage s b signal e =
     if-sends (has_device_end signal.status) _ _
-    (chaining-sends storage s b signal (next_command storage b.transfer (has_status_modifier signal.status)).walk (next_command storage b.transfer (has_status_modifier signal.status)).came e) tt
+    (chaining-sends storage s b signal (next_command storage b.transfer (has_status_modifier signal.status)).walk (next_command storage b.transfer (has_status_modifier signal.status)).outcome e) tt
 
 concludes-sends : (s : SubchannelState) (b : ActiveProgram) (signal : EndSignal) → Sends (concludes s b signal)
 concludes-sends s b signal = if-sends (is_last_end signal.status) _ _ (device_released-sends _) tt
@@ -234,7 +234,7 @@ takes_end-sends storage s signal = by (is_on s.hold.phase signal.number) refl
 
 reset-sends : (s : SubchannelState) (step : Option HoldStep) → SendsHoldSignal step → Sends (takes_cleared s step)
 reset-sends s None m = tt
-reset-sends s (Some step) m = muttered (clear_performed (record s { hold = step.state })) (came_of (Some step)).sent m
+reset-sends s (Some step) m = muttered (clear_performed (record s { hold = step.state })) (outcome_of (Some step)).sent m
 
 notice-sends : (s : SubchannelState) (b : ℕ) (more : Bool) → Sends (if more then outcomes.signal_taken (reset_for (on_notice.with_known s b)) else outcomes.signal_ignored s)
 notice-sends s b true = tt
@@ -248,10 +248,10 @@ up-sends returns storage s p (up.Busy t) = hold_outcome-sends s (found_busy s.ho
 up-sends returns storage s p (up.Leave t c) = hold_outcome-sends s (left s.hold s.hold.phase t c) (left-mutters s.hold s.hold.phase t c)
 up-sends returns storage s p (up.Back t c) =
     let step : Option HoldStep = asked_back s.hold s.hold.phase p t c returns in
-    muttered (on_back.takes_back s p step).state (came_of step).sent (back-mutters s.hold s.hold.phase p t c returns)
+    muttered (on_back.takes_back s p step).state (outcome_of step).sent (back-mutters s.hold s.hold.phase p t c returns)
 up-sends returns storage s p (up.Released t) = hold_outcome-sends s (released s.hold s.hold.phase t) (released-mutters s.hold s.hold.phase t)
 up-sends returns storage s p (up.Cleared r) = reset-sends s (reset_cleared s.hold s.hold.phase r) (cleared-mutters s.hold s.hold.phase r)
 up-sends returns storage s p (up.Notice b) = notice-sends s b (nat_lt s.hold.known b)
 up-sends returns storage s p (up.Attn a status) =
     let step : Option HoldStep = attended s.hold s.hold.phase p a (on_attention.may_take_attention s) in
-    muttered (on_attention.takes_attention s status step).state (came_of step).sent (attended-mutters s.hold s.hold.phase p a (on_attention.may_take_attention s))
+    muttered (on_attention.takes_attention s status step).state (outcome_of step).sent (attended-mutters s.hold s.hold.phase p a (on_attention.may_take_attention s))

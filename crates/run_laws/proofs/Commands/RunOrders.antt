@@ -29,9 +29,9 @@ use Rattle.run_laws.proofs.Traces.Turns.{step-happens}
 use Rattle.run_laws.proofs.Commands.UnitOrders.{IsDown, AreOn, IsOrdered}
 use Rattle.run_laws.proofs.Links.LinkNeeds.{Needs}
 use Rattle.run_laws.proofs.Commands.LinkOrders.{IsLinked, AtUnit}
-use Rattle.run_laws.proofs.Commands.PlaceOrders.{happens-linked}
+use Rattle.run_laws.proofs.Commands.IndexOrders.{happens-linked}
 use Rattle.run_laws.proofs.Units.RunSides.{run-one-sided}
-use Rattle.step_laws.proofs.Places.{map-get}
+use Rattle.step_laws.proofs.Indices.{map-get}
 use Rattle.ccw_walk.specs.Sequences.{Sequence, each}
 use Rattle.run_laws.proofs.Traces.Sequences.{backward, in_order-backward}
 
@@ -41,8 +41,8 @@ abbrev pub AllAbove : Setup → Type 0
 AllAbove setup = (h : List Entry) (s : State) → Run (opening_of setup) h s → AreAbove s
 
 abbrev pub AllNeeds : Setup → Type 0
-AllNeeds setup = (h : List Entry) (s : State) (run : Run (opening_of setup) h s) (place : ℕ) (sub : Subchannel) → slice_get s.subs place ≡ Some sub →
-    Needs (trace place (opening_of setup) h s run) sub.state
+AllNeeds setup = (h : List Entry) (s : State) (run : Run (opening_of setup) h s) (index : ℕ) (sub : Subchannel) → slice_get s.subs index ≡ Some sub →
+    Needs (trace index (opening_of setup) h s run) sub.state
 
 -- at the opening
 pub no-signal : {A : Type 0} (n p : ℕ) → queue {A = A} (replicate n []) p ≡ []
@@ -85,24 +85,24 @@ unit-there setup lawful i sub e =
 pub idle-there : (kinds : List UnitKind) (i : ℕ) (kind : UnitKind) → slice_get kinds i ≡ Some kind → slice_get (map idle_of kinds) i ≡ Some idle_unit
 idle-there kinds i kind e = slice_get-map idle_of kinds i ∙ ap (λ (o : Option UnitKind). option_map idle_of o) e
 
-opens-linked : (setup : Setup) → IsLawful setup → (place : ℕ) (sub : Subchannel) → slice_get (map opened setup.subchannels) place ≡ Some sub →
+opens-linked : (setup : Setup) → IsLawful setup → (index : ℕ) (sub : Subchannel) → slice_get (map opened setup.subchannels) index ≡ Some sub →
     AtUnit (IsLinked sub.setup.side sub.state.drawn sub.wires.down None) (slice_get (map idle_of setup.units) sub.setup.«unit»)
-opens-linked setup lawful place sub e =
-    let a : (s : SubchannelSetup) × (slice_get setup.subchannels place ≡ Some s) × (opened s ≡ sub) = map-get opened setup.subchannels place sub e in
-    let kind : (kind : UnitKind) × (slice_get setup.units a.0.«unit» ≡ Some kind) = unit-there setup lawful place a.0 a.1 in
+opens-linked setup lawful index sub e =
+    let a : (s : SubchannelSetup) × (slice_get setup.subchannels index ≡ Some s) × (opened s ≡ sub) = map-get opened setup.subchannels index sub e in
+    let kind : (kind : UnitKind) × (slice_get setup.units a.0.«unit» ≡ Some kind) = unit-there setup lawful index a.0 a.1 in
     subst (λ (x : Subchannel). AtUnit (IsLinked x.setup.side x.state.drawn x.wires.down None) (slice_get (map idle_of setup.units) x.setup.«unit»)) a.2
     (subst (AtUnit (IsLinked a.0.side 0 no_queues.down None)) (sym (idle-there setup.units a.0.«unit» kind.0 kind.1)) (opens-ordered a.0.side))
 
 -- after a run
-pub run-linked : AreWalks → (setup : Setup) → IsLawful setup → AllAbove setup → AllNeeds setup → (h : List Entry) (s : State) (run : Run (opening_of setup) h s) (place : ℕ) (sub : Subchannel) →
-    slice_get s.subs place ≡ Some sub → AtUnit (IsLinked sub.setup.side sub.state.drawn sub.wires.down (trace place (opening_of setup) h s run)) (slice_get s.units sub.setup.«unit»)
-run-linked walks setup lawful above needs _ _ Opened place sub e = opens-linked setup lawful place sub e
-run-linked walks setup lawful above needs _ _ (Stepped h old e r new run step) place sub at =
-    let a = step-happens old (run-one-sided walks setup lawful h old run) place e r new (walks old e r new step) sub at in
-    subst (λ (x : SubchannelSetup). AtUnit (IsLinked sub.setup.side sub.state.drawn sub.wires.down (trace_after place old e r (trace place (opening_of setup) h old run))) (slice_get new.units x.«unit»)) (sym a.2)
-    (happens-linked old.storage a.0 sub (slice_get old.units a.0.setup.«unit») (slice_get new.units a.0.setup.«unit») (trace_after place old e r) a.3 a.2
-    (λ x g p r b front takes. above h old run place a.0 x p r b a.1 g front takes) (trace place (opening_of setup) h old run) (needs h old run place a.0 a.1) (needs _ new (Stepped h old e r new run step) place sub at)
-    (run-linked walks setup lawful above needs h old run place a.0 a.1))
+pub run-linked : AreWalks → (setup : Setup) → IsLawful setup → AllAbove setup → AllNeeds setup → (h : List Entry) (s : State) (run : Run (opening_of setup) h s) (index : ℕ) (sub : Subchannel) →
+    slice_get s.subs index ≡ Some sub → AtUnit (IsLinked sub.setup.side sub.state.drawn sub.wires.down (trace index (opening_of setup) h s run)) (slice_get s.units sub.setup.«unit»)
+run-linked walks setup lawful above needs _ _ Opened index sub e = opens-linked setup lawful index sub e
+run-linked walks setup lawful above needs _ _ (Stepped h old e r new run step) index sub at =
+    let a = step-happens old (run-one-sided walks setup lawful h old run) index e r new (walks old e r new step) sub at in
+    subst (λ (x : SubchannelSetup). AtUnit (IsLinked sub.setup.side sub.state.drawn sub.wires.down (trace_after index old e r (trace index (opening_of setup) h old run))) (slice_get new.units x.«unit»)) (sym a.2)
+    (happens-linked old.storage a.0 sub (slice_get old.units a.0.setup.«unit») (slice_get new.units a.0.setup.«unit») (trace_after index old e r) a.3 a.2
+    (λ x g p r b front takes. above h old run index a.0 x p r b a.1 g front takes) (trace index (opening_of setup) h old run) (needs h old run index a.0 a.1) (needs _ new (Stepped h old e r new run step) index sub at)
+    (run-linked walks setup lawful above needs h old run index a.0 a.1))
 
 linked-takes : (side : Side) (drawn : ℕ) (wires : List (List Down)) (k : ProgramTrace) (u : Option UnitState) → AtUnit (IsLinked side drawn wires (Some k)) u → TakesInOrder k
 linked-takes side drawn wires k None l = absurd l
@@ -110,8 +110,8 @@ linked-takes side drawn wires k (Some u) l =
     let codes : Sequence ℕ = each code (commands k.orb k.now.acts) in
     (reverse l.later, ap (λ (xs : List ℕ). xs ++ reverse l.later) (in_order-backward k.taken) ∙ sym (reverse-append l.later (backward k.taken)) ∙ ap reverse (sym l.order) ∙ reverse-reverse (drop k.earlier (reverse (backward codes))) ∙ ap (drop k.earlier) (sym (in_order-backward codes)))
 
-pub run-takes : AreWalks → (setup : Setup) → IsLawful setup → AllAbove setup → AllNeeds setup → (h : List Entry) (s : State) (run : Run (opening_of setup) h s) (place : ℕ) (sub : Subchannel) (k : ProgramTrace) →
-    slice_get s.subs place ≡ Some sub → trace place (opening_of setup) h s run ≡ Some k → TakesInOrder k
-run-takes walks setup lawful above needs h s run place sub k at e =
+pub run-takes : AreWalks → (setup : Setup) → IsLawful setup → AllAbove setup → AllNeeds setup → (h : List Entry) (s : State) (run : Run (opening_of setup) h s) (index : ℕ) (sub : Subchannel) (k : ProgramTrace) →
+    slice_get s.subs index ≡ Some sub → trace index (opening_of setup) h s run ≡ Some k → TakesInOrder k
+run-takes walks setup lawful above needs h s run index sub k at e =
     linked-takes sub.setup.side sub.state.drawn sub.wires.down k (slice_get s.units sub.setup.«unit»)
-    (subst (λ (x : Option ProgramTrace). AtUnit (IsLinked sub.setup.side sub.state.drawn sub.wires.down x) (slice_get s.units sub.setup.«unit»)) e (run-linked walks setup lawful above needs h s run place sub at))
+    (subst (λ (x : Option ProgramTrace). AtUnit (IsLinked sub.setup.side sub.state.drawn sub.wires.down x) (slice_get s.units sub.setup.«unit»)) e (run-linked walks setup lawful above needs h s run index sub at))

@@ -12,7 +12,7 @@ use Rattle.chan_model.specs.declared.hold_state.HoldPhase.TheVariants as hold
 use Rattle.chan_model.specs.declared.hold_state.HoldState.{HoldState}
 use Rattle.chan_model.specs.Signals.{Load, Up, load_bytes}
 use Rattle.chan_model.specs.declared.signal.Up.TheVariants as up
-use Rattle.chan_model.specs.HoldTable.{HoldStep, hold_after, came_of, is_connected, is_on}
+use Rattle.chan_model.specs.HoldTable.{HoldStep, hold_after, outcome_of, is_connected, is_on}
 use Rattle.chan_model.specs.HoldTable as hold_table
 use Rattle.chan_model.specs.Loads.{load_length}
 use Rattle.chan_model.specs.UnitReports.{is_outward, has_device_end}
@@ -23,10 +23,10 @@ use Rattle.ccw_walk.specs.Sequences.{Sequence, Nothing, ◌▸◌, ◌▸▸◌,
 use Rattle.ccw_walk.specs.Acts.{Act, Block, Unfetched, Used_up, End, Word}
 use Rattle.ccw_walk.specs.Blocks.{reads}
 use Rattle.ccw_walk.specs.Programs.{Command, join_last, commands_after, commands, code, role_of}
-use Rattle.ccw_walk.specs.Places.{WalkPlace, walk_place}
+use Rattle.ccw_walk.specs.Positions.{WalkPosition, walk_position}
 use Rattle.data_move.specs.declared.transfer.Transfer.{Transfer}
 use Rattle.data_move.specs.declared.transfer.CommandStart.{CommandStart}
-use Rattle.data_move.specs.declared.transfer.CommandStart.TheVariants as came
+use Rattle.data_move.specs.declared.transfer.CommandStart.TheVariants as outcome
 use Rattle.data_move.specs.Commands.{first_command, next_command, located_transfer, has_stopped}
 use Rattle.data_move.specs.DataChaining.{with_bytes_moved, chains_data}
 use Rattle.data_move.specs.ToDevice.{with_chunk_counted, chunk_absorbed}
@@ -161,7 +161,7 @@ takes_in-on storage t s bytes k =
     on-then k (arriving storage t s bytes k) (takes_in storage t s bytes k) (arriving-on storage t s bytes k)
     (located_acts (chunk_stored storage t s bytes).storage (chunk_stored storage t s bytes).transfer, refl)
 
--- a story in which the codes grew or stayed, or before any was sent, and the device took and absorbed nothing
+-- a trace in which the codes grew or stayed, or before any was sent, and the device took and absorbed nothing
 abbrev pub IsMore : ProgramTrace → ProgramTrace → Type 0
 IsMore k new = Adds (codes_of k) (codes_of new) ⊎ (k.sent ≡ 0)
 
@@ -191,19 +191,19 @@ now-grown k now a =
     }
 
 chains_at_device_end-grown : (storage : Contents) (c : CommandStart) (acts : Sequence Act) (k : ProgramTrace) → IsGrown k (trace_goes_on storage c acts k)
-chains_at_device_end-grown storage (came.Begins t) acts k = record { number = refl; taken = refl; absorbed = refl; sent = omega arith; codes = inl (codes-add k acts) }
-chains_at_device_end-grown storage came.Suspends acts k = now-grown k (with_acts k.now acts) (acts, refl)
-chains_at_device_end-grown storage (came.Stops check) acts k = now-grown k (with_acts k.now acts) (acts, refl)
+chains_at_device_end-grown storage (outcome.Begins t) acts k = record { number = refl; taken = refl; absorbed = refl; sent = omega arith; codes = inl (codes-add k acts) }
+chains_at_device_end-grown storage outcome.Suspends acts k = now-grown k (with_acts k.now acts) (acts, refl)
+chains_at_device_end-grown storage (outcome.Stops check) acts k = now-grown k (with_acts k.now acts) (acts, refl)
 
 -- where none was sent
-begins-grown : (storage : Contents) (walk : WalkPlace) (k new : ProgramTrace) → k.sent ≡ 0 → new.number ≡ k.number → new.taken ≡ k.taken → new.absorbed ≡ k.absorbed →
+begins-grown : (storage : Contents) (walk : WalkPosition) (k new : ProgramTrace) → k.sent ≡ 0 → new.number ≡ k.number → new.taken ≡ k.taken → new.absorbed ≡ k.absorbed →
     IsGrown k (trace_begins storage walk new)
-begins-grown storage walk k new e f g h = by (first_command storage walk).came
+begins-grown storage walk k new e f g h = by (first_command storage walk).outcome
   where
     by : (c : CommandStart) → IsGrown k (trace_goes_on storage c (first_acts storage walk) new)
-    by (came.Begins t) = record { number = f; taken = g; absorbed = h; sent = omega (arith, e); codes = inr e }
-    by came.Suspends = record { number = f; taken = g; absorbed = h; sent = omega (arith, e); codes = inr e }
-    by (came.Stops check) = record { number = f; taken = g; absorbed = h; sent = omega (arith, e); codes = inr e }
+    by (outcome.Begins t) = record { number = f; taken = g; absorbed = h; sent = omega (arith, e); codes = inr e }
+    by outcome.Suspends = record { number = f; taken = g; absorbed = h; sent = omega (arith, e); codes = inr e }
+    by (outcome.Stops check) = record { number = f; taken = g; absorbed = h; sent = omega (arith, e); codes = inr e }
 
 again-grown : (storage : Contents) (suspended : Option ProgramPosition) (start : ℕ) (k : ProgramTrace) → k.sent ≡ 0 → IsGrown k (again_as storage suspended start k)
 again-grown storage None start k e = same-grown k
@@ -216,7 +216,7 @@ begins_as-grown : (storage : Contents) (waiting : Option Program) (suspended : O
 begins_as-grown storage None suspended start k e = again-grown storage suspended start k e
 begins_as-grown storage (Some program) suspended start k e =
     if-grown k (program.start == start) (begins_anew storage program k) (again_as storage suspended start k)
-    (begins-grown storage (walk_place program.orb Nothing) k (record k { orb = program.orb; earlier = 0; now = no_trace }) e refl refl refl)
+    (begins-grown storage (walk_position program.orb Nothing) k (record k { orb = program.orb; earlier = 0; now = no_trace }) e refl refl refl)
     (again-grown storage suspended start k e)
 
 accepted_at-grown : (storage : Contents) (phase : HoldPhase) (s : SubchannelState) (k : ProgramTrace) → k.sent ≡ 0 → IsGrown k (accepted_at storage phase s k)
@@ -224,7 +224,7 @@ accepted_at-grown storage (hold.On t p c) s k e = begins_as-grown storage s.wait
 accepted_at-grown storage other s k e = same-grown k
 
 accepted-grown : (storage : Contents) (s : SubchannelState) (step : Option HoldStep) (k : ProgramTrace) → k.sent ≡ 0 → IsGrown k (trace_accepted storage s step k)
-accepted-grown storage s step k e = if-grown k (came_of step).taken _ k (accepted_at-grown storage (hold_after s.hold step).phase s k e) (same-grown k)
+accepted-grown storage s step k e = if-grown k (outcome_of step).taken _ k (accepted_at-grown storage (hold_after s.hold step).phase s k e) (same-grown k)
 
 -- Accept is taken at an offer alone
 abbrev pub IsUnbegun : HoldPhase → ProgramTrace → Type 0
@@ -249,7 +249,7 @@ chains-grown storage s b status more k =
     let acts : Sequence Act = Nothing ▸ End (record { goes_on = false; modifier = has_status_modifier status }) in
     if-grown k (chains_command s.scsw b status more) _ (ends_alone status k)
     (if-grown k (has_device_end status) _ (with_ended k)
-    (chains_at_device_end-grown storage (next_command storage b.transfer (has_status_modifier status)).came (next_acts storage b.transfer (has_status_modifier status)) k)
+    (chains_at_device_end-grown storage (next_command storage b.transfer (has_status_modifier status)).outcome (next_acts storage b.transfer (has_status_modifier status)) k)
     (now-grown k (record k.now { ended = true }) (Nothing, refl)))
     (now-grown k (record k.now { acts = k.now.acts ▸▸ acts; ended = true; unchained = true }) (acts, refl))
 

@@ -19,7 +19,7 @@ use Rattle.chan_model.specs.declared.unit_state.Connection.TheVariants.{On}
 use Rattle.chan_model.specs.declared.unit_state.SideState.{SideState}
 use Rattle.chan_model.specs.declared.unit_state.UnitState.{UnitState}
 use Rattle.chan_model.specs.Sides.{same_side}
-use Rattle.chan_model.specs.UnitTable.{resets, UnitStep, came_of, changes, sends, new_command, side_of, with_side, owns, is_owner, freed, raised, selected, telling, unit_works, unit_takes, unit_after, held, reset_side, without_side}
+use Rattle.chan_model.specs.UnitTable.{resets, UnitStep, outcome_of, changes, sends, new_command, side_of, with_side, owns, is_owner, freed, raised, selected, telling, unit_works, unit_takes, unit_after, held, reset_side, without_side}
 use Rattle.wires.specs.Queues.{queue, taken}
 use Rattle.subchannel_model.specs.Sending.{with_any_sent}
 use Rattle.run_laws.proofs.Traces.MachineTraces.{silent}
@@ -198,9 +198,9 @@ ordered-still side drawn number sent codes took wires u v s k =
     record { later = k.later; order = k.order; most = k.most; downs = k.downs; kept = numbered-still side drawn number took u v s k.kept }
 
 -- Select
-same-owner : (side : Side) (t n : ℕ) (place : Connection) → is_owner (own.Owned side t place) side n ≡ true → n ≡ t
-same-owner First t n place e = eqb-true n t e
-same-owner Second t n place e = eqb-true n t e
+same-owner : (side : Side) (t n : ℕ) (connection : Connection) → is_owner (own.Owned side t connection) side n ≡ true → n ≡ t
+same-owner First t n connection e = eqb-true n t e
+same-owner Second t n connection e = eqb-true n t e
 
 here-side : (side : Side) (u : UnitState) (s : SideState) → side_of (with_side u side s) side ≡ s
 here-side First u s = refl
@@ -246,7 +246,7 @@ selected-numbered : (side : Side) (drawn number : ℕ) (took : List ℕ) (u : Un
     IsNumbered side drawn number took u → IsNumbered side drawn number took (unit_after u (selected (raised u side t) o side p t may))
 selected-numbered side drawn number took u own.Idle p t true old most le lt k = held-numbered side drawn number took u t p old most le lt k
 selected-numbered side drawn number took u own.Idle p t false old most le lt k = raised-numbered side drawn number took u t most le lt k
-selected-numbered side drawn number took u (own.Owned j v place) p t may old most le lt k = raised-numbered side drawn number took u t most le lt k
+selected-numbered side drawn number took u (own.Owned j v connection) p t may old most le lt k = raised-numbered side drawn number took u t most le lt k
 
 select-numbered : (side : Side) (drawn number : ℕ) (took : List ℕ) (u : UnitState) (p t : ℕ) (may : Bool) (c : Bool) → nat_lt (side_of u side).floor t ≡ c → (side_of u side).fresh ≡ false → number ≤ drawn → t ≤ number →
     IsNumbered side drawn number took u → IsNumbered side drawn number took (unit_after u (if c then selected (raised u side t) u.own side p t may else None))
@@ -272,11 +272,11 @@ takes-next codes took n code o k e =
 
 -- the unit's state with the next command
 abbrev pub next_commanded : UnitState → ℕ → Option CurrentCommand → UnitState
-next_commanded u n x = record u { last_command = n; at_hand = x }
+next_commanded u n x = record u { last_command = n; current = x }
 
 pub one-number : (o : Own) (side : Side) (t n : ℕ) → is_owner o side t ≡ true → is_owner o side n ≡ true → t ≡ n
 one-number own.Idle side t n e f = absurd (cc e)
-one-number (own.Owned k v place) side t n e f =
+one-number (own.Owned k v connection) side t n e f =
     let a : (t == v) ≡ true = (and_parts (same_side k side) (t == v) e).1 in
     let b : (n == v) ≡ true = (and_parts (same_side k side) (n == v) f).1 in
     eqb-true t v a ∙ sym (eqb-true n v b)
@@ -329,7 +329,7 @@ took_after number true d took = took
 took_after number false d took = took
 
 abbrev pub IsTaken : Side → ℕ → ℕ → ℕ → List ℕ → List ℕ → List (List Down) → UnitState → Down → Option UnitStep → Type 0
-IsTaken side drawn number sent codes took wires u d step = IsOrdered side drawn number sent codes (took_after number (silent (came_of step)) d took) wires (unit_after u step)
+IsTaken side drawn number sent codes took wires u d step = IsOrdered side drawn number sent codes (took_after number (silent (outcome_of step)) d took) wires (unit_after u step)
 
 commanded-if : (side : Side) (drawn number sent : ℕ) (codes took : List ℕ) (wires : List (List Down)) (u : UnitState) (t n code room : ℕ) (x : Option CurrentCommand) (owner next : Bool) →
     is_owner u.own side t ≡ owner → (n == u.last_command + 1) ≡ next → IsCommanded number sent codes t n code → IsOrdered side drawn number sent codes took wires u →
@@ -368,19 +368,19 @@ mild-taken : (may : Bool) → (side : Side) (drawn number sent : ℕ) (codes too
     IsOrdered side drawn number sent codes took wires u → IsTaken side drawn number sent codes took wires u d (unit_takes u side p d may)
 mild-taken may side drawn number sent codes took wires u p d m k =
     subst (λ (l : List ℕ). IsOrdered side drawn number sent codes l wires (unit_after u (unit_takes u side p d may)))
-    (sym (mild-took number (silent (came_of (unit_takes u side p d may))) d took m))
+    (sym (mild-took number (silent (outcome_of (unit_takes u side p d may))) d took m))
     (ordered-still side drawn number sent codes took wires u (unit_after u (unit_takes u side p d may)) (mild-still side u side p d may m) k)
 
 selected-taken : (side : Side) (drawn number sent : ℕ) (codes took : List ℕ) (wires : List (List Down)) (u : UnitState) (t : ℕ) (step : Option UnitStep) →
     IsNumbered side drawn number took (unit_after u step) → IsOrdered side drawn number sent codes took wires u → IsTaken side drawn number sent codes took wires u (down.Select t) step
 selected-taken side drawn number sent codes took wires u t step n k =
-    subst (λ (l : List ℕ). IsOrdered side drawn number sent codes l wires (unit_after u step)) (sym (select-took number (silent (came_of step)) t took))
+    subst (λ (l : List ℕ). IsOrdered side drawn number sent codes l wires (unit_after u step)) (sym (select-took number (silent (outcome_of step)) t took))
     (record { later = k.later; order = k.order; most = k.most; downs = k.downs; kept = n })
 
 -- Reset: no program of its side holds the device
 unowned : (o : Own) (side : Side) (t : ℕ) → owns o side ≡ false → is_owner o side t ≡ true → ⊥
 unowned own.Idle side t e f = absurd (cc f)
-unowned (own.Owned k v place) side t e f = absurd (cc (sym e ∙ (and_parts (same_side k side) (t == v) f).0))
+unowned (own.Owned k v connection) side t e f = absurd (cc (sym e ∙ (and_parts (same_side k side) (t == v) f).0))
 
 freed-unowned : (side : Side) (u : UnitState) (c : Bool) (t : ℕ) → owns u.own side ≡ c → is_owner (if c then freed u else u).own side t ≡ true → ⊥
 freed-unowned side u true t e f = absurd (cc f)

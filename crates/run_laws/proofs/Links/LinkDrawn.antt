@@ -7,12 +7,12 @@ use Rattle.chan_model.specs.declared.hold_state.HoldPhase.TheVariants as hold
 use Rattle.chan_model.specs.Signals.{Down, Load, Up}
 use Rattle.chan_model.specs.declared.signal.Taken.{Taken}
 use Rattle.chan_model.specs.declared.signal.Up.TheVariants as up
-use Rattle.chan_model.specs.HoldTable.{HoldStep, hold_takes, hold_after, came_of, is_connected, is_on}
+use Rattle.chan_model.specs.HoldTable.{HoldStep, hold_takes, hold_after, outcome_of, is_connected, is_on}
 use Rattle.chan_model.specs.UnitReports.{is_last_end, is_outward, has_device_end}
-use Rattle.ccw_walk.specs.Places.{WalkPlace}
+use Rattle.ccw_walk.specs.Positions.{WalkPosition}
 use Rattle.data_move.specs.Moving.{residual}
 use Rattle.data_move.specs.declared.transfer.CommandStart.{CommandStart}
-use Rattle.data_move.specs.declared.transfer.CommandStart.TheVariants as came
+use Rattle.data_move.specs.declared.transfer.CommandStart.TheVariants as outcome
 use Rattle.data_move.specs.declared.transfer.Transfer.{Transfer}
 use Rattle.data_move.specs.Commands.{first_command, next_command, begun_with_room}
 use Rattle.data_move.specs.ChunkNumbers.{is_answered}
@@ -51,14 +51,14 @@ module _ (storage : Contents) where
   if-met s false x y e f = f
 
   -- Accept
-  beginning-same : (s : SubchannelState) (p t : ℕ) (st : ProgramPosition) (walk : WalkPlace) (r : CommandStart) → IsSame s (first_ccw_outcome storage s p t st walk r)
-  beginning-same s p t st walk (came.Begins transfer) = (interrupted-work (with_program_at_work s st.program (begun_with_room storage transfer).transfer) _ refl).kept.drawn
-  beginning-same s p t st walk came.Suspends = (suspending-workless s st.program walk st.count).kept.drawn
-  beginning-same s p t st walk (came.Stops check) = (cause-kept s (cause.FetchFault walk.tried check st.count)).drawn
+  beginning-same : (s : SubchannelState) (p t : ℕ) (st : ProgramPosition) (walk : WalkPosition) (r : CommandStart) → IsSame s (first_ccw_outcome storage s p t st walk r)
+  beginning-same s p t st walk (outcome.Begins transfer) = (interrupted-work (with_program_at_work s st.program (begun_with_room storage transfer).transfer) _ refl).kept.drawn
+  beginning-same s p t st walk outcome.Suspends = (suspending-workless s st.program walk st.count).kept.drawn
+  beginning-same s p t st walk (outcome.Stops check) = (cause-kept s (cause.FetchFault walk.tried check st.count)).drawn
 
   standing-same : (s : SubchannelState) (p t : ℕ) (st : Option ProgramPosition) → IsSame s (begins_at storage s p t st)
   standing-same s p t None = refl
-  standing-same s p t (Some st) = beginning-same s p t st (first_command storage st.walk).walk (first_command storage st.walk).came
+  standing-same s p t (Some st) = beginning-same s p t st (first_command storage st.walk).walk (first_command storage st.walk).outcome
 
   accepted_in_phase-same : (s : SubchannelState) (phase : HoldPhase) (taken : Taken Down) → IsSame s (accepted_in_phase storage s phase taken)
   accepted_in_phase-same s (hold.On t p c) taken = standing-same (record s { pmcw = with_path_used s.pmcw p }) p t (offered_position s)
@@ -67,7 +67,7 @@ module _ (storage : Contents) where
 
   accept-same : (s : SubchannelState) (step : Option HoldStep) → IsSame s (takes_accept storage s step)
   accept-same s step =
-      if-same s (came_of step).taken _ _ (accepted_in_phase-same (record s { hold = hold_after s.hold step }) (hold_after s.hold step).phase (came_of step)) refl
+      if-same s (outcome_of step).taken _ _ (accepted_in_phase-same (record s { hold = hold_after s.hold step }) (hold_after s.hold step).phase (outcome_of step)) refl
 
   -- Data
   moving-same : (s : SubchannelState) (b : ActiveProgram) (t : Transfer) → (after_chunk s b t).drawn ≡ s.drawn
@@ -81,15 +81,15 @@ module _ (storage : Contents) where
   moves_data-same s (Some b) signal load = if-met s (is_answered b.transfer signal.command signal.sequence) _ _ (moves_bytes-same s b signal load) refl
 
   -- End
-  chaining-same : (s : SubchannelState) (b : ActiveProgram) (signal : EndSignal) (walk : WalkPlace) (r : CommandStart) → IsSame s (next_ccw_outcome storage s b signal walk r)
-  chaining-same s b signal walk (came.Begins transfer) = moving-same s b (begun_with_room storage transfer).transfer
-  chaining-same s b signal walk came.Suspends = (suspending-workless (with_allegiance_after_end s signal) b.program walk (residual b.transfer.moving)).kept.drawn
-  chaining-same s b signal walk (came.Stops check) = (cause-kept (with_allegiance_after_end s signal) (cause.FetchFault walk.tried check (residual b.transfer.moving))).drawn
+  chaining-same : (s : SubchannelState) (b : ActiveProgram) (signal : EndSignal) (walk : WalkPosition) (r : CommandStart) → IsSame s (next_ccw_outcome storage s b signal walk r)
+  chaining-same s b signal walk (outcome.Begins transfer) = moving-same s b (begun_with_room storage transfer).transfer
+  chaining-same s b signal walk outcome.Suspends = (suspending-workless (with_allegiance_after_end s signal) b.program walk (residual b.transfer.moving)).kept.drawn
+  chaining-same s b signal walk (outcome.Stops check) = (cause-kept (with_allegiance_after_end s signal) (cause.FetchFault walk.tried check (residual b.transfer.moving))).drawn
 
   chains_at_device_end-same : (s : SubchannelState) (b : ActiveProgram) (signal : EndSignal) → IsSame s (chains_at_device_end storage s b signal)
   chains_at_device_end-same s b signal =
       if-same s (has_device_end signal.status) _ _
-      (chaining-same s b signal (next_command storage b.transfer (has_status_modifier signal.status)).walk (next_command storage b.transfer (has_status_modifier signal.status)).came) refl
+      (chaining-same s b signal (next_command storage b.transfer (has_status_modifier signal.status)).walk (next_command storage b.transfer (has_status_modifier signal.status)).outcome) refl
 
   concludes-same : (s : SubchannelState) (b : ActiveProgram) (signal : EndSignal) → IsSame s (concludes s b signal)
   concludes-same s b signal = if-same s (is_last_end signal.status) _ _ (cause-kept s (cause.End b signal.status signal.more)).drawn (cause-kept s (cause.End b signal.status signal.more)).drawn
@@ -128,5 +128,5 @@ module _ (storage : Contents) where
   up-drawn returns s p (up.Notice b) = notice-less s b (nat_lt s.hold.known b)
   up-drawn returns s p (up.Attn a status) =
       let step : Option HoldStep = hold_takes s.hold p (up.Attn a status) (on_attention.may_take_attention s) in
-      no-less s.drawn _ (attention-drawn (record s { hold = hold_after s.hold step }) ((came_of step).taken && not (status.0 == 0x20)))
+      no-less s.drawn _ (attention-drawn (record s { hold = hold_after s.hold step }) ((outcome_of step).taken && not (status.0 == 0x20)))
   up-drawn returns s p x = omega arith

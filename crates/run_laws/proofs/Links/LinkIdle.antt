@@ -8,7 +8,7 @@ use Rattle.chan_model.specs.declared.hold_state.HoldPhase.TheVariants as hold
 use Rattle.chan_model.specs.Signals.{Load, Up}
 use Rattle.chan_model.specs.declared.signal.Up.TheVariants as up
 use Rattle.chan_model.specs.HoldTable as hold_table
-use Rattle.chan_model.specs.HoldTable.{HoldStep, hold_after, came_of, is_connected, is_on, left, asked_back, found_busy, released, reset_cleared, attended}
+use Rattle.chan_model.specs.HoldTable.{HoldStep, hold_after, outcome_of, is_connected, is_on, left, asked_back, found_busy, released, reset_cleared, attended}
 use Rattle.subchannel_model.specs.Notice as on_notice
 use Rattle.subchannel_model.specs.declared.signals.DataSignal.{DataSignal}
 use Rattle.subchannel_model.specs.declared.signals.EndSignal.{EndSignal}
@@ -32,10 +32,10 @@ use Rattle.run_laws.proofs.Traces.MachineTraces.{trace_meets}
 use Rattle.run_laws.proofs.Traces.Caused.{clear-begun, attention-begun}
 use Rattle.run_laws.proofs.Commands.LinkSent.{IsOfHold, SendsHoldSignal, busy-mutters, left-mutters, back-mutters, released-mutters, cleared-mutters, attended-mutters}
 
--- the hold alone sends, no program begins or ends, and the story stays
+-- the hold alone sends, no program begins or ends, and the trace stays
 pub record IsIdle (s : SubchannelState) (step : UpStep) (f : ProgramTrace → ProgramTrace) : Type 0 where
   pub begun : step.state.begun ≡ s.begun
-  pub sends : IfSome step.came.sent (λ d. IsOfHold d.signal)
+  pub sends : IfSome step.outcome.sent (λ d. IsOfHold d.signal)
   pub same : (k : ProgramTrace) → f k ≡ k
 
 abbrev pub IsNoOffer : HoldPhase → Type 0
@@ -79,7 +79,7 @@ module _ (storage : Contents) (s : SubchannelState) (none : s.begun ≡ None) wh
 
   attend-idle : (status : DeviceStatus) (step : Option HoldStep) → SendsHoldSignal step → IsIdle s (on_attention.takes_attention s status step) (λ k. k)
   attend-idle status step m = record {
-    begun = attention-begun (record s { hold = hold_after s.hold step }) ((came_of step).taken && not (status.0 == 0x20));
+    begun = attention-begun (record s { hold = hold_after s.hold step }) ((outcome_of step).taken && not (status.0 == 0x20));
     sends = m;
     same = λ k. refl;
   }

@@ -17,18 +17,18 @@ use Rattle.chan_model.specs.declared.signal.Up.TheVariants as up
 use Rattle.chan_model.specs.declared.unit_state.CurrentCommand.{CurrentCommand}
 use Rattle.chan_model.specs.declared.unit_state.UnitState.{UnitState}
 use Rattle.chan_model.specs.HoldTable as hold_table
-use Rattle.chan_model.specs.HoldTable.{HoldStep, hold_after, came_of, is_connected, is_on, letting_go, left, asked_back, found_busy, released, reset_cleared, attended}
+use Rattle.chan_model.specs.HoldTable.{HoldStep, hold_after, outcome_of, is_connected, is_on, letting_go, left, asked_back, found_busy, released, reset_cleared, attended}
 use Rattle.chan_model.specs.Loads.{load_length}
 use Rattle.chan_model.specs.UnitReports.{is_outward, is_last_end, has_device_end}
 use Rattle.ccw_walk.specs.Sequences.{Sequence, ◌▸◌, ◌▸▸◌, count}
 use Rattle.ccw_walk.specs.Acts.{Act, End}
 use Rattle.ccw_walk.specs.Programs.{commands}
-use Rattle.ccw_walk.specs.Places.{WalkPlace, after_command_end}
+use Rattle.ccw_walk.specs.Positions.{WalkPosition, after_command_end}
 use Rattle.idaw.specs.Places.{each_below}
 use Rattle.data_move.specs.Moving.{residual, room}
 use Rattle.data_move.specs.declared.transfer.Transfer.{Transfer}
 use Rattle.data_move.specs.declared.transfer.CommandStart.{CommandStart}
-use Rattle.data_move.specs.declared.transfer.CommandStart.TheVariants as came
+use Rattle.data_move.specs.declared.transfer.CommandStart.TheVariants as outcome
 use Rattle.data_move.specs.declared.transfer.NextChunk.{NextChunk}
 use Rattle.data_move.specs.Commands.{first_command, next_command, begun_with_room, with_room}
 use Rattle.data_move.specs.FromDevice.{StoredChunk, chunk_stored}
@@ -76,9 +76,9 @@ use Rattle.run_laws.proofs.Commands.UnitGrowth.{codes_of}
 use Rattle.run_laws.proofs.Commands.LinkSent.{IsOfHold, SendsHoldSignal, busy-mutters, left-mutters, back-mutters, released-mutters, cleared-mutters, attended-mutters, letting-mutters}
 use Rattle.run_laws.proofs.Links.LinkNeeds.{IsLast, on-number, connected-number, held-needs}
 use Rattle.run_laws.proofs.Links.LinkViews.{view_of, answers-view, repeats-view, goes-new, current-facts}
-use Rattle.run_laws.proofs.Links.LinkWires.{HandClosed, IsClosed, IsGiving, IsTelling, IsWired, wired-holds, sent-hold}
+use Rattle.run_laws.proofs.Links.LinkWires.{CurrentClosed, IsClosed, IsGiving, IsTelling, IsWired, wired-holds, sent-hold}
 use Rattle.run_laws.proofs.Bytes.LinkCourses.{mode-marked, mode-ended, mode-with, interrupted-mode, flow-absorbs, absorbs-on}
-use Rattle.run_laws.proofs.Bytes.LinkModes.{AnyGive, NoGive, AnyData, HandPlain, HandFlow, Mode, Waits, Over, Reads, Writes, mode-carried, absorbs-none}
+use Rattle.run_laws.proofs.Bytes.LinkModes.{AnyGive, NoGive, AnyData, CurrentPlain, CurrentFlow, Mode, Waits, Over, Reads, Writes, mode-carried, absorbs-none}
 use Rattle.run_laws.proofs.Traces.Sequences.{backward}
 
 -- any but a Notice, which may empty what is begun
@@ -89,7 +89,7 @@ IsNoNotice signal = Unit {0}
 module _ (laws : AreLaws) (accesses : AreAccesses) (storage : Contents) (side : Side) (s : SubchannelState) (k : ProgramTrace) (downs : List (List Down)) (ups : List (List Up)) (u : UnitState) (path : ℕ)
     (held : IsHeld s k) (mode : Mode side s.begun k downs ups u) where
   abbrev Goes : UpStep → ProgramTrace → Type 0
-  Goes step new = Mode side step.state.begun new (with_any_sent downs step.came.sent) (taken ups path) u
+  Goes step new = Mode side step.state.begun new (with_any_sent downs step.outcome.sent) (taken ups path) u
 
   abbrev m : ℕ
   m = length (backward k.taken)
@@ -102,11 +102,11 @@ module _ (laws : AreLaws) (accesses : AreAccesses) (storage : Contents) (side : 
       (λ P Q R f w. wired-holds side k.number m P P Q Q R R downs ups u one path (λ x y. y) (λ i bytes y. y) (λ i l y. y) (sent-hold k.number m Q one h) w) mode)
 
   hold_outcome-goes : (step : Option HoldStep) → SendsHoldSignal step → Goes (outcomes.hold_outcome s step) k
-  hold_outcome-goes step h = quiet s.begun (came_of step).sent refl h
+  hold_outcome-goes step h = quiet s.begun (outcome_of step).sent refl h
 
   -- wires, where the device's command is over
   abbrev Closed : List (List Down) → List (List Up) → Type 0
-  Closed d x = IsWired side k.number m HandClosed AnyGive AnyData d x u
+  Closed d x = IsWired side k.number m CurrentClosed AnyGive AnyData d x u
 
   closed-holds : (P : Option CurrentCommand → Type 0) (Q : ℕ → List ℕ → Type 0) (R : ℕ → Load → Type 0) (one : Option (OnPath Down)) → IsClosed side k.number u → IfSome one (λ d. IsGiving k.number m AnyGive d.signal) →
       IsWired side k.number m P Q R downs ups u → Closed (with_any_sent downs one) (taken ups path)
@@ -131,27 +131,27 @@ module _ (laws : AreLaws) (accesses : AreAccesses) (storage : Contents) (side : 
       Goes (outcomes.device_released x) (record (from orb earlier part) { now = with_acts part acts })
   device_released-goes x orb earlier part acts e n z =
       let f = over-facts s.begun mode n in
-      let one : Option (OnPath Down) = (came_of (letting_go x.hold x.hold.phase)).sent in
+      let one : Option (OnPath Down) = (outcome_of (letting_go x.hold x.hold.phase)).sent in
       Over e f.0 f.1 (absorbs-none orb (with_acts part acts) k.absorbed (f.1 z))
-      (wired-holds side k.number m HandClosed HandClosed AnyGive AnyGive AnyData AnyData downs ups u one path (λ x y. y) (λ i bytes y. y) (λ i l y. y)
+      (wired-holds side k.number m CurrentClosed CurrentClosed AnyGive AnyGive AnyData AnyData downs ups u one path (λ x y. y) (λ i bytes y. y) (λ i l y. y)
       (sent-hold k.number m AnyGive one (letting-mutters x.hold x.hold.phase)) f.2)
 
-  begins-goes : (r : SubchannelState) (p t : ℕ) (st : ProgramPosition) (walk : WalkPlace) (c : CommandStart) (orb : Orb) (earlier : ℕ) (part : CommandTrace) → (first_command storage st.walk).came ≡ c → r.begun ≡ s.begun →
+  begins-goes : (r : SubchannelState) (p t : ℕ) (st : ProgramPosition) (walk : WalkPosition) (c : CommandStart) (orb : Orb) (earlier : ℕ) (part : CommandTrace) → (first_command storage st.walk).outcome ≡ c → r.begun ≡ s.begun →
       s.begun ≡ None → k.sent ≡ 0 →
       Goes (on_accept.first_ccw_outcome storage r p t st walk c) (stories.trace_goes_on storage c (first_acts storage st.walk) (from orb earlier part))
-  begins-goes r p t st walk (came.Begins tr) orb earlier part c e n z =
+  begins-goes r p t st walk (outcome.Begins tr) orb earlier part c e n z =
       let f = over-facts s.begun mode n in
       let x : Transfer = (begun_with_room storage tr).transfer in
       let b : ActiveProgram = record { program = st.program; primary_shown = false; transfer = x } in
       let one : Option (OnPath Down) = Some (record { path = p; signal = down.Command t x.command x.code (begun_with_room storage tr).room }) in
-      let new : ProgramTrace = stories.trace_goes_on storage (came.Begins tr) (first_acts storage st.walk) (from orb earlier part) in
+      let new : ProgramTrace = stories.trace_goes_on storage (outcome.Begins tr) (first_acts storage st.walk) (from orb earlier part) in
       let made : Mode side (Some b) new (with_any_sent downs one) (taken ups path) u =
       Waits b refl (ap (λ (i : ℕ). i + 1) f.0) (room-seq storage tr ∙ goes-new storage 1 st.walk tr c) refl (absorbs-none orb part k.absorbed (f.1 z))
-      (wired-holds side k.number m HandClosed HandClosed AnyGive AnyGive AnyData AnyData downs ups u one path (λ x y. y) (λ i bytes y. y) (λ i l y. y) tt f.2) in
+      (wired-holds side k.number m CurrentClosed CurrentClosed AnyGive AnyGive AnyData AnyData downs ups u one path (λ x y. y) (λ i bytes y. y) (λ i l y. y) tt f.2) in
       interrupted-mode side (on_accept.with_program_at_work r st.program x) b new (with_any_sent downs one) (taken ups path) u refl made
-  begins-goes r p t st walk came.Suspends orb earlier part c e n z =
+  begins-goes r p t st walk outcome.Suspends orb earlier part c e n z =
       device_released-goes (suspension.program_suspended r st.program walk st.count) orb earlier part (first_acts storage st.walk) (suspending-workless r st.program walk st.count).begun n z
-  begins-goes r p t st walk (came.Stops check) orb earlier part c e n z =
+  begins-goes r p t st walk (outcome.Stops check) orb earlier part c e n z =
       device_released-goes (with_cause r (cause.FetchFault walk.tried check st.count)) orb earlier part (first_acts storage st.walk) (fault-begun r r.begun refl) n z
 
   again-goes : (r : SubchannelState) (p t start : ℕ) (suspended : Option ProgramPosition) → r.begun ≡ s.begun → s.begun ≡ None → k.sent ≡ 0 →
@@ -161,7 +161,7 @@ module _ (laws : AreLaws) (accesses : AreAccesses) (storage : Contents) (side : 
     where
       by : (b : Bool) → Goes (on_accept.begins_at storage r p t (if b then Some st else None)) (if b then stories.begins_again storage st k else k)
       by true =
-          begins-goes r p t st (first_command storage st.walk).walk (first_command storage st.walk).came k.orb (count (commands k.orb k.now.acts)) (traced.past_part k.now) refl e n z
+          begins-goes r p t st (first_command storage st.walk).walk (first_command storage st.walk).outcome k.orb (count (commands k.orb k.now.acts)) (traced.past_part k.now) refl e n z
       by false = quiet r.begun None e tt
 
   standing-goes : (r : SubchannelState) (p t start : ℕ) (waiting : Option Program) (suspended : Option ProgramPosition) → r.begun ≡ s.begun → s.begun ≡ None → k.sent ≡ 0 →
@@ -173,7 +173,7 @@ module _ (laws : AreLaws) (accesses : AreAccesses) (storage : Contents) (side : 
           (if b then stories.begins_anew storage program k else stories.again_as storage suspended start k)
       by true =
           let st : ProgramPosition = position_at_start program in
-          begins-goes r p t st (first_command storage st.walk).walk (first_command storage st.walk).came program.orb 0 no_trace refl e n z
+          begins-goes r p t st (first_command storage st.walk).walk (first_command storage st.walk).outcome program.orb 0 no_trace refl e n z
       by false = again-goes r p t start suspended e n z
 
   begun-goes : (h : HoldState) (t p : ℕ) (may : Bool) → s.begun ≡ None → k.sent ≡ 0 →
@@ -219,14 +219,14 @@ module _ (laws : AreLaws) (accesses : AreAccesses) (storage : Contents) (side : 
 
   -- a read
   reads-goes : (b : ActiveProgram) (signal : DataSignal) (x : StoredChunk) (now : CommandTrace) → IsSame b.transfer x.transfer → length (backward k.taken) ≡ k.sent → is_outward b.transfer.code ≡ false → k.absorbed ≡ [] →
-      IsWired side k.number m HandPlain NoGive AnyData downs ups u → Goes (on_data.tells_room_after s b signal x).step (record k { now = now })
+      IsWired side k.number m CurrentPlain NoGive AnyData downs ups u → Goes (on_data.tells_room_after s b signal x).step (record k { now = now })
   reads-goes b signal x now same l out z w =
       let y : Transfer = (with_room x.storage x.transfer).transfer in
       let code : y.code ≡ b.transfer.code = (located-same x.storage x.transfer).0 ∙ same.0 in
       let c : ActiveProgram = record b { transfer = y } in
       let one : Option (OnPath Down) = Some (record { path = signal.path; signal = down.Took signal.number signal.command signal.sequence (with_room x.storage x.transfer).room }) in
       let made : Mode side (Some c) (record k { now = now }) (with_any_sent downs one) (taken ups path) u =
-      Reads c refl l (ap is_outward code ∙ out) z (now-wires HandPlain HandPlain NoGive NoGive AnyData AnyData one (λ h r. r) (λ i bytes r. r) (λ i r q. q) tt w) in
+      Reads c refl l (ap is_outward code ∙ out) z (now-wires CurrentPlain CurrentPlain NoGive NoGive AnyData AnyData one (λ h r. r) (λ i bytes r. r) (λ i r q. q) tt w) in
       interrupted-mode side (command_spec.with_transfer s b y) c (record k { now = now }) (with_any_sent downs one) (taken ups path) u refl made
 
   -- a write
@@ -234,7 +234,7 @@ module _ (laws : AreLaws) (accesses : AreAccesses) (storage : Contents) (side : 
       IsGiving k.number m (IsGive w) (down.Give bytes t c n (seq + 1))
   given-signal w t c n seq bytes z l q g = (omega (arith, z), λ e. (l, λ i. (omega (arith, q), λ j. g)))
 
-  same-hand : (c d : ℕ) (v w : View) (lead after : Option ℕ) → d ≡ c → ((x : CurrentCommand) → flows.Hand v lead x → flows.Hand w after x) → (h : Option CurrentCommand) → HandFlow c v lead h → HandFlow d w after h
+  same-hand : (c d : ℕ) (v w : View) (lead after : Option ℕ) → d ≡ c → ((x : CurrentCommand) → flows.Hand v lead x → flows.Hand w after x) → (h : Option CurrentCommand) → CurrentFlow c v lead h → CurrentFlow d w after h
   same-hand c d v w lead after e f None r = tt
   same-hand c d v w lead after e f (Some x) r = (r.0 ∙ sym e, f x r.1)
 
@@ -263,7 +263,7 @@ module _ (laws : AreLaws) (accesses : AreAccesses) (storage : Contents) (side : 
 
     writes-goes : (lead : Option ℕ) → s.begun ≡ Some b → signal.number ≡ k.number → signal.command ≤ m → length (backward k.taken) ≡ k.sent → is_outward b.transfer.code ≡ true →
         (signal.sequence ≡ b.transfer.sequence) ⊎ (signal.sequence ≡ b.transfer.sequence + 1) → IsData (view_of b.transfer k.now) lead signal.sequence l → Flow (view_of b.transfer k.now) k.absorbed lead →
-        IsWired side k.number m (HandFlow b.transfer.code (view_of b.transfer k.now) lead) (IsGive (view_of b.transfer k.now)) (IsData (view_of b.transfer k.now) lead) downs ups u →
+        IsWired side k.number m (CurrentFlow b.transfer.code (view_of b.transfer k.now) lead) (IsGive (view_of b.transfer k.now)) (IsData (view_of b.transfer k.now) lead) downs ups u →
         Goes (on_data.gives_next_chunk storage s b signal (load_length l)) (with_now (gives storage b.transfer signal.sequence (load_length l) k.now))
     writes-goes lead e z le taken-all out at d f wired = by (signal.sequence == b.transfer.sequence + 1) refl
       where
@@ -280,7 +280,7 @@ module _ (laws : AreLaws) (accesses : AreAccesses) (storage : Contents) (side : 
             let all : min j (room b.transfer.moving) ≡ j = min-eq_left flow.within in
             let moved : w.moved ≡ v.moved ++ each_below v.next j = a.0.moved ∙ ap (λ (i : ℕ). v.moved ++ each_below v.next i) all in
             given (Writes (record b { transfer = x.transfer }) refl taken-all outward None (answered-flow v w k.absorbed j a.0.copied moved flow)
-            (now-wires (HandFlow b.transfer.code v lead) (HandFlow x.transfer.code w None) (IsGive v) (IsGive w) (IsData v lead) (IsData w None) (Some (record { path = signal.path; signal = down.Give x.bytes signal.number signal.connection signal.command (signal.sequence + 1) }))
+            (now-wires (CurrentFlow b.transfer.code v lead) (CurrentFlow x.transfer.code w None) (IsGive v) (IsGive w) (IsData v lead) (IsData w None) (Some (record { path = signal.path; signal = down.Give x.bytes signal.number signal.connection signal.command (signal.sequence + 1) }))
             (same-hand b.transfer.code x.transfer.code v w lead None code (λ h r. answered-hand v w j h a.0.seq (subst (λ (i : Option ℕ). flows.Hand v i h) ahead r)))
             (λ i bytes r. answered-give v w i bytes a.0.seq r) (λ i r q. answered-data v w lead i r a.0.seq q) (given-signal w signal.number signal.connection signal.command signal.sequence x.bytes z le (is ∙ sym a.0.seq) a.1) wired))
         by false y =
@@ -288,7 +288,7 @@ module _ (laws : AreLaws) (accesses : AreAccesses) (storage : Contents) (side : 
             let is : signal.sequence ≡ b.transfer.sequence = elim at [ inl h ↦ h | inr h ↦ absurd (not h) ] in
             let a = repeats-view accesses storage b.transfer signal.sequence (load_length l) k.now y in
             given (Writes (record b { transfer = x.transfer }) refl taken-all outward lead (located-flow v w k.absorbed lead a.located f)
-            (now-wires (HandFlow b.transfer.code v lead) (HandFlow x.transfer.code w lead) (IsGive v) (IsGive w) (IsData v lead) (IsData w lead) (Some (record { path = signal.path; signal = down.Give x.bytes signal.number signal.connection signal.command (signal.sequence + 1) }))
+            (now-wires (CurrentFlow b.transfer.code v lead) (CurrentFlow x.transfer.code w lead) (IsGive v) (IsGive w) (IsData v lead) (IsData w lead) (Some (record { path = signal.path; signal = down.Give x.bytes signal.number signal.connection signal.command (signal.sequence + 1) }))
             (same-hand b.transfer.code x.transfer.code v w lead lead code (λ h r. located-hand v w lead h a.located r)) (λ i bytes r. located-give v w i bytes a.located r)
             (λ i r q. located-data v w lead i r a.located q) (given-signal w signal.number signal.connection signal.command signal.sequence x.bytes z le (is ∙ sym a.located.seq) a.good) wired))
 
@@ -300,7 +300,7 @@ module _ (laws : AreLaws) (accesses : AreAccesses) (storage : Contents) (side : 
     where
       by : Mode side s.begun k downs ups u → Goes (on_data.moves_bytes storage s b signal l).step (stories.moves storage b.transfer signal.sequence l k)
       by (Waits d h g q y a w) =
-          let r = data-front AnyData b signal.number signal.connection signal.command signal.sequence l e z i (f HandClosed AnyGive AnyData w) in
+          let r = data-front AnyData b signal.number signal.connection signal.command signal.sequence l e z i (f CurrentClosed AnyGive AnyData w) in
           absurd (omega (arith, r.0, r.2, g))
       by (Over h g q a w) = absurd (cc (sym e ∙ h))
       by (Reads d h g o q w) =
@@ -313,10 +313,10 @@ module _ (laws : AreLaws) (accesses : AreAccesses) (storage : Contents) (side : 
           let same : d ≡ b = cc (sym h ∙ e) in
           let out : is_outward b.transfer.code ≡ true = subst (λ (x : ActiveProgram). is_outward x.transfer.code ≡ true) same o in
           let y' : Flow (view_of b.transfer k.now) k.absorbed lead = subst (λ (x : ActiveProgram). Flow (view_of x.transfer k.now) k.absorbed lead) same y in
-          let w' : IsWired side k.number m (HandFlow b.transfer.code (view_of b.transfer k.now) lead) (IsGive (view_of b.transfer k.now)) (IsData (view_of b.transfer k.now) lead) downs ups u =
-          subst (λ (x : ActiveProgram). IsWired side k.number m (HandFlow x.transfer.code (view_of x.transfer k.now) lead) (IsGive (view_of x.transfer k.now)) (IsData (view_of x.transfer k.now) lead) downs ups u) same w in
+          let w' : IsWired side k.number m (CurrentFlow b.transfer.code (view_of b.transfer k.now) lead) (IsGive (view_of b.transfer k.now)) (IsData (view_of b.transfer k.now) lead) downs ups u =
+          subst (λ (x : ActiveProgram). IsWired side k.number m (CurrentFlow x.transfer.code (view_of x.transfer k.now) lead) (IsGive (view_of x.transfer k.now)) (IsData (view_of x.transfer k.now) lead) downs ups u) same w in
           let r = data-front (IsData (view_of b.transfer k.now) lead) b signal.number signal.connection signal.command signal.sequence l e z i
-          (f (HandFlow b.transfer.code (view_of b.transfer k.now) lead) (IsGive (view_of b.transfer k.now)) (IsData (view_of b.transfer k.now) lead) w') in
+          (f (CurrentFlow b.transfer.code (view_of b.transfer k.now) lead) (IsGive (view_of b.transfer k.now)) (IsData (view_of b.transfer k.now) lead) w') in
           subst (λ (x : Bool). Goes (if x then outcomes.with_storage storage (on_data.gives_next_chunk storage s b signal (load_length l)) else on_data.tells_room_after s b signal (chunk_stored storage b.transfer signal.sequence (load_bytes l))).step
           (if x then with_now (gives storage b.transfer signal.sequence (load_length l) k.now) else with_now (takes_in storage b.transfer signal.sequence (load_bytes l) k.now))) (sym out)
           (writes-goes b signal l lead e z r.0 g out at (r.1 (r.2 ∙ sym g)) y' w')
@@ -364,24 +364,24 @@ module _ (laws : AreLaws) (accesses : AreAccesses) (storage : Contents) (side : 
       number = z
 
       by : Mode side s.begun k downs ups u → IsOver b
-      by (Waits d h g q y a w) = let r = (f HandClosed AnyGive AnyData w).1 number in absurd (omega (arith, r.0, at, g))
+      by (Waits d h g q y a w) = let r = (f CurrentClosed AnyGive AnyData w).1 number in absurd (omega (arith, r.0, at, g))
       by (Over h g q a w) = absurd (cc (sym e ∙ h))
       by (Reads d h g o q w) =
-          let r = (f HandPlain NoGive AnyData w).1 number in
+          let r = (f CurrentPlain NoGive AnyData w).1 number in
           record {
             taken_all = g;
             absorbs = absorbs-none k.orb k.now k.absorbed q;
             some = none-sent b e;
-            wires = λ one x. closed-holds HandPlain NoGive AnyData one (r.1 (at ∙ sym g)) x w;
+            wires = λ one x. closed-holds CurrentPlain NoGive AnyData one (r.1 (at ∙ sym g)) x w;
           }
       by (Writes d h g o lead y w) =
           let same : d ≡ b = cc (sym h ∙ e) in
-          let r = (f (HandFlow d.transfer.code (view_of d.transfer k.now) lead) (IsGive (view_of d.transfer k.now)) (IsData (view_of d.transfer k.now) lead) w).1 number in
+          let r = (f (CurrentFlow d.transfer.code (view_of d.transfer k.now) lead) (IsGive (view_of d.transfer k.now)) (IsData (view_of d.transfer k.now) lead) w).1 number in
           record {
             taken_all = g;
             absorbs = flow-absorbs laws k b.transfer lead (at-work b e).0.tied (subst (λ (x : ActiveProgram). Flow (view_of x.transfer k.now) k.absorbed lead) same y);
             some = none-sent b e;
-            wires = λ one x. closed-holds (HandFlow d.transfer.code (view_of d.transfer k.now) lead) (IsGive (view_of d.transfer k.now)) (IsData (view_of d.transfer k.now) lead) one (r.1 (at ∙ sym g)) x w;
+            wires = λ one x. closed-holds (CurrentFlow d.transfer.code (view_of d.transfer k.now) lead) (IsGive (view_of d.transfer k.now)) (IsData (view_of d.transfer k.now) lead) one (r.1 (at ∙ sym g)) x w;
           }
 
   -- the transfer is marked
@@ -396,11 +396,11 @@ module _ (laws : AreLaws) (accesses : AreAccesses) (storage : Contents) (side : 
   next-over : (b : ActiveProgram) (x : SubchannelState) (now : CommandTrace) → x.begun ≡ None → IsOver b → now.copied ≡ k.now.copied → data_areas k.orb now.acts ≡ data_areas k.orb k.now.acts →
       Goes (outcomes.device_released x) (record k { now = now })
   next-over b x now e o c r =
-      let one : Option (OnPath Down) = (came_of (letting_go x.hold x.hold.phase)).sent in
+      let one : Option (OnPath Down) = (outcome_of (letting_go x.hold x.hold.phase)).sent in
       Over e o.taken_all o.some (absorbs-on laws k now c r o.absorbs) (o.wires one (sent-hold k.number m AnyGive one (letting-mutters x.hold x.hold.phase)))
 
-  chains-goes : (b : ActiveProgram) (signal : EndSignal) (walk : WalkPlace) (c : CommandStart) → (next_command storage b.transfer (has_status_modifier signal.status)).walk ≡ walk →
-      (next_command storage b.transfer (has_status_modifier signal.status)).came ≡ c → s.begun ≡ Some b → IsOver b →
+  chains-goes : (b : ActiveProgram) (signal : EndSignal) (walk : WalkPosition) (c : CommandStart) → (next_command storage b.transfer (has_status_modifier signal.status)).walk ≡ walk →
+      (next_command storage b.transfer (has_status_modifier signal.status)).outcome ≡ c → s.begun ≡ Some b → IsOver b →
       b.transfer.moving.ccw.chain_data ≡ false → is_some b.transfer.fault ≡ false →
       Goes (on_end.next_ccw_outcome storage s (with_first_end b) signal walk c) (stories.trace_goes_on storage c (next_acts storage b.transfer (has_status_modifier signal.status)) k)
   chains-goes b signal walk c at is e o d f = by c is
@@ -409,7 +409,7 @@ module _ (laws : AreLaws) (accesses : AreAccesses) (storage : Contents) (side : 
       acts = next_acts storage b.transfer (has_status_modifier signal.status)
 
       went : WentOn k.earlier laws storage k.orb (k.now.acts ▸ End (record { goes_on = true; modifier = has_status_modifier signal.status })) (k.now.acts ▸▸ acts) (b.transfer.command + 1)
-          (next_command storage b.transfer (has_status_modifier signal.status)).walk (next_command storage b.transfer (has_status_modifier signal.status)).came
+          (next_command storage b.transfer (has_status_modifier signal.status)).walk (next_command storage b.transfer (has_status_modifier signal.status)).outcome
       went = next-went laws accesses k.earlier storage k.orb k.now b.transfer (has_status_modifier signal.status) (at-work b e).0.tied d f
 
       Went : CommandStart → Type 0
@@ -417,20 +417,20 @@ module _ (laws : AreLaws) (accesses : AreAccesses) (storage : Contents) (side : 
           WentOn k.earlier laws storage k.orb (k.now.acts ▸ End (record { goes_on = true; modifier = has_status_modifier signal.status })) (k.now.acts ▸▸ acts) (b.transfer.command + 1)
           (next_command storage b.transfer (has_status_modifier signal.status)).walk c
 
-      by : (c : CommandStart) → (next_command storage b.transfer (has_status_modifier signal.status)).came ≡ c → Goes (on_end.next_ccw_outcome storage s (with_first_end b) signal walk c) (stories.trace_goes_on storage c acts k)
-      by (came.Begins tr) c =
+      by : (c : CommandStart) → (next_command storage b.transfer (has_status_modifier signal.status)).outcome ≡ c → Goes (on_end.next_ccw_outcome storage s (with_first_end b) signal walk c) (stories.trace_goes_on storage c acts k)
+      by (outcome.Begins tr) c =
           let x : Transfer = (begun_with_room storage tr).transfer in
           let n : ActiveProgram = record (with_first_end b) { transfer = x } in
           let one : Option (OnPath Down) = Some (record { path = signal.path; signal = down.Command signal.number x.command x.code (begun_with_room storage tr).room }) in
-          let new : ProgramTrace = stories.trace_goes_on storage (came.Begins tr) acts k in
+          let new : ProgramTrace = stories.trace_goes_on storage (outcome.Begins tr) acts k in
           let made : Mode side (Some n) new (with_any_sent downs one) (taken ups path) u =
           Waits n refl (ap (λ (i : ℕ). i + 1) o.taken_all)
           (room-seq storage tr ∙ goes-new storage (b.transfer.command + 1) (after_command_end b.transfer.walk (record { goes_on = true; modifier = has_status_modifier signal.status })) tr c) refl o.absorbs (o.wires one tt) in
           interrupted-mode side (command_spec.with_transfer s (with_first_end b) x) n new (with_any_sent downs one) (taken ups path) u refl made
-      by came.Suspends c =
+      by outcome.Suspends c =
           next-over b (suspension.program_suspended (on_end.with_allegiance_after_end s signal) (with_first_end b).program walk (residual (with_first_end b).transfer.moving)) (with_acts k.now acts)
           (suspending-workless (on_end.with_allegiance_after_end s signal) (with_first_end b).program walk (residual (with_first_end b).transfer.moving)).begun o refl (subst Went c went).1
-      by (came.Stops check) c =
+      by (outcome.Stops check) c =
           next-over b (with_cause (on_end.with_allegiance_after_end s signal) (cause.FetchFault walk.tried check (residual (with_first_end b).transfer.moving))) (with_acts k.now acts)
           (fault-begun (on_end.with_allegiance_after_end s signal) s.begun refl) o refl (subst Went c went).1
 
@@ -439,10 +439,10 @@ module _ (laws : AreLaws) (accesses : AreAccesses) (storage : Contents) (side : 
       (if x then (if y then on_end.chains_with storage s (with_first_end b) signal (next_command storage (with_first_end b).transfer (has_status_modifier signal.status))
       else outcomes.signal_taken (record (on_end.with_allegiance_after_end s signal) { begun = Some (with_first_end b) }))
       else on_end.concludes s b signal)
-      (if x then (if y then stories.trace_goes_on storage (next_command storage b.transfer (has_status_modifier signal.status)).came (next_acts storage b.transfer (has_status_modifier signal.status)) k else stories.with_ended k) else stories.ends_alone signal.status k)
+      (if x then (if y then stories.trace_goes_on storage (next_command storage b.transfer (has_status_modifier signal.status)).outcome (next_acts storage b.transfer (has_status_modifier signal.status)) k else stories.with_ended k) else stories.ends_alone signal.status k)
   ends-by b signal true true c e o =
       let f = chains-facts laws accesses s.scsw b signal.status signal.more c in
-      chains-goes b signal (next_command storage b.transfer (has_status_modifier signal.status)).walk (next_command storage b.transfer (has_status_modifier signal.status)).came refl refl e o f.0 f.1
+      chains-goes b signal (next_command storage b.transfer (has_status_modifier signal.status)).walk (next_command storage b.transfer (has_status_modifier signal.status)).outcome refl refl e o f.0 f.1
   ends-by b signal true false c e o = mode-with side (Some (with_first_end b)) k downs (taken ups path) u (marked b (with_first_end b) (Some (with_first_end b)) None e refl (record { code = refl; command = refl; sequence = refl; moving = refl }) tt)
   ends-by b signal false y c e o = stops (is_last_end signal.status) refl
     where
@@ -477,7 +477,7 @@ module _ (laws : AreLaws) (accesses : AreAccesses) (storage : Contents) (side : 
   reset-goes : (step : Option HoldStep) → SendsHoldSignal step → Goes (on_cleared.takes_cleared s step) k
   reset-goes None h = quiet s.begun None refl tt
   reset-goes (Some step) h =
-      quiet (on_cleared.clear_performed (record s { hold = step.state })).begun (came_of (Some step)).sent (clear-begun (record s { hold = step.state })) h
+      quiet (on_cleared.clear_performed (record s { hold = step.state })).begun (outcome_of (Some step)).sent (clear-begun (record s { hold = step.state })) h
 
   -- any signal
   pub mode-meets : (returns : Bool) → (x : Up) → ((P : Option CurrentCommand → Type 0) (Q : ℕ → List ℕ → Type 0) (R : ℕ → Load → Type 0) → IsWired side k.number m P Q R downs ups u → Front R x) → IsNoNotice x →
@@ -493,6 +493,6 @@ module _ (laws : AreLaws) (accesses : AreAccesses) (storage : Contents) (side : 
   mode-meets returns (up.Notice b) f other = absurd other
   mode-meets returns (up.Attn a status) f other =
       let step : Option HoldStep = attended s.hold s.hold.phase path a (on_attention.may_take_attention s) in
-      quiet (on_attention.takes_attention s status step).state.begun (came_of step).sent
-      (attention-begun (record s { hold = hold_after s.hold step }) ((came_of step).taken && not (status.0 == 0x20)))
+      quiet (on_attention.takes_attention s status step).state.begun (outcome_of step).sent
+      (attention-begun (record s { hold = hold_after s.hold step }) ((outcome_of step).taken && not (status.0 == 0x20)))
       (attended-mutters s.hold s.hold.phase path a (on_attention.may_take_attention s))

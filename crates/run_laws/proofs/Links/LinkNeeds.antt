@@ -1,4 +1,4 @@
--- What is to be known of a subchannel and the story of its program.
+-- What is to be known of a subchannel and the trace of its program.
 use Rattle.std.proofs.Common.{◌≡◌, ◌∙◌, ap, subst, ℕ, ◌+◌, ◌-◌, ◌≤◌, true, ◌==◌, ◌&&◌, Option, None, Some, List, ◌∷◌, length, arith}
 use Rattle.std.proofs.lemmas.Bool.{eqb-true, and_parts}
 use Rattle.chan_model.specs.declared.hold_state.HoldPhase.{HoldPhase}
@@ -24,7 +24,7 @@ pub record IsLast (codes : List ℕ) (sent : ℕ) (t : Transfer) : Type 0 where
   pub count : length before + 1 ≡ t.command
   pub at : t.command ≡ sent
 
--- what is to be known of a subchannel and the story of its program
+-- what is to be known of a subchannel and the trace of its program
 pub record IsNeeded (k : ProgramTrace) (s : SubchannelState) : Type 0 where
   pub number : k.number ≤ s.drawn
   pub on : (t : ℕ) → is_on s.hold.phase t ≡ true → t ≡ k.number

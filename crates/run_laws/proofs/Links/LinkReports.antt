@@ -28,10 +28,10 @@ use Rattle.run_laws.specs.Traces.{ProgramTrace, absorbs, reported}
 use Rattle.run_laws.proofs.Commands.UnitOrders.{IsNumbered, one-number}
 use Rattle.run_laws.proofs.Bytes.UnitFlows.{View, Hand, Level, Pending, Ahead, Flow, IsGive, IsData, IsStarted, absorbs-flow, none-flow, none-data}
 use Rattle.run_laws.proofs.Links.LinkViews.{view_of}
-use Rattle.run_laws.proofs.Units.UnitHands.{IsHeld}
-use Rattle.run_laws.proofs.Units.UnitTold.{IsTold, Begins_out, Begins_in, Absorbs, Supplies, Tells_again, Ends, with_hand, telling_data, IsReportTaken}
-use Rattle.run_laws.proofs.Links.LinkWires.{IsEnded, HandClosed, IsClosed, IsOfCommand, IsTelling, IsWired, wired-tells}
-use Rattle.run_laws.proofs.Bytes.LinkModes.{AnyGive, NoGive, AnyData, HandPlain, HandFlow, Mode, Waits, Over, Reads, Writes, mode-carried}
+use Rattle.run_laws.proofs.Units.UnitCurrents.{IsHeld}
+use Rattle.run_laws.proofs.Units.UnitTold.{IsTold, Begins_out, Begins_in, Absorbs, Supplies, Tells_again, Ends, with_current, telling_data, IsReportTaken}
+use Rattle.run_laws.proofs.Links.LinkWires.{IsEnded, CurrentClosed, IsClosed, IsOfCommand, IsTelling, IsWired, wired-tells}
+use Rattle.run_laws.proofs.Bytes.LinkModes.{AnyGive, NoGive, AnyData, CurrentPlain, CurrentFlow, Mode, Waits, Over, Reads, Writes, mode-carried}
 use Rattle.run_laws.proofs.Traces.Sequences.{backward}
 
 -- what is ended stays so
@@ -55,7 +55,7 @@ not-new p e h = subst IsEnded e h
 not-working : (p : Progress) → p ≡ progress.Working → IsEnded p → ⊥
 not-working p e h = subst IsEnded e h
 
-pub told-closed : (u : UnitState) (p t c : ℕ) (x : CurrentCommand) (a : DeviceAnswer) (y : UnitStep) → IsTold u p t c x a y → IsEnded x.progress → HandClosed y.state.at_hand
+pub told-closed : (u : UnitState) (p t c : ℕ) (x : CurrentCommand) (a : DeviceAnswer) (y : UnitStep) → IsTold u p t c x a y → IsEnded x.progress → CurrentClosed y.state.current
 told-closed u p t c x _ _ (Begins_out n) h = absurd (not-new x.progress n h)
 told-closed u p t c x _ _ (Begins_in o n) h = absurd (not-new x.progress n h)
 told-closed u p t c x _ _ (Absorbs bytes count w g l) h = absurd (not-working x.progress w h)
@@ -74,15 +74,15 @@ pub told-own : (u : UnitState) (p t c : ℕ) (x : CurrentCommand) (a : DeviceAns
 told-own u p t c x _ _ (Begins_out n) = refl
 told-own u p t c x _ _ other = refl
 
--- the story, at a report of its number and of another
+-- the trace, at a report of its number and of another
 reported-other : (u : UnitState) (report : Report) (a : DeviceAnswer) (k : ProgramTrace) → (report.number == k.number) ≡ false → reported u report a k ≡ k
-reported-other u report (answer.Absorbed count) k e = ap (λ (b : Bool). if b then absorbs count u.at_hand k else k) e
+reported-other u report (answer.Absorbed count) k e = ap (λ (b : Bool). if b then absorbs count u.current k else k) e
 reported-other u report other k e = refl
 
-absorbed-here : (u : UnitState) (report : Report) (count : ℕ) (k : ProgramTrace) (x : CurrentCommand) (bytes : List ℕ) → (report.number == k.number) ≡ true → u.at_hand ≡ Some x → x.given ≡ Some bytes →
+absorbed-here : (u : UnitState) (report : Report) (count : ℕ) (k : ProgramTrace) (x : CurrentCommand) (bytes : List ℕ) → (report.number == k.number) ≡ true → u.current ≡ Some x → x.given ≡ Some bytes →
     reported u report (answer.Absorbed count) k ≡ record k { absorbed = k.absorbed ++ take count bytes }
 absorbed-here u report count k x bytes e h g =
-    ap (λ (b : Bool). if b then absorbs count u.at_hand k else k) e ∙ ap (λ (z : Option CurrentCommand). absorbs count z k) h
+    ap (λ (b : Bool). if b then absorbs count u.current k else k) e ∙ ap (λ (z : Option CurrentCommand). absorbs count z k) h
     ∙ ap (λ (z : Option (List ℕ)). absorbs count (Some (record x { given = z })) k) g
 
 some-none : (o : Option (List ℕ)) (bytes : List ℕ) → o ≡ Some bytes → o ≡ None → ⊥
@@ -90,7 +90,7 @@ some-none o bytes e f = absurd (cc (sym e ∙ f))
 
 -- at the unit, of the side's program
 module _ (side : Side) (begun : Option ActiveProgram) (k : ProgramTrace) (downs : List (List Down)) (ups : List (List Up)) (u : UnitState) (p c : ℕ) (x : CurrentCommand)
-    (report : Report) (same : (report.number == k.number) ≡ true) (owner : is_owner u.own side k.number ≡ true) (hand : u.at_hand ≡ Some x) (last : u.last_command ≡ length (backward k.taken)) where
+    (report : Report) (same : (report.number == k.number) ≡ true) (owner : is_owner u.own side k.number ≡ true) (hand : u.current ≡ Some x) (last : u.last_command ≡ length (backward k.taken)) where
   abbrev m : ℕ
   m = length (backward k.taken)
 
@@ -98,7 +98,7 @@ module _ (side : Side) (begun : Option ActiveProgram) (k : ProgramTrace) (downs 
   here = eqb-true report.number k.number same
 
   closes : (a : DeviceAnswer) (y : UnitStep) → IsTold u p report.number c x a y → IsClosed side k.number u → IsClosed side k.number y.state
-  closes a y t h = λ o. told-closed u p report.number c x a y t (subst HandClosed hand (h owner))
+  closes a y t h = λ o. told-closed u p report.number c x a y t (subst CurrentClosed hand (h owner))
 
   of-it : (A : Type 0) → A → IsOfCommand k.number m report.number u.last_command A
   of-it A z = (omega (arith, here), λ e. (omega (arith, last), λ i. z))
@@ -113,16 +113,16 @@ module _ (side : Side) (begun : Option ActiveProgram) (k : ProgramTrace) (downs 
   closed-told _ _ E (Tells_again l e w) h z = absurd (not-working x.progress w h)
   closed-told _ _ E (Ends given shown more) h z = (of-it E z, refl)
 
-  closed-wired : (a : DeviceAnswer) (y : UnitStep) → IsTold u p report.number c x a y → IsWired side k.number m HandClosed AnyGive AnyData downs ups u →
-      IsWired side k.number m HandClosed AnyGive AnyData downs (with_any_sent ups y.sent) y.state
+  closed-wired : (a : DeviceAnswer) (y : UnitStep) → IsTold u p report.number c x a y → IsWired side k.number m CurrentClosed AnyGive AnyData downs ups u →
+      IsWired side k.number m CurrentClosed AnyGive AnyData downs (with_any_sent ups y.sent) y.state
   closed-wired a y t w =
-      let ended : IsEnded x.progress = subst HandClosed hand (w.hand owner) in
-      wired-tells side k.number m HandClosed HandClosed AnyGive AnyData AnyData downs ups u y.state y.sent (λ o. told-closed u p report.number c x a y t ended) (λ s l r. r) (closes a y t)
+      let ended : IsEnded x.progress = subst CurrentClosed hand (w.hand owner) in
+      wired-tells side k.number m CurrentClosed CurrentClosed AnyGive AnyData AnyData downs ups u y.state y.sent (λ o. told-closed u p report.number c x a y t ended) (λ s l r. r) (closes a y t)
       (closed-told a y (IsClosed side k.number y.state) t ended (λ o. told-closed u p report.number c x a y t ended)).0 w
 
   -- it reads
   plain-told : (a : DeviceAnswer) (y : UnitStep) → IsTold u p report.number c x a y → x.given ≡ None →
-      HandPlain y.state.at_hand × IfSome y.sent (λ z. IsTelling k.number m AnyData (IsClosed side k.number y.state) z.signal) × (reported u report a k ≡ k)
+      CurrentPlain y.state.current × IfSome y.sent (λ z. IsTelling k.number m AnyData (IsClosed side k.number y.state) z.signal) × (reported u report a k ≡ k)
   plain-told _ _ (Begins_out n) g = (refl, of-it (Unit {0}) tt, refl)
   plain-told _ _ (Begins_in o n) g = (g, tt, refl)
   plain-told _ _ (Absorbs bytes count w h l) g = absurd (some-none x.given bytes h g)
@@ -142,17 +142,17 @@ module _ (side : Side) (begun : Option ActiveProgram) (k : ProgramTrace) (downs 
     not-inward z f = absurd (cc (sym f ∙ (ap is_outward z ∙ out)))
 
     -- nothing more is absorbed
-    stays-writing : (y : UnitStep) (lead after : Option ℕ) → Flow v k.absorbed after → IsHeld side k.number (HandFlow b.transfer.code v after) y.state →
+    stays-writing : (y : UnitStep) (lead after : Option ℕ) → Flow v k.absorbed after → IsHeld side k.number (CurrentFlow b.transfer.code v after) y.state →
         ((s : ℕ) (l : Load) → IsData v lead s l → IsData v after s l) → (IsClosed side k.number u → IsClosed side k.number y.state) →
         IfSome y.sent (λ z. IsTelling k.number m (IsData v after) (IsClosed side k.number y.state) z.signal) →
-        IsWired side k.number m (HandFlow b.transfer.code v lead) (IsGive v) (IsData v lead) downs ups u → IsWrite k y
+        IsWired side k.number m (CurrentFlow b.transfer.code v lead) (IsGive v) (IsData v lead) downs ups u → IsWrite k y
     stays-writing y lead after f h d z s w =
         Writes b e n out after f
-        (wired-tells side k.number m (HandFlow b.transfer.code v lead) (HandFlow b.transfer.code v after) (IsGive v) (IsData v lead) (IsData v after) downs ups u y.state y.sent h d z s w)
+        (wired-tells side k.number m (CurrentFlow b.transfer.code v lead) (CurrentFlow b.transfer.code v after) (IsGive v) (IsData v lead) (IsData v after) downs ups u y.state y.sent h d z s w)
 
     begins-told : (lead : Option ℕ) → x.code ≡ b.transfer.code → Hand v lead x → x.progress ≡ progress.New → Flow v k.absorbed lead →
-        IsWired side k.number m (HandFlow b.transfer.code v lead) (IsGive v) (IsData v lead) downs ups u →
-        IsWrite k (record { state = with_hand u (with_absorbed x 0); sent = Some (record { path = p; signal = up.Data (load.Absorbed 0) report.number c u.last_command x.sequence }) })
+        IsWired side k.number m (CurrentFlow b.transfer.code v lead) (IsGive v) (IsData v lead) downs ups u →
+        IsWrite k (record { state = with_current u (with_absorbed x 0); sent = Some (record { path = p; signal = up.Data (load.Absorbed 0) report.number c u.last_command x.sequence }) })
     begins-told lead z (Level q g l) new f w =
         stays-writing (telling_data u p report.number c (with_absorbed x 0) (load.Absorbed 0)) lead lead f (λ o. (z, Level q refl l)) (λ s y d. d) (closes answer.Begins (telling_data u p report.number c (with_absorbed x 0) (load.Absorbed 0)) (Begins_out new))
         (of-it (IsData v lead x.sequence (load.Absorbed 0)) (omega (arith, q), λ i. absurd (omega (arith, q, i)))) w
@@ -163,22 +163,22 @@ module _ (side : Side) (begun : Option ActiveProgram) (k : ProgramTrace) (downs 
     begins-told lead z (Ahead q g j l a s) new f w = absurd (subst IsStarted new s)
 
     absorbs-told : (lead : Option ℕ) (bytes : List ℕ) (count : ℕ) → x.code ≡ b.transfer.code → Hand v lead x → x.progress ≡ progress.Working → x.given ≡ Some bytes → count ≤ length bytes →
-        Flow v k.absorbed lead → IsWired side k.number m (HandFlow b.transfer.code v lead) (IsGive v) (IsData v lead) downs ups u →
+        Flow v k.absorbed lead → IsWired side k.number m (CurrentFlow b.transfer.code v lead) (IsGive v) (IsData v lead) downs ups u →
         IsWrite (record k { absorbed = k.absorbed ++ take count bytes })
-        (record { state = with_hand u (with_absorbed x count); sent = Some (record { path = p; signal = up.Data (load.Absorbed count) report.number c u.last_command x.sequence }) })
+        (record { state = with_current u (with_absorbed x count); sent = Some (record { path = p; signal = up.Data (load.Absorbed count) report.number c u.last_command x.sequence }) })
     absorbs-told lead bytes count z (Level q g l) w h i f s = absurd (some-none x.given bytes h g)
     absorbs-told lead bytes count z (Ahead q g j l a y) w h i f s = absurd (some-none x.given bytes h g)
     absorbs-told lead bytes count z (Pending q a l g) w h i f s =
-        let y : UnitStep = record { state = with_hand u (with_absorbed x count); sent = Some (record { path = p; signal = up.Data (load.Absorbed count) report.number c u.last_command x.sequence }) } in
+        let y : UnitStep = record { state = with_current u (with_absorbed x count); sent = Some (record { path = p; signal = up.Data (load.Absorbed count) report.number c u.last_command x.sequence }) } in
         Writes b e n out (Some count) (absorbs-flow v k.absorbed bytes count (g bytes h) i (subst (Flow v k.absorbed) l f))
-        (wired-tells side k.number m (HandFlow b.transfer.code v lead) (HandFlow b.transfer.code v (Some count)) (IsGive v) (IsData v lead) (IsData v (Some count)) downs ups u y.state y.sent
+        (wired-tells side k.number m (CurrentFlow b.transfer.code v lead) (CurrentFlow b.transfer.code v (Some count)) (IsGive v) (IsData v lead) (IsData v (Some count)) downs ups u y.state y.sent
         (λ o. (z, Ahead q refl count refl (λ j d. let t : load.Absorbed count ≡ j = cc d in ap load_length (sym t)) tt)) (λ r t d. none-data v lead count r t l d)
         (closes (answer.Absorbed count) y (Absorbs bytes count w h i))
         (of-it (IsData v (Some count) x.sequence (load.Absorbed count)) (omega (arith, q), λ j. refl)) s)
 
     again-told : (lead : Option ℕ) (l : Load) → x.code ≡ b.transfer.code → Hand v lead x → x.unanswered ≡ Some l → x.progress ≡ progress.Working → Flow v k.absorbed lead →
-        IsWired side k.number m (HandFlow b.transfer.code v lead) (IsGive v) (IsData v lead) downs ups u →
-        IsWrite k (record { state = with_hand u (record x { again = false }); sent = Some (record { path = p; signal = up.Data l report.number c u.last_command x.sequence }) })
+        IsWired side k.number m (CurrentFlow b.transfer.code v lead) (IsGive v) (IsData v lead) downs ups u →
+        IsWrite k (record { state = with_current u (record x { again = false }); sent = Some (record { path = p; signal = up.Data l report.number c u.last_command x.sequence }) })
     again-told lead l z (Level q g i) h w f s =
         stays-writing (telling_data u p report.number c (record x { again = false }) l) lead lead f (λ o. (z, Level q g i)) (λ r t d. d) (closes answer.Again (telling_data u p report.number c (record x { again = false }) l) (Tells_again l h w))
         (of-it (IsData v lead x.sequence l) (omega (arith, q), λ j. absurd (omega (arith, q, j)))) s
@@ -193,7 +193,7 @@ module _ (side : Side) (begun : Option ActiveProgram) (k : ProgramTrace) (downs 
     ended-hand lead status (Ahead q g j i a y) = Ahead q g j i a (started-after status)
 
     writes-told : (a : DeviceAnswer) (y : UnitStep) (lead : Option ℕ) → IsTold u p report.number c x a y → x.code ≡ b.transfer.code → Hand v lead x → Flow v k.absorbed lead →
-        IsWired side k.number m (HandFlow b.transfer.code v lead) (IsGive v) (IsData v lead) downs ups u → IsWrite (reported u report a k) y
+        IsWired side k.number m (CurrentFlow b.transfer.code v lead) (IsGive v) (IsData v lead) downs ups u → IsWrite (reported u report a k) y
     writes-told _ _ lead (Begins_out new) z h f w = begins-told lead z h new f w
     writes-told _ _ lead (Begins_in o new) z h f w = absurd (not-inward z o)
     writes-told _ y lead (Absorbs bytes count g i l) z h f w =
@@ -206,17 +206,17 @@ module _ (side : Side) (begun : Option ActiveProgram) (k : ProgramTrace) (downs 
 
   mode-told : (a : DeviceAnswer) (y : UnitStep) → IsTold u p report.number c x a y → Mode side begun k downs ups u → Mode side begun (reported u report a k) downs (with_any_sent ups y.sent) y.state
   mode-told a y t (Waits b e n s z i w) =
-      let ended : IsEnded x.progress = subst HandClosed hand (w.hand owner) in
+      let ended : IsEnded x.progress = subst CurrentClosed hand (w.hand owner) in
       subst (λ (r : ProgramTrace). Mode side begun r downs (with_any_sent ups y.sent) y.state) (sym (closed-told a y (Unit {0}) t ended tt).1) (Waits b e n s z i (closed-wired a y t w))
   mode-told a y t (Over e n z i w) =
-      let ended : IsEnded x.progress = subst HandClosed hand (w.hand owner) in
+      let ended : IsEnded x.progress = subst CurrentClosed hand (w.hand owner) in
       subst (λ (r : ProgramTrace). Mode side begun r downs (with_any_sent ups y.sent) y.state) (sym (closed-told a y (Unit {0}) t ended tt).1) (Over e n z i (closed-wired a y t w))
   mode-told a y t (Reads b e n o z w) =
-      let got = plain-told a y t (subst HandPlain hand (w.hand owner)) in
+      let got = plain-told a y t (subst CurrentPlain hand (w.hand owner)) in
       subst (λ (r : ProgramTrace). Mode side begun r downs (with_any_sent ups y.sent) y.state) (sym got.2)
-      (Reads b e n o z (wired-tells side k.number m HandPlain HandPlain NoGive AnyData AnyData downs ups u y.state y.sent (λ q. got.0) (λ s l r. r) (closes a y t) got.1 w))
+      (Reads b e n o z (wired-tells side k.number m CurrentPlain CurrentPlain NoGive AnyData AnyData downs ups u y.state y.sent (λ q. got.0) (λ s l r. r) (closes a y t) got.1 w))
   mode-told a y t (Writes b e n o lead f w) =
-      let h : (x.code ≡ b.transfer.code) × Hand (view_of b.transfer k.now) lead x = subst (HandFlow b.transfer.code (view_of b.transfer k.now) lead) hand (w.hand owner) in
+      let h : (x.code ≡ b.transfer.code) × Hand (view_of b.transfer k.now) lead x = subst (CurrentFlow b.transfer.code (view_of b.transfer k.now) lead) hand (w.hand owner) in
       writes-told b e n o a y lead t h.0 h.1 f w
 
 -- a report that is taken
@@ -241,7 +241,7 @@ mode-reports side drawn begun k downs ups u report y s n t mode = by (report.num
     by : (b : Bool) → (report.number == k.number) ≡ b → Mode side begun (reported u report report.answer k) downs (with_any_sent ups y.sent) y.state
     by true e =
         let mine : is_owner u.own side k.number ≡ true = subst (λ (i : ℕ). is_owner u.own side i ≡ true) (eqb-true report.number k.number e) owns in
-        mode-told side begun k downs ups u t.path t.connection t.hand report e mine t.at_hand (n.last mine) report.answer y t.told mode
+        mode-told side begun k downs ups u t.path t.connection t.hand report e mine t.current (n.last mine) report.answer y t.told mode
     by false e =
         let other : report.number ≡ k.number → ⊥ = λ z. absurd (cc (sym (eq-eqb report.number k.number z) ∙ e)) in
         let none : is_owner y.state.own side k.number ≡ true → ⊥ =

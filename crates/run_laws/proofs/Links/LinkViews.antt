@@ -9,13 +9,13 @@ use Rattle.ccw_walk.specs.declared.check.Check.{Check}
 use Rattle.ccw_walk.specs.declared.program.Advance.{Advance}
 use Rattle.ccw_walk.specs.declared.program.Advance.TheVariants as advance
 use Rattle.ccw_walk.specs.Acts.{PlacedBytes}
-use Rattle.ccw_walk.specs.Places.{WalkPlace, after_acts, after_count_used_up}
+use Rattle.ccw_walk.specs.Positions.{WalkPosition, after_acts, after_count_used_up}
 use Rattle.ccw_walk.specs.Advancing.{advance_acts, advance_of_acts}
 use Rattle.idaw.specs.Places.{each_below}
 use Rattle.data_move.specs.Moving.{Moving, next_place, needs_word, room}
 use Rattle.data_move.specs.Accesses as access
 use Rattle.data_move.specs.declared.transfer.Transfer.{Transfer}
-use Rattle.data_move.specs.declared.transfer.CommandStart.TheVariants as came
+use Rattle.data_move.specs.declared.transfer.CommandStart.TheVariants as outcome
 use Rattle.data_move.specs.declared.transfer.NextChunk.{NextChunk}
 use Rattle.data_move.specs.Commands.{transfer_of, command_begins, goes_to, located_transfer, with_located, has_stopped}
 use Rattle.data_move.specs.DataChaining.{chains_data, with_next_ccw, data_chained, with_bytes_moved, after_bytes_moved}
@@ -30,13 +30,13 @@ abbrev pub view_of : Transfer → CommandTrace → View
 view_of t p = record { seq = t.sequence; next = next_place t.moving; room = room t.moving; moved = p.moved; copied = p.copied }
 
 -- the number of the last chunk stays
-with_next_ccw-seq : (t : Transfer) (walk : WalkPlace) (a : Option Advance) → (with_next_ccw t walk a).sequence ≡ t.sequence
+with_next_ccw-seq : (t : Transfer) (walk : WalkPosition) (a : Option Advance) → (with_next_ccw t walk a).sequence ≡ t.sequence
 with_next_ccw-seq t walk (Some (advance.Takes ccw)) = refl
 with_next_ccw-seq t walk other = refl
 
 after_bytes_moved-if : (storage : Contents) (t : Transfer) (n : ℕ) (b : Bool) → (if b then data_chained storage (with_bytes_moved t n) else with_bytes_moved t n).sequence ≡ t.sequence
 after_bytes_moved-if storage t n true =
-    let old : WalkPlace = after_count_used_up t.walk in
+    let old : WalkPosition = after_count_used_up t.walk in
     with_next_ccw-seq (with_bytes_moved t n) (after_acts old (advance_acts storage old)) (advance_of_acts old (advance_acts storage old))
 after_bytes_moved-if storage t n false = refl
 
@@ -188,11 +188,11 @@ module _ (accesses : AreAccesses) where
       (sym e) (next-given storage t p)
 
 -- a command that begins has moved nothing
-begins-new : (walk : WalkPlace) (n : ℕ) (a : Option Advance) (t : Transfer) → command_begins walk n a ≡ came.Begins t → t.sequence ≡ 0
+begins-new : (walk : WalkPosition) (n : ℕ) (a : Option Advance) (t : Transfer) → command_begins walk n a ≡ outcome.Begins t → t.sequence ≡ 0
 begins-new walk n (Some (advance.Takes ccw)) t e = let same : transfer_of walk n ccw ≡ t = cc e in ap (λ (x : Transfer). x.sequence) (sym same)
 begins-new walk n other t e = absurd (cc e)
 
-pub goes-new : (storage : Contents) (n : ℕ) (old : WalkPlace) (t : Transfer) → (goes_to storage n old).came ≡ came.Begins t → t.sequence ≡ 0
+pub goes-new : (storage : Contents) (n : ℕ) (old : WalkPosition) (t : Transfer) → (goes_to storage n old).outcome ≡ outcome.Begins t → t.sequence ≡ 0
 goes-new storage n old t e = begins-new (after_acts old (advance_acts storage old)) n (advance_of_acts old (advance_acts storage old)) t e
 
 -- a Data that is answered is of the command at work, of its last chunk or the next

@@ -10,13 +10,13 @@ use Rattle.chan_model.specs.declared.unit_state.CurrentCommand.{CurrentCommand}
 use Rattle.chan_model.specs.declared.unit_state.Progress.{Progress}
 use Rattle.chan_model.specs.declared.unit_state.Progress.TheVariants as progress
 use Rattle.chan_model.specs.declared.unit_state.UnitState.{UnitState}
-use Rattle.chan_model.specs.UnitTable.{came_of, is_owner, unit_takes, unit_after}
+use Rattle.chan_model.specs.UnitTable.{outcome_of, is_owner, unit_takes, unit_after}
 use Rattle.wires.specs.Queues.{queue, taken}
 use Rattle.subchannel_model.specs.Sending.{with_any_sent}
 use Rattle.run_laws.proofs.Commands.LinkSent.{IsOfHold}
 use Rattle.run_laws.proofs.Commands.UnitOrders.{AreOn, IsDown, IsNumbered, on-taken, on-sent, on-first, on-weaker}
 use Rattle.run_laws.proofs.Traces.MachineTraces.{silent}
-use Rattle.run_laws.proofs.Units.UnitHands.{IsCalm, IsEasy, easy-calm, IsHeld, calm-held, select-held, StaysAnswered, took-held, TakesGive, give-held, command-held, IsQuiet, takes-quiet}
+use Rattle.run_laws.proofs.Units.UnitCurrents.{IsCalm, IsEasy, easy-calm, IsHeld, calm-held, select-held, StaysAnswered, took-held, TakesGive, give-held, command-held, IsQuiet, takes-quiet}
 use Rattle.run_laws.proofs.Units.UnitActs.{IsGentle, StaysMarked, gentle-held}
 
 -- a command is over at the device
@@ -26,12 +26,12 @@ IsEnded progress.Working = ⊥
 IsEnded progress.ChannelEnded = Unit {0}
 IsEnded progress.Ended = Unit {0}
 
-abbrev pub HandClosed : Option CurrentCommand → Type 0
-HandClosed None = Unit {0}
-HandClosed (Some x) = IsEnded x.progress
+abbrev pub CurrentClosed : Option CurrentCommand → Type 0
+CurrentClosed None = Unit {0}
+CurrentClosed (Some x) = IsEnded x.progress
 
 abbrev pub IsClosed : Side → ℕ → UnitState → Type 0
-IsClosed side number u = IsHeld side number HandClosed u
+IsClosed side number u = IsHeld side number CurrentClosed u
 
 -- a signal of a program whose number was drawn; of command m of the last one, more is said
 abbrev pub IsOfCommand : ℕ → ℕ → ℕ → ℕ → Type 0 → Type 0
@@ -80,7 +80,7 @@ pub wired-holds : (side : Side) (number m : ℕ) (P W : Option CurrentCommand �
     (one : Option (OnPath Down)) (path : ℕ) → ((h : Option CurrentCommand) → P h → W h) → ((s : ℕ) (bytes : List ℕ) → Q s bytes → X s bytes) → ((s : ℕ) (l : Load) → R s l → Y s l) →
     IfSome one (λ d. IsGiving number m X d.signal) → IsWired side number m P Q R downs ups u → IsWired side number m W X Y (with_any_sent downs one) (taken ups path) u
 wired-holds side number m P W Q X R Y downs ups u one path f g h s k = record {
-  hand = λ o. f u.at_hand (k.hand o);
+  hand = λ o. f u.current (k.hand o);
   gives = on-sent (IsGiving number m X) downs one
       (on-weaker (IsGiving number m Q) (IsGiving number m X) downs
       (giving-other number m number m Q X (λ t n s bytes. same-command number m t n (Q s bytes) (X s bytes) (g s bytes))) k.gives) s;
@@ -115,7 +115,7 @@ wired-calm side number m P Q R downs ups u v c k = record {
   gives = k.gives;
   tells = on-weaker (IsTelling number m R (IsClosed side number u)) (IsTelling number m R (IsClosed side number v)) ups
       (telling-other number m number m R R (IsClosed side number u) (IsClosed side number v) (λ t n s l x. x)
-      (λ t n. same-command number m t n (IsClosed side number u) (IsClosed side number v) (calm-held side number HandClosed u v c))) k.tells;
+      (λ t n. same-command number m t n (IsClosed side number u) (IsClosed side number v) (calm-held side number CurrentClosed u v c))) k.tells;
 }
 
 -- a signal to the unit, of its own side
@@ -129,7 +129,7 @@ quiet-sent number m R E None h = tt
 quiet-sent number m R E (Some x) h = quiet-telling number m R E x.signal h
 
 -- what the unit does of itself
-pub closed-marked : StaysMarked HandClosed
+pub closed-marked : StaysMarked CurrentClosed
 closed-marked None h = h
 closed-marked (Some x) h = h
 
@@ -142,23 +142,23 @@ wired-gentle side number m P Q R downs ups u v one g marked q k = record {
   tells = on-sent (IsTelling number m R (IsClosed side number v)) ups one
       (on-weaker (IsTelling number m R (IsClosed side number u)) (IsTelling number m R (IsClosed side number v)) ups
       (telling-other number m number m R R (IsClosed side number u) (IsClosed side number v) (λ t n s l x. x)
-      (λ t n. same-command number m t n (IsClosed side number u) (IsClosed side number v) (gentle-held side number HandClosed u v g closed-marked))) k.tells)
+      (λ t n. same-command number m t n (IsClosed side number u) (IsClosed side number v) (gentle-held side number CurrentClosed u v g closed-marked))) k.tells)
       (quiet-sent number m R (IsClosed side number v) one q);
 }
 
-closed-answered : StaysAnswered HandClosed
+closed-answered : StaysAnswered CurrentClosed
 closed-answered x l room h = h
 
-closed-gives : (s : ℕ) (bytes : List ℕ) → TakesGive HandClosed s bytes
+closed-gives : (s : ℕ) (bytes : List ℕ) → TakesGive CurrentClosed s bytes
 closed-gives s bytes x e h = h
 
 -- no Command of the program is taken
 abbrev pub IsNoNext : ℕ → Down → Bool → Type 0
-IsNoNext number (down.Command t n code room) came = t ≡ number → came ≡ false
-IsNoNext number d came = Unit {0}
+IsNoNext number (down.Command t n code room) outcome = t ≡ number → outcome ≡ false
+IsNoNext number d outcome = Unit {0}
 
 abbrev pub IsAnswered : (may : Bool) → Side → ℕ → UnitState → ℕ → Down → Type 0
-IsAnswered may side number u p d = IsNoNext number d (silent (came_of (unit_takes u side p d may)))
+IsAnswered may side number u p d = IsNoNext number d (silent (outcome_of (unit_takes u side p d may)))
 
 easy-held : (may : Bool) → (side : Side) (number : ℕ) (P : Option CurrentCommand → Type 0) (u : UnitState) (p : ℕ) (d : Down) → IsEasy d → IsHeld side number P u →
     IsHeld side number P (unit_after u (unit_takes u side p d may))
@@ -178,13 +178,13 @@ pub wired-takes : (may : Bool) → (side : Side) (drawn number m sent : ℕ) (co
     (u : UnitState) (path : ℕ) (d : Down) → slice_get (queue downs path) 0 ≡ Some d → IsDown drawn number sent codes d → P None → StaysAnswered P →
     ((s : ℕ) (bytes : List ℕ) → Q s bytes → TakesGive P s bytes) → (is_owner u.own side number ≡ true → u.last_command ≡ m) →
     IsAnswered may side number u path d → IsWired side number m P Q R downs ups u →
-    IsWired side number m P Q R (taken downs path) (with_any_sent ups (came_of (unit_takes u side path d may)).sent) (unit_after u (unit_takes u side path d may))
+    IsWired side number m P Q R (taken downs path) (with_any_sent ups (outcome_of (unit_takes u side path d may)).sent) (unit_after u (unit_takes u side path d may))
 wired-takes may side drawn number m sent codes P Q R downs ups u path d e i z a g l n k =
     let v : UnitState = unit_after u (unit_takes u side path d may) in
-    let one : Option (OnPath Up) = (came_of (unit_takes u side path d may)).sent in
+    let one : Option (OnPath Up) = (outcome_of (unit_takes u side path d may)).sent in
     let q : IsGiving number m Q d = on-first (IsGiving number m Q) downs path d k.gives e in
     let closes : IsClosed side number u → IsClosed side number v =
-    λ c. down-held side drawn number m sent codes HandClosed Q may u path d tt closed-answered (λ s bytes x. closed-gives s bytes) l q i n c in
+    λ c. down-held side drawn number m sent codes CurrentClosed Q may u path d tt closed-answered (λ s bytes x. closed-gives s bytes) l q i n c in
     record {
       hand = down-held side drawn number m sent codes P Q may u path d z a g l q i n k.hand;
       gives = on-taken (IsGiving number m Q) downs path k.gives;
@@ -197,7 +197,7 @@ wired-takes may side drawn number m sent codes P Q R downs ups u path d e i z a 
 
 -- the next Command of the program is taken
 pub wired-next : (side : Side) (number m : ℕ) (P W : Option CurrentCommand → Type 0) (Q X : ℕ → List ℕ → Type 0) (R Y : ℕ → Load → Type 0) (downs : List (List Down)) (ups : List (List Up))
-    (u v : UnitState) (path : ℕ) → W v.at_hand → IsWired side number m P Q R downs ups u → IsWired side number (m + 1) W X Y (taken downs path) ups v
+    (u v : UnitState) (path : ℕ) → W v.current → IsWired side number m P Q R downs ups u → IsWired side number (m + 1) W X Y (taken downs path) ups v
 wired-next side number m P W Q X R Y downs ups u v path w k = record {
   hand = λ o. w;
   gives = on-taken (IsGiving number (m + 1) X) downs path

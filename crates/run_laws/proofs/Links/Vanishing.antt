@@ -10,7 +10,7 @@ use Rattle.wires.specs.Queues.{lost, sent}
 use Rattle.subchannel_model.specs.declared.state.Subchannel.{Subchannel}
 use Rattle.subchannel_model.specs.declared.state.SubchannelState.{SubchannelState}
 use Rattle.subchannel_model.specs.Sending.{carried, carried_by, finds_full, with_any_sent, carried_where}
-use Rattle.machine_model.specs.Turns.{SubTurn, leaves}
+use Rattle.machine_model.specs.Results.{SubResult, leaves}
 use Rattle.machine_model.specs.ChooseSteps.{send_sub}
 use Rattle.run_laws.proofs.Commands.UnitOrders.{AreOn, queue-set}
 use Rattle.run_laws.proofs.Units.UnitActs.{if-ok}
@@ -42,7 +42,7 @@ pub lost-fewer : {A : Type 0} (queues : List (List A)) (path : ℕ) → Fewer qu
 lost-fewer queues path P a = queue-set P queues path [] a (All-nil P)
 
 -- what holds of the turn in which the subsystem sends a signal, unless its wire is full
-pub send-ok : (P : SubTurn → Type 0) (sub : Subchannel) (state : SubchannelState) (path : ℕ) (signal : Down) (r : Reply) →
+pub send-ok : (P : SubResult → Type 0) (sub : Subchannel) (state : SubchannelState) (path : ℕ) (signal : Down) (r : Reply) →
     P (leaves r (record sub {
       state = state;
       wires = record sub.wires { down = with_any_sent sub.wires.down (carried_by sub (Some (record { path = path; signal = signal }))) };

@@ -14,46 +14,46 @@ use Rattle.chan_events.specs.declared.reply.Reply.TheVariants as reply
 use Rattle.subchannel_model.specs.declared.state.Subchannel.{Subchannel}
 use Rattle.subchannel_model.specs.declared.state.SubchannelState.{SubchannelState}
 use Rattle.subchannel_model.specs.Conditions.{condition_of}
-use Rattle.subchannel_model.specs.Places.{Found, found_at, is_named, place_in, place_of_id, sub_at, found_with, one_later}
+use Rattle.subchannel_model.specs.Indices.{Found, found_at, is_named, index_in, index_of_id, sub_at, found_with, one_later}
 use Rattle.machine_model.specs.State.{State}
 use Rattle.chan_events.specs.Instructions.{subchannel_word}
 use Rattle.machine_model.specs.InstructionSteps.{stores_irb}
 use Rattle.machine_model.specs.Steps.{Step}
-use Rattle.step_laws.proofs.Places.{get-set, found-there}
+use Rattle.step_laws.proofs.Indices.{get-set, found-there}
 use Rattle.run_laws.specs.CodeSteps.{serials_of, answer_in, IsByTable, state_of}
 use Rattle.step_laws.specs.Codes.{code_by}
 use Rattle.chan_model.specs.declared.answer.Answer.{Answer}
 use Rattle.scsw_irb.specs.declared.scsw.Scsw.{Scsw}
 use Rattle.interruptions.specs.Requests.{WaitingRequests}
-use Rattle.machine_model.specs.Turns.{with_state}
+use Rattle.machine_model.specs.Results.{with_state}
 use Rattle.step_laws.proofs.Executed.{IsEffect, IsDone, code_for, reply_of, state_left}
-use Rattle.step_laws.proofs.Turns as turn
-use Rattle.step_laws.proofs.Turns.{TurnOf, HasTurn, step-turn}
+use Rattle.step_laws.proofs.Results as turn
+use Rattle.step_laws.proofs.Results.{ResultOf, HasResult, step-turn}
 
 -- the subchannel that was found
 abbrev sub_in : Option Found → Option Subchannel
 sub_in None = None
 sub_in (Some f) = Some f.sub
 
-with-sub : (place : ℕ) (o : Option Subchannel) → o ≡ sub_in (found_with place o)
-with-sub place None = refl
-with-sub place (Some sub) = refl
+with-sub : (index : ℕ) (o : Option Subchannel) → o ≡ sub_in (found_with index o)
+with-sub index None = refl
+with-sub index (Some sub) = refl
 
 found-sub : (subs : List Subchannel) (p : Option ℕ) → sub_at subs p ≡ sub_in (found_at subs p)
 found-sub subs None = refl
-found-sub subs (Some place) = with-sub place (slice_get subs place)
+found-sub subs (Some index) = with-sub index (slice_get subs index)
 
--- the places of subchannels stay where one of them is changed
-place-stays : (id : SubchannelId) (subs : List Subchannel) (place : ℕ) (sub new : Subchannel) → slice_get subs place ≡ Some sub →
+-- the indices of subchannels stay where one of them is changed
+index-stays : (id : SubchannelId) (subs : List Subchannel) (index : ℕ) (sub new : Subchannel) → slice_get subs index ≡ Some sub →
     new.setup ≡ sub.setup →
-    place_in id (slice_set subs place new) ≡ place_in id subs
-place-stays id [] place sub new e s = absurd (cc e)
-place-stays id (x ∷ xs) zero sub new e s =
+    index_in id (slice_set subs index new) ≡ index_in id subs
+index-stays id [] index sub new e s = absurd (cc e)
+index-stays id (x ∷ xs) zero sub new e s =
     let same : x ≡ sub = cc e in
-    ap (λ (setup : SubchannelSetup). if (setup.id.set == id.set) && (setup.id.number == id.number) then Some 0 else one_later (place_in id xs))
+    ap (λ (setup : SubchannelSetup). if (setup.id.set == id.set) && (setup.id.number == id.number) then Some 0 else one_later (index_in id xs))
     (s ∙ ap (λ (y : Subchannel). y.setup) (sym same))
-place-stays id (x ∷ xs) (suc place) sub new e s =
-    ap (λ (p : Option ℕ). if is_named id x then Some 0 else one_later p) (place-stays id xs place sub new e s)
+index-stays id (x ∷ xs) (suc index) sub new e s =
+    ap (λ (p : Option ℕ). if is_named id x then Some 0 else one_later p) (index-stays id xs index sub new e s)
 
 -- the code of an instruction for what it found, with the serials of what it left
 abbrev IsAnsweredBy : Instruction → Option Subchannel → Reply → Option Subchannel → Type 0
@@ -74,32 +74,32 @@ reply-answers i sub x is = refl
 module _ (s : State) where
   -- by what is named before and after
   abbrev IsAnsweredAs : Instruction → Option SubchannelId → Reply → Option SubchannelId → State → Type 0
-  IsAnsweredAs i was r is new = IsAnsweredBy i (sub_at s.subs (place_of_id s.subs was)) r (sub_at new.subs (place_of_id new.subs is))
+  IsAnsweredAs i was r is new = IsAnsweredBy i (sub_at s.subs (index_of_id s.subs was)) r (sub_at new.subs (index_of_id new.subs is))
 
-  found-answers : (i : Instruction) (id : SubchannelId) (q : Option Found) (r : Reply) (new : State) → found_at s.subs (place_in id s.subs) ≡ q → IsDone s i q r new →
+  found-answers : (i : Instruction) (id : SubchannelId) (q : Option Found) (r : Reply) (new : State) → found_at s.subs (index_in id s.subs) ≡ q → IsDone s i q r new →
       IsAnsweredAs i (Some id) r (Some id) new
   found-answers i id None r new e k =
-      let before : sub_at s.subs (place_in id s.subs) ≡ None = found-sub s.subs (place_in id s.subs) ∙ ap sub_in e in
-      subst (λ (o : Option Subchannel). IsAnsweredBy i o r (sub_at new.subs (place_in id new.subs))) (sym before)
-      (subst (λ (o : Option Subchannel). IsAnsweredBy i None r o) (sym (ap (λ (subs : List Subchannel). sub_at subs (place_in id subs)) k.subs ∙ before)) (ap answer_in k.replies))
+      let before : sub_at s.subs (index_in id s.subs) ≡ None = found-sub s.subs (index_in id s.subs) ∙ ap sub_in e in
+      subst (λ (o : Option Subchannel). IsAnsweredBy i o r (sub_at new.subs (index_in id new.subs))) (sym before)
+      (subst (λ (o : Option Subchannel). IsAnsweredBy i None r o) (sym (ap (λ (subs : List Subchannel). sub_at subs (index_in id subs)) k.subs ∙ before)) (ap answer_in k.replies))
   found-answers i id (Some f) r new e k =
-      let there : (place_in id s.subs ≡ Some f.place) × (slice_get s.subs f.place ≡ Some f.sub) = found-there s.subs (place_in id s.subs) f e in
+      let there : (index_in id s.subs ≡ Some f.index) × (slice_get s.subs f.index ≡ Some f.sub) = found-there s.subs (index_in id s.subs) f e in
       let after : Subchannel = with_state f.sub (state_left i f.sub k.effect) in
-      let subs : List Subchannel = slice_set s.subs f.place after in
-      let left : sub_at subs (place_in id subs) ≡ Some after =
-      ap (sub_at subs) (place-stays id s.subs f.place f.sub after there.1 refl ∙ there.0) ∙ get-set s.subs f.place f.sub after there.1 in
-      subst (λ (o : Option Subchannel). IsAnsweredBy i o r (sub_at new.subs (place_in id new.subs))) (sym (ap (sub_at s.subs) there.0 ∙ there.1))
-      (subst (λ (o : Option Subchannel). IsAnsweredBy i (Some f.sub) r o) (sym (ap (λ (xs : List Subchannel). sub_at xs (place_in id xs)) k.subs ∙ left))
+      let subs : List Subchannel = slice_set s.subs f.index after in
+      let left : sub_at subs (index_in id subs) ≡ Some after =
+      ap (sub_at subs) (index-stays id s.subs f.index f.sub after there.1 refl ∙ there.0) ∙ get-set s.subs f.index f.sub after there.1 in
+      subst (λ (o : Option Subchannel). IsAnsweredBy i o r (sub_at new.subs (index_in id new.subs))) (sym (ap (sub_at s.subs) there.0 ∙ there.1))
+      (subst (λ (o : Option Subchannel). IsAnsweredBy i (Some f.sub) r o) (sym (ap (λ (xs : List Subchannel). sub_at xs (index_in id xs)) k.subs ∙ left))
       (ap answer_in k.replies ∙ reply-answers i f.sub k.effect k.is))
 
   executes-answer : (cpu : ℕ) (i : Instruction) (id : SubchannelId) (q : Option Found) (r : Reply) (new : State) → subchannel_named s.sets (subchannel_word i) ≡ Some id →
-      found_at s.subs (place_in id s.subs) ≡ q → new.sets ≡ s.sets → IsDone s i q r new → IsByTable s (event.Execute cpu i) r new
+      found_at s.subs (index_in id s.subs) ≡ q → new.sets ≡ s.sets → IsDone s i q r new → IsByTable s (event.Execute cpu i) r new
   executes-answer cpu i id q r new n e sets k =
       let after : subchannel_named new.sets (subchannel_word i) ≡ Some id = ap (λ (x : ℕ). subchannel_named x (subchannel_word i)) sets ∙ n in
       subst (λ (x : Option SubchannelId). IsAnsweredAs i x r (subchannel_named new.sets (subchannel_word i)) new) (sym n)
       (subst (λ (x : Option SubchannelId). IsAnsweredAs i (Some id) r x new) (sym after) (found-answers i id q r new e k))
 
-  turn-answers : (e : Event) (r : Reply) (new : State) (waiting : WaitingRequests) → TurnOf s e r new → IsByTable s e r (record new { requests = waiting })
+  turn-answers : (e : Event) (r : Reply) (new : State) (waiting : WaitingRequests) → ResultOf s e r new → IsByTable s e r (record new { requests = waiting })
   turn-answers _ _ _ waiting (turn.Executes cpu i id q r storage subs n e blocks left done) = executes-answer cpu i id q r _ n e refl done
   turn-answers _ _ _ waiting (turn.Interrupts cpu mask address) = refl
   turn-answers _ _ _ waiting (turn.AsksReset cpu path) = refl
@@ -108,4 +108,4 @@ module _ (s : State) where
 
   pub step-answers : (e : Event) (r : Reply) (new : State) → Step s e r new → IsByTable s e r new
   step-answers e r new step =
-      let is : HasTurn s e r new = step-turn s e r new step in subst (IsByTable s e r) (sym is.settles) (turn-answers e r is.left _ is.turn)
+      let is : HasResult s e r new = step-turn s e r new step in subst (IsByTable s e r) (sym is.settles) (turn-answers e r is.left _ is.turn)

@@ -2,7 +2,7 @@
 -- a dedicated allegiance.
 use Rattle.std.proofs.Common.{◌≡◌, refl, ℕ, Bool, true, false, Option, None, Some}
 use Rattle.std.specs.Prelude.{if◌then◌else◌}
-use Rattle.ccw_walk.specs.Places.{WalkPlace}
+use Rattle.ccw_walk.specs.Positions.{WalkPosition}
 use Rattle.chan_model.specs.UnitReports.{is_last_end}
 use Rattle.data_move.specs.Moving.{residual}
 use Rattle.data_move.specs.declared.transfer.Transfer.{Transfer}
@@ -69,7 +69,7 @@ interrupted-beside s (Some b) = interrupted_by-beside s b
 pub moving-beside : (s : SubchannelState) (b : ActiveProgram) (t : Transfer) → IsBeside (with_transfer s b t) (after_chunk s b t)
 moving-beside s b t = interrupted_by-beside (with_transfer s b t) (record b { transfer = t })
 
-pub suspending-beside : (s : SubchannelState) (program : Program) (walk : WalkPlace) (count : ℕ) → IsBeside s (program_suspended s program walk count)
+pub suspending-beside : (s : SubchannelState) (program : Program) (walk : WalkPosition) (count : ℕ) → IsBeside s (program_suspended s program walk count)
 suspending-beside s program walk count =
     if-both (IsBeside s) program.orb.suppress_suspended
     (record (with_suspended_program s program walk count) { scsw = suspended_alone s.scsw }) (with_cause (with_suspended_program s program walk count) (cause.Suspension walk.tried count))

@@ -7,7 +7,7 @@ use Rattle.chan_model.specs.Signals.{Down}
 use Rattle.chan_model.specs.declared.signal.Down.TheVariants as down
 use Rattle.chan_model.specs.declared.signal.OnPath.{OnPath}
 use Rattle.chan_model.specs.declared.signal.Taken.{Taken}
-use Rattle.chan_model.specs.HoldTable.{HoldStep, hold_after, came_of, hold_quietly, hold_sending, found_busy, left, released, reset_cleared, attended, letting_go}
+use Rattle.chan_model.specs.HoldTable.{HoldStep, hold_after, outcome_of, hold_quietly, hold_sending, found_busy, left, released, reset_cleared, attended, letting_go}
 use Rattle.chan_model.specs.ResetCauses.{engaged_path}
 use Rattle.subchannel_model.specs.declared.cause.StatusCause.TheVariants as cause
 use Rattle.subchannel_model.specs.declared.state.SubchannelState.{SubchannelState}
@@ -44,11 +44,11 @@ pub record IsCalm (s : SubchannelState) (step : UpStep) : Type 0 where
   pub drawn : s.drawn ≤ step.state.drawn
   pub available : step.state.pmcw.available ≡ s.pmcw.available
   pub hold : IsCalmHold s.hold step.state.hold
-  pub sent : ArePlain step.came.sent
+  pub sent : ArePlain step.outcome.sent
 
 -- the hold and its mask are as they were
-pub same-calm : (s x : SubchannelState) (came : Taken Down) → IsSame s x → ArePlain came.sent → IsCalm s (record { state = x; came = came })
-same-calm s x came same plain =
+pub same-calm : (s x : SubchannelState) (outcome : Taken Down) → IsSame s x → ArePlain outcome.sent → IsCalm s (record { state = x; outcome = outcome })
+same-calm s x outcome same plain =
     record {
       drawn = let n : x.drawn ≡ s.drawn = same.drawn in omega (arith, n);
       available = same.available;
@@ -62,7 +62,7 @@ ignored-calm s = record { drawn = omega arith; available = refl; hold = still-ho
 -- the steps of the hold
 pub record IsCalmStep (h : HoldState) (step : Option HoldStep) : Type 0 where
   pub hold : IsCalmHold h (hold_after h step)
-  pub sent : ArePlain (came_of step).sent
+  pub sent : ArePlain (outcome_of step).sent
 
 no-step : (h : HoldState) → IsCalmStep h None
 no-step h = record { hold = still-hold h; sent = tt }
@@ -110,7 +110,7 @@ attended-step h other p a may = no-step (with_phase h other)
 
 -- what is left of the subchannel by them, and a status that is made then
 pub step-calm : (s x : SubchannelState) (step : Option HoldStep) → IsCalmStep s.hold step → IsSame (record s { hold = hold_after s.hold step }) x →
-    IsCalm s (record { state = x; came = came_of step })
+    IsCalm s (record { state = x; outcome = outcome_of step })
 step-calm s x step k same =
     record {
       drawn = let n : x.drawn ≡ s.drawn = same.drawn in omega (arith, n);
@@ -127,7 +127,7 @@ cleared-calm s None k = ignored-calm s
 cleared-calm s (Some step) k = step-calm s (clear_performed (record s { hold = step.state })) (Some step) k (clear_performed-same (record s { hold = step.state }))
 
 pub attention-calm : (s : SubchannelState) (shows : Bool) (step : Option HoldStep) → IsCalmStep s.hold step →
-    IsCalm s (record { state = with_attention (record s { hold = hold_after s.hold step }) shows; came = came_of step })
+    IsCalm s (record { state = with_attention (record s { hold = hold_after s.hold step }) shows; outcome = outcome_of step })
 attention-calm s shows step k =
     step-calm s (with_attention (record s { hold = hold_after s.hold step }) shows) step k (attention-same (record s { hold = hold_after s.hold step }) shows)
 

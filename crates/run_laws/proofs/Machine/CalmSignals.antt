@@ -8,12 +8,12 @@ use Rattle.chan_model.specs.declared.hold_state.HoldState.{HoldState}
 use Rattle.chan_model.specs.Signals.{Load, Up, load_bytes}
 use Rattle.chan_model.specs.declared.signal.Up.TheVariants as up
 use Rattle.chan_model.specs.Loads.{load_length}
-use Rattle.chan_model.specs.HoldTable.{HoldStep, hold_quietly, refusing, granting, program_begun, offer_accepted, found_busy, left, asked_back, released, attended, hold_after, came_of, is_connected, is_on}
+use Rattle.chan_model.specs.HoldTable.{HoldStep, hold_quietly, refusing, granting, program_begun, offer_accepted, found_busy, left, asked_back, released, attended, hold_after, outcome_of, is_connected, is_on}
 use Rattle.chan_model.specs.UnitReports.{is_last_end, is_outward, has_device_end}
-use Rattle.ccw_walk.specs.Places.{WalkPlace}
+use Rattle.ccw_walk.specs.Positions.{WalkPosition}
 use Rattle.data_move.specs.Moving.{residual}
 use Rattle.data_move.specs.declared.transfer.CommandStart.{CommandStart}
-use Rattle.data_move.specs.declared.transfer.CommandStart.TheVariants as came
+use Rattle.data_move.specs.declared.transfer.CommandStart.TheVariants as outcome
 use Rattle.data_move.specs.Commands.{first_command, next_command, begun_with_room, with_room}
 use Rattle.data_move.specs.ToDevice.{chunk_absorbed, next_chunk}
 use Rattle.data_move.specs.FromDevice.{chunk_stored}
@@ -98,19 +98,19 @@ stays : (s : SubchannelState) → IsCalm s s
 stays s = calm-same s s refl refl refl refl
 
 -- Accept
-beginning-calm : (storage : Contents) (s : SubchannelState) (p t : ℕ) (st : ProgramPosition) (walk : WalkPlace) (r : CommandStart) →
+beginning-calm : (storage : Contents) (s : SubchannelState) (p t : ℕ) (st : ProgramPosition) (walk : WalkPosition) (r : CommandStart) →
     Leaves s (first_ccw_outcome storage s p t st walk r)
-beginning-calm storage s p t st walk (came.Begins transfer) =
+beginning-calm storage s p t st walk (outcome.Begins transfer) =
     let next : SubchannelState = with_program_at_work s st.program (begun_with_room storage transfer).transfer in
     calm-then s next (with_pci next next.begun) (calm-same s next refl refl refl refl) (interrupted-calm next next.begun)
-beginning-calm storage s p t st walk came.Suspends =
+beginning-calm storage s p t st walk outcome.Suspends =
     device_released-calm s (program_suspended s st.program walk st.count) (suspending-calm s st.program walk st.count)
-beginning-calm storage s p t st walk (came.Stops check) =
+beginning-calm storage s p t st walk (outcome.Stops check) =
     device_released-calm s (with_cause s (cause.FetchFault walk.tried check st.count)) (cause-calm s (cause.FetchFault walk.tried check st.count))
 
 begin-calm : (storage : Contents) (s : SubchannelState) (p t : ℕ) (st : Option ProgramPosition) → Leaves s (begins_at storage s p t st)
 begin-calm storage s p t None = stays s
-begin-calm storage s p t (Some st) = beginning-calm storage s p t st (first_command storage st.walk).walk (first_command storage st.walk).came
+begin-calm storage s p t (Some st) = beginning-calm storage s p t st (first_command storage st.walk).walk (first_command storage st.walk).outcome
 
 begun-calm : (storage : Contents) (s : SubchannelState) (t q : ℕ) (may same : Bool) → s.hold.phase ≡ hold.Offer t q →
     Leaves s (takes_accept storage s (if same then Some (program_begun s.hold t q may) else None))
@@ -147,14 +147,14 @@ move-calm storage s (Some b) signal load =
     (stays s)
 
 -- End
-chaining-calm : (storage : Contents) (s : SubchannelState) (b : ActiveProgram) (signal : EndSignal) (walk : WalkPlace) (r : CommandStart) →
+chaining-calm : (storage : Contents) (s : SubchannelState) (b : ActiveProgram) (signal : EndSignal) (walk : WalkPosition) (r : CommandStart) →
     Leaves s (next_ccw_outcome storage s b signal walk r)
-chaining-calm storage s b signal walk (came.Begins transfer) = moving-calm s b (begun_with_room storage transfer).transfer
-chaining-calm storage s b signal walk came.Suspends =
+chaining-calm storage s b signal walk (outcome.Begins transfer) = moving-calm s b (begun_with_room storage transfer).transfer
+chaining-calm storage s b signal walk outcome.Suspends =
     let x : SubchannelState = with_allegiance_after_end s signal in
     let y : SubchannelState = program_suspended x b.program walk (residual b.transfer.moving) in
     device_released-calm s y (calm-then s x y (calm-same s x refl refl refl refl) (suspending-calm x b.program walk (residual b.transfer.moving)))
-chaining-calm storage s b signal walk (came.Stops check) =
+chaining-calm storage s b signal walk (outcome.Stops check) =
     let x : SubchannelState = with_allegiance_after_end s signal in
     let y : SubchannelState = with_cause x (cause.FetchFault walk.tried check (residual b.transfer.moving)) in
     device_released-calm s y (calm-then s x y (calm-same s x refl refl refl refl) (cause-calm x (cause.FetchFault walk.tried check (residual b.transfer.moving))))
@@ -174,7 +174,7 @@ ends_at_work-calm storage s (Some b) signal =
     (if-leaves s (has_device_end signal.status)
     (chains_with storage s (with_first_end b) signal (next_command storage (with_first_end b).transfer (has_status_modifier signal.status))) _
     (chaining-calm storage s (with_first_end b) signal (next_command storage (with_first_end b).transfer (has_status_modifier signal.status)).walk
-    (next_command storage (with_first_end b).transfer (has_status_modifier signal.status)).came)
+    (next_command storage (with_first_end b).transfer (has_status_modifier signal.status)).outcome)
     (calm-same s _ refl refl refl refl))
     (stops-calm s b signal))
     (stays s)
@@ -213,6 +213,6 @@ takes-calm returns storage s p (up.Notice b) k = absurd k
 takes-calm returns storage s p (up.Attn a status) k =
     let step : Option HoldStep = attended s.hold s.hold.phase p a (may_take_attention s) in
     let x : SubchannelState = record s { hold = hold_after s.hold step } in
-    let shows : Bool = (came_of step).taken && not (status.0 == 0x20) in
+    let shows : Bool = (outcome_of step).taken && not (status.0 == 0x20) in
     calm-then s x (with_attention x shows) (record { cleared = refl; reset = attended-as s.hold s.hold.phase p a (may_take_attention s) refl; counts = counts-same s x refl refl })
     (attention-calm x shows)

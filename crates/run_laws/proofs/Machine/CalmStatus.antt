@@ -6,7 +6,7 @@ use Rattle.chan_model.specs.declared.hold_state.HoldPhase.TheVariants as hold
 use Rattle.chan_model.specs.declared.hold_state.HoldState.{HoldState}
 use Rattle.chan_model.specs.HoldTable.{letting_go, hold_after}
 use Rattle.chan_model.specs.UnitReports.{is_last_end}
-use Rattle.ccw_walk.specs.Places.{WalkPlace}
+use Rattle.ccw_walk.specs.Positions.{WalkPosition}
 use Rattle.data_move.specs.Moving.{residual}
 use Rattle.scsw_irb.specs.declared.serials.Serials.{Serials}
 use Rattle.data_move.specs.declared.transfer.Transfer.{Transfer}
@@ -148,7 +148,7 @@ pub moving-calm : (s : SubchannelState) (b : ActiveProgram) (t : Transfer) → I
 moving-calm s b t =
     let x : SubchannelState = with_transfer s b t in calm-then s x (after_chunk s b t) (calm-same s x refl refl refl refl) (interrupted-calm x x.begun)
 
-pub suspending-calm : (s : SubchannelState) (program : Program) (walk : WalkPlace) (count : ℕ) → IsCalm s (program_suspended s program walk count)
+pub suspending-calm : (s : SubchannelState) (program : Program) (walk : WalkPosition) (count : ℕ) → IsCalm s (program_suspended s program walk count)
 suspending-calm s program walk count =
     let x : SubchannelState = with_suspended_program s program walk count in
     let c : StatusCause = cause.Suspension walk.tried count in

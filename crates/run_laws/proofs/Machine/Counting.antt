@@ -13,48 +13,48 @@ use Rattle.chan_events.specs.Replies.{Reply}
 use Rattle.chan_events.specs.declared.reply.Reply.TheVariants as reply
 use Rattle.subchannel_model.specs.declared.state.Subchannel.{Subchannel}
 use Rattle.subchannel_model.specs.Start.{started}
-use Rattle.machine_model.specs.State.{State, place_of}
+use Rattle.machine_model.specs.State.{State, index_of}
 use Rattle.machine_model.specs.InstructionSteps.{function_sub}
 use Rattle.step_laws.specs.Walks as walked
 use Rattle.step_laws.specs.Walks.{Walked, IsQuiet, is_start}
-use Rattle.step_laws.proofs.Places.{get-set}
+use Rattle.step_laws.proofs.Indices.{get-set}
 use Rattle.run_laws.specs.Counts.{IsStart, CountsByStatus}
 use Rattle.run_laws.proofs.Machine.Following.{step-follows}
 
 module _ (s : State) where
   -- the reply is code 0
-  accepted : (cpu word address : ℕ) (r : Reply) (place : ℕ) → IsStart s (event.Execute cpu (instruction.Ssch word address)) r place →
-      (is_start r ≡ true) × (place_of s word ≡ Some place)
-  accepted cpu word address (reply.Code (answer.Zero serials)) place k = (refl, k)
-  accepted cpu word address r place k = absurd k
+  accepted : (cpu word address : ℕ) (r : Reply) (index : ℕ) → IsStart s (event.Execute cpu (instruction.Ssch word address)) r index →
+      (is_start r ≡ true) × (index_of s word ≡ Some index)
+  accepted cpu word address (reply.Code (answer.Zero serials)) index k = (refl, k)
+  accepted cpu word address r index k = absurd k
 
   -- by no other kind of step is a start accepted
-  not-start : (e : Event) (r : Reply) (place : ℕ) → IsQuiet e r → IsStart s e r place → ⊥
-  not-start (event.Execute cpu (instruction.Ssch word address)) r place q k = cc (sym q ∙ (accepted cpu word address r place k).0)
-  not-start e r place q k = k
+  not-start : (e : Event) (r : Reply) (index : ℕ) → IsQuiet e r → IsStart s e r index → ⊥
+  not-start (event.Execute cpu (instruction.Ssch word address)) r index q k = cc (sym q ∙ (accepted cpu word address r index k).0)
+  not-start e r index q k = k
 
   start-zero : (sub : Subchannel) (orb : Orb) (c : ConditionCode) → is_start (function_sub sub c (started sub.state orb)).reply ≡ true →
       (function_sub sub c (started sub.state orb)).sub.state.scsw.count ≡ 0
   start-zero sub orb code.Zero k = refl
   start-zero sub orb c k = absurd (cc k)
 
-  started-zero : (e : Event) (r : Reply) (new : State) → Walked s e r new → (place : ℕ) (after : Subchannel) → slice_get new.subs place ≡ Some after →
-      IsStart s e r place → after.state.scsw.count ≡ 0
-  started-zero _ _ _ (walked.Started cpu word address at sub orb c new named one) place after left k =
+  started-zero : (e : Event) (r : Reply) (new : State) → Walked s e r new → (index : ℕ) (after : Subchannel) → slice_get new.subs index ≡ Some after →
+      IsStart s e r index → after.state.scsw.count ≡ 0
+  started-zero _ _ _ (walked.Started cpu word address at sub orb c new named one) index after left k =
       let x : Subchannel = (function_sub sub c (started sub.state orb)).sub in
-      let start = accepted cpu word address (function_sub sub c (started sub.state orb)).reply place k in
-      let here : at ≡ place = same_Some at place (sym named ∙ start.1) in
+      let start = accepted cpu word address (function_sub sub c (started sub.state orb)).reply index k in
+      let here : at ≡ index = same_Some at index (sym named ∙ start.1) in
       let same : x ≡ after =
       same_Some x after (sym (get-set s.subs at sub x one.there) ∙ sym (ap (λ (xs : List Subchannel). slice_get xs at) one.subs)
       ∙ ap (λ (i : ℕ). slice_get new.subs i) here ∙ left) in
       ap (λ (y : Subchannel). y.state.scsw.count) (sym same) ∙ start-zero sub orb c start.0
-  started-zero _ _ _ (walked.Stays e r new q sets subs units up) place after left k = absurd (not-start e r place q k)
-  started-zero _ _ _ (walked.Tested e r at sub c new q one address by answers) place after left k = absurd (not-start e r place q k)
-  started-zero _ _ _ (walked.Modified e r at sub given c new q one) place after left k = absurd (not-start e r place q k)
-  started-zero _ _ _ (walked.Performed e r at sub f c new q one by answers) place after left k = absurd (not-start e r place q k)
-  started-zero _ _ _ (walked.Swept e r what new q sets subs units by) place after left k = absurd (not-start e r place q k)
-  started-zero _ _ _ w place after left k = absurd k
+  started-zero _ _ _ (walked.Stays e r new q sets subs units up) index after left k = absurd (not-start e r index q k)
+  started-zero _ _ _ (walked.Tested e r at sub c new q one address by answers) index after left k = absurd (not-start e r index q k)
+  started-zero _ _ _ (walked.Modified e r at sub given c new q one) index after left k = absurd (not-start e r index q k)
+  started-zero _ _ _ (walked.Performed e r at sub f c new q one by answers) index after left k = absurd (not-start e r index q k)
+  started-zero _ _ _ (walked.Swept e r what new q sets subs units by) index after left k = absurd (not-start e r index q k)
+  started-zero _ _ _ w index after left k = absurd k
 
   pub counts-by-status : (e : Event) (r : Reply) (new : State) → Walked s e r new → CountsByStatus s e r new
-  counts-by-status e r new w place sub after there left =
-      (started-zero e r new w place after left, (step-follows s e r new w place sub after there left).counts.kept)
+  counts-by-status e r new w index sub after there left =
+      (started-zero e r new w index after left, (step-follows s e r new w index sub after there left).counts.kept)

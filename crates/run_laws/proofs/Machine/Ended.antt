@@ -26,7 +26,7 @@ use Rattle.subchannel_model.specs.Choosing.{chosen, marked_sub}
 use Rattle.subchannel_model.specs.Start.{started}
 use Rattle.machine_model.specs.InstructionSteps.{function_sub}
 use Rattle.machine_model.specs.State.{State, opening_of}
-use Rattle.machine_model.specs.Turns.{SubTurn, UpTurn, DownTurn}
+use Rattle.machine_model.specs.Results.{SubResult, UpResult, DownResult}
 use Rattle.subchannel_model.specs.Sending.{carried_by, finds_full}
 use Rattle.machine_model.specs.ReportSteps.{report_taken}
 use Rattle.machine_model.specs.Steps.{Step, Run}
@@ -44,11 +44,11 @@ use Rattle.run_laws.proofs.Machine.Swept.{swept-hold, swept-tells}
 use Rattle.run_laws.proofs.Machine.Linked.{IsLinked, AreApart, AreLinked}
 use Rattle.run_laws.proofs.Machine.Moves.{if-ok}
 use Rattle.run_laws.proofs.Machine.RunAgrees.{start-hold, test-hold, modify-hold, function-hold, run-told}
-use Rattle.run_laws.proofs.Machine.TaleEvents.{Tells, start-tells, test-tells, modify-tells, function-tells, choose-tells, marked-tells, up_sub-tells}
+use Rattle.run_laws.proofs.Machine.TraceEvents.{Tells, start-tells, test-tells, modify-tells, function-tells, choose-tells, marked-tells, up_sub-tells}
 use Rattle.run_laws.proofs.Machine.UnitEvents.{Follows, IsKept, hold-kept, down-kept, report-kept, act-kept, owing-kept, told_links, links-wider, restart-good, with_owed, owed-link, owed-due}
 use Rattle.agreement_laws.specs.Moving.{Restarts}
 use Rattle.step_laws.proofs.Marks.{marked-suits}
-use Rattle.step_laws.proofs.Places.{set-get, map-get}
+use Rattle.step_laws.proofs.Indices.{set-get, map-get}
 
 -- what is due of links is due of the subchannel and the unit for which they stand
 due-of : (w : Links) (side : Side) (h : HoldState) (u : UnitState) → (link_of w side).hold ≡ h → w.«unit» ≡ u → IsResetDue w side → IsOutstanding h.phase (side_of u side)
@@ -64,11 +64,11 @@ agree-of w side h u e f d =
     subst (λ (v : UnitState). Agrees h.phase (owner_of v.own side)) f (subst (λ (x : HoldState). Agrees x.phase (owner_of w.«unit».own side)) e d)
 
 -- the subchannel of the event
-kept-ends : (T : Type 0) (subs : List Subchannel) (at place : ℕ) (sub after : Subchannel) (u v : UnitState) (which : Option ℕ) (k mine : StartCounts) → IsLinked subs at u which k →
-    slice_get subs place ≡ Some sub → sub.setup.«unit» ≡ at → IsKept T sub after u v k mine → IsOutstanding sub.state.hold.phase (side_of u sub.setup.side) →
+kept-ends : (T : Type 0) (subs : List Subchannel) (at index : ℕ) (sub after : Subchannel) (u v : UnitState) (which : Option ℕ) (k mine : StartCounts) → IsLinked subs at u which k →
+    slice_get subs index ≡ Some sub → sub.setup.«unit» ≡ at → IsKept T sub after u v k mine → IsOutstanding sub.state.hold.phase (side_of u sub.setup.side) →
     IsOutstanding after.state.hold.phase (side_of v sub.setup.side) ⊎ (T × Agrees after.state.hold.phase (owner_of v.own sub.setup.side))
-kept-ends T subs at place sub after u v which k mine w e h kept d =
-    let l : IsLink sub (link_of w.links sub.setup.side) = w.stand place sub e h in
+kept-ends T subs at index sub after u v which k mine w e h kept d =
+    let l : IsLink sub (link_of w.links sub.setup.side) = w.stand index sub e h in
     let f : Follows T w.links sub.setup.side sub after v k mine = kept.follows w.links w.good w.«unit» l in
     elim (f.ends sub.setup.side (due-for w.links sub.setup.side sub.state.hold u l.hold w.«unit» d)) [
       | inl z ↦ inl (due-of f.links sub.setup.side after.state.hold v f.here.hold f.«unit» z)
@@ -80,14 +80,14 @@ not-true : (b : Bool) → (b ≡ true → ⊥) → b ≡ false
 not-true true n = absurd (n refl)
 not-true false n = refl
 
-other-ends : (T : Type 0) (subs : List Subchannel) (at place i : ℕ) (sub after x : Subchannel) (u v : UnitState) (which : Option ℕ) (k mine : StartCounts) → AreApart subs → IsLinked subs at u which k →
-    slice_get subs place ≡ Some sub → sub.setup.«unit» ≡ at → slice_get subs i ≡ Some x → x.setup.«unit» ≡ at → i ≢ place → IsKept T sub after u v k mine →
+other-ends : (T : Type 0) (subs : List Subchannel) (at index i : ℕ) (sub after x : Subchannel) (u v : UnitState) (which : Option ℕ) (k mine : StartCounts) → AreApart subs → IsLinked subs at u which k →
+    slice_get subs index ≡ Some sub → sub.setup.«unit» ≡ at → slice_get subs i ≡ Some x → x.setup.«unit» ≡ at → i ≢ index → IsKept T sub after u v k mine →
     IsOutstanding x.state.hold.phase (side_of u x.setup.side) → IsOutstanding x.state.hold.phase (side_of v x.setup.side)
-other-ends T subs at place i sub after x u v which k mine apart w e h ex hx n kept d =
-    let l : IsLink sub (link_of w.links sub.setup.side) = w.stand place sub e h in
+other-ends T subs at index i sub after x u v which k mine apart w e h ex hx n kept d =
+    let l : IsLink sub (link_of w.links sub.setup.side) = w.stand index sub e h in
     let m : IsLink x (link_of w.links x.setup.side) = w.stand i x ex hx in
     let f : Follows T w.links sub.setup.side sub after v k mine = kept.follows w.links w.good w.«unit» l in
-    let not : same_side sub.setup.side x.setup.side ≡ true → ⊥ = λ s. n (sym (apart place i sub x e ex (h ∙ sym hx) s)) in
+    let not : same_side sub.setup.side x.setup.side ≡ true → ⊥ = λ s. n (sym (apart index i sub x e ex (h ∙ sym hx) s)) in
     let other : same_side sub.setup.side x.setup.side ≡ false = not-true (same_side sub.setup.side x.setup.side) not in
     elim (f.ends x.setup.side (due-for w.links x.setup.side x.state.hold u m.hold w.«unit» d)) [
       | inl z ↦ due-of f.links x.setup.side x.state.hold v ((f.there x.setup.side other).hold ∙ m.hold) f.«unit» z
@@ -99,12 +99,12 @@ none-ends : (sub : Subchannel) (u : UnitState) (step : Option UnitStep) → IfOk
 none-ends sub u None = tt
 none-ends sub u (Some step) = if-ok (λ t. IsEnd sub u t.reply → ⊥) (finds_full sub.wires.up (carried_by sub step.sent)) _ _ tt (λ z. z)
 
-no-end : (sub : Subchannel) (u : UnitState) (step : Option UnitStep) (t : DownTurn) → report_taken sub step ≡ Ok t → IsEnd sub u t.reply → ⊥
-no-end sub u step t h z = subst (λ (r : Result DownTurn Fault). IfOk r (λ t. IsEnd sub u t.reply → ⊥)) h (none-ends sub u step) z
+no-end : (sub : Subchannel) (u : UnitState) (step : Option UnitStep) (t : DownResult) → report_taken sub step ≡ Ok t → IsEnd sub u t.reply → ⊥
+no-end sub u step t h z = subst (λ (r : Result DownResult Fault). IfOk r (λ t. IsEnd sub u t.reply → ⊥)) h (none-ends sub u step) z
 
-no-act-end : (sub : Subchannel) (u : UnitState) (what : UnitAct) (t : DownTurn) → act_sub sub u what ≡ Ok t → IsEnd sub u t.reply → ⊥
+no-act-end : (sub : Subchannel) (u : UnitState) (what : UnitAct) (t : DownResult) → act_sub sub u what ≡ Ok t → IsEnd sub u t.reply → ⊥
 no-act-end sub u what t h z =
-    subst (λ (r : Result DownTurn Fault). IfOk r (λ t. IsEnd sub u t.reply → ⊥)) h
+    subst (λ (r : Result DownResult Fault). IfOk r (λ t. IsEnd sub u t.reply → ⊥)) h
     (if-ok (λ t. IsEnd sub u t.reply → ⊥) (has_path_of_act sub what) (report_taken sub (acts u sub.setup.side what)) _ (none-ends sub u (acts u sub.setup.side what)) tt) z
 
 some-same : {A : Type 0} (o : Option A) (x y : A) → o ≡ Some x → o ≡ Some y → x ≡ y
@@ -212,34 +212,34 @@ module _ (laws : AreLaws) (s : State) (which : Option ℕ) (k : StartCounts) (li
       (some-same (slice_get s.units x.setup.«unit») u v eu (subst (λ (us : List UnitState). slice_get us x.setup.«unit» ≡ Some v) units ev))
       (subst (λ (w : Subchannel). IsOutstanding w.state.hold.phase (side_of u x.setup.side))
       (some-same (slice_get s.subs i) x y ex (subst (λ (xs : List Subchannel). slice_get xs i ≡ Some y) subs ey)) d))
-  ends-walk _ _ _ (walked.Started cpu word address place sub orb c new n o) = sub-ends (event.Execute cpu (instruction.Ssch word address)) (function_sub sub c (started sub.state orb)).reply new place sub _ (with_start (function_sub sub c (started sub.state orb)).reply k) o (start-hold sub orb c) (start-tells sub orb c k)
-  ends-walk _ _ _ (walked.Tested e r place sub c new q o address by answers) = sub-ends e r new place sub _ k o (test-hold sub c) (test-tells sub c k)
-  ends-walk _ _ _ (walked.Modified e r place sub given c new q o) = sub-ends e r new place sub _ k o (modify-hold sub given c) (modify-tells sub given c k)
-  ends-walk _ _ _ (walked.Performed e r place sub f c new q o by answers) = sub-ends e r new place sub _ k o (function-hold laws sub f c) (function-tells sub f c k)
-  ends-walk _ _ _ (walked.Chosen word place sub choice t new n x w h o) =
+  ends-walk _ _ _ (walked.Started cpu word address index sub orb c new n o) = sub-ends (event.Execute cpu (instruction.Ssch word address)) (function_sub sub c (started sub.state orb)).reply new index sub _ (with_start (function_sub sub c (started sub.state orb)).reply k) o (start-hold sub orb c) (start-tells sub orb c k)
+  ends-walk _ _ _ (walked.Tested e r index sub c new q o address by answers) = sub-ends e r new index sub _ k o (test-hold sub c) (test-tells sub c k)
+  ends-walk _ _ _ (walked.Modified e r index sub given c new q o) = sub-ends e r new index sub _ k o (modify-hold sub given c) (modify-tells sub given c k)
+  ends-walk _ _ _ (walked.Performed e r index sub f c new q o by answers) = sub-ends e r new index sub _ k o (function-hold laws sub f c) (function-tells sub f c k)
+  ends-walk _ _ _ (walked.Chosen word index sub choice t new n x w h o) =
       let marked : Subchannel = marked_sub sub choice in
       let fit : Suits (chosen sub choice) marked.state = marked-suits (chosen sub choice) sub.state marked.state.pmcw marked.state.scsw w in
-      sub-ends (event.Choose word) _ new place sub t.sub (with_offer t.reply k) o
-      (marked-turns sub t.sub choice (subst (λ (r : Result SubTurn Fault). IfOk r (λ t. IsOfHold marked t.sub)) h (choose-turns laws.keeps marked (chosen sub choice) fit.fits)))
+      sub-ends (event.Choose word) _ new index sub t.sub (with_offer t.reply k) o
+      (marked-turns sub t.sub choice (subst (λ (r : Result SubResult Fault). IfOk r (λ t. IsOfHold marked t.sub)) h (choose-turns laws.keeps marked (chosen sub choice) fit.fits)))
       (marked-tells sub choice t.sub.state k (with_offer t.reply k)
-      (subst (λ (r : Result SubTurn Fault). IfOk r (λ t. Tells marked t.sub.state k (with_offer t.reply k))) h (choose-tells marked (chosen sub choice) k fit.fits fit.found)))
-  ends-walk _ _ _ (walked.Met word path returns place sub t new n h o may) =
-      sub-ends (event.Up word path) _ new place sub t.sub k o
-      (subst (λ (r : Result UpTurn Fault). IfOk r (λ t. IsOfHold sub t.sub)) h (up-turns laws.keeps returns s.storage sub path))
-      (subst (λ (r : Result UpTurn Fault). IfOk r (λ t. Tells sub t.sub.state k k)) h (up_sub-tells returns s.storage sub path k))
-  ends-walk _ _ _ (walked.Sunk word path may owed place sub u t new n h o) =
-      unit-ends (event.Down word path) _ new place sub.setup.«unit» sub t.sub u (owing owed t.«unit») (with_taken t.reply k) o refl
+      (subst (λ (r : Result SubResult Fault). IfOk r (λ t. Tells marked t.sub.state k (with_offer t.reply k))) h (choose-tells marked (chosen sub choice) k fit.fits fit.found)))
+  ends-walk _ _ _ (walked.Met word path returns index sub t new n h o may) =
+      sub-ends (event.Up word path) _ new index sub t.sub k o
+      (subst (λ (r : Result UpResult Fault). IfOk r (λ t. IsOfHold sub t.sub)) h (up-turns laws.keeps returns s.storage sub path))
+      (subst (λ (r : Result UpResult Fault). IfOk r (λ t. Tells sub t.sub.state k k)) h (up_sub-tells returns s.storage sub path k))
+  ends-walk _ _ _ (walked.Sunk word path may owed index sub u t new n h o) =
+      unit-ends (event.Down word path) _ new index sub.setup.«unit» sub t.sub u (owing owed t.«unit») (with_taken t.reply k) o refl
       (owing-kept _ owed sub t.sub u t.«unit» k (with_taken t.reply k)
-      (subst (λ (r : Result DownTurn Fault). IfOk r (λ t. IsKept (IsEnd sub u t.reply) sub t.sub u t.«unit» k (with_taken t.reply k))) h (down-kept laws may sub path u k)))
+      (subst (λ (r : Result DownResult Fault). IfOk r (λ t. IsKept (IsEnd sub u t.reply) sub t.sub u t.«unit» k (with_taken t.reply k))) h (down-kept laws may sub path u k)))
       (λ z. n)
-  ends-walk _ _ _ (walked.Reported at place sub u report t new n reached h o) =
+  ends-walk _ _ _ (walked.Reported at index sub u report t new n reached h o) =
       let both : ((sub.setup.«unit» == at) ≡ true) × (same_side sub.setup.side report.side ≡ true) = and_parts (sub.setup.«unit» == at) (same_side sub.setup.side report.side) reached in
-      unit-ends (event.Report at report) _ new place at sub t.sub u t.«unit» k o (sym (eqb-true sub.setup.«unit» at both.0))
-      (subst (λ (r : Result DownTurn Fault). IfOk r (λ t. IsKept (IsEnd sub u t.reply) sub t.sub u t.«unit» k k)) h (report-kept laws sub u report k both.1))
+      unit-ends (event.Report at report) _ new index at sub t.sub u t.«unit» k o (sym (eqb-true sub.setup.«unit» at both.0))
+      (subst (λ (r : Result DownResult Fault). IfOk r (λ t. IsKept (IsEnd sub u t.reply) sub t.sub u t.«unit» k k)) h (report-kept laws sub u report k both.1))
       (λ z. absurd (no-end sub u (unit_reports u report) t h z))
-  ends-walk _ _ _ (walked.Acted at place sub u what t new side its h o) =
-      unit-ends (event.Act at what) _ new place at sub t.sub u t.«unit» k o (sym its)
-      (subst (λ (r : Result DownTurn Fault). IfOk r (λ t. IsKept (IsEnd sub u t.reply) sub t.sub u t.«unit» k k)) h (act-kept laws sub u what k side))
+  ends-walk _ _ _ (walked.Acted at index sub u what t new side its h o) =
+      unit-ends (event.Act at what) _ new index at sub t.sub u t.«unit» k o (sym its)
+      (subst (λ (r : Result DownResult Fault). IfOk r (λ t. IsKept (IsEnd sub u t.reply) sub t.sub u t.«unit» k k)) h (act-kept laws sub u what k side))
       (λ z. absurd (no-act-end sub u what t h z))
   ends-walk _ _ _ (walked.Restarted at owed u r new found sets subs units up) = restart-ends (event.Restart at) r new at owed u found subs units
   ends-walk _ _ _ (walked.Swept e r what new q sets subs units by) = swept-ends e r new what subs units

@@ -10,7 +10,7 @@ use Rattle.chan_model.specs.Signals.{Down, Load, Up, load_bytes}
 use Rattle.chan_model.specs.declared.signal.Down.TheVariants as down
 use Rattle.chan_model.specs.declared.signal.OnPath.{OnPath}
 use Rattle.chan_model.specs.declared.signal.Up.TheVariants as up
-use Rattle.chan_model.specs.HoldTable.{HoldStep, program_begun, hold_after, hold_takes, is_connected, is_on, letting_go, sending_reset, came_of}
+use Rattle.chan_model.specs.HoldTable.{HoldStep, program_begun, hold_after, hold_takes, is_connected, is_on, letting_go, sending_reset, outcome_of}
 use Rattle.chan_model.specs.UnitReports.{is_last_end, is_outward, has_device_end}
 use Rattle.wires.specs.Queues.{queue}
 use Rattle.agreement_laws.specs.Links.{Link}
@@ -18,13 +18,13 @@ use Rattle.agreement_laws.specs.Moving.{reset_again, Offers, Sends_reset, Lets_g
 use Rattle.subchannel_model.specs.declared.signals.DataSignal.{DataSignal}
 use Rattle.subchannel_model.specs.declared.signals.EndSignal.{EndSignal}
 use Rattle.subchannel_model.specs.declared.state.ActiveProgram.{ActiveProgram}
-use Rattle.ccw_walk.specs.Places.{WalkPlace}
+use Rattle.ccw_walk.specs.Positions.{WalkPosition}
 use Rattle.subchannel_model.specs.declared.state.Chosen.{Chosen}
 use Rattle.subchannel_model.specs.declared.state.Chosen.TheVariants as chosen
 use Rattle.subchannel_model.specs.declared.state.Subchannel.{Subchannel}
 use Rattle.subchannel_model.specs.declared.state.SubchannelState.{SubchannelState}
 use Rattle.data_move.specs.declared.transfer.CommandStart.{CommandStart}
-use Rattle.data_move.specs.declared.transfer.CommandStart.TheVariants as came
+use Rattle.data_move.specs.declared.transfer.CommandStart.TheVariants as outcome
 use Rattle.data_move.specs.Moving.{residual}
 use Rattle.chan_model.specs.Loads.{load_length}
 use Rattle.data_move.specs.declared.transfer.NextChunk.{NextChunk}
@@ -41,7 +41,7 @@ use Rattle.subchannel_model.specs.Causes.{with_cause}
 use Rattle.subchannel_model.specs.Choosing.{IsFitFor, marked_sub, reset_sent, halt_sent}
 use Rattle.subchannel_model.specs.SystemReset.{reset_by_system}
 use Rattle.subchannel_model.specs.Ends.{has_status_modifier, chains_command}
-use Rattle.machine_model.specs.Turns.{SubTurn, UpTurn}
+use Rattle.machine_model.specs.Results.{SubResult, UpResult}
 use Rattle.machine_model.specs.ChooseSteps.{choose_sub}
 use Rattle.subchannel_model.specs.Sending.{carried_by, finds_full}
 use Rattle.machine_model.specs.UpSteps.{up_front, up_sub}
@@ -67,7 +67,7 @@ pub record IsOfHold (sub new : Subchannel) : Type 0 where
   pub reaches : (l : Link) → IsLink sub l → IsReached l new
 
 abbrev acted_of : UpStep → HoldActed
-acted_of step = record { drawn = step.state.drawn; hold = step.state.hold; sent = step.came.sent }
+acted_of step = record { drawn = step.state.drawn; hold = step.state.hold; sent = step.outcome.sent }
 
 abbrev IsOf : Link → SubchannelState → Type 0
 IsOf l s = IsAt l s.drawn s.hold
@@ -86,15 +86,15 @@ if-meets l false x y e f = f
 ignored : (l : Link) (s : SubchannelState) → IsOf l s → Leaves l (signal_ignored s)
 ignored l s at = stays l s.drawn s.hold at
 
-stepped-is : (n : ℕ) (h : HoldState) (step : Option HoldStep) → hold_stepped n h step ≡ record { drawn = n; hold = hold_after h step; sent = (came_of step).sent }
+stepped-is : (n : ℕ) (h : HoldState) (step : Option HoldStep) → hold_stepped n h step ≡ record { drawn = n; hold = hold_after h step; sent = (outcome_of step).sent }
 stepped-is n h None = refl
 stepped-is n h (Some step) = refl
 
-abbrev IsSubTurn : Subchannel → Result SubTurn Fault → Type 0
-IsSubTurn sub r = IfOk r (λ t. IsOfHold sub t.sub)
+abbrev IsSubResult : Subchannel → Result SubResult Fault → Type 0
+IsSubResult sub r = IfOk r (λ t. IsOfHold sub t.sub)
 
-abbrev IsUpTurn : Subchannel → Result UpTurn Fault → Type 0
-IsUpTurn sub r = IfOk r (λ t. IsOfHold sub t.sub)
+abbrev IsUpResult : Subchannel → Result UpResult Fault → Type 0
+IsUpResult sub r = IfOk r (λ t. IsOfHold sub t.sub)
 
 if-turns : {A : Type 0} (P : A → Type 0) (b : Bool) (x y : Result A Fault) → IfOk x P → IfOk y P → IfOk (if b then x else y) P
 if-turns P true x y e f = e
@@ -128,7 +128,7 @@ reset-leaves l s (Some step) r = reaches-same l (record s { hold = step.state })
 
 module _ (keeps : Keeps) where
   device_released-leaves : (l : Link) (n : ℕ) (h : HoldState) → IsAt l n h →
-      Reaches l (record { drawn = n; hold = hold_after h (letting_go h h.phase); sent = (came_of (letting_go h h.phase)).sent })
+      Reaches l (record { drawn = n; hold = hold_after h (letting_go h h.phase); sent = (outcome_of (letting_go h h.phase)).sent })
   device_released-leaves l n h at = acts keeps l n h Lets_go _ tt at (stepped-is n h (letting_go h h.phase))
 
   hold_outcome-leaves : (returns : Bool) → (l : Link) (s : SubchannelState) (p : ℕ) (x : Up) → Contains l.ups (record { path = p; signal = x }) → IsOf l s →
@@ -154,18 +154,18 @@ module _ (keeps : Keeps) where
   command-leaves l s x p t n code room h at = acts keeps l x.drawn x.hold (Sends _) _ tt (still-of l s x h at) refl
 
   -- Accept: the program that was offered begins or goes on, or lets the device go
-  beginning-leaves : (storage : Contents) (l : Link) (s : SubchannelState) (p t : ℕ) (st : ProgramPosition) (walk : WalkPlace) (r : CommandStart) → IsOf l s →
+  beginning-leaves : (storage : Contents) (l : Link) (s : SubchannelState) (p t : ℕ) (st : ProgramPosition) (walk : WalkPosition) (r : CommandStart) → IsOf l s →
       Leaves l (first_ccw_outcome storage s p t st walk r)
-  beginning-leaves storage l s p t st walk (came.Begins transfer) at =
+  beginning-leaves storage l s p t st walk (outcome.Begins transfer) at =
       let next = with_program_at_work s st.program (begun_with_room storage transfer).transfer in
       command-leaves l s (with_pci next next.begun) p t _ _ _ (same-then s next (with_pci next next.begun) (same-hold s next refl refl) (interrupted-same next next.begun)) at
-  beginning-leaves storage l s p t st walk came.Suspends at = let-leaves l s (program_suspended s st.program walk st.count) (suspending-same s st.program walk st.count) at
-  beginning-leaves storage l s p t st walk (came.Stops check) at =
+  beginning-leaves storage l s p t st walk outcome.Suspends at = let-leaves l s (program_suspended s st.program walk st.count) (suspending-same s st.program walk st.count) at
+  beginning-leaves storage l s p t st walk (outcome.Stops check) at =
       let-leaves l s (with_cause s (cause.FetchFault walk.tried check st.count)) (cause-same s (cause.FetchFault walk.tried check st.count)) at
 
   begin-leaves : (storage : Contents) (l : Link) (s : SubchannelState) (p t : ℕ) (st : Option ProgramPosition) → IsOf l s → Leaves l (begins_at storage s p t st)
   begin-leaves storage l s p t None at = ignored l s at
-  begin-leaves storage l s p t (Some st) at = beginning-leaves storage l s p t st (first_command storage st.walk).walk (first_command storage st.walk).came at
+  begin-leaves storage l s p t (Some st) at = beginning-leaves storage l s p t st (first_command storage st.walk).walk (first_command storage st.walk).outcome at
 
   -- the hold offers the number u, or another
   begun-leaves : (storage : Contents) (l : Link) (s : SubchannelState) (h : HoldState) (p t q u : ℕ) (may same : Bool) →
@@ -213,15 +213,15 @@ module _ (keeps : Keeps) where
       (ignored l s at)
 
   -- End
-  chaining-leaves : (storage : Contents) (l : Link) (s : SubchannelState) (b : ActiveProgram) (signal : EndSignal) (walk : WalkPlace) (r : CommandStart) → IsOf l s →
+  chaining-leaves : (storage : Contents) (l : Link) (s : SubchannelState) (b : ActiveProgram) (signal : EndSignal) (walk : WalkPosition) (r : CommandStart) → IsOf l s →
       Leaves l (next_ccw_outcome storage s b signal walk r)
-  chaining-leaves storage l s b signal walk (came.Begins transfer) at =
+  chaining-leaves storage l s b signal walk (outcome.Begins transfer) at =
       let x = after_chunk s b (begun_with_room storage transfer).transfer in
       command-leaves l s x signal.path signal.number _ _ _ (moving-same s b (begun_with_room storage transfer).transfer) at
-  chaining-leaves storage l s b signal walk came.Suspends at =
+  chaining-leaves storage l s b signal walk outcome.Suspends at =
       let x = program_suspended (with_allegiance_after_end s signal) b.program walk (residual b.transfer.moving) in
       let-leaves l (with_allegiance_after_end s signal) x (suspending-same (with_allegiance_after_end s signal) b.program walk (residual b.transfer.moving)) at
-  chaining-leaves storage l s b signal walk (came.Stops check) at =
+  chaining-leaves storage l s b signal walk (outcome.Stops check) at =
       let x = with_cause (with_allegiance_after_end s signal) (cause.FetchFault walk.tried check (residual b.transfer.moving)) in
       let-leaves l (with_allegiance_after_end s signal) x (cause-same (with_allegiance_after_end s signal) (cause.FetchFault walk.tried check (residual b.transfer.moving))) at
 
@@ -259,30 +259,30 @@ module _ (keeps : Keeps) where
   takes-leaves returns storage l s p (up.Notice b) c at = notice-leaves l s p b (nat_lt s.hold.known b) c at refl
   takes-leaves returns storage l s p (up.Attn a status) c at =
       let step : Option HoldStep = hold_takes s.hold p (up.Attn a status) (may_take_attention s) in
-      let shows : Bool = (came_of step).taken && not (status.0 == 0x20) in
-      reaches-same l (hold_outcome s step).state (with_attention (hold_outcome s step).state shows) (came_of step).sent (attention-same (hold_outcome s step).state shows)
+      let shows : Bool = (outcome_of step).taken && not (status.0 == 0x20) in
+      reaches-same l (hold_outcome s step).state (with_attention (hold_outcome s step).state shows) (outcome_of step).sent (attention-same (hold_outcome s step).state shows)
       (hold_outcome-leaves (may_take_attention s) l s p (up.Attn a status) c at refl)
 
   up_front-turns : (returns : Bool) → (storage : Contents) (sub : Subchannel) (path : ℕ) (front : Option Up) → slice_get (queue sub.wires.up path) 0 ≡ front →
-      IsUpTurn sub (up_front returns storage sub path front)
+      IsUpResult sub (up_front returns storage sub path front)
   up_front-turns returns storage sub path None e = tt
   up_front-turns returns storage sub path (Some x) e =
-      if-turns (λ t. IsOfHold sub t.sub) (finds_full sub.wires.down (carried_by sub (takes_up returns storage sub.state path x).step.came.sent)) _ _ tt
+      if-turns (λ t. IsOfHold sub t.sub) (finds_full sub.wires.down (carried_by sub (takes_up returns storage sub.state path x).step.outcome.sent)) _ _ tt
       (record {
         setup = refl;
         reaches = λ l k.
-            reached sub l (takes_up returns storage sub.state path x).step.state (takes_up returns storage sub.state path x).step.came.sent _ k
+            reached sub l (takes_up returns storage sub.state path x).step.state (takes_up returns storage sub.state path x).step.outcome.sent _ k
             (takes-leaves returns storage l sub.state path x (covers-first l.ups sub.wires.up path x k.ups e) (record { drawn = k.drawn; hold = k.hold }))
             (λ m c. covers-taken m sub.wires.up path c);
       })
 
-  pub up-turns : (returns : Bool) → (storage : Contents) (sub : Subchannel) (path : ℕ) → IsUpTurn sub (up_sub returns storage sub path)
+  pub up-turns : (returns : Bool) → (storage : Contents) (sub : Subchannel) (path : ℕ) → IsUpResult sub (up_sub returns storage sub path)
   up-turns returns storage sub path =
       if-turns (λ t. IsOfHold sub t.sub) (nat_lt path (length sub.setup.paths)) (up_front returns storage sub path (slice_get (queue sub.wires.up path) 0)) _
       (up_front-turns returns storage sub path (slice_get (queue sub.wires.up path) 0) refl) tt
 
   -- Choose
-  pub choose-turns : (sub : Subchannel) (c : Chosen) → IsFitFor c sub.state.hold → IsSubTurn sub (choose_sub sub c)
+  pub choose-turns : (sub : Subchannel) (c : Chosen) → IsFitFor c sub.state.hold → IsSubResult sub (choose_sub sub c)
   choose-turns sub chosen.Idle fit = kept-turns sub sub.state refl refl
   choose-turns sub (chosen.Resets r path) fit =
       if-turns (λ t. IsOfHold sub t.sub) (finds_full sub.wires.down (carried_by sub (Some (record { path = path; signal = down.Reset r sub.state.hold.known })))) _ _ tt
@@ -292,7 +292,7 @@ module _ (keeps : Keeps) where
             reached sub l (reset_sent sub.state path) (Some (record { path = path; signal = down.Reset r sub.state.hold.known })) sub.wires.up k
             (acts keeps l sub.state.drawn sub.state.hold (Sends_reset path) _ tt (record { drawn = k.drawn; hold = k.hold })
             (stepped-is sub.state.drawn sub.state.hold (sending_reset sub.state.hold sub.state.hold.phase path)
-            ∙ ap (λ (phase : HoldPhase). record { drawn = sub.state.drawn; hold = (reset_sent sub.state path).hold; sent = (came_of (sending_reset sub.state.hold phase path)).sent }) fit))
+            ∙ ap (λ (phase : HoldPhase). record { drawn = sub.state.drawn; hold = (reset_sent sub.state path).hold; sent = (outcome_of (sending_reset sub.state.hold phase path)).sent }) fit))
             (λ m c. c);
       })
   choose-turns sub chosen.PerformsClear fit = same-turns sub (with_cause sub.state cause.ClearDone) (cause-same sub.state cause.ClearDone)

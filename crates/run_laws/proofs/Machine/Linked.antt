@@ -22,28 +22,28 @@ use Rattle.subchannel_model.specs.declared.state.Subchannel.{Subchannel}
 use Rattle.machine_model.specs.State.{opening_of, idle_of}
 use Rattle.machine_model.specs.Sharing.{owing}
 use Rattle.subchannel_model.specs.Opening.{opened}
-use Rattle.subchannel_model.specs.Places.{is_named, place_in, one_later}
+use Rattle.subchannel_model.specs.Indices.{is_named, index_in, one_later}
 use Rattle.run_laws.specs.Beginnings.{StartCounts, no_starts}
 use Rattle.run_laws.proofs.Machine.Growth.{Covers, IsLink, link-wider, AreLaws}
 use Rattle.run_laws.proofs.Machine.HoldEvents.{IsOfHold}
-use Rattle.run_laws.proofs.Machine.TaleEvents.{Tells}
+use Rattle.run_laws.proofs.Machine.TraceEvents.{Tells}
 use Rattle.run_laws.proofs.Machine.Tales.{IsTold, told-opened, told-wider}
 use Rattle.run_laws.proofs.Machine.UnitEvents.{Follows, IsKept, hold-kept, told_links, links-wider, told-accepted, restart-good, restart-passed, with_owed, owed-link, owed-good, owed-passed, owed-accepted}
 use Rattle.agreement_laws.specs.Moving.{Restarts}
-use Rattle.step_laws.proofs.Places.{set-get, map-get, one-place}
+use Rattle.step_laws.proofs.Indices.{set-get, map-get, one-index}
 
--- the links of the unit at a place, and what is told of one subchannel
+-- the links of the unit at an index, and what is told of one subchannel
 pub record IsLinked (subs : List Subchannel) (at : ℕ) (u : UnitState) (which : Option ℕ) (k : StartCounts) : Type 0 where
   pub links : Links
   pub good : IsGood links
   pub «unit» : links.«unit» ≡ u
-  pub stand : (place : ℕ) (sub : Subchannel) → slice_get subs place ≡ Some sub → sub.setup.«unit» ≡ at → IsLink sub (link_of links sub.setup.side)
-  pub told : (place : ℕ) (sub : Subchannel) → slice_get subs place ≡ Some sub → sub.setup.«unit» ≡ at → which ≡ Some place → IsTold k sub.state links sub.setup.side
+  pub stand : (index : ℕ) (sub : Subchannel) → slice_get subs index ≡ Some sub → sub.setup.«unit» ≡ at → IsLink sub (link_of links sub.setup.side)
+  pub told : (index : ℕ) (sub : Subchannel) → slice_get subs index ≡ Some sub → sub.setup.«unit» ≡ at → which ≡ Some index → IsTold k sub.state links sub.setup.side
 
--- what is told after an event at a place: of the subchannel of that place, and of another
-pub record IsAbout (which : Option ℕ) (place : ℕ) (k mine next : StartCounts) : Type 0 where
-  pub here : which ≡ Some place → mine ≡ next
-  pub there : (which ≡ Some place → ⊥) → k ≡ next
+-- what is told after an event at an index: of the subchannel of that index, and of another
+pub record IsAbout (which : Option ℕ) (index : ℕ) (k mine next : StartCounts) : Type 0 where
+  pub here : which ≡ Some index → mine ≡ next
+  pub there : (which ≡ Some index → ⊥) → k ≡ next
 
 abbrev pub AreApart : List Subchannel → Type 0
 AreApart subs = (i j : ℕ) (x y : Subchannel) → slice_get subs i ≡ Some x → slice_get subs j ≡ Some y → x.setup.«unit» ≡ y.setup.«unit» → same_side x.setup.side y.setup.side ≡ true → i ≡ j
@@ -53,38 +53,38 @@ pub record AreLinked (subs : List Subchannel) (units : List UnitState) (which : 
   pub linked : (at : ℕ) (u : UnitState) → slice_get units at ≡ Some u → IsLinked subs at u which k
 
 -- one subchannel was changed, but not how it is set up
-before : (subs : List Subchannel) (place : ℕ) (sub new : Subchannel) (i : ℕ) (x : Subchannel) → slice_get subs place ≡ Some sub → new.setup ≡ sub.setup →
-    slice_get (slice_set subs place new) i ≡ Some x → (y : Subchannel) × (slice_get subs i ≡ Some y) × (x.setup ≡ y.setup)
-before subs place sub new i x at s e =
-    elim (set-get subs place new i x e) [
+before : (subs : List Subchannel) (index : ℕ) (sub new : Subchannel) (i : ℕ) (x : Subchannel) → slice_get subs index ≡ Some sub → new.setup ≡ sub.setup →
+    slice_get (slice_set subs index new) i ≡ Some x → (y : Subchannel) × (slice_get subs i ≡ Some y) × (x.setup ≡ y.setup)
+before subs index sub new i x at s e =
+    elim (set-get subs index new i x e) [
       | inl p ↦ (sub, subst (λ (k : ℕ). slice_get subs k ≡ Some sub) (sym p.0) at, ap (λ (y : Subchannel). y.setup) p.1 ∙ s)
       | inr p ↦ (x, p.1, refl)
     ]
 
-apart-kept : (subs : List Subchannel) (place : ℕ) (sub new : Subchannel) → slice_get subs place ≡ Some sub → new.setup ≡ sub.setup → AreApart subs → AreApart (slice_set subs place new)
-apart-kept subs place sub new at s apart i j x y e f u side =
-    let a : (z : Subchannel) × (slice_get subs i ≡ Some z) × (x.setup ≡ z.setup) = before subs place sub new i x at s e in
-    let b : (z : Subchannel) × (slice_get subs j ≡ Some z) × (y.setup ≡ z.setup) = before subs place sub new j y at s f in
+apart-kept : (subs : List Subchannel) (index : ℕ) (sub new : Subchannel) → slice_get subs index ≡ Some sub → new.setup ≡ sub.setup → AreApart subs → AreApart (slice_set subs index new)
+apart-kept subs index sub new at s apart i j x y e f u side =
+    let a : (z : Subchannel) × (slice_get subs i ≡ Some z) × (x.setup ≡ z.setup) = before subs index sub new i x at s e in
+    let b : (z : Subchannel) × (slice_get subs j ≡ Some z) × (y.setup ≡ z.setup) = before subs index sub new j y at s f in
     apart i j a.0 b.0 a.1 b.1
     (ap (λ (z : SubchannelSetup). z.«unit») (sym a.2) ∙ (u ∙ ap (λ (z : SubchannelSetup). z.«unit») b.2))
     (ap (λ (z : SubchannelSetup). same_side z.side b.0.setup.side) (sym a.2) ∙ (ap (λ (z : SubchannelSetup). same_side x.setup.side z.side) (sym b.2) ∙ side))
 
 -- a unit of other subchannels
-other-linked : (subs : List Subchannel) (place : ℕ) (sub new : Subchannel) (at : ℕ) (u : UnitState) (which : Option ℕ) (k mine next : StartCounts) →
-    slice_get subs place ≡ Some sub → new.setup ≡ sub.setup → at ≢ sub.setup.«unit» → IsAbout which place k mine next → IsLinked subs at u which k →
-    IsLinked (slice_set subs place new) at u which next
-other-linked subs place sub new at u which k mine next there s n about l =
+other-linked : (subs : List Subchannel) (index : ℕ) (sub new : Subchannel) (at : ℕ) (u : UnitState) (which : Option ℕ) (k mine next : StartCounts) →
+    slice_get subs index ≡ Some sub → new.setup ≡ sub.setup → at ≢ sub.setup.«unit» → IsAbout which index k mine next → IsLinked subs at u which k →
+    IsLinked (slice_set subs index new) at u which next
+other-linked subs index sub new at u which k mine next there s n about l =
     record {
       links = l.links;
       good = l.good;
       «unit» = l.«unit»;
       stand = λ i x e h.
-          elim (set-get subs place new i x e) [
+          elim (set-get subs index new i x e) [
             | inl p ↦ absurd (n (sym h ∙ (ap (λ (y : Subchannel). y.setup.«unit») p.1 ∙ ap (λ (z : SubchannelSetup). z.«unit») s)))
             | inr p ↦ l.stand i x p.1 h
           ];
       told = λ i x e h q.
-          elim (set-get subs place new i x e) [
+          elim (set-get subs index new i x e) [
             | inl p ↦ absurd (n (sym h ∙ (ap (λ (y : Subchannel). y.setup.«unit») p.1 ∙ ap (λ (z : SubchannelSetup). z.«unit») s)))
             | inr p ↦ subst (λ (y : StartCounts). IsTold y x.state l.links x.setup.side) (about.there (λ r. p.0 (cc (sym q ∙ r)))) (l.told i x p.1 h q)
           ];
@@ -95,30 +95,30 @@ not-true : (b : Bool) → (b ≡ true → ⊥) → b ≡ false
 not-true true n = absurd (n refl)
 not-true false n = refl
 
-here-linked : (T : Type 0) (subs : List Subchannel) (place : ℕ) (sub new : Subchannel) (at : ℕ) (u v : UnitState) (which : Option ℕ) (k mine next : StartCounts) →
-    slice_get subs place ≡ Some sub → AreApart subs → at ≡ sub.setup.«unit» → IsKept T sub new u v k mine → IsAbout which place k mine next → IsLinked subs at u which k →
-    IsLinked (slice_set subs place new) at v which next
-here-linked T subs place sub new at u v which k mine next there apart e kept about l =
-    let f : Follows T l.links sub.setup.side sub new v k mine = kept.follows l.links l.good l.«unit» (l.stand place sub there (sym e)) in
+here-linked : (T : Type 0) (subs : List Subchannel) (index : ℕ) (sub new : Subchannel) (at : ℕ) (u v : UnitState) (which : Option ℕ) (k mine next : StartCounts) →
+    slice_get subs index ≡ Some sub → AreApart subs → at ≡ sub.setup.«unit» → IsKept T sub new u v k mine → IsAbout which index k mine next → IsLinked subs at u which k →
+    IsLinked (slice_set subs index new) at v which next
+here-linked T subs index sub new at u v which k mine next there apart e kept about l =
+    let f : Follows T l.links sub.setup.side sub new v k mine = kept.follows l.links l.good l.«unit» (l.stand index sub there (sym e)) in
     record {
       links = f.links;
       good = f.good;
       «unit» = f.«unit»;
       stand = λ i x h g.
-          elim (set-get subs place new i x h) [
+          elim (set-get subs index new i x h) [
             | inl p ↦ subst (λ (y : Subchannel). IsLink y (link_of f.links y.setup.side)) (sym p.1)
                 (subst (λ (z : SubchannelSetup). IsLink new (link_of f.links z.side)) (sym kept.setup) f.here)
             | inr p ↦ link-wider x (link_of l.links x.setup.side) (link_of f.links x.setup.side)
-                (f.there x.setup.side (not-true (same_side sub.setup.side x.setup.side) (λ q. p.0 (sym (apart place i sub x there p.1 (sym e ∙ sym g) q)))))
+                (f.there x.setup.side (not-true (same_side sub.setup.side x.setup.side) (λ q. p.0 (sym (apart index i sub x there p.1 (sym e ∙ sym g) q)))))
                 (l.stand i x p.1 g)
           ];
       told = λ i x h g q.
-          elim (set-get subs place new i x h) [
+          elim (set-get subs index new i x h) [
             | inl p ↦
-                let r : which ≡ Some place = q ∙ ap Some p.0 in
+                let r : which ≡ Some index = q ∙ ap Some p.0 in
                 subst (λ (y : Subchannel). IsTold next y.state f.links y.setup.side) (sym p.1)
                 (subst (λ (z : SubchannelSetup). IsTold next new.state f.links z.side) (sym kept.setup)
-                (subst (λ (y : StartCounts). IsTold y new.state f.links sub.setup.side) (about.here r) (f.told (l.told place sub there (sym e) r))))
+                (subst (λ (y : StartCounts). IsTold y new.state f.links sub.setup.side) (about.here r) (f.told (l.told index sub there (sym e) r))))
             | inr p ↦ subst (λ (y : StartCounts). IsTold y x.state f.links x.setup.side) (about.there (λ r. p.0 (cc (sym q ∙ r))))
                 (told-wider k x.state l.links f.links x.setup.side (f.passed x.setup.side) (f.accepted x.setup.side) (l.told i x p.1 g q))
           ];
@@ -143,39 +143,39 @@ same-after T units sub new k mine f at v e = (
   ],
 )
 
-set-after : (T : Type 0) (units : List UnitState) (sub new : Subchannel) (place : ℕ) (u v : UnitState) (k mine : StartCounts) → slice_get units place ≡ Some u → place ≡ sub.setup.«unit» →
-    IsKept T sub new u v k mine → AreAfter T units (slice_set units place v) sub new k mine
-set-after T units sub new place u v k mine there e f at w h =
-    elim (set-get units place v at w h) [
+set-after : (T : Type 0) (units : List UnitState) (sub new : Subchannel) (index : ℕ) (u v : UnitState) (k mine : StartCounts) → slice_get units index ≡ Some u → index ≡ sub.setup.«unit» →
+    IsKept T sub new u v k mine → AreAfter T units (slice_set units index v) sub new k mine
+set-after T units sub new index u v k mine there e f at w h =
+    elim (set-get units index v at w h) [
       | inl p ↦ (u, subst (λ (i : ℕ). slice_get units i ≡ Some u) (sym p.0) there, inr (p.0 ∙ e, subst (λ (y : UnitState). IsKept T sub new u y k mine) (sym p.1) f))
       | inr p ↦ (w, p.1, inl (λ q. p.0 (q ∙ sym e), refl))
     ]
 
-all-linked : (T : Type 0) (subs : List Subchannel) (units after : List UnitState) (place : ℕ) (sub new : Subchannel) (which : Option ℕ) (k mine next : StartCounts) → slice_get subs place ≡ Some sub →
-    new.setup ≡ sub.setup → IsAbout which place k mine next → AreAfter T units after sub new k mine → AreLinked subs units which k → AreLinked (slice_set subs place new) after which next
-all-linked T subs units after place sub new which k mine next there s about a l =
+all-linked : (T : Type 0) (subs : List Subchannel) (units after : List UnitState) (index : ℕ) (sub new : Subchannel) (which : Option ℕ) (k mine next : StartCounts) → slice_get subs index ≡ Some sub →
+    new.setup ≡ sub.setup → IsAbout which index k mine next → AreAfter T units after sub new k mine → AreLinked subs units which k → AreLinked (slice_set subs index new) after which next
+all-linked T subs units after index sub new which k mine next there s about a l =
     record {
-      apart = apart-kept subs place sub new there s l.apart;
+      apart = apart-kept subs index sub new there s l.apart;
       linked = λ at v e.
           let b : (u : UnitState) × (slice_get units at ≡ Some u) × (((at ≢ sub.setup.«unit») × (v ≡ u)) ⊎ ((at ≡ sub.setup.«unit») × IsKept T sub new u v k mine)) = a at v e in
           elim b.2 [
-            | inl p ↦ subst (λ (u : UnitState). IsLinked (slice_set subs place new) at u which next) (sym p.1)
-                (other-linked subs place sub new at b.0 which k mine next there s p.0 about (l.linked at b.0 b.1))
-            | inr p ↦ here-linked T subs place sub new at b.0 v which k mine next there l.apart p.0 p.1 about (l.linked at b.0 b.1)
+            | inl p ↦ subst (λ (u : UnitState). IsLinked (slice_set subs index new) at u which next) (sym p.1)
+                (other-linked subs index sub new at b.0 which k mine next there s p.0 about (l.linked at b.0 b.1))
+            | inr p ↦ here-linked T subs index sub new at b.0 v which k mine next there l.apart p.0 p.1 about (l.linked at b.0 b.1)
           ];
     }
 
-pub hold-linked : AreLaws → (subs : List Subchannel) (units : List UnitState) (place : ℕ) (sub new : Subchannel) (which : Option ℕ) (k mine next : StartCounts) → slice_get subs place ≡ Some sub → IsOfHold sub new →
-    Tells sub new.state k mine → IsAbout which place k mine next → AreLinked subs units which k → AreLinked (slice_set subs place new) units which next
-hold-linked laws subs units place sub new which k mine next there h f about l =
-    all-linked ⊥ subs units units place sub new which k mine next there h.setup about
+pub hold-linked : AreLaws → (subs : List Subchannel) (units : List UnitState) (index : ℕ) (sub new : Subchannel) (which : Option ℕ) (k mine next : StartCounts) → slice_get subs index ≡ Some sub → IsOfHold sub new →
+    Tells sub new.state k mine → IsAbout which index k mine next → AreLinked subs units which k → AreLinked (slice_set subs index new) units which next
+hold-linked laws subs units index sub new which k mine next there h f about l =
+    all-linked ⊥ subs units units index sub new which k mine next there h.setup about
     (same-after ⊥ units sub new k mine (λ u. hold-kept laws sub new u k mine h f)) l
 
-pub unit-linked : (T : Type 0) (subs : List Subchannel) (units : List UnitState) (place at : ℕ) (sub new : Subchannel) (u v : UnitState) (which : Option ℕ) (k mine next : StartCounts) → slice_get subs place ≡ Some sub →
-    slice_get units at ≡ Some u → at ≡ sub.setup.«unit» → IsKept T sub new u v k mine → IsAbout which place k mine next → AreLinked subs units which k →
-    AreLinked (slice_set subs place new) (slice_set units at v) which next
-unit-linked T subs units place at sub new u v which k mine next there found e f about l =
-    all-linked T subs units (slice_set units at v) place sub new which k mine next there f.setup about (set-after T units sub new at u v k mine found e f) l
+pub unit-linked : (T : Type 0) (subs : List Subchannel) (units : List UnitState) (index at : ℕ) (sub new : Subchannel) (u v : UnitState) (which : Option ℕ) (k mine next : StartCounts) → slice_get subs index ≡ Some sub →
+    slice_get units at ≡ Some u → at ≡ sub.setup.«unit» → IsKept T sub new u v k mine → IsAbout which index k mine next → AreLinked subs units which k →
+    AreLinked (slice_set subs index new) (slice_set units at v) which next
+unit-linked T subs units index at sub new u v which k mine next there found e f about l =
+    all-linked T subs units (slice_set units at v) index sub new which k mine next there f.setup about (set-after T units sub new at u v k mine found e f) l
 
 -- what a unit owes changes none of it
 owed-linked : (owed : Bool) (subs : List Subchannel) (at : ℕ) (u : UnitState) (which : Option ℕ) (k : StartCounts) → IsLinked subs at u which k → IsLinked subs at (owing owed u) which k
@@ -234,7 +234,7 @@ opens-linked setup which lawful good =
       apart = λ i j x y e f u side.
           let a : (s : SubchannelSetup) × (slice_get setup.subchannels i ≡ Some s) × (opened s ≡ x) = map-get opened setup.subchannels i x e in
           let b : (s : SubchannelSetup) × (slice_get setup.subchannels j ≡ Some s) × (opened s ≡ y) = map-get opened setup.subchannels j y f in
-          one-place setup.subchannels i j a.0 b.0 lawful.shared a.1 b.1
+          one-index setup.subchannels i j a.0 b.0 lawful.shared a.1 b.1
           (ap (λ (z : Subchannel). z.setup.«unit») a.2 ∙ (u ∙ ap (λ (z : Subchannel). z.setup.«unit») (sym b.2)))
           (ap (λ (z : Subchannel). same_side z.setup.side b.0.side) a.2 ∙ (ap (λ (z : Subchannel). same_side x.setup.side z.setup.side) b.2 ∙ side));
       linked = λ at u e.
@@ -243,26 +243,26 @@ opens-linked setup which lawful good =
             links = opening_links;
             good = good;
             «unit» = a.2;
-            stand = λ place sub h g.
-                let b : (s : SubchannelSetup) × (slice_get setup.subchannels place ≡ Some s) × (opened s ≡ sub) = map-get opened setup.subchannels place sub h in
+            stand = λ index sub h g.
+                let b : (s : SubchannelSetup) × (slice_get setup.subchannels index ≡ Some s) × (opened s ≡ sub) = map-get opened setup.subchannels index sub h in
                 subst (λ (y : Subchannel). IsLink y (link_of opening_links y.setup.side)) b.2 (opened-link b.0 b.0.side);
-            told = λ place sub h g q.
-                let b : (s : SubchannelSetup) × (slice_get setup.subchannels place ≡ Some s) × (opened s ≡ sub) = map-get opened setup.subchannels place sub h in
+            told = λ index sub h g q.
+                let b : (s : SubchannelSetup) × (slice_get setup.subchannels index ≡ Some s) × (opened s ≡ sub) = map-get opened setup.subchannels index sub h in
                 subst (λ (y : Subchannel). IsTold no_starts y.state opening_links y.setup.side) b.2 (told-opened opening_links b.0.side);
           };
     }
 
--- the places of subchannels stay
-pub place-set : (id : SubchannelId) (subs : List Subchannel) (place : ℕ) (sub new : Subchannel) → slice_get subs place ≡ Some sub → new.setup ≡ sub.setup →
-    place_in id (slice_set subs place new) ≡ place_in id subs
-place-set id [] place sub new e s = absurd (cc e)
-place-set id (x ∷ xs) zero sub new e s =
+-- the indices of subchannels stay
+pub index-set : (id : SubchannelId) (subs : List Subchannel) (index : ℕ) (sub new : Subchannel) → slice_get subs index ≡ Some sub → new.setup ≡ sub.setup →
+    index_in id (slice_set subs index new) ≡ index_in id subs
+index-set id [] index sub new e s = absurd (cc e)
+index-set id (x ∷ xs) zero sub new e s =
     let same : x ≡ sub = cc e in
-    ap (λ (setup : SubchannelSetup). if (setup.id.set == id.set) && (setup.id.number == id.number) then Some 0 else one_later (place_in id xs))
+    ap (λ (setup : SubchannelSetup). if (setup.id.set == id.set) && (setup.id.number == id.number) then Some 0 else one_later (index_in id xs))
     (s ∙ ap (λ (y : Subchannel). y.setup) (sym same))
-place-set id (x ∷ xs) (suc place) sub new e s = ap (λ (p : Option ℕ). if is_named id x then Some 0 else one_later p) (place-set id xs place sub new e s)
+index-set id (x ∷ xs) (suc index) sub new e s = ap (λ (p : Option ℕ). if is_named id x then Some 0 else one_later p) (index-set id xs index sub new e s)
 
 -- a state after entries that tell this of the subchannel of an id
 pub record IsStateTold (id : SubchannelId) (k : StartCounts) (subs : List Subchannel) (units : List UnitState) : Type 0 where
-  pub linked : AreLinked subs units (place_in id subs) k
+  pub linked : AreLinked subs units (index_in id subs) k
   pub rises : AllPairs (λ x y. x < y) k.begun

@@ -3,7 +3,7 @@
 use Rattle.std.proofs.Common.{◌≡◌, refl, sym, ◌∙◌, ap, subst, ℕ, ◌≤◌, ◌==◌, ◌&&◌, nat_lt, Bool, true, false, not, Option, None, Some, if◌then◌else◌, inl, inr, arith}
 use Rattle.std.specs.Prelude.{◌⊎◌, unwrap_or}
 use Rattle.std.proofs.lemmas.Bool.{eqb-true}
-use Rattle.ccw_walk.specs.Places.{WalkPlace}
+use Rattle.ccw_walk.specs.Positions.{WalkPosition}
 use Rattle.chan_events.specs.declared.reply.Reply.TheVariants as reply
 use Rattle.chan_model.specs.declared.hold_state.HoldPhase.{HoldPhase}
 use Rattle.chan_model.specs.declared.hold_state.HoldPhase.TheVariants as hold
@@ -12,7 +12,7 @@ use Rattle.chan_model.specs.Signals.{Down, Load, Up, load_bytes}
 use Rattle.chan_model.specs.declared.signal.Down.TheVariants as down
 use Rattle.chan_model.specs.declared.signal.OnPath.{OnPath}
 use Rattle.chan_model.specs.declared.signal.Up.TheVariants as up
-use Rattle.chan_model.specs.HoldTable.{HoldStep, hold_takes, hold_after, came_of, program_begun, asked_back, granting, refusing, is_connected, is_on}
+use Rattle.chan_model.specs.HoldTable.{HoldStep, hold_takes, hold_after, outcome_of, program_begun, asked_back, granting, refusing, is_connected, is_on}
 use Rattle.chan_model.specs.Loads.{load_length}
 use Rattle.chan_model.specs.ResetCauses.{engaged_path, is_held}
 use Rattle.chan_model.specs.UnitReports.{is_last_end, is_outward, has_device_end}
@@ -20,7 +20,7 @@ use Rattle.data_move.specs.Moving.{residual}
 use Rattle.storage_keys.specs.Storage.{Contents}
 use Rattle.data_move.specs.declared.transfer.Beginning.{Beginning}
 use Rattle.data_move.specs.declared.transfer.CommandStart.{CommandStart}
-use Rattle.data_move.specs.declared.transfer.CommandStart.TheVariants as came
+use Rattle.data_move.specs.declared.transfer.CommandStart.TheVariants as outcome
 use Rattle.data_move.specs.declared.transfer.NextChunk.{NextChunk}
 use Rattle.data_move.specs.declared.transfer.WithRoom.{WithRoom}
 use Rattle.data_move.specs.Commands.{first_command, next_command, begun_with_room, with_room}
@@ -73,8 +73,8 @@ pub record IsMet (returns : Bool) (p : ℕ) (x : Up) (s : SubchannelState) (step
   pub engaged : (q : ℕ) → engaged_path step.state.hold.phase ≡ Some q → (engaged_path s.hold.phase ≡ Some q) ⊎ ((returns ≡ true) × (q ≡ p))
   pub offered : (t q : ℕ) → step.state.hold.phase ≡ hold.Offer t q → s.hold.phase ≡ hold.Offer t q
   pub remembers : (accepted : Option ℕ) → IsTiedUp s.drawn s.hold.phase p x → Remembers s.hold.phase s.hold.first_path accepted →
-      Remembers step.state.hold.phase step.state.hold.first_path (accepted_by (reply.Up x step.came.taken step.came.sent) p accepted)
-  pub sent : AreAnswers returns p s.hold.phase step.came.sent
+      Remembers step.state.hold.phase step.state.hold.first_path (accepted_by (reply.Up x step.outcome.taken step.outcome.sent) p accepted)
+  pub sent : AreAnswers returns p s.hold.phase step.outcome.sent
 
 plain-answer : (returns : Bool) (p : ℕ) (phase : HoldPhase) (q : ℕ) (d : Down) → IsPlain d → IsAnswer returns p phase q d
 plain-answer returns p phase q (down.Select t) plain = absurd plain
@@ -94,7 +94,7 @@ plain-answers returns p phase (Some s) plain = plain-answer returns p phase s.pa
 
 -- by any signal but Accept and Back
 calm-met : (returns : Bool) (p : ℕ) (x : Up) (s : SubchannelState) (step : UpStep) →
-    ((accepted : Option ℕ) → accepted_by (reply.Up x step.came.taken step.came.sent) p accepted ≡ accepted) → IsCalm s step → IsMet returns p x s step
+    ((accepted : Option ℕ) → accepted_by (reply.Up x step.outcome.taken step.outcome.sent) p accepted ≡ accepted) → IsCalm s step → IsMet returns p x s step
 calm-met returns p x s step silent k =
     record {
       drawn = k.drawn;
@@ -103,7 +103,7 @@ calm-met returns p x s step silent k =
       offered = k.hold.offered;
       remembers = λ accepted tied m.
           subst (λ (o : Option ℕ). Remembers step.state.hold.phase step.state.hold.first_path o) (sym (silent accepted)) (k.hold.remembers accepted m);
-      sent = plain-answers returns p s.hold.phase step.came.sent k.sent;
+      sent = plain-answers returns p s.hold.phase step.outcome.sent k.sent;
     }
 
 if-calm : (s : SubchannelState) (b : Bool) (x y : UpStep) → IsCalm s x → IsCalm s y → IsCalm s (if b then x else y)
@@ -117,20 +117,20 @@ if-met s false x y k l = l
 -- Accept
 record IsTaken (s : SubchannelState) (step : UpStep) : Type 0 where
   calm : IsCalm s step
-  taken : step.came.taken ≡ true
+  taken : step.outcome.taken ≡ true
 
-beginning-taken : (storage : Contents) (s : SubchannelState) (p t : ℕ) (st : ProgramPosition) (walk : WalkPlace) (r : CommandStart) →
+beginning-taken : (storage : Contents) (s : SubchannelState) (p t : ℕ) (st : ProgramPosition) (walk : WalkPosition) (r : CommandStart) →
     IsTaken s (first_ccw_outcome storage s p t st walk r)
-beginning-taken storage s p t st walk (came.Begins transfer) =
+beginning-taken storage s p t st walk (outcome.Begins transfer) =
     let next : SubchannelState = with_program_at_work s st.program (begun_with_room storage transfer).transfer in
     record {
       calm = same-calm s (with_pci next next.begun) _
           (same-then s next (with_pci next next.begun) (is-same s next refl refl refl) (interrupted-same next next.begun)) tt;
       taken = refl;
     }
-beginning-taken storage s p t st walk came.Suspends =
+beginning-taken storage s p t st walk outcome.Suspends =
     record { calm = let-calm s (program_suspended s st.program walk st.count) (suspending-same s st.program walk st.count); taken = refl }
-beginning-taken storage s p t st walk (came.Stops check) =
+beginning-taken storage s p t st walk (outcome.Stops check) =
     record {
       calm = let-calm s (with_cause s (cause.FetchFault walk.tried check st.count)) (cause-same s (cause.FetchFault walk.tried check st.count));
       taken = refl;
@@ -138,7 +138,7 @@ beginning-taken storage s p t st walk (came.Stops check) =
 
 standing-taken : (storage : Contents) (s : SubchannelState) (p t : ℕ) (st : Option ProgramPosition) → IsTaken s (begins_at storage s p t st)
 standing-taken storage s p t None = record { calm = same-calm s s _ (is-same s s refl refl refl) tt; taken = refl }
-standing-taken storage s p t (Some st) = beginning-taken storage s p t st (first_command storage st.walk).walk (first_command storage st.walk).came
+standing-taken storage s p t (Some st) = beginning-taken storage s p t st (first_command storage st.walk).walk (first_command storage st.walk).outcome
 
 accepted-first : (accepted : Option ℕ) (p q : ℕ) → accepted ≡ None → p ≡ q → first_of_both accepted p ≡ Some q
 accepted-first None p q none e = ap Some e
@@ -162,11 +162,11 @@ begun-met returns p u t q s x step e b same k =
       remembers = λ accepted tied m.
           let none : accepted ≡ None = subst (λ (phase : HoldPhase). Remembers phase s.hold.first_path accepted) e m in
           let on : p ≡ q = tied.1 q (e ∙ ap (λ (n : ℕ). hold.Offer n q) (sym same)) in
-          subst (λ (taken : Bool). Remembers step.state.hold.phase step.state.hold.first_path (accepted_by (reply.Up (up.Accept u) taken step.came.sent) p accepted))
+          subst (λ (taken : Bool). Remembers step.state.hold.phase step.state.hold.first_path (accepted_by (reply.Up (up.Accept u) taken step.outcome.sent) p accepted))
           (sym k.taken)
           (subst (λ (o : Option ℕ). Remembers step.state.hold.phase step.state.hold.first_path o) (sym (accepted-first accepted p q none on))
           (k.calm.hold.remembers (Some q) b.remembers));
-      sent = plain-answers returns p s.hold.phase step.came.sent k.calm.sent;
+      sent = plain-answers returns p s.hold.phase step.outcome.sent k.calm.sent;
     }
 
 accept-begun : (returns : Bool) (storage : Contents) (s : SubchannelState) (h : HoldState) (p t q u : ℕ) (may same : Bool) → (u == t) ≡ same →
@@ -200,7 +200,7 @@ record IsBack (returns : Bool) (p : ℕ) (h : HoldState) (step : Option HoldStep
   engaged : (q : ℕ) → engaged_path (hold_after h step).phase ≡ Some q → (engaged_path h.phase ≡ Some q) ⊎ ((returns ≡ true) × (q ≡ p))
   offered : (t q : ℕ) → (hold_after h step).phase ≡ hold.Offer t q → h.phase ≡ hold.Offer t q
   remembers : (accepted : Option ℕ) → Remembers h.phase h.first_path accepted → Remembers (hold_after h step).phase (hold_after h step).first_path accepted
-  sent : AreAnswers returns p h.phase (came_of step).sent
+  sent : AreAnswers returns p h.phase (outcome_of step).sent
 
 no-back : (returns : Bool) (p : ℕ) (h : HoldState) → IsBack returns p h None
 no-back returns p h = record { engaged = λ q e. inl e; offered = λ t q e. e; remembers = λ accepted m. m; sent = tt }
@@ -262,14 +262,14 @@ data-calm storage s (Some b) signal load =
 ended-same : (s x : SubchannelState) (signal : EndSignal) → IsSame (with_allegiance_after_end s signal) x → IsSame s x
 ended-same s x signal same = is-same s x same.drawn same.hold same.available
 
-chaining-calm : (storage : Contents) (s : SubchannelState) (b : ActiveProgram) (signal : EndSignal) (walk : WalkPlace) (r : CommandStart) →
+chaining-calm : (storage : Contents) (s : SubchannelState) (b : ActiveProgram) (signal : EndSignal) (walk : WalkPosition) (r : CommandStart) →
     IsCalm s (next_ccw_outcome storage s b signal walk r)
-chaining-calm storage s b signal walk (came.Begins transfer) =
+chaining-calm storage s b signal walk (outcome.Begins transfer) =
     same-calm s (after_chunk s b (begun_with_room storage transfer).transfer) _ (moving-same s b (begun_with_room storage transfer).transfer) tt
-chaining-calm storage s b signal walk came.Suspends =
+chaining-calm storage s b signal walk outcome.Suspends =
     let x : SubchannelState = program_suspended (with_allegiance_after_end s signal) b.program walk (residual b.transfer.moving) in
     let-calm s x (ended-same s x signal (suspending-same (with_allegiance_after_end s signal) b.program walk (residual b.transfer.moving)))
-chaining-calm storage s b signal walk (came.Stops check) =
+chaining-calm storage s b signal walk (outcome.Stops check) =
     let x : SubchannelState = with_cause (with_allegiance_after_end s signal) (cause.FetchFault walk.tried check (residual b.transfer.moving)) in
     let-calm s x (ended-same s x signal (cause-same (with_allegiance_after_end s signal) (cause.FetchFault walk.tried check (residual b.transfer.moving))))
 
@@ -287,7 +287,7 @@ end-calm storage s (Some b) signal =
     if-calm s (signal.command == b.transfer.command) (ends_command storage s b signal) (signal_ignored s)
     (if-calm s (chains_command s.scsw b signal.status signal.more) (chains_at_device_end storage s (with_first_end b) signal) (concludes s b signal)
     (if-calm s (has_device_end signal.status) (chains_with storage s (with_first_end b) signal next) _
-    (chaining-calm storage s (with_first_end b) signal next.walk next.came)
+    (chaining-calm storage s (with_first_end b) signal next.walk next.outcome)
     (same-calm s (record (with_allegiance_after_end s signal) { begun = Some (with_first_end b) }) _ (is-same s _ refl refl refl) tt))
     (stops-calm s b signal))
     (ignored-calm s)
@@ -318,7 +318,7 @@ takes-met returns storage s p (up.Notice b) = calm-met returns p (up.Notice b) s
 takes-met returns storage s p (up.Attn a status) =
     let step : Option HoldStep = hold_takes s.hold p (up.Attn a status) (may_take_attention s) in
     calm-met returns p (up.Attn a status) s _ (λ accepted. refl)
-    (attention-calm s ((came_of step).taken && not (status.0 == 0x20)) step (attended-step s.hold s.hold.phase p a (may_take_attention s)))
+    (attention-calm s ((outcome_of step).taken && not (status.0 == 0x20)) step (attended-step s.hold s.hold.phase p a (may_take_attention s)))
 
 -- a Grant goes by the path of the Back, to a program that may come back
 answer-granted : (returns : Bool) (p : ℕ) (phase : HoldPhase) (q r : ℕ) (d : Down) → IsAnswer returns p phase q d →

@@ -39,7 +39,7 @@ use Rattle.subchannel_model.specs.SystemReset.{state_reset}
 use Rattle.subchannel_model.specs.Test.{tested_wholly}
 use Rattle.subchannel_model.specs.Start.{started}
 use Rattle.subchannel_model.specs.Taking.{takes_up}
-use Rattle.machine_model.specs.Turns.{SubTurn, UpTurn, DownTurn}
+use Rattle.machine_model.specs.Results.{SubResult, UpResult, DownResult}
 use Rattle.subchannel_model.specs.Modify.{modified_state}
 use Rattle.machine_model.specs.InstructionSteps.{test_with, function_sub}
 use Rattle.machine_model.specs.ChooseSteps.{choose_sub}
@@ -95,20 +95,20 @@ pub zip-map : {A : Type 0} (R : A → A → Type 0) (f : A → A) → ((x : A) �
 zip-map R f each [] = tt
 zip-map R f each (x ∷ xs) = (each x, zip-map R f each xs)
 
-pub zip-set : {A : Type 0} (R : A → A → Type 0) → ((x : A) → R x x) → (xs : List A) (place : ℕ) (x y : A) → slice_get xs place ≡ Some x → R x y →
-    AllZip R xs (slice_set xs place y)
-zip-set R same [] place x y e r = absurd (cc e)
+pub zip-set : {A : Type 0} (R : A → A → Type 0) → ((x : A) → R x x) → (xs : List A) (index : ℕ) (x y : A) → slice_get xs index ≡ Some x → R x y →
+    AllZip R xs (slice_set xs index y)
+zip-set R same [] index x y e r = absurd (cc e)
 zip-set {A} R same (z ∷ xs) zero x y e r = let w : x ≡ z = cc e in (subst (λ (v : A). R v y) w r, zip-same R same xs)
-zip-set R same (z ∷ xs) (suc place) x y e r = (same z, zip-set R same xs place x y e r)
+zip-set R same (z ∷ xs) (suc index) x y e r = (same z, zip-set R same xs index x y e r)
 
 module _ (R : SubchannelState → SubchannelState → Type 0) (k : IsKept R) where
-  abbrev OkSub : Subchannel → Result SubTurn Fault → Type 0
+  abbrev OkSub : Subchannel → Result SubResult Fault → Type 0
   OkSub sub r = IfOk r (λ t. Changed R sub t.sub)
 
-  abbrev OkUp : Subchannel → Result UpTurn Fault → Type 0
+  abbrev OkUp : Subchannel → Result UpResult Fault → Type 0
   OkUp sub r = IfOk r (λ t. Changed R sub t.sub)
 
-  abbrev OkBoth : Subchannel → Result DownTurn Fault → Type 0
+  abbrev OkBoth : Subchannel → Result DownResult Fault → Type 0
   OkBoth sub r = IfOk r (λ t. Changed R sub t.sub)
 
   unchanged : (sub : Subchannel) → Changed R sub sub
@@ -165,7 +165,7 @@ module _ (R : SubchannelState → SubchannelState → Type 0) (k : IsKept R) whe
   up_front-kept : (returns : Bool) → (storage : Contents) (sub : Subchannel) (path : ℕ) (front : Option Up) → OkUp sub (up_front returns storage sub path front)
   up_front-kept returns storage sub path None = tt
   up_front-kept returns storage sub path (Some signal) =
-      if-ok (λ t. Changed R sub t.sub) (finds_full sub.wires.down (carried_by sub (takes_up returns storage sub.state path signal).step.came.sent)) _ _ tt
+      if-ok (λ t. Changed R sub t.sub) (finds_full sub.wires.down (carried_by sub (takes_up returns storage sub.state path signal).step.outcome.sent)) _ _ tt
       (record { setup = refl; state = k.takes returns storage sub.state path signal })
 
   up-kept : (returns : Bool) → (storage : Contents) (sub : Subchannel) (path : ℕ) → OkUp sub (up_sub returns storage sub path)
@@ -176,7 +176,7 @@ module _ (R : SubchannelState → SubchannelState → Type 0) (k : IsKept R) whe
   down_front-kept : (may : Bool) → (sub : Subchannel) (path : ℕ) (u : UnitState) (front : Option Down) → OkBoth sub (down_front may sub path u front)
   down_front-kept may sub path u None = tt
   down_front-kept may sub path u (Some signal) =
-      if-ok (λ t. Changed R sub t.sub) (finds_full sub.wires.up (carried_by sub (unit_table.came_of (unit_takes u sub.setup.side path signal may)).sent)) _ _ tt
+      if-ok (λ t. Changed R sub t.sub) (finds_full sub.wires.up (carried_by sub (unit_table.outcome_of (unit_takes u sub.setup.side path signal may)).sent)) _ _ tt
       (record { setup = refl; state = k.same sub.state })
 
   down-kept : (may : Bool) → (sub : Subchannel) (path : ℕ) (u : UnitState) → OkBoth sub (down_sub may sub path u)
@@ -198,35 +198,35 @@ module _ (R : SubchannelState → SubchannelState → Type 0) (k : IsKept R) whe
   unmoved : (s : State) → AllZip (Changed R) s.subs s.subs
   unmoved s = zip-same (Changed R) unchanged s.subs
 
-  set-moved : (s : State) (place : ℕ) (sub new : Subchannel) → slice_get s.subs place ≡ Some sub → Changed R sub new → AllZip (Changed R) s.subs (slice_set s.subs place new)
-  set-moved s place sub new e c = zip-set (Changed R) unchanged s.subs place sub new e c
+  set-moved : (s : State) (index : ℕ) (sub new : Subchannel) → slice_get s.subs index ≡ Some sub → Changed R sub new → AllZip (Changed R) s.subs (slice_set s.subs index new)
+  set-moved s index sub new e c = zip-set (Changed R) unchanged s.subs index sub new e c
 
-  one-moved : (s new : State) (place : ℕ) (sub after : Subchannel) → new.sets ≡ s.sets → slice_get s.subs place ≡ Some sub → new.subs ≡ slice_set s.subs place after →
+  one-moved : (s new : State) (index : ℕ) (sub after : Subchannel) → new.sets ≡ s.sets → slice_get s.subs index ≡ Some sub → new.subs ≡ slice_set s.subs index after →
       Changed R sub after → Moved R s new
-  one-moved s new place sub after sets there subs c =
-      record { sets = sets; subs = subst (λ (xs : List Subchannel). AllZip (Changed R) s.subs xs) (sym subs) (set-moved s place sub after there c) }
+  one-moved s new index sub after sets there subs c =
+      record { sets = sets; subs = subst (λ (xs : List Subchannel). AllZip (Changed R) s.subs xs) (sym subs) (set-moved s index sub after there c) }
 
-  sub-moved : (s new : State) (place : ℕ) (sub after : Subchannel) → OneSub s new place sub after → Changed R sub after → Moved R s new
-  sub-moved s new place sub after one c = one-moved s new place sub after one.sets one.there one.subs c
+  sub-moved : (s new : State) (index : ℕ) (sub after : Subchannel) → OneSub s new index sub after → Changed R sub after → Moved R s new
+  sub-moved s new index sub after one c = one-moved s new index sub after one.sets one.there one.subs c
 
-  unit-moved : (s new : State) (place : ℕ) (sub after : Subchannel) (at : ℕ) (u v : UnitState) → OneUnit s new place sub after at u v → Changed R sub after → Moved R s new
-  unit-moved s new place sub after at u v one c = one-moved s new place sub after one.sets one.there one.subs c
+  unit-moved : (s new : State) (index : ℕ) (sub after : Subchannel) (at : ℕ) (u v : UnitState) → OneUnit s new index sub after at u v → Changed R sub after → Moved R s new
+  unit-moved s new index sub after at u v one c = one-moved s new index sub after one.sets one.there one.subs c
 
   pub step-moves : (s : State) (e : Event) (r : Reply) (new : State) → Walked s e r new → Moved R s new
   step-moves s _ _ _ (walked.Stays e r new q sets subs units up) =
       record { sets = sets; subs = subst (λ (xs : List Subchannel). AllZip (Changed R) s.subs xs) (sym subs) (unmoved s) }
-  step-moves s _ _ _ (walked.Started cpu word address place sub orb c new n one) = sub-moved s new place sub _ one (start-kept sub orb c)
-  step-moves s _ _ _ (walked.Tested e r place sub c new q one address by answers) = sub-moved s new place sub _ one (test-kept sub c)
-  step-moves s _ _ _ (walked.Modified e r place sub given c new q one) = sub-moved s new place sub _ one (modify-kept sub given c)
-  step-moves s _ _ _ (walked.Performed e r place sub f c new q one by answers) = sub-moved s new place sub _ one (function-kept sub f c)
-  step-moves s _ _ _ (walked.Chosen word place sub choice t new n x w h one) = sub-moved s new place sub t.sub one
+  step-moves s _ _ _ (walked.Started cpu word address index sub orb c new n one) = sub-moved s new index sub _ one (start-kept sub orb c)
+  step-moves s _ _ _ (walked.Tested e r index sub c new q one address by answers) = sub-moved s new index sub _ one (test-kept sub c)
+  step-moves s _ _ _ (walked.Modified e r index sub given c new q one) = sub-moved s new index sub _ one (modify-kept sub given c)
+  step-moves s _ _ _ (walked.Performed e r index sub f c new q one by answers) = sub-moved s new index sub _ one (function-kept sub f c)
+  step-moves s _ _ _ (walked.Chosen word index sub choice t new n x w h one) = sub-moved s new index sub t.sub one
       (marked-kept sub t.sub choice (subst (OkSub (marked_sub sub choice)) h (choose-kept (marked_sub sub choice) (chosen sub choice))))
-  step-moves s _ _ _ (walked.Met word path returns place sub t new n h one may) = sub-moved s new place sub t.sub one (subst (OkUp sub) h (up-kept returns s.storage sub path))
-  step-moves s _ _ _ (walked.Sunk word path may owed place sub u t new n h one) = unit-moved s new place sub t.sub _ u _ one (subst (OkBoth sub) h (down-kept may sub path u))
-  step-moves s _ _ _ (walked.Reported at place sub u report t new n k h one) =
-      unit-moved s new place sub t.sub at u t.«unit» one (subst (OkBoth sub) h (report-kept sub (unit_reports u report)))
-  step-moves s _ _ _ (walked.Acted at place sub u what t new side its h one) =
-      unit-moved s new place sub t.sub at u t.«unit» one (subst (OkBoth sub) h (act-kept sub u what))
+  step-moves s _ _ _ (walked.Met word path returns index sub t new n h one may) = sub-moved s new index sub t.sub one (subst (OkUp sub) h (up-kept returns s.storage sub path))
+  step-moves s _ _ _ (walked.Sunk word path may owed index sub u t new n h one) = unit-moved s new index sub t.sub _ u _ one (subst (OkBoth sub) h (down-kept may sub path u))
+  step-moves s _ _ _ (walked.Reported at index sub u report t new n k h one) =
+      unit-moved s new index sub t.sub at u t.«unit» one (subst (OkBoth sub) h (report-kept sub (unit_reports u report)))
+  step-moves s _ _ _ (walked.Acted at index sub u what t new side its h one) =
+      unit-moved s new index sub t.sub at u t.«unit» one (subst (OkBoth sub) h (act-kept sub u what))
   step-moves s _ _ _ (walked.Restarted at owed u r new found sets subs units up) =
       record { sets = sets; subs = subst (λ (xs : List Subchannel). AllZip (Changed R) s.subs xs) (sym subs) (unmoved s) }
   step-moves s _ _ _ (walked.Swept e r what new q sets subs units by) =
@@ -274,24 +274,24 @@ pub setups-stay : (s : State) (e : Event) (r : Reply) (new : State) → Walked s
 setups-stay s e r new w = same-setups (λ s new. Unit {0}) s.subs new.subs (step-moves (λ s new. Unit {0}) any-state s e r new w).subs
 
 -- nor how many units there are
-one_sub-units : (s new : State) (place : ℕ) (sub after : Subchannel) → OneSub s new place sub after → length new.units ≡ length s.units
-one_sub-units s new place sub after one = ap (λ (us : List UnitState). length us) one.units
+one_sub-units : (s new : State) (index : ℕ) (sub after : Subchannel) → OneSub s new index sub after → length new.units ≡ length s.units
+one_sub-units s new index sub after one = ap (λ (us : List UnitState). length us) one.units
 
-one_unit-units : (s new : State) (place : ℕ) (sub after : Subchannel) (at : ℕ) (u v : UnitState) → OneUnit s new place sub after at u v →
+one_unit-units : (s new : State) (index : ℕ) (sub after : Subchannel) (at : ℕ) (u v : UnitState) → OneUnit s new index sub after at u v →
     length new.units ≡ length s.units
-one_unit-units s new place sub after at u v one = ap (λ (us : List UnitState). length us) one.units ∙ length-set s.units at v
+one_unit-units s new index sub after at u v one = ap (λ (us : List UnitState). length us) one.units ∙ length-set s.units at v
 
 units-stay : (s : State) (e : Event) (r : Reply) (new : State) → Walked s e r new → length new.units ≡ length s.units
 units-stay s _ _ _ (walked.Stays e r new q sets subs units up) = ap (λ (us : List UnitState). length us) units
-units-stay s _ _ _ (walked.Started cpu word address place sub orb c new n one) = one_sub-units s new place sub _ one
-units-stay s _ _ _ (walked.Tested e r place sub c new q one address by answers) = one_sub-units s new place sub _ one
-units-stay s _ _ _ (walked.Modified e r place sub given c new q one) = one_sub-units s new place sub _ one
-units-stay s _ _ _ (walked.Performed e r place sub f c new q one by answers) = one_sub-units s new place sub _ one
-units-stay s _ _ _ (walked.Chosen word place sub choice t new n x w h one) = one_sub-units s new place sub t.sub one
-units-stay s _ _ _ (walked.Met word path returns place sub t new n h one may) = one_sub-units s new place sub t.sub one
-units-stay s _ _ _ (walked.Sunk word path may owed place sub u t new n h one) = one_unit-units s new place sub t.sub _ u _ one
-units-stay s _ _ _ (walked.Reported at place sub u report t new n k h one) = one_unit-units s new place sub t.sub at u t.«unit» one
-units-stay s _ _ _ (walked.Acted at place sub u what t new side its h one) = one_unit-units s new place sub t.sub at u t.«unit» one
+units-stay s _ _ _ (walked.Started cpu word address index sub orb c new n one) = one_sub-units s new index sub _ one
+units-stay s _ _ _ (walked.Tested e r index sub c new q one address by answers) = one_sub-units s new index sub _ one
+units-stay s _ _ _ (walked.Modified e r index sub given c new q one) = one_sub-units s new index sub _ one
+units-stay s _ _ _ (walked.Performed e r index sub f c new q one by answers) = one_sub-units s new index sub _ one
+units-stay s _ _ _ (walked.Chosen word index sub choice t new n x w h one) = one_sub-units s new index sub t.sub one
+units-stay s _ _ _ (walked.Met word path returns index sub t new n h one may) = one_sub-units s new index sub t.sub one
+units-stay s _ _ _ (walked.Sunk word path may owed index sub u t new n h one) = one_unit-units s new index sub t.sub _ u _ one
+units-stay s _ _ _ (walked.Reported at index sub u report t new n k h one) = one_unit-units s new index sub t.sub at u t.«unit» one
+units-stay s _ _ _ (walked.Acted at index sub u what t new side its h one) = one_unit-units s new index sub t.sub at u t.«unit» one
 units-stay s _ _ _ (walked.Restarted at owed u r new found sets subs units up) = ap (λ (us : List UnitState). length us) units ∙ length-set s.units at _
 units-stay s _ _ _ (walked.Swept e r what new q sets subs units by) = ap (λ (us : List UnitState). length us) units
 

@@ -25,7 +25,7 @@ use Rattle.subchannel_model.specs.Choosing.{is_engaged, engaged_paths, path_use,
 use Rattle.subchannel_model.specs.Sending.{carried_by, finds_full, with_any_sent}
 use Rattle.subchannel_model.specs.Store.{available_paths}
 use Rattle.machine_model.specs.ChooseSteps.{choose_sub}
-use Rattle.machine_model.specs.Turns.{SubTurn, with_state}
+use Rattle.machine_model.specs.Results.{SubResult, with_state}
 use Rattle.machine_model.specs.UpSteps.{may_return}
 use Rattle.run_laws.specs.Returns.{accepted_by}
 use Rattle.run_laws.proofs.Machine.Moves.{if-ok}
@@ -146,7 +146,7 @@ abbrev pub IsOpen : List Subchannel → Subchannel → Chosen → Type 0
 IsOpen subs sub (Offers c path) = IsFree subs sub path
 IsOpen subs sub c = Unit {0}
 
-abbrev IsChooseMoved : List Subchannel → Subchannel → SubTurn → Type 0
+abbrev IsChooseMoved : List Subchannel → Subchannel → SubResult → Type 0
 IsChooseMoved subs sub t = IsMoved subs (λ accepted. accepted_by t.reply 0 accepted) sub t.sub
 
 reset-sent-hold : (h : HoldState) (phase : HoldPhase) (path : ℕ) → IsCalmHold (with_phase h phase) (hold_after (with_phase h phase) (sending_reset (with_phase h phase) phase path))
@@ -208,10 +208,10 @@ marked-free : (subs : List Subchannel) (sub : Subchannel) (choice : Option ℕ) 
 marked-free subs sub choice (Offers c path) free = free
 marked-free subs sub choice other free = tt
 
-abbrev pub OkChoose : List Subchannel → Subchannel → Result SubTurn Fault → Type 0
+abbrev pub OkChoose : List Subchannel → Subchannel → Result SubResult Fault → Type 0
 OkChoose subs sub r = IfOk r (IsChooseMoved subs sub)
 
-ok-marked : (subs : List Subchannel) (sub : Subchannel) (choice : Option ℕ) (r : Result SubTurn Fault) → OkChoose subs (marked_sub sub choice) r → OkChoose subs sub r
+ok-marked : (subs : List Subchannel) (sub : Subchannel) (choice : Option ℕ) (r : Result SubResult Fault) → OkChoose subs (marked_sub sub choice) r → OkChoose subs sub r
 ok-marked subs sub choice (Ok t) m = marked-moved subs (λ accepted. accepted_by t.reply 0 accepted) sub t.sub choice m
 ok-marked subs sub choice (Err f) m = tt
 

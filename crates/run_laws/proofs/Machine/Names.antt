@@ -4,9 +4,9 @@ use Rattle.std.specs.Prelude.{slice_get}
 use Rattle.std.proofs.lemmas.Bool.{eqb-true, eq-eqb, and_parts}
 use Rattle.channel_config.specs.declared.names.SubchannelId.{SubchannelId}
 use Rattle.run_laws.specs.StateClaims.{is_same_id, is_id}
-use Rattle.step_laws.proofs.Places.{both-true, first-passes}
+use Rattle.step_laws.proofs.Indices.{both-true, first-passes}
 use Rattle.subchannel_model.specs.declared.state.Subchannel.{Subchannel}
-use Rattle.subchannel_model.specs.Places.{is_named, place_in, place_of_id}
+use Rattle.subchannel_model.specs.Indices.{is_named, index_in, index_of_id}
 
 pub same-id : (a b : SubchannelId) → is_same_id a b ≡ true → a ≡ b
 same-id a b e =
@@ -26,13 +26,13 @@ named-both id named sub e f =
         let p = and_parts (sub.setup.id.set == x.set) (sub.setup.id.number == x.number) h in
         (eqb-true sub.setup.id.set x.set p.0, eqb-true sub.setup.id.number x.number p.1)
 
-pub named-is : (subs : List Subchannel) (id : SubchannelId) (x : Option SubchannelId) (place : ℕ) (sub : Subchannel) → place_of_id subs x ≡ Some place →
-    place_in id subs ≡ Some place → slice_get subs place ≡ Some sub → is_id x id ≡ true
-named-is subs id None place sub at mine there = absurd (cc at)
-named-is subs id (Some named) place sub at mine there =
-    named-both id named sub (first-passes (is_named id) subs place sub mine there) (first-passes (is_named named) subs place sub at there)
+pub named-is : (subs : List Subchannel) (id : SubchannelId) (x : Option SubchannelId) (index : ℕ) (sub : Subchannel) → index_of_id subs x ≡ Some index →
+    index_in id subs ≡ Some index → slice_get subs index ≡ Some sub → is_id x id ≡ true
+named-is subs id None index sub at mine there = absurd (cc at)
+named-is subs id (Some named) index sub at mine there =
+    named-both id named sub (first-passes (is_named id) subs index sub mine there) (first-passes (is_named named) subs index sub at there)
 
-pub named-place : (subs : List Subchannel) (id : SubchannelId) (x : Option SubchannelId) (place : ℕ) → place_of_id subs x ≡ Some place → is_id x id ≡ true →
-    place_in id subs ≡ Some place
-named-place subs id None place at e = absurd (cc e)
-named-place subs id (Some named) place at e = subst (λ (y : SubchannelId). place_in y subs ≡ Some place) (same-id named id e) at
+pub named-index : (subs : List Subchannel) (id : SubchannelId) (x : Option SubchannelId) (index : ℕ) → index_of_id subs x ≡ Some index → is_id x id ≡ true →
+    index_in id subs ≡ Some index
+named-index subs id None index at e = absurd (cc e)
+named-index subs id (Some named) index at e = subst (λ (y : SubchannelId). index_in y subs ≡ Some index) (same-id named id e) at

@@ -21,8 +21,8 @@ use Rattle.subchannel_model.specs.Sending.{carried_by, finds_full}
 use Rattle.machine_model.specs.ChooseSteps.{choose_sub}
 use Rattle.machine_model.specs.State.{State, sub_of}
 use Rattle.machine_model.specs.Steps.{Step}
-use Rattle.machine_model.specs.Turns.{SubTurn}
-use Rattle.subchannel_model.specs.Places.{sub_at}
+use Rattle.machine_model.specs.Results.{SubResult}
+use Rattle.subchannel_model.specs.Indices.{sub_at}
 use Rattle.step_laws.specs.Walks as walked
 use Rattle.step_laws.specs.Walks.{Walked, AreWalks, IsQuiet, Suits}
 use Rattle.run_laws.specs.Returns.{OffersOnDedicated}
@@ -122,19 +122,19 @@ if-ok : {A : Type 0} (P : A → Type 0) (full : Bool) (x y : Result A Fault) →
 if-ok P true x y e f = e
 if-ok P false x y e f = f
 
-abbrev OkOffer : State → ℕ → Result SubTurn Fault → Type 0
+abbrev OkOffer : State → ℕ → Result SubResult Fault → Type 0
 OkOffer s word r = IfOk r (λ t. OffersOnDedicated s (event.Choose word) t.reply)
 
 choose-dedicated : (s : State) (word : ℕ) (sub : Subchannel) (choice : Option ℕ) (c : Chosen) → sub_of s word ≡ Some sub →
     IsChoice (paths_to_choose s.subs sub) choice → Suits c sub.state → IsOffer choice c → OkOffer s word (choose_sub (marked_sub sub choice) c)
 choose-dedicated s word sub choice (Resets r path) at x f o =
-    if-ok (λ (t : SubTurn). OffersOnDedicated s (event.Choose word) t.reply)
+    if-ok (λ (t : SubResult). OffersOnDedicated s (event.Choose word) t.reply)
     (finds_full sub.wires.down (carried_by sub (Some (record { path = path; signal = down.Reset r sub.state.hold.known })))) _ _ tt tt
 choose-dedicated s word sub choice (Halts t path) at x f o =
-    if-ok (λ (t : SubTurn). OffersOnDedicated s (event.Choose word) t.reply)
+    if-ok (λ (t : SubResult). OffersOnDedicated s (event.Choose word) t.reply)
     (finds_full sub.wires.down (carried_by sub (Some (record { path = path; signal = down.Halt t })))) _ _ tt tt
 choose-dedicated s word sub choice (Offers c path) at x f o =
-    if-ok (λ (t : SubTurn). OffersOnDedicated s (event.Choose word) t.reply)
+    if-ok (λ (t : SubResult). OffersOnDedicated s (event.Choose word) t.reply)
     (finds_full sub.wires.down (carried_by sub (Some (record { path = path; signal = down.Select (sub.state.drawn + 1) })))) _ _ tt
     (λ other d e h.
     let same : other ≡ sub = cc (sym e ∙ at) in
@@ -149,10 +149,10 @@ quiet-dedicated s e r q = tt
 
 walked-dedicated : (s : State) (e : Event) (r : Reply) (new : State) → Walked s e r new → OffersOnDedicated s e r
 walked-dedicated s _ _ _ (walked.Stays e r new q sets subs units up) = quiet-dedicated s e r q
-walked-dedicated s _ _ _ (walked.Tested e r place sub c new q one address by answers) = quiet-dedicated s e r q
-walked-dedicated s _ _ _ (walked.Modified e r place sub given c new q one) = quiet-dedicated s e r q
-walked-dedicated s _ _ _ (walked.Performed e r place sub f c new q one by answers) = quiet-dedicated s e r q
-walked-dedicated s _ _ _ (walked.Chosen word place sub choice t new n x w h one) =
+walked-dedicated s _ _ _ (walked.Tested e r index sub c new q one address by answers) = quiet-dedicated s e r q
+walked-dedicated s _ _ _ (walked.Modified e r index sub given c new q one) = quiet-dedicated s e r q
+walked-dedicated s _ _ _ (walked.Performed e r index sub f c new q one by answers) = quiet-dedicated s e r q
+walked-dedicated s _ _ _ (walked.Chosen word index sub choice t new n x w h one) =
     subst (OkOffer s word) h
     (choose-dedicated s word sub choice (chosen sub choice) (ap (λ (o : Option ℕ). sub_at s.subs o) n ∙ one.there) x w (chosen-offer sub choice))
 walked-dedicated s _ _ _ (walked.Swept e r what new q sets subs units by) = quiet-dedicated s e r q

@@ -12,7 +12,7 @@ use Rattle.chan_model.specs.declared.unit_state.Own.{Own}
 use Rattle.chan_model.specs.declared.unit_state.Own.TheVariants as own
 use Rattle.chan_model.specs.declared.unit_state.Connection.{Connection}
 use Rattle.chan_model.specs.Agreement.{device_path}
-use Rattle.chan_model.specs.UnitTable.{path_of_place}
+use Rattle.chan_model.specs.UnitTable.{path_of_connection}
 use Rattle.chan_model.specs.ResetCauses.{engaged_path, is_path}
 use Rattle.chan_model.specs.Sides.{same_side}
 use Rattle.channel_config.specs.declared.parts.SubchannelSetup.{SubchannelSetup}
@@ -27,7 +27,7 @@ use Rattle.machine_model.specs.State.{State, opening_of}
 use Rattle.machine_model.specs.Steps.{Run, Opened, Step, Stepped}
 use Rattle.step_laws.specs.Walks.{AreWalks}
 use Rattle.chan_model.proofs.OneSide.{one-side}
-use Rattle.step_laws.proofs.Places.{set-get, map-get}
+use Rattle.step_laws.proofs.Indices.{set-get, map-get}
 use Rattle.run_laws.specs.OneEngine.{IsAlone, IsOnePath}
 use Rattle.run_laws.proofs.Machine.PathSets.{both-parts, both-from}
 use Rattle.run_laws.proofs.Machine.Moving.{IsFree, IsMoved}
@@ -57,7 +57,7 @@ serves chpid x k =
 
 pub record AreServed (subs : List Subchannel) : Type 0 where
   pub alone : (chpid : ℕ) → IsAlone chpid subs
-  pub available : (place p : ℕ) (x : Subchannel) → slice_get subs place ≡ Some x → engaged_path x.state.hold.phase ≡ Some p → is_member (available_paths x) p ≡ true
+  pub available : (index p : ℕ) (x : Subchannel) → slice_get subs index ≡ Some x → engaged_path x.state.hold.phase ≡ Some p → is_member (available_paths x) p ≡ true
 
 -- a step at one subchannel
 path-free : (subs : List Subchannel) (o : Option ℕ) (chpid : ℕ) → o ≡ Some chpid → is_engaged subs o ≡ false → any_engages subs chpid ≡ false
@@ -74,55 +74,55 @@ engages-moved subs f sub after chpid m e =
     let k : IsServed chpid after = served chpid after e in
     engaged-free subs sub k.path chpid (sym (ap (λ (setup : SubchannelSetup). slice_get setup.paths k.path) m.setup) ∙ k.is) (m.engaged k.path k.engaged)
 
-other-alone : (subs : List Subchannel) (f : Option ℕ → Option ℕ) (place i chpid : ℕ) (sub after x : Subchannel) → IsAlone chpid subs → slice_get subs place ≡ Some sub →
-    IsMoved subs f sub after → slice_get subs i ≡ Some x → engages chpid after ≡ true → engages chpid x ≡ true → place ≡ i
-other-alone subs f place i chpid sub after x alone there m at e g =
+other-alone : (subs : List Subchannel) (f : Option ℕ → Option ℕ) (index i chpid : ℕ) (sub after x : Subchannel) → IsAlone chpid subs → slice_get subs index ≡ Some sub →
+    IsMoved subs f sub after → slice_get subs i ≡ Some x → engages chpid after ≡ true → engages chpid x ≡ true → index ≡ i
+other-alone subs f index i chpid sub after x alone there m at e g =
     elim (engages-moved subs f sub after chpid m e) [
-      | inl h ↦ alone place i sub x there at h g
+      | inl h ↦ alone index i sub x there at h g
       | inr h ↦ absurd (cc (sym (any_passes_from_place (engages chpid) subs i x at g) ∙ h))
     ]
 
 -- an engine serves one at most, as one subchannel changes, where it comes to serve that one only if it serves no other
-pub alone-set : (subs : List Subchannel) (place chpid : ℕ) (after : Subchannel) → IsAlone chpid subs →
-    ((i : ℕ) (x : Subchannel) → slice_get subs i ≡ Some x → engages chpid after ≡ true → engages chpid x ≡ true → place ≡ i) → IsAlone chpid (slice_set subs place after)
-alone-set subs place chpid after alone other i j x y a b e g =
-    elim (set-get subs place after i x a) [
-      | inl p ↦ elim (set-get subs place after j y b) [
+pub alone-set : (subs : List Subchannel) (index chpid : ℕ) (after : Subchannel) → IsAlone chpid subs →
+    ((i : ℕ) (x : Subchannel) → slice_get subs i ≡ Some x → engages chpid after ≡ true → engages chpid x ≡ true → index ≡ i) → IsAlone chpid (slice_set subs index after)
+alone-set subs index chpid after alone other i j x y a b e g =
+    elim (set-get subs index after i x a) [
+      | inl p ↦ elim (set-get subs index after j y b) [
         | inl q ↦ p.0 ∙ sym q.0
         | inr q ↦ p.0 ∙ other j y q.1 (sym (ap (engages chpid) p.1) ∙ e) g
       ]
-      | inr p ↦ elim (set-get subs place after j y b) [
+      | inr p ↦ elim (set-get subs index after j y b) [
         | inl q ↦ sym (other i x p.1 (sym (ap (engages chpid) q.1) ∙ g) e) ∙ sym q.0
         | inr q ↦ alone i j x y p.1 q.1 e g
       ]
     ]
 
-one-alone : (subs : List Subchannel) (f : Option ℕ → Option ℕ) (place chpid : ℕ) (sub after : Subchannel) → IsAlone chpid subs → slice_get subs place ≡ Some sub →
-    IsMoved subs f sub after → IsAlone chpid (slice_set subs place after)
-one-alone subs f place chpid sub after alone there m =
-    alone-set subs place chpid after alone (λ i x. other-alone subs f place i chpid sub after x alone there m)
+one-alone : (subs : List Subchannel) (f : Option ℕ → Option ℕ) (index chpid : ℕ) (sub after : Subchannel) → IsAlone chpid subs → slice_get subs index ≡ Some sub →
+    IsMoved subs f sub after → IsAlone chpid (slice_set subs index after)
+one-alone subs f index chpid sub after alone there m =
+    alone-set subs index chpid after alone (λ i x. other-alone subs f index i chpid sub after x alone there m)
 
 same-paths : (sub after : Subchannel) → after.setup ≡ sub.setup → after.state.pmcw.available ≡ sub.state.pmcw.available → available_paths sub ≡ available_paths after
 same-paths sub after s a =
     sym (ap (λ (available : List Bool). in_both (installed_paths after) available) a
     ∙ ap (λ (setup : SubchannelSetup). available_paths (record sub { setup = setup })) s)
 
-moved-available : (subs : List Subchannel) (f : Option ℕ → Option ℕ) (place p : ℕ) (sub after : Subchannel) → AreServed subs → slice_get subs place ≡ Some sub →
+moved-available : (subs : List Subchannel) (f : Option ℕ → Option ℕ) (index p : ℕ) (sub after : Subchannel) → AreServed subs → slice_get subs index ≡ Some sub →
     IsMoved subs f sub after → engaged_path after.state.hold.phase ≡ Some p → is_member (available_paths after) p ≡ true
-moved-available subs f place p sub after k there m e =
+moved-available subs f index p sub after k there m e =
     subst (λ (set : List Bool). is_member set p ≡ true) (same-paths sub after m.setup m.available)
     (elim (m.engaged p e) [
-      | inl h ↦ k.available place p sub there h
+      | inl h ↦ k.available index p sub there h
       | inr h ↦ h.0
     ])
 
-one-served : (subs : List Subchannel) (f : Option ℕ → Option ℕ) (place : ℕ) (sub after : Subchannel) → AreServed subs → slice_get subs place ≡ Some sub →
-    IsMoved subs f sub after → AreServed (slice_set subs place after)
-one-served subs f place sub after k there m = record {
-  alone = λ chpid. one-alone subs f place chpid sub after (k.alone chpid) there m;
-  available = λ at p x h e. elim (set-get subs place after at x h) [
+one-served : (subs : List Subchannel) (f : Option ℕ → Option ℕ) (index : ℕ) (sub after : Subchannel) → AreServed subs → slice_get subs index ≡ Some sub →
+    IsMoved subs f sub after → AreServed (slice_set subs index after)
+one-served subs f index sub after k there m = record {
+  alone = λ chpid. one-alone subs f index chpid sub after (k.alone chpid) there m;
+  available = λ at p x h e. elim (set-get subs index after at x h) [
     | inl q ↦ subst (λ (y : Subchannel). is_member (available_paths y) p ≡ true) (sym q.1)
-        (moved-available subs f place p sub after k there m (subst (λ (y : Subchannel). engaged_path y.state.hold.phase ≡ Some p) q.1 e))
+        (moved-available subs f index p sub after k there m (subst (λ (y : Subchannel). engaged_path y.state.hold.phase ≡ Some p) q.1 e))
     | inr q ↦ k.available at p x q.1 e
   ];
 }
@@ -157,17 +157,17 @@ all-alone what subs chpid alone i j x y a b e g =
 all-served : (what : Sweep) (subs : List Subchannel) → AreServed subs → AreServed (map (swept what) subs)
 all-served what subs k = record {
   alone = λ chpid. all-alone what subs chpid (k.alone chpid);
-  available = λ place p x a e.
-      let q = map-get (swept what) subs place x a in
+  available = λ index p x a e.
+      let q = map-get (swept what) subs index x a in
       let w : IsSwept q.0 x = subst (λ (z : Subchannel). IsSwept q.0 z) q.2 (is-swept what q.0) in
-      swept-available q.0 x p w e (k.available place p q.0 q.1 (w.engaged p e));
+      swept-available q.0 x p w e (k.available index p q.0 q.1 (w.engaged p e));
 }
 
 -- an engine that serves one subchannel at most does so after each step
 turned-alone : (s : State) (e : Event) (r : Reply) (new : State) (chpid : ℕ) → Turned s e r new → IsAlone chpid s.subs → IsAlone chpid new.subs
 turned-alone s _ _ _ chpid (OfNone e r new silent subs up) alone = subst (IsAlone chpid) (sym subs) alone
-turned-alone s _ _ _ chpid (OfOne e r new place sub after there subs up m silent) alone =
-    subst (IsAlone chpid) (sym subs) (one-alone s.subs _ place chpid sub after alone there m)
+turned-alone s _ _ _ chpid (OfOne e r new index sub after there subs up m silent) alone =
+    subst (IsAlone chpid) (sym subs) (one-alone s.subs _ index chpid sub after alone there m)
 turned-alone s _ _ _ chpid (OfAll e r new what silent subs up) alone = subst (IsAlone chpid) (sym subs) (all-alone what s.subs chpid alone)
 
 pub step-alone : AreWalks → (s : State) (e : Event) (r : Reply) (new : State) (chpid : ℕ) → Step s e r new → IsAlone chpid s.subs → IsAlone chpid new.subs
@@ -175,19 +175,19 @@ step-alone walks s e r new chpid step = turned-alone s e r new chpid (step-turne
 
 turned-served : (s : State) (e : Event) (r : Reply) (new : State) → Turned s e r new → AreServed s.subs → AreServed new.subs
 turned-served s _ _ _ (OfNone e r new silent subs up) k = subst (λ (xs : List Subchannel). AreServed xs) (sym subs) k
-turned-served s _ _ _ (OfOne e r new place sub after there subs up m silent) k =
-    subst (λ (xs : List Subchannel). AreServed xs) (sym subs) (one-served s.subs _ place sub after k there m)
+turned-served s _ _ _ (OfOne e r new index sub after there subs up m silent) k =
+    subst (λ (xs : List Subchannel). AreServed xs) (sym subs) (one-served s.subs _ index sub after k there m)
 turned-served s _ _ _ (OfAll e r new what silent subs up) k = subst (λ (xs : List Subchannel). AreServed xs) (sym subs) (all-served what s.subs k)
 
 -- at the opening no subchannel is served
-pub opened-idle : (setups : List SubchannelSetup) (place : ℕ) (x : Subchannel) → slice_get (map opened setups) place ≡ Some x → engaged_path x.state.hold.phase ≡ None
-opened-idle setups place x e =
-    let p = map-get opened setups place x e in sym (ap (λ (y : Subchannel). engaged_path y.state.hold.phase) p.2)
+pub opened-idle : (setups : List SubchannelSetup) (index : ℕ) (x : Subchannel) → slice_get (map opened setups) index ≡ Some x → engaged_path x.state.hold.phase ≡ None
+opened-idle setups index x e =
+    let p = map-get opened setups index x e in sym (ap (λ (y : Subchannel). engaged_path y.state.hold.phase) p.2)
 
 opened-served : (setups : List SubchannelSetup) → AreServed (map opened setups)
 opened-served setups = record {
   alone = λ chpid i j x y a b e g. let k : IsServed chpid x = served chpid x e in absurd (cc (sym (opened-idle setups i x a) ∙ k.engaged));
-  available = λ place p x a e. absurd (cc (sym (opened-idle setups place x a) ∙ e));
+  available = λ index p x a e. absurd (cc (sym (opened-idle setups index x a) ∙ e));
 }
 
 run-served : AreWalks → (setup : Setup) (h : List Entry) (s : State) → Run (opening_of setup) h s → AreServed s.subs
@@ -203,8 +203,8 @@ one-engine c d x e f =
     let same : k.path ≡ l.path = cc (sym k.engaged ∙ l.engaged) in
     cc (sym k.is ∙ ap (slice_get x.setup.paths) same ∙ l.is)
 
-placed-one : (k a b : Side) (at : Connection) (p q : ℕ) (c d : Bool) → same_side k a ≡ c → same_side k b ≡ d → (if c then path_of_place at else None) ≡ Some p →
-    (if d then path_of_place at else None) ≡ Some q → (a ≡ b) × (p ≡ q)
+placed-one : (k a b : Side) (at : Connection) (p q : ℕ) (c d : Bool) → same_side k a ≡ c → same_side k b ≡ d → (if c then path_of_connection at else None) ≡ Some p →
+    (if d then path_of_connection at else None) ≡ Some q → (a ≡ b) × (p ≡ q)
 placed-one k a b at p q false d e f g h = absurd (cc g)
 placed-one k a b at p q true false e f g h = absurd (cc h)
 placed-one k a b at p q true true e f g h = (sym (one-side k a e) ∙ one-side k b f, cc (sym g ∙ h))
@@ -218,7 +218,7 @@ run-one walks setup h s run =
     let k : AreServed s.subs = run-served walks setup h s run in
     record {
       subchannel = k.alone;
-      engine = λ place c d x at e f. one-engine c d x e f;
+      engine = λ index c d x at e f. one-engine c d x e f;
       available = k.available;
-      device = λ place p q a b u at e f. one-device u.own a b p q e f;
+      device = λ index p q a b u at e f. one-device u.own a b p q e f;
     }

@@ -22,7 +22,7 @@ use Rattle.subchannel_model.specs.Taking.{takes_up}
 use Rattle.machine_model.specs.ActSteps.{has_path_of_act, acts, act_sub}
 use Rattle.machine_model.specs.DownSteps.{with_answer, down_front, down_sub}
 use Rattle.machine_model.specs.ReportSteps.{with_any_up, report_taken, report_sub}
-use Rattle.machine_model.specs.Turns.{UpTurn, DownTurn}
+use Rattle.machine_model.specs.Results.{UpResult, DownResult}
 use Rattle.machine_model.specs.UpSteps.{with_met, up_front, up_sub}
 use Rattle.run_laws.specs.Returns.{accepted_by, granted_path}
 use Rattle.run_laws.proofs.Machine.WaitingSignals.{OnSent, each-front, taken-each, carried-each}
@@ -52,16 +52,16 @@ answers-tied returns p phase drawn next available (Some s) a = λ e. answer-tied
 
 met-carried : (sub : Subchannel) (path : ℕ) (step : UpStep) → step.state.pmcw.available ≡ sub.state.pmcw.available → IsCarried sub → IsCarried (with_met sub path step)
 met-carried sub path step e c = record {
-  downs = same-available sub.state.pmcw.available step.state.pmcw.available (with_any_sent sub.wires.down (carried_by sub step.came.sent)) e
-      (carried-each (IsOnAvailable sub.state.pmcw.available) sub.wires.down sub.state.pmcw.available step.came.sent
-      (on-available sub.state.pmcw.available step.came.sent) c.downs);
+  downs = same-available sub.state.pmcw.available step.state.pmcw.available (with_any_sent sub.wires.down (carried_by sub step.outcome.sent)) e
+      (carried-each (IsOnAvailable sub.state.pmcw.available) sub.wires.down sub.state.pmcw.available step.outcome.sent
+      (on-available sub.state.pmcw.available step.outcome.sent) c.downs);
   ups = same-available sub.state.pmcw.available step.state.pmcw.available (taken sub.wires.up path) e
       (taken-each (IsOnAvailable sub.state.pmcw.available) sub.wires.up path c.ups);
 }
 
 met-moved : (subs : List Subchannel) (returns : Bool) (sub : Subchannel) (path : ℕ) (x : Up) (step : UpStep) → (returns ≡ true → IsFree subs sub path) →
     slice_get (queue sub.wires.up path) 0 ≡ Some x → IsMet returns path x sub.state step →
-    IsMoved subs (λ accepted. accepted_by (reply.Up x step.came.taken step.came.sent) path accepted) sub (with_met sub path step)
+    IsMoved subs (λ accepted. accepted_by (reply.Up x step.outcome.taken step.outcome.sent) path accepted) sub (with_met sub path step)
 met-moved subs returns sub path x step free front m =
     let later : IsLater sub.state.drawn step.state.drawn sub.state.hold.phase step.state.hold.phase = record { rises = m.drawn; offered = λ t p le e. m.offered t p e } in
     record {
@@ -74,15 +74,15 @@ met-moved subs returns sub path x step free front m =
       carried = met-carried sub path step m.available;
       told = λ accepted t. record {
         remembers = m.remembers accepted (each-front (IsTiedUp sub.state.drawn sub.state.hold.phase path) (queue sub.wires.up path) x (t.ups path) front) t.remembers;
-        downs = carried-each (IsTiedDown step.state.drawn step.state.hold.phase) sub.wires.down sub.state.pmcw.available step.came.sent
-            (answers-tied returns path sub.state.hold.phase step.state.drawn step.state.hold.phase sub.state.pmcw.available step.came.sent m.sent)
+        downs = carried-each (IsTiedDown step.state.drawn step.state.hold.phase) sub.wires.down sub.state.pmcw.available step.outcome.sent
+            (answers-tied returns path sub.state.hold.phase step.state.drawn step.state.hold.phase sub.state.pmcw.available step.outcome.sent m.sent)
             (downs-later sub.state.drawn step.state.drawn sub.state.hold.phase step.state.hold.phase sub.wires.down later t.downs);
         ups = taken-each (IsTiedUp step.state.drawn step.state.hold.phase) sub.wires.up path
             (ups-later sub.state.drawn step.state.drawn sub.state.hold.phase step.state.hold.phase sub.wires.up later t.ups);
       };
     }
 
-abbrev pub IsUpMoved : List Subchannel → Subchannel → ℕ → UpTurn → Type 0
+abbrev pub IsUpMoved : List Subchannel → Subchannel → ℕ → UpResult → Type 0
 IsUpMoved subs sub path t = IsMoved subs (λ accepted. accepted_by t.reply path accepted) sub t.sub
 
 front-moved : (subs : List Subchannel) (returns : Bool) (storage : Contents) (sub : Subchannel) (path : ℕ) (front : Option Up) → (returns ≡ true → IsFree subs sub path) →
@@ -90,7 +90,7 @@ front-moved : (subs : List Subchannel) (returns : Bool) (storage : Contents) (su
 front-moved subs returns storage sub path None free e = tt
 front-moved subs returns storage sub path (Some x) free e =
     let step : UpStep = (takes_up returns storage sub.state path x).step in
-    if-ok (IsUpMoved subs sub path) (finds_full sub.wires.down (carried_by sub step.came.sent)) _ _ tt
+    if-ok (IsUpMoved subs sub path) (finds_full sub.wires.down (carried_by sub step.outcome.sent)) _ _ tt
     (met-moved subs returns sub path x step free e (takes-met returns storage sub.state path x))
 
 pub up-moved : (subs : List Subchannel) (returns : Bool) (storage : Contents) (sub : Subchannel) (path : ℕ) → (returns ≡ true → IsFree subs sub path) →
@@ -100,7 +100,7 @@ up-moved subs returns storage sub path free =
     (front-moved subs returns storage sub path (slice_get (queue sub.wires.up path) 0) free refl) tt
 
 -- a Grant goes by the path of its Back, to a program that is held and may come back
-abbrev pub IsGranted : Bool → Subchannel → ℕ → UpTurn → Type 0
+abbrev pub IsGranted : Bool → Subchannel → ℕ → UpResult → Type 0
 IsGranted returns sub path t = (q : ℕ) → granted_path t.reply ≡ Some q → (returns ≡ true) × (q ≡ path) × (is_held sub.state.hold.phase ≡ true)
 
 front-granted : (returns : Bool) (storage : Contents) (sub : Subchannel) (path : ℕ) (front : Option Up) →
@@ -108,8 +108,8 @@ front-granted : (returns : Bool) (storage : Contents) (sub : Subchannel) (path :
 front-granted returns storage sub path None = tt
 front-granted returns storage sub path (Some x) =
     let step : UpStep = (takes_up returns storage sub.state path x).step in
-    if-ok (IsGranted returns sub path) (finds_full sub.wires.down (carried_by sub step.came.sent)) _ _ tt
-    (λ q e. answers-granted returns path sub.state.hold.phase step.came.sent q (takes-met returns storage sub.state path x).sent e)
+    if-ok (IsGranted returns sub path) (finds_full sub.wires.down (carried_by sub step.outcome.sent)) _ _ tt
+    (λ q e. answers-granted returns path sub.state.hold.phase step.outcome.sent q (takes-met returns storage sub.state path x).sent e)
 
 pub up-granted : (returns : Bool) (storage : Contents) (sub : Subchannel) (path : ℕ) → IfOk (up_sub returns storage sub path) (IsGranted returns sub path)
 up-granted returns storage sub path =
@@ -174,14 +174,14 @@ told-moved subs sub one others = record {
   };
 }
 
-abbrev pub IsUnitMoved : List Subchannel → Subchannel → DownTurn → Type 0
+abbrev pub IsUnitMoved : List Subchannel → Subchannel → DownResult → Type 0
 IsUnitMoved subs sub t = IsMoved subs Same sub t.sub
 
 down_front-moved : (subs : List Subchannel) (may : Bool) (sub : Subchannel) (path : ℕ) (u : UnitState) (front : Option Down) →
     slice_get (queue sub.wires.down path) 0 ≡ front → IfOk (down_front may sub path u front) (IsUnitMoved subs sub)
 down_front-moved subs may sub path u None e = tt
 down_front-moved subs may sub path u (Some d) e =
-    let one : Option (OnPath Up) = (unit_table.came_of (unit_takes u sub.setup.side path d may)).sent in
+    let one : Option (OnPath Up) = (unit_table.outcome_of (unit_takes u sub.setup.side path d may)).sent in
     if-ok (IsUnitMoved subs sub) (finds_full sub.wires.up (carried_by sub one)) _ _ tt (answered-moved subs sub path d one e (takes-echo u sub.setup.side path d may))
 
 pub down-moved : (subs : List Subchannel) (may : Bool) (sub : Subchannel) (path : ℕ) (u : UnitState) → IfOk (down_sub may sub path u) (IsUnitMoved subs sub)
@@ -189,7 +189,7 @@ down-moved subs may sub path u =
     if-ok (IsUnitMoved subs sub) (nat_lt path (length sub.setup.paths)) (down_front may sub path u (slice_get (queue sub.wires.down path) 0)) _
     (down_front-moved subs may sub path u (slice_get (queue sub.wires.down path) 0) refl) tt
 
-step-moved : (subs : List Subchannel) (sub : Subchannel) (step : Option UnitStep) → AreOthers (unit_table.came_of step).sent → IfOk (report_taken sub step) (IsUnitMoved subs sub)
+step-moved : (subs : List Subchannel) (sub : Subchannel) (step : Option UnitStep) → AreOthers (unit_table.outcome_of step).sent → IfOk (report_taken sub step) (IsUnitMoved subs sub)
 step-moved subs sub None others = tt
 step-moved subs sub (Some step) others =
     if-ok (IsUnitMoved subs sub) (finds_full sub.wires.up (carried_by sub step.sent)) _ _ tt (told-moved subs sub step.sent others)

@@ -26,11 +26,11 @@ reset-goes C D s x n (Resets c k) e = inr (inl (k, c))
 reset-goes C D s x n (Ends m d k free) e = inr (inr (free, subst D (same-number m n (sym k ∙ e)) d))
 
 pub resets-by-cause : (s : State) (e : Event) (r : Reply) (new : State) → Walked s e r new → ResetsByCause s e r new
-resets-by-cause s e r new w place n sub after there left =
-    reset-reason (IsResetCause s e r place sub) (IsCleared s e r place) sub.state after.state n
-    (step-follows s e r new w place sub after there left).change
+resets-by-cause s e r new w index n sub after there left =
+    reset-reason (IsResetCause s e r index sub) (IsCleared s e r index) sub.state after.state n
+    (step-follows s e r new w index sub after there left).change
 
 pub stays-reset : (s : State) (e : Event) (r : Reply) (new : State) → Walked s e r new → StaysReset s e r new
-stays-reset s e r new w place n sub after there left =
-    reset-goes (IsResetCause s e r place sub) (IsCleared s e r place) sub.state after.state n
-    (step-follows s e r new w place sub after there left).change
+stays-reset s e r new w index n sub after there left =
+    reset-goes (IsResetCause s e r index sub) (IsCleared s e r index) sub.state after.state n
+    (step-follows s e r new w index sub after there left).change

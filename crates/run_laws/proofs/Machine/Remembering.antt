@@ -18,11 +18,11 @@ use Rattle.subchannel_model.specs.Opening.{opened}
 use Rattle.subchannel_model.specs.Store.{available_paths}
 use Rattle.machine_model.specs.State.{State, opening_of}
 use Rattle.machine_model.specs.Steps.{Step, Run, Opened, Stepped}
-use Rattle.machine_model.specs.Turns.{UpTurn}
+use Rattle.machine_model.specs.Results.{UpResult}
 use Rattle.machine_model.specs.UpSteps.{up_sub, returns_at}
 use Rattle.step_laws.specs.Walks as walked
 use Rattle.step_laws.specs.Walks.{AreWalks, Walked, IsQuiet}
-use Rattle.step_laws.proofs.Places.{set-get, map-get}
+use Rattle.step_laws.proofs.Indices.{set-get, map-get}
 use Rattle.run_laws.specs.Returns.{accepted_after, accepted_path, granted_path, ReturnsByFirst}
 use Rattle.run_laws.proofs.Machine.WaitingSignals.{none-wait}
 use Rattle.run_laws.proofs.Machine.Told.{Remembers, IsTiedDown, IsTiedUp, IsTold}
@@ -31,24 +31,24 @@ use Rattle.run_laws.proofs.Machine.Passing.{IsGranted, up-granted}
 use Rattle.run_laws.proofs.Machine.SweptPaths.{is-swept}
 use Rattle.run_laws.proofs.Machine.Turning.{Turned, OfNone, OfOne, OfAll, step-turned, returns-right}
 
--- what is told of the subchannel of each place
+-- what is told of the subchannel of each index
 abbrev AreTold : (ℕ → Option ℕ) → List Subchannel → Type 0
-AreTold accepted subs = (place : ℕ) (sub : Subchannel) → slice_get subs place ≡ Some sub → IsTold (accepted place) sub
+AreTold accepted subs = (index : ℕ) (sub : Subchannel) → slice_get subs index ≡ Some sub → IsTold (accepted index) sub
 
-told-as : (old new : ℕ → Option ℕ) (subs : List Subchannel) → ((place : ℕ) → new place ≡ old place) → AreTold old subs → AreTold new subs
-told-as old new subs e k = λ place sub at. subst (λ (o : Option ℕ). IsTold o sub) (sym (e place)) (k place sub at)
+told-as : (old new : ℕ → Option ℕ) (subs : List Subchannel) → ((index : ℕ) → new index ≡ old index) → AreTold old subs → AreTold new subs
+told-as old new subs e k = λ index sub at. subst (λ (o : Option ℕ). IsTold o sub) (sym (e index)) (k index sub at)
 
 turned-told : (s : State) (e : Event) (r : Reply) (new : State) (accepted : ℕ → Option ℕ) → Turned s e r new → AreTold accepted s.subs →
-    AreTold (λ place. accepted_after place s e r (accepted place)) new.subs
+    AreTold (λ index. accepted_after index s e r (accepted index)) new.subs
 turned-told s _ _ _ accepted (OfNone e r new silent subs up) k =
-    subst (λ (xs : List Subchannel). AreTold (λ place. accepted_after place s e r (accepted place)) xs) (sym subs)
-    (told-as accepted (λ place. accepted_after place s e r (accepted place)) s.subs (λ place. silent place (accepted place)) k)
-turned-told s _ _ _ accepted (OfOne e r new place sub after there subs up m silent) k =
+    subst (λ (xs : List Subchannel). AreTold (λ index. accepted_after index s e r (accepted index)) xs) (sym subs)
+    (told-as accepted (λ index. accepted_after index s e r (accepted index)) s.subs (λ index. silent index (accepted index)) k)
+turned-told s _ _ _ accepted (OfOne e r new index sub after there subs up m silent) k =
     subst (λ (xs : List Subchannel). AreTold (λ at. accepted_after at s e r (accepted at)) xs) (sym subs)
-    (λ at x h. elim (set-get s.subs place after at x h) [
+    (λ at x h. elim (set-get s.subs index after at x h) [
       | inl q ↦
           subst (λ (n : ℕ). IsTold (accepted_after n s e r (accepted n)) x) (sym q.0)
-          (subst (λ (y : Subchannel). IsTold (accepted_after place s e r (accepted place)) y) (sym q.1) (m.told (accepted place) (k place sub there)))
+          (subst (λ (y : Subchannel). IsTold (accepted_after index s e r (accepted index)) y) (sym q.1) (m.told (accepted index) (k index sub there)))
       | inr q ↦ subst (λ (o : Option ℕ). IsTold o x) (sym (silent at (accepted at) q.0)) (k at x q.1)
     ])
 turned-told s _ _ _ accepted (OfAll e r new what silent subs up) k =
@@ -62,15 +62,15 @@ turned-told s _ _ _ accepted (OfAll e r new what silent subs up) k =
 opened-told : (setup : SubchannelSetup) → IsTold None (opened setup)
 opened-told setup = record { remembers = tt; downs = none-wait (IsTiedDown 0 hold.Free) 8; ups = none-wait (IsTiedUp 0 hold.Free) 8 }
 
-opening-told : (setups : List SubchannelSetup) → AreTold (λ place. None) (map opened setups)
-opening-told setups = λ place sub e.
-    let p = map-get opened setups place sub e in subst (λ (y : Subchannel). IsTold None y) p.2 (opened-told p.0)
+opening-told : (setups : List SubchannelSetup) → AreTold (λ index. None) (map opened setups)
+opening-told setups = λ index sub e.
+    let p = map-get opened setups index sub e in subst (λ (y : Subchannel). IsTold None y) p.2 (opened-told p.0)
 
 run-told : AreWalks → (setup : Setup) (h : List Entry) (s : State) (run : Run (opening_of setup) h s) →
-    AreTold (λ place. accepted_path place (opening_of setup) h s run) s.subs
+    AreTold (λ index. accepted_path index (opening_of setup) h s run) s.subs
 run-told walks setup _ _ Opened = opening-told setup.subchannels
 run-told walks setup _ _ (Stepped h old e r new run step) =
-    turned-told old e r new (λ place. accepted_path place (opening_of setup) h old run) (step-turned old e r new (walks old e r new step))
+    turned-told old e r new (λ index. accepted_path index (opening_of setup) h old run) (step-turned old e r new (walks old e r new step))
     (run-told walks setup h old run)
 
 -- a Grant
@@ -89,7 +89,7 @@ first-is sub path single e =
     path-is sub.state.hold.first_path path
     (sym (ap (λ (b : Bool). if b then is_path sub.state.hold.first_path path else is_member (available_paths sub) path) single) ∙ e)
 
-met-first : (s : State) (sub : Subchannel) (path p : ℕ) (returns : Bool) (t : UpTurn) (accepted : Option ℕ) → up_sub returns s.storage sub path ≡ Ok t →
+met-first : (s : State) (sub : Subchannel) (path p : ℕ) (returns : Bool) (t : UpResult) (accepted : Option ℕ) → up_sub returns s.storage sub path ≡ Ok t →
     returns ≡ returns_at s.subs sub path → IsTold accepted sub → sub.state.hold.single_path ≡ true → granted_path t.reply ≡ Some p → accepted ≡ Some p
 met-first s sub path p returns t accepted h may told single e =
     let g = subst (λ o. IfOk o (IsGranted returns sub path)) h (up-granted returns s.storage sub path) p e in
@@ -101,15 +101,15 @@ quiet-first : (opening : State) (h : List Entry) (s : State) (run : Run opening 
 quiet-first opening h s run (event.Up word path) r q = absurd q
 quiet-first opening h s run e r q = tt
 
-walked-first : (setup : Setup) (h : List Entry) (s : State) (run : Run (opening_of setup) h s) → AreTold (λ place. accepted_path place (opening_of setup) h s run) s.subs →
+walked-first : (setup : Setup) (h : List Entry) (s : State) (run : Run (opening_of setup) h s) → AreTold (λ index. accepted_path index (opening_of setup) h s run) s.subs →
     (e : Event) (r : Reply) (new : State) → Walked s e r new → ReturnsByFirst (opening_of setup) h s run e r
 walked-first setup h s run told _ _ _ (walked.Stays e r new q sets subs units up) = quiet-first (opening_of setup) h s run e r q
-walked-first setup h s run told _ _ _ (walked.Tested e r place sub c new q one address by answers) = quiet-first (opening_of setup) h s run e r q
-walked-first setup h s run told _ _ _ (walked.Modified e r place sub given c new q one) = quiet-first (opening_of setup) h s run e r q
-walked-first setup h s run told _ _ _ (walked.Performed e r place sub f c new q one by answers) = quiet-first (opening_of setup) h s run e r q
-walked-first setup h s run told _ _ _ (walked.Met word path returns place sub t new n ok one may) =
+walked-first setup h s run told _ _ _ (walked.Tested e r index sub c new q one address by answers) = quiet-first (opening_of setup) h s run e r q
+walked-first setup h s run told _ _ _ (walked.Modified e r index sub given c new q one) = quiet-first (opening_of setup) h s run e r q
+walked-first setup h s run told _ _ _ (walked.Performed e r index sub f c new q one by answers) = quiet-first (opening_of setup) h s run e r q
+walked-first setup h s run told _ _ _ (walked.Met word path returns index sub t new n ok one may) =
     λ at p x named there single e.
-    let same : place ≡ at = cc (sym n ∙ named) in
+    let same : index ≡ at = cc (sym n ∙ named) in
     let is : x ≡ sub = cc (sym there ∙ ap (λ (k : ℕ). slice_get s.subs k) (sym same) ∙ one.there) in
     met-first s sub path p returns t (accepted_path at (opening_of setup) h s run) ok may
     (subst (λ (y : Subchannel). IsTold (accepted_path at (opening_of setup) h s run) y) is (told at x there))

@@ -38,9 +38,9 @@ use Rattle.subchannel_model.specs.Cancel.{cancelled}
 use Rattle.subchannel_model.specs.Test.{tested_wholly}
 use Rattle.subchannel_model.specs.Start.{started}
 use Rattle.machine_model.specs.State.{State, opening_of}
-use Rattle.subchannel_model.specs.Places.{is_named, place_in, place_of_id}
+use Rattle.subchannel_model.specs.Indices.{is_named, index_in, index_of_id}
 use Rattle.subchannel_model.specs.Modify.{modified_state}
-use Rattle.machine_model.specs.Turns.{SubTurn, UpTurn, DownTurn}
+use Rattle.machine_model.specs.Results.{SubResult, UpResult, DownResult}
 use Rattle.machine_model.specs.InstructionSteps.{test_with, function_sub}
 use Rattle.machine_model.specs.Steps.{Run, Opened, Stepped}
 use Rattle.machine_model.specs.Sharing.{owing}
@@ -53,14 +53,14 @@ use Rattle.step_laws.specs.Walks.{Walked, Suits, IsQuiet, is_start, OneSub, OneU
 use Rattle.run_laws.proofs.Machine.Moves.{sets-stay}
 use Rattle.run_laws.proofs.Machine.Growth.{IsLink, covers-first, AreLaws}
 use Rattle.run_laws.proofs.Machine.HoldEvents.{IsOfHold, up-turns, kept-turns, same-turns, choose-turns, marked-turns, clear-turns}
-use Rattle.run_laws.proofs.Machine.Names.{same-id, named-both, named-place}
+use Rattle.run_laws.proofs.Machine.Names.{same-id, named-both, named-index}
 use Rattle.run_laws.proofs.Machine.SameHold.{tested-same, halted-same}
-use Rattle.run_laws.proofs.Machine.TaleEvents.{Tells, start-tells, test-tells, modify-tells, function-tells, choose-tells, marked-tells, up_sub-tells}
+use Rattle.run_laws.proofs.Machine.TraceEvents.{Tells, start-tells, test-tells, modify-tells, function-tells, choose-tells, marked-tells, up_sub-tells}
 use Rattle.run_laws.proofs.Machine.Swept.{swept-told}
 use Rattle.run_laws.proofs.Machine.UnitEvents.{Follows, IsKept, down-kept, report-kept, act-kept, owing-kept}
-use Rattle.run_laws.proofs.Machine.Linked.{IsLinked, IsAbout, AreLinked, IsStateTold, place-set, hold-linked, unit-linked, restart-linked, opens-linked}
+use Rattle.run_laws.proofs.Machine.Linked.{IsLinked, IsAbout, AreLinked, IsStateTold, index-set, hold-linked, unit-linked, restart-linked, opens-linked}
 use Rattle.step_laws.proofs.Marks.{marked-suits}
-use Rattle.step_laws.proofs.Places.{first-passes}
+use Rattle.step_laws.proofs.Indices.{first-passes}
 
 -- the instructions leave the hold
 same-hold : (sub : Subchannel) → IsOfHold sub sub
@@ -79,24 +79,24 @@ modify-hold sub given code.Zero = kept-turns sub (modified_state sub given) refl
 modify-hold sub given c = same-hold sub
 
 -- an event that tells nothing, and one of the subchannel that a word names
-silent-about : (which : Option ℕ) (place : ℕ) (k next : StartCounts) → next ≡ k → IsAbout which place k k next
-silent-about which place k next e = record { here = λ h. sym e; there = λ h. sym e }
+silent-about : (which : Option ℕ) (index : ℕ) (k next : StartCounts) → next ≡ k → IsAbout which index k k next
+silent-about which index k next e = record { here = λ h. sym e; there = λ h. sym e }
 
-id-about : (subs : List Subchannel) (id named : SubchannelId) (place : ℕ) (sub : Subchannel) (same : Bool) (k mine : StartCounts) → is_same_id named id ≡ same → place_in named subs ≡ Some place →
-    slice_get subs place ≡ Some sub → IsAbout (place_in id subs) place k mine (if same then mine else k)
-id-about subs id named place sub true k mine e at there =
-    record { here = λ h. refl; there = λ n. absurd (n (subst (λ (x : SubchannelId). place_in x subs ≡ Some place) (same-id named id e) at)) }
-id-about subs id named place sub false k mine e at there =
+id-about : (subs : List Subchannel) (id named : SubchannelId) (index : ℕ) (sub : Subchannel) (same : Bool) (k mine : StartCounts) → is_same_id named id ≡ same → index_in named subs ≡ Some index →
+    slice_get subs index ≡ Some sub → IsAbout (index_in id subs) index k mine (if same then mine else k)
+id-about subs id named index sub true k mine e at there =
+    record { here = λ h. refl; there = λ n. absurd (n (subst (λ (x : SubchannelId). index_in x subs ≡ Some index) (same-id named id e) at)) }
+id-about subs id named index sub false k mine e at there =
     record {
-      here = λ h. let both : is_same_id named id ≡ true = named-both id named sub (first-passes (is_named id) subs place sub h there) (first-passes (is_named named) subs place sub at there) in
+      here = λ h. let both : is_same_id named id ≡ true = named-both id named sub (first-passes (is_named id) subs index sub h there) (first-passes (is_named named) subs index sub at there) in
           absurd (cc (sym both ∙ e));
       there = λ n. refl;
     }
 
-named-about : (subs : List Subchannel) (id : SubchannelId) (x : Option SubchannelId) (place : ℕ) (sub : Subchannel) (k mine : StartCounts) → place_of_id subs x ≡ Some place →
-    slice_get subs place ≡ Some sub → IsAbout (place_in id subs) place k mine (if is_id x id then mine else k)
-named-about subs id None place sub k mine at there = absurd (cc at)
-named-about subs id (Some named) place sub k mine at there = id-about subs id named place sub (is_same_id named id) k mine refl at there
+named-about : (subs : List Subchannel) (id : SubchannelId) (x : Option SubchannelId) (index : ℕ) (sub : Subchannel) (k mine : StartCounts) → index_of_id subs x ≡ Some index →
+    slice_get subs index ≡ Some sub → IsAbout (index_in id subs) index k mine (if is_id x id then mine else k)
+named-about subs id None index sub k mine at there = absurd (cc at)
+named-about subs id (Some named) index sub k mine at there = id-about subs id named index sub (is_same_id named id) k mine refl at there
 
 -- what rises stays so where nothing begins
 if-rises : (b : Bool) (k mine : StartCounts) → mine.begun ≡ k.begun → (if b then mine else k).begun ≡ k.begun
@@ -136,38 +136,38 @@ module _ (laws : AreLaws) where
   function-hold sub f code.Zero = effect-hold sub f
   function-hold sub f c = same-hold sub
 
-  -- an event at the subchannel of a place
-  told-at : (id : SubchannelId) (s new : State) (place : ℕ) (sub after : Subchannel) (k mine next : StartCounts) → OneSub s new place sub after → IsOfHold sub after →
-      Tells sub after.state k mine → IsAbout (place_in id s.subs) place k mine next → next.begun ≡ k.begun → IsStateTold id k s.subs s.units →
+  -- an event at the subchannel of an index
+  told-at : (id : SubchannelId) (s new : State) (index : ℕ) (sub after : Subchannel) (k mine next : StartCounts) → OneSub s new index sub after → IsOfHold sub after →
+      Tells sub after.state k mine → IsAbout (index_in id s.subs) index k mine next → next.begun ≡ k.begun → IsStateTold id k s.subs s.units →
       IsStateTold id next new.subs new.units
-  told-at id s new place sub after k mine next one h f about same l =
+  told-at id s new index sub after k mine next one h f about same l =
       subst (λ (units : List UnitState). IsStateTold id next new.subs units) (sym one.units)
       (subst (λ (subs : List Subchannel). IsStateTold id next subs s.units) (sym one.subs)
       (record {
-        linked = subst (λ (which : Option ℕ). AreLinked (slice_set s.subs place after) s.units which next) (sym (place-set id s.subs place sub after one.there h.setup))
-            (hold-linked laws s.subs s.units place sub after (place_in id s.subs) k mine next one.there h f about l.linked);
+        linked = subst (λ (which : Option ℕ). AreLinked (slice_set s.subs index after) s.units which next) (sym (index-set id s.subs index sub after one.there h.setup))
+            (hold-linked laws s.subs s.units index sub after (index_in id s.subs) k mine next one.there h f about l.linked);
         rises = rises-same k next same l.rises;
       }))
 
-  told-unit : (T : Type 0) (id : SubchannelId) (s new : State) (place at : ℕ) (sub after : Subchannel) (u v : UnitState) (k mine next : StartCounts) → OneUnit s new place sub after at u v →
-      at ≡ sub.setup.«unit» → IsKept T sub after u v k mine → IsAbout (place_in id s.subs) place k mine next →
+  told-unit : (T : Type 0) (id : SubchannelId) (s new : State) (index at : ℕ) (sub after : Subchannel) (u v : UnitState) (k mine next : StartCounts) → OneUnit s new index sub after at u v →
+      at ≡ sub.setup.«unit» → IsKept T sub after u v k mine → IsAbout (index_in id s.subs) index k mine next →
       AllPairs (λ x y. x < y) next.begun → IsStateTold id k s.subs s.units → IsStateTold id next new.subs new.units
-  told-unit T id s new place at sub after u v k mine next one e f about r l =
+  told-unit T id s new index at sub after u v k mine next one e f about r l =
       subst (λ (units : List UnitState). IsStateTold id next new.subs units) (sym one.units)
       (subst (λ (subs : List Subchannel). IsStateTold id next subs (slice_set s.units at v)) (sym one.subs)
       (record {
-        linked = subst (λ (which : Option ℕ). AreLinked (slice_set s.subs place after) (slice_set s.units at v) which next) (sym (place-set id s.subs place sub after one.there f.setup))
-            (unit-linked T s.subs s.units place at sub after u v (place_in id s.subs) k mine next one.there one.found e f about l.linked);
+        linked = subst (λ (which : Option ℕ). AreLinked (slice_set s.subs index after) (slice_set s.units at v) which next) (sym (index-set id s.subs index sub after one.there f.setup))
+            (unit-linked T s.subs s.units index at sub after u v (index_in id s.subs) k mine next one.there one.found e f about l.linked);
         rises = r;
       }))
 
   -- what began rises, where the unit of the subchannel took a signal
-  unit-rises : (T : Type 0) (id : SubchannelId) (s : State) (place at : ℕ) (sub new : Subchannel) (u v : UnitState) (k mine : StartCounts) → slice_get s.subs place ≡ Some sub →
-      slice_get s.units at ≡ Some u → at ≡ sub.setup.«unit» → IsKept T sub new u v k mine → place_in id s.subs ≡ Some place → IsStateTold id k s.subs s.units → AllPairs (λ x y. x < y) mine.begun
-  unit-rises T id s place at sub new u v k mine there found e f which l =
-      let x : IsLinked s.subs at u (place_in id s.subs) k = l.linked.linked at u found in
-      let g : Follows T x.links sub.setup.side sub new v k mine = f.follows x.links x.good x.«unit» (x.stand place sub there (sym e)) in
-      (g.told (x.told place sub there (sym e) which)).rises
+  unit-rises : (T : Type 0) (id : SubchannelId) (s : State) (index at : ℕ) (sub new : Subchannel) (u v : UnitState) (k mine : StartCounts) → slice_get s.subs index ≡ Some sub →
+      slice_get s.units at ≡ Some u → at ≡ sub.setup.«unit» → IsKept T sub new u v k mine → index_in id s.subs ≡ Some index → IsStateTold id k s.subs s.units → AllPairs (λ x y. x < y) mine.begun
+  unit-rises T id s index at sub new u v k mine there found e f which l =
+      let x : IsLinked s.subs at u (index_in id s.subs) k = l.linked.linked at u found in
+      let g : Follows T x.links sub.setup.side sub new v k mine = f.follows x.links x.good x.«unit» (x.stand index sub there (sym e)) in
+      (g.told (x.told index sub there (sym e) which)).rises
 
   -- a quiet event tells nothing of the starts of any subchannel
   start-quiet : (r : Reply) (k : StartCounts) → is_start r ≡ false → with_start r k ≡ k
@@ -187,11 +187,11 @@ module _ (laws : AreLaws) where
   quiet-tells sets id e r k q = refl
 
   -- an event that tells nothing, at one subchannel
-  quiet-at : (id : SubchannelId) (s new : State) (e : Event) (r : Reply) (place : ℕ) (sub after : Subchannel) (k : StartCounts) → IsQuiet e r → OneSub s new place sub after → IsOfHold sub after →
+  quiet-at : (id : SubchannelId) (s new : State) (e : Event) (r : Reply) (index : ℕ) (sub after : Subchannel) (k : StartCounts) → IsQuiet e r → OneSub s new index sub after → IsOfHold sub after →
       Tells sub after.state k k → IsStateTold id k s.subs s.units → IsStateTold id (starts_after s.sets id e r k) new.subs new.units
-  quiet-at id s new e r place sub after k q one h f l =
+  quiet-at id s new e r index sub after k q one h f l =
       let same : starts_after s.sets id e r k ≡ k = quiet-tells s.sets id e r k q in
-      told-at id s new place sub after k k _ one h f (silent-about _ place k _ same) (ap (λ (x : StartCounts). x.begun) same) l
+      told-at id s new index sub after k k _ one h f (silent-about _ index k _ same) (ap (λ (x : StartCounts). x.begun) same) l
 
   links-walk : (id : SubchannelId) (k : StartCounts) (s : State) (e : Event) (r : Reply) (new : State) → Walked s e r new → IsStateTold id k s.subs s.units →
       IsStateTold id (starts_after s.sets id e r k) new.subs new.units
@@ -199,49 +199,49 @@ module _ (laws : AreLaws) where
       subst (λ (xs : List UnitState). IsStateTold id (starts_after s.sets id e r k) new.subs xs) (sym units)
       (subst (λ (xs : List Subchannel). IsStateTold id (starts_after s.sets id e r k) xs s.units) (sym subs)
       (subst (λ (next : StartCounts). IsStateTold id next s.subs s.units) (sym (quiet-tells s.sets id e r k q)) l))
-  links-walk id k s _ _ _ (walked.Started cpu word address place sub orb c new n one) l =
-      told-at id s new place sub _ k (with_start (function_sub sub c (started sub.state orb)).reply k) _ one (start-hold sub orb c) (start-tells sub orb c k)
-      (named-about s.subs id (subchannel_named s.sets word) place sub k (with_start (function_sub sub c (started sub.state orb)).reply k) n one.there)
+  links-walk id k s _ _ _ (walked.Started cpu word address index sub orb c new n one) l =
+      told-at id s new index sub _ k (with_start (function_sub sub c (started sub.state orb)).reply k) _ one (start-hold sub orb c) (start-tells sub orb c k)
+      (named-about s.subs id (subchannel_named s.sets word) index sub k (with_start (function_sub sub c (started sub.state orb)).reply k) n one.there)
       (if-rises (is_id (subchannel_named s.sets word) id) k (with_start (function_sub sub c (started sub.state orb)).reply k) (start-begun sub orb c k)) l
-  links-walk id k s _ _ _ (walked.Tested e r place sub c new q one address by answers) l = quiet-at id s new e r place sub _ k q one (test-hold sub c) (test-tells sub c k) l
-  links-walk id k s _ _ _ (walked.Modified e r place sub given c new q one) l = quiet-at id s new e r place sub _ k q one (modify-hold sub given c) (modify-tells sub given c k) l
-  links-walk id k s _ _ _ (walked.Performed e r place sub f c new q one by answers) l = quiet-at id s new e r place sub _ k q one (function-hold sub f c) (function-tells sub f c k) l
-  links-walk id k s _ _ _ (walked.Chosen word place sub choice t new n x w h one) l =
+  links-walk id k s _ _ _ (walked.Tested e r index sub c new q one address by answers) l = quiet-at id s new e r index sub _ k q one (test-hold sub c) (test-tells sub c k) l
+  links-walk id k s _ _ _ (walked.Modified e r index sub given c new q one) l = quiet-at id s new e r index sub _ k q one (modify-hold sub given c) (modify-tells sub given c k) l
+  links-walk id k s _ _ _ (walked.Performed e r index sub f c new q one by answers) l = quiet-at id s new e r index sub _ k q one (function-hold sub f c) (function-tells sub f c k) l
+  links-walk id k s _ _ _ (walked.Chosen word index sub choice t new n x w h one) l =
       let marked : Subchannel = marked_sub sub choice in
       let fit : Suits (chosen sub choice) marked.state = marked-suits (chosen sub choice) sub.state marked.state.pmcw marked.state.scsw w in
-      told-at id s new place sub t.sub k (with_offer t.reply k) _ one
-      (marked-turns sub t.sub choice (subst (λ (r : Result SubTurn Fault). IfOk r (λ t. IsOfHold marked t.sub)) h (choose-turns laws.keeps marked (chosen sub choice) fit.fits)))
-      (marked-tells sub choice t.sub.state k (with_offer t.reply k) (subst (λ (r : Result SubTurn Fault). IfOk r (λ t. Tells marked t.sub.state k (with_offer t.reply k))) h (choose-tells marked (chosen sub choice) k fit.fits fit.found)))
-      (named-about s.subs id (subchannel_named s.sets word) place sub k (with_offer t.reply k) n one.there)
+      told-at id s new index sub t.sub k (with_offer t.reply k) _ one
+      (marked-turns sub t.sub choice (subst (λ (r : Result SubResult Fault). IfOk r (λ t. IsOfHold marked t.sub)) h (choose-turns laws.keeps marked (chosen sub choice) fit.fits)))
+      (marked-tells sub choice t.sub.state k (with_offer t.reply k) (subst (λ (r : Result SubResult Fault). IfOk r (λ t. Tells marked t.sub.state k (with_offer t.reply k))) h (choose-tells marked (chosen sub choice) k fit.fits fit.found)))
+      (named-about s.subs id (subchannel_named s.sets word) index sub k (with_offer t.reply k) n one.there)
       (if-rises (is_id (subchannel_named s.sets word) id) k (with_offer t.reply k) (offer-begun t.reply k)) l
-  links-walk id k s _ _ _ (walked.Met word path returns place sub t new n h one may) l =
-      told-at id s new place sub t.sub k k _ one
-      (subst (λ (r : Result UpTurn Fault). IfOk r (λ t. IsOfHold sub t.sub)) h (up-turns laws.keeps returns s.storage sub path))
-      (subst (λ (r : Result UpTurn Fault). IfOk r (λ t. Tells sub t.sub.state k k)) h (up_sub-tells returns s.storage sub path k))
-      (silent-about _ place k _ refl) refl l
-  links-walk id k s _ _ _ (walked.Sunk word path may owed place sub u t new n h one) l =
+  links-walk id k s _ _ _ (walked.Met word path returns index sub t new n h one may) l =
+      told-at id s new index sub t.sub k k _ one
+      (subst (λ (r : Result UpResult Fault). IfOk r (λ t. IsOfHold sub t.sub)) h (up-turns laws.keeps returns s.storage sub path))
+      (subst (λ (r : Result UpResult Fault). IfOk r (λ t. Tells sub t.sub.state k k)) h (up_sub-tells returns s.storage sub path k))
+      (silent-about _ index k _ refl) refl l
+  links-walk id k s _ _ _ (walked.Sunk word path may owed index sub u t new n h one) l =
       let kept : IsKept (IsEnd sub u t.reply) sub t.sub u (owing owed t.«unit») k (with_taken t.reply k) =
       owing-kept _ owed sub t.sub u t.«unit» k (with_taken t.reply k)
-      (subst (λ (r : Result DownTurn Fault). IfOk r (λ t. IsKept (IsEnd sub u t.reply) sub t.sub u t.«unit» k (with_taken t.reply k))) h (down-kept laws may sub path u k)) in
-      told-unit _ id s new place sub.setup.«unit» sub t.sub u (owing owed t.«unit») k (with_taken t.reply k) _ one refl kept
-      (named-about s.subs id (subchannel_named s.sets word) place sub k (with_taken t.reply k) n one.there)
+      (subst (λ (r : Result DownResult Fault). IfOk r (λ t. IsKept (IsEnd sub u t.reply) sub t.sub u t.«unit» k (with_taken t.reply k))) h (down-kept laws may sub path u k)) in
+      told-unit _ id s new index sub.setup.«unit» sub t.sub u (owing owed t.«unit») k (with_taken t.reply k) _ one refl kept
+      (named-about s.subs id (subchannel_named s.sets word) index sub k (with_taken t.reply k) n one.there)
       (down-rises (is_id (subchannel_named s.sets word) id) k (with_taken t.reply k)
-      (λ b. unit-rises _ id s place sub.setup.«unit» sub t.sub u (owing owed t.«unit») k (with_taken t.reply k) one.there one.found refl kept (named-place s.subs id (subchannel_named s.sets word) place n b) l)
+      (λ b. unit-rises _ id s index sub.setup.«unit» sub t.sub u (owing owed t.«unit») k (with_taken t.reply k) one.there one.found refl kept (named-index s.subs id (subchannel_named s.sets word) index n b) l)
       l.rises)
       l
-  links-walk id k s _ _ _ (walked.Reported at place sub u report t new n reached h one) l =
+  links-walk id k s _ _ _ (walked.Reported at index sub u report t new n reached h one) l =
       let both : ((sub.setup.«unit» == at) ≡ true) × (same_side sub.setup.side report.side ≡ true) = and_parts (sub.setup.«unit» == at) (same_side sub.setup.side report.side) reached in
-      told-unit _ id s new place at sub t.sub u t.«unit» k k _ one (sym (eqb-true sub.setup.«unit» at both.0))
-      (subst (λ (r : Result DownTurn Fault). IfOk r (λ t. IsKept (IsEnd sub u t.reply) sub t.sub u t.«unit» k k)) h (report-kept laws sub u report k both.1))
-      (silent-about _ place k _ refl) l.rises l
-  links-walk id k s _ _ _ (walked.Acted at place sub u what t new side its h one) l =
-      told-unit _ id s new place at sub t.sub u t.«unit» k k _ one (sym its)
-      (subst (λ (r : Result DownTurn Fault). IfOk r (λ t. IsKept (IsEnd sub u t.reply) sub t.sub u t.«unit» k k)) h (act-kept laws sub u what k side))
-      (silent-about _ place k _ refl) l.rises l
+      told-unit _ id s new index at sub t.sub u t.«unit» k k _ one (sym (eqb-true sub.setup.«unit» at both.0))
+      (subst (λ (r : Result DownResult Fault). IfOk r (λ t. IsKept (IsEnd sub u t.reply) sub t.sub u t.«unit» k k)) h (report-kept laws sub u report k both.1))
+      (silent-about _ index k _ refl) l.rises l
+  links-walk id k s _ _ _ (walked.Acted at index sub u what t new side its h one) l =
+      told-unit _ id s new index at sub t.sub u t.«unit» k k _ one (sym its)
+      (subst (λ (r : Result DownResult Fault). IfOk r (λ t. IsKept (IsEnd sub u t.reply) sub t.sub u t.«unit» k k)) h (act-kept laws sub u what k side))
+      (silent-about _ index k _ refl) l.rises l
   links-walk id k s _ _ _ (walked.Restarted at owed u r new found sets subs units up) l =
       subst (λ (xs : List UnitState). IsStateTold id k new.subs xs) (sym units)
       (subst (λ (xs : List Subchannel). IsStateTold id k xs (slice_set s.units at (owing owed (restarted u)))) (sym subs)
-      (record { linked = restart-linked laws owed s.subs s.units at u (place_in id s.subs) k found l.linked; rises = l.rises }))
+      (record { linked = restart-linked laws owed s.subs s.units at u (index_in id s.subs) k found l.linked; rises = l.rises }))
   links-walk id k s _ _ _ (walked.Swept e r what new q sets subs units by) l =
       subst (λ (xs : List UnitState). IsStateTold id (starts_after s.sets id e r k) new.subs xs) (sym units)
       (subst (λ (xs : List Subchannel). IsStateTold id (starts_after s.sets id e r k) xs s.units) (sym subs)
@@ -251,7 +251,7 @@ module _ (laws : AreLaws) where
   pub run-told : (setup : Setup) (id : SubchannelId) (h : List Entry) (s : State) → IsLawful setup → IsGood opening_links → Run (opening_of setup) h s →
       (s.sets ≡ set_count setup) × IsStateTold id (starts (set_count setup) id h) s.subs s.units
   run-told setup id _ _ lawful good Opened =
-      (refl, record { linked = opens-linked setup (place_in id (opening_of setup).subs) lawful good; rises = λ i j d less within. absurd (omega (arith, within)) })
+      (refl, record { linked = opens-linked setup (index_in id (opening_of setup).subs) lawful good; rises = λ i j d less within. absurd (omega (arith, within)) })
   run-told setup id _ _ lawful good (Stepped h old e r new run step) =
       let told : (old.sets ≡ set_count setup) × IsStateTold id (starts (set_count setup) id h) old.subs old.units = run-told setup id h old lawful good run in
       let next : (new.sets ≡ old.sets) × IsStateTold id (starts_after old.sets id e r (starts (set_count setup) id h)) new.subs new.units =
@@ -269,9 +269,9 @@ sound-agreed phase u w side e f k =
     (subst (λ (x : HoldPhase). IsAgreed x w.«unit» side) e (record { agree = k.agree; one_path = k.one_path }))
 
 pub linked-agree : ((w : Links) (side : Side) → IsGood w → IsSound w side) → (s : State) (which : Option ℕ) (k : StartCounts) → AreLinked s.subs s.units which k → AllAgree s
-linked-agree means s which k l = λ place sub u e f.
+linked-agree means s which k l = λ index sub u e f.
     let x : IsLinked s.subs sub.setup.«unit» u which k = l.linked sub.setup.«unit» u f in
-    sound-agreed sub.state.hold.phase u x.links sub.setup.side (ap (λ (h : HoldState). h.phase) (x.stand place sub e refl).hold) x.«unit» (means x.links sub.setup.side x.good)
+    sound-agreed sub.state.hold.phase u x.links sub.setup.side (ap (λ (h : HoldState). h.phase) (x.stand index sub e refl).hold) x.«unit» (means x.links sub.setup.side x.good)
 
 pub run-agrees : IsGood opening_links → AreLaws → (setup : Setup) (h : List Entry) (s : State) → IsLawful setup → Run (opening_of setup) h s → AllAgree s
 run-agrees good laws setup h s lawful run =
@@ -279,9 +279,9 @@ run-agrees good laws setup h s lawful run =
     linked-agree laws.means s _ _ told.1.linked
 
 linked-above : Rises → (s : State) (which : Option ℕ) (k : StartCounts) → AreLinked s.subs s.units which k → AreAbove s
-linked-above rises s which k l = λ place sub u p r b e f front takes.
+linked-above rises s which k l = λ index sub u p r b e f front takes.
     let x : IsLinked s.subs sub.setup.«unit» u which k = l.linked sub.setup.«unit» u f in
-    let link : IsLink sub (link_of x.links sub.setup.side) = x.stand place sub e refl in
+    let link : IsLink sub (link_of x.links sub.setup.side) = x.stand index sub e refl in
     subst (λ (v : UnitState). (side_of v sub.setup.side).floor < r) x.«unit»
     (rises x.links sub.setup.side p r b x.good (covers-first (link_of x.links sub.setup.side).downs sub.wires.down p (down.Reset r b) link.downs front)
     (subst (λ (v : UnitState). resets v sub.setup.side r b ≡ true) (sym x.«unit») takes))

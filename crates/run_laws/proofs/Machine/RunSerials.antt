@@ -22,11 +22,11 @@ use Rattle.subchannel_model.specs.Conditions.{is_operational, condition_of, left
 use Rattle.subchannel_model.specs.declared.state.Subchannel.{Subchannel}
 use Rattle.interruptions.specs.Requests.{WaitingRequests}
 use Rattle.machine_model.specs.State.{State, opening_of}
-use Rattle.subchannel_model.specs.Places.{found_at, is_named, place_in, sub_at, Found, one_later}
+use Rattle.subchannel_model.specs.Indices.{found_at, is_named, index_in, sub_at, Found, one_later}
 use Rattle.subchannel_model.specs.declared.state.SubchannelState.{SubchannelState}
 use Rattle.subchannel_model.specs.Test.{ends_suspended, tested_wholly, tested}
 use Rattle.subchannel_model.specs.Programs.{without_programs}
-use Rattle.machine_model.specs.Turns.{with_state}
+use Rattle.machine_model.specs.Results.{with_state}
 use Rattle.machine_model.specs.Steps.{Step, Run, Opened, Stepped}
 use Rattle.step_laws.specs.Walks.{AreWalks}
 use Rattle.run_laws.proofs.Machine.Names.{same-id}
@@ -34,43 +34,43 @@ use Rattle.run_laws.specs.StateClaims.{IsLaterSubchannel, is_id, serial_of, seri
 use Rattle.run_laws.proofs.Machine.Sound.{AreNumbered}
 use Rattle.run_laws.proofs.Machine.RunSound.{SoundSub, one-of, run-sound, step-sets, step-later}
 use Rattle.chan_events.specs.Instructions.{subchannel_word}
-use Rattle.step_laws.proofs.Places.{get-set, found-there}
+use Rattle.step_laws.proofs.Indices.{get-set, found-there}
 use Rattle.step_laws.proofs.Executed.{IsDone, IsLeft, code_for, reply_of, state_left, done-settled}
-use Rattle.step_laws.proofs.Turns as turn
-use Rattle.step_laws.proofs.Turns.{TurnOf, HasTurn, step-turn}
+use Rattle.step_laws.proofs.Results as turn
+use Rattle.step_laws.proofs.Results.{ResultOf, HasResult, step-turn}
 
--- the places of subchannels stay
-place-stays : (id : SubchannelId) (xs ys : List Subchannel) → AllZip IsLaterSubchannel xs ys → place_in id ys ≡ place_in id xs
-place-stays id [] [] z = refl
-place-stays id [] (y ∷ ys) z = absurd z
-place-stays id (x ∷ xs) [] z = absurd z
-place-stays id (x ∷ xs) (y ∷ ys) z =
-    ap (λ setup. if (setup.id.set == id.set) && (setup.id.number == id.number) then Some 0 else one_later (place_in id ys)) z.0.setup
-    ∙ ap (λ p. if is_named id x then Some 0 else one_later p) (place-stays id xs ys z.1)
+-- the indices of subchannels stay
+index-stays : (id : SubchannelId) (xs ys : List Subchannel) → AllZip IsLaterSubchannel xs ys → index_in id ys ≡ index_in id xs
+index-stays id [] [] z = refl
+index-stays id [] (y ∷ ys) z = absurd z
+index-stays id (x ∷ xs) [] z = absurd z
+index-stays id (x ∷ xs) (y ∷ ys) z =
+    ap (λ setup. if (setup.id.set == id.set) && (setup.id.number == id.number) then Some 0 else one_later (index_in id ys)) z.0.setup
+    ∙ ap (λ p. if is_named id x then Some 0 else one_later p) (index-stays id xs ys z.1)
 
 -- a subchannel, where there is one, and what a step left of it
 abbrev AreLater : Option Subchannel → Option Subchannel → Type 0
 AreLater None q = q ≡ None
 AreLater (Some x) q = (y : Subchannel) × (q ≡ Some y) × IsLaterSubchannel x y
 
-get-later : (xs ys : List Subchannel) (place : ℕ) → AllZip IsLaterSubchannel xs ys → AreLater (slice_get xs place) (slice_get ys place)
-get-later [] [] place z = refl
-get-later [] (y ∷ ys) place z = absurd z
-get-later (x ∷ xs) [] place z = absurd z
+get-later : (xs ys : List Subchannel) (index : ℕ) → AllZip IsLaterSubchannel xs ys → AreLater (slice_get xs index) (slice_get ys index)
+get-later [] [] index z = refl
+get-later [] (y ∷ ys) index z = absurd z
+get-later (x ∷ xs) [] index z = absurd z
 get-later (x ∷ xs) (y ∷ ys) zero z = (y, refl, z.0)
-get-later (x ∷ xs) (y ∷ ys) (suc place) z = get-later xs ys place z.1
+get-later (x ∷ xs) (y ∷ ys) (suc index) z = get-later xs ys index z.1
 
 at-later : (xs ys : List Subchannel) (p : Option ℕ) → AllZip IsLaterSubchannel xs ys → AreLater (sub_at xs p) (sub_at ys p)
 at-later xs ys None z = refl
-at-later xs ys (Some place) z = get-later xs ys place z
+at-later xs ys (Some index) z = get-later xs ys index z
 
 -- the subchannel of an id
 abbrev of_id : SubchannelId → List Subchannel → Option Subchannel
-of_id id subs = sub_at subs (place_in id subs)
+of_id id subs = sub_at subs (index_in id subs)
 
 of_id-later : (id : SubchannelId) (xs ys : List Subchannel) → AllZip IsLaterSubchannel xs ys → AreLater (of_id id xs) (of_id id ys)
 of_id-later id xs ys z =
-    subst (λ (p : Option ℕ). AreLater (of_id id xs) (sub_at ys p)) (sym (place-stays id xs ys z)) (at-later xs ys (place_in id xs) z)
+    subst (λ (p : Option ℕ). AreLater (of_id id xs) (sub_at ys p)) (sym (index-stays id xs ys z)) (at-later xs ys (index_in id xs) z)
 
 -- no serial is above what is cleared of the subchannel, and there is none of a subchannel that is not provided
 abbrev AreCleared : Option Subchannel → List ℕ → Type 0
@@ -168,7 +168,7 @@ wholly-cleared : (s : SubchannelState) → IsAllCleared s (tested_wholly s)
 wholly-cleared s = if-cleared s (ends_suspended s.scsw) (without_programs (tested s)) (tested s) (refl, refl) (refl, refl)
 
 test-shows : (n : ℕ) (id : SubchannelId) (s : State) (word address : ℕ) (f : Found) (r : Reply) (new : State) →
-    SoundSub n f.sub → place_in id new.subs ≡ place_in id s.subs → place_in id s.subs ≡ Some f.place → slice_get s.subs f.place ≡ Some f.sub →
+    SoundSub n f.sub → index_in id new.subs ≡ index_in id s.subs → index_in id s.subs ≡ Some f.index → slice_get s.subs f.index ≡ Some f.sub →
     IsLeft s (instruction.Tsch word address) r new f → Shows id s new (serial_shown r)
 test-shows n id s word address f r new sound stays at there k = by (code_for i f.sub) refl
   where
@@ -193,8 +193,8 @@ test-shows n id s word address f r new sound stays at there k = by (code_for i f
             after = with_state f.sub whole;
             found = ap (sub_at s.subs) at ∙ there;
             left = ap (sub_at new.subs) (stays ∙ at)
-                ∙ (ap (λ (xs : List Subchannel). slice_get xs f.place)
-                (k.subs ∙ ap (λ (x : SubchannelState). slice_set s.subs f.place (with_state f.sub x)) left) ∙ get-set s.subs f.place f.sub (with_state f.sub whole) there);
+                ∙ (ap (λ (xs : List Subchannel). slice_get xs f.index)
+                (k.subs ∙ ap (λ (x : SubchannelState). slice_set s.subs f.index (with_state f.sub x)) left) ∙ get-set s.subs f.index f.sub (with_state f.sub whole) there);
             above = ltb-true f.sub.state.serials.cleared f.sub.state.serials.made (sym sound.4 ∙ pending);
             reached = omega (arith, all.1);
           },
@@ -203,21 +203,21 @@ test-shows n id s word address f r new sound stays at there k = by (code_for i f
 
 -- of the subchannel that the word names
 found-shows : (n : ℕ) (id : SubchannelId) (s : State) (word address : ℕ) (q : Option Found) (r : Reply) (new : State) → All (SoundSub n) s.subs →
-    place_in id new.subs ≡ place_in id s.subs → found_at s.subs (place_in id s.subs) ≡ q → IsDone s (instruction.Tsch word address) q r new → Shows id s new (serial_shown r)
+    index_in id new.subs ≡ index_in id s.subs → found_at s.subs (index_in id s.subs) ≡ q → IsDone s (instruction.Tsch word address) q r new → Shows id s new (serial_shown r)
 found-shows n id s word address None r new a stays e k = inl (ap serial_shown k.replies)
 found-shows n id s word address (Some f) r new a stays e k =
-    let there : (place_in id s.subs ≡ Some f.place) × (slice_get s.subs f.place ≡ Some f.sub) = found-there s.subs (place_in id s.subs) f e in
-    test-shows n id s word address f r new (one-of n s.subs f.place f.sub a there.1) stays there.0 there.1 k
+    let there : (index_in id s.subs ≡ Some f.index) × (slice_get s.subs f.index ≡ Some f.sub) = found-there s.subs (index_in id s.subs) f e in
+    test-shows n id s word address f r new (one-of n s.subs f.index f.sub a there.1) stays there.0 there.1 k
 
 named-shows : (n : ℕ) (id named : SubchannelId) (s : State) (word address : ℕ) (q : Option Found) (r : Reply) (new : State) (b : Bool) → All (SoundSub n) s.subs →
-    place_in id new.subs ≡ place_in id s.subs → found_at s.subs (place_in named s.subs) ≡ q → IsDone s (instruction.Tsch word address) q r new → is_same_id named id ≡ b →
+    index_in id new.subs ≡ index_in id s.subs → found_at s.subs (index_in named s.subs) ≡ q → IsDone s (instruction.Tsch word address) q r new → is_same_id named id ≡ b →
     Shows id s new (if b then serial_shown r else [])
 named-shows n id named s word address q r new false a stays e k same = inl refl
 named-shows n id named s word address q r new true a stays e k same =
-    found-shows n id s word address q r new a stays (subst (λ (x : SubchannelId). found_at s.subs (place_in x s.subs) ≡ q) (same-id named id same) e) k
+    found-shows n id s word address q r new a stays (subst (λ (x : SubchannelId). found_at s.subs (index_in x s.subs) ≡ q) (same-id named id same) e) k
 
 executes-shows : (n : ℕ) (id named : SubchannelId) (s : State) (i : Instruction) (q : Option Found) (r : Reply) (new : State) → All (SoundSub n) s.subs →
-    place_in id new.subs ≡ place_in id s.subs → subchannel_named s.sets (subchannel_word i) ≡ Some named → found_at s.subs (place_in named s.subs) ≡ q → IsDone s i q r new →
+    index_in id new.subs ≡ index_in id s.subs → subchannel_named s.sets (subchannel_word i) ≡ Some named → found_at s.subs (index_in named s.subs) ≡ q → IsDone s i q r new →
     Shows id s new (serial_of s.sets id (event.Execute 0 i) r)
 executes-shows n id named s (instruction.Tsch word address) q r new a stays at e k =
     subst (λ (x : Option SubchannelId). Shows id s new (if is_id x id then serial_shown r else [])) (sym at)
@@ -225,17 +225,17 @@ executes-shows n id named s (instruction.Tsch word address) q r new a stays at e
 executes-shows n id named s i q r new a stays at e k = inl refl
 
 turn-shows : (n : ℕ) (id : SubchannelId) (s : State) (e : Event) (r : Reply) (new : State) (waiting : WaitingRequests) → All (SoundSub n) s.subs →
-    place_in id new.subs ≡ place_in id s.subs → TurnOf s e r new → Shows id s (record new { requests = waiting }) (serial_of s.sets id e r)
+    index_in id new.subs ≡ index_in id s.subs → ResultOf s e r new → Shows id s (record new { requests = waiting }) (serial_of s.sets id e r)
 turn-shows n id s _ _ _ waiting a stays (turn.Executes cpu i named q r storage subs at e blocks left done) =
     executes-shows n id named s i q r (record s { storage = storage; subs = subs; requests = waiting }) a stays at e (done-settled s i q r _ waiting done)
 turn-shows n id s _ _ _ waiting a stays t = inl refl
 
 step-shows : (n : ℕ) (id : SubchannelId) (s : State) (e : Event) (r : Reply) (new : State) →
-    All (SoundSub n) s.subs → place_in id new.subs ≡ place_in id s.subs → Step s e r new → Shows id s new (serial_of s.sets id e r)
+    All (SoundSub n) s.subs → index_in id new.subs ≡ index_in id s.subs → Step s e r new → Shows id s new (serial_of s.sets id e r)
 step-shows n id s e r new a stays step =
-    let is : HasTurn s e r new = step-turn s e r new step in
+    let is : HasResult s e r new = step-turn s e r new step in
     subst (λ (x : State). Shows id s x (serial_of s.sets id e r)) (sym is.settles)
-    (turn-shows n id s e r is.left _ a (subst (λ (x : State). place_in id x.subs ≡ place_in id s.subs) is.settles stays) is.turn)
+    (turn-shows n id s e r is.left _ a (subst (λ (x : State). index_in id x.subs ≡ index_in id s.subs) is.settles stays) is.turn)
 
 run-told : AreWalks → AreNumbered → (setup : Setup) (id : SubchannelId) (h : List Entry) (s : State) → Run (opening_of setup) h s → Told (set_count setup) id h s
 run-told walks numbered setup id _ _ Opened =
@@ -249,7 +249,7 @@ run-told walks numbered setup id _ _ (Stepped h old e r new run step) =
     let zip : AllZip IsLaterSubchannel old.subs new.subs = step-later walks numbered setup h old e r new run step in
     told-step (set_count setup) id h old new (record { event = e; reply = r }) told zip (step-sets walks old e r new step)
     (subst (λ (sets : ℕ). Shows id old new (serial_of sets id e r)) told.same_sets
-    (step-shows (length h) id old e r new (run-sound walks numbered setup h old run) (place-stays id old.subs new.subs zip) step))
+    (step-shows (length h) id old e r new (run-sound walks numbered setup h old run) (index-stays id old.subs new.subs zip) step))
 
 pub serials-rise : AreWalks → AreNumbered → (setup : Setup) (h : List Entry) (s : State) → Run (opening_of setup) h s → (id : SubchannelId) → AllPairs (λ x y. x < y) (serials (set_count setup) id h)
 serials-rise walks numbered setup h s run id = (run-told walks numbered setup id h s run).rises

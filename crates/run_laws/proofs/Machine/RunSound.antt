@@ -51,8 +51,8 @@ no_serials = record { made = 0; cleared = 0 }
 abbrev pub SoundSub : ℕ → Subchannel → Type 0
 SoundSub n sub = Sound no_serials n sub.state
 
-pub one-of : (n : ℕ) (subs : List Subchannel) (place : ℕ) (sub : Subchannel) → All (SoundSub n) subs → slice_get subs place ≡ Some sub → SoundSub n sub
-one-of n subs place sub a e = All-contains (SoundSub n) subs sub a (place, slice_get_within subs place sub e, get_or_from_slice_get subs place sub sub e)
+pub one-of : (n : ℕ) (subs : List Subchannel) (index : ℕ) (sub : Subchannel) → All (SoundSub n) subs → slice_get subs index ≡ Some sub → SoundSub n sub
+one-of n subs index sub a e = All-contains (SoundSub n) subs sub a (index, slice_get_within subs index sub e, get_or_from_slice_get subs index sub sub e)
 
 all-after : (n : ℕ) (xs ys : List Subchannel) → AllZip (Changed (Turns n)) xs ys → All (SoundSub n) xs → All (SoundSub (n + 1)) ys
 all-after n xs ys z a =

@@ -1,6 +1,6 @@
 -- A status that is made leaves the hold, the counter of numbers and the path-available mask as they are.
 use Rattle.std.proofs.Common.{refl, ap, ◌≡◌, ◌∙◌, ℕ, Bool, Option}
-use Rattle.ccw_walk.specs.Places.{WalkPlace}
+use Rattle.ccw_walk.specs.Positions.{WalkPosition}
 use Rattle.data_move.specs.declared.transfer.Transfer.{Transfer}
 use Rattle.subchannel_model.specs.declared.cause.StatusCause.{StatusCause}
 use Rattle.subchannel_model.specs.declared.state.ActiveProgram.{ActiveProgram}
@@ -43,7 +43,7 @@ interrupted-same s b = same-of s (with_pci s b) (interrupted-beside s b)
 pub moving-same : (s : SubchannelState) (b : ActiveProgram) (t : Transfer) → IsSame s (after_chunk s b t)
 moving-same s b t = let k : IsBeside (with_transfer s b t) (after_chunk s b t) = moving-beside s b t in is-same s (after_chunk s b t) k.drawn k.hold (ap (λ (p : PmcwState). p.available) k.pmcw)
 
-pub suspending-same : (s : SubchannelState) (program : Program) (walk : WalkPlace) (count : ℕ) → IsSame s (program_suspended s program walk count)
+pub suspending-same : (s : SubchannelState) (program : Program) (walk : WalkPosition) (count : ℕ) → IsSame s (program_suspended s program walk count)
 suspending-same s program walk count = same-of s (program_suspended s program walk count) (suspending-beside s program walk count)
 
 pub halt_performed-same : (s : SubchannelState) → IsSame s (halt_performed s)

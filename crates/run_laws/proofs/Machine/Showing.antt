@@ -18,7 +18,7 @@ use Rattle.channel_config.specs.Setup.{Setup, set_count, has_number, are_distinc
 use Rattle.wires.specs.Queues.{queue, lost}
 use Rattle.subchannel_model.specs.declared.state.Subchannel.{Subchannel}
 use Rattle.subchannel_model.specs.declared.state.SubchannelState.{SubchannelState}
-use Rattle.subchannel_model.specs.Places.{one_later}
+use Rattle.subchannel_model.specs.Indices.{one_later}
 use Rattle.subchannel_model.specs.Losing.{path_lost, path_index, loses_at, shows_at}
 use Rattle.subchannel_model.specs.Opening.{opened}
 use Rattle.machine_model.specs.declared.state.Sweep.{Sweep}
@@ -27,7 +27,7 @@ use Rattle.machine_model.specs.PathSteps.{swept}
 use Rattle.machine_model.specs.State.{State, opening_of, configured_paths}
 use Rattle.machine_model.specs.Steps.{Run, Opened, Stepped}
 use Rattle.step_laws.specs.Walks.{AreWalks, up_after}
-use Rattle.step_laws.proofs.Places.{set-get, map-get, same-or-not}
+use Rattle.step_laws.proofs.Indices.{set-get, map-get, same-or-not}
 use Rattle.run_laws.specs.MaskStates.{IsShown, AreShown}
 use Rattle.run_laws.proofs.Machine.WaitingSignals.{Each, each-weaker, EachSignal, signals-weaker, lost-each, none-wait}
 use Rattle.run_laws.proofs.Machine.Moving.{IsOnAvailable, IsCarried, IsMoved, same-available}
@@ -44,7 +44,7 @@ pub record IsSourced (up : List Bool) (sub : Subchannel) : Type 0 where
   pub carried : IsCarried sub
 
 abbrev AreSourced : List Bool → List Subchannel → Type 0
-AreSourced up subs = (place : ℕ) (sub : Subchannel) → slice_get subs place ≡ Some sub → IsSourced up sub
+AreSourced up subs = (index : ℕ) (sub : Subchannel) → slice_get subs index ≡ Some sub → IsSourced up sub
 
 -- so no signal waits on a path that is down
 no-signal : {A : Type 0} (available : List Bool) (p : ℕ) (xs : List A) → is_member available p ≡ false → Each (λ (x : A). IsOnAvailable available p x) xs → xs ≡ []
@@ -235,11 +235,11 @@ swept-sourced sweep.SystemReset up sub k = record {
 turned-sourced : (s : State) (e : Event) (r : Reply) (new : State) → Turned s e r new → AreSourced s.up s.subs → AreSourced new.up new.subs
 turned-sourced s _ _ _ (OfNone e r new silent subs up) k =
     subst (λ (paths : List Bool). AreSourced paths new.subs) (sym up) (subst (λ (xs : List Subchannel). AreSourced s.up xs) (sym subs) k)
-turned-sourced s _ _ _ (OfOne e r new place sub after there subs up m silent) k =
+turned-sourced s _ _ _ (OfOne e r new index sub after there subs up m silent) k =
     subst (λ (paths : List Bool). AreSourced paths new.subs) (sym up)
     (subst (λ (xs : List Subchannel). AreSourced s.up xs) (sym subs)
-    (λ at x h. elim (set-get s.subs place after at x h) [
-      | inl q ↦ subst (λ (y : Subchannel). IsSourced s.up y) (sym q.1) (moved-sourced s.up s.subs _ sub after m (k place sub there))
+    (λ at x h. elim (set-get s.subs index after at x h) [
+      | inl q ↦ subst (λ (y : Subchannel). IsSourced s.up y) (sym q.1) (moved-sourced s.up s.subs _ sub after m (k index sub there))
       | inr q ↦ k at x q.1
     ]))
 turned-sourced s _ _ _ (OfAll e r new what silent subs up) k =
@@ -287,12 +287,12 @@ opened-sourced sets units count known setup placed =
     }
 
 opening-sourced : (setup : Setup) → IsLawful setup → AreSourced (opening_of setup).up (opening_of setup).subs
-opening-sourced setup lawful = λ place sub e.
-    let q = map-get opened setup.subchannels place sub e in
+opening-sourced setup lawful = λ index sub e.
+    let q = map-get opened setup.subchannels index sub e in
     subst (λ (y : Subchannel). IsSourced (configured_paths setup.paths 0x100) y) q.2
     (opened-sourced (set_count setup) (length setup.units) 0x100 setup.paths q.0
     (All-contains (IsPlaced (set_count setup) (length setup.units) setup.paths) setup.subchannels q.0 lawful.subchannels
-    (place, slice_get_within setup.subchannels place q.0 q.1, get_or_from_slice_get setup.subchannels place q.0 q.0 q.1)))
+    (index, slice_get_within setup.subchannels index q.0 q.1, get_or_from_slice_get setup.subchannels index q.0 q.0 q.1)))
 
 run-sourced : AreWalks → (setup : Setup) (h : List Entry) (s : State) → IsLawful setup → Run (opening_of setup) h s → AreSourced s.up s.subs
 run-sourced walks setup _ _ lawful Opened = opening-sourced setup lawful
@@ -300,4 +300,4 @@ run-sourced walks setup _ _ lawful (Stepped h old e r new run step) =
     turned-sourced old e r new (step-turned old e r new (walks old e r new step)) (run-sourced walks setup h old lawful run)
 
 pub run-shown : AreWalks → (setup : Setup) (h : List Entry) (s : State) → IsLawful setup → Run (opening_of setup) h s → AreShown s
-run-shown walks setup h s lawful run = λ place sub at. sourced-shown s.up sub (run-sourced walks setup h s lawful run place sub at)
+run-shown walks setup h s lawful run = λ index sub at. sourced-shown s.up sub (run-sourced walks setup h s lawful run index sub at)

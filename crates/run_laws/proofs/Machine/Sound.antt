@@ -7,7 +7,7 @@ use Rattle.orb_block.specs.declared.Orb.{Orb}
 use Rattle.scsw_irb.specs.declared.scsw.Scsw.{Scsw}
 use Rattle.scsw_irb.specs.declared.serials.Serials.{Serials}
 use Rattle.storage_keys.specs.Storage.{Contents}
-use Rattle.ccw_walk.specs.Places.{WalkPlace}
+use Rattle.ccw_walk.specs.Positions.{WalkPosition}
 use Rattle.chan_model.specs.declared.hold_state.HoldPhase.{HoldPhase}
 use Rattle.chan_model.specs.declared.hold_state.HoldPhase.TheVariants as hold
 use Rattle.chan_model.specs.declared.hold_state.HoldState.{HoldState}
@@ -15,7 +15,7 @@ use Rattle.chan_model.specs.Signals.{Down, Load, Up, load_bytes}
 use Rattle.chan_model.specs.declared.signal.Taken.{Taken}
 use Rattle.chan_model.specs.declared.signal.Up.TheVariants as up
 use Rattle.subchannel_model.specs.declared.status.Shown.{Shown}
-use Rattle.chan_model.specs.HoldTable.{HoldStep, hold_takes, hold_after, came_of, is_connected, is_on}
+use Rattle.chan_model.specs.HoldTable.{HoldStep, hold_takes, hold_after, outcome_of, is_connected, is_on}
 use Rattle.chan_model.specs.Loads.{load_length}
 use Rattle.subchannel_model.specs.Status.{scsw_made, serials_made, serials_cleared, is_uncleared, without_status}
 use Rattle.subchannel_model.specs.Test.{tested, tested_wholly, ends_suspended}
@@ -27,7 +27,7 @@ use Rattle.data_move.specs.ToDevice.{chunk_absorbed, next_chunk}
 use Rattle.data_move.specs.FromDevice.{chunk_stored}
 use Rattle.data_move.specs.ChunkNumbers.{is_answered}
 use Rattle.data_move.specs.declared.transfer.CommandStart.{CommandStart}
-use Rattle.data_move.specs.declared.transfer.CommandStart.TheVariants as came
+use Rattle.data_move.specs.declared.transfer.CommandStart.TheVariants as outcome
 use Rattle.data_move.specs.Numbers.{IsSame, IsLaterTransfer, IsNew, IfBegins}
 use Rattle.subchannel_model.specs.declared.cause.StatusCause.{StatusCause}
 use Rattle.subchannel_model.specs.declared.cause.StatusCause.TheVariants as cause
@@ -244,7 +244,7 @@ transferred floor n s b t q m k =
     interrupted-sound floor n (with_transfer s b t) (record b { transfer = t }) (q, m) (k.0, k.1, k.2, (q, m), k.4, k.5, k.6, k.7)
 
 -- a program is suspended
-suspending-sound : (floor : Serials) (n : ℕ) (s : SubchannelState) (program : Program) (walk : WalkPlace) (count : ℕ) → Ready floor n s →
+suspending-sound : (floor : Serials) (n : ℕ) (s : SubchannelState) (program : Program) (walk : WalkPosition) (count : ℕ) → Ready floor n s →
     Sound floor (n + 1) (program_suspended s program walk count)
 suspending-sound floor n s program walk count k =
     pick-state floor (n + 1) program.orb.suppress_suspended
@@ -254,16 +254,16 @@ suspending-sound floor n s program walk count k =
 
 -- how commands and their chunks are numbered
 pub record AreNumbered : Type 0 where
-  pub first : (storage : Contents) (walk : WalkPlace) → IfBegins (first_command storage walk).came (IsNew 1)
-  pub next : (storage : Contents) (t : Transfer) (modifier : Bool) → IfBegins (next_command storage t modifier).came (IsNew (t.command + 1))
+  pub first : (storage : Contents) (walk : WalkPosition) → IfBegins (first_command storage walk).outcome (IsNew 1)
+  pub next : (storage : Contents) (t : Transfer) (modifier : Bool) → IfBegins (next_command storage t modifier).outcome (IsNew (t.command + 1))
   pub begun : (storage : Contents) (t : Transfer) → IsSame t (begun_with_room storage t).transfer
   pub room : (storage : Contents) (t : Transfer) → IsSame t (with_room storage t).transfer
   pub given : (storage : Contents) (t : Transfer) → IsSame t (next_chunk storage t).transfer
   pub absorbed : (storage : Contents) (t : Transfer) (s count : ℕ) → IsLaterTransfer t (chunk_absorbed storage t s count)
   pub brought : (storage : Contents) (t : Transfer) (s : ℕ) (bytes : List ℕ) → IsLaterTransfer t (chunk_stored storage t s bytes).transfer
 
-pub numbered-of : ((storage : Contents) (walk : WalkPlace) → IfBegins (first_command storage walk).came (IsNew 1)) →
-    ((storage : Contents) (t : Transfer) (modifier : Bool) → IfBegins (next_command storage t modifier).came (IsNew (t.command + 1))) →
+pub numbered-of : ((storage : Contents) (walk : WalkPosition) → IfBegins (first_command storage walk).outcome (IsNew 1)) →
+    ((storage : Contents) (t : Transfer) (modifier : Bool) → IfBegins (next_command storage t modifier).outcome (IsNew (t.command + 1))) →
     ((storage : Contents) (t : Transfer) → IsSame t (begun_with_room storage t).transfer) →
     ((storage : Contents) (t : Transfer) → IsSame t (with_room storage t).transfer) →
     ((storage : Contents) (t : Transfer) → IsSame t (next_chunk storage t).transfer) →
@@ -280,22 +280,22 @@ numbered-of first next begun room given absorbed brought = record {
 }
 
 module _ (numbered : AreNumbered) where
-  beginning-sound : (floor : Serials) (n : ℕ) (storage : Contents) (s : SubchannelState) (p t : ℕ) (st : ProgramPosition) (walk : WalkPlace) (r : CommandStart) →
+  beginning-sound : (floor : Serials) (n : ℕ) (storage : Contents) (s : SubchannelState) (p t : ℕ) (st : ProgramPosition) (walk : WalkPosition) (r : CommandStart) →
       IfBegins r (IsNew 1) → Ready floor n s → Sound floor (n + 1) (first_ccw_outcome storage s p t st walk r).state
-  beginning-sound floor n storage s p t st walk (came.Begins transfer) f k =
+  beginning-sound floor n storage s p t st walk (outcome.Begins transfer) f k =
       let b : IsSame transfer (begun_with_room storage transfer).transfer = numbered.begun storage transfer in
       let q : (begun_with_room storage transfer).transfer.sequence ≤ n + 1 = omega (arith, b.sequence, f.sequence) in
       let m : (begun_with_room storage transfer).transfer.command ≤ n + 1 = omega (arith, b.command, f.command) in
       let new : ActiveProgram = record { program = st.program; primary_shown = false; transfer = (begun_with_room storage transfer).transfer } in
       interrupted-sound floor n (with_program_at_work s st.program (begun_with_room storage transfer).transfer) new (q, m) (k.0, k.1, k.2, (q, m), k.4, k.5, k.6, k.7)
-  beginning-sound floor n storage s p t st walk came.Suspends f k = suspending-sound floor n s st.program walk st.count k
-  beginning-sound floor n storage s p t st walk (came.Stops check) f k = cause-sound floor n s (cause.FetchFault walk.tried check st.count) tt k
+  beginning-sound floor n storage s p t st walk outcome.Suspends f k = suspending-sound floor n s st.program walk st.count k
+  beginning-sound floor n storage s p t st walk (outcome.Stops check) f k = cause-sound floor n s (cause.FetchFault walk.tried check st.count) tt k
 
   begins_at-sound : (floor : Serials) (n : ℕ) (storage : Contents) (s : SubchannelState) (p t : ℕ) (st : Option ProgramPosition) → Ready floor n s →
       Sound floor (n + 1) (begins_at storage s p t st).state
   begins_at-sound floor n storage s p t None k = ready-sound floor n s k
   begins_at-sound floor n storage s p t (Some st) k =
-      beginning-sound floor n storage s p t st (first_command storage st.walk).walk (first_command storage st.walk).came (numbered.first storage st.walk) k
+      beginning-sound floor n storage s p t st (first_command storage st.walk).walk (first_command storage st.walk).outcome (numbered.first storage st.walk) k
 
   halt_performed-sound : (floor : Serials) (n : ℕ) (s : SubchannelState) → Ready floor n s → Sound floor (n + 1) (halt_performed s)
   halt_performed-sound floor n s k =
@@ -349,14 +349,14 @@ module _ (numbered : AreNumbered) where
       (move-sound floor n storage s s.begun signal load k.3 k) (later floor n s k)
 
   -- End
-  chaining-sound : (floor : Serials) (n : ℕ) (storage : Contents) (s : SubchannelState) (b : ActiveProgram) (signal : EndSignal) (walk : WalkPlace) (r : CommandStart) → b.transfer.command ≤ n →
+  chaining-sound : (floor : Serials) (n : ℕ) (storage : Contents) (s : SubchannelState) (b : ActiveProgram) (signal : EndSignal) (walk : WalkPosition) (r : CommandStart) → b.transfer.command ≤ n →
       IfBegins r (IsNew (b.transfer.command + 1)) → Ready floor n s → Sound floor (n + 1) (next_ccw_outcome storage s b signal walk r).state
-  chaining-sound floor n storage s b signal walk (came.Begins transfer) w f k =
+  chaining-sound floor n storage s b signal walk (outcome.Begins transfer) w f k =
       let g : IsSame transfer (begun_with_room storage transfer).transfer = numbered.begun storage transfer in
       transferred floor n s b (begun_with_room storage transfer).transfer (omega (arith, f.sequence, g.sequence)) (omega (arith, w, f.command, g.command)) k
-  chaining-sound floor n storage s b signal walk came.Suspends w f k =
+  chaining-sound floor n storage s b signal walk outcome.Suspends w f k =
       suspending-sound floor n (with_allegiance_after_end s signal) b.program walk (residual b.transfer.moving) k
-  chaining-sound floor n storage s b signal walk (came.Stops check) w f k =
+  chaining-sound floor n storage s b signal walk (outcome.Stops check) w f k =
       cause-sound floor n (with_allegiance_after_end s signal) (cause.FetchFault walk.tried check (residual b.transfer.moving)) tt k
 
   chains_at_device_end-sound : (floor : Serials) (n : ℕ) (storage : Contents) (s : SubchannelState) (b : ActiveProgram) (signal : EndSignal) → IsMovedWithin n (Some b) → Sound floor n s →
@@ -408,7 +408,7 @@ module _ (numbered : AreNumbered) where
   pub up-sound : (returns : Bool) → (floor : Serials) (n : ℕ) (storage : Contents) (s : SubchannelState) (p : ℕ) (signal : Up) → Sound floor n s →
       Sound floor (n + 1) (takes_up returns storage s p signal).step.state
   up-sound returns floor n storage s p (up.Accept t) k =
-      let step = hold_takes s.hold p (up.Accept t) (takes_device s) in accept-sound floor n storage s (hold_after s.hold step) (came_of step) k
+      let step = hold_takes s.hold p (up.Accept t) (takes_device s) in accept-sound floor n storage s (hold_after s.hold step) (outcome_of step) k
   up-sound returns floor n storage s p (up.Busy t) k = later floor n s k
   up-sound returns floor n storage s p (up.Leave t c) k = later floor n s k
   up-sound returns floor n storage s p (up.Back t c) k = later floor n s k
@@ -422,5 +422,5 @@ module _ (numbered : AreNumbered) where
   up-sound returns floor n storage s p (up.Attn a st) k =
       let step : Option HoldStep = hold_takes s.hold p (up.Attn a st) (may_take_attention s) in
       let next : SubchannelState = record s { hold = hold_after s.hold step } in
-      pick-state floor (n + 1) ((came_of step).taken && not (st.0 == 0x20)) (with_cause next cause.Attention) next
+      pick-state floor (n + 1) ((outcome_of step).taken && not (st.0 == 0x20)) (with_cause next cause.Attention) next
       (made-sound floor n next cause.Attention tt k) (later floor n s k)

@@ -19,20 +19,20 @@ use Rattle.subchannel_model.specs.SystemReset.{state_reset}
 use Rattle.machine_model.specs.declared.state.Sweep.{Sweep}
 use Rattle.machine_model.specs.declared.state.Sweep.TheVariants as sweep
 use Rattle.machine_model.specs.PathSteps.{swept}
-use Rattle.subchannel_model.specs.Places.{place_in}
+use Rattle.subchannel_model.specs.Indices.{index_in}
 use Rattle.run_laws.specs.Beginnings.{StartCounts}
 use Rattle.run_laws.proofs.Machine.Growth.{Covers, queue-set, IsLink, Keeps, Reaches, acts, IsReached, reached-by, AreLaws}
 use Rattle.run_laws.proofs.Machine.HoldEvents.{IsOfHold, system-turns}
-use Rattle.run_laws.proofs.Machine.Linked.{AreLinked, hold-linked, IsStateTold, place-set}
-use Rattle.run_laws.proofs.Machine.TaleEvents.{Tells, told-masks}
+use Rattle.run_laws.proofs.Machine.Linked.{AreLinked, hold-linked, IsStateTold, index-set}
+use Rattle.run_laws.proofs.Machine.TraceEvents.{Tells, told-masks}
 use Rattle.run_laws.proofs.Machine.Tales.{AreSpent, AreSpentBut, IsTold, told-same}
 use Rattle.run_laws.proofs.Machine.Resetting.{reset-waits}
 
-pub map-by-places : {A : Type 0} (Q : List A → Type 0) (f : A → A) → ((xs : List A) (i : ℕ) (x : A) → slice_get xs i ≡ Some x → Q xs → Q (slice_set xs i (f x))) →
+pub map-by-indices : {A : Type 0} (Q : List A → Type 0) (f : A → A) → ((xs : List A) (i : ℕ) (x : A) → slice_get xs i ≡ Some x → Q xs → Q (slice_set xs i (f x))) →
     (xs : List A) → Q xs → Q (map f xs)
-map-by-places Q f step [] q = q
-map-by-places {A} Q f step (x ∷ xs) q =
-    map-by-places (λ (ys : List A). Q (f x ∷ ys)) f (λ ys i y e h. step (f x ∷ ys) (suc i) y e h) xs (step (x ∷ xs) zero x refl q)
+map-by-indices Q f step [] q = q
+map-by-indices {A} Q f step (x ∷ xs) q =
+    map-by-indices (λ (ys : List A). Q (f x ∷ ys)) f (λ ys i y e h. step (f x ∷ ys) (suc i) y e h) xs (step (x ∷ xs) zero x refl q)
 
 -- the wires of a path that is lost
 covers-lost : {A : Type 0} (l : List (OnPath A)) (queues : List (List A)) (k : ℕ) → Covers l queues → Covers l (lost queues k)
@@ -109,19 +109,19 @@ swept-tells sweep.SystemReset sub k w side b t =
 module _ (laws : AreLaws) (what : Sweep) where
   swept-linked : (subs : List Subchannel) (units : List UnitState) (which : Option ℕ) (k : StartCounts) → AreLinked subs units which k → AreLinked (map (swept what) subs) units which k
   swept-linked subs units which k l =
-      map-by-places (λ (xs : List Subchannel). AreLinked xs units which k) (swept what)
+      map-by-indices (λ (xs : List Subchannel). AreLinked xs units which k) (swept what)
       (λ xs i x e h. hold-linked laws xs units i x (swept what x) which k k k e (swept-hold laws.keeps what x) (swept-tells what x k) (record { here = λ h. refl; there = λ h. refl }) h)
       subs l
 
-  -- the places of subchannels stay
-  place-swept : (id : SubchannelId) (subs : List Subchannel) → place_in id (map (swept what) subs) ≡ place_in id subs
-  place-swept id subs =
-      map-by-places (λ (xs : List Subchannel). place_in id xs ≡ place_in id subs) (swept what)
-      (λ xs i x e h. place-set id xs i x (swept what x) e (swept-hold laws.keeps what x).setup ∙ h) subs refl
+  -- the indices of subchannels stay
+  index-swept : (id : SubchannelId) (subs : List Subchannel) → index_in id (map (swept what) subs) ≡ index_in id subs
+  index-swept id subs =
+      map-by-indices (λ (xs : List Subchannel). index_in id xs ≡ index_in id subs) (swept what)
+      (λ xs i x e h. index-set id xs i x (swept what x) e (swept-hold laws.keeps what x).setup ∙ h) subs refl
 
   pub swept-told : (id : SubchannelId) (k : StartCounts) (subs : List Subchannel) (units : List UnitState) → IsStateTold id k subs units → IsStateTold id k (map (swept what) subs) units
   swept-told id k subs units l =
       record {
-        linked = subst (λ (which : Option ℕ). AreLinked (map (swept what) subs) units which k) (sym (place-swept id subs)) (swept-linked subs units (place_in id subs) k l.linked);
+        linked = subst (λ (which : Option ℕ). AreLinked (map (swept what) subs) units which k) (sym (index-swept id subs)) (swept-linked subs units (index_in id subs) k l.linked);
         rises = l.rises;
       }

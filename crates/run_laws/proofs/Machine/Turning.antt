@@ -1,4 +1,4 @@
--- What each step leaves of the subchannels, and of what was accepted at each place.
+-- What each step leaves of the subchannels, and of what was accepted at each index.
 use Rattle.std.proofs.Common.{◌≡◌, ◌≢◌, refl, sym, ◌∙◌, ap, subst, ℕ, ◌+◌, Bool, true, false, Option, None, Some, List, map, slice_get, slice_set, IfOk, if◌then◌else◌, arith}
 use Rattle.std.proofs.lemmas.Bool.{eq-eqb, ne_eqb}
 use Rattle.chan_events.specs.Events.{Event}
@@ -31,8 +31,8 @@ use Rattle.subchannel_model.specs.Test.{tested_wholly}
 use Rattle.machine_model.specs.declared.state.Sweep.{Sweep}
 use Rattle.machine_model.specs.InstructionSteps.{function_sub, test_with}
 use Rattle.machine_model.specs.PathSteps.{swept}
-use Rattle.machine_model.specs.State.{State, place_of}
-use Rattle.machine_model.specs.Turns.{with_state}
+use Rattle.machine_model.specs.State.{State, index_of}
+use Rattle.machine_model.specs.Results.{with_state}
 use Rattle.machine_model.specs.UpSteps.{may_return, returns_at, returns_by}
 use Rattle.step_laws.specs.Walks as walked
 use Rattle.step_laws.specs.Walks.{Walked, IsQuiet, OneSub, OneUnit, Suits, Function, Resumes, Halts, Clears, Cancels, effect_of, up_after}
@@ -44,14 +44,14 @@ use Rattle.run_laws.proofs.Machine.CalmPaths.{reset-hold}
 use Rattle.run_laws.proofs.Machine.Moving.{IsMoved, Same, moved-as, state-moved, same-moved, unmoved, IsOpen, OkChoose, marked-choose, usable-free, return-parts}
 use Rattle.run_laws.proofs.Machine.Passing.{IsUpMoved, IsUnitMoved, up-moved, down-moved, report-moved, act-moved}
 
--- a step leaves all subchannels, or all but one, or sweeps over them; and at each other place nothing was accepted or offered
+-- a step leaves all subchannels, or all but one, or sweeps over them; and at each other index nothing was accepted or offered
 pub data Turned (s : State) : Event → Reply → State → Type 0 where
-  OfNone : (e : Event) (r : Reply) (new : State) → ((place : ℕ) (accepted : Option ℕ) → accepted_after place s e r accepted ≡ accepted) → new.subs ≡ s.subs →
+  OfNone : (e : Event) (r : Reply) (new : State) → ((index : ℕ) (accepted : Option ℕ) → accepted_after index s e r accepted ≡ accepted) → new.subs ≡ s.subs →
       new.up ≡ s.up → Turned s e r new
-  OfOne : (e : Event) (r : Reply) (new : State) (place : ℕ) (sub after : Subchannel) → slice_get s.subs place ≡ Some sub → new.subs ≡ slice_set s.subs place after →
-      new.up ≡ s.up → IsMoved s.subs (λ accepted. accepted_after place s e r accepted) sub after →
-      ((other : ℕ) (accepted : Option ℕ) → other ≢ place → accepted_after other s e r accepted ≡ accepted) → Turned s e r new
-  OfAll : (e : Event) (r : Reply) (new : State) (what : Sweep) → ((place : ℕ) (accepted : Option ℕ) → accepted_after place s e r accepted ≡ accepted) →
+  OfOne : (e : Event) (r : Reply) (new : State) (index : ℕ) (sub after : Subchannel) → slice_get s.subs index ≡ Some sub → new.subs ≡ slice_set s.subs index after →
+      new.up ≡ s.up → IsMoved s.subs (λ accepted. accepted_after index s e r accepted) sub after →
+      ((other : ℕ) (accepted : Option ℕ) → other ≢ index → accepted_after other s e r accepted ≡ accepted) → Turned s e r new
+  OfAll : (e : Event) (r : Reply) (new : State) (what : Sweep) → ((index : ℕ) (accepted : Option ℕ) → accepted_after index s e r accepted ≡ accepted) →
       new.subs ≡ map (swept what) s.subs → new.up ≡ up_after what s.up → Turned s e r new
 
 -- the instructions
@@ -82,10 +82,10 @@ function-moved subs sub f code.Zero = effect-moved subs sub f
 function-moved subs sub f c = unmoved subs sub
 
 -- a quiet event tells nothing of what was accepted
-quiet-silent : (s : State) (e : Event) (r : Reply) → IsQuiet e r → (place : ℕ) (accepted : Option ℕ) → accepted_after place s e r accepted ≡ accepted
-quiet-silent s (event.Choose word) r q place accepted = absurd q
-quiet-silent s (event.Up word path) r q place accepted = absurd q
-quiet-silent s e r q place accepted = refl
+quiet-silent : (s : State) (e : Event) (r : Reply) → IsQuiet e r → (index : ℕ) (accepted : Option ℕ) → accepted_after index s e r accepted ≡ accepted
+quiet-silent s (event.Choose word) r q index accepted = absurd q
+quiet-silent s (event.Up word path) r q index accepted = absurd q
+quiet-silent s e r q index accepted = refl
 
 -- what is offered goes out on a free path
 offer-open : (subs : List Subchannel) (sub : Subchannel) (choice : Option ℕ) (c : Chosen) → IsChoice (paths_to_choose subs sub) choice → Suits c sub.state →
@@ -113,54 +113,54 @@ pub returns-right : (subs : List Subchannel) (sub : Subchannel) (path : ℕ) (re
     may_return subs sub path ≡ true
 returns-right subs sub path returns e h = right-by subs sub path (slice_get (queue sub.wires.up path) 0) (sym e ∙ h)
 
--- the place that a word names, and the others
-at-place : (o : Option ℕ) (place : ℕ) (now other : Option ℕ) → o ≡ Some place → (if is_path o place then now else other) ≡ now
-at-place None place now other e = absurd (cc e)
-at-place (Some k) place now other e = let same : k ≡ place = cc e in ap (λ (b : Bool). if b then now else other) (eq-eqb k place same)
+-- the index that a word names, and the others
+at-index : (o : Option ℕ) (index : ℕ) (now other : Option ℕ) → o ≡ Some index → (if is_path o index then now else other) ≡ now
+at-index None index now other e = absurd (cc e)
+at-index (Some k) index now other e = let same : k ≡ index = cc e in ap (λ (b : Bool). if b then now else other) (eq-eqb k index same)
 
-off-place : (o : Option ℕ) (place k : ℕ) (now other : Option ℕ) → o ≡ Some place → k ≢ place → (if is_path o k then now else other) ≡ other
-off-place None place k now other e n = refl
-off-place (Some j) place k now other e n =
-    let same : j ≡ place = cc e in ap (λ (b : Bool). if b then now else other) (ne_eqb j k (λ h. n (sym h ∙ same)))
+off-index : (o : Option ℕ) (index k : ℕ) (now other : Option ℕ) → o ≡ Some index → k ≢ index → (if is_path o k then now else other) ≡ other
+off-index None index k now other e n = refl
+off-index (Some j) index k now other e n =
+    let same : j ≡ index = cc e in ap (λ (b : Bool). if b then now else other) (ne_eqb j k (λ h. n (sym h ∙ same)))
 
-of-sub : (s : State) (e : Event) (r : Reply) (new : State) (place : ℕ) (sub after : Subchannel) → OneSub s new place sub after →
+of-sub : (s : State) (e : Event) (r : Reply) (new : State) (index : ℕ) (sub after : Subchannel) → OneSub s new index sub after →
     ((k : ℕ) (accepted : Option ℕ) → accepted_after k s e r accepted ≡ accepted) → IsMoved s.subs Same sub after → Turned s e r new
-of-sub s e r new place sub after one silent m =
-    OfOne e r new place sub after one.there one.subs one.up (moved-as s.subs Same (λ accepted. accepted_after place s e r accepted) sub after (silent place) m)
+of-sub s e r new index sub after one silent m =
+    OfOne e r new index sub after one.there one.subs one.up (moved-as s.subs Same (λ accepted. accepted_after index s e r accepted) sub after (silent index) m)
     (λ other accepted n. silent other accepted)
 
-of-unit : (s : State) (e : Event) (r : Reply) (new : State) (place : ℕ) (sub after : Subchannel) (at : ℕ) (u v : UnitState) → OneUnit s new place sub after at u v →
+of-unit : (s : State) (e : Event) (r : Reply) (new : State) (index : ℕ) (sub after : Subchannel) (at : ℕ) (u v : UnitState) → OneUnit s new index sub after at u v →
     ((k : ℕ) (accepted : Option ℕ) → accepted_after k s e r accepted ≡ accepted) → IsMoved s.subs Same sub after → Turned s e r new
-of-unit s e r new place sub after at u v one silent m =
-    OfOne e r new place sub after one.there one.subs one.up (moved-as s.subs Same (λ accepted. accepted_after place s e r accepted) sub after (silent place) m)
+of-unit s e r new index sub after at u v one silent m =
+    OfOne e r new index sub after one.there one.subs one.up (moved-as s.subs Same (λ accepted. accepted_after index s e r accepted) sub after (silent index) m)
     (λ other accepted n. silent other accepted)
 
 pub step-turned : (s : State) (e : Event) (r : Reply) (new : State) → Walked s e r new → Turned s e r new
 step-turned s _ _ _ (walked.Stays e r new q sets subs units up) = OfNone e r new (quiet-silent s e r q) subs up
-step-turned s _ _ _ (walked.Started cpu word address place sub orb c new n one) =
-    of-sub s _ _ new place sub _ one (λ k accepted. refl) (start-moved s.subs sub orb c)
-step-turned s _ _ _ (walked.Tested e r place sub c new q one address by answers) = of-sub s e r new place sub _ one (quiet-silent s e r q) (test-moved s.subs sub c)
-step-turned s _ _ _ (walked.Modified e r place sub given c new q one) = of-sub s e r new place sub _ one (quiet-silent s e r q) (modify-moved s.subs sub given c)
-step-turned s _ _ _ (walked.Performed e r place sub f c new q one by answers) = of-sub s e r new place sub _ one (quiet-silent s e r q) (function-moved s.subs sub f c)
-step-turned s _ _ _ (walked.Chosen word place sub choice t new n x w h one) =
-    OfOne (event.Choose word) t.reply new place sub t.sub one.there one.subs one.up
+step-turned s _ _ _ (walked.Started cpu word address index sub orb c new n one) =
+    of-sub s _ _ new index sub _ one (λ k accepted. refl) (start-moved s.subs sub orb c)
+step-turned s _ _ _ (walked.Tested e r index sub c new q one address by answers) = of-sub s e r new index sub _ one (quiet-silent s e r q) (test-moved s.subs sub c)
+step-turned s _ _ _ (walked.Modified e r index sub given c new q one) = of-sub s e r new index sub _ one (quiet-silent s e r q) (modify-moved s.subs sub given c)
+step-turned s _ _ _ (walked.Performed e r index sub f c new q one by answers) = of-sub s e r new index sub _ one (quiet-silent s e r q) (function-moved s.subs sub f c)
+step-turned s _ _ _ (walked.Chosen word index sub choice t new n x w h one) =
+    OfOne (event.Choose word) t.reply new index sub t.sub one.there one.subs one.up
     (moved-as s.subs (λ accepted. accepted_by t.reply 0 accepted) _ sub t.sub
-    (λ accepted. at-place (place_of s word) place (accepted_by t.reply 0 accepted) accepted n)
+    (λ accepted. at-index (index_of s word) index (accepted_by t.reply 0 accepted) accepted n)
     (subst (OkChoose s.subs sub) h
     (marked-choose s.subs sub choice (chosen sub choice) (offer-open s.subs sub choice (chosen sub choice) x w (chosen-offer sub choice)))))
-    (λ other accepted off. off-place (place_of s word) place other (accepted_by t.reply 0 accepted) accepted n off)
-step-turned s _ _ _ (walked.Met word path returns place sub t new n h one may) =
-    OfOne (event.Up word path) t.reply new place sub t.sub one.there one.subs one.up
+    (λ other accepted off. off-index (index_of s word) index other (accepted_by t.reply 0 accepted) accepted n off)
+step-turned s _ _ _ (walked.Met word path returns index sub t new n h one may) =
+    OfOne (event.Up word path) t.reply new index sub t.sub one.there one.subs one.up
     (moved-as s.subs (λ accepted. accepted_by t.reply path accepted) _ sub t.sub
-    (λ accepted. at-place (place_of s word) place (accepted_by t.reply path accepted) accepted n)
+    (λ accepted. at-index (index_of s word) index (accepted_by t.reply path accepted) accepted n)
     (subst (λ o. IfOk o (IsUpMoved s.subs sub path)) h
     (up-moved s.subs returns s.storage sub path (λ e. (return-parts s.subs sub path (returns-right s.subs sub path returns may e)).0))))
-    (λ other accepted off. off-place (place_of s word) place other (accepted_by t.reply path accepted) accepted n off)
-step-turned s _ _ _ (walked.Sunk word path may owed place sub u t new n h one) =
-    of-unit s _ _ new place sub t.sub _ u _ one (λ k accepted. refl) (subst (λ o. IfOk o (IsUnitMoved s.subs sub)) h (down-moved s.subs may sub path u))
-step-turned s _ _ _ (walked.Reported at place sub u report t new n k h one) =
-    of-unit s _ _ new place sub t.sub at u _ one (λ k accepted. refl) (subst (λ o. IfOk o (IsUnitMoved s.subs sub)) h (report-moved s.subs sub u report))
-step-turned s _ _ _ (walked.Acted at place sub u what t new side its h one) =
-    of-unit s _ _ new place sub t.sub at u _ one (λ k accepted. refl) (subst (λ o. IfOk o (IsUnitMoved s.subs sub)) h (act-moved s.subs sub u what))
-step-turned s _ _ _ (walked.Restarted at owed u r new found sets subs units up) = OfNone _ r new (λ place accepted. refl) subs up
+    (λ other accepted off. off-index (index_of s word) index other (accepted_by t.reply path accepted) accepted n off)
+step-turned s _ _ _ (walked.Sunk word path may owed index sub u t new n h one) =
+    of-unit s _ _ new index sub t.sub _ u _ one (λ k accepted. refl) (subst (λ o. IfOk o (IsUnitMoved s.subs sub)) h (down-moved s.subs may sub path u))
+step-turned s _ _ _ (walked.Reported at index sub u report t new n k h one) =
+    of-unit s _ _ new index sub t.sub at u _ one (λ k accepted. refl) (subst (λ o. IfOk o (IsUnitMoved s.subs sub)) h (report-moved s.subs sub u report))
+step-turned s _ _ _ (walked.Acted at index sub u what t new side its h one) =
+    of-unit s _ _ new index sub t.sub at u _ one (λ k accepted. refl) (subst (λ o. IfOk o (IsUnitMoved s.subs sub)) h (act-moved s.subs sub u what))
+step-turned s _ _ _ (walked.Restarted at owed u r new found sets subs units up) = OfNone _ r new (λ index accepted. refl) subs up
 step-turned s _ _ _ (walked.Swept e r what new q sets subs units by) = OfAll e r new what (quiet-silent s e r q) subs by.up

@@ -31,7 +31,7 @@ use Rattle.agreement_laws.specs.Moving.{UnitAct, Takes_down, Reports, unit_steps
 use Rattle.agreement_laws.specs.Moving as moving
 use Rattle.agreement_laws.specs.Invariant.{IsGood}
 use Rattle.subchannel_model.specs.declared.state.Subchannel.{Subchannel}
-use Rattle.machine_model.specs.Turns.{DownTurn}
+use Rattle.machine_model.specs.Results.{DownResult}
 use Rattle.subchannel_model.specs.Sending.{carried_by, with_any_sent, finds_full}
 use Rattle.machine_model.specs.DownSteps.{down_front, down_sub}
 use Rattle.machine_model.specs.ReportSteps.{report_taken, report_sub}
@@ -40,7 +40,7 @@ use Rattle.machine_model.specs.Sharing.{owing}
 use Rattle.run_laws.proofs.Machine.Growth.{one-wider, one-within, Covers, covers-taken, covers-sent, carried-if, covers-wider, covers-first, IsLink, IsWider, told, told-step, AreLaws, IsReached, links_of}
 use Rattle.run_laws.specs.Beginnings.{StartCounts, with_taken}
 use Rattle.run_laws.proofs.Machine.Tales.{IsAccepted, IsTold, told-wider}
-use Rattle.run_laws.proofs.Machine.TaleEvents.{takes-of, accepted-wider, Wide, taken-told, AreBusyPassed, Tells}
+use Rattle.run_laws.proofs.Machine.TraceEvents.{takes-of, accepted-wider, Wide, taken-told, AreBusyPassed, Tells}
 use Rattle.run_laws.proofs.Machine.HoldEvents.{IsOfHold}
 use Rattle.chan_model.proofs.OneSide.{same-side, one-side}
 use Rattle.step_laws.specs.Walks.{IsOfSide}
@@ -172,14 +172,14 @@ unit-link sub l m downs one k w h f =
           (covers-wider l.ups m.ups sub.wires.up w.ups k.ups);
     }
 
-came-sent : (step : Option UnitStep) → sent_by step ≡ (unit_table.came_of step).sent
+came-sent : (step : Option UnitStep) → sent_by step ≡ (unit_table.outcome_of step).sent
 came-sent None = refl
 came-sent (Some step) = refl
 
-abbrev pub AreKept : Subchannel → UnitState → StartCounts → (Reply → StartCounts) → Result DownTurn Fault → Type 0
+abbrev pub AreKept : Subchannel → UnitState → StartCounts → (Reply → StartCounts) → Result DownResult Fault → Type 0
 AreKept sub u k g r = IfOk r (λ t. IsKept (IsEnd sub u t.reply) sub t.sub u t.«unit» k (g t.reply))
 
-if-kept : (sub : Subchannel) (u : UnitState) (k : StartCounts) (g : Reply → StartCounts) (b : Bool) (x y : Result DownTurn Fault) → AreKept sub u k g x → AreKept sub u k g y →
+if-kept : (sub : Subchannel) (u : UnitState) (k : StartCounts) (g : Reply → StartCounts) (b : Bool) (x y : Result DownResult Fault) → AreKept sub u k g x → AreKept sub u k g y →
     AreKept sub u k g (if b then x else y)
 if-kept sub u k g true x y e f = e
 if-kept sub u k g false x y e f = f
@@ -207,8 +207,8 @@ owner-side Second Second b step y e = refl
 
 report-side : (u : UnitState) (o : Own) (r : Report) (y : UnitStep) → report_of u o r ≡ Some y → is_owner_side o r.side ≡ true
 report-side u own.Idle r y e = absurd (cc e)
-report-side u (own.Owned k t place) r y e =
-    owner-side k r.side ((r.number == t) && (r.command == u.last_command)) (report_on u t place u.at_hand r) y e
+report-side u (own.Owned k t connection) r y e =
+    owner-side k r.side ((r.number == t) && (r.command == u.last_command)) (report_on u t connection u.current r) y e
 
 module _ (laws : AreLaws) where
   unit-follows : (T : Type 0) (w : Links) (act : UnitAct) (side : Side) (sub : Subchannel) (downs : List (List Down)) (k next : StartCounts) → IsGood w → IsUnitGiven w act →
@@ -258,14 +258,14 @@ module _ (laws : AreLaws) where
   -- Down
   down-tells : (may : Bool) → (sub : Subchannel) (path : ℕ) (u : UnitState) (x : Down) (k : StartCounts) →
       TellsUnit sub u (Takes_down sub.setup.side (record { path = path; signal = x }) may) k
-      (with_taken (reply.Down x (unit_table.came_of (unit_takes u sub.setup.side path x may)).taken (unit_table.came_of (unit_takes u sub.setup.side path x may)).sent) k)
+      (with_taken (reply.Down x (unit_table.outcome_of (unit_takes u sub.setup.side path x may)).taken (unit_table.outcome_of (unit_takes u sub.setup.side path x may)).sent) k)
   down-tells may sub path u x k w m side h t =
       let step = unit_takes u sub.setup.side path x may in
-      taken-told k sub.state w m side x (unit_table.came_of step).taken (unit_table.came_of step).sent
+      taken-told k sub.state w m side x (unit_table.outcome_of step).taken (unit_table.outcome_of step).sent
       (subst (Wide w m side) (came-sent step) h) (takes-of u sub.setup.side path x may) t
 
   -- a Reset of the hold that the unit takes
-  if-taken : (b : Bool) (x : UnitStep) (y : Option UnitStep) → b ≡ true → (unit_table.came_of (if b then Some x else y)).taken ≡ true
+  if-taken : (b : Bool) (x : UnitStep) (y : Option UnitStep) → b ≡ true → (unit_table.outcome_of (if b then Some x else y)).taken ≡ true
   if-taken true x y e = refl
   if-taken false x y e = absurd (cc e)
 
@@ -279,7 +279,7 @@ module _ (laws : AreLaws) where
   down-ends : (may : Bool) → (sub : Subchannel) (path : ℕ) (u : UnitState) (x : Down) (w : Links) → IsLink sub (link_of w sub.setup.side) → (j : Side) →
       IsTakenBy u (link_of w j).hold.phase (Takes_down sub.setup.side (record { path = path; signal = x }) may) j →
       (same_side sub.setup.side j ≡ true)
-      × IsEnd sub u (reply.Down x (unit_table.came_of (unit_takes u sub.setup.side path x may)).taken (unit_table.came_of (unit_takes u sub.setup.side path x may)).sent)
+      × IsEnd sub u (reply.Down x (unit_table.outcome_of (unit_takes u sub.setup.side path x may)).taken (unit_table.outcome_of (unit_takes u sub.setup.side path x may)).sent)
   down-ends may sub path u (down.Reset r b) w l j t =
       let q = reset-ends sub u w r b j l (one-side sub.setup.side j t.0) t.1 in
       (t.0, (if-taken (resets u sub.setup.side r b) _ _ q.1, q.0, q.1))
@@ -298,9 +298,9 @@ module _ (laws : AreLaws) where
   down_front-kept may sub path u k None e = tt
   down_front-kept may sub path u k (Some x) e =
       let step = unit_takes u sub.setup.side path x may in
-      let next = with_taken (reply.Down x (unit_table.came_of step).taken (unit_table.came_of step).sent) k in
-      if-kept sub u k (λ r. with_taken r k) (finds_full sub.wires.up (carried_by sub (unit_table.came_of step).sent)) _ _ tt
-      (subst (λ (one : Option (OnPath Up)). IsKept (IsEnd sub u (reply.Down x (unit_table.came_of step).taken (unit_table.came_of step).sent)) sub (sent_up sub (taken sub.wires.down path) one) u (unit_after u step) k next)
+      let next = with_taken (reply.Down x (unit_table.outcome_of step).taken (unit_table.outcome_of step).sent) k in
+      if-kept sub u k (λ r. with_taken r k) (finds_full sub.wires.up (carried_by sub (unit_table.outcome_of step).sent)) _ _ tt
+      (subst (λ (one : Option (OnPath Up)). IsKept (IsEnd sub u (reply.Down x (unit_table.outcome_of step).taken (unit_table.outcome_of step).sent)) sub (sent_up sub (taken sub.wires.down path) one) u (unit_after u step) k next)
       (came-sent step)
       (unit-kept _ sub u (Takes_down sub.setup.side (record { path = path; signal = x }) may) (taken sub.wires.down path) k next
       (λ w l. covers-first (link_of w sub.setup.side).downs sub.wires.down path x l.downs e) (same-side sub.setup.side)
@@ -338,7 +338,7 @@ module _ (laws : AreLaws) where
 
   owned-to : (o : Own) (side : Side) → owner_side o ≡ Some side → is_owner_side o side ≡ true
   owned-to own.Idle side e = absurd (cc e)
-  owned-to (own.Owned k t place) side e = let same : k ≡ side = cc e in subst (λ (j : Side). same_side k j ≡ true) same (same-side k)
+  owned-to (own.Owned k t connection) side e = let same : k ≡ side = cc e in subst (λ (j : Side). same_side k j ≡ true) same (same-side k)
 
   acted-kept : (sub : Subchannel) (u : UnitState) (what : told_act.UnitAct) (k : StartCounts) → IsOfSide u sub.setup.side what →
       AreKept sub u k (λ r. k) (report_taken sub (acts u sub.setup.side what))

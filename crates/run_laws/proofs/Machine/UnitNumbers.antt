@@ -20,7 +20,7 @@ use Rattle.wires.specs.Queues.{queue}
 use Rattle.subchannel_model.specs.declared.state.Subchannel.{Subchannel}
 use Rattle.machine_model.specs.Bounds.{IsUnitWithin}
 use Rattle.machine_model.specs.State.{State, opening_of, idle_of}
-use Rattle.machine_model.specs.Turns.{DownTurn}
+use Rattle.machine_model.specs.Results.{DownResult}
 use Rattle.subchannel_model.specs.Sending.{carried_by, finds_full}
 use Rattle.machine_model.specs.DownSteps.{down_front, down_sub}
 use Rattle.machine_model.specs.ReportSteps.{report_taken, report_sub}
@@ -32,13 +32,13 @@ use Rattle.run_laws.proofs.Machine.UnitPlain.{IsPlain, IsPlainStep, stays, takes
 use Rattle.step_laws.specs.Walks as walked
 use Rattle.step_laws.specs.Walks.{Walked, AreWalks}
 
-abbrev AreUnits : UnitState → Result DownTurn Fault → Type 0
+abbrev AreUnits : UnitState → Result DownResult Fault → Type 0
 AreUnits u r = IfOk r (λ t. IsPlain u t.«unit»)
 
 front-plain : (may : Bool) → (sub : Subchannel) (path : ℕ) (u : UnitState) (front : Option Down) → AreUnits u (down_front may sub path u front)
 front-plain may sub path u None = tt
 front-plain may sub path u (Some x) =
-    if-ok (λ t. IsPlain u t.«unit») (finds_full sub.wires.up (carried_by sub (unit_table.came_of (unit_takes u sub.setup.side path x may)).sent)) _ _ tt
+    if-ok (λ t. IsPlain u t.«unit») (finds_full sub.wires.up (carried_by sub (unit_table.outcome_of (unit_takes u sub.setup.side path x may)).sent)) _ _ tt
     (takes-plain u sub.setup.side path x may)
 
 down-plain : (may : Bool) → (sub : Subchannel) (path : ℕ) (u : UnitState) → AreUnits u (down_sub may sub path u)
@@ -72,16 +72,16 @@ none-plain s new e = subst (λ (xs : List UnitState). AllZip IsPlain s.units xs)
 
 units-walk : (s : State) (e : Event) (r : Reply) (new : State) → Walked s e r new → ArePlain s new
 units-walk s _ _ _ (walked.Stays e r new q sets subs units up) = none-plain s new units
-units-walk s _ _ _ (walked.Started cpu word address place sub orb c new n one) = none-plain s new one.units
-units-walk s _ _ _ (walked.Tested e r place sub c new q one address by answers) = none-plain s new one.units
-units-walk s _ _ _ (walked.Modified e r place sub given c new q one) = none-plain s new one.units
-units-walk s _ _ _ (walked.Performed e r place sub f c new q one by answers) = none-plain s new one.units
-units-walk s _ _ _ (walked.Chosen word place sub choice t new n x w h one) = none-plain s new one.units
-units-walk s _ _ _ (walked.Met word path returns place sub t new n h one may) = none-plain s new one.units
-units-walk s _ _ _ (walked.Sunk word path may owed place sub u t new n h one) =
+units-walk s _ _ _ (walked.Started cpu word address index sub orb c new n one) = none-plain s new one.units
+units-walk s _ _ _ (walked.Tested e r index sub c new q one address by answers) = none-plain s new one.units
+units-walk s _ _ _ (walked.Modified e r index sub given c new q one) = none-plain s new one.units
+units-walk s _ _ _ (walked.Performed e r index sub f c new q one by answers) = none-plain s new one.units
+units-walk s _ _ _ (walked.Chosen word index sub choice t new n x w h one) = none-plain s new one.units
+units-walk s _ _ _ (walked.Met word path returns index sub t new n h one may) = none-plain s new one.units
+units-walk s _ _ _ (walked.Sunk word path may owed index sub u t new n h one) =
     one-plain s new sub.setup.«unit» u (owing owed t.«unit») one.found one.units (owing-plain owed u t.«unit» (subst (AreUnits u) h (down-plain may sub path u)))
-units-walk s _ _ _ (walked.Reported at place sub u report t new n k h one) = one-plain s new at u t.«unit» one.found one.units (subst (AreUnits u) h (report_sub-plain sub u report))
-units-walk s _ _ _ (walked.Acted at place sub u what t new side its h one) = one-plain s new at u t.«unit» one.found one.units (subst (AreUnits u) h (act_sub-plain sub u what))
+units-walk s _ _ _ (walked.Reported at index sub u report t new n k h one) = one-plain s new at u t.«unit» one.found one.units (subst (AreUnits u) h (report_sub-plain sub u report))
+units-walk s _ _ _ (walked.Acted at index sub u what t new side its h one) = one-plain s new at u t.«unit» one.found one.units (subst (AreUnits u) h (act_sub-plain sub u what))
 units-walk s _ _ _ (walked.Restarted at owed u r new found sets subs units up) =
     one-plain s new at u (owing owed (restarted u)) found units (owing-plain owed u (restarted u) (restart-plain u))
 units-walk s _ _ _ (walked.Swept e r what new q sets subs units by) = none-plain s new units
@@ -89,7 +89,7 @@ units-walk s _ _ _ (walked.Swept e r what new q sets subs units by) = none-plain
 unit-later : (n : ℕ) (u v : UnitState) → IsPlain u v → IsUnitWithin n u → IsUnitWithin (n + 1) v
 unit-later n u v k w =
     record {
-      at_hand = k.within n w.at_hand;
+      current = k.within n w.current;
       connection = k.connection n w.connection;
       attentions = omega (arith, k.attentions, w.attentions);
       restarts = omega (arith, k.restarts, w.restarts);
@@ -103,7 +103,7 @@ units-after n xs ys z a =
     unit-later n _ _ (AllZip-get_or IsPlain xs ys i d d z within) (a i d within)
 
 opened-units : (kinds : List UnitKind) → All (IsUnitWithin 0) (map idle_of kinds)
-opened-units kinds = All-map (IsUnitWithin 0) idle_of kinds (λ k d h. record { at_hand = tt; connection = tt; attentions = omega arith; restarts = omega arith })
+opened-units kinds = All-map (IsUnitWithin 0) idle_of kinds (λ k d h. record { current = tt; connection = tt; attentions = omega arith; restarts = omega arith })
 
 pub run-units : AreWalks → (setup : Setup) (h : List Entry) (s : State) → Run (opening_of setup) h s → All (IsUnitWithin (length h)) s.units
 run-units walks setup _ _ Opened = opened-units setup.units

@@ -11,13 +11,13 @@ use Rattle.chan_model.specs.declared.unit_state.CurrentCommand.{CurrentCommand}
 use Rattle.chan_model.specs.declared.unit_state.Own.{Own}
 use Rattle.chan_model.specs.declared.unit_state.Own.TheVariants as own
 use Rattle.chan_model.specs.declared.unit_state.Connection.{Connection}
-use Rattle.chan_model.specs.declared.unit_state.Connection.TheVariants as place
+use Rattle.chan_model.specs.declared.unit_state.Connection.TheVariants as connection
 use Rattle.chan_model.specs.declared.unit_state.Progress.{Progress}
 use Rattle.chan_model.specs.declared.unit_state.Progress.TheVariants as progress
 use Rattle.chan_model.specs.declared.unit_state.UnitState.{UnitState}
 use Rattle.chan_model.specs.Sides.{same_side}
 use Rattle.chan_model.specs.UnitReports.{is_outward, may_end, most_of, is_to_supply, command_begun, answer_taken, report_on, report_of, unit_reports, report_absorbed, sent_again}
-use Rattle.chan_model.specs.UnitTable.{UnitStep, came_of, side_of, telling, unit_takes, leaving_from, leaving, asking_from, asking, is_idle}
+use Rattle.chan_model.specs.UnitTable.{UnitStep, outcome_of, side_of, telling, unit_takes, leaving_from, leaving, asking_from, asking, is_idle}
 use Rattle.chan_model.proofs.TakenSignals.{Takes, Ignores, Notices, Accepts, Denies, Begins, Joins, Leaves, Parts, Answers, Gives, Halts, Frees, Resets, Forgets, takes-by}
 use Rattle.chan_events.specs.declared.event.UnitAct.{UnitAct}
 use Rattle.chan_events.specs.declared.event.UnitAct.TheVariants as act
@@ -42,7 +42,7 @@ AreOthers None = Unit {0}
 AreOthers (Some s) = IsOther s.signal
 
 abbrev Sends : Option UnitStep → Type 0
-Sends step = AreOthers (came_of step).sent
+Sends step = AreOthers (outcome_of step).sent
 
 other-echo : (p : ℕ) (d : Down) (q : ℕ) (x : Up) → IsOther x → IsEcho p d q x
 other-echo p d q (up.Accept t) other = absurd other
@@ -65,7 +65,7 @@ if-sends true x y k l = k
 if-sends false x y k l = l
 
 -- the signals from the subchannel
-taken-echo : (u : UnitState) (side : Side) (p : ℕ) (d : Down) (step : Option UnitStep) → Takes u side p d step → AreEchoes p d (came_of step).sent
+taken-echo : (u : UnitState) (side : Side) (p : ℕ) (d : Down) (step : Option UnitStep) → Takes u side p d step → AreEchoes p d (outcome_of step).sent
 taken-echo u side p _ _ (Ignores d) = tt
 taken-echo u side p _ _ (Notices d fresh) = tt
 taken-echo u side p _ _ (Accepts t above idle) = (refl, refl)
@@ -81,7 +81,7 @@ taken-echo u side p _ _ (Frees t at is) = tt
 taken-echo u side p _ _ (Resets r b is) = tt
 taken-echo u side p _ _ (Forgets a) = tt
 
-pub takes-echo : (u : UnitState) (side : Side) (p : ℕ) (d : Down) (may : Bool) → AreEchoes p d (came_of (unit_takes u side p d may)).sent
+pub takes-echo : (u : UnitState) (side : Side) (p : ℕ) (d : Down) (may : Bool) → AreEchoes p d (outcome_of (unit_takes u side p d may)).sent
 takes-echo u side p d may = taken-echo u side p d _ (takes-by u side p d may)
 
 -- its reports
@@ -113,41 +113,41 @@ answer-sends u p t c x progress.Ended answer.Again = tt
 answer-sends u p t c x progress.ChannelEnded other = tt
 
 report_on-sends : (u : UnitState) (t : ℕ) (at : Connection) (x : Option CurrentCommand) (r : Report) → Sends (report_on u t at x r)
-report_on-sends u t (place.On p c) None r = tt
-report_on-sends u t (place.On p c) (Some x) r =
+report_on-sends u t (connection.On p c) None r = tt
+report_on-sends u t (connection.On p c) (Some x) r =
     if-sends (r.sequence == x.sequence) (answer_taken u p t c x x.progress r.answer) None (answer-sends u p t c x x.progress r.answer) tt
-report_on-sends u t (place.Ask p c) x r = tt
-report_on-sends u t (place.Away c) x r = tt
+report_on-sends u t (connection.Ask p c) x r = tt
+report_on-sends u t (connection.Away c) x r = tt
 
 report_of-sends : (u : UnitState) (o : Own) (r : Report) → Sends (report_of u o r)
 report_of-sends u own.Idle r = tt
 report_of-sends u (own.Owned k t at) r =
-    if-sends (same_side k r.side && ((r.number == t) && (r.command == u.last_command))) (report_on u t at u.at_hand r) None
-    (report_on-sends u t at u.at_hand r) tt
+    if-sends (same_side k r.side && ((r.number == t) && (r.command == u.last_command))) (report_on u t at u.current r) None
+    (report_on-sends u t at u.current r) tt
 
-pub reports-send : (u : UnitState) (r : Report) → AreOthers (came_of (unit_reports u r)).sent
+pub reports-send : (u : UnitState) (r : Report) → AreOthers (outcome_of (unit_reports u r)).sent
 reports-send u r = report_of-sends u u.own r
 
 -- its acts
 leaving_from-sends : (u : UnitState) (side : Side) (t : ℕ) (at : Connection) → Sends (leaving_from u side t at)
-leaving_from-sends u side t (place.On p c) = tt
-leaving_from-sends u side t (place.Ask p c) = tt
-leaving_from-sends u side t (place.Away c) = tt
+leaving_from-sends u side t (connection.On p c) = tt
+leaving_from-sends u side t (connection.Ask p c) = tt
+leaving_from-sends u side t (connection.Away c) = tt
 
 leaving-sends : (u : UnitState) (o : Own) → Sends (leaving u o)
 leaving-sends u own.Idle = tt
 leaving-sends u (own.Owned k t at) = leaving_from-sends u k t at
 
 asking_from-sends : (u : UnitState) (side : Side) (t : ℕ) (at : Connection) (p : ℕ) → Sends (asking_from u side t at p)
-asking_from-sends u side t (place.On q c) p = tt
-asking_from-sends u side t (place.Ask q c) p = tt
-asking_from-sends u side t (place.Away c) p = tt
+asking_from-sends u side t (connection.On q c) p = tt
+asking_from-sends u side t (connection.Ask q c) p = tt
+asking_from-sends u side t (connection.Away c) p = tt
 
 asking-sends : (u : UnitState) (o : Own) (p : ℕ) → Sends (asking u o p)
 asking-sends u own.Idle p = tt
 asking-sends u (own.Owned k t at) p = asking_from-sends u k t at p
 
-pub acts-send : (u : UnitState) (side : Side) (what : UnitAct) → AreOthers (came_of (acts u side what)).sent
+pub acts-send : (u : UnitState) (side : Side) (what : UnitAct) → AreOthers (outcome_of (acts u side what)).sent
 acts-send u side act.Leave = leaving-sends u u.own
 acts-send u side (act.Ask p) = asking-sends u u.own p
 acts-send u side (act.Attention p named) = if-sends (is_idle u.own && not (side_of u side).fresh) _ None tt tt

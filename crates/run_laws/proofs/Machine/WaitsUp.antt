@@ -8,14 +8,14 @@ use Rattle.chan_model.specs.declared.hold_state.HoldPhase.TheVariants as hold
 use Rattle.chan_model.specs.declared.hold_state.HoldState.{HoldState}
 use Rattle.chan_model.specs.Signals.{Load, Up, load_bytes}
 use Rattle.chan_model.specs.declared.signal.Up.TheVariants as up
-use Rattle.chan_model.specs.HoldTable.{came_of, HoldStep, program_begun, found_busy, left, asked_back, released, reset_cleared, attended, hold_takes, hold_after, is_connected, is_on}
+use Rattle.chan_model.specs.HoldTable.{outcome_of, HoldStep, program_begun, found_busy, left, asked_back, released, reset_cleared, attended, hold_takes, hold_after, is_connected, is_on}
 use Rattle.chan_model.specs.Loads.{load_length}
 use Rattle.chan_model.specs.ResetCauses.{is_held}
 use Rattle.chan_model.specs.UnitReports.{is_last_end, is_outward, has_device_end}
-use Rattle.ccw_walk.specs.Places.{WalkPlace}
+use Rattle.ccw_walk.specs.Positions.{WalkPosition}
 use Rattle.data_move.specs.Moving.{residual}
 use Rattle.data_move.specs.declared.transfer.CommandStart.{CommandStart}
-use Rattle.data_move.specs.declared.transfer.CommandStart.TheVariants as came
+use Rattle.data_move.specs.declared.transfer.CommandStart.TheVariants as outcome
 use Rattle.data_move.specs.declared.transfer.Transfer.{Transfer}
 use Rattle.data_move.specs.Commands.{first_command, next_command, begun_with_room, with_room}
 use Rattle.data_move.specs.ToDevice.{chunk_absorbed, next_chunk}
@@ -97,7 +97,7 @@ if-bare : (b : Bool) (x y : SubchannelState) → IsBare x → IsBare y → IsBar
 if-bare true x y e f = e
 if-bare false x y e f = f
 
-suspending-bare : (s : SubchannelState) (program : Program) (walk : WalkPlace) (count : ℕ) → IsBare (program_suspended s program walk count)
+suspending-bare : (s : SubchannelState) (program : Program) (walk : WalkPosition) (count : ℕ) → IsBare (program_suspended s program walk count)
 suspending-bare s program walk count =
     if-bare program.orb.suppress_suspended
     (record (with_suspended_program s program walk count) { scsw = suspended_alone s.scsw }) (with_cause (with_suspended_program s program walk count) (cause.Suspension walk.tried count))
@@ -112,7 +112,7 @@ if-numbered : (s : SubchannelState) (b : Bool) (x y : SubchannelState) → IsNum
 if-numbered s true x y e f = e
 if-numbered s false x y e f = f
 
-suspending-numbered : (s : SubchannelState) (program : Program) (walk : WalkPlace) (count : ℕ) → IsNumbered s (program_suspended s program walk count)
+suspending-numbered : (s : SubchannelState) (program : Program) (walk : WalkPosition) (count : ℕ) → IsNumbered s (program_suspended s program walk count)
 suspending-numbered s program walk count =
     if-numbered s program.orb.suppress_suspended
     (record (with_suspended_program s program walk count) { scsw = suspended_alone s.scsw }) (with_cause (with_suspended_program s program walk count) (cause.Suspension walk.tried count))
@@ -207,17 +207,17 @@ module _ (A : Type 0) (B : ℕ → Type 0) where
       interrupted-turned s (with_transfer s b t) (record b { transfer = t }) (kept s (with_transfer s b t) refl refl refl refl refl) k h refl
 
   -- Accept
-  begins-turned : (storage : Contents) (s : SubchannelState) (p t : ℕ) (st : ProgramPosition) (walk : WalkPlace) (r : CommandStart) → s.begun ≡ None → is_held s.hold.phase ≡ true →
+  begins-turned : (storage : Contents) (s : SubchannelState) (p t : ℕ) (st : ProgramPosition) (walk : WalkPosition) (r : CommandStart) → s.begun ≡ None → is_held s.hold.phase ≡ true →
       Turned A B s (first_ccw_outcome storage s p t st walk r).state
-  begins-turned storage s p t st walk (came.Begins transfer) n h =
+  begins-turned storage s p t st walk (outcome.Begins transfer) n h =
       let next = with_program_at_work s st.program (begun_with_room storage transfer).transfer in
       let over : Turned A B next (with_pci_of next _) =
       interrupted-turned next next (record { program = st.program; primary_shown = false; transfer = (begun_with_room storage transfer).transfer })
       (kept next next refl refl refl refl refl) tt h refl in
       record { starts = over.starts; drawn = over.drawn; waits = over.waits }
-  begins-turned storage s p t st walk came.Suspends n h =
+  begins-turned storage s p t st walk outcome.Suspends n h =
       let-bare s (program_suspended s st.program walk st.count) (suspending-bare s st.program walk st.count) (suspending-numbered s st.program walk st.count)
-  begins-turned storage s p t st walk (came.Stops check) n h =
+  begins-turned storage s p t st walk (outcome.Stops check) n h =
       let x = with_cause s (cause.FetchFault walk.tried check st.count) in
       let c : IsCalm s x = cause-calm s (cause.FetchFault walk.tried check st.count) in
       let-bare s x (fault-waiting s s.begun n, fault-begun s s.begun refl) (record { starts = c.starts; drawn = c.drawn })
@@ -225,7 +225,7 @@ module _ (A : Type 0) (B : ℕ → Type 0) where
   standing-turned : (storage : Contents) (s : SubchannelState) (p t : ℕ) (st : Option ProgramPosition) → is_some st ≡ true → s.begun ≡ None → is_held s.hold.phase ≡ true →
       Turned A B s (begins_at storage s p t st).state
   standing-turned storage s p t None e n h = absurd (cc e)
-  standing-turned storage s p t (Some st) e n h = begins-turned storage s p t st (first_command storage st.walk).walk (first_command storage st.walk).came n h
+  standing-turned storage s p t (Some st) e n h = begins-turned storage s p t st (first_command storage st.walk).walk (first_command storage st.walk).outcome n h
 
   -- the program is let go as it is accepted: it is not that of the latest start, or a halt is pending
   refused-as : (s x : SubchannelState) (w : Option Program) → x.starts ≡ s.starts → s.waiting ≡ w → s.scsw.activity.halt_pending ≡ false → takes_device s ≡ false →
@@ -332,14 +332,14 @@ module _ (A : Type 0) (B : ℕ → Type 0) where
       (same-turned A B s k)
 
   -- End
-  chaining-turned : (storage : Contents) (s : SubchannelState) (b : ActiveProgram) (signal : EndSignal) (walk : WalkPlace) (r : CommandStart) → is_held s.hold.phase ≡ true →
+  chaining-turned : (storage : Contents) (s : SubchannelState) (b : ActiveProgram) (signal : EndSignal) (walk : WalkPosition) (r : CommandStart) → is_held s.hold.phase ≡ true →
       WaitsAs A B s s.waiting → Turned A B s (next_ccw_outcome storage s b signal walk r).state
-  chaining-turned storage s b signal walk (came.Begins transfer) h k = moving-turned s b (begun_with_room storage transfer).transfer k h
-  chaining-turned storage s b signal walk came.Suspends h k =
+  chaining-turned storage s b signal walk (outcome.Begins transfer) h k = moving-turned s b (begun_with_room storage transfer).transfer k h
+  chaining-turned storage s b signal walk outcome.Suspends h k =
       let x = program_suspended (with_allegiance_after_end s signal) b.program walk (residual b.transfer.moving) in
       let n : IsNumbered (with_allegiance_after_end s signal) x = suspending-numbered (with_allegiance_after_end s signal) b.program walk (residual b.transfer.moving) in
       let-bare s x (suspending-bare (with_allegiance_after_end s signal) b.program walk (residual b.transfer.moving)) (record { starts = n.starts; drawn = n.drawn })
-  chaining-turned storage s b signal walk (came.Stops check) h k =
+  chaining-turned storage s b signal walk (outcome.Stops check) h k =
       let x = with_cause (with_allegiance_after_end s signal) (cause.FetchFault walk.tried check (residual b.transfer.moving)) in
       let c : IsCalm (with_allegiance_after_end s signal) x = cause-calm (with_allegiance_after_end s signal) (cause.FetchFault walk.tried check (residual b.transfer.moving)) in
       let-turned s x (record { starts = c.starts; drawn = c.drawn; offered = c.offered; waiting = c.waiting; hold = c.hold })
@@ -366,7 +366,7 @@ module _ (A : Type 0) (B : ℕ → Type 0) where
       (λ d. if-step s (has_device_end signal.status) (chains_with storage s (with_first_end b) signal (next_command storage (with_first_end b).transfer (has_status_modifier signal.status)))
       (signal_taken (record (with_allegiance_after_end s signal) { begun = Some (with_first_end b) }))
       (λ f. chaining-turned storage s (with_first_end b) signal (next_command storage (with_first_end b).transfer (has_status_modifier signal.status)).walk
-      (next_command storage (with_first_end b).transfer (has_status_modifier signal.status)).came held k.waiting)
+      (next_command storage (with_first_end b).transfer (has_status_modifier signal.status)).outcome held k.waiting)
       (λ f. calm-turned A B s _ (kept s _ refl refl refl refl refl) k.waiting held))
       (λ d. stops-turned s b signal held k.waiting))
       (λ c. same-turned A B s k)
@@ -392,5 +392,5 @@ module _ (A : Type 0) (B : ℕ → Type 0) where
   takes-turned returns storage s p (up.Notice b) f k = notice-turned A B s b (nat_lt s.hold.known b) k
   takes-turned returns storage s p (up.Attn a status) f k =
       let step : Option HoldStep = attended s.hold s.hold.phase p a (may_take_attention s) in
-      attention-turned s (hold_outcome s step).state ((came_of step).taken && not (status.0 == 0x20))
+      attention-turned s (hold_outcome s step).state ((outcome_of step).taken && not (status.0 == 0x20))
       (still-turned s step (attended-still s.hold s.hold.phase p a (may_take_attention s) refl) k)

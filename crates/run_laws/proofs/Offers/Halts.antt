@@ -20,7 +20,7 @@ use Rattle.machine_model.specs.Steps.{Run}
 use Rattle.machine_model.specs.declared.state.Sweep.TheVariants as sweep
 use Rattle.subchannel_model.specs.declared.state.Subchannel.{Subchannel}
 use Rattle.subchannel_model.specs.declared.state.SubchannelState.{SubchannelState}
-use Rattle.subchannel_model.specs.Places.{place_in}
+use Rattle.subchannel_model.specs.Indices.{index_in}
 use Rattle.run_laws.specs.Functions.{keeps_functions, functions_by, functions_after}
 use Rattle.run_laws.specs.Shown.{names, is_about, is_accepted}
 use Rattle.run_laws.proofs.Shown.Effects.{seen}
@@ -113,9 +113,9 @@ record IsHalted (sets : ℕ) (id : SubchannelId) (h : List Entry) (s : Subchanne
   fits : Fits (seen s)
   halted : s.scsw.functions.halt ≡ halted_by sets id false h
 
-pub run-halted : AreLaws → (setup : Setup) (id : SubchannelId) (h : List Entry) (s : State) → Run (opening_of setup) h s → (place : ℕ) (sub : Subchannel) →
-    place_in id s.subs ≡ Some place → slice_get s.subs place ≡ Some sub → sub.state.scsw.functions.halt ≡ halted_by (set_count setup) id false h
-run-halted laws setup id h s run place sub named there =
+pub run-halted : AreLaws → (setup : Setup) (id : SubchannelId) (h : List Entry) (s : State) → Run (opening_of setup) h s → (index : ℕ) (sub : Subchannel) →
+    index_in id s.subs ≡ Some index → slice_get s.subs index ≡ Some sub → sub.state.scsw.functions.halt ≡ halted_by (set_count setup) id false h
+run-halted laws setup id h s run index sub named there =
     let sets : ℕ = set_count setup in
     let w : IsHalted sets id h sub.state =
     run-keeps laws setup id (λ h s. IsHalted sets id h s) (record { fits = fits-opens; halted = refl })
@@ -125,5 +125,5 @@ run-halted laws setup id h s run place sub named there =
           ∙ leaves sets id e r sub after turned
           ∙ ap (λ (b : Bool). halted_after (mine sets id e) e r b) k.halted
           ∙ sym (by-more sets id false h (record { event = e; reply = r }));
-    }) h s run place sub named there in
+    }) h s run index sub named there in
     w.halted

@@ -48,7 +48,7 @@ use Rattle.subchannel_model.specs.Accept.{takes_device, with_path_used, offered_
 use Rattle.subchannel_model.specs.Taking.{takes_up}
 use Rattle.subchannel_model.specs.Test.{ends_suspended, tested_wholly, tested}
 use Rattle.machine_model.specs.State.{State, opening_of}
-use Rattle.machine_model.specs.Turns.{SubTurn, UpTurn, DownTurn}
+use Rattle.machine_model.specs.Results.{SubResult, UpResult, DownResult}
 use Rattle.machine_model.specs.ChooseSteps.{choose_sub}
 use Rattle.machine_model.specs.UpSteps.{up_front, up_sub}
 use Rattle.machine_model.specs.DownSteps.{down_front, down_sub}
@@ -57,8 +57,8 @@ use Rattle.machine_model.specs.Steps.{Run, Opened, Stepped}
 use Rattle.machine_model.specs.declared.state.Sweep.{Sweep}
 use Rattle.machine_model.specs.PathSteps.{swept}
 use Rattle.step_laws.specs.Walks.{IsFound, Suits}
-use Rattle.step_laws.proofs.Places.{map-get}
-use Rattle.run_laws.proofs.Machine.TaleEvents.{reset-phase}
+use Rattle.step_laws.proofs.Indices.{map-get}
+use Rattle.run_laws.proofs.Machine.TraceEvents.{reset-phase}
 use Rattle.run_laws.proofs.Signals.Meets as phases
 use Rattle.run_laws.proofs.Signals.Meets.{takes-meets}
 use Rattle.run_laws.proofs.Signals.Overs.{with_hold, offer_begun, meets-offer, meets-accept, begin-taken, same-in}
@@ -66,7 +66,7 @@ use Rattle.run_laws.proofs.Signals.Starts.{Within, IsChosenBy, cause-within, tak
 use Rattle.run_laws.specs.Traces as traced
 use Rattle.run_laws.specs.Traces.{ProgramTrace, chosen_at, taken_at, absorbs, reported_at, offered_for, takes, reported}
 use Rattle.run_laws.proofs.Traces.MachineTraces.{trace_meets, trace_accepted, met_with, met_at, trace, trace_after}
-use Rattle.run_laws.proofs.Traces.Turns.{PlaceStep, Stays, Starts_with_orb, Is_tested, Is_resumed, Is_halted, Is_cleared, Is_cancelled, Is_modified, Is_chosen, Meets, Sinks, Is_reported, Other_sinks, Other_reported, Unit_acts, Is_swept, step-happens}
+use Rattle.run_laws.proofs.Traces.Turns.{IndexStep, Stays, Starts_with_orb, Is_tested, Is_resumed, Is_halted, Is_cleared, Is_cancelled, Is_modified, Is_chosen, Meets, Sinks, Is_reported, Other_sinks, Other_reported, Unit_acts, Is_swept, step-happens}
 use Rattle.run_laws.proofs.Bytes.Accesses.{AreAccesses}
 use Rattle.run_laws.proofs.Traces.Ties.{AreLaws}
 use Rattle.run_laws.proofs.Traces.Holds.{IsStanding}
@@ -133,8 +133,8 @@ gone-offers s r (Some k) e w = (w, subst (λ (y : HoldPhase). IsOfferedAt y s.wa
 
 -- a signal that comes up: an offer stays only where nothing changed
 accept-traced : (storage : Contents) (s : SubchannelState) (h : HoldState) (p t q u v w : ℕ) (k : ProgramTrace) (may same : Bool) →
-    phases.Meets p (up.Accept u) (hold.Offer t q) (takes_accept storage (with_hold s h (hold.Offer t q)) (offer_begun h t q may same)).came.taken
-    (takes_accept storage (with_hold s h (hold.Offer t q)) (offer_begun h t q may same)).came.sent
+    phases.Meets p (up.Accept u) (hold.Offer t q) (takes_accept storage (with_hold s h (hold.Offer t q)) (offer_begun h t q may same)).outcome.taken
+    (takes_accept storage (with_hold s h (hold.Offer t q)) (offer_begun h t q may same)).outcome.sent
     (takes_accept storage (with_hold s h (hold.Offer t q)) (offer_begun h t q may same)).state.hold.phase →
     (takes_accept storage (with_hold s h (hold.Offer t q)) (offer_begun h t q may same)).state.hold.phase ≡ hold.Offer v w →
     trace_accepted storage (with_hold s h (hold.Offer t q)) (offer_begun h t q may same) k ≡ k
@@ -160,7 +160,7 @@ met-offered returns storage s p x k o =
     let step = (takes_up returns storage s p x).step in
     if-offer step.state (trace_meets storage s p x k)
     (λ t q e.
-    let old : s.hold.phase ≡ hold.Offer t q = meets-offer p x s.hold.phase step.came.taken step.came.sent step.state.hold.phase t q (takes-meets returns storage s p x) e in
+    let old : s.hold.phase ≡ hold.Offer t q = meets-offer p x s.hold.phase step.outcome.taken step.outcome.sent step.state.hold.phase t q (takes-meets returns storage s p x) e in
     subst (λ (y : ProgramTrace). IsOffered step.state y) (sym (traced-same returns storage s t q p x k t q old e))
     (elim (same-in returns storage s t q p x old) [
       | inl same ↦ subst (λ (y : SubchannelState). IsOffered y k) (sym same) o
@@ -176,13 +176,13 @@ up_front-offers : (returns : Bool) (storage : Contents) (sub : Subchannel) (path
     IfOk (up_front returns storage sub path front) (λ t. OffersBy t.sub.state (met_with storage sub.state path front k))
 up_front-offers returns storage sub path None k o = tt
 up_front-offers returns storage sub path (Some x) k o =
-    if-ok (λ t. OffersBy t.sub.state (met_with storage sub.state path (Some x) k)) (finds_full sub.wires.down (carried_by sub (takes_up returns storage sub.state path x).step.came.sent))
+    if-ok (λ t. OffersBy t.sub.state (met_with storage sub.state path (Some x) k)) (finds_full sub.wires.down (carried_by sub (takes_up returns storage sub.state path x).step.outcome.sent))
     (Err fault.WireFull) _ tt (met-offers returns storage sub.state path x k o)
 
-up-offers : (returns : Bool) (storage : Contents) (sub : Subchannel) (path : ℕ) (t : UpTurn) (k : Option ProgramTrace) → up_sub returns storage sub path ≡ Ok t → OffersBy sub.state k →
+up-offers : (returns : Bool) (storage : Contents) (sub : Subchannel) (path : ℕ) (t : UpResult) (k : Option ProgramTrace) → up_sub returns storage sub path ≡ Ok t → OffersBy sub.state k →
     OffersBy t.sub.state (met_at storage (Some sub) path k)
 up-offers returns storage sub path t k e o =
-    subst (λ (r : Result UpTurn Fault). IfOk r (λ t. OffersBy t.sub.state (met_at storage (Some sub) path k))) e
+    subst (λ (r : Result UpResult Fault). IfOk r (λ t. OffersBy t.sub.state (met_at storage (Some sub) path k))) e
     (if-ok (λ t. OffersBy t.sub.state (met_at storage (Some sub) path k)) (nat_lt path (length sub.setup.paths))
     (up_front returns storage sub path (slice_get (queue sub.wires.up path) 0)) (Err fault.NoSuchPath)
     (up_front-offers returns storage sub path (slice_get (queue sub.wires.up path) 0) k o) tt)
@@ -273,7 +273,7 @@ takes-offers : (s : SubchannelState) (d : Down) (k : ProgramTrace) → OffersBy 
 takes-offers s (down.Command t n code room) k o = takes-if s k code (t == k.number) o
 takes-offers s d k o = o
 
-taken-offers : (s : SubchannelState) (d : Down) (came : Bool) (sent : Option (OnPath Up)) (k : Option ProgramTrace) → OffersBy s k → OffersBy s (taken_at (reply.Down d came sent) k)
+taken-offers : (s : SubchannelState) (d : Down) (outcome : Bool) (sent : Option (OnPath Up)) (k : Option ProgramTrace) → OffersBy s k → OffersBy s (taken_at (reply.Down d outcome sent) k)
 taken-offers s d false sent k o = o
 taken-offers s d true (Some x) k o = o
 taken-offers s d true None None o = o
@@ -284,13 +284,13 @@ down_front-offers : (may : Bool) (sub : Subchannel) (path : ℕ) (u : UnitState)
 down_front-offers may sub path u None k o = tt
 down_front-offers may sub path u (Some d) k o =
     let step : Option UnitStep = unit_takes u sub.setup.side path d may in
-    if-ok (λ t. OffersBy t.sub.state (taken_at t.reply k)) (finds_full sub.wires.up (carried_by sub (unit_table.came_of step).sent)) (Err fault.WireFull) _ tt
-    (taken-offers sub.state d (unit_table.came_of step).taken (unit_table.came_of step).sent k o)
+    if-ok (λ t. OffersBy t.sub.state (taken_at t.reply k)) (finds_full sub.wires.up (carried_by sub (unit_table.outcome_of step).sent)) (Err fault.WireFull) _ tt
+    (taken-offers sub.state d (unit_table.outcome_of step).taken (unit_table.outcome_of step).sent k o)
 
-sunk-offers : (may : Bool) (sub : Subchannel) (path : ℕ) (u : UnitState) (t : DownTurn) (k : Option ProgramTrace) → down_sub may sub path u ≡ Ok t → OffersBy sub.state k →
+sunk-offers : (may : Bool) (sub : Subchannel) (path : ℕ) (u : UnitState) (t : DownResult) (k : Option ProgramTrace) → down_sub may sub path u ≡ Ok t → OffersBy sub.state k →
     OffersBy t.sub.state (taken_at t.reply k)
 sunk-offers may sub path u t k e o =
-    subst (λ (r : Result DownTurn Fault). IfOk r (λ t. OffersBy t.sub.state (taken_at t.reply k))) e
+    subst (λ (r : Result DownResult Fault). IfOk r (λ t. OffersBy t.sub.state (taken_at t.reply k))) e
     (if-ok (λ t. OffersBy t.sub.state (taken_at t.reply k)) (nat_lt path (length sub.setup.paths)) (down_front may sub path u (slice_get (queue sub.wires.down path) 0)) (Err fault.NoSuchPath)
     (down_front-offers may sub path u (slice_get (queue sub.wires.down path) 0) k o) tt)
 
@@ -307,7 +307,7 @@ report-if s count x k true o = absorbs-offers s count x k o
 report-if s count x k false o = o
 
 reported-offers : (s : SubchannelState) (u : UnitState) (report : Report) (a : DeviceAnswer) (k : ProgramTrace) → OffersBy s (Some k) → OffersBy s (Some (reported u report a k))
-reported-offers s u report (answer.Absorbed count) k o = report-if s count u.at_hand k (report.number == k.number) o
+reported-offers s u report (answer.Absorbed count) k o = report-if s count u.current k (report.number == k.number) o
 reported-offers s u report other k o = o
 
 reported_at-offers : (s : SubchannelState) (u : UnitState) (report : Report) (k : Option ProgramTrace) → OffersBy s k → OffersBy s (reported_at (Some u) report k)
@@ -320,10 +320,10 @@ report_taken-offers sub u report None k o = tt
 report_taken-offers sub u report (Some step) k o =
     if-ok (λ t. OffersBy t.sub.state (reported_at (Some u) report k)) (finds_full sub.wires.up (carried_by sub step.sent)) (Err fault.WireFull) _ tt (reported_at-offers sub.state u report k o)
 
-told-offers : (sub : Subchannel) (u : UnitState) (report : Report) (t : DownTurn) (k : Option ProgramTrace) → report_sub sub u report ≡ Ok t → OffersBy sub.state k →
+told-offers : (sub : Subchannel) (u : UnitState) (report : Report) (t : DownResult) (k : Option ProgramTrace) → report_sub sub u report ≡ Ok t → OffersBy sub.state k →
     OffersBy t.sub.state (reported_at (Some u) report k)
 told-offers sub u report t k e o =
-    subst (λ (r : Result DownTurn Fault). IfOk r (λ t. OffersBy t.sub.state (reported_at (Some u) report k))) e (report_taken-offers sub u report (unit_reports u report) k o)
+    subst (λ (r : Result DownResult Fault). IfOk r (λ t. OffersBy t.sub.state (reported_at (Some u) report k))) e (report_taken-offers sub u report (unit_reports u report) k o)
 
 -- an instruction
 started-waits : (s : SubchannelState) (orb : Orb) (k : ProgramTrace) → Within s → IsOfferedStart (started s orb).waiting (started s orb).offered k
@@ -368,7 +368,7 @@ told new s f k next e g o = subst (λ (x : Option ProgramTrace). OffersBy new.st
 abbrev state-of : Subchannel → SubchannelState
 state-of x = x.state
 
-happens-offers : (storage : Contents) (old new : Subchannel) (u v : Option UnitState) (f : Option ProgramTrace → Option ProgramTrace) → PlaceStep storage old new u v f → (k : Option ProgramTrace) →
+happens-offers : (storage : Contents) (old new : Subchannel) (u v : Option UnitState) (f : Option ProgramTrace → Option ProgramTrace) → IndexStep storage old new u v f → (k : Option ProgramTrace) →
     KeptBy old.state k → OffersBy old.state k → OffersBy new.state (f k)
 happens-offers storage old new u v f (Stays e w g) k h o = same-offers old new f k e (g k) o
 happens-offers storage old new u v f (Starts_with_orb orb e w g) k h o = told new (started old.state orb) f k k (ap state-of e) (g k) (started-offers old.state orb k o)
@@ -385,7 +385,7 @@ happens-offers storage old new u v f (Is_modified pmcw e w g) k h o =
 happens-offers storage old new u v f (Is_chosen choice t x c e w g) k h o =
     let m : Subchannel = marked_sub old choice in
     told new t.sub.state f k (chosen_at (Some m) t.reply k) (ap state-of e) (g k)
-    (subst (λ (r : Result SubTurn Fault). IfOk r (λ t. OffersBy t.sub.state (chosen_at (Some m) t.reply k))) c
+    (subst (λ (r : Result SubResult Fault). IfOk r (λ t. OffersBy t.sub.state (chosen_at (Some m) t.reply k))) c
     (choose-offers m k (chosen old choice) x (chosen-by old choice o.0) (same-kept old.state m.state k refl refl refl refl refl h)
     (o.0, less-offered old.state m.state k refl refl (inl refl) (inl refl) o.1)))
 happens-offers storage old new u v f (Meets path returns t c e w g) k h o =
@@ -403,12 +403,12 @@ happens-offers storage old new u v f (Is_swept what e w g) k h o = told new (swe
 opened-offers : (sub : Subchannel) (setup : SubchannelSetup) → opened setup ≡ sub → OffersBy sub.state None
 opened-offers sub setup e = subst (λ (x : Subchannel). OffersBy x.state None) e ((omega arith, tt, tt, tt), tt)
 
-pub run-offers : (laws : AreLaws) (accesses : AreAccesses) (setup : Setup) → IsLawful setup → (h : List Entry) (s : State) (run : Run (opening_of setup) h s) (place : ℕ) (sub : Subchannel) →
-    slice_get s.subs place ≡ Some sub → OffersBy sub.state (trace place (opening_of setup) h s run)
-run-offers laws accesses setup lawful _ _ Opened place sub e =
-    let a : (s : SubchannelSetup) × (slice_get setup.subchannels place ≡ Some s) × (opened s ≡ sub) = map-get opened setup.subchannels place sub e in
+pub run-offers : (laws : AreLaws) (accesses : AreAccesses) (setup : Setup) → IsLawful setup → (h : List Entry) (s : State) (run : Run (opening_of setup) h s) (index : ℕ) (sub : Subchannel) →
+    slice_get s.subs index ≡ Some sub → OffersBy sub.state (trace index (opening_of setup) h s run)
+run-offers laws accesses setup lawful _ _ Opened index sub e =
+    let a : (s : SubchannelSetup) × (slice_get setup.subchannels index ≡ Some s) × (opened s ≡ sub) = map-get opened setup.subchannels index sub e in
     opened-offers sub a.0 a.2
-run-offers laws accesses setup lawful _ _ (Stepped h old e r new run step) place sub at =
-    let a = step-happens old (run-one-sided laws.walks setup lawful h old run) place e r new (laws.walks old e r new step) sub at in
-    happens-offers old.storage a.0 sub (slice_get old.units a.0.setup.«unit») (slice_get new.units a.0.setup.«unit») (trace_after place old e r) a.3
-    (trace place (opening_of setup) h old run) (run-held laws accesses setup lawful h old run place a.0 a.1) (run-offers laws accesses setup lawful h old run place a.0 a.1)
+run-offers laws accesses setup lawful _ _ (Stepped h old e r new run step) index sub at =
+    let a = step-happens old (run-one-sided laws.walks setup lawful h old run) index e r new (laws.walks old e r new step) sub at in
+    happens-offers old.storage a.0 sub (slice_get old.units a.0.setup.«unit») (slice_get new.units a.0.setup.«unit») (trace_after index old e r) a.3
+    (trace index (opening_of setup) h old run) (run-held laws accesses setup lawful h old run index a.0 a.1) (run-offers laws accesses setup lawful h old run index a.0 a.1)

@@ -36,19 +36,19 @@ use Rattle.subchannel_model.specs.Test.{tsch_code}
 use Rattle.subchannel_model.specs.Choosing.{first_some, path_use, paths_to_choose, engaged_paths, chosen, marked_sub, starting, resuming}
 use Rattle.subchannel_model.specs.Losing.{is_offered_or_held}
 use Rattle.subchannel_model.specs.Programs.{has_any}
-use Rattle.subchannel_model.specs.Places.{is_named, place_in, place_of_id}
+use Rattle.subchannel_model.specs.Indices.{is_named, index_in, index_of_id}
 use Rattle.subchannel_model.specs.Start.{started}
 use Rattle.machine_model.specs.ChooseSteps.{choose_sub}
 use Rattle.machine_model.specs.InstructionSteps.{code_at}
 use Rattle.machine_model.specs.PathSteps.{swept}
-use Rattle.machine_model.specs.State.{State, place_of}
+use Rattle.machine_model.specs.State.{State, index_of}
 use Rattle.machine_model.specs.Steps.{Step}
-use Rattle.machine_model.specs.Turns.{SubTurn}
+use Rattle.machine_model.specs.Results.{SubResult}
 use Rattle.machine_model.specs.declared.state.Sweep.{Sweep}
 use Rattle.step_laws.specs.Walks.{Walked, Suits}
-use Rattle.step_laws.proofs.Places.{set-get}
+use Rattle.step_laws.proofs.Indices.{set-get}
 use Rattle.run_laws.proofs.Shown.LogicalOffers.{reach-logical}
-use Rattle.run_laws.proofs.Shown.Runs.{place-stays, placed}
+use Rattle.run_laws.proofs.Shown.Runs.{index-stays, placed}
 use Rattle.run_laws.proofs.Shown.Turned.{Turned, Executes, Chooses, Meets, Sweeps, Rests, state_chosen, step-turns}
 use Rattle.run_laws.proofs.Traces.Sweeps.{swept-kept}
 use Rattle.run_laws.proofs.Links.Vanishing.{send-ok}
@@ -96,26 +96,26 @@ module _ (a : Option Orb) where
   turned-masked sets id _ _ _ _ n k (Sweeps what r sub) = swept-masked what sub k
   turned-masked sets id _ _ _ _ n k (Rests e r sub about) = k
 
--- of the subchannel at a place, where a word can name it
+-- of the subchannel at an index, where a word can name it
 abbrev pub MaskedAt : Option Orb → List Subchannel → ℕ → Type 0
-MaskedAt a subs place = (id : SubchannelId) (sub : Subchannel) → place_in id subs ≡ Some place → slice_get subs place ≡ Some sub → Masked a sub.state
+MaskedAt a subs index = (id : SubchannelId) (sub : Subchannel) → index_in id subs ≡ Some index → slice_get subs index ≡ Some sub → Masked a sub.state
 
 abbrev pub SameSetups : List Subchannel → List Subchannel → Type 0
 SameSetups subs news = map (λ sub. sub.setup) news ≡ map (λ sub. sub.setup) subs
 
-pub stays-masked : (a : Option Orb) (s : State) (e : Event) (r : Reply) (new : State) (place : ℕ) → Step s e r new → Walked s e r new → SameSetups s.subs new.subs →
-    IsNoStart e → MaskedAt a s.subs place → MaskedAt a new.subs place
-stays-masked a s e r new place step walk same not masked = λ id sub named here.
-    let mine : place_in id s.subs ≡ Some place = sym (place-stays id s.subs new.subs same) ∙ named in
-    let old : (x : Subchannel) × (slice_get s.subs place ≡ Some x) = placed (is_named id) s.subs place mine in
-    turned-masked a s.sets id e r old.0 sub.state not (masked id old.0 mine old.1) (step-turns s id place old.0 mine old.1 e r new step sub here)
+pub stays-masked : (a : Option Orb) (s : State) (e : Event) (r : Reply) (new : State) (index : ℕ) → Step s e r new → Walked s e r new → SameSetups s.subs new.subs →
+    IsNoStart e → MaskedAt a s.subs index → MaskedAt a new.subs index
+stays-masked a s e r new index step walk same not masked = λ id sub named here.
+    let mine : index_in id s.subs ≡ Some index = sym (index-stays id s.subs new.subs same) ∙ named in
+    let old : (x : Subchannel) × (slice_get s.subs index ≡ Some x) = placed (is_named id) s.subs index mine in
+    turned-masked a s.sets id e r old.0 sub.state not (masked id old.0 mine old.1) (step-turns s id index old.0 mine old.1 e r new step sub here)
 
 -- START SUBCHANNEL: one subchannel is set
-pub set-masked : (a b : Option Orb) (subs news : List Subchannel) (at place : ℕ) (x after : Subchannel) → SameSetups subs news → slice_get subs at ≡ Some x → news ≡ slice_set subs at after →
-    (at ≡ place → Masked a x.state → Masked b after.state) → ((at ≡ place → ⊥) → b ≡ a) → MaskedAt a subs place → MaskedAt b news place
-set-masked a b subs news at place x after same there is here other masked = λ id sub named got.
-    let mine : place_in id subs ≡ Some place = sym (place-stays id subs news same) ∙ named in
-    elim (set-get subs at after place sub (subst (λ (xs : List Subchannel). slice_get xs place ≡ Some sub) is got)) [
+pub set-masked : (a b : Option Orb) (subs news : List Subchannel) (at index : ℕ) (x after : Subchannel) → SameSetups subs news → slice_get subs at ≡ Some x → news ≡ slice_set subs at after →
+    (at ≡ index → Masked a x.state → Masked b after.state) → ((at ≡ index → ⊥) → b ≡ a) → MaskedAt a subs index → MaskedAt b news index
+set-masked a b subs news at index x after same there is here other masked = λ id sub named got.
+    let mine : index_in id subs ≡ Some index = sym (index-stays id subs news same) ∙ named in
+    elim (set-get subs at after index sub (subst (λ (xs : List Subchannel). slice_get xs index ≡ Some sub) is got)) [
       | inl p ↦
           subst (λ (y : Subchannel). Masked b y.state) (sym p.1)
           (here (sym p.0) (masked id x mine (subst (λ (i : ℕ). slice_get subs i ≡ Some x) (sym p.0) there)))
@@ -151,17 +151,17 @@ choose-path subs sub marked choice (Offers c path) i f o h =
     ))
 choose-path subs sub marked choice other i f o h = λ t p z e. absurd (cc e)
 
-named-in : (subs : List Subchannel) (x : Option SubchannelId) (place : ℕ) → place_of_id subs x ≡ Some place → (id : SubchannelId) × (place_in id subs ≡ Some place)
-named-in subs None place e = absurd (cc e)
-named-in subs (Some id) place e = (id, e)
+named-in : (subs : List Subchannel) (x : Option SubchannelId) (index : ℕ) → index_of_id subs x ≡ Some index → (id : SubchannelId) × (index_in id subs ≡ Some index)
+named-in subs None index e = absurd (cc e)
+named-in subs (Some id) index e = (id, e)
 
-pub offered-path : (a : Option Orb) (s : State) (word place : ℕ) (r : Reply) (sub : Subchannel) → IsChosen s sub r → place_of s word ≡ Some place → slice_get s.subs place ≡ Some sub →
-    MaskedAt a s.subs place → IsByPath a r
-offered-path a s word place r sub c named there masked = λ t path resumes is.
+pub offered-path : (a : Option Orb) (s : State) (word index : ℕ) (r : Reply) (sub : Subchannel) → IsChosen s sub r → index_of s word ≡ Some index → slice_get s.subs index ≡ Some sub →
+    MaskedAt a s.subs index → IsByPath a r
+offered-path a s word index r sub c named there masked = λ t path resumes is.
     let offers : IfOk (choose_sub (marked_sub sub c.choice) (chosen sub c.choice)) (λ t. OffersPath sub t.reply) =
     choose-path s.subs sub (marked_sub sub c.choice) c.choice (chosen sub c.choice) c.right c.suits (chosen-offer sub c.choice) (chosen-ahead sub c.choice) in
-    let offer = subst (λ (o : Result SubTurn Fault). IfOk o (λ t. OffersPath sub t.reply)) c.ok offers t path resumes (sym c.replies ∙ is) in
-    let id = named-in s.subs (subchannel_named s.sets word) place named in
+    let offer = subst (λ (o : Result SubResult Fault). IfOk o (λ t. OffersPath sub t.reply)) c.ok offers t path resumes (sym c.replies ∙ is) in
+    let id = named-in s.subs (subchannel_named s.sets word) index named in
     let k : Masked a sub.state = masked id.0 sub id.1 there in
     let of = k.mask (k.pending offer.1) in
     (of.0, of.1, each-true (has_path of.0.paths) path (subst (λ (set : List Bool). is_member set path ≡ true) of.2 offer.0))

@@ -38,11 +38,11 @@ use Rattle.subchannel_model.specs.Taking.{takes_up}
 use Rattle.subchannel_model.specs.Test.{tested_scsw, ended_scsw, suspended_scsw, ends_suspended, tested, tested_wholly}
 use Rattle.machine_model.specs.ChooseSteps.{choose_sub}
 use Rattle.machine_model.specs.PathSteps.{swept}
-use Rattle.machine_model.specs.Turns.{SubTurn, UpTurn}
+use Rattle.machine_model.specs.Results.{SubResult, UpResult}
 use Rattle.machine_model.specs.UpSteps.{up_front, up_sub}
 use Rattle.machine_model.specs.declared.state.Sweep.{Sweep}
 use Rattle.run_laws.proofs.Machine.SameHold.{cause-same}
-use Rattle.run_laws.proofs.Machine.TaleEvents.{reset-phase}
+use Rattle.run_laws.proofs.Machine.TraceEvents.{reset-phase}
 use Rattle.run_laws.specs.BeginsItsOwn.{over_chosen}
 use Rattle.run_laws.proofs.Signals.Meets.{phase-of, takes-meets}
 use Rattle.run_laws.proofs.Signals.Overs.{start-over, test-over, halt-over, tested-phase, meets-offer, same-in}
@@ -219,7 +219,7 @@ offers-tied s c path h e = λ t q o.
     and-both (is_some (position_of_start s.waiting s.suspended c.program.start)) (not s.scsw.activity.halt_pending)
     (found-stands s.waiting s.scsw.activity.start_pending s.scsw.activity.resume_pending s.suspended c e) (ap not h)
 
-abbrev pub IsTurn : Bool → SubTurn → Type 0
+abbrev pub IsTurn : Bool → SubResult → Type 0
 IsTurn over t = Owned (over_chosen t.reply over) t.sub.state
 
 not-offered : (over : Bool) (s x : SubchannelState) → ((t p : ℕ) → s.hold.phase ≡ hold.Offer t p → ⊥) → x.hold.phase ≡ s.hold.phase → Tied over x
@@ -265,7 +265,7 @@ chosen-owned over sub choice k =
 takes-tied : (over returns : Bool) (storage : Contents) (s : SubchannelState) (p : ℕ) (x : Up) → Tied over s → Tied over (takes_up returns storage s p x).step.state
 takes-tied over returns storage s p x k = λ t q e.
     let step = (takes_up returns storage s p x).step in
-    let old : s.hold.phase ≡ hold.Offer t q = meets-offer p x s.hold.phase step.came.taken step.came.sent step.state.hold.phase t q (takes-meets returns storage s p x) e in
+    let old : s.hold.phase ≡ hold.Offer t q = meets-offer p x s.hold.phase step.outcome.taken step.outcome.sent step.state.hold.phase t q (takes-meets returns storage s p x) e in
     elim (same-in returns storage s t q p x old) [
       | inl same ↦ subst (λ (y : SubchannelState). IsJust over y) (sym same) (k t q old)
       | inr n ↦ absurd (n t q e)
@@ -274,12 +274,12 @@ takes-tied over returns storage s p x k = λ t q e.
 front-owned : (over returns : Bool) (storage : Contents) (sub : Subchannel) (path : ℕ) (front : Option Up) → Owned over sub.state → IfOk (up_front returns storage sub path front) (λ t. Owned over t.sub.state)
 front-owned over returns storage sub path None k = tt
 front-owned over returns storage sub path (Some x) k =
-    if-ok (λ (t : UpTurn). Owned over t.sub.state) (finds_full sub.wires.down (carried_by sub (takes_up returns storage sub.state path x).step.came.sent)) _ _ tt
+    if-ok (λ (t : UpResult). Owned over t.sub.state) (finds_full sub.wires.down (carried_by sub (takes_up returns storage sub.state path x).step.outcome.sent)) _ _ tt
     (takes-within returns storage sub.state path x k.0, takes-tied over returns storage sub.state path x k.1)
 
 pub up-owned : (over returns : Bool) (storage : Contents) (sub : Subchannel) (path : ℕ) → Owned over sub.state → IfOk (up_sub returns storage sub path) (λ t. Owned over t.sub.state)
 up-owned over returns storage sub path k =
-    if-ok (λ (t : UpTurn). Owned over t.sub.state) (nat_lt path (length sub.setup.paths)) (up_front returns storage sub path (slice_get (queue sub.wires.up path) 0)) _
+    if-ok (λ (t : UpResult). Owned over t.sub.state) (nat_lt path (length sub.setup.paths)) (up_front returns storage sub path (slice_get (queue sub.wires.up path) 0)) _
     (front-owned over returns storage sub path (slice_get (queue sub.wires.up path) 0) k) tt
 
 -- a path is lost, or all is reset

@@ -14,7 +14,7 @@ use Rattle.chan_model.specs.declared.answer.ConditionCode.TheVariants as code
 use Rattle.chan_model.specs.PathSets.{paths_of_mask}
 use Rattle.chan_model.specs.Signals.{Up}
 use Rattle.chan_model.specs.UnitReports.{is_last_end}
-use Rattle.ccw_walk.specs.Places.{WalkPlace}
+use Rattle.ccw_walk.specs.Positions.{WalkPosition}
 use Rattle.storage_keys.specs.Storage.{Contents}
 use Rattle.data_move.specs.declared.transfer.Transfer.{Transfer}
 use Rattle.subchannel_model.specs.declared.cause.StatusCause.{StatusCause}
@@ -144,7 +144,7 @@ module _ (started : Option Orb) where
   takes-masked : (s : SubchannelState) (program : Program) (transfer : Transfer) → Masked started s → Masked started (with_program_at_work s program transfer)
   takes-masked s program transfer k = idle s.pmcw.logical s.scsw.functions s.scsw.activity (working_activity s.scsw.activity) refl k
 
-  alone-masked : (s : SubchannelState) (program : Program) (walk : WalkPlace) (count : ℕ) → Masked started s → Masked started (record (with_suspended_program s program walk count) { scsw = suspended_alone s.scsw })
+  alone-masked : (s : SubchannelState) (program : Program) (walk : WalkPosition) (count : ℕ) → Masked started s → Masked started (record (with_suspended_program s program walk count) { scsw = suspended_alone s.scsw })
   alone-masked s program walk count k = idle s.pmcw.logical s.scsw.functions s.scsw.activity (suspended_alone s.scsw).activity refl k
 
   pub signal-masked : (returns : Bool) (storage : Contents) (s : SubchannelState) (p : ℕ) (x : Up) → Masked started s → Masked started (takes_up returns storage s p x).step.state

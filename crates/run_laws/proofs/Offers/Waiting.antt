@@ -31,12 +31,12 @@ use Rattle.machine_model.specs.ChooseSteps.{choose_sub}
 use Rattle.machine_model.specs.InstructionSteps.{function_sub, test_with}
 use Rattle.machine_model.specs.PathSteps.{swept}
 use Rattle.machine_model.specs.State.{State}
-use Rattle.machine_model.specs.Turns.{SubTurn, UpTurn, DownTurn}
+use Rattle.machine_model.specs.Results.{SubResult, UpResult, DownResult}
 use Rattle.machine_model.specs.UpSteps.{up_front, up_sub}
 use Rattle.machine_model.specs.declared.state.Sweep.{Sweep}
 use Rattle.step_laws.specs.Walks as walked
 use Rattle.step_laws.specs.Walks.{Walked, Function, Resumes, Clears, Cancels, effect_of, OneSub, OneUnit}
-use Rattle.step_laws.proofs.Places.{set-get, map-get}
+use Rattle.step_laws.proofs.Indices.{set-get, map-get}
 use Rattle.run_laws.proofs.Signals.OwnSteps.{IsApart, down-apart, step-apart, act-apart}
 use Rattle.run_laws.proofs.Traces.Sweeps.{swept-kept}
 use Rattle.run_laws.proofs.Units.UnitActs.{if-ok}
@@ -80,15 +80,15 @@ module _ (P : Option Program → Type 0) (none : P None) where
   front-stays : (returns : Bool) (storage : Contents) (sub : Subchannel) (path : ℕ) (front : Option Up) → IfOk (up_front returns storage sub path front) (λ t. Stays sub t.sub)
   front-stays returns storage sub path None = tt
   front-stays returns storage sub path (Some x) =
-      if-ok (λ (t : UpTurn). Stays sub t.sub) (finds_full sub.wires.down (carried_by sub (takes_up returns storage sub.state path x).step.came.sent)) _ _ tt
+      if-ok (λ (t : UpResult). Stays sub t.sub) (finds_full sub.wires.down (carried_by sub (takes_up returns storage sub.state path x).step.outcome.sent)) _ _ tt
       (λ k. takes-waits P none returns storage sub.state path x k)
 
   up-stays : (returns : Bool) (storage : Contents) (sub : Subchannel) (path : ℕ) → IfOk (up_sub returns storage sub path) (λ t. Stays sub t.sub)
   up-stays returns storage sub path =
-      if-ok (λ (t : UpTurn). Stays sub t.sub) (nat_lt path (length sub.setup.paths)) (up_front returns storage sub path (slice_get (queue sub.wires.up path) 0)) _
+      if-ok (λ (t : UpResult). Stays sub t.sub) (nat_lt path (length sub.setup.paths)) (up_front returns storage sub path (slice_get (queue sub.wires.up path) 0)) _
       (front-stays returns storage sub path (slice_get (queue sub.wires.up path) 0)) tt
 
-  apart-stays : (sub : Subchannel) (t : DownTurn) → IsApart sub t → Stays sub t.sub
+  apart-stays : (sub : Subchannel) (t : DownResult) → IsApart sub t → Stays sub t.sub
   apart-stays sub t m k = subst (λ (x : SubchannelState). P x.waiting) (sym m.state) k
 
   -- what befalls all subchannels
@@ -97,16 +97,16 @@ module _ (P : Option Program → Type 0) (none : P None) where
       swept-kept x (λ y. P y.state.waiting) (λ y path up g. g) (λ path g. g)
       (λ wires g. reset-waits P none x.state (is_offered_or_held x.state.hold.phase && has_any x.state.waiting x.state.begun x.state.suspended) g) (λ g. none) what k
 
-  -- at a place
+  -- at an index
   abbrev WaitsAt : List Subchannel → ℕ → Subchannel → Type 0
-  WaitsAt subs place sub = (old : Subchannel) × (slice_get subs place ≡ Some old) × (P old.state.waiting → P sub.state.waiting)
+  WaitsAt subs index sub = (old : Subchannel) × (slice_get subs index ≡ Some old) × (P old.state.waiting → P sub.state.waiting)
 
-  same-at : (s new : State) (place : ℕ) (sub : Subchannel) → new.subs ≡ s.subs → slice_get new.subs place ≡ Some sub → WaitsAt s.subs place sub
-  same-at s new place sub e at = (sub, subst (λ (xs : List Subchannel). slice_get xs place ≡ Some sub) e at, λ k. k)
+  same-at : (s new : State) (index : ℕ) (sub : Subchannel) → new.subs ≡ s.subs → slice_get new.subs index ≡ Some sub → WaitsAt s.subs index sub
+  same-at s new index sub e at = (sub, subst (λ (xs : List Subchannel). slice_get xs index ≡ Some sub) e at, λ k. k)
 
-  set-at : (subs : List Subchannel) (at place : ℕ) (x after sub : Subchannel) → slice_get subs at ≡ Some x → Stays x after → slice_get (slice_set subs at after) place ≡ Some sub → WaitsAt subs place sub
-  set-at subs at place x after sub there stays here =
-      elim (set-get subs at after place sub here) [
+  set-at : (subs : List Subchannel) (at index : ℕ) (x after sub : Subchannel) → slice_get subs at ≡ Some x → Stays x after → slice_get (slice_set subs at after) index ≡ Some sub → WaitsAt subs index sub
+  set-at subs at index x after sub there stays here =
+      elim (set-get subs at after index sub here) [
         | inl p ↦ (
           x,
           subst (λ (i : ℕ). slice_get subs i ≡ Some x) (sym p.0) there,
@@ -115,34 +115,34 @@ module _ (P : Option Program → Type 0) (none : P None) where
         | inr p ↦ (sub, p.1, λ k. k)
       ]
 
-  one-at : (s new : State) (at place : ℕ) (x after sub : Subchannel) → OneSub s new at x after → Stays x after → slice_get new.subs place ≡ Some sub → WaitsAt s.subs place sub
-  one-at s new at place x after sub one stays here =
-      set-at s.subs at place x after sub one.there stays (subst (λ (xs : List Subchannel). slice_get xs place ≡ Some sub) one.subs here)
+  one-at : (s new : State) (at index : ℕ) (x after sub : Subchannel) → OneSub s new at x after → Stays x after → slice_get new.subs index ≡ Some sub → WaitsAt s.subs index sub
+  one-at s new at index x after sub one stays here =
+      set-at s.subs at index x after sub one.there stays (subst (λ (xs : List Subchannel). slice_get xs index ≡ Some sub) one.subs here)
 
-  unit-at : (s new : State) (at place i : ℕ) (x : Subchannel) (t : DownTurn) (u v : UnitState) (sub : Subchannel) → OneUnit s new at x t.sub i u v → IsApart x t →
-      slice_get new.subs place ≡ Some sub → WaitsAt s.subs place sub
-  unit-at s new at place i x t u v sub one m here =
-      set-at s.subs at place x t.sub sub one.there (apart-stays x t m) (subst (λ (xs : List Subchannel). slice_get xs place ≡ Some sub) one.subs here)
+  unit-at : (s new : State) (at index i : ℕ) (x : Subchannel) (t : DownResult) (u v : UnitState) (sub : Subchannel) → OneUnit s new at x t.sub i u v → IsApart x t →
+      slice_get new.subs index ≡ Some sub → WaitsAt s.subs index sub
+  unit-at s new at index i x t u v sub one m here =
+      set-at s.subs at index x t.sub sub one.there (apart-stays x t m) (subst (λ (xs : List Subchannel). slice_get xs index ≡ Some sub) one.subs here)
 
   pub walk-waits : (s : State) (e : Event) (r : Reply) (new : State) → Walked s e r new → ((cpu word address : ℕ) → e ≡ event.Execute cpu (instruction.Ssch word address) → ⊥) →
-      (place : ℕ) (sub : Subchannel) → slice_get new.subs place ≡ Some sub → WaitsAt s.subs place sub
-  walk-waits s _ _ _ (walked.Stays e r new q sets subs units up) not place sub here = same-at s new place sub subs here
-  walk-waits s _ _ _ (walked.Started cpu word address at x orb c new n one) not place sub here = absurd (not cpu word address refl)
-  walk-waits s _ _ _ (walked.Tested e r at x c new q one address by answers) not place sub here = one-at s new at place x _ sub one (test-stays x c) here
-  walk-waits s _ _ _ (walked.Modified e r at x given c new q one) not place sub here = one-at s new at place x _ sub one (modify-stays x given c) here
-  walk-waits s _ _ _ (walked.Performed e r at x f c new q one by answers) not place sub here = one-at s new at place x _ sub one (function-stays x f c) here
-  walk-waits s _ _ _ (walked.Chosen word at x choice t new n y w ok one) not place sub here =
-      one-at s new at place x t.sub sub one
-      (subst (λ (r : Result SubTurn Fault). IfOk r (λ t. Stays (marked_sub x choice) t.sub)) ok (choose-stays (marked_sub x choice) (chosen x choice))) here
-  walk-waits s _ _ _ (walked.Met word path returns at x t new n ok one may) not place sub here =
-      one-at s new at place x t.sub sub one (subst (λ (r : Result UpTurn Fault). IfOk r (λ t. Stays x t.sub)) ok (up-stays returns s.storage x path)) here
-  walk-waits s _ _ _ (walked.Sunk word path may owed at x u t new n ok one) not place sub here =
-      unit-at s new at place _ x t u _ sub one (subst (λ (r : Result DownTurn Fault). IfOk r (IsApart x)) ok (down-apart may x path u)) here
-  walk-waits s _ _ _ (walked.Reported i at x u report t new n reached ok one) not place sub here =
-      unit-at s new at place i x t u _ sub one (subst (λ (r : Result DownTurn Fault). IfOk r (IsApart x)) ok (step-apart x (unit_reports u report))) here
-  walk-waits s _ _ _ (walked.Acted i at x u what t new side its ok one) not place sub here =
-      unit-at s new at place i x t u _ sub one (subst (λ (r : Result DownTurn Fault). IfOk r (IsApart x)) ok (act-apart x u what)) here
-  walk-waits s _ _ _ (walked.Restarted at owed u r new found sets subs units up) not place sub here = same-at s new place sub subs here
-  walk-waits s _ _ _ (walked.Swept e r what new q sets subs units by) not place sub here =
-      let p = map-get (swept what) s.subs place sub (subst (λ (xs : List Subchannel). slice_get xs place ≡ Some sub) subs here) in
+      (index : ℕ) (sub : Subchannel) → slice_get new.subs index ≡ Some sub → WaitsAt s.subs index sub
+  walk-waits s _ _ _ (walked.Stays e r new q sets subs units up) not index sub here = same-at s new index sub subs here
+  walk-waits s _ _ _ (walked.Started cpu word address at x orb c new n one) not index sub here = absurd (not cpu word address refl)
+  walk-waits s _ _ _ (walked.Tested e r at x c new q one address by answers) not index sub here = one-at s new at index x _ sub one (test-stays x c) here
+  walk-waits s _ _ _ (walked.Modified e r at x given c new q one) not index sub here = one-at s new at index x _ sub one (modify-stays x given c) here
+  walk-waits s _ _ _ (walked.Performed e r at x f c new q one by answers) not index sub here = one-at s new at index x _ sub one (function-stays x f c) here
+  walk-waits s _ _ _ (walked.Chosen word at x choice t new n y w ok one) not index sub here =
+      one-at s new at index x t.sub sub one
+      (subst (λ (r : Result SubResult Fault). IfOk r (λ t. Stays (marked_sub x choice) t.sub)) ok (choose-stays (marked_sub x choice) (chosen x choice))) here
+  walk-waits s _ _ _ (walked.Met word path returns at x t new n ok one may) not index sub here =
+      one-at s new at index x t.sub sub one (subst (λ (r : Result UpResult Fault). IfOk r (λ t. Stays x t.sub)) ok (up-stays returns s.storage x path)) here
+  walk-waits s _ _ _ (walked.Sunk word path may owed at x u t new n ok one) not index sub here =
+      unit-at s new at index _ x t u _ sub one (subst (λ (r : Result DownResult Fault). IfOk r (IsApart x)) ok (down-apart may x path u)) here
+  walk-waits s _ _ _ (walked.Reported i at x u report t new n reached ok one) not index sub here =
+      unit-at s new at index i x t u _ sub one (subst (λ (r : Result DownResult Fault). IfOk r (IsApart x)) ok (step-apart x (unit_reports u report))) here
+  walk-waits s _ _ _ (walked.Acted i at x u what t new side its ok one) not index sub here =
+      unit-at s new at index i x t u _ sub one (subst (λ (r : Result DownResult Fault). IfOk r (IsApart x)) ok (act-apart x u what)) here
+  walk-waits s _ _ _ (walked.Restarted at owed u r new found sets subs units up) not index sub here = same-at s new index sub subs here
+  walk-waits s _ _ _ (walked.Swept e r what new q sets subs units by) not index sub here =
+      let p = map-get (swept what) s.subs index sub (subst (λ (xs : List Subchannel). slice_get xs index ≡ Some sub) subs here) in
       (p.0, p.1, λ k. subst (λ (y : Subchannel). P y.state.waiting) p.2 (swept-stays what p.0 k))

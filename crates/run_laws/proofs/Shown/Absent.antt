@@ -21,19 +21,19 @@ use Rattle.machine_model.specs.State.{State, opening_of}
 use Rattle.machine_model.specs.Steps.{Run, Opened, Stepped, Step}
 use Rattle.subchannel_model.specs.Conditions.{condition_of}
 use Rattle.subchannel_model.specs.Opening.{opened}
-use Rattle.subchannel_model.specs.Places.{Found, found_at, first_place, place_in, one_later}
+use Rattle.subchannel_model.specs.Indices.{Found, found_at, first_index, index_in, one_later}
 use Rattle.run_laws.specs.Codes.{code_in, IsThree, AreThree}
 use Rattle.run_laws.specs.Shown.{names}
 use Rattle.step_laws.proofs.Executed.{IsDone}
 use Rattle.run_laws.proofs.Shown.Executed.{IsExecuted, executed}
 use Rattle.run_laws.proofs.Machine.Names.{same-id}
-use Rattle.run_laws.proofs.Shown.Runs.{AreLaws, IsPassed, passed, place-by, sets-stay}
+use Rattle.run_laws.proofs.Shown.Runs.{AreLaws, IsPassed, passed, index-by, sets-stay}
 
-none-first : (test : SubchannelSetup → Bool) (xs : List SubchannelSetup) → list_any test xs ≡ false → first_place test xs ≡ None
+none-first : (test : SubchannelSetup → Bool) (xs : List SubchannelSetup) → list_any test xs ≡ false → first_index test xs ≡ None
 none-first test [] e = refl
 none-first test (x ∷ xs) e = by (test x) (list_any test xs) e (none-first test xs)
   where
-    by : (b c : Bool) → (b || c) ≡ false → (c ≡ false → first_place test xs ≡ None) → (if b then Some 0 else one_later (first_place test xs)) ≡ None
+    by : (b c : Bool) → (b || c) ≡ false → (c ≡ false → first_index test xs ≡ None) → (if b then Some 0 else one_later (first_index test xs)) ≡ None
     by true c h f = absurd (cc h)
     by false c h f = ap one_later (f h)
 
@@ -58,12 +58,12 @@ step-three laws setup h s (event.Execute cpu i) r new run step = λ id named not
     let k : IsExecuted s i r new = executed s cpu i r new step in
     let mine : names s.sets id (subchannel_word i) ≡ true = ap (λ (n : ℕ). names n id (subchannel_word i)) (sets-stay laws setup h s run) ∙ named in
     let same : k.id ≡ id = same-id k.id id (subst (λ (x : Option SubchannelId). is_id x id ≡ true) k.named mine) in
-    let none : place_in id s.subs ≡ None =
-    place-by id s.subs
-    ∙ ap (λ (xs : List SubchannelSetup). first_place (λ (x : SubchannelSetup). (x.id.set == id.set) && (x.id.number == id.number)) xs) (setups-stay laws setup h s run)
+    let none : index_in id s.subs ≡ None =
+    index-by id s.subs
+    ∙ ap (λ (xs : List SubchannelSetup). first_index (λ (x : SubchannelSetup). (x.id.set == id.set) && (x.id.number == id.number)) xs) (setups-stay laws setup h s run)
     ∙ none-first (λ (x : SubchannelSetup). (x.id.set == id.set) && (x.id.number == id.number)) setup.subchannels not in
-    done-three s i r new (found_at s.subs (place_in k.id s.subs))
-    (ap (λ (x : SubchannelId). found_at s.subs (place_in x s.subs)) same ∙ ap (found_at s.subs) none) k.done
+    done-three s i r new (found_at s.subs (index_in k.id s.subs))
+    (ap (λ (x : SubchannelId). found_at s.subs (index_in x s.subs)) same ∙ ap (found_at s.subs) none) k.done
 step-three laws setup h s e r new run step = tt
 
 pub run-three : AreLaws → (setup : Setup) (h : List Entry) (s : State) → Run (opening_of setup) h s → AreThree setup h

@@ -15,16 +15,16 @@ use Rattle.chan_model.specs.declared.hold_state.HoldPhase.TheVariants as hold
 use Rattle.chan_model.specs.declared.hold_state.HoldState.{HoldState}
 use Rattle.chan_model.specs.Signals.{Load, Up, load_bytes}
 use Rattle.chan_model.specs.declared.signal.Up.TheVariants as up
-use Rattle.chan_model.specs.HoldTable.{HoldStep, hold_takes, hold_after, came_of, program_begun, is_connected, is_on}
+use Rattle.chan_model.specs.HoldTable.{HoldStep, hold_takes, hold_after, outcome_of, program_begun, is_connected, is_on}
 use Rattle.chan_model.specs.Loads.{load_length}
 use Rattle.chan_model.specs.ResetCauses.{rests_on}
 use Rattle.chan_model.specs.UnitReports.{is_last_end, is_outward, has_device_end}
 use Rattle.channel_config.specs.declared.names.SubchannelId.{SubchannelId}
-use Rattle.ccw_walk.specs.Places.{WalkPlace}
+use Rattle.ccw_walk.specs.Positions.{WalkPosition}
 use Rattle.data_move.specs.Moving.{residual}
 use Rattle.storage_keys.specs.Storage.{Contents}
 use Rattle.data_move.specs.declared.transfer.CommandStart.{CommandStart}
-use Rattle.data_move.specs.declared.transfer.CommandStart.TheVariants as came
+use Rattle.data_move.specs.declared.transfer.CommandStart.TheVariants as outcome
 use Rattle.data_move.specs.declared.transfer.Transfer.{Transfer}
 use Rattle.data_move.specs.Commands.{first_command, next_command, begun_with_room, with_room}
 use Rattle.data_move.specs.ToDevice.{chunk_absorbed, next_chunk}
@@ -139,20 +139,20 @@ module _ (s : SubchannelState) where
       same
 
   -- End
-  chaining-keeps : (storage : Contents) (b : ActiveProgram) (signal : EndSignal) (walk : WalkPlace) (c : CommandStart) → is_some s.begun ≡ true →
+  chaining-keeps : (storage : Contents) (b : ActiveProgram) (signal : EndSignal) (walk : WalkPosition) (c : CommandStart) → is_some s.begun ≡ true →
       Keeps s (next_ccw_outcome storage s b signal walk c).state
-  chaining-keeps storage b signal walk (came.Begins transfer) i = moving-keeps b (begun_with_room storage transfer).transfer i
-  chaining-keeps storage b signal walk came.Suspends i =
+  chaining-keeps storage b signal walk (outcome.Begins transfer) i = moving-keeps b (begun_with_room storage transfer).transfer i
+  chaining-keeps storage b signal walk outcome.Suspends i =
       let x : SubchannelState = with_suspended_program (with_allegiance_after_end s signal) b.program walk (residual b.transfer.moving) in
       if-keeps b.program.orb.suppress_suspended (record x { scsw = suspended_alone s.scsw }) (with_cause x (cause.Suspension walk.tried (residual b.transfer.moving)))
       (λ e. absurd (cc e)) (λ e. absurd (cc e))
-  chaining-keeps storage b signal walk (came.Stops check) i = λ e. absurd (fault-none (with_allegiance_after_end s signal) s.begun refl e)
+  chaining-keeps storage b signal walk (outcome.Stops check) i = λ e. absurd (fault-none (with_allegiance_after_end s signal) s.begun refl e)
 
   goes-keeps : (storage : Contents) (b : ActiveProgram) (signal : EndSignal) → is_some s.begun ≡ true → Keeps s (chains_at_device_end storage s b signal).state
   goes-keeps storage b signal i =
       let next = next_command storage b.transfer (has_status_modifier signal.status) in
-      if-step (has_device_end signal.status) (next_ccw_outcome storage s b signal next.walk next.came) (signal_taken (record (with_allegiance_after_end s signal) { begun = Some b }))
-      (chaining-keeps storage b signal next.walk next.came i) (λ e. (i, refl))
+      if-step (has_device_end signal.status) (next_ccw_outcome storage s b signal next.walk next.outcome) (signal_taken (record (with_allegiance_after_end s signal) { begun = Some b }))
+      (chaining-keeps storage b signal next.walk next.outcome i) (λ e. (i, refl))
 
   stops-keeps : (b : ActiveProgram) (signal : EndSignal) → s.begun ≡ Some b → Keeps s (concludes s b signal).state
   stops-keeps b signal i =
@@ -187,16 +187,16 @@ module _ (s : SubchannelState) where
       by None i c =
           let y : Option HoldStep = hold_takes s.hold p (up.Attn a status) (may_take_attention s) in
           let next : SubchannelState = record s { hold = hold_after s.hold y } in
-          if-keeps ((came_of y).taken && not (status.0 == 0x20)) (with_cause next cause.Attention) next
+          if-keeps ((outcome_of y).taken && not (status.0 == 0x20)) (with_cause next cause.Attention) next
           (λ e. absurd (none-some s.begun i e)) (λ e. absurd (none-some s.begun i e))
       by (Some b) i (Ignored taken e) = λ f. (ap (λ (o : Option ActiveProgram). is_some o) i, ap (λ (k : Seen). k.waiting) e)
       by (Some b) i (Taken n taken effect due) =
           absurd (cc (sym (t.begun b i).0 ∙ (open-none s.scsw.status.pending s.scsw.activity due.0).0))
 
 -- Accept
-beginning-alone : (storage : Contents) (s : SubchannelState) (p t : ℕ) (st : ProgramPosition) (walk : WalkPlace) (c : CommandStart) → s.begun ≡ None →
-    ((first_ccw_outcome storage s p t st walk c).came.taken ≡ true) × Alone (first_ccw_outcome storage s p t st walk c).state
-beginning-alone storage s p t st walk (came.Begins transfer) none = (refl, by (begun_with_room storage transfer).transfer.pci_pending)
+beginning-alone : (storage : Contents) (s : SubchannelState) (p t : ℕ) (st : ProgramPosition) (walk : WalkPosition) (c : CommandStart) → s.begun ≡ None →
+    ((first_ccw_outcome storage s p t st walk c).outcome.taken ≡ true) × Alone (first_ccw_outcome storage s p t st walk c).state
+beginning-alone storage s p t st walk (outcome.Begins transfer) none = (refl, by (begun_with_room storage transfer).transfer.pci_pending)
   where
     by : (b : Bool) →
         Alone (if b then with_cause (record (with_program_at_work s st.program (begun_with_room storage transfer).transfer)
@@ -205,26 +205,26 @@ beginning-alone storage s p t st walk (came.Begins transfer) none = (refl, by (b
         else with_program_at_work s st.program (begun_with_room storage transfer).transfer)
     by true = λ e. refl
     by false = λ e. refl
-beginning-alone storage s p t st walk came.Suspends none = (refl, by st.program.orb.suppress_suspended)
+beginning-alone storage s p t st walk outcome.Suspends none = (refl, by st.program.orb.suppress_suspended)
   where
     by : (b : Bool) →
         Alone (if b then record (with_suspended_program s st.program walk st.count) { scsw = suspended_alone s.scsw }
         else with_cause (with_suspended_program s st.program walk st.count) (cause.Suspension walk.tried st.count))
     by true = λ e. absurd (cc e)
     by false = λ e. absurd (cc e)
-beginning-alone storage s p t st walk (came.Stops check) none = (refl, λ e. absurd (fault-none s s.begun refl e))
+beginning-alone storage s p t st walk (outcome.Stops check) none = (refl, λ e. absurd (fault-none s s.begun refl e))
 
 begin-alone : (storage : Contents) (s : SubchannelState) (p t : ℕ) (o : Option ProgramPosition) → s.begun ≡ None →
-    ((begins_at storage s p t o).came.taken ≡ true) × Alone (begins_at storage s p t o).state
+    ((begins_at storage s p t o).outcome.taken ≡ true) × Alone (begins_at storage s p t o).state
 begin-alone storage s p t None none = (refl, λ e. absurd (none-some s.begun none e))
-begin-alone storage s p t (Some st) none = let first = first_command storage st.walk in beginning-alone storage s p t st first.walk first.came none
+begin-alone storage s p t (Some st) none = let first = first_command storage st.walk in beginning-alone storage s p t st first.walk first.outcome none
 
 abbrev AcceptBehind : Bool → ℕ → UpStep → Type 0
-AcceptBehind behind u step = IsBehind (behind_met (reply.Up (up.Accept u) step.came.taken step.came.sent) behind) step.state
+AcceptBehind behind u step = IsBehind (behind_met (reply.Up (up.Accept u) step.outcome.taken step.outcome.sent) behind) step.state
 
-alone-behind : (behind : Bool) (u : ℕ) (step : UpStep) → step.came.taken ≡ true → Alone step.state → AcceptBehind behind u step
+alone-behind : (behind : Bool) (u : ℕ) (step : UpStep) → step.outcome.taken ≡ true → Alone step.state → AcceptBehind behind u step
 alone-behind behind u step taken alone =
-    subst (λ (b : Bool). IsBehind (behind_met (reply.Up (up.Accept u) b step.came.sent) behind) step.state) (sym taken)
+    subst (λ (b : Bool). IsBehind (behind_met (reply.Up (up.Accept u) b step.outcome.sent) behind) step.state) (sym taken)
     (λ e. ap (λ (o : Option Program). is_none o) (alone e))
 
 module _ (storage : Contents) (behind : Bool) where
@@ -373,7 +373,7 @@ turned-behind sets id _ _ _ _ behind k (Rests e r sub about) j =
     subst (λ (b : Bool). IsBehind b sub.state) (sym (rests-same (is_about sets id e) e r behind about)) j
 
 -- an End that is taken is of a program at work
-end-begun : (storage : Contents) (s : SubchannelState) (signal : EndSignal) (on : Bool) (o : Option ActiveProgram) → (if on then ends_at_work storage s o signal else signal_ignored s).came.taken ≡ true → is_some o ≡ true
+end-begun : (storage : Contents) (s : SubchannelState) (signal : EndSignal) (on : Bool) (o : Option ActiveProgram) → (if on then ends_at_work storage s o signal else signal_ignored s).outcome.taken ≡ true → is_some o ≡ true
 end-begun storage s signal true None e = absurd (cc e)
 end-begun storage s signal true (Some b) e = refl
 end-begun storage s signal false o e = absurd (cc e)
@@ -385,9 +385,9 @@ IsEnd e r = ⊥
 met-begun : (returns : Bool) (storage : Contents) (sub : Subchannel) (path word : ℕ) (x : Up) → IsEnd (event.Up word path) (reply_met x (met returns storage sub path x)) → is_some sub.state.begun ≡ true
 met-begun returns storage sub path word (up.End t n status more) i =
     let signal : EndSignal = record { path = path; number = t; command = n; status = status; more = more } in
-    end-begun storage sub.state signal (is_on sub.state.hold.phase t) sub.state.begun (taken (met returns storage sub path (up.End t n status more)).step.came.taken i)
+    end-begun storage sub.state signal (is_on sub.state.hold.phase t) sub.state.begun (taken (met returns storage sub path (up.End t n status more)).step.outcome.taken i)
   where
-    taken : (b : Bool) → IsEnd (event.Up word path) (reply.Up (up.End t n status more) b (met returns storage sub path (up.End t n status more)).step.came.sent) → b ≡ true
+    taken : (b : Bool) → IsEnd (event.Up word path) (reply.Up (up.End t n status more) b (met returns storage sub path (up.End t n status more)).step.outcome.sent) → b ≡ true
     taken true j = refl
     taken false j = absurd j
 met-begun returns storage sub path word (up.Accept t) i = absurd i

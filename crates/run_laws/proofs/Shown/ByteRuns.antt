@@ -91,6 +91,6 @@ module _ (sets : ℕ) (id : SubchannelId) where
 pub run-bytes : AreLaws → (setup : Setup) (h : List Entry) (s : State) → Run (opening_of setup) h s → AreBytesRight (set_count setup) h
 run-bytes laws setup h s run id =
     run-between laws setup id (λ before old e r new. old.serials.made < new.serials.made → IsBrought e r old.scsw new.scsw)
-    (λ before old e r place sub after before-run named there turned.
-    turned-right (set_count setup) id e r sub after (run-fits laws setup id before old before-run place sub named there)
-    (run-stands laws setup id before old before-run place sub named there) turned) h s run
+    (λ before old e r index sub after before-run named there turned.
+    turned-right (set_count setup) id e r sub after (run-fits laws setup id before old before-run index sub named there)
+    (run-stands laws setup id before old before-run index sub named there) turned) h s run

@@ -13,17 +13,17 @@ use Rattle.chan_model.specs.declared.hold_state.HoldState.{HoldState}
 use Rattle.chan_model.specs.Signals.{Down, Load, Up, load_bytes}
 use Rattle.chan_model.specs.declared.signal.OnPath.{OnPath}
 use Rattle.chan_model.specs.declared.signal.Up.TheVariants as up
-use Rattle.chan_model.specs.HoldTable.{HoldStep, program_begun, offer_accepted, hold_takes, came_of, is_connected, is_on, letting_go}
+use Rattle.chan_model.specs.HoldTable.{HoldStep, program_begun, offer_accepted, hold_takes, outcome_of, is_connected, is_on, letting_go}
 use Rattle.chan_model.specs.Loads.{load_length}
 use Rattle.chan_model.specs.ResetCauses.{rests_on}
 use Rattle.chan_model.specs.UnitReports.{is_last_end, is_outward, has_device_end}
 use Rattle.ccw_walk.specs.declared.check.Check.{Check}
 use Rattle.ccw_walk.specs.declared.check.Check.TheVariants.{Program as ProgramCheck, Protection}
-use Rattle.ccw_walk.specs.Places.{WalkPlace}
+use Rattle.ccw_walk.specs.Positions.{WalkPosition}
 use Rattle.data_move.specs.Moving.{residual}
 use Rattle.data_move.specs.declared.transfer.Beginning.{Beginning}
 use Rattle.data_move.specs.declared.transfer.CommandStart.{CommandStart}
-use Rattle.data_move.specs.declared.transfer.CommandStart.TheVariants as came
+use Rattle.data_move.specs.declared.transfer.CommandStart.TheVariants as outcome
 use Rattle.data_move.specs.ToDevice.{chunk_absorbed, next_chunk}
 use Rattle.data_move.specs.FromDevice.{chunk_stored}
 use Rattle.data_move.specs.ChunkNumbers.{is_answered}
@@ -65,7 +65,7 @@ Brought P s y = (y.serials.made ≡ s.serials.made) ⊎ P y.scsw
 
 -- the same of a signal, with what is sent in answer
 abbrev BroughtBy : (Option (OnPath Down) → Scsw → Type 0) → SubchannelState → UpStep → Type 0
-BroughtBy P s step = (step.state.serials.made ≡ s.serials.made) ⊎ P step.came.sent step.state.scsw
+BroughtBy P s step = (step.state.serials.made ≡ s.serials.made) ⊎ P step.outcome.sent step.state.scsw
 
 pub brought-if : (P Q : Scsw → Type 0) (s y : SubchannelState) → ((x : Scsw) → P x → Q x) → Brought P s y → Brought Q s y
 brought-if P Q s y f c = elim c [ inl k ↦ inl k | inr k ↦ inr (f y.scsw k) ]
@@ -118,7 +118,7 @@ interrupted-brought s (Some b) =
 abbrev IsSuspended : Scsw → Scsw → Type 0
 IsSuspended old x = Brings old x 0 0 × (x.activity.suspended ≡ true)
 
-suspending-brought : (s : SubchannelState) (program : Program) (walk : WalkPlace) (count : ℕ) → Brought (IsSuspended s.scsw) s (program_suspended s program walk count)
+suspending-brought : (s : SubchannelState) (program : Program) (walk : WalkPosition) (count : ℕ) → Brought (IsSuspended s.scsw) s (program_suspended s program walk count)
 suspending-brought s program walk count =
     let x : SubchannelState = with_suspended_program s program walk count in
     let c : StatusCause = cause.Suspension walk.tried count in
@@ -137,7 +137,7 @@ fault-brought s tried ProgramCheck count = elim (cause-brought s (cause.FetchFau
 fault-brought s tried Protection count = elim (cause-brought s (cause.FetchFault tried Protection count)) [ inl k ↦ inl k | inr k ↦ inr (inr k) ]
 
 -- what lets the device go sends no command
-not-command : (h : HoldState) (phase : HoldPhase) → is_command (came_of (letting_go h phase)).sent ≡ false
+not-command : (h : HoldState) (phase : HoldPhase) → is_command (outcome_of (letting_go h phase)).sent ≡ false
 not-command h hold.Free = refl
 not-command h other = refl
 
@@ -161,19 +161,19 @@ stop-checked old x k = inr k
 abbrev Stopped : SubchannelState → Option (OnPath Down) → Scsw → Type 0
 Stopped s sent x = Answered s (BringsStop s.scsw) sent x
 
-beginning-brought : (storage : Contents) (s : SubchannelState) (p t : ℕ) (st : ProgramPosition) (walk : WalkPlace) (r : CommandStart) → BroughtBy (Stopped s) s (first_ccw_outcome storage s p t st walk r)
-beginning-brought storage s p t st walk (came.Begins transfer) =
+beginning-brought : (storage : Contents) (s : SubchannelState) (p t : ℕ) (st : ProgramPosition) (walk : WalkPosition) (r : CommandStart) → BroughtBy (Stopped s) s (first_ccw_outcome storage s p t st walk r)
+beginning-brought storage s p t st walk (outcome.Begins transfer) =
     let next : SubchannelState = with_program_at_work s st.program (begun_with_room storage transfer).transfer in interrupted-brought next next.begun
-beginning-brought storage s p t st walk came.Suspends =
+beginning-brought storage s p t st walk outcome.Suspends =
     let y : SubchannelState = program_suspended s st.program walk st.count in
     let-brought s y (BringsStop s.scsw) (brought-if (IsSuspended s.scsw) (BringsStop s.scsw) s y (stop-suspended s.scsw) (suspending-brought s st.program walk st.count))
-beginning-brought storage s p t st walk (came.Stops check) =
+beginning-brought storage s p t st walk (outcome.Stops check) =
     let y : SubchannelState = with_cause s (cause.FetchFault walk.tried check st.count) in
     let-brought s y (BringsStop s.scsw) (brought-if (IsChecked s.scsw) (BringsStop s.scsw) s y (stop-checked s.scsw) (fault-brought s walk.tried check st.count))
 
 standing-brought : (storage : Contents) (s : SubchannelState) (p t : ℕ) (o : Option ProgramPosition) → BroughtBy (Stopped s) s (begins_at storage s p t o)
 standing-brought storage s p t None = inl refl
-standing-brought storage s p t (Some st) = beginning-brought storage s p t st (first_command storage st.walk).walk (first_command storage st.walk).came
+standing-brought storage s p t (Some st) = beginning-brought storage s p t st (first_command storage st.walk).walk (first_command storage st.walk).outcome
 
 abbrev phased : SubchannelState → HoldState → HoldPhase → SubchannelState
 phased s h phase = record s { hold = record h { phase = phase } }
@@ -220,14 +220,14 @@ end-suspended s status x k = inr (inl k)
 end-checked : (s : SubchannelState) (status : DeviceStatus) (x : Scsw) → IsChecked s.scsw x → IsEnded s status x
 end-checked s status x k = inr (inr k)
 
-chaining-brought : (storage : Contents) (s : SubchannelState) (b : ActiveProgram) (x : EndSignal) (walk : WalkPlace) (r : CommandStart) → BroughtBy (Ended s x.status) s (next_ccw_outcome storage s b x walk r)
-chaining-brought storage s b x walk (came.Begins transfer) =
+chaining-brought : (storage : Contents) (s : SubchannelState) (b : ActiveProgram) (x : EndSignal) (walk : WalkPosition) (r : CommandStart) → BroughtBy (Ended s x.status) s (next_ccw_outcome storage s b x walk r)
+chaining-brought storage s b x walk (outcome.Begins transfer) =
     let next : SubchannelState = with_transfer s b (begun_with_room storage transfer).transfer in interrupted-brought next next.begun
-chaining-brought storage s b x walk came.Suspends =
+chaining-brought storage s b x walk outcome.Suspends =
     let y : SubchannelState = program_suspended (with_allegiance_after_end s x) b.program walk (residual b.transfer.moving) in
     let-brought s y (IsEnded s x.status)
     (brought-if (IsSuspended s.scsw) (IsEnded s x.status) s y (end-suspended s x.status) (suspending-brought (with_allegiance_after_end s x) b.program walk (residual b.transfer.moving)))
-chaining-brought storage s b x walk (came.Stops check) =
+chaining-brought storage s b x walk (outcome.Stops check) =
     let y : SubchannelState = with_cause (with_allegiance_after_end s x) (cause.FetchFault walk.tried check (residual b.transfer.moving)) in
     let-brought s y (IsEnded s x.status)
     (brought-if (IsChecked s.scsw) (IsEnded s x.status) s y (end-checked s x.status) (fault-brought (with_allegiance_after_end s x) walk.tried check (residual b.transfer.moving)))
@@ -235,7 +235,7 @@ chaining-brought storage s b x walk (came.Stops check) =
 goes-brought : (storage : Contents) (s : SubchannelState) (b : ActiveProgram) (x : EndSignal) → BroughtBy (Ended s x.status) s (chains_at_device_end storage s b x)
 goes-brought storage s b x =
     let next : Beginning = next_command storage b.transfer (has_status_modifier x.status) in
-    if-step (Ended s x.status) s (has_device_end x.status) (chains_with storage s b x next) _ (chaining-brought storage s b x next.walk next.came) (inl refl)
+    if-step (Ended s x.status) s (has_device_end x.status) (chains_with storage s b x next) _ (chaining-brought storage s b x next.walk next.outcome) (inl refl)
 
 -- what an End after which nothing is chained shows
 end-bytes : (scsw : Scsw) (b : ActiveProgram) (w : Option Program) (status : DeviceStatus) (more last : Bool) →
@@ -328,4 +328,4 @@ takes-brought returns storage s p (up.Cleared r) = cleared-brought s (hold_takes
 takes-brought returns storage s p (up.Notice b) = notice-brought s b (nat_lt s.hold.known b)
 takes-brought returns storage s p (up.Attn a status) =
     let step : Option HoldStep = hold_takes s.hold p (up.Attn a status) (may_take_attention s) in
-    attention-brought (hold_outcome s step).state ((came_of step).taken && not (status.0 == 0x20))
+    attention-brought (hold_outcome s step).state ((outcome_of step).taken && not (status.0 == 0x20))

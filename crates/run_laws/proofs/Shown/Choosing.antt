@@ -25,7 +25,7 @@ use Rattle.run_laws.proofs.Shown.Effects.{seen}
 use Rattle.run_laws.proofs.Shown.Fitting.{Fits, run-fits}
 use Rattle.run_laws.proofs.Shown.Standing.{Stands}
 use Rattle.run_laws.proofs.Shown.StandingRuns.{run-stands}
-use Rattle.step_laws.proofs.Places.{both-true}
+use Rattle.step_laws.proofs.Indices.{both-true}
 use Rattle.run_laws.proofs.Shown.Runs.{AreLaws, status_of, run-between}
 use Rattle.run_laws.proofs.Shown.Turned.{Turned, Chooses, Sweeps, Rests, reply_chosen, state_chosen}
 
@@ -99,6 +99,6 @@ module _ (sets : ℕ) (id : SubchannelId) where
 pub run-choices : AreLaws → (setup : Setup) (h : List Entry) (s : State) → Run (opening_of setup) h s → AreChoicesRight (set_count setup) h
 run-choices laws setup h s run id =
     run-between laws setup id (λ before old e r new. IsChoiceRight (set_count setup) id old e r new)
-    (λ before old e r place sub after before-run named there turned.
-    turned-right (set_count setup) id e r sub after (run-fits laws setup id before old before-run place sub named there)
-    (run-stands laws setup id before old before-run place sub named there) turned) h s run
+    (λ before old e r index sub after before-run named there turned.
+    turned-right (set_count setup) id e r sub after (run-fits laws setup id before old before-run index sub named there)
+    (run-stands laws setup id before old before-run index sub named there) turned) h s run

@@ -9,20 +9,20 @@ use Rattle.scsw_irb.specs.declared.serials.Serials.{Serials}
 use Rattle.scsw_irb.specs.declared.status.DeviceStatus.{DeviceStatus}
 use Rattle.scsw_irb.specs.Empty.{no_status}
 use Rattle.storage_keys.specs.Storage.{Contents}
-use Rattle.ccw_walk.specs.Places.{WalkPlace}
+use Rattle.ccw_walk.specs.Positions.{WalkPosition}
 use Rattle.chan_model.specs.declared.hold_state.HoldPhase.{HoldPhase}
 use Rattle.chan_model.specs.declared.hold_state.HoldPhase.TheVariants as hold
 use Rattle.chan_model.specs.declared.hold_state.HoldState.{HoldState}
 use Rattle.chan_model.specs.Signals.{Load, Up, load_bytes}
 use Rattle.chan_model.specs.declared.signal.Up.TheVariants as up
-use Rattle.chan_model.specs.HoldTable.{HoldStep, program_begun, offer_accepted, attended, hold_takes, came_of, is_connected, is_on}
+use Rattle.chan_model.specs.HoldTable.{HoldStep, program_begun, offer_accepted, attended, hold_takes, outcome_of, is_connected, is_on}
 use Rattle.chan_model.specs.Loads.{load_length}
 use Rattle.chan_model.specs.ResetCauses.{rests_on}
 use Rattle.chan_model.specs.UnitReports.{is_last_end, is_outward, has_device_end}
 use Rattle.data_move.specs.Moving.{residual}
 use Rattle.data_move.specs.declared.transfer.Beginning.{Beginning}
 use Rattle.data_move.specs.declared.transfer.CommandStart.{CommandStart}
-use Rattle.data_move.specs.declared.transfer.CommandStart.TheVariants as came
+use Rattle.data_move.specs.declared.transfer.CommandStart.TheVariants as outcome
 use Rattle.data_move.specs.Commands.{first_command, next_command, begun_with_room, with_room}
 use Rattle.data_move.specs.ToDevice.{chunk_absorbed, next_chunk}
 use Rattle.data_move.specs.FromDevice.{chunk_stored}
@@ -114,7 +114,7 @@ interrupted-stays s (Some b) =
     let c : StatusCause = cause.Pci b.transfer.walk.tried (residual b.transfer.moving) in
     if-coded (λ d. d ≡ s.scsw.deferred) s b.transfer.pci_pending (with_cause x c) s (cause-coded x c) (inl (refl, refl))
 
-suspending-stays : (s : SubchannelState) (program : Program) (walk : WalkPlace) (count : ℕ) → Stays s (program_suspended s program walk count)
+suspending-stays : (s : SubchannelState) (program : Program) (walk : WalkPosition) (count : ℕ) → Stays s (program_suspended s program walk count)
 suspending-stays s program walk count =
     let x : SubchannelState = with_suspended_program s program walk count in
     let c : StatusCause = cause.Suspension walk.tried count in
@@ -150,15 +150,15 @@ if-met P s true y z k l = k
 if-met P s false y z k l = l
 
 -- Accept
-beginning-stays : (storage : Contents) (s : SubchannelState) (p t : ℕ) (st : ProgramPosition) (walk : WalkPlace) (r : CommandStart) → Stays s (first_ccw_outcome storage s p t st walk r).state
-beginning-stays storage s p t st walk (came.Begins transfer) =
+beginning-stays : (storage : Contents) (s : SubchannelState) (p t : ℕ) (st : ProgramPosition) (walk : WalkPosition) (r : CommandStart) → Stays s (first_ccw_outcome storage s p t st walk r).state
+beginning-stays storage s p t st walk (outcome.Begins transfer) =
     let next : SubchannelState = with_program_at_work s st.program (begun_with_room storage transfer).transfer in interrupted-stays next next.begun
-beginning-stays storage s p t st walk came.Suspends = suspending-stays s st.program walk st.count
-beginning-stays storage s p t st walk (came.Stops check) = cause-coded s (cause.FetchFault walk.tried check st.count)
+beginning-stays storage s p t st walk outcome.Suspends = suspending-stays s st.program walk st.count
+beginning-stays storage s p t st walk (outcome.Stops check) = cause-coded s (cause.FetchFault walk.tried check st.count)
 
 standing-stays : (storage : Contents) (s : SubchannelState) (p t : ℕ) (o : Option ProgramPosition) → Stays s (begins_at storage s p t o).state
 standing-stays storage s p t None = inl (refl, refl)
-standing-stays storage s p t (Some st) = beginning-stays storage s p t st (first_command storage st.walk).walk (first_command storage st.walk).came
+standing-stays storage s p t (Some st) = beginning-stays storage s p t st (first_command storage st.walk).walk (first_command storage st.walk).outcome
 
 abbrev phased : SubchannelState → HoldState → HoldPhase → SubchannelState
 phased s h phase = record s { hold = record h { phase = phase } }
@@ -198,16 +198,16 @@ stay-end : (last : Bool) (old : Scsw) (d : DeferredCode) → old.activity.start_
 stay-end true old d e f = stay-last old.activity.start_pending old.deferred d e f
 stay-end false old d e f = f
 
-chaining-stays : (storage : Contents) (s : SubchannelState) (b : ActiveProgram) (x : EndSignal) (walk : WalkPlace) (r : CommandStart) → Stays s (next_ccw_outcome storage s b x walk r).state
-chaining-stays storage s b x walk (came.Begins transfer) =
+chaining-stays : (storage : Contents) (s : SubchannelState) (b : ActiveProgram) (x : EndSignal) (walk : WalkPosition) (r : CommandStart) → Stays s (next_ccw_outcome storage s b x walk r).state
+chaining-stays storage s b x walk (outcome.Begins transfer) =
     let next : SubchannelState = with_transfer s b (begun_with_room storage transfer).transfer in interrupted-stays next next.begun
-chaining-stays storage s b x walk came.Suspends = suspending-stays (with_allegiance_after_end s x) b.program walk (residual b.transfer.moving)
-chaining-stays storage s b x walk (came.Stops check) = cause-coded (with_allegiance_after_end s x) (cause.FetchFault walk.tried check (residual b.transfer.moving))
+chaining-stays storage s b x walk outcome.Suspends = suspending-stays (with_allegiance_after_end s x) b.program walk (residual b.transfer.moving)
+chaining-stays storage s b x walk (outcome.Stops check) = cause-coded (with_allegiance_after_end s x) (cause.FetchFault walk.tried check (residual b.transfer.moving))
 
 goes-stays : (storage : Contents) (s : SubchannelState) (b : ActiveProgram) (x : EndSignal) → Stays s (chains_at_device_end storage s b x).state
 goes-stays storage s b x =
     let next : Beginning = next_command storage b.transfer (has_status_modifier x.status) in
-    if-step (λ d. d ≡ s.scsw.deferred) s (has_device_end x.status) (chains_with storage s b x next) _ (chaining-stays storage s b x next.walk next.came) (inl (refl, refl))
+    if-step (λ d. d ≡ s.scsw.deferred) s (has_device_end x.status) (chains_with storage s b x next) _ (chaining-stays storage s b x next.walk next.outcome) (inl (refl, refl))
 
 none-code : (pending : Bool) (old : DeferredCode) → (pending ≡ true → false ≡ true) → IsLastEndCode pending old old
 none-code true old f = absurd (cc (f refl))
@@ -263,7 +263,7 @@ notice-stays : (s : SubchannelState) (b : ℕ) (more : Bool) → Stays s (if mor
 notice-stays s b true = reset_for-stays (with_known s b)
 notice-stays s b false = inl (refl, refl)
 
-attended-may : (h : HoldState) (phase : HoldPhase) (p a : ℕ) (may : Bool) → (came_of (attended h phase p a may)).taken ≡ true → may ≡ true
+attended-may : (h : HoldState) (phase : HoldPhase) (p a : ℕ) (may : Bool) → (outcome_of (attended h phase p a may)).taken ≡ true → may ≡ true
 attended-may h hold.Free p a true e = refl
 attended-may h hold.Free p a false e = absurd (cc e)
 attended-may h other p a may e = absurd (cc e)
@@ -302,8 +302,8 @@ takes-coded returns storage s p (up.Cleared r) fits stands = cleared-coded s (ho
 takes-coded returns storage s p (up.Notice b) fits stands = notice-stays s b (nat_lt s.hold.known b)
 takes-coded returns storage s p (up.Attn a status) fits stands =
     let step : Option HoldStep = hold_takes s.hold p (up.Attn a status) (may_take_attention s) in
-    let shows : Bool = (came_of step).taken && not (status.0 == 0x20) in
+    let shows : Bool = (outcome_of step).taken && not (status.0 == 0x20) in
     attention-coded (hold_outcome s step).state shows
     (record { clears = fits.clears; starts = fits.starts })
     (record { begun = stands.begun; chains = stands.chains; waiting = stands.waiting; alone = stands.alone; suspended = stands.suspended; clears = stands.clears })
-    (λ e. attended-may s.hold s.hold.phase p a (may_take_attention s) (and_parts (came_of step).taken (not (status.0 == 0x20)) e).0)
+    (λ e. attended-may s.hold s.hold.phase p a (may_take_attention s) (and_parts (outcome_of step).taken (not (status.0 == 0x20)) e).0)

@@ -236,6 +236,6 @@ module _ (sets : ℕ) (id : SubchannelId) where
 pub run-deferred : AreLaws → (setup : Setup) (h : List Entry) (s : State) → Run (opening_of setup) h s → AreDeferredRight (set_count setup) h
 run-deferred laws setup h s run id =
     run-between laws setup id (λ before old e r new. IsDeferredRight (set_count setup) id old e r new)
-    (λ before old e r place sub after before-run named there turned.
-    turned-right (set_count setup) id e r sub after (run-fits laws setup id before old before-run place sub named there)
-    (run-stands laws setup id before old before-run place sub named there) turned) h s run
+    (λ before old e r index sub after before-run named there turned.
+    turned-right (set_count setup) id e r sub after (run-fits laws setup id before old before-run index sub named there)
+    (run-stands laws setup id before old before-run index sub named there) turned) h s run

@@ -7,7 +7,7 @@ use Rattle.scsw_irb.specs.declared.scsw.FunctionControl.{FunctionControl}
 use Rattle.scsw_irb.specs.declared.scsw.Scsw.{Scsw}
 use Rattle.scsw_irb.specs.declared.serials.Serials.{Serials}
 use Rattle.chan_model.specs.UnitReports.{is_last_end}
-use Rattle.ccw_walk.specs.Places.{WalkPlace}
+use Rattle.ccw_walk.specs.Positions.{WalkPosition}
 use Rattle.data_move.specs.declared.transfer.Transfer.{Transfer}
 use Rattle.subchannel_model.specs.declared.cause.StatusCause.{StatusCause}
 use Rattle.subchannel_model.specs.declared.cause.StatusCause.TheVariants as cause
@@ -78,7 +78,7 @@ taken_over k program transfer = with_program_at_work (of_seen k) program transfe
 abbrev pub moved : Seen → ActiveProgram → Transfer → SubchannelState
 moved k b transfer = with_transfer (of_seen k) b transfer
 
-abbrev pub still : Seen → Program → WalkPlace → ℕ → SubchannelState
+abbrev pub still : Seen → Program → WalkPosition → ℕ → SubchannelState
 still k program walk count = with_suspended_program (of_seen k) program walk count
 
 pub data Effect (H : Type 0) (k : Seen) : ℕ → Seen → Type 0 where
@@ -91,9 +91,9 @@ pub data Effect (H : Type 0) (k : Seen) : ℕ → Seen → Type 0 where
       Effect H k 0 (seen (moved k b transfer))
   MovesAsking : (b : ActiveProgram) (transfer : Transfer) (tried count : ℕ) → k.begun ≡ Some b → (transfer.unchained ≡ false → b.transfer.unchained ≡ false) →
       Effect H k 1 (seen (with_cause (moved k b transfer) (cause.Pci tried count)))
-  Suspends : (program : Program) (walk : WalkPlace) (count : ℕ) → IsGoing H k →
+  Suspends : (program : Program) (walk : WalkPosition) (count : ℕ) → IsGoing H k →
       Effect H k 0 (seen (record (still k program walk count) { scsw = suspended_alone k.scsw }))
-  SuspendsShowing : (program : Program) (walk : WalkPlace) (count : ℕ) → IsGoing H k →
+  SuspendsShowing : (program : Program) (walk : WalkPosition) (count : ℕ) → IsGoing H k →
       Effect H k 1 (seen (with_cause (still k program walk count) (cause.Suspension walk.tried count)))
   SendsHalt : Effect H k 0 (seen (halt_sent (of_seen k)))
 

@@ -219,8 +219,8 @@ through-more : (sets : ℕ) (id : SubchannelId) (known : Option Bool) (h : List 
 through-more sets id known [] x = refl
 through-more sets id known (y ∷ h) x = through-more sets id (enabled_after sets id y.event y.reply known) h x
 
-pub run-enabled : AreLaws → (setup : Setup) (id : SubchannelId) (h : List Entry) (s : State) → Run (opening_of setup) h s → (place : ℕ) (sub : Subchannel) →
-    Rattle.subchannel_model.specs.Places.place_in id s.subs ≡ Some place → slice_get s.subs place ≡ Some sub → MayBe (enabled_in (set_count setup) id h) sub.state.pmcw.enabled
+pub run-enabled : AreLaws → (setup : Setup) (id : SubchannelId) (h : List Entry) (s : State) → Run (opening_of setup) h s → (index : ℕ) (sub : Subchannel) →
+    Rattle.subchannel_model.specs.Indices.index_in id s.subs ≡ Some index → slice_get s.subs index ≡ Some sub → MayBe (enabled_in (set_count setup) id h) sub.state.pmcw.enabled
 run-enabled laws setup id =
     run-keeps laws setup id (λ h s. MayBe (enabled_in (set_count setup) id h) s.pmcw.enabled) refl
     (λ h e r sub after k turned.
@@ -261,5 +261,5 @@ turned-code sets id _ _ _ _ known (Rests e r sub about) k = rests-code e about
 pub run-codes : AreLaws → (setup : Setup) (h : List Entry) (s : State) → Run (opening_of setup) h s → AreCodesRight (set_count setup) h
 run-codes laws setup h s run id =
     run-between laws setup id (λ before old e r new. IsCodeRight (set_count setup) id (enabled_in (set_count setup) id before) old e r new)
-    (λ before old e r place sub after before-run named there turned.
-    turned-code (set_count setup) id e r sub after (enabled_in (set_count setup) id before) turned (run-enabled laws setup id before old before-run place sub named there)) h s run
+    (λ before old e r index sub after before-run named there turned.
+    turned-code (set_count setup) id e r sub after (enabled_in (set_count setup) id before) turned (run-enabled laws setup id before old before-run index sub named there)) h s run

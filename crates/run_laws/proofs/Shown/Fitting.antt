@@ -40,7 +40,7 @@ use Rattle.subchannel_model.specs.Ends.{last_shown, work_shown}
 use Rattle.subchannel_model.specs.Halt.{drops_status, status_dropped, halt_begun}
 use Rattle.subchannel_model.specs.Losing.{path_lost, path_index, loses_at, loses, shows_at}
 use Rattle.subchannel_model.specs.Opening.{opening_subchannel}
-use Rattle.subchannel_model.specs.Places.{place_in}
+use Rattle.subchannel_model.specs.Indices.{index_in}
 use Rattle.subchannel_model.specs.Programs.{without_programs}
 use Rattle.subchannel_model.specs.Status.{intermediate_alone, without_status}
 use Rattle.subchannel_model.specs.Test.{tested, ended_scsw, suspended_scsw, tested_wholly}
@@ -254,6 +254,6 @@ turned-fits sets id _ _ _ _ fits (Meets word path returns storage sub x named) =
 turned-fits sets id _ _ _ _ fits (Sweeps what r sub) = swept-fits what sub fits
 turned-fits sets id _ _ _ _ fits (Rests e r sub about) = fits
 
-pub run-fits : AreLaws → (setup : Setup) (id : SubchannelId) (h : List Entry) (s : State) → Run (opening_of setup) h s → (place : ℕ) (sub : Subchannel) →
-    place_in id s.subs ≡ Some place → slice_get s.subs place ≡ Some sub → Fits (seen sub.state)
+pub run-fits : AreLaws → (setup : Setup) (id : SubchannelId) (h : List Entry) (s : State) → Run (opening_of setup) h s → (index : ℕ) (sub : Subchannel) →
+    index_in id s.subs ≡ Some index → slice_get s.subs index ≡ Some sub → Fits (seen sub.state)
 run-fits laws setup id = run-keeps laws setup id (λ h s. Fits (seen s)) fits-opens (λ h e r sub after fits turned. turned-fits (set_count setup) id e r sub after fits turned)

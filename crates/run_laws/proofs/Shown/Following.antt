@@ -295,7 +295,7 @@ module _ (sets : ℕ) (id : SubchannelId) where
       by (Taken n e effect due) = record {
         functions = effect-functions (Held sub.state) (seen sub.state) n (seen (met returns storage sub path x).step.state) effect fits;
         activity = effect-new (Held sub.state) (seen sub.state) n (seen (met returns storage sub path x).step.state) effect;
-        stays = λ h. absurd (cc (sym (both-is (names sets id word) (met returns storage sub path x).step.came.taken true named e) ∙ h));
+        stays = λ h. absurd (cc (sym (both-is (names sets id word) (met returns storage sub path x).step.outcome.taken true named e) ∙ h));
       }
 
   lost-functions : (o : Option ℕ) (sub : Subchannel) → Fits (seen sub.state) → (loses_at o sub).state.scsw.functions ≡ sub.state.scsw.functions
@@ -359,5 +359,5 @@ module _ (sets : ℕ) (id : SubchannelId) where
 pub run-follows : AreLaws → (setup : Setup) (h : List Entry) (s : State) → Run (opening_of setup) h s → DoFunctionsFollow (set_count setup) h
 run-follows laws setup h s run id =
     run-between laws setup id (λ before old e r new. Follows (set_count setup) id old e r new)
-    (λ before old e r place sub after before-run named there turned.
-    turned-follows (set_count setup) id e r sub after (run-fits laws setup id before old before-run place sub named there) turned) h s run
+    (λ before old e r index sub after before-run named there turned.
+    turned-follows (set_count setup) id e r sub after (run-fits laws setup id before old before-run index sub named there) turned) h s run

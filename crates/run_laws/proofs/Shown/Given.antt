@@ -25,10 +25,10 @@ use Rattle.chan_events.specs.Instructions.{subchannel_word}
 use Rattle.machine_model.specs.Requests.{reply_code, drops, requests_after, requests_dropped, request_of}
 use Rattle.machine_model.specs.State.{State, sub_of}
 use Rattle.machine_model.specs.Steps.{Step}
-use Rattle.step_laws.proofs.Places.{alone, both-true, first-passes, found-there}
+use Rattle.step_laws.proofs.Indices.{alone, both-true, first-passes, found-there}
 use Rattle.subchannel_model.specs.declared.state.Subchannel.{Subchannel}
 use Rattle.subchannel_model.specs.declared.state.SubchannelState.{SubchannelState}
-use Rattle.subchannel_model.specs.Places.{Found, found_at, is_named, place_in, place_of_id, sub_at}
+use Rattle.subchannel_model.specs.Indices.{Found, found_at, is_named, index_in, index_of_id, sub_at}
 use Rattle.run_laws.specs.Interruptions.{is_given, shows_status, takes_away, IsAlone}
 use Rattle.run_laws.specs.Shown.{names, is_accepted}
 use Rattle.run_laws.proofs.Shown.Asking.{asked_by, step-asked}
@@ -109,12 +109,12 @@ module _ (s : State) (id : SubchannelId) where
   sub-found None = refl
   sub-found (Some k) = by (slice_get s.subs k)
     where
-      by : (o : Option Subchannel) → o ≡ option_map (λ (f : Found). f.sub) (option_map (λ sub. record { place = k; sub = sub }) o)
+      by : (o : Option Subchannel) → o ≡ option_map (λ (f : Found). f.sub) (option_map (λ sub. record { index = k; sub = sub }) o)
       by None = refl
       by (Some x) = refl
 
-  executed-sub : (i : Instruction) (r : Reply) (new : State) (k : IsExecuted s i r new) → sub_of s (subchannel_word i) ≡ option_map (λ (f : Found). f.sub) (found_at s.subs (place_in k.id s.subs))
-  executed-sub i r new k = ap (λ (x : Option SubchannelId). sub_at s.subs (place_of_id s.subs x)) k.named ∙ sub-found (place_in k.id s.subs)
+  executed-sub : (i : Instruction) (r : Reply) (new : State) (k : IsExecuted s i r new) → sub_of s (subchannel_word i) ≡ option_map (λ (f : Found). f.sub) (found_at s.subs (index_in k.id s.subs))
+  executed-sub i r new k = ap (λ (x : Option SubchannelId). sub_at s.subs (index_of_id s.subs x)) k.named ∙ sub-found (index_in k.id s.subs)
 
   left-drops : (i : Instruction) (r : Reply) (new : State) (f : Found) → IsLeft s i r new f → drops i (reply_code r) ≡ away i r
   left-drops i r new f done =
@@ -127,20 +127,20 @@ module _ (s : State) (id : SubchannelId) where
   executed-kept : (Q : WaitingRequests → Type 0) → IsOtherDropped Q → (i : Instruction) (r : Reply) (new : State) (w : WaitingRequests) → IsExecuted s i r new → (names s.sets id (subchannel_word i) && away i r) ≡ false → Q w →
       Q (requests_after w (sub_of s (subchannel_word i)) i r)
   executed-kept Q drop i r new w k not e =
-      subst (λ (o : Option Subchannel). Q (requests_after w o i r)) (sym (executed-sub i r new k)) (by (found_at s.subs (place_in k.id s.subs)) refl k.done)
+      subst (λ (o : Option Subchannel). Q (requests_after w o i r)) (sym (executed-sub i r new k)) (by (found_at s.subs (index_in k.id s.subs)) refl k.done)
     where
-      by : (q : Option Found) → found_at s.subs (place_in k.id s.subs) ≡ q → IsDone s i q r new → Q (requests_after w (option_map (λ (f : Found). f.sub) q) i r)
+      by : (q : Option Found) → found_at s.subs (index_in k.id s.subs) ≡ q → IsDone s i q r new → Q (requests_after w (option_map (λ (f : Found). f.sub) q) i r)
       by None g done = e
       by (Some f) g done =
-          let at = found-there s.subs (place_in k.id s.subs) f g in
-          after-kept Q drop w i r f k.id (drops i (reply_code r)) (first-passes (is_named k.id) s.subs f.place f.sub at.0 at.1)
+          let at = found-there s.subs (index_in k.id s.subs) f g in
+          after-kept Q drop w i r f k.id (drops i (reply_code r)) (first-passes (is_named k.id) s.subs f.index f.sub at.0 at.1)
           (λ d. sym (ap (λ (x : Option SubchannelId). is_id x id) k.named)
           ∙ and-first (names s.sets id (subchannel_word i)) (away i r) not (sym (left-drops i r new f done) ∙ d)) e
 
-  executed-taken : (i : Instruction) (r : Reply) (new : State) (w : WaitingRequests) (place : ℕ) (sub : Subchannel) → place_in id s.subs ≡ Some place → slice_get s.subs place ≡ Some sub →
+  executed-taken : (i : Instruction) (r : Reply) (new : State) (w : WaitingRequests) (index : ℕ) (sub : Subchannel) → index_in id s.subs ≡ Some index → slice_get s.subs index ≡ Some sub →
       IsExecuted s i r new → (names s.sets id (subchannel_word i) && away i r) ≡ true → asks id (requests_after w (sub_of s (subchannel_word i)) i r) ≡ false
-  executed-taken i r new w place sub mine there k takes =
-      subst (λ (o : Option Subchannel). asks id (requests_after w o i r) ≡ false) (sym (executed-sub i r new k)) (by (found_at s.subs (place_in k.id s.subs)) refl k.done)
+  executed-taken i r new w index sub mine there k takes =
+      subst (λ (o : Option Subchannel). asks id (requests_after w o i r) ≡ false) (sym (executed-sub i r new k)) (by (found_at s.subs (index_in k.id s.subs)) refl k.done)
     where
       parts : (names s.sets id (subchannel_word i) ≡ true) × (away i r ≡ true)
       parts = and_parts (names s.sets id (subchannel_word i)) (away i r) takes
@@ -148,15 +148,15 @@ module _ (s : State) (id : SubchannelId) where
       same : k.id ≡ id
       same = same-id k.id id (subst (λ (x : Option SubchannelId). is_id x id ≡ true) k.named parts.0)
 
-      by : (q : Option Found) → found_at s.subs (place_in k.id s.subs) ≡ q → IsDone s i q r new → asks id (requests_after w (option_map (λ (f : Found). f.sub) q) i r) ≡ false
+      by : (q : Option Found) → found_at s.subs (index_in k.id s.subs) ≡ q → IsDone s i q r new → asks id (requests_after w (option_map (λ (f : Found). f.sub) q) i r) ≡ false
       by None g done =
-          let none : found_at s.subs (Some place) ≡ None = ap (found_at s.subs) (sym mine ∙ ap (λ (x : SubchannelId). place_in x s.subs) (sym same)) ∙ g in
-          let some : found_at s.subs (Some place) ≡ Some (record { place = place; sub = sub }) = ap (option_map (λ x. record { place = place; sub = x })) there in
+          let none : found_at s.subs (Some index) ≡ None = ap (found_at s.subs) (sym mine ∙ ap (λ (x : SubchannelId). index_in x s.subs) (sym same)) ∙ g in
+          let some : found_at s.subs (Some index) ≡ Some (record { index = index; sub = sub }) = ap (option_map (λ x. record { index = index; sub = x })) there in
           absurd (cc (sym none ∙ some))
       by (Some f) g done =
-          let at = found-there s.subs (place_in k.id s.subs) f g in
+          let at = found-there s.subs (index_in k.id s.subs) f g in
           after-taken w f (drops i (reply_code r))
-          (subst (λ (x : SubchannelId). is_named x f.sub ≡ true) same (first-passes (is_named k.id) s.subs f.place f.sub at.0 at.1))
+          (subst (λ (x : SubchannelId). is_named x f.sub ≡ true) same (first-passes (is_named k.id) s.subs f.index f.sub at.0 at.1))
           (left-drops i r new f done ∙ parts.1)
 
   -- TEST PENDING INTERRUPTION
@@ -243,35 +243,35 @@ module _ (s : State) (id : SubchannelId) where
   left-was event.SystemReset r new table k = absurd (cc k)
   left-was e r new table k = k
 
-  left-taken : (e : Event) (r : Reply) (new : State) (place : ℕ) (sub : Subchannel) → place_in id s.subs ≡ Some place → slice_get s.subs place ≡ Some sub → Step s e r new → IsByTable s e r new →
+  left-taken : (e : Event) (r : Reply) (new : State) (index : ℕ) (sub : Subchannel) → index_in id s.subs ≡ Some index → slice_get s.subs index ≡ Some sub → Step s e r new → IsByTable s e r new →
       takes_away s.sets id e r ≡ true → asks id (left e r) ≡ false
-  left-taken (event.Execute cpu i) r new place sub mine there step table takes =
-      executed-taken i r new s.requests place sub mine there (executed s cpu i r new step) (sym (away-names s.sets id cpu i r) ∙ takes)
-  left-taken (event.ExecuteOther cpu i) r new place sub mine there step table takes = other-taken cpu i r new table takes
-  left-taken event.SystemReset r new place sub mine there step table takes = refl
-  left-taken e r new place sub mine there step table takes = absurd (cc takes)
+  left-taken (event.Execute cpu i) r new index sub mine there step table takes =
+      executed-taken i r new s.requests index sub mine there (executed s cpu i r new step) (sym (away-names s.sets id cpu i r) ∙ takes)
+  left-taken (event.ExecuteOther cpu i) r new index sub mine there step table takes = other-taken cpu i r new table takes
+  left-taken event.SystemReset r new index sub mine there step table takes = refl
+  left-taken e r new index sub mine there step table takes = absurd (cc takes)
 
   -- a step that takes nothing away leaves a request where one stood, or where a status was made
-  pub step-keeps : (e : Event) (r : Reply) (new : State) (place : ℕ) (sub after : Subchannel) → Step s e r new → IsByTable s e r new →
-      slice_get s.subs place ≡ Some sub → place_in id new.subs ≡ Some place → slice_get new.subs place ≡ Some after → (id.set % 4) ≡ id.set →
+  pub step-keeps : (e : Event) (r : Reply) (new : State) (index : ℕ) (sub after : Subchannel) → Step s e r new → IsByTable s e r new →
+      slice_get s.subs index ≡ Some sub → index_in id new.subs ≡ Some index → slice_get new.subs index ≡ Some after → (id.set % 4) ≡ id.set →
       takes_away s.sets id e r ≡ false → (asks id s.requests ≡ true) ⊎ (sub.state.serials.made < after.state.serials.made) → asks id new.requests ≡ true
-  step-keeps e r new place sub after step table there mine is small not k =
+  step-keeps e r new index sub after step table there mine is small not k =
       ap (asks id) (step-asked s e r new step)
       ∙ elim k [
         | inl a ↦ all-keep id s.subs new.subs (left e r) (left-kept (λ w. asks id w ≡ true) (λ w set number n e. dropped-other id w set number n ∙ e) e r new step table not a)
         | inr rose ↦
-            let p = named-parts id after (first-passes (is_named id) new.subs place after mine is) in
-            all-own id s.subs new.subs (left e r) place sub after there is (lt-ltb sub.state.serials.made after.state.serials.made rose)
+            let p = named-parts id after (first-passes (is_named id) new.subs index after mine is) in
+            all-own id s.subs new.subs (left e r) index sub after there is (lt-ltb sub.state.serials.made after.state.serials.made rose)
             (both-true ((after.setup.id.set % 4) == id.set) (after.setup.id.number == id.number)
             (eq-eqb (after.setup.id.set % 4) id.set (ap (λ (n : ℕ). n % 4) p.0 ∙ small)) (eq-eqb after.setup.id.number id.number p.1))
       ]
 
   -- where a request stands, one stood before that was not taken away, or a status was made
-  pub step-why : (setup : Setup) (e : Event) (r : Reply) (new : State) (place : ℕ) (sub after : Subchannel) → Step s e r new → IsByTable s e r new →
+  pub step-why : (setup : Setup) (e : Event) (r : Reply) (new : State) (index : ℕ) (sub after : Subchannel) → Step s e r new → IsByTable s e r new →
       map (λ x. x.setup) new.subs ≡ setup.subchannels → IsAlone setup id → (id.set % 4) ≡ id.set →
-      place_in id s.subs ≡ Some place → slice_get s.subs place ≡ Some sub → place_in id new.subs ≡ Some place → slice_get new.subs place ≡ Some after → asks id new.requests ≡ true →
+      index_in id s.subs ≡ Some index → slice_get s.subs index ≡ Some sub → index_in id new.subs ≡ Some index → slice_get new.subs index ≡ Some after → asks id new.requests ≡ true →
       ((takes_away s.sets id e r ≡ false) × (asks id s.requests ≡ true)) ⊎ (sub.state.serials.made < after.state.serials.made)
-  step-why setup e r new place sub after step table setups one small was there mine is asked =
+  step-why setup e r new index sub after step table setups one small was there mine is asked =
       elim (all-why id s.subs new.subs (left e r) (sym (ap (asks id) (step-asked s e r new step)) ∙ asked)) [
         | inl a ↦ inl (either (takes_away s.sets id e r) refl a, left-was e r new table a)
         | inr x ↦ inr (rose x.0 x.1 x.2 x.3 x.4 x.5 x.6)
@@ -279,7 +279,7 @@ module _ (s : State) (id : SubchannelId) where
     where
       either : (b : Bool) → takes_away s.sets id e r ≡ b → asks id (left e r) ≡ true → takes_away s.sets id e r ≡ false
       either false f a = f
-      either true f a = absurd (cc (sym a ∙ left-taken e r new place sub was there step table f))
+      either true f a = absurd (cc (sym a ∙ left-taken e r new index sub was there step table f))
 
       set-up : (k : ℕ) (x : Subchannel) → slice_get new.subs k ≡ Some x → slice_get setup.subchannels k ≡ Some x.setup
       set-up k x e =
@@ -288,9 +288,9 @@ module _ (s : State) (id : SubchannelId) where
       rose : (k : ℕ) (old now : Subchannel) → slice_get s.subs k ≡ Some old → slice_get new.subs k ≡ Some now → old.state.serials.made < now.state.serials.made →
           is_for id (request_of now) ≡ true → sub.state.serials.made < after.state.serials.made
       rose k old now a b less own =
-          let p = named-parts id after (first-passes (is_named id) new.subs place after mine is) in
-          let same : k ≡ place =
-          alone (λ (x : SubchannelSetup). ((x.id.set % 4) == id.set) && (x.id.number == id.number)) setup.subchannels k place now.setup after.setup one (set-up k now b) (set-up place after is)
+          let p = named-parts id after (first-passes (is_named id) new.subs index after mine is) in
+          let same : k ≡ index =
+          alone (λ (x : SubchannelSetup). ((x.id.set % 4) == id.set) && (x.id.number == id.number)) setup.subchannels k index now.setup after.setup one (set-up k now b) (set-up index after is)
           own
           (both-true ((after.setup.id.set % 4) == id.set) (after.setup.id.number == id.number)
           (eq-eqb (after.setup.id.set % 4) id.set (ap (λ (n : ℕ). n % 4) p.0 ∙ small)) (eq-eqb after.setup.id.number id.number p.1)) in

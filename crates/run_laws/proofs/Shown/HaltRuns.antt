@@ -136,6 +136,6 @@ module _ (setup : Setup) (id : SubchannelId) (before : List Entry) where
 pub run-halts : AreLaws → AreOnePath → (setup : Setup) (h : List Entry) (s : State) → IsLawful setup → Run (opening_of setup) h s → AreHaltsDone setup h
 run-halts laws paths setup h s lawful run id =
     run-between laws setup id (λ before old e r new. IsHaltRight setup id before old e r)
-    (λ before old e r place sub after before-run named there turned.
+    (λ before old e r index sub after before-run named there turned.
     let all : IsRunSeen setup before old = run-seen laws.walks paths setup before old lawful before-run in
-    turned-right setup id before e r sub after (λ P f. of-first _ P id _ old.subs place sub named there f all.tied) turned) h s run
+    turned-right setup id before e r sub after (λ P f. of-first _ P id _ old.subs index sub named there f all.tied) turned) h s run

@@ -17,11 +17,11 @@ use Rattle.chan_model.specs.Loads.{load_length}
 use Rattle.chan_model.specs.ResetCauses.{rests_on, is_held}
 use Rattle.chan_model.specs.UnitReports.{is_last_end, is_outward, has_device_end}
 use Rattle.channel_config.specs.declared.names.SubchannelId.{SubchannelId}
-use Rattle.ccw_walk.specs.Places.{WalkPlace}
+use Rattle.ccw_walk.specs.Positions.{WalkPosition}
 use Rattle.data_move.specs.Moving.{residual}
 use Rattle.storage_keys.specs.Storage.{Contents}
 use Rattle.data_move.specs.declared.transfer.CommandStart.{CommandStart}
-use Rattle.data_move.specs.declared.transfer.CommandStart.TheVariants as came
+use Rattle.data_move.specs.declared.transfer.CommandStart.TheVariants as outcome
 use Rattle.data_move.specs.declared.transfer.Transfer.{Transfer}
 use Rattle.data_move.specs.Commands.{first_command, next_command, begun_with_room, with_room}
 use Rattle.data_move.specs.ToDevice.{chunk_absorbed, next_chunk}
@@ -132,7 +132,7 @@ interrupted-held s (Some b) h =
 device_released-held : (s : SubchannelState) → s.begun ≡ None → Held (device_released s).state
 device_released-held s none = none-held (device_released s).state none
 
-suspending-none : (s : SubchannelState) (program : Program) (walk : WalkPlace) (count : ℕ) (quiet : Bool) →
+suspending-none : (s : SubchannelState) (program : Program) (walk : WalkPosition) (count : ℕ) (quiet : Bool) →
     (if quiet then record (with_suspended_program s program walk count) { scsw = suspended_alone s.scsw } else with_cause (with_suspended_program s program walk count) (cause.Suspension walk.tried count)).begun ≡ None
 suspending-none s program walk count true = refl
 suspending-none s program walk count false = refl
@@ -148,13 +148,13 @@ ended-none s b false e = absurd (cc e)
 -- Accept
 begin-held : (storage : Contents) (s : SubchannelState) (p t : ℕ) (o : Option ProgramPosition) → is_held s.hold.phase ≡ true → Held (begins_at storage s p t o).state
 begin-held storage s p t None h = λ e. h
-begin-held storage s p t (Some st) h = by (first_command storage st.walk).walk (first_command storage st.walk).came
+begin-held storage s p t (Some st) h = by (first_command storage st.walk).walk (first_command storage st.walk).outcome
   where
-    by : (walk : WalkPlace) (c : CommandStart) → Held (first_ccw_outcome storage s p t st walk c).state
-    by walk (came.Begins transfer) =
+    by : (walk : WalkPosition) (c : CommandStart) → Held (first_ccw_outcome storage s p t st walk c).state
+    by walk (outcome.Begins transfer) =
         let next = with_program_at_work s st.program (begun_with_room storage transfer).transfer in interrupted-held next next.begun h
-    by walk came.Suspends = device_released-held (program_suspended s st.program walk st.count) (suspending-none s st.program walk st.count st.program.orb.suppress_suspended)
-    by walk (came.Stops check) = device_released-held (with_cause s (cause.FetchFault walk.tried check st.count)) (faulted-none s s.begun refl)
+    by walk outcome.Suspends = device_released-held (program_suspended s st.program walk st.count) (suspending-none s st.program walk st.count st.program.orb.suppress_suspended)
+    by walk (outcome.Stops check) = device_released-held (with_cause s (cause.FetchFault walk.tried check st.count)) (faulted-none s s.begun refl)
 
 halt_performed-none : (s : SubchannelState) (pending : Bool) → s.begun ≡ None → (if pending then with_cause s cause.HaltDone else s).begun ≡ None
 halt_performed-none s true none = refl
@@ -195,20 +195,20 @@ move-held storage s (Some b) signal load e h =
     h
 
 -- End
-chaining-held : (storage : Contents) (s : SubchannelState) (b : ActiveProgram) (signal : EndSignal) (walk : WalkPlace) (c : CommandStart) → is_held s.hold.phase ≡ true →
+chaining-held : (storage : Contents) (s : SubchannelState) (b : ActiveProgram) (signal : EndSignal) (walk : WalkPosition) (c : CommandStart) → is_held s.hold.phase ≡ true →
     Held (next_ccw_outcome storage s b signal walk c).state
-chaining-held storage s b signal walk (came.Begins transfer) h = moving-held s b (begun_with_room storage transfer).transfer h
-chaining-held storage s b signal walk came.Suspends h =
+chaining-held storage s b signal walk (outcome.Begins transfer) h = moving-held s b (begun_with_room storage transfer).transfer h
+chaining-held storage s b signal walk outcome.Suspends h =
     device_released-held (program_suspended (with_allegiance_after_end s signal) b.program walk (residual b.transfer.moving))
     (suspending-none (with_allegiance_after_end s signal) b.program walk (residual b.transfer.moving) b.program.orb.suppress_suspended)
-chaining-held storage s b signal walk (came.Stops check) h =
+chaining-held storage s b signal walk (outcome.Stops check) h =
     device_released-held (with_cause (with_allegiance_after_end s signal) (cause.FetchFault walk.tried check (residual b.transfer.moving))) (faulted-none (with_allegiance_after_end s signal) s.begun refl)
 
 goes-held : (storage : Contents) (s : SubchannelState) (b : ActiveProgram) (signal : EndSignal) → is_held s.hold.phase ≡ true → Held (chains_at_device_end storage s b signal).state
 goes-held storage s b signal h =
     let next = next_command storage b.transfer (has_status_modifier signal.status) in
-    if-step (has_device_end signal.status) (next_ccw_outcome storage s b signal next.walk next.came) (signal_taken (record (with_allegiance_after_end s signal) { begun = Some b }))
-    (λ e. chaining-held storage s b signal next.walk next.came h) (λ e. h)
+    if-step (has_device_end signal.status) (next_ccw_outcome storage s b signal next.walk next.outcome) (signal_taken (record (with_allegiance_after_end s signal) { begun = Some b }))
+    (λ e. chaining-held storage s b signal next.walk next.outcome h) (λ e. h)
 
 stops-held : (s : SubchannelState) (b : ActiveProgram) (signal : EndSignal) → is_held s.hold.phase ≡ true → Held (concludes s b signal).state
 stops-held s b signal h =

@@ -27,7 +27,7 @@ use Rattle.subchannel_model.specs.Choosing.{chosen, marked_sub}
 use Rattle.subchannel_model.specs.Conditions.{found_operational, left_by}
 use Rattle.subchannel_model.specs.Halt.{drops_status, halt_begun, status_dropped}
 use Rattle.subchannel_model.specs.Losing.{loses, path_index}
-use Rattle.subchannel_model.specs.Places.{place_in}
+use Rattle.subchannel_model.specs.Indices.{index_in}
 use Rattle.subchannel_model.specs.Programs.{without_programs}
 use Rattle.subchannel_model.specs.Test.{ends_suspended, tested}
 use Rattle.run_laws.specs.Paths.{used_met, used_after, used_through, used_in, ShowsLastUsed}
@@ -117,8 +117,8 @@ through-more : (sets : ℕ) (id : SubchannelId) (k : Option ℕ) (h : List Entry
 through-more sets id k [] x = refl
 through-more sets id k (y ∷ h) x = through-more sets id (used_after sets id y.event y.reply k) h x
 
-run-used : AreLaws → (setup : Setup) (id : SubchannelId) (h : List Entry) (s : State) → Run (opening_of setup) h s → (place : ℕ) (sub : Subchannel) → place_in id s.subs ≡ Some place →
-    slice_get s.subs place ≡ Some sub → used sub.state ≡ used_in (set_count setup) id h
+run-used : AreLaws → (setup : Setup) (id : SubchannelId) (h : List Entry) (s : State) → Run (opening_of setup) h s → (index : ℕ) (sub : Subchannel) → index_in id s.subs ≡ Some index →
+    slice_get s.subs index ≡ Some sub → used sub.state ≡ used_in (set_count setup) id h
 run-used laws setup id =
     run-keeps laws setup id (λ h s. used s ≡ used_in (set_count setup) id h) refl
     (λ h e r sub after k turned.
@@ -134,4 +134,4 @@ run-last_used laws setup h s run id before after a b c word eq shown =
     let third : IsPassed o ((before ++ a ∷ []) ++ b ∷ []) c after s = passed-next o s (before ++ a ∷ []) after b c second in
     let masks : HasMasks id first.was third.is word =
     steps-shown (set_count setup) id a b c word first.was first.is second.is third.is (sets-stay laws setup _ second.was second.run) shown first.step second.step third.step in
-    masks.last_used ∙ ap mask_of_path (run-used laws setup id before first.was first.run masks.place masks.sub masks.named masks.there)
+    masks.last_used ∙ ap mask_of_path (run-used laws setup id before first.was first.run masks.index masks.sub masks.named masks.there)

@@ -23,13 +23,13 @@ use Rattle.subchannel_model.specs.declared.state.Chosen.{Chosen}
 use Rattle.subchannel_model.specs.declared.state.Chosen.TheVariants.{Resets, Halts, Offers}
 use Rattle.subchannel_model.specs.declared.state.Subchannel.{Subchannel}
 use Rattle.subchannel_model.specs.Choosing.{chosen, engaged_paths, marked_sub, path_use, paths_to_choose}
-use Rattle.subchannel_model.specs.Places.{place_in, place_of_id, sub_at}
+use Rattle.subchannel_model.specs.Indices.{index_in, index_of_id, sub_at}
 use Rattle.subchannel_model.specs.Sending.{carried_by, finds_full}
 use Rattle.run_laws.specs.StateClaims.{is_id}
 use Rattle.machine_model.specs.ChooseSteps.{choose_sub}
-use Rattle.machine_model.specs.State.{State, opening_of, place_of, sub_of}
+use Rattle.machine_model.specs.State.{State, opening_of, index_of, sub_of}
 use Rattle.machine_model.specs.Steps.{Run}
-use Rattle.machine_model.specs.Turns.{SubTurn}
+use Rattle.machine_model.specs.Results.{SubResult}
 use Rattle.step_laws.specs.Walks as walked
 use Rattle.step_laws.specs.Walks.{Walked, IsQuiet, Suits}
 use Rattle.run_laws.specs.Paths.{IsOfferLogical, IsEntryLogical, AreOffersLogical}
@@ -59,19 +59,19 @@ if-ok : {A : Type 0} (P : A → Type 0) (full : Bool) (x y : Result A Fault) →
 if-ok P true x y e f = e
 if-ok P false x y e f = f
 
-abbrev OkLogical : State → ℕ → Result SubTurn Fault → Type 0
+abbrev OkLogical : State → ℕ → Result SubResult Fault → Type 0
 OkLogical s word r = IfOk r (λ t. IsLogical s (event.Choose word) t.reply)
 
 choose-logical : (s : State) (word : ℕ) (sub : Subchannel) (choice : Option ℕ) (c : Chosen) → sub_of s word ≡ Some sub →
     IsChoice (paths_to_choose s.subs sub) choice → Suits c sub.state → IsOffer choice c → OkLogical s word (choose_sub (marked_sub sub choice) c)
 choose-logical s word sub choice (Resets r path) at x f o =
-    if-ok (λ (t : SubTurn). IsLogical s (event.Choose word) t.reply)
+    if-ok (λ (t : SubResult). IsLogical s (event.Choose word) t.reply)
     (finds_full sub.wires.down (carried_by sub (Some (record { path = path; signal = down.Reset r sub.state.hold.known })))) _ _ tt tt
 choose-logical s word sub choice (Halts t path) at x f o =
-    if-ok (λ (t : SubTurn). IsLogical s (event.Choose word) t.reply)
+    if-ok (λ (t : SubResult). IsLogical s (event.Choose word) t.reply)
     (finds_full sub.wires.down (carried_by sub (Some (record { path = path; signal = down.Halt t })))) _ _ tt tt
 choose-logical s word sub choice (Offers c path) at x f o =
-    if-ok (λ (t : SubTurn). IsLogical s (event.Choose word) t.reply)
+    if-ok (λ (t : SubResult). IsLogical s (event.Choose word) t.reply)
     (finds_full sub.wires.down (carried_by sub (Some (record { path = path; signal = down.Select (sub.state.drawn + 1) })))) _ _ tt
     (λ other e.
     let same : sub ≡ other = same_Some sub other (sym at ∙ e) in
@@ -86,19 +86,19 @@ quiet-logical s e r q = tt
 
 walked-logical : (s : State) (e : Event) (r : Reply) (new : State) → Walked s e r new → IsLogical s e r
 walked-logical s _ _ _ (walked.Stays e r new q sets subs units up) = quiet-logical s e r q
-walked-logical s _ _ _ (walked.Tested e r place sub c new q one address by answers) = quiet-logical s e r q
-walked-logical s _ _ _ (walked.Modified e r place sub given c new q one) = quiet-logical s e r q
-walked-logical s _ _ _ (walked.Performed e r place sub f c new q one by answers) = quiet-logical s e r q
-walked-logical s _ _ _ (walked.Chosen word place sub choice t new n x w h one) =
+walked-logical s _ _ _ (walked.Tested e r index sub c new q one address by answers) = quiet-logical s e r q
+walked-logical s _ _ _ (walked.Modified e r index sub given c new q one) = quiet-logical s e r q
+walked-logical s _ _ _ (walked.Performed e r index sub f c new q one by answers) = quiet-logical s e r q
+walked-logical s _ _ _ (walked.Chosen word index sub choice t new n x w h one) =
     subst (OkLogical s word) h
     (choose-logical s word sub choice (chosen sub choice) (ap (λ (o : Option ℕ). sub_at s.subs o) n ∙ one.there) x w (chosen-offer sub choice))
 walked-logical s _ _ _ (walked.Swept e r what new q sets subs units by) = quiet-logical s e r q
 walked-logical s _ _ _ w = tt
 
 -- by the mask that is shown
-named-found : (subs : List Subchannel) (x : Option SubchannelId) (id : SubchannelId) → is_id x id ≡ true → place_of_id subs x ≡ place_in id subs
+named-found : (subs : List Subchannel) (x : Option SubchannelId) (id : SubchannelId) → is_id x id ≡ true → index_of_id subs x ≡ index_in id subs
 named-found subs None id e = absurd (cc e)
-named-found subs (Some named) id e = ap (λ (y : SubchannelId). place_in y subs) (same-id named id e)
+named-found subs (Some named) id e = ap (λ (y : SubchannelId). index_in y subs) (same-id named id e)
 
 module _ (sets : ℕ) (id : SubchannelId) (word : ℕ) (sub : Subchannel) (masks : field_of word 0 7 ≡ mask_of_paths sub.state.pmcw.logical) where
   offer-shown : (s : State) (named : ℕ) (r : Reply) → sub_of s named ≡ Some sub → IsLogical s (event.Choose named) r → IsOfferLogical word r
@@ -107,13 +107,13 @@ module _ (sets : ℕ) (id : SubchannelId) (word : ℕ) (sub : Subchannel) (masks
       subst (λ (mask : ℕ). has_path mask path ≡ true) (sym masks) (member-masked sub.state.pmcw.logical path in_set.1 in_set.0)
   offer-shown s named r at k = tt
 
-  entry-shown : (s : State) (place : ℕ) (e : Event) (r : Reply) → s.sets ≡ sets → place_in id s.subs ≡ Some place → slice_get s.subs place ≡ Some sub → IsLogical s e r →
+  entry-shown : (s : State) (index : ℕ) (e : Event) (r : Reply) → s.sets ≡ sets → index_in id s.subs ≡ Some index → slice_get s.subs index ≡ Some sub → IsLogical s e r →
       IsEntryLogical sets id word e r
-  entry-shown s place (event.Choose named) r n mine there k = λ is.
-      let at : place_of s named ≡ Some place =
+  entry-shown s index (event.Choose named) r n mine there k = λ is.
+      let at : index_of s named ≡ Some index =
       named-found s.subs (subchannel_named s.sets named) id (subst (λ (m : ℕ). names m id named ≡ true) (sym n) is) ∙ mine in
       offer-shown s named r (ap (λ (o : Option ℕ). sub_at s.subs o) at ∙ there) k
-  entry-shown s place e r n mine there k = tt
+  entry-shown s index e r n mine there k = tt
 
 pub run-logical : AreLaws → (setup : Setup) (h : List Entry) (s : State) → Run (opening_of setup) h s → AreOffersLogical (set_count setup) h
 run-logical laws setup h s run id before after a b c d word eq shown =
@@ -124,7 +124,7 @@ run-logical laws setup h s run id before after a b c d word eq shown =
     let fourth : IsPassed o (((before ++ a ∷ []) ++ b ∷ []) ++ c ∷ []) d after s = passed-next o s ((before ++ a ∷ []) ++ b ∷ []) after c d third in
     let masks : HasMasks id first.was third.is word =
     steps-shown (set_count setup) id a b c word first.was first.is second.is third.is (sets-stay laws setup _ second.was second.run) shown first.step second.step third.step in
-    let mine : place_in id fourth.was.subs ≡ Some masks.place = ap (λ (xs : List Subchannel). place_in id xs) masks.subs ∙ masks.named in
-    let there : slice_get fourth.was.subs masks.place ≡ Some masks.sub = ap (λ (xs : List Subchannel). slice_get xs masks.place) masks.subs ∙ masks.there in
-    entry-shown (set_count setup) id word masks.sub masks.logical fourth.was masks.place d.event d.reply (sets-stay laws setup _ fourth.was fourth.run) mine there
+    let mine : index_in id fourth.was.subs ≡ Some masks.index = ap (λ (xs : List Subchannel). index_in id xs) masks.subs ∙ masks.named in
+    let there : slice_get fourth.was.subs masks.index ≡ Some masks.sub = ap (λ (xs : List Subchannel). slice_get xs masks.index) masks.subs ∙ masks.there in
+    entry-shown (set_count setup) id word masks.sub masks.logical fourth.was masks.index d.event d.reply (sets-stay laws setup _ fourth.was fourth.run) mine there
     (walked-logical fourth.was d.event d.reply fourth.is (laws.walks fourth.was d.event d.reply fourth.is fourth.step))

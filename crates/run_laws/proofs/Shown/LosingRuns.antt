@@ -64,7 +64,7 @@ module _ (is_up : ℕ → Bool) (known : Option Bool) (sub : Subchannel) (is : I
       step : Bool → UpStep
       step more = if more then signal_taken (reset_for (with_known sub.state b)) else signal_ignored sub.state
 
-      by : (more : Bool) → IsLoss k ((step more).came.taken && not k.doubt) (step more).came.taken known (status_of sub.state) (status_of (step more).state)
+      by : (more : Bool) → IsLoss k ((step more).outcome.taken && not k.doubt) (step more).outcome.taken known (status_of sub.state) (status_of (step more).state)
       by true = loss true
       by false = loss false
 
@@ -121,11 +121,11 @@ module _ (setup : Setup) (id : SubchannelId) (before : List Entry) where
 pub run-losses : AreLaws → AreOnePath → (setup : Setup) (h : List Entry) (s : State) → IsLawful setup → Run (opening_of setup) h s → AreLossesRight setup h
 run-losses laws paths setup h s lawful run id =
     run-between laws setup id (IsLossRight setup id)
-    (λ before old e r place sub after before-run named there turned.
+    (λ before old e r index sub after before-run named there turned.
     let all : IsRunSeen setup before old = run-seen laws.walks paths setup before old lawful before-run in
     turned-right setup id before _ e r sub after
     (record {
-      enabled = run-enabled laws setup id before old before-run place sub named there;
-      there = there-where-shown sub.state (run-fits laws setup id before old before-run place sub named there) (whole-tells sub.state (whole laws setup id before old before-run place sub named there));
+      enabled = run-enabled laws setup id before old before-run index sub named there;
+      there = there-where-shown sub.state (run-fits laws setup id before old before-run index sub named there) (whole-tells sub.state (whole laws setup id before old before-run index sub named there));
     })
-    (λ P f. of-first _ P id _ old.subs place sub named there f all.tied) turned) h s run
+    (λ P f. of-first _ P id _ old.subs index sub named there f all.tied) turned) h s run

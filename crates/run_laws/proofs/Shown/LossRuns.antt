@@ -134,5 +134,5 @@ turned-shown sets id _ _ _ _ known may (Rests e r sub about) = rests-shown e r (
 pub run-losses-shown : AreLaws → (setup : Setup) (h : List Entry) (s : State) → Run (opening_of setup) h s → AreLossesShown (set_count setup) h
 run-losses-shown laws setup h s run id =
     run-between laws setup id (λ before old e r new. IsLossShown (enabled_in (set_count setup) id before) old e r new)
-    (λ before old e r place sub after before-run named there turned.
-    turned-shown (set_count setup) id e r sub after (enabled_in (set_count setup) id before) (run-enabled laws setup id before old before-run place sub named there) turned) h s run
+    (λ before old e r index sub after before-run named there turned.
+    turned-shown (set_count setup) id e r sub after (enabled_in (set_count setup) id before) (run-enabled laws setup id before old before-run index sub named there) turned) h s run

@@ -15,15 +15,15 @@ use Rattle.interruptions.specs.Requests.{WaitingRequests, is_of, is_enabled, low
 use Rattle.machine_model.specs.Requests.{request_of, posted_all}
 use Rattle.machine_model.specs.State.{State, opening_of}
 use Rattle.machine_model.specs.Steps.{Run, Step}
-use Rattle.step_laws.proofs.Places.{both-true}
+use Rattle.step_laws.proofs.Indices.{both-true}
 use Rattle.subchannel_model.specs.declared.state.Subchannel.{Subchannel}
 use Rattle.run_laws.specs.Interruptions.{IsTested, IsLowestFirst}
 use Rattle.run_laws.proofs.Shown.Asking.{step-asked}
 use Rattle.run_laws.proofs.Shown.RequestRuns.{AreTables, tested-answer}
 use Rattle.run_laws.proofs.Shown.Runs.{IsPassed, passed, passed-next}
 use Rattle.run_laws.proofs.Shown.Waiting.{or-left, or-right, or-parts, given-asked, filter-less}
-use Rattle.step_laws.proofs.Turns as turn
-use Rattle.step_laws.proofs.Turns.{TurnOf, HasTurn, step-turn}
+use Rattle.step_laws.proofs.Results as turn
+use Rattle.step_laws.proofs.Results.{ResultOf, HasResult, step-turn}
 
 pub head-passes : (test : IntCode → Bool) (xs : List IntCode) (code : IntCode) → slice_get (filter test xs) 0 ≡ Some code → test code ≡ true
 head-passes test [] code e = absurd (cc e)
@@ -95,12 +95,12 @@ posted-still (x ∷ xs) w =
     ap (posted_all xs xs) (ap (λ (b : Bool). if b then posted w (request_of x) else w) (not-below x.state.serials.made)) ∙ posted-still xs w
 
 module _ (s : State) where
-  turn-subs : (cpu mask address : ℕ) (r : Reply) (new : State) → TurnOf s (event.ExecuteOther cpu (other.Tpi mask address)) r new → new.subs ≡ s.subs
+  turn-subs : (cpu mask address : ℕ) (r : Reply) (new : State) → ResultOf s (event.ExecuteOther cpu (other.Tpi mask address)) r new → new.subs ≡ s.subs
   turn-subs _ _ _ _ _ (turn.Interrupts cpu mask address) = refl
 
   tpi-subs : (cpu mask address : ℕ) (r : Reply) (new : State) → Step s (event.ExecuteOther cpu (other.Tpi mask address)) r new → new.subs ≡ s.subs
   tpi-subs cpu mask address r new step =
-      let is : HasTurn s (event.ExecuteOther cpu (other.Tpi mask address)) r new = step-turn s (event.ExecuteOther cpu (other.Tpi mask address)) r new step in
+      let is : HasResult s (event.ExecuteOther cpu (other.Tpi mask address)) r new = step-turn s (event.ExecuteOther cpu (other.Tpi mask address)) r new step in
       ap (λ (x : State). x.subs) is.settles ∙ turn-subs cpu mask address r is.left is.turn
 
   tpi-left : (cpu mask address : ℕ) (code : IntCode) (new : State) → Step s (event.ExecuteOther cpu (other.Tpi mask address)) (reply.Interruption (Some code)) new →

@@ -314,15 +314,15 @@ module _ (sets : ℕ) (id : SubchannelId) (known : Option Bool) where
       by (Ignored e same) =
           counted-made (event.Up word path) r sub after 0 may
           (none-counted (seen sub.state) (seen after) (ap (λ (k : Seen). k.serials) same) (ap (λ (k : Seen). beside k.scsw) same)) refl
-          (due-ignored (status_of sub.state) (status_of after) word path x (met returns storage sub path x).step.came.taken (met returns storage sub path x).step.came.sent e)
+          (due-ignored (status_of sub.state) (status_of after) word path x (met returns storage sub path x).step.outcome.taken (met returns storage sub path x).step.outcome.sent e)
           (λ o. refl)
-          (λ a. ignored-attended (status_of sub.state) x word path (met returns storage sub path x).step.came.taken (met returns storage sub path x).step.came.sent e)
+          (λ a. ignored-attended (status_of sub.state) x word path (met returns storage sub path x).step.outcome.taken (met returns storage sub path x).step.outcome.sent e)
       by (Taken n e effect due) =
           counted-made (event.Up word path) r sub after n may (effect-counted (Held sub.state) (seen sub.state) n (seen after) effect) refl
-          (due-taken (status_of sub.state) (status_of after) word path x (met returns storage sub path x).step.came.taken (met returns storage sub path x).step.came.sent n e
-          (due-up (seen sub.state) x (met returns storage sub path x).step.came.sent n (status_of after) (effect-one (Held sub.state) (seen sub.state) n (seen after) effect) works due))
+          (due-taken (status_of sub.state) (status_of after) word path x (met returns storage sub path x).step.outcome.taken (met returns storage sub path x).step.outcome.sent n e
+          (due-up (seen sub.state) x (met returns storage sub path x).step.outcome.sent n (status_of after) (effect-one (Held sub.state) (seen sub.state) n (seen after) effect) works due))
           (λ o. absurd (cc (sym named ∙ o)))
-          (λ a. attended-up (seen sub.state) x (met returns storage sub path x).step.came.sent n after.scsw.activity.suspended word path (met returns storage sub path x).step.came.taken due)
+          (λ a. attended-up (seen sub.state) x (met returns storage sub path x).step.outcome.sent n after.scsw.activity.suspended word path (met returns storage sub path x).step.outcome.taken due)
 
   -- lost paths
   lost-counted : (o : Option ℕ) (sub : Subchannel) → (n : ℕ) × (n ≤ 1) × IsCounted (seen sub.state) n (seen (loses_at o sub).state)
@@ -387,6 +387,6 @@ module _ (sets : ℕ) (id : SubchannelId) (known : Option Bool) where
 pub run-made : AreLaws → (setup : Setup) (h : List Entry) (s : State) → Run (opening_of setup) h s → AreMade (set_count setup) h
 run-made laws setup h s run id =
     run-between laws setup id (λ before old e r new. IsMade (set_count setup) id (enabled_in (set_count setup) id before) old e r new)
-    (λ before old e r place sub after before-run named there turned.
-    turned-made (set_count setup) id (enabled_in (set_count setup) id before) e r sub after (run-enabled laws setup id before old before-run place sub named there)
-    (run-stands laws setup id before old before-run place sub named there) turned) h s run
+    (λ before old e r index sub after before-run named there turned.
+    turned-made (set_count setup) id (enabled_in (set_count setup) id before) e r sub after (run-enabled laws setup id before old before-run index sub named there)
+    (run-stands laws setup id before old before-run index sub named there) turned) h s run

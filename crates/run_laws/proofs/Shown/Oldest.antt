@@ -11,7 +11,7 @@ use Rattle.channel_config.specs.Setup.{Setup, set_count}
 use Rattle.interruptions.specs.Requests.{WaitingRequests, is_of, is_enabled, lowest, answer, request_dropped}
 use Rattle.machine_model.specs.State.{State, opening_of}
 use Rattle.machine_model.specs.Steps.{Run, Opened, Stepped, Step}
-use Rattle.step_laws.proofs.Places.{both-true}
+use Rattle.step_laws.proofs.Indices.{both-true}
 use Rattle.run_laws.specs.Interruptions.{takes_away, are_taken, IsOldestFirst}
 use Rattle.run_laws.proofs.Shown.Asking.{step-asked}
 use Rattle.run_laws.proofs.Shown.Given.{left-kept, left-any, left}

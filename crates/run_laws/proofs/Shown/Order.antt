@@ -8,7 +8,7 @@ use Rattle.scsw_irb.specs.declared.code.IntCode.{IntCode}
 use Rattle.interruptions.specs.Requests.{WaitingRequests, is_of, stands, posted}
 use Rattle.channel_config.specs.declared.names.SubchannelId.{SubchannelId}
 use Rattle.machine_model.specs.Requests.{request_of, posted_for, posted_all}
-use Rattle.step_laws.proofs.Places.{both-true}
+use Rattle.step_laws.proofs.Indices.{both-true}
 use Rattle.subchannel_model.specs.declared.state.Subchannel.{Subchannel}
 use Rattle.run_laws.proofs.Shown.Waiting.{is_for, or-left, or-right, or-parts, for-parts}
 

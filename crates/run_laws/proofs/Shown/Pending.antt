@@ -15,6 +15,6 @@ pub run-pending : AreLaws → ((setup : Setup) (h : List Entry) (s : State) → 
     (setup : Setup) (h : List Entry) (s : State) → Run (opening_of setup) h s → ArePendingShown (set_count setup) h
 run-pending laws pending setup h s run id before after a shown eq shows =
     run-shown laws setup id (λ k. IsPendingShown k)
-    (λ h s place sub run there. let k : IsPendingUncleared sub =
-    All-contains IsPendingUncleared s.subs sub (pending setup h s run) (place, slice_get_within s.subs place sub there, get_or_from_slice_get s.subs place sub sub there) in record { order = k.order; pending = k.pending })
+    (λ h s index sub run there. let k : IsPendingUncleared sub =
+    All-contains IsPendingUncleared s.subs sub (pending setup h s run) (index, slice_get_within s.subs index sub there, get_or_from_slice_get s.subs index sub sub there) in record { order = k.order; pending = k.pending })
     h s run before after a shown eq shows

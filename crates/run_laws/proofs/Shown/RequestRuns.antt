@@ -20,7 +20,7 @@ use Rattle.run_laws.specs.StateClaims.{is_id}
 use Rattle.machine_model.specs.State.{State, opening_of}
 use Rattle.machine_model.specs.Steps.{Run, Stepped, Step}
 use Rattle.subchannel_model.specs.declared.state.Subchannel.{Subchannel}
-use Rattle.subchannel_model.specs.Places.{is_named, place_in}
+use Rattle.subchannel_model.specs.Indices.{is_named, index_in}
 use Rattle.run_laws.specs.Interruptions.{takes_away, are_taken, IsStanding, IsNotStanding, IsTested, IsAskedFor, IsAlone, IsGivenOnce}
 use Rattle.run_laws.specs.Serials.{IsDue, IsMade}
 use Rattle.run_laws.specs.Shown.{StoredStatus, names, stored_in, stored_by, is_about}
@@ -28,7 +28,7 @@ use Rattle.run_laws.proofs.Shown.Absent.{setups-stay}
 use Rattle.run_laws.proofs.Shown.Given.{step-keeps, step-why}
 use Rattle.run_laws.proofs.Shown.Made.{turned-made}
 use Rattle.run_laws.proofs.Machine.Names.{same-id}
-use Rattle.run_laws.proofs.Shown.Runs.{AreLaws, Leads, Here, Then, uncons, leads-split, onward, IsPassed, passed, passed-next, placed, place-stays, sets-stay, status_of, IsStored, step-stored}
+use Rattle.run_laws.proofs.Shown.Runs.{AreLaws, Leads, Here, Then, uncons, leads-split, onward, IsPassed, passed, passed-next, placed, index-stays, sets-stay, status_of, IsStored, step-stored}
 use Rattle.run_laws.proofs.Shown.StandingRuns.{run-stands}
 use Rattle.run_laws.proofs.Shown.Turned.{Turned, step-turns}
 use Rattle.run_laws.proofs.Shown.Waiting.{is_for, asks, asked-answer, answer-asked}
@@ -112,37 +112,37 @@ made-same sets id old e r new t k = by k.enabled k.made (about (is_about sets id
 
 module _ (laws : AreLaws) (tables : AreTables) (setup : Setup) (id : SubchannelId) where
   -- one step, of the subchannel at its place
-  record Move (place : ℕ) (s : State) (e : Event) (r : Reply) (new : State) (after : Subchannel) : Type 0 where
+  record Move (index : ℕ) (s : State) (e : Event) (r : Reply) (new : State) (after : Subchannel) : Type 0 where
     sub : Subchannel
-    there : slice_get s.subs place ≡ Some sub
-    mine : place_in id new.subs ≡ Some place
+    there : slice_get s.subs index ≡ Some sub
+    mine : index_in id new.subs ≡ Some index
     makes : IsMade (set_count setup) id None (status_of sub.state) e r (status_of after.state)
 
-  moves : (h : List Entry) (s : State) (e : Event) (r : Reply) (new : State) (place : ℕ) (after : Subchannel) → Run (opening_of setup) h s → Step s e r new →
-      place_in id s.subs ≡ Some place → slice_get new.subs place ≡ Some after → Move place s e r new after
-  moves h s e r new place after run step mine is =
-      let was : (x : Subchannel) × (slice_get s.subs place ≡ Some x) = placed (is_named id) s.subs place mine in
-      let turned : Turned s.sets id e r was.0 after.state = step-turns s id place was.0 mine was.1 e r new step after is in
+  moves : (h : List Entry) (s : State) (e : Event) (r : Reply) (new : State) (index : ℕ) (after : Subchannel) → Run (opening_of setup) h s → Step s e r new →
+      index_in id s.subs ≡ Some index → slice_get new.subs index ≡ Some after → Move index s e r new after
+  moves h s e r new index after run step mine is =
+      let was : (x : Subchannel) × (slice_get s.subs index ≡ Some x) = placed (is_named id) s.subs index mine in
+      let turned : Turned s.sets id e r was.0 after.state = step-turns s id index was.0 mine was.1 e r new step after is in
       record {
         sub = was.0;
         there = was.1;
-        mine = place-stays id s.subs new.subs (laws.setups s e r new step) ∙ mine;
-        makes = turned-made (set_count setup) id None e r was.0 after.state tt (run-stands laws setup id h s run place was.0 mine was.1)
+        mine = index-stays id s.subs new.subs (laws.setups s e r new step) ∙ mine;
+        makes = turned-made (set_count setup) id None e r was.0 after.state tt (run-stands laws setup id h s run index was.0 mine was.1)
             (subst (λ (n : ℕ). Turned n id e r was.0 after.state) (sets-stay laws setup h s run) turned);
       }
 
   -- a status that was made since is asked for
-  record Asks (m place : ℕ) (s : State) : Type 0 where
-    mine : place_in id s.subs ≡ Some place
-    asked : (sub : Subchannel) → slice_get s.subs place ≡ Some sub → m < sub.state.serials.made → asks id s.requests ≡ true
+  record Asks (m index : ℕ) (s : State) : Type 0 where
+    mine : index_in id s.subs ≡ Some index
+    asked : (sub : Subchannel) → slice_get s.subs index ≡ Some sub → m < sub.state.serials.made → asks id s.requests ≡ true
 
-  asks-step : (m place : ℕ) (h : List Entry) (s : State) (e : Event) (r : Reply) (new : State) → Run (opening_of setup) h s → Step s e r new → (id.set % 4) ≡ id.set →
-      takes_away (set_count setup) id e r ≡ false → Asks m place s → Asks m place new
-  asks-step m place h s e r new run step small not k = record {
-    mine = place-stays id s.subs new.subs (laws.setups s e r new step) ∙ k.mine;
+  asks-step : (m index : ℕ) (h : List Entry) (s : State) (e : Event) (r : Reply) (new : State) → Run (opening_of setup) h s → Step s e r new → (id.set % 4) ≡ id.set →
+      takes_away (set_count setup) id e r ≡ false → Asks m index s → Asks m index new
+  asks-step m index h s e r new run step small not k = record {
+    mine = index-stays id s.subs new.subs (laws.setups s e r new step) ∙ k.mine;
     asked = λ after is less.
-        let move : Move place s e r new after = moves h s e r new place after run step k.mine is in
-        step-keeps s id e r new place move.sub after step (tables s e r new step) move.there move.mine is small
+        let move : Move index s e r new after = moves h s e r new index after run step k.mine is in
+        step-keeps s id e r new index move.sub after step (tables s e r new step) move.there move.mine is small
         (subst (λ (n : ℕ). takes_away n id e r ≡ false) (sym (sets-stay laws setup h s run)) not)
         (either (nat_lt move.sub.state.serials.made after.state.serials.made) move.sub after refl less (λ was. k.asked move.sub move.there was));
   }
@@ -156,32 +156,32 @@ module _ (laws : AreLaws) (tables : AreTables) (setup : Setup) (id : SubchannelI
   or-false true b e = absurd (cc e)
   or-false false b e = (refl, e)
 
-  asks-along : (m place : ℕ) (h later : List Entry) (s t : State) → Run (opening_of setup) h s → Leads s later t → (id.set % 4) ≡ id.set → are_taken (set_count setup) id later ≡ false →
-      Asks m place s → Asks m place t
-  asks-along m place h _ _ _ run (Here s) small not k = k
-  asks-along m place h _ _ _ run (Then s mid new x later step rest) small not k =
+  asks-along : (m index : ℕ) (h later : List Entry) (s t : State) → Run (opening_of setup) h s → Leads s later t → (id.set % 4) ≡ id.set → are_taken (set_count setup) id later ≡ false →
+      Asks m index s → Asks m index t
+  asks-along m index h _ _ _ run (Here s) small not k = k
+  asks-along m index h _ _ _ run (Then s mid new x later step rest) small not k =
       let both = or-false (takes_away (set_count setup) id x.event x.reply) (are_taken (set_count setup) id later) not in
-      asks-along m place (h ++ x ∷ []) later mid new (Stepped h s x.event x.reply mid run step) rest small both.1
-      (asks-step m place h s x.event x.reply mid run step small both.0 k)
+      asks-along m index (h ++ x ∷ []) later mid new (Stepped h s x.event x.reply mid run step) rest small both.1
+      (asks-step m index h s x.event x.reply mid run step small both.0 k)
 
   -- a request that stands is of a status that was made since
-  record Since (m place : ℕ) (s : State) : Type 0 where
-    mine : place_in id s.subs ≡ Some place
-    since : (sub : Subchannel) → slice_get s.subs place ≡ Some sub → (m ≤ sub.state.serials.made) × (asks id s.requests ≡ true → m < sub.state.serials.made)
+  record Since (m index : ℕ) (s : State) : Type 0 where
+    mine : index_in id s.subs ≡ Some index
+    since : (sub : Subchannel) → slice_get s.subs index ≡ Some sub → (m ≤ sub.state.serials.made) × (asks id s.requests ≡ true → m < sub.state.serials.made)
 
-  since-step : (m place : ℕ) (h : List Entry) (s : State) (e : Event) (r : Reply) (new : State) → Run (opening_of setup) h s → Step s e r new → IsAlone setup id → (id.set % 4) ≡ id.set →
-      Since m place s → Since m place new
-  since-step m place h s e r new run step one small k = record {
-    mine = place-stays id s.subs new.subs (laws.setups s e r new step) ∙ k.mine;
+  since-step : (m index : ℕ) (h : List Entry) (s : State) (e : Event) (r : Reply) (new : State) → Run (opening_of setup) h s → Step s e r new → IsAlone setup id → (id.set % 4) ≡ id.set →
+      Since m index s → Since m index new
+  since-step m index h s e r new run step one small k = record {
+    mine = index-stays id s.subs new.subs (laws.setups s e r new step) ∙ k.mine;
     since = λ after is.
-        let move : Move place s e r new after = moves h s e r new place after run step k.mine is in
+        let move : Move index s e r new after = moves h s e r new index after run step k.mine is in
         let rises : move.sub.state.serials.made ≤ after.state.serials.made =
         made-rises (set_count setup) id (status_of move.sub.state) e r (status_of after.state) move.makes in
         let was = k.since move.sub move.there in (
           omega (arith, was.0, rises),
           λ asked.
               why move.sub after rises was
-              (step-why s id setup e r new place move.sub after step (tables s e r new step) (laws.setups s e r new step ∙ setups-stay laws setup h s run) one small k.mine move.there move.mine is asked),
+              (step-why s id setup e r new index move.sub after step (tables s e r new step) (laws.setups s e r new step ∙ setups-stay laws setup h s run) one small k.mine move.there move.mine is asked),
         );
   }
     where
@@ -191,12 +191,12 @@ module _ (laws : AreLaws) (tables : AreTables) (setup : Setup) (id : SubchannelI
       why sub after rises was (inl p) = let less : m < sub.state.serials.made = was.1 p.1 in omega (arith, less, rises)
       why sub after rises was (inr rose) = let le : m ≤ sub.state.serials.made = was.0 in omega (arith, le, rose)
 
-  since-along : (m place : ℕ) (h later : List Entry) (s t : State) → Run (opening_of setup) h s → Leads s later t → IsAlone setup id → (id.set % 4) ≡ id.set →
-      Since m place s → Since m place t
-  since-along m place h _ _ _ run (Here s) one small k = k
-  since-along m place h _ _ _ run (Then s mid new x later step rest) one small k =
-      since-along m place (h ++ x ∷ []) later mid new (Stepped h s x.event x.reply mid run step) rest one small
-      (since-step m place h s x.event x.reply mid run step one small k)
+  since-along : (m index : ℕ) (h later : List Entry) (s t : State) → Run (opening_of setup) h s → Leads s later t → IsAlone setup id → (id.set % 4) ≡ id.set →
+      Since m index s → Since m index t
+  since-along m index h _ _ _ run (Here s) one small k = k
+  since-along m index h _ _ _ run (Then s mid new x later step rest) one small k =
+      since-along m index (h ++ x ∷ []) later mid new (Stepped h s x.event x.reply mid run step) rest one small
+      (since-step m index h s x.event x.reply mid run step one small k)
 
   -- STORE SUBCHANNEL at an entry
   stored-at : (h : List Entry) (s : State) (x : Entry) (new : State) (shown : StoredStatus) → Run (opening_of setup) h s → Step s x.event x.reply new →
@@ -204,30 +204,30 @@ module _ (laws : AreLaws) (tables : AreTables) (setup : Setup) (id : SubchannelI
   stored-at h s x new shown run step e =
       step-stored id s new shown x.event x.reply step (subst (λ (n : ℕ). stored_by n id x.event x.reply ≡ Some shown) (sym (sets-stay laws setup h s run)) e)
 
-  same-sub : (subs news : List Subchannel) (place : ℕ) (x y : Subchannel) → news ≡ subs → slice_get subs place ≡ Some x → slice_get news place ≡ Some y → y ≡ x
-  same-sub subs news place x y e f g = same_Some y x (sym g ∙ ap (λ (xs : List Subchannel). slice_get xs place) e ∙ f)
+  same-sub : (subs news : List Subchannel) (index : ℕ) (x y : Subchannel) → news ≡ subs → slice_get subs index ≡ Some x → slice_get news index ≡ Some y → y ≡ x
+  same-sub subs news index x y e f g = same_Some y x (sym g ∙ ap (λ (xs : List Subchannel). slice_get xs index) e ∙ f)
 
   leads-none : (s t : State) → Leads s [] t → s ≡ t
   leads-none _ _ (Here s) = refl
 
   -- a request stands on
-  now-step : (place : ℕ) (h : List Entry) (s : State) (e : Event) (r : Reply) (new : State) → Run (opening_of setup) h s → Step s e r new → (id.set % 4) ≡ id.set →
-      takes_away (set_count setup) id e r ≡ false → place_in id s.subs ≡ Some place → asks id s.requests ≡ true → asks id new.requests ≡ true
-  now-step place h s e r new run step four not mine asked =
-      let here : place_in id new.subs ≡ Some place = place-stays id s.subs new.subs (laws.setups s e r new step) ∙ mine in
-      let after : (x : Subchannel) × (slice_get new.subs place ≡ Some x) = placed (is_named id) new.subs place here in
-      let move : Move place s e r new after.0 = moves h s e r new place after.0 run step mine after.1 in
-      step-keeps s id e r new place move.sub after.0 step (tables s e r new step) move.there here after.1 four
+  now-step : (index : ℕ) (h : List Entry) (s : State) (e : Event) (r : Reply) (new : State) → Run (opening_of setup) h s → Step s e r new → (id.set % 4) ≡ id.set →
+      takes_away (set_count setup) id e r ≡ false → index_in id s.subs ≡ Some index → asks id s.requests ≡ true → asks id new.requests ≡ true
+  now-step index h s e r new run step four not mine asked =
+      let here : index_in id new.subs ≡ Some index = index-stays id s.subs new.subs (laws.setups s e r new step) ∙ mine in
+      let after : (x : Subchannel) × (slice_get new.subs index ≡ Some x) = placed (is_named id) new.subs index here in
+      let move : Move index s e r new after.0 = moves h s e r new index after.0 run step mine after.1 in
+      step-keeps s id e r new index move.sub after.0 step (tables s e r new step) move.there here after.1 four
       (subst (λ (n : ℕ). takes_away n id e r ≡ false) (sym (sets-stay laws setup h s run)) not) (inl asked)
 
-  now-along : (place : ℕ) (h later : List Entry) (s t : State) → Run (opening_of setup) h s → Leads s later t → (id.set % 4) ≡ id.set → are_taken (set_count setup) id later ≡ false →
-      place_in id s.subs ≡ Some place → asks id s.requests ≡ true → asks id t.requests ≡ true
-  now-along place h _ _ _ run (Here s) four not mine asked = asked
-  now-along place h _ _ _ run (Then s mid new x later step rest) four not mine asked =
+  now-along : (index : ℕ) (h later : List Entry) (s t : State) → Run (opening_of setup) h s → Leads s later t → (id.set % 4) ≡ id.set → are_taken (set_count setup) id later ≡ false →
+      index_in id s.subs ≡ Some index → asks id s.requests ≡ true → asks id t.requests ≡ true
+  now-along index h _ _ _ run (Here s) four not mine asked = asked
+  now-along index h _ _ _ run (Then s mid new x later step rest) four not mine asked =
       let both = or-false (takes_away (set_count setup) id x.event x.reply) (are_taken (set_count setup) id later) not in
-      now-along place (h ++ x ∷ []) later mid new (Stepped h s x.event x.reply mid run step) rest four both.1
-      (place-stays id s.subs mid.subs (laws.setups s x.event x.reply mid step) ∙ mine)
-      (now-step place h s x.event x.reply mid run step four both.0 mine asked)
+      now-along index (h ++ x ∷ []) later mid new (Stepped h s x.event x.reply mid run step) rest four both.1
+      (index-stays id s.subs mid.subs (laws.setups s x.event x.reply mid step) ∙ mine)
+      (now-step index h s x.event x.reply mid run step four both.0 mine asked)
 
   pub standing-asks : (h : List Entry) (s : State) → Run (opening_of setup) h s → IsStanding (set_count setup) id h → asks id s.requests ≡ true
   standing-asks h s run k =
@@ -242,25 +242,25 @@ module _ (laws : AreLaws) (tables : AreTables) (setup : Setup) (id : SubchannelI
       let begun : Run o (k.before ++ k.first ∷ []) first.is = Stepped k.before first.was k.first.event k.first.reply first.is first.run first.step in
       let split = leads-split first.is s k.middle (k.second ∷ k.later) first.rest in
       let one = uncons split.0 s k.second k.later split.2 in
-      let start : Asks k.old.serials.made was.place first.is = record {
-        mine = ap (λ (xs : List Subchannel). place_in id xs) was.subs ∙ was.named;
+      let start : Asks k.old.serials.made was.index first.is = record {
+        mine = ap (λ (xs : List Subchannel). index_in id xs) was.subs ∙ was.named;
         asked = λ sub there more.
-            let same : sub ≡ was.sub = same-sub first.was.subs first.is.subs was.place was.sub sub was.subs was.there there in
+            let same : sub ≡ was.sub = same-sub first.was.subs first.is.subs was.index was.sub sub was.subs was.there there in
             let made : k.old.serials.made ≡ sub.state.serials.made = ap (λ (x : StoredStatus). x.serials.made) was.shows ∙ ap (λ (x : Subchannel). x.state.serials.made) (sym same) in
             absurd (omega (arith, made, more));
       } in
       let along : Run o ((k.before ++ k.first ∷ []) ++ k.middle) split.0 = onward o first.is split.0 (k.before ++ k.first ∷ []) k.middle begun split.1 in
-      let there : Asks k.old.serials.made was.place split.0 =
-      asks-along k.old.serials.made was.place (k.before ++ k.first ∷ []) k.middle first.is split.0 begun split.1 quiet.1 takes.0 start in
+      let there : Asks k.old.serials.made was.index split.0 =
+      asks-along k.old.serials.made was.index (k.before ++ k.first ∷ []) k.middle first.is split.0 begun split.1 quiet.1 takes.0 start in
       let left : IsStored id split.0 one.0 k.new = stored-at ((k.before ++ k.first ∷ []) ++ k.middle) split.0 k.second one.0 k.new along one.1 k.shows_new in
-      let after-c : Asks k.old.serials.made was.place one.0 =
-      asks-step k.old.serials.made was.place ((k.before ++ k.first ∷ []) ++ k.middle) split.0 k.second.event k.second.reply one.0 along one.1 quiet.1 quiet.0 there in
-      let place : left.place ≡ was.place = same_Some left.place was.place (sym left.named ∙ there.mine) in
-      let sub-there : slice_get one.0.subs was.place ≡ Some left.sub =
-      ap (λ (xs : List Subchannel). slice_get xs was.place) left.subs ∙ (ap (λ (n : ℕ). slice_get split.0.subs n) (sym place) ∙ left.there) in
+      let after-c : Asks k.old.serials.made was.index one.0 =
+      asks-step k.old.serials.made was.index ((k.before ++ k.first ∷ []) ++ k.middle) split.0 k.second.event k.second.reply one.0 along one.1 quiet.1 quiet.0 there in
+      let index : left.index ≡ was.index = same_Some left.index was.index (sym left.named ∙ there.mine) in
+      let sub-there : slice_get one.0.subs was.index ≡ Some left.sub =
+      ap (λ (xs : List Subchannel). slice_get xs was.index) left.subs ∙ (ap (λ (n : ℕ). slice_get split.0.subs n) (sym index) ∙ left.there) in
       let made : k.new.serials.made ≡ left.sub.state.serials.made = ap (λ (x : StoredStatus). x.serials.made) left.shows in
       let less : k.old.serials.made < k.new.serials.made = k.made in
-      now-along was.place (((k.before ++ k.first ∷ []) ++ k.middle) ++ k.second ∷ []) k.later one.0 s
+      now-along was.index (((k.before ++ k.first ∷ []) ++ k.middle) ++ k.second ∷ []) k.later one.0 s
       (Stepped ((k.before ++ k.first ∷ []) ++ k.middle) split.0 k.second.event k.second.reply one.0 along one.1) one.2 quiet.1 takes-later.1 after-c.mine
       (after-c.asked left.sub sub-there (omega (arith, less, made)))
 
@@ -272,20 +272,20 @@ module _ (laws : AreLaws) (tables : AreTables) (setup : Setup) (id : SubchannelI
       passed o s k.before (k.first ∷ (k.middle ++ (k.second ∷ []))) k.away (subst (λ (x : List Entry). Run o x s) k.are run) in
       let first : IsPassed o (k.before ++ k.away ∷ []) k.first (k.middle ++ (k.second ∷ [])) s = passed-next o s k.before (k.middle ++ (k.second ∷ [])) k.away k.first zero in
       let was : IsStored id first.was first.is k.old = stored-at (k.before ++ k.away ∷ []) first.was k.first first.is k.old first.run first.step k.shows_old in
-      let began : place_in id zero.was.subs ≡ Some was.place =
-      sym (place-stays id zero.was.subs zero.is.subs (laws.setups zero.was k.away.event k.away.reply zero.is zero.step)) ∙ was.named in
-      let move : Move was.place zero.was k.away.event k.away.reply zero.is was.sub =
-      moves k.before zero.was k.away.event k.away.reply zero.is was.place was.sub zero.run zero.step began was.there in
+      let began : index_in id zero.was.subs ≡ Some was.index =
+      sym (index-stays id zero.was.subs zero.is.subs (laws.setups zero.was k.away.event k.away.reply zero.is zero.step)) ∙ was.named in
+      let move : Move was.index zero.was k.away.event k.away.reply zero.is was.sub =
+      moves k.before zero.was k.away.event k.away.reply zero.is was.index was.sub zero.run zero.step began was.there in
       let still : was.sub.state.serials.made ≤ move.sub.state.serials.made =
       made-same (set_count setup) id (status_of move.sub.state) k.away.event k.away.reply (status_of was.sub.state) k.taken move.makes in
       let old-made : k.old.serials.made ≡ was.sub.state.serials.made = ap (λ (x : StoredStatus). x.serials.made) was.shows in
       let never : asks id zero.is.requests ≡ true → ⊥ = λ asked.
-      elim (step-why zero.was id setup k.away.event k.away.reply zero.is was.place move.sub was.sub zero.step (tables zero.was k.away.event k.away.reply zero.is zero.step)
+      elim (step-why zero.was id setup k.away.event k.away.reply zero.is was.index move.sub was.sub zero.step (tables zero.was k.away.event k.away.reply zero.is zero.step)
       (laws.setups zero.was k.away.event k.away.reply zero.is zero.step ∙ setups-stay laws setup k.before zero.was zero.run) one-of quiet.1 began move.there was.named was.there asked) [
         | inl p ↦ cc (sym p.0 ∙ subst (λ (n : ℕ). takes_away n id k.away.event k.away.reply ≡ true) (sym (sets-stay laws setup k.before zero.was zero.run)) k.taken)
         | inr rose ↦ omega (arith, rose, still)
       ] in
-      let start : Since k.old.serials.made was.place zero.is = record {
+      let start : Since k.old.serials.made was.index zero.is = record {
         mine = was.named;
         since = λ sub there.
             let same : sub ≡ was.sub = same_Some sub was.sub (sym there ∙ was.there) in
@@ -298,14 +298,14 @@ module _ (laws : AreLaws) (tables : AreTables) (setup : Setup) (id : SubchannelI
       let one = uncons split.0 s k.second [] split.2 in
       let begun : Run o (k.before ++ k.away ∷ []) zero.is = Stepped k.before zero.was k.away.event k.away.reply zero.is zero.run zero.step in
       let along : Run o ((k.before ++ k.away ∷ []) ++ more) split.0 = onward o zero.is split.0 (k.before ++ k.away ∷ []) more begun split.1 in
-      let there : Since k.old.serials.made was.place split.0 =
-      since-along k.old.serials.made was.place (k.before ++ k.away ∷ []) more zero.is split.0 begun split.1 one-of quiet.1 start in
+      let there : Since k.old.serials.made was.index split.0 =
+      since-along k.old.serials.made was.index (k.before ++ k.away ∷ []) more zero.is split.0 begun split.1 one-of quiet.1 start in
       let left : IsStored id split.0 one.0 k.new = stored-at ((k.before ++ k.away ∷ []) ++ more) split.0 k.second one.0 k.new along one.1 k.shows_new in
-      let after-c : Since k.old.serials.made was.place one.0 =
-      since-step k.old.serials.made was.place ((k.before ++ k.away ∷ []) ++ more) split.0 k.second.event k.second.reply one.0 along one.1 one-of quiet.1 there in
-      let place : left.place ≡ was.place = same_Some left.place was.place (sym left.named ∙ there.mine) in
-      let sub-there : slice_get one.0.subs was.place ≡ Some left.sub =
-      ap (λ (xs : List Subchannel). slice_get xs was.place) left.subs ∙ (ap (λ (n : ℕ). slice_get split.0.subs n) (sym place) ∙ left.there) in
+      let after-c : Since k.old.serials.made was.index one.0 =
+      since-step k.old.serials.made was.index ((k.before ++ k.away ∷ []) ++ more) split.0 k.second.event k.second.reply one.0 along one.1 one-of quiet.1 there in
+      let index : left.index ≡ was.index = same_Some left.index was.index (sym left.named ∙ there.mine) in
+      let sub-there : slice_get one.0.subs was.index ≡ Some left.sub =
+      ap (λ (xs : List Subchannel). slice_get xs was.index) left.subs ∙ (ap (λ (n : ℕ). slice_get split.0.subs n) (sym index) ∙ left.there) in
       let made : k.new.serials.made ≡ left.sub.state.serials.made = ap (λ (x : StoredStatus). x.serials.made) left.shows in
       let same-made : k.new.serials.made ≡ k.old.serials.made = k.made in
       let end : one.0 ≡ s = leads-none one.0 s one.2 in

@@ -17,8 +17,8 @@ use Rattle.machine_model.specs.State.{State, opening_of}
 use Rattle.machine_model.specs.Steps.{Run, Opened, Stepped, Step}
 use Rattle.subchannel_model.specs.declared.state.Subchannel.{Subchannel}
 use Rattle.subchannel_model.specs.declared.state.SubchannelState.{SubchannelState}
-use Rattle.subchannel_model.specs.Places.{Found, found_at, first_place, is_named, place_in, one_later}
-use Rattle.step_laws.proofs.Places.{map-get, found-there}
+use Rattle.subchannel_model.specs.Indices.{Found, found_at, first_index, is_named, index_in, one_later}
+use Rattle.step_laws.proofs.Indices.{map-get, found-there}
 use Rattle.step_laws.specs.Walks.{AreWalks}
 use Rattle.subchannel_model.specs.Opening.{opening_subchannel, opened}
 use Rattle.run_laws.specs.Shown.{StoredStatus, names, stored_in, stored_by, Between}
@@ -85,75 +85,75 @@ passed-next o new before after x y k =
     let one = uncons k.is new y after k.rest in
     record { was = k.is; is = one.0; run = Stepped before k.was x.event x.reply k.is k.run k.step; step = one.1; rest = one.2 }
 
--- the places of subchannels stay
-pub place-by : (id : SubchannelId) (subs : List Subchannel) →
-    place_in id subs ≡ first_place (λ (x : SubchannelSetup). (x.id.set == id.set) && (x.id.number == id.number)) (map (λ sub. sub.setup) subs)
-place-by id [] = refl
-place-by id (x ∷ xs) = ap (λ (p : Option ℕ). if is_named id x then Some 0 else one_later p) (place-by id xs)
+-- the indices of subchannels stay
+pub index-by : (id : SubchannelId) (subs : List Subchannel) →
+    index_in id subs ≡ first_index (λ (x : SubchannelSetup). (x.id.set == id.set) && (x.id.number == id.number)) (map (λ sub. sub.setup) subs)
+index-by id [] = refl
+index-by id (x ∷ xs) = ap (λ (p : Option ℕ). if is_named id x then Some 0 else one_later p) (index-by id xs)
 
-pub place-stays : (id : SubchannelId) (subs news : List Subchannel) → map (λ sub. sub.setup) news ≡ map (λ sub. sub.setup) subs → place_in id news ≡ place_in id subs
-place-stays id subs news e =
-    place-by id news
-    ∙ ap (λ (xs : List SubchannelSetup). first_place (λ (x : SubchannelSetup). (x.id.set == id.set) && (x.id.number == id.number)) xs) e
-    ∙ sym (place-by id subs)
+pub index-stays : (id : SubchannelId) (subs news : List Subchannel) → map (λ sub. sub.setup) news ≡ map (λ sub. sub.setup) subs → index_in id news ≡ index_in id subs
+index-stays id subs news e =
+    index-by id news
+    ∙ ap (λ (xs : List SubchannelSetup). first_index (λ (x : SubchannelSetup). (x.id.set == id.set) && (x.id.number == id.number)) xs) e
+    ∙ sym (index-by id subs)
 
 pub sets-stay : AreLaws → (setup : Setup) (h : List Entry) (s : State) → Run (opening_of setup) h s → s.sets ≡ set_count setup
 sets-stay laws setup _ _ Opened = refl
 sets-stay laws setup _ _ (Stepped h old e r new run step) = laws.sets old e r new step ∙ sets-stay laws setup h old run
 
 -- what is so at the opening, and is kept by whatever befalls the subchannel, is so after each run
-pub placed : (test : Subchannel → Bool) (subs : List Subchannel) (place : ℕ) → first_place test subs ≡ Some place → (x : Subchannel) × (slice_get subs place ≡ Some x)
-placed test [] place e = absurd (cc e)
-placed test (x ∷ xs) place e = by (test x) (first_place test xs) (λ i h. placed test xs i h) e
+pub placed : (test : Subchannel → Bool) (subs : List Subchannel) (index : ℕ) → first_index test subs ≡ Some index → (x : Subchannel) × (slice_get subs index ≡ Some x)
+placed test [] index e = absurd (cc e)
+placed test (x ∷ xs) index e = by (test x) (first_index test xs) (λ i h. placed test xs i h) e
   where
-    by : (b : Bool) (o : Option ℕ) → ((i : ℕ) → o ≡ Some i → (y : Subchannel) × (slice_get xs i ≡ Some y)) → (if b then Some 0 else one_later o) ≡ Some place →
-        (y : Subchannel) × (slice_get (x ∷ xs) place ≡ Some y)
-    by true o later f = (x, ap (λ (n : ℕ). slice_get (x ∷ xs) n) (sym (same_Some 0 place f)))
+    by : (b : Bool) (o : Option ℕ) → ((i : ℕ) → o ≡ Some i → (y : Subchannel) × (slice_get xs i ≡ Some y)) → (if b then Some 0 else one_later o) ≡ Some index →
+        (y : Subchannel) × (slice_get (x ∷ xs) index ≡ Some y)
+    by true o later f = (x, ap (λ (n : ℕ). slice_get (x ∷ xs) n) (sym (same_Some 0 index f)))
     by false None later f = absurd (cc f)
     by false (Some i) rest f =
         let later : (y : Subchannel) × (slice_get xs i ≡ Some y) = rest i refl in
-        let is : suc i ≡ place = let n : i + 1 ≡ place = same_Some (i + 1) place f in omega (arith, n) in
+        let is : suc i ≡ index = let n : i + 1 ≡ index = same_Some (i + 1) index f in omega (arith, n) in
         (later.0, ap (λ (n : ℕ). slice_get (x ∷ xs) n) (sym is) ∙ later.1)
 
 pub run-keeps : AreLaws → (setup : Setup) (id : SubchannelId) (P : List Entry → SubchannelState → Type 0) → P [] opening_subchannel →
     ((h : List Entry) (e : Event) (r : Reply) (sub : Subchannel) (after : SubchannelState) → P h sub.state → Turned (set_count setup) id e r sub after →
     P (h ++ record { event = e; reply = r } ∷ []) after) →
-    (h : List Entry) (s : State) → Run (opening_of setup) h s → (place : ℕ) (sub : Subchannel) → place_in id s.subs ≡ Some place → slice_get s.subs place ≡ Some sub → P h sub.state
-run-keeps laws setup id P opens keeps _ _ Opened place sub named there =
-    let p : (x : SubchannelSetup) × (slice_get setup.subchannels place ≡ Some x) × (opened x ≡ sub) = map-get opened setup.subchannels place sub there in
+    (h : List Entry) (s : State) → Run (opening_of setup) h s → (index : ℕ) (sub : Subchannel) → index_in id s.subs ≡ Some index → slice_get s.subs index ≡ Some sub → P h sub.state
+run-keeps laws setup id P opens keeps _ _ Opened index sub named there =
+    let p : (x : SubchannelSetup) × (slice_get setup.subchannels index ≡ Some x) × (opened x ≡ sub) = map-get opened setup.subchannels index sub there in
     subst (λ (y : Subchannel). P [] y.state) p.2 opens
-run-keeps laws setup id P opens keeps _ _ (Stepped h old e r new run step) place sub named there =
-    let at : place_in id old.subs ≡ Some place = sym (place-stays id old.subs new.subs (laws.setups old e r new step)) ∙ named in
-    let was : (x : Subchannel) × (slice_get old.subs place ≡ Some x) = placed (is_named id) old.subs place at in
+run-keeps laws setup id P opens keeps _ _ (Stepped h old e r new run step) index sub named there =
+    let at : index_in id old.subs ≡ Some index = sym (index-stays id old.subs new.subs (laws.setups old e r new step)) ∙ named in
+    let was : (x : Subchannel) × (slice_get old.subs index ≡ Some x) = placed (is_named id) old.subs index at in
     let turned : Turned old.sets id e r was.0 sub.state =
-    step-turns old id place was.0 at was.1 e r new step sub there in
-    keeps h e r was.0 sub.state (run-keeps laws setup id P opens keeps h old run place was.0 at was.1)
+    step-turns old id index was.0 at was.1 e r new step sub there in
+    keeps h e r was.0 sub.state (run-keeps laws setup id P opens keeps h old run index was.0 at was.1)
     (subst (λ (n : ℕ). Turned n id e r was.0 sub.state) (sets-stay laws setup h old run) turned)
 
 -- what STORE SUBCHANNEL showed is so of the subchannel at its place
 pub record IsStored (id : SubchannelId) (s new : State) (shown : StoredStatus) : Type 0 where
-  pub place : ℕ
+  pub index : ℕ
   pub sub : Subchannel
-  pub named : place_in id s.subs ≡ Some place
-  pub there : slice_get s.subs place ≡ Some sub
+  pub named : index_in id s.subs ≡ Some index
+  pub there : slice_get s.subs index ≡ Some sub
   pub shows : shown ≡ status_of sub.state
   pub subs : new.subs ≡ s.subs
 
 module _ (id : SubchannelId) (s new : State) (shown : StoredStatus) where
-  named-stored : (cpu word address : ℕ) (r : Reply) (q : Option Found) → found_at s.subs (place_in id s.subs) ≡ q → IsDone s (instruction.Stsch word address) q r new →
+  named-stored : (cpu word address : ℕ) (r : Reply) (q : Option Found) → found_at s.subs (index_in id s.subs) ≡ q → IsDone s (instruction.Stsch word address) q r new →
       stored_in r ≡ Some shown → IsStored id s new shown
   named-stored cpu word address r None found done e = absurd (cc (sym (ap stored_in done.replies) ∙ e))
   named-stored cpu word address r (Some f) found done e =
-      let there : (place_in id s.subs ≡ Some f.place) × (slice_get s.subs f.place ≡ Some f.sub) = found-there s.subs (place_in id s.subs) f found in
+      let there : (index_in id s.subs ≡ Some f.index) × (slice_get s.subs f.index ≡ Some f.sub) = found-there s.subs (index_in id s.subs) f found in
       record {
-        place = f.place;
+        index = f.index;
         sub = f.sub;
         named = there.0;
         there = there.1;
         shows = same_Some shown (status_of f.sub.state) (sym e ∙ ap stored_in done.replies);
         subs = done.subs
-            ∙ ap (λ (x : SubchannelState). slice_set s.subs f.place (record f.sub { state = x })) done.is
-            ∙ set-same s.subs f.place f.sub there.1;
+            ∙ ap (λ (x : SubchannelState). slice_set s.subs f.index (record f.sub { state = x })) done.is
+            ∙ set-same s.subs f.index f.sub there.1;
       }
 
   if-stored : (cpu word address : ℕ) (r : Reply) (b : Bool) → names s.sets id word ≡ b → IsExecuted s (instruction.Stsch word address) r new →
@@ -161,8 +161,8 @@ module _ (id : SubchannelId) (s new : State) (shown : StoredStatus) where
   if-stored cpu word address r false n k e = absurd (cc e)
   if-stored cpu word address r true n k e =
       let same : k.id ≡ id = same-id k.id id (subst (λ (x : Option SubchannelId). is_id x id ≡ true) k.named n) in
-      named-stored cpu word address r (found_at s.subs (place_in id s.subs)) refl
-      (subst (λ (x : SubchannelId). IsDone s (instruction.Stsch word address) (found_at s.subs (place_in x s.subs)) r new) same k.done) e
+      named-stored cpu word address r (found_at s.subs (index_in id s.subs)) refl
+      (subst (λ (x : SubchannelId). IsDone s (instruction.Stsch word address) (found_at s.subs (index_in x s.subs)) r new) same k.done) e
 
   instruction-stored : (cpu : ℕ) (i : Instruction) (r : Reply) → Step s (event.Execute cpu i) r new → stored_by s.sets id (event.Execute cpu i) r ≡ Some shown →
       IsStored id s new shown
@@ -176,8 +176,8 @@ module _ (id : SubchannelId) (s new : State) (shown : StoredStatus) where
 
 -- what is so of each step of a run, of the subchannel of a name, is so between what is shown of it
 abbrev pub IsOfSteps : (setup : Setup) → SubchannelId → (List Entry → StoredStatus → Event → Reply → StoredStatus → Type 0) → Type 0
-IsOfSteps setup id Claim = (h : List Entry) (s : State) (e : Event) (r : Reply) (place : ℕ) (sub : Subchannel) (after : SubchannelState) → Run (opening_of setup) h s →
-    place_in id s.subs ≡ Some place → slice_get s.subs place ≡ Some sub → Turned (set_count setup) id e r sub after →
+IsOfSteps setup id Claim = (h : List Entry) (s : State) (e : Event) (r : Reply) (index : ℕ) (sub : Subchannel) (after : SubchannelState) → Run (opening_of setup) h s →
+    index_in id s.subs ≡ Some index → slice_get s.subs index ≡ Some sub → Turned (set_count setup) id e r sub after →
     Claim h (status_of sub.state) e r (status_of after)
 
 shown-so : (Claim : List Entry → StoredStatus → Event → Reply → StoredStatus → Type 0) (h : List Entry) (old was new is : StoredStatus) (e : Event) (r : Reply) →
@@ -198,21 +198,21 @@ run-between laws setup id Claim is h s run before after a b c old new eq shows-a
     let left : IsStored id third.was third.is new =
     step-stored id third.was third.is new c.event c.reply third.step
     (subst (λ (n : ℕ). stored_by n id c.event c.reply ≡ Some new) (sym (sets-stay laws setup _ third.was third.run)) shows-c) in
-    let named : place_in id second.was.subs ≡ Some was.place = ap (λ (xs : List Subchannel). place_in id xs) was.subs ∙ was.named in
-    let there : slice_get second.was.subs was.place ≡ Some was.sub = ap (λ (xs : List Subchannel). slice_get xs was.place) was.subs ∙ was.there in
-    let same : left.place ≡ was.place =
-    same_Some left.place was.place
-    (sym left.named ∙ place-stays id second.was.subs second.is.subs (laws.setups second.was b.event b.reply second.is second.step) ∙ named) in
-    let after-there : slice_get second.is.subs was.place ≡ Some left.sub = ap (λ (n : ℕ). slice_get second.is.subs n) (sym same) ∙ left.there in
+    let named : index_in id second.was.subs ≡ Some was.index = ap (λ (xs : List Subchannel). index_in id xs) was.subs ∙ was.named in
+    let there : slice_get second.was.subs was.index ≡ Some was.sub = ap (λ (xs : List Subchannel). slice_get xs was.index) was.subs ∙ was.there in
+    let same : left.index ≡ was.index =
+    same_Some left.index was.index
+    (sym left.named ∙ index-stays id second.was.subs second.is.subs (laws.setups second.was b.event b.reply second.is second.step) ∙ named) in
+    let after-there : slice_get second.is.subs was.index ≡ Some left.sub = ap (λ (n : ℕ). slice_get second.is.subs n) (sym same) ∙ left.there in
     let turned : Turned second.was.sets id b.event b.reply was.sub left.sub.state =
-    step-turns second.was id was.place was.sub named there b.event b.reply second.is second.step left.sub after-there in
+    step-turns second.was id was.index was.sub named there b.event b.reply second.is second.step left.sub after-there in
     shown-so Claim (before ++ a ∷ []) old (status_of was.sub.state) new (status_of left.sub.state) b.event b.reply was.shows left.shows
-    (is (before ++ a ∷ []) second.was b.event b.reply was.place was.sub left.sub.state second.run named there
+    (is (before ++ a ∷ []) second.was b.event b.reply was.index was.sub left.sub.state second.run named there
     (subst (λ (n : ℕ). Turned n id b.event b.reply was.sub left.sub.state) (sets-stay laws setup _ second.was second.run) turned))
 
 -- what is so of each subchannel after each run is so of what is shown
 pub run-shown : AreLaws → (setup : Setup) (id : SubchannelId) (P : StoredStatus → Type 0) →
-    ((h : List Entry) (s : State) (place : ℕ) (sub : Subchannel) → Run (opening_of setup) h s → slice_get s.subs place ≡ Some sub → P (status_of sub.state)) →
+    ((h : List Entry) (s : State) (index : ℕ) (sub : Subchannel) → Run (opening_of setup) h s → slice_get s.subs index ≡ Some sub → P (status_of sub.state)) →
     (h : List Entry) (s : State) → Run (opening_of setup) h s → (before after : List Entry) (a : Entry) (shown : StoredStatus) → h ≡ before ++ (a ∷ after) →
     stored_by (set_count setup) id a.event a.reply ≡ Some shown → P shown
 run-shown laws setup id P is h s run before after a shown eq shows =
@@ -221,4 +221,4 @@ run-shown laws setup id P is h s run before after a shown eq shows =
     let was : IsStored id k.was k.is shown =
     step-stored id k.was k.is shown a.event a.reply k.step
     (subst (λ (n : ℕ). stored_by n id a.event a.reply ≡ Some shown) (sym (sets-stay laws setup before k.was k.run)) shows) in
-    subst P (sym was.shows) (is before k.was was.place was.sub k.run was.there)
+    subst P (sym was.shows) (is before k.was was.index was.sub k.run was.there)

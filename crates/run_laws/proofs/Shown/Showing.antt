@@ -36,7 +36,7 @@ use Rattle.subchannel_model.specs.Conditions.{left_by}
 use Rattle.subchannel_model.specs.Ends.{has_shown, last_shown, work_shown}
 use Rattle.subchannel_model.specs.Halt.{drops_status, status_dropped, halt_begun}
 use Rattle.subchannel_model.specs.Losing.{path_lost, path_index, loses_at, loses, shows_at}
-use Rattle.subchannel_model.specs.Places.{place_in}
+use Rattle.subchannel_model.specs.Indices.{index_in}
 use Rattle.subchannel_model.specs.Programs.{without_programs}
 use Rattle.subchannel_model.specs.Status.{intermediate_alone, without_status}
 use Rattle.subchannel_model.specs.Test.{tested, ended_scsw, suspended_scsw, tested_wholly}
@@ -256,8 +256,8 @@ pub record IsWhole (s : SubchannelState) : Type 0 where
   pub stands : Stands (seen s)
   shows : Shows (seen s)
 
-pub whole : AreLaws → (setup : Setup) (id : SubchannelId) (h : List Entry) (s : State) → Run (opening_of setup) h s → (place : ℕ) (sub : Subchannel) →
-    place_in id s.subs ≡ Some place → slice_get s.subs place ≡ Some sub → IsWhole sub.state
+pub whole : AreLaws → (setup : Setup) (id : SubchannelId) (h : List Entry) (s : State) → Run (opening_of setup) h s → (index : ℕ) (sub : Subchannel) →
+    index_in id s.subs ≡ Some index → slice_get s.subs index ≡ Some sub → IsWhole sub.state
 whole laws setup id =
     run-keeps laws setup id (λ h s. IsWhole s)
     (record { held = λ e. absurd (cc e); stands = empty-stands _ refl refl refl; shows = idle-shows _ refl refl refl })

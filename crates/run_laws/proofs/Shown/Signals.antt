@@ -8,15 +8,15 @@ use Rattle.chan_model.specs.declared.hold_state.HoldState.{HoldState}
 use Rattle.chan_model.specs.Signals.{Down, Load, Up, load_bytes}
 use Rattle.chan_model.specs.declared.signal.OnPath.{OnPath}
 use Rattle.chan_model.specs.declared.signal.Up.TheVariants as up
-use Rattle.chan_model.specs.HoldTable.{HoldStep, hold_takes, hold_after, came_of, program_begun, is_connected, is_on}
+use Rattle.chan_model.specs.HoldTable.{HoldStep, hold_takes, hold_after, outcome_of, program_begun, is_connected, is_on}
 use Rattle.chan_model.specs.Loads.{load_length}
 use Rattle.chan_model.specs.UnitReports.{is_last_end, is_outward, has_device_end}
-use Rattle.ccw_walk.specs.Places.{WalkPlace}
+use Rattle.ccw_walk.specs.Positions.{WalkPosition}
 use Rattle.data_move.specs.Moving.{residual}
 use Rattle.scsw_irb.specs.declared.status.DeviceStatus.{DeviceStatus}
 use Rattle.storage_keys.specs.Storage.{Contents}
 use Rattle.data_move.specs.declared.transfer.CommandStart.{CommandStart}
-use Rattle.data_move.specs.declared.transfer.CommandStart.TheVariants as came
+use Rattle.data_move.specs.declared.transfer.CommandStart.TheVariants as outcome
 use Rattle.data_move.specs.declared.transfer.Transfer.{Transfer}
 use Rattle.data_move.specs.Commands.{first_command, next_command, begun_with_room, with_room}
 use Rattle.data_move.specs.ToDevice.{chunk_absorbed, next_chunk}
@@ -66,8 +66,8 @@ Due k (up.Attn a status) sent n suspended =
 Due k signal sent n suspended = n ≡ 0
 
 pub data Comes (H : Type 0) (k : Seen) (x : Up) (step : UpStep) : Type 0 where
-  Ignored : step.came.taken ≡ false → seen step.state ≡ k → Comes H k x step
-  Taken : (n : ℕ) → step.came.taken ≡ true → Effect H k n (seen step.state) → Due k x step.came.sent n step.state.scsw.activity.suspended → Comes H k x step
+  Ignored : step.outcome.taken ≡ false → seen step.state ≡ k → Comes H k x step
+  Taken : (n : ℕ) → step.outcome.taken ≡ true → Effect H k n (seen step.state) → Due k x step.outcome.sent n step.state.scsw.activity.suspended → Comes H k x step
 
 if-comes : (H : Type 0) (k : Seen) (x : Up) (b : Bool) (a c : UpStep) → Comes H k x a → Comes H k x c → Comes H k x (if b then a else c)
 if-comes H k x true a c e f = e
@@ -116,7 +116,7 @@ moving-goes : (H : Type 0) (s : SubchannelState) (b : ActiveProgram) (t : Transf
 moving-goes H s b t e chains = moves-goes H s b t t.pci_pending t.walk.tried (residual t.moving) e chains
 
 -- a program is suspended: it lets the device go
-suspends-goes : (H : Type 0) (s : SubchannelState) (program : Program) (walk : WalkPlace) (count : ℕ) (quiet : Bool) → IsGoing H (seen s) →
+suspends-goes : (H : Type 0) (s : SubchannelState) (program : Program) (walk : WalkPosition) (count : ℕ) (quiet : Bool) → IsGoing H (seen s) →
     (n : ℕ)
     × Effect H (seen s) n (seen (if quiet then record (with_suspended_program s program walk count) { scsw = suspended_alone s.scsw }
     else with_cause (with_suspended_program s program walk count) (cause.Suspension walk.tried count)))
@@ -133,18 +133,18 @@ none-standing (Some w) st start x e f g = cc f
 
 module _ (storage : Contents) where
   -- the program takes the device: no halt is pending
-  beginning-comes : (H : Type 0) (s : SubchannelState) (u p t : ℕ) (st : ProgramPosition) (walk : WalkPlace) (c : CommandStart) → IsStanding (seen s) → (H → s.begun ≡ None) →
+  beginning-comes : (H : Type 0) (s : SubchannelState) (u p t : ℕ) (st : ProgramPosition) (walk : WalkPosition) (c : CommandStart) → IsStanding (seen s) → (H → s.begun ≡ None) →
       s.scsw.activity.halt_pending ≡ false → Comes H (seen s) (up.Accept u) (first_ccw_outcome storage s p t st walk c)
-  beginning-comes H s u p t st walk (came.Begins transfer) stands none idle =
+  beginning-comes H s u p t st walk (outcome.Begins transfer) stands none idle =
       let x = begun_with_room storage transfer in
       by (takes-goes H s st.program x.transfer x.transfer.pci_pending x.transfer.walk.tried (residual x.transfer.moving) stands none)
     where
-      by : Goes H (seen s) (first_ccw_outcome storage s p t st walk (came.Begins transfer)).state → Comes H (seen s) (up.Accept u) (first_ccw_outcome storage s p t st walk (came.Begins transfer))
+      by : Goes H (seen s) (first_ccw_outcome storage s p t st walk (outcome.Begins transfer)).state → Comes H (seen s) (up.Accept u) (first_ccw_outcome storage s p t st walk (outcome.Begins transfer))
       by (Went n effect) = Taken n refl effect (λ r h. absurd (cc (sym h ∙ idle)))
-  beginning-comes H s u p t st walk came.Suspends stands none idle =
+  beginning-comes H s u p t st walk outcome.Suspends stands none idle =
       let g = suspends-goes H s st.program walk st.count st.program.orb.suppress_suspended (inl (stands, none)) in
       Taken g.0 refl g.1 (λ r h. absurd (cc (sym h ∙ idle)))
-  beginning-comes H s u p t st walk (came.Stops check) stands none idle =
+  beginning-comes H s u p t st walk (outcome.Stops check) stands none idle =
       Taken 1 refl (causes H s (cause.FetchFault walk.tried check st.count) (inl (stands, none))) (λ r h. absurd (cc (sym h ∙ idle)))
 
   begin-comes : (H : Type 0) (s : SubchannelState) (u p t : ℕ) (o : Option ProgramPosition) → is_some o ≡ true → offered_position s ≡ o → (H → s.begun ≡ None) → s.scsw.activity.halt_pending ≡ false →
@@ -152,11 +152,11 @@ module _ (storage : Contents) where
   begin-comes H s u p t None is e none idle = absurd (cc is)
   begin-comes H s u p t (Some st) is e none idle =
       let first = first_command storage st.walk in
-      beginning-comes H s u p t st first.walk first.came (λ w x. none-standing s.waiting s.suspended s.offered st e w x) none idle
+      beginning-comes H s u p t st first.walk first.outcome (λ w x. none-standing s.waiting s.suspended s.offered st e w x) none idle
 
   -- a halt that is pending is performed
   halted-comes : (H : Type 0) (s x : SubchannelState) (u : ℕ) (sent : Option (OnPath Down)) (pending : Bool) → seen x ≡ seen s → s.scsw.activity.halt_pending ≡ pending →
-      Comes H (seen s) (up.Accept u) (record { state = if pending then with_cause x cause.HaltDone else x; came = record { taken = true; sent = sent } })
+      Comes H (seen s) (up.Accept u) (record { state = if pending then with_cause x cause.HaltDone else x; outcome = record { taken = true; sent = sent } })
   halted-comes H s x u sent true same e =
       Taken 1 refl (subst (λ (k : Seen). Effect H k 1 (seen (with_cause x cause.HaltDone))) same (causes H x cause.HaltDone tt)) (λ r h. refl)
   halted-comes H s x u sent false same e = Taken 0 refl (subst (λ (k : Seen). Effect H k 0 (seen x)) same Nothing) (λ r h. absurd (cc (sym h ∙ e)))
@@ -187,10 +187,10 @@ module _ (storage : Contents) where
 
   -- Data
   giving-comes : (H : Type 0) (s : SubchannelState) (x : Up) (b : ActiveProgram) (signal : DataSignal) (t : Transfer) (sent : Option (OnPath Down)) → s.begun ≡ Some b →
-      (t.unchained ≡ false → b.transfer.unchained ≡ false) → ((n : ℕ) (y : Bool) → Due (seen s) x sent n y) → Comes H (seen s) x (record { state = after_chunk s b t; came = record { taken = true; sent = sent } })
+      (t.unchained ≡ false → b.transfer.unchained ≡ false) → ((n : ℕ) (y : Bool) → Due (seen s) x sent n y) → Comes H (seen s) x (record { state = after_chunk s b t; outcome = record { taken = true; sent = sent } })
   giving-comes H s x b signal t sent e chains due = by (moving-goes H s b t e chains)
     where
-      by : Goes H (seen s) (after_chunk s b t) → Comes H (seen s) x (record { state = after_chunk s b t; came = record { taken = true; sent = sent } })
+      by : Goes H (seen s) (after_chunk s b t) → Comes H (seen s) x (record { state = after_chunk s b t; outcome = record { taken = true; sent = sent } })
       by (Went n effect) = Taken n refl effect (due n _)
 
   move-comes : (H : Type 0) (s : SubchannelState) (u c m k : ℕ) (o : Option ActiveProgram) (signal : DataSignal) (load : Load) → s.begun ≡ o →
@@ -212,28 +212,28 @@ module _ (storage : Contents) where
   abbrev IsDue : Seen → Up → Type 0
   IsDue k x = (n : ℕ) (sent : Option (OnPath Down)) (y : Bool) → (IsReleased sent → y ≡ false → n ≡ 1) → Due k x sent n y
 
-  chaining-comes : (H : Type 0) (s : SubchannelState) (x : Up) (b : ActiveProgram) (signal : EndSignal) (walk : WalkPlace) (c : CommandStart) → s.begun ≡ Some b →
+  chaining-comes : (H : Type 0) (s : SubchannelState) (x : Up) (b : ActiveProgram) (signal : EndSignal) (walk : WalkPosition) (c : CommandStart) → s.begun ≡ Some b →
       b.transfer.unchained ≡ false → IsDue (seen s) x → Comes H (seen s) x (next_ccw_outcome storage s (with_first_end b) signal walk c)
-  chaining-comes H s x b signal walk (came.Begins transfer) e free due = by (moves-goes H s b t t.pci_pending t.walk.tried (residual t.moving) e (λ u. free))
+  chaining-comes H s x b signal walk (outcome.Begins transfer) e free due = by (moves-goes H s b t t.pci_pending t.walk.tried (residual t.moving) e (λ u. free))
     where
       t : Transfer
       t = (begun_with_room storage transfer).transfer
 
-      by : Goes H (seen s) (after_chunk s b t) → Comes H (seen s) x (next_ccw_outcome storage s (with_first_end b) signal walk (came.Begins transfer))
+      by : Goes H (seen s) (after_chunk s b t) → Comes H (seen s) x (next_ccw_outcome storage s (with_first_end b) signal walk (outcome.Begins transfer))
       by (Went n effect) = Taken n refl effect (due n _ _ (λ r. absurd (cc r)))
-  chaining-comes H s x b signal walk came.Suspends e free due =
+  chaining-comes H s x b signal walk outcome.Suspends e free due =
       let g = suspends-goes H (with_allegiance_after_end s signal) b.program walk (residual b.transfer.moving) b.program.orb.suppress_suspended (inr (b, e, free)) in
       Taken g.0 refl g.1 (due g.0 _ _ (λ r ends. g.2 ends))
-  chaining-comes H s x b signal walk (came.Stops check) e free due =
+  chaining-comes H s x b signal walk (outcome.Stops check) e free due =
       Taken 1 refl (causes H (with_allegiance_after_end s signal) (cause.FetchFault walk.tried check (residual b.transfer.moving)) (inr (b, e, free))) (due 1 _ _ (λ r ends. refl))
 
   goes-comes : (H : Type 0) (s : SubchannelState) (x : Up) (b : ActiveProgram) (signal : EndSignal) → s.begun ≡ Some b → b.transfer.unchained ≡ false → IsDue (seen s) x →
       Comes H (seen s) x (chains_at_device_end storage s (with_first_end b) signal)
   goes-comes H s x b signal e free due =
       let next = next_command storage (with_first_end b).transfer (has_status_modifier signal.status) in
-      if-comes H (seen s) x (has_device_end signal.status) (next_ccw_outcome storage s (with_first_end b) signal next.walk next.came)
+      if-comes H (seen s) x (has_device_end signal.status) (next_ccw_outcome storage s (with_first_end b) signal next.walk next.outcome)
       (signal_taken (record (with_allegiance_after_end s signal) { begun = Some (with_first_end b) }))
-      (chaining-comes H s x b signal next.walk next.came e free due)
+      (chaining-comes H s x b signal next.walk next.outcome e free due)
       (Taken 0 refl (Moves b (with_first_end b).transfer e (λ u. u)) (due 0 None _ (λ r. absurd r)))
 
   stops-comes : (H : Type 0) (s : SubchannelState) (x : Up) (b : ActiveProgram) (signal : EndSignal) → s.begun ≡ Some b → IsDue (seen s) x → Comes H (seen s) x (concludes s b signal)
@@ -298,7 +298,7 @@ reset_cleared-comes H s h (hold.Reset n) p r = by (r == n)
 
 -- a signal that the hold alone takes
 held-comes : (H : Type 0) (s : SubchannelState) (x : Up) (step : Option HoldStep) → ((sent : Option (OnPath Down)) (y : Bool) → Due (seen s) x sent 0 y) →
-    Comes H (seen s) x (record { state = record s { hold = hold_after s.hold step }; came = came_of step })
+    Comes H (seen s) x (record { state = record s { hold = hold_after s.hold step }; outcome = outcome_of step })
 held-comes H s x None due = Ignored refl refl
 held-comes H s x (Some step) due = Taken 0 refl Nothing (due step.sent _)
 
@@ -309,7 +309,7 @@ back-comes H s t c p (Some step) = Taken 0 refl Nothing refl
 -- Attn
 attended-comes : (H : Type 0) (s x : SubchannelState) (a : ℕ) (status : DeviceStatus) (sent : Option (OnPath Down)) (quiet : Bool) →
     seen x ≡ seen s → may_take_attention s ≡ true → (status.0 == 0x20) ≡ quiet →
-    Comes H (seen s) (up.Attn a status) (record { state = if true && not quiet then with_cause x cause.Attention else x; came = record { taken = true; sent = sent } })
+    Comes H (seen s) (up.Attn a status) (record { state = if true && not quiet then with_cause x cause.Attention else x; outcome = record { taken = true; sent = sent } })
 attended-comes H s x a status sent true same may e =
     Taken 0 refl (subst (λ (k : Seen). Effect H k 0 (seen x)) same Nothing) (may, ap (λ (b : Bool). if b then 0 else 1) (sym e))
 attended-comes H s x a status sent false same may e =

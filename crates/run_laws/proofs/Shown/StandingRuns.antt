@@ -32,7 +32,7 @@ use Rattle.subchannel_model.specs.Choosing.{chosen, marked_sub}
 use Rattle.subchannel_model.specs.Conditions.{any_function, start_alone, left_by}
 use Rattle.subchannel_model.specs.Halt.{shows_end, drops_status, status_dropped, halt_begun}
 use Rattle.subchannel_model.specs.Losing.{path_lost, path_index, loses_at, loses, shows_at}
-use Rattle.subchannel_model.specs.Places.{place_in}
+use Rattle.subchannel_model.specs.Indices.{index_in}
 use Rattle.subchannel_model.specs.Programs.{without_programs}
 use Rattle.subchannel_model.specs.Start.{started}
 use Rattle.orb_block.specs.declared.Orb.{Orb}
@@ -241,15 +241,15 @@ record IsWhole (s : SubchannelState) : Type 0 where
   held : Held s
   stands : Stands (seen s)
 
-pub run-stands : AreLaws → (setup : Setup) (id : SubchannelId) (h : List Entry) (s : State) → Run (opening_of setup) h s → (place : ℕ) (sub : Subchannel) →
-    place_in id s.subs ≡ Some place → slice_get s.subs place ≡ Some sub → Stands (seen sub.state)
-run-stands laws setup id h s run place sub named there =
+pub run-stands : AreLaws → (setup : Setup) (id : SubchannelId) (h : List Entry) (s : State) → Run (opening_of setup) h s → (index : ℕ) (sub : Subchannel) →
+    index_in id s.subs ≡ Some index → slice_get s.subs index ≡ Some sub → Stands (seen sub.state)
+run-stands laws setup id h s run index sub named there =
     let w : IsWhole sub.state =
     run-keeps laws setup id (λ h s. IsWhole s) (record { held = λ e. absurd (cc e); stands = empty-stands _ refl refl refl })
     (λ h e r sub after k turned. record {
       held = turned-held (set_count setup) id e r sub after k.held turned;
       stands = turned-stands (set_count setup) id e r sub after k.held k.stands turned;
-    }) h s run place sub named there in
+    }) h s run index sub named there in
     w.stands
 
 -- where a program is there, the activity shows it

@@ -32,11 +32,11 @@ use Rattle.machine_model.specs.DownSteps.{down_front, down_sub, asks_at}
 use Rattle.chan_events.specs.Instructions.{subchannel_word}
 use Rattle.machine_model.specs.PathSteps.{swept, with_swept}
 use Rattle.machine_model.specs.ReportSteps.{report_taken}
-use Rattle.machine_model.specs.State.{State, place_of, with_sub}
+use Rattle.machine_model.specs.State.{State, index_of, with_sub}
 use Rattle.machine_model.specs.Steps.{Step}
-use Rattle.machine_model.specs.Turns.{SubTurn, UpTurn, DownTurn, with_state}
+use Rattle.machine_model.specs.Results.{SubResult, UpResult, DownResult, with_state}
 use Rattle.machine_model.specs.UpSteps.{up_front, up_sub, returns_at}
-use Rattle.step_laws.proofs.Places.{set-get, map-get, found-there}
+use Rattle.step_laws.proofs.Indices.{set-get, map-get, found-there}
 use Rattle.step_laws.specs.Walks.{sweep_event}
 use Rattle.subchannel_model.specs.declared.cause.StatusCause.TheVariants as cause
 use Rattle.subchannel_model.specs.declared.state.Chosen.{Chosen}
@@ -45,7 +45,7 @@ use Rattle.subchannel_model.specs.declared.state.Subchannel.{Subchannel}
 use Rattle.subchannel_model.specs.declared.state.SubchannelState.{SubchannelState}
 use Rattle.subchannel_model.specs.Causes.{with_cause}
 use Rattle.subchannel_model.specs.Choosing.{path_use, engaged_paths, return_paths, is_away, unsent_reset, paths_unreset, paths_to_choose, chosen, marked_sub, reset_sent, halt_sent, offered}
-use Rattle.subchannel_model.specs.Places.{Found, found_at, place_in, place_of_id, found_with}
+use Rattle.subchannel_model.specs.Indices.{Found, found_at, index_in, index_of_id, found_with}
 use Rattle.subchannel_model.specs.Sending.{carried_by, finds_full}
 use Rattle.subchannel_model.specs.Store.{available_paths}
 use Rattle.subchannel_model.specs.Outcomes.{SignalOutcome}
@@ -54,10 +54,10 @@ use Rattle.wires.specs.Queues.{queue}
 use Rattle.run_laws.specs.Shown.{names, is_about}
 use Rattle.step_laws.proofs.Executed.{IsEffect, reply_of, code_for, state_left, IsDone}
 use Rattle.run_laws.proofs.Shown.Executed.{IsExecuted, as-executed}
-use Rattle.run_laws.proofs.Machine.Names.{same-id, named-is, named-place}
+use Rattle.run_laws.proofs.Machine.Names.{same-id, named-is, named-index}
 use Rattle.machine_model.specs.Sharing.{may_take}
-use Rattle.step_laws.proofs.Turns as turn
-use Rattle.step_laws.proofs.Turns.{TurnOf, HasTurn, step-turn}
+use Rattle.step_laws.proofs.Results as turn
+use Rattle.step_laws.proofs.Results.{ResultOf, HasResult, step-turn}
 
 -- what is answered as the subsystem does what is chosen, and what it leaves of the subchannel
 abbrev pub reply_chosen : SubchannelState → Chosen → Reply
@@ -80,7 +80,7 @@ abbrev pub met : Bool → Contents → Subchannel → ℕ → Up → SignalOutco
 met returns storage sub path x = takes_up returns storage sub.state path x
 
 abbrev pub reply_met : Up → SignalOutcome → Reply
-reply_met x m = reply.Up x m.step.came.taken m.step.came.sent
+reply_met x m = reply.Up x m.step.outcome.taken m.step.outcome.sent
 
 -- a halt goes to a program that is away by a path by which it may come back, where there is one
 abbrev pub IsAwayChoice : Subchannel → Option ℕ → Type 0
@@ -97,21 +97,21 @@ pub data Turned (sets : ℕ) (id : SubchannelId) : Event → Reply → Subchanne
   Rests : (e : Event) (r : Reply) (sub : Subchannel) → is_about sets id e ≡ false → Turned sets id e r sub sub.state
 
 -- a choice
-send-chosen : (sub : Subchannel) (state : SubchannelState) (full : Bool) (r : Reply) (other : Subchannel) (t : SubTurn) → other.state ≡ state →
+send-chosen : (sub : Subchannel) (state : SubchannelState) (full : Bool) (r : Reply) (other : Subchannel) (t : SubResult) → other.state ≡ state →
     (if full then Err fault.WireFull else Ok (record { reply = r; sub = other })) ≡ Ok t → (t.reply ≡ r) × (t.sub.state ≡ state)
 send-chosen sub state true r other t e ok = absurd (cc ok)
 send-chosen sub state false r other t e ok =
     let same : record { reply = r; sub = other } ≡ t = cc ok in
-    (ap (λ (x : SubTurn). x.reply) (sym same), ap (λ (x : SubTurn). x.sub.state) (sym same) ∙ e)
+    (ap (λ (x : SubResult). x.reply) (sym same), ap (λ (x : SubResult). x.sub.state) (sym same) ∙ e)
 
-abbrev turn_done : Reply → Subchannel → Result SubTurn Fault
+abbrev turn_done : Reply → Subchannel → Result SubResult Fault
 turn_done r sub = Ok (record { reply = r; sub = sub })
 
-done-chosen : (r : Reply) (sub : Subchannel) (t : SubTurn) → turn_done r sub ≡ Ok t → (t.reply ≡ r) × (t.sub.state ≡ sub.state)
+done-chosen : (r : Reply) (sub : Subchannel) (t : SubResult) → turn_done r sub ≡ Ok t → (t.reply ≡ r) × (t.sub.state ≡ sub.state)
 done-chosen r sub t ok =
-    let same : record { reply = r; sub = sub } ≡ t = cc ok in (ap (λ (x : SubTurn). x.reply) (sym same), ap (λ (x : SubTurn). x.sub.state) (sym same))
+    let same : record { reply = r; sub = sub } ≡ t = cc ok in (ap (λ (x : SubResult). x.reply) (sym same), ap (λ (x : SubResult). x.sub.state) (sym same))
 
-choice-left : (sub : Subchannel) (c : Chosen) (t : SubTurn) → choose_sub sub c ≡ Ok t → (t.reply ≡ reply_chosen sub.state c) × (t.sub.state ≡ state_chosen sub.state c)
+choice-left : (sub : Subchannel) (c : Chosen) (t : SubResult) → choose_sub sub c ≡ Ok t → (t.reply ≡ reply_chosen sub.state c) × (t.sub.state ≡ state_chosen sub.state c)
 choice-left sub Idle t ok = done-chosen reply.Idle sub t ok
 choice-left sub (Resets r path) t ok = send-chosen sub (reset_sent sub.state path) _ (reply.ResetSent r path) _ t refl ok
 choice-left sub PerformsClear t ok = done-chosen reply.Pending (with_state sub (with_cause sub.state cause.ClearDone)) t ok
@@ -134,15 +134,15 @@ away-choice subs sub choice is pending away =
     ∙ ap (λ (b : Bool). if b then return_paths sub else usable_paths (path_use sub) (engaged_paths subs sub)) away) is
 
 -- a signal that comes up
-record IsMetBy (returns : Bool) (storage : Contents) (sub : Subchannel) (path : ℕ) (t : UpTurn) : Type 0 where
+record IsMetBy (returns : Bool) (storage : Contents) (sub : Subchannel) (path : ℕ) (t : UpResult) : Type 0 where
   signal : Up
   replies : t.reply ≡ reply_met signal (met returns storage sub path signal)
   state : t.sub.state ≡ (met returns storage sub path signal).step.state
 
-front-met : (returns : Bool) (storage : Contents) (sub : Subchannel) (path : ℕ) (x : Option Up) (t : UpTurn) → up_front returns storage sub path x ≡ Ok t →
+front-met : (returns : Bool) (storage : Contents) (sub : Subchannel) (path : ℕ) (x : Option Up) (t : UpResult) → up_front returns storage sub path x ≡ Ok t →
     IsMetBy returns storage sub path t
 front-met returns storage sub path None t ok = absurd (cc ok)
-front-met returns storage sub path (Some x) t ok = full (finds_full sub.wires.down (carried_by sub m.step.came.sent)) ok
+front-met returns storage sub path (Some x) t ok = full (finds_full sub.wires.down (carried_by sub m.step.outcome.sent)) ok
   where
     m : SignalOutcome
     m = met returns storage sub path x
@@ -152,9 +152,9 @@ front-met returns storage sub path (Some x) t ok = full (finds_full sub.wires.do
     full true e = absurd (cc e)
     full false e =
         let same : record { reply = reply_met x m; sub = Rattle.machine_model.specs.UpSteps.with_met sub path m.step; storage = m.storage } ≡ t = cc e in
-        record { signal = x; replies = ap (λ (y : UpTurn). y.reply) (sym same); state = ap (λ (y : UpTurn). y.sub.state) (sym same) }
+        record { signal = x; replies = ap (λ (y : UpResult). y.reply) (sym same); state = ap (λ (y : UpResult). y.sub.state) (sym same) }
 
-up-met : (returns : Bool) (storage : Contents) (sub : Subchannel) (path : ℕ) (t : UpTurn) → up_sub returns storage sub path ≡ Ok t → IsMetBy returns storage sub path t
+up-met : (returns : Bool) (storage : Contents) (sub : Subchannel) (path : ℕ) (t : UpResult) → up_sub returns storage sub path ≡ Ok t → IsMetBy returns storage sub path t
 up-met returns storage sub path t ok = within (nat_lt path (length sub.setup.paths)) ok
   where
     within : (b : Bool) → (if b then up_front returns storage sub path (slice_get (queue sub.wires.up path) 0) else Err fault.NoSuchPath) ≡ Ok t → IsMetBy returns storage sub path t
@@ -166,14 +166,14 @@ if-ok : {A : Type 0} (P : A → Type 0) (b : Bool) (x y : Result A Fault) → If
 if-ok P true x y e f = e
 if-ok P false x y e f = f
 
-abbrev IsApart : Subchannel → DownTurn → Type 0
+abbrev IsApart : Subchannel → DownResult → Type 0
 IsApart sub t = t.sub.state ≡ sub.state
 
 front-apart : (may : Bool) (sub : Subchannel) (path : ℕ) (u : UnitState) (front : Option Down) → IfOk (down_front may sub path u front) (IsApart sub)
 front-apart may sub path u None = tt
 front-apart may sub path u (Some d) =
     let step : Option UnitStep = unit_takes u sub.setup.side path d may in
-    if-ok (IsApart sub) (finds_full sub.wires.up (carried_by sub (unit_table.came_of step).sent)) _ _ tt refl
+    if-ok (IsApart sub) (finds_full sub.wires.up (carried_by sub (unit_table.outcome_of step).sent)) _ _ tt refl
 
 down-apart : (may : Bool) (sub : Subchannel) (path : ℕ) (u : UnitState) → IfOk (down_sub may sub path u) (IsApart sub)
 down-apart may sub path u =
@@ -187,21 +187,21 @@ step-apart sub (Some step) = if-ok (IsApart sub) (finds_full sub.wires.up (carri
 act-apart : (sub : Subchannel) (u : UnitState) (what : UnitAct) → IfOk (act_sub sub u what) (IsApart sub)
 act-apart sub u what = if-ok (IsApart sub) (has_path_of_act sub what) (report_taken sub (acts u sub.setup.side what)) _ (step-apart sub (acts u sub.setup.side what)) tt
 
--- of the subchannel at a place, whose name this is
-module _ (s : State) (id : SubchannelId) (place : ℕ) (sub : Subchannel) (mine : place_in id s.subs ≡ Some place) (there : slice_get s.subs place ≡ Some sub) where
+-- of the subchannel at an index, whose name this is
+module _ (s : State) (id : SubchannelId) (index : ℕ) (sub : Subchannel) (mine : index_in id s.subs ≡ Some index) (there : slice_get s.subs index ≡ Some sub) where
   abbrev Turns : Event → Reply → State → Type 0
-  Turns e r new = (after : Subchannel) → slice_get new.subs place ≡ Some after → Turned s.sets id e r sub after.state
+  Turns e r new = (after : Subchannel) → slice_get new.subs index ≡ Some after → Turned s.sets id e r sub after.state
 
   rests : (e : Event) (r : Reply) (new : State) → is_about s.sets id e ≡ false → new.subs ≡ s.subs → Turns e r new
   rests e r new about same after left =
-      let is : sub ≡ after = same_Some sub after (sym there ∙ sym (ap (λ (xs : List Subchannel). slice_get xs place) same) ∙ left) in
+      let is : sub ≡ after = same_Some sub after (sym there ∙ sym (ap (λ (xs : List Subchannel). slice_get xs index) same) ∙ left) in
       subst (λ (x : Subchannel). Turned s.sets id e r sub x.state) is (Rests e r sub about)
 
   -- one subchannel was changed
   one-turns : (e : Event) (r : Reply) (new : State) (k : ℕ) (x y : Subchannel) → slice_get s.subs k ≡ Some x → new.subs ≡ slice_set s.subs k y →
-      (place_in id s.subs ≡ Some k → Turned s.sets id e r x y.state) → ((place ≡ k → ⊥) → is_about s.sets id e ≡ false) → Turns e r new
+      (index_in id s.subs ≡ Some k → Turned s.sets id e r x y.state) → ((index ≡ k → ⊥) → is_about s.sets id e ≡ false) → Turns e r new
   one-turns e r new k x y at same turned apart after left =
-      elim (set-get s.subs k y place after (sym (ap (λ (xs : List Subchannel). slice_get xs place) same) ∙ left)) [
+      elim (set-get s.subs k y index after (sym (ap (λ (xs : List Subchannel). slice_get xs index) same) ∙ left)) [
         | inl p ↦
             let is : x ≡ sub = same_Some x sub (sym at ∙ ap (λ (n : ℕ). slice_get s.subs n) (sym p.0) ∙ there) in
             subst (λ (z : Subchannel). Turned s.sets id e r z after.state) is
@@ -212,47 +212,47 @@ module _ (s : State) (id : SubchannelId) (place : ℕ) (sub : Subchannel) (mine 
       ]
 
   -- a word that names another subchannel
-  not-named : (word k : ℕ) → place_of s word ≡ Some k → (place ≡ k → ⊥) → names s.sets id word ≡ false
+  not-named : (word k : ℕ) → index_of s word ≡ Some k → (index ≡ k → ⊥) → names s.sets id word ≡ false
   not-named word k at other = either (names s.sets id word) refl
     where
       either : (b : Bool) → names s.sets id word ≡ b → names s.sets id word ≡ false
       either false e = e
-      either true e = absurd (other (same_Some place k (sym mine ∙ named-place s.subs id (subchannel_named s.sets word) k at e)))
+      either true e = absurd (other (same_Some index k (sym mine ∙ named-index s.subs id (subchannel_named s.sets word) k at e)))
 
-  named-here : (word k : ℕ) (x : Subchannel) → place_of s word ≡ Some k → slice_get s.subs k ≡ Some x → place_in id s.subs ≡ Some k → names s.sets id word ≡ true
+  named-here : (word k : ℕ) (x : Subchannel) → index_of s word ≡ Some k → slice_get s.subs k ≡ Some x → index_in id s.subs ≡ Some k → names s.sets id word ≡ true
   named-here word k x at found here = named-is s.subs id (subchannel_named s.sets word) k x at here found
 
   -- a sweep
   swept-turns : (what : Sweep) (r : Reply) (new : State) → new.subs ≡ map (swept what) s.subs → Turns (sweep_event what) r new
   swept-turns what r new same after left =
-      let p : (x : Subchannel) × (slice_get s.subs place ≡ Some x) × (swept what x ≡ after) =
-      map-get (swept what) s.subs place after (sym (ap (λ (xs : List Subchannel). slice_get xs place) same) ∙ left) in
+      let p : (x : Subchannel) × (slice_get s.subs index ≡ Some x) × (swept what x ≡ after) =
+      map-get (swept what) s.subs index after (sym (ap (λ (xs : List Subchannel). slice_get xs index) same) ∙ left) in
       let is : p.0 ≡ sub = same_Some p.0 sub (sym p.1 ∙ there) in
       subst (λ (z : Subchannel). Turned s.sets id (sweep_event what) r sub z.state) (ap (swept what) (sym is) ∙ p.2) (Sweeps what r sub)
 
   -- an instruction
   executed-turns : (cpu : ℕ) (i : Instruction) (r : Reply) (new : State) → IsExecuted s i r new → Turns (event.Execute cpu i) r new
-  executed-turns cpu i r new k = by (found_at s.subs (place_in k.id s.subs)) refl k.done
+  executed-turns cpu i r new k = by (found_at s.subs (index_in k.id s.subs)) refl k.done
     where
-      at : place_of s (subchannel_word i) ≡ place_in k.id s.subs
-      at = ap (place_of_id s.subs) k.named
+      at : index_of s (subchannel_word i) ≡ index_in k.id s.subs
+      at = ap (index_of_id s.subs) k.named
 
-      by : (q : Option Found) → found_at s.subs (place_in k.id s.subs) ≡ q → IsDone s i q r new → Turns (event.Execute cpu i) r new
+      by : (q : Option Found) → found_at s.subs (index_in k.id s.subs) ≡ q → IsDone s i q r new → Turns (event.Execute cpu i) r new
       by None found done = rests (event.Execute cpu i) r new (absent (names s.sets id (subchannel_word i)) refl) done.subs
         where
           absent : (b : Bool) → names s.sets id (subchannel_word i) ≡ b → names s.sets id (subchannel_word i) ≡ false
           absent false e = e
           absent true e =
               let same : k.id ≡ id = same-id k.id id (subst (λ (x : Option SubchannelId). is_id x id ≡ true) k.named e) in
-              let none : found_at s.subs (Some place) ≡ None = ap (found_at s.subs) (sym mine ∙ ap (λ (x : SubchannelId). place_in x s.subs) (sym same)) ∙ found in
-              let some : found_at s.subs (Some place) ≡ Some (record { place = place; sub = sub }) = ap (found_with place) there in
+              let none : found_at s.subs (Some index) ≡ None = ap (found_at s.subs) (sym mine ∙ ap (λ (x : SubchannelId). index_in x s.subs) (sym same)) ∙ found in
+              let some : found_at s.subs (Some index) ≡ Some (record { index = index; sub = sub }) = ap (found_with index) there in
               absurd (cc (sym none ∙ some))
       by (Some f) found done =
-          let was : (place_in k.id s.subs ≡ Some f.place) × (slice_get s.subs f.place ≡ Some f.sub) = found-there s.subs (place_in k.id s.subs) f found in
-          one-turns (event.Execute cpu i) r new f.place f.sub (with_state f.sub (state_left i f.sub done.effect)) was.1 done.subs
+          let was : (index_in k.id s.subs ≡ Some f.index) × (slice_get s.subs f.index ≡ Some f.sub) = found-there s.subs (index_in k.id s.subs) f found in
+          one-turns (event.Execute cpu i) r new f.index f.sub (with_state f.sub (state_left i f.sub done.effect)) was.1 done.subs
           (λ here. subst (λ (x : Reply). Turned s.sets id (event.Execute cpu i) x f.sub (state_left i f.sub done.effect)) (sym done.replies)
-          (Executes cpu i f.sub done.effect (named-here (subchannel_word i) f.place f.sub (at ∙ was.0) was.1 here) done.is))
-          (not-named (subchannel_word i) f.place (at ∙ was.0))
+          (Executes cpu i f.sub done.effect (named-here (subchannel_word i) f.index f.sub (at ∙ was.0) was.1 here) done.is))
+          (not-named (subchannel_word i) f.index (at ∙ was.0))
 
   -- what a unit does of itself leaves the state of its subchannel
   apart-turns : (e : Event) (r : Reply) (new : State) (k : ℕ) (x y : Subchannel) → is_about s.sets id e ≡ false → slice_get s.subs k ≡ Some x → new.subs ≡ slice_set s.subs k y →
@@ -261,7 +261,7 @@ module _ (s : State) (id : SubchannelId) (place : ℕ) (sub : Subchannel) (mine 
       one-turns e r new k x y at same (λ here. subst (λ (z : SubchannelState). Turned s.sets id e r x z) (sym apart) (Rests e r x about)) (λ n. about)
 
   -- each turn of an event
-  turn-turns : (e : Event) (r : Reply) (new : State) → TurnOf s e r new → Turns e r new
+  turn-turns : (e : Event) (r : Reply) (new : State) → ResultOf s e r new → Turns e r new
   turn-turns _ _ _ (turn.Executes cpu i named q r storage subs n e blocks left done) =
       executed-turns cpu i r (record s { storage = storage; subs = subs }) (as-executed s i named q r storage subs s.requests n e done)
   turn-turns _ _ _ (turn.Chosen word k x choice t n at is ok) =
@@ -281,11 +281,11 @@ module _ (s : State) (id : SubchannelId) (place : ℕ) (sub : Subchannel) (mine 
       (Meets word path returns s.storage x was.signal (named-here word k x n at here))))
       (not-named word k n)
   turn-turns _ _ _ (turn.Takes word path k x u t n at found ok) =
-      apart-turns _ t.reply (with_sub s k t.sub) k x t.sub refl at refl (subst (λ (r : Result DownTurn Fault). IfOk r (IsApart x)) ok (down-apart (may_take s.members x.setup.«unit» (asks_at x path u)) x path u))
+      apart-turns _ t.reply (with_sub s k t.sub) k x t.sub refl at refl (subst (λ (r : Result DownResult Fault). IfOk r (IsApart x)) ok (down-apart (may_take s.members x.setup.«unit» (asks_at x path u)) x path u))
   turn-turns _ _ _ (turn.Reports unit k x u report t found first at ok) =
-      apart-turns _ t.reply (with_sub s k t.sub) k x t.sub refl at refl (subst (λ (r : Result DownTurn Fault). IfOk r (IsApart x)) ok (step-apart x (unit_reports u report)))
+      apart-turns _ t.reply (with_sub s k t.sub) k x t.sub refl at refl (subst (λ (r : Result DownResult Fault). IfOk r (IsApart x)) ok (step-apart x (unit_reports u report)))
   turn-turns _ _ _ (turn.Acts unit k x u what side t found is first at ok) =
-      apart-turns _ t.reply (with_sub s k t.sub) k x t.sub refl at refl (subst (λ (r : Result DownTurn Fault). IfOk r (IsApart x)) ok (act-apart x u what))
+      apart-turns _ t.reply (with_sub s k t.sub) k x t.sub refl at refl (subst (λ (r : Result DownResult Fault). IfOk r (IsApart x)) ok (act-apart x u what))
   turn-turns _ _ _ (turn.GoesDown chpid) = swept-turns (sweep.GoesDown chpid) reply.Done (with_swept s (sweep.GoesDown chpid)) refl
   turn-turns _ _ _ (turn.ComesUp chpid) = swept-turns (sweep.ComesUp chpid) reply.Done (with_swept s (sweep.ComesUp chpid)) refl
   turn-turns _ _ _ (turn.IsReset chpid asked) = swept-turns (sweep.PathReset chpid) reply.Done (with_swept s (sweep.PathReset chpid)) refl
@@ -294,4 +294,4 @@ module _ (s : State) (id : SubchannelId) (place : ℕ) (sub : Subchannel) (mine 
 
   -- each step
   pub step-turns : (e : Event) (r : Reply) (new : State) → Step s e r new → Turns e r new
-  step-turns e r new step = let is : HasTurn s e r new = step-turn s e r new step in subst (Turns e r) (sym is.settles) (turn-turns e r is.left is.turn)
+  step-turns e r new step = let is : HasResult s e r new = step-turn s e r new step in subst (Turns e r) (sym is.settles) (turn-turns e r is.left is.turn)

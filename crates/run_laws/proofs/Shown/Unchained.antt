@@ -5,7 +5,7 @@ use Rattle.storage_keys.specs.Storage.{Contents}
 use Rattle.ccw_walk.specs.declared.check.Check.{Check}
 use Rattle.ccw_walk.specs.declared.program.Advance.{Advance}
 use Rattle.ccw_walk.specs.declared.program.Advance.TheVariants.{Takes}
-use Rattle.ccw_walk.specs.Places.{WalkPlace, after_acts, after_count_used_up}
+use Rattle.ccw_walk.specs.Positions.{WalkPosition, after_acts, after_count_used_up}
 use Rattle.ccw_walk.specs.Advancing.{advance_acts, advance_of_acts}
 use Rattle.data_move.specs.Moving as movement
 use Rattle.data_move.specs.Moving.{Moving}
@@ -44,7 +44,7 @@ chunk_at_place-same storage t = given-by (has_stopped t)
 given-same : (storage : Contents) (t : Transfer) → IsSame t (next_chunk storage t).transfer
 given-same storage t = chunk_at_place-same storage (located_transfer storage t) ∙ located-same storage t
 
-with_next_ccw-same : (t : Transfer) (walk : WalkPlace) (a : Option Advance) → IsSame t (with_next_ccw t walk a)
+with_next_ccw-same : (t : Transfer) (walk : WalkPosition) (a : Option Advance) → IsSame t (with_next_ccw t walk a)
 with_next_ccw-same t walk (Some (Takes ccw)) = refl
 with_next_ccw-same t walk other = refl
 

@@ -3,21 +3,21 @@ use Rattle.std.proofs.Common.{◌≡◌, refl, sym, ◌∙◌, ap, ℕ, ◌==◌
 use Rattle.std.specs.Prelude.{is_some, if◌then◌else◌}
 use Rattle.std.proofs.lemmas.Bool.{and_parts}
 use Rattle.storage_keys.specs.Storage.{Contents}
-use Rattle.ccw_walk.specs.Places.{WalkPlace}
+use Rattle.ccw_walk.specs.Positions.{WalkPosition}
 use Rattle.chan_events.specs.declared.reply.Reply.TheVariants as reply
 use Rattle.chan_model.specs.declared.hold_state.HoldPhase.{HoldPhase}
 use Rattle.chan_model.specs.declared.hold_state.HoldPhase.TheVariants as hold
 use Rattle.chan_model.specs.declared.hold_state.HoldState.{HoldState}
 use Rattle.chan_model.specs.Signals.{Load, Up, load_bytes}
 use Rattle.chan_model.specs.declared.signal.Up.TheVariants as up
-use Rattle.chan_model.specs.HoldTable.{HoldStep, program_begun, offer_accepted, asked_back, letting_go, hold_takes, came_of, is_connected, is_on}
+use Rattle.chan_model.specs.HoldTable.{HoldStep, program_begun, offer_accepted, asked_back, letting_go, hold_takes, outcome_of, is_connected, is_on}
 use Rattle.chan_model.specs.Loads.{load_length}
 use Rattle.chan_model.specs.ResetCauses.{rests_on}
 use Rattle.chan_model.specs.UnitReports.{is_last_end, is_outward, has_device_end}
 use Rattle.data_move.specs.Moving.{residual}
 use Rattle.data_move.specs.declared.transfer.Beginning.{Beginning}
 use Rattle.data_move.specs.declared.transfer.CommandStart.{CommandStart}
-use Rattle.data_move.specs.declared.transfer.CommandStart.TheVariants as came
+use Rattle.data_move.specs.declared.transfer.CommandStart.TheVariants as outcome
 use Rattle.data_move.specs.Commands.{first_command, next_command, begun_with_room, with_room}
 use Rattle.data_move.specs.ToDevice.{chunk_absorbed, next_chunk}
 use Rattle.data_move.specs.FromDevice.{chunk_stored}
@@ -72,7 +72,7 @@ cause-same s c = same-used s (with_cause s c) (cause-beside s c)
 interrupted-same : (s : SubchannelState) (b : Option ActiveProgram) → IsSame s (with_pci s b)
 interrupted-same s b = same-used s (with_pci s b) (interrupted-beside s b)
 
-suspending-same : (s : SubchannelState) (program : Program) (walk : WalkPlace) (count : ℕ) → IsSame s (program_suspended s program walk count)
+suspending-same : (s : SubchannelState) (program : Program) (walk : WalkPosition) (count : ℕ) → IsSame s (program_suspended s program walk count)
 suspending-same s program walk count = same-used s (program_suspended s program walk count) (suspending-beside s program walk count)
 
 halt_performed-same : (s : SubchannelState) → IsSame s (halt_performed s)
@@ -104,7 +104,7 @@ chosen-same s other = refl
 
 -- a signal that comes up
 abbrev Uses : Up → SubchannelState → UpStep → Type 0
-Uses x s step = step.state.pmcw.last_used ≡ used_met (reply.Up x step.came.taken step.came.sent) s.pmcw.last_used
+Uses x s step = step.state.pmcw.last_used ≡ used_met (reply.Up x step.outcome.taken step.outcome.sent) s.pmcw.last_used
 
 if-uses : (x : Up) (s : SubchannelState) (b : Bool) (y z : UpStep) → Uses x s y → Uses x s z → Uses x s (if b then y else z)
 if-uses x s true y z k l = k
@@ -116,11 +116,11 @@ if-met x s false y z k l = l
 
 -- Accept: it is answered by the path of its offer
 device_released-uses : (y : SubchannelState) (u t q c : ℕ) (used : Option ℕ) → y.hold.phase ≡ hold.On t q c → y.pmcw.last_used ≡ Some q →
-    (device_released y).state.pmcw.last_used ≡ used_met (reply.Up (up.Accept u) true (device_released y).came.sent) used
+    (device_released y).state.pmcw.last_used ≡ used_met (reply.Up (up.Accept u) true (device_released y).outcome.sent) used
 device_released-uses y u t q c used phase is =
-    is ∙ sym (ap (λ (x : HoldPhase). used_met (reply.Up (up.Accept u) true (came_of (letting_go y.hold x)).sent) used) phase)
+    is ∙ sym (ap (λ (x : HoldPhase). used_met (reply.Up (up.Accept u) true (outcome_of (letting_go y.hold x)).sent) used) phase)
 
-suspending-phase : (s : SubchannelState) (program : Program) (walk : WalkPlace) (count : ℕ) (quiet : Bool) →
+suspending-phase : (s : SubchannelState) (program : Program) (walk : WalkPosition) (count : ℕ) (quiet : Bool) →
     (if quiet then record (with_suspended_program s program walk count) { scsw = suspended_alone s.scsw } else with_cause (with_suspended_program s program walk count) (cause.Suspension walk.tried count)).hold.phase ≡ s.hold.phase
 suspending-phase s program walk count true = refl
 suspending-phase s program walk count false = refl
@@ -129,22 +129,22 @@ faulted-phase : (s : SubchannelState) (b : Option ActiveProgram) → (without_be
 faulted-phase s None = refl
 faulted-phase s (Some b) = refl
 
-beginning-uses : (storage : Contents) (s : SubchannelState) (u q t : ℕ) (used : Option ℕ) (st : ProgramPosition) (walk : WalkPlace) (r : CommandStart) → s.hold.phase ≡ hold.On t q 0 → s.pmcw.last_used ≡ Some q →
-    let step : UpStep = first_ccw_outcome storage s q t st walk r in step.state.pmcw.last_used ≡ used_met (reply.Up (up.Accept u) step.came.taken step.came.sent) used
-beginning-uses storage s u q t used st walk (came.Begins transfer) phase is =
+beginning-uses : (storage : Contents) (s : SubchannelState) (u q t : ℕ) (used : Option ℕ) (st : ProgramPosition) (walk : WalkPosition) (r : CommandStart) → s.hold.phase ≡ hold.On t q 0 → s.pmcw.last_used ≡ Some q →
+    let step : UpStep = first_ccw_outcome storage s q t st walk r in step.state.pmcw.last_used ≡ used_met (reply.Up (up.Accept u) step.outcome.taken step.outcome.sent) used
+beginning-uses storage s u q t used st walk (outcome.Begins transfer) phase is =
     let next : SubchannelState = with_program_at_work s st.program (begun_with_room storage transfer).transfer in interrupted-same next next.begun ∙ is
-beginning-uses storage s u q t used st walk came.Suspends phase is =
+beginning-uses storage s u q t used st walk outcome.Suspends phase is =
     device_released-uses (program_suspended s st.program walk st.count) u t q 0 used (suspending-phase s st.program walk st.count st.program.orb.suppress_suspended ∙ phase)
     (suspending-same s st.program walk st.count ∙ is)
-beginning-uses storage s u q t used st walk (came.Stops check) phase is =
+beginning-uses storage s u q t used st walk (outcome.Stops check) phase is =
     let c : StatusCause = cause.FetchFault walk.tried check st.count in
     device_released-uses (with_cause s c) u t q 0 used (faulted-phase s s.begun ∙ phase) (cause-same s c ∙ is)
 
 standing-uses : (storage : Contents) (s : SubchannelState) (u q t : ℕ) (used : Option ℕ) (o : Option ProgramPosition) → is_some o ≡ true → s.hold.phase ≡ hold.On t q 0 → s.pmcw.last_used ≡ Some q →
-    let step : UpStep = begins_at storage s q t o in step.state.pmcw.last_used ≡ used_met (reply.Up (up.Accept u) step.came.taken step.came.sent) used
+    let step : UpStep = begins_at storage s q t o in step.state.pmcw.last_used ≡ used_met (reply.Up (up.Accept u) step.outcome.taken step.outcome.sent) used
 standing-uses storage s u q t used None there phase is = absurd (cc there)
 standing-uses storage s u q t used (Some st) there phase is =
-    beginning-uses storage s u q t used st (first_command storage st.walk).walk (first_command storage st.walk).came phase is
+    beginning-uses storage s u q t used st (first_command storage st.walk).walk (first_command storage st.walk).outcome phase is
 
 abbrev phased : SubchannelState → HoldState → HoldPhase → SubchannelState
 phased s h phase = record s { hold = record h { phase = phase } }
@@ -196,11 +196,11 @@ data-uses storage s (Some b) p t c n q load =
 abbrev end_up : EndSignal → Up
 end_up x = up.End x.number x.command x.status x.more
 
-chaining-uses : (storage : Contents) (s : SubchannelState) (b : ActiveProgram) (x : EndSignal) (walk : WalkPlace) (r : CommandStart) → Uses (end_up x) s (next_ccw_outcome storage s b x walk r)
-chaining-uses storage s b x walk (came.Begins transfer) =
+chaining-uses : (storage : Contents) (s : SubchannelState) (b : ActiveProgram) (x : EndSignal) (walk : WalkPosition) (r : CommandStart) → Uses (end_up x) s (next_ccw_outcome storage s b x walk r)
+chaining-uses storage s b x walk (outcome.Begins transfer) =
     let next : SubchannelState = with_transfer s b (begun_with_room storage transfer).transfer in interrupted-same next next.begun
-chaining-uses storage s b x walk came.Suspends = suspending-same (with_allegiance_after_end s x) b.program walk (residual b.transfer.moving)
-chaining-uses storage s b x walk (came.Stops check) = cause-same (with_allegiance_after_end s x) (cause.FetchFault walk.tried check (residual b.transfer.moving))
+chaining-uses storage s b x walk outcome.Suspends = suspending-same (with_allegiance_after_end s x) b.program walk (residual b.transfer.moving)
+chaining-uses storage s b x walk (outcome.Stops check) = cause-same (with_allegiance_after_end s x) (cause.FetchFault walk.tried check (residual b.transfer.moving))
 
 stops-uses : (s : SubchannelState) (b : ActiveProgram) (x : EndSignal) → Uses (end_up x) s (concludes s b x)
 stops-uses s b x =
@@ -214,7 +214,7 @@ end-uses storage s (Some b) x =
     let next : Beginning = next_command storage (with_first_end b).transfer (has_status_modifier x.status) in
     if-uses (end_up x) s (x.command == b.transfer.command) (ends_command storage s b x) (signal_ignored s)
     (if-uses (end_up x) s (chains_command s.scsw b x.status x.more) (chains_at_device_end storage s (with_first_end b) x) (concludes s b x)
-    (if-uses (end_up x) s (has_device_end x.status) (chains_with storage s (with_first_end b) x next) _ (chaining-uses storage s (with_first_end b) x next.walk next.came) refl)
+    (if-uses (end_up x) s (has_device_end x.status) (chains_with storage s (with_first_end b) x next) _ (chaining-uses storage s (with_first_end b) x next.walk next.outcome) refl)
     (stops-uses s b x))
     refl
 
@@ -247,4 +247,4 @@ takes-uses returns storage s p (up.Cleared r) = reset-uses s (hold_takes s.hold 
 takes-uses returns storage s p (up.Notice b) = notice-same s b (nat_lt s.hold.known b)
 takes-uses returns storage s p (up.Attn a status) =
     let step : Option HoldStep = hold_takes s.hold p (up.Attn a status) (may_take_attention s) in
-    attention-same (hold_outcome s step).state ((came_of step).taken && not (status.0 == 0x20))
+    attention-same (hold_outcome s step).state ((outcome_of step).taken && not (status.0 == 0x20))

@@ -12,7 +12,7 @@ use Rattle.zbits.specs.Layout.{AllFit, ShowsFields, bit_number, image_of, word_o
 use Rattle.zbits.proofs.LayoutLemmas.{bit_number-lt, shows_word_of, word_of-lt}
 use Rattle.zbits.proofs.OneImage.{big_number-big_bytes}
 use Rattle.storage_keys.specs.declared.StorageFault.TheVariants.{Addressing}
-use Rattle.storage_keys.specs.Storage.{Contents, absolute_under, absolute, absolute_places, operand_stored, shown, with_values}
+use Rattle.storage_keys.specs.Storage.{Contents, absolute_under, absolute, absolute_addresses, operand_stored, shown, with_values}
 use Rattle.storage_keys.proofs.OperandLemmas.{map-slice_index-range}
 use Rattle.schib_block.specs.declared.schib.Schib.{Schib}
 use Rattle.schib_block.specs.SchibTable.{schib_tables, word_2}
@@ -24,18 +24,18 @@ use Rattle.subchannel_model.specs.Store.{installed_paths, pmcw_of, schib_of}
 zero-absolute : (real : ℕ) → absolute_under 0 real ≡ real
 zero-absolute real = grind (arith, nat_tests)
 
-places-row : (s : Contents) (cpu address n : ℕ) → slice_index s.prefixes cpu ≡ 0 → absolute_places s cpu address n ≡ range_with_len address n
-unfolding absolute_places
-places-row s cpu address zero e = refl
-places-row s cpu address (suc n) e =
+indices-row : (s : Contents) (cpu address n : ℕ) → slice_index s.prefixes cpu ≡ 0 → absolute_addresses s cpu address n ≡ range_with_len address n
+unfolding absolute_addresses
+indices-row s cpu address zero e = refl
+indices-row s cpu address (suc n) e =
     ap (λ (x : ℕ). x ∷ map (absolute s cpu) (range_with_len (address + 1) n)) (ap (λ (p : ℕ). absolute_under p address) e ∙ zero-absolute address)
-    ∙ ap (λ (xs : List ℕ). address ∷ xs) (places-row s cpu (address + 1) n e)
+    ∙ ap (λ (xs : List ℕ). address ∷ xs) (indices-row s cpu (address + 1) n e)
 
 -- values that are stored in a row
-before-stays : (vs bytes : List ℕ) (a place : ℕ) → place < a → get_or (with_values bytes (range_with_len a (length vs)) vs) place 0 ≡ get_or bytes place 0
-before-stays [] bytes a place l = refl
-before-stays (v ∷ vs) bytes a place l =
-    before-stays vs (set bytes a v) (a + 1) place (omega (arith, l)) ∙ get_or-set_other bytes a place v 0 (λ same. omega (arith, l, same))
+before-stays : (vs bytes : List ℕ) (a index : ℕ) → index < a → get_or (with_values bytes (range_with_len a (length vs)) vs) index 0 ≡ get_or bytes index 0
+before-stays [] bytes a index l = refl
+before-stays (v ∷ vs) bytes a index l =
+    before-stays vs (set bytes a v) (a + 1) index (omega (arith, l)) ∙ get_or-set_other bytes a index v 0 (λ same. omega (arith, l, same))
 
 row-placed : (vs bytes : List ℕ) (a i : ℕ) → a + i < length bytes → i < length vs → get_or (with_values bytes (range_with_len a (length vs)) vs) (a + i) 0 ≡ get_or vs i 0
 row-placed [] bytes a i within below = absurd (omega (arith, below))
@@ -61,9 +61,9 @@ shown-inside bytes found address true e ok =
 shown-inside bytes found address false e ok = absurd (cc ok)
 
 -- four of the values in a row
-at-placed : (vs bytes : List ℕ) (a i place : ℕ) → place ≡ a + i → place < length bytes → i < length vs →
-    slice_index (with_values bytes (range_with_len a (length vs)) vs) place ≡ slice_index vs i
-at-placed vs bytes a i place e within below =
+at-placed : (vs bytes : List ℕ) (a i index : ℕ) → index ≡ a + i → index < length bytes → i < length vs →
+    slice_index (with_values bytes (range_with_len a (length vs)) vs) index ≡ slice_index vs i
+at-placed vs bytes a i index e within below =
     ap (λ (k : ℕ). get_or (with_values bytes (range_with_len a (length vs)) vs) k 0) e ∙ row-placed vs bytes a i (omega (arith, e, within)) below
 
 four-placed : (vs bytes found : List ℕ) (a k : ℕ) → a + k + 4 ≤ length bytes → k + 4 ≤ length vs →
@@ -90,7 +90,7 @@ shown-four : (s : Contents) (cpu address : ℕ) (vs found : List ℕ) → slice_
     shown (operand_stored s cpu address vs) (address + 8) 4 ≡ Ok found → found ≡ slice_index vs 8 ∷ slice_index vs 9 ∷ slice_index vs 10 ∷ slice_index vs 11 ∷ []
 shown-four s cpu address vs found zeroed long ok =
     let new : List ℕ = with_values s.bytes (range_with_len address (length vs)) vs in
-    let row : with_values s.bytes (absolute_places s cpu address (length vs)) vs ≡ new = ap (λ (ps : List ℕ). with_values s.bytes ps vs) (places-row s cpu address (length vs) zeroed) in
+    let row : with_values s.bytes (absolute_addresses s cpu address (length vs)) vs ≡ new = ap (λ (ps : List ℕ). with_values s.bytes ps vs) (indices-row s cpu address (length vs) zeroed) in
     let is = shown-inside new found (address + 8) (4 == 0 || nat_le (address + 8 + 4) (length new)) refl
     (subst (λ (bytes : List ℕ). (if 4 == 0 || nat_le (address + 8 + 4) (length bytes) then Ok (slice_range bytes (address + 8) (address + 8 + 4)) else Err Addressing) ≡ Ok found) row ok) in
     four-placed vs s.bytes found address 8 (subst (λ (n : ℕ). address + 8 + 4 ≤ n) (length-with s.bytes (range_with_len address (length vs)) vs) is.0) long is.1

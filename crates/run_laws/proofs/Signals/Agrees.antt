@@ -40,9 +40,9 @@ use Rattle.machine_model.specs.ChooseSteps.{choose_sub}
 use Rattle.machine_model.specs.Setups.{IsSetUp}
 use Rattle.machine_model.specs.State.{State, opening_of}
 use Rattle.machine_model.specs.Steps.{Run, Opened, Stepped}
-use Rattle.machine_model.specs.Turns.{SubTurn, UpTurn}
+use Rattle.machine_model.specs.Results.{SubResult, UpResult}
 use Rattle.machine_model.specs.UpSteps.{up_front, up_sub}
-use Rattle.step_laws.proofs.Places.{get-set, both-true}
+use Rattle.step_laws.proofs.Indices.{get-set, both-true}
 use Rattle.step_laws.specs.Walks as walked
 use Rattle.step_laws.specs.Walks.{AreWalks, Walked, IsQuiet}
 use Rattle.run_laws.specs.Agreeing.{IsAgreed, AllAgree}
@@ -150,20 +150,20 @@ meets-agree u side p _ _ _ _ _ (meets.Ends_last x t q c) old new = (on-holder t 
 meets-agree u side p _ _ _ _ _ (meets.Leaves t q c) old new = (on-holder t q c u side old, tt)
 meets-agree u side p _ _ _ _ _ (meets.Grants t c) old new = (tt, on-holder t p c u side new)
 
-abbrev IsUpAgreed : UnitState → Subchannel → UpTurn → Type 0
+abbrev IsUpAgreed : UnitState → Subchannel → UpResult → Type 0
 IsUpAgreed u sub t = AgreeAt sub.state.hold.phase u sub.setup.side → AgreeAt t.sub.state.hold.phase u sub.setup.side → AgreesIn sub.setup.side t.reply (holding_of u)
 
-abbrev IsUpGood : UnitState → Subchannel → UpTurn → Type 0
+abbrev IsUpGood : UnitState → Subchannel → UpResult → Type 0
 IsUpGood u sub t = (t.sub.setup ≡ sub.setup) × IsUpAgreed u sub t
 
 front-agrees : (u : UnitState) (returns : Bool) (storage : Contents) (sub : Subchannel) (path : ℕ) (front : Option Up) → IfOk (up_front returns storage sub path front) (IsUpGood u sub)
 front-agrees u returns storage sub path None = tt
 front-agrees u returns storage sub path (Some x) =
     let step : UpStep = (takes_up returns storage sub.state path x).step in
-    if-ok (IsUpGood u sub) (finds_full sub.wires.down (carried_by sub step.came.sent)) _ _ tt (
+    if-ok (IsUpGood u sub) (finds_full sub.wires.down (carried_by sub step.outcome.sent)) _ _ tt (
       refl,
       λ old new.
-          meets-agree u sub.setup.side path x sub.state.hold.phase step.came.taken step.came.sent step.state.hold.phase (takes-meets returns storage sub.state path x) old new,
+          meets-agree u sub.setup.side path x sub.state.hold.phase step.outcome.taken step.outcome.sent step.state.hold.phase (takes-meets returns storage sub.state path x) old new,
     )
 
 up-agrees : (u : UnitState) (returns : Bool) (storage : Contents) (sub : Subchannel) (path : ℕ) → IfOk (up_sub returns storage sub path) (IsUpGood u sub)
@@ -178,7 +178,7 @@ held-agrees (hold.On v q c) t u side fit a = subst (λ (n : ℕ). IsHolderOr (ho
 held-agrees (hold.Away v) t u side fit a = subst (λ (n : ℕ). IsHolderOr (holding_of u) side n) (sym fit) (away-holder v u side a)
 held-agrees other t u side fit a = absurd fit
 
-abbrev IsChosenAgreed : UnitState → Side → SubTurn → Type 0
+abbrev IsChosenAgreed : UnitState → Side → SubResult → Type 0
 IsChosenAgreed u side t = AgreesIn side t.reply (holding_of u)
 
 choose-agrees : (u : UnitState) (sub : Subchannel) (c : Chosen) → IsFitFor c sub.state.hold → AgreeAt sub.state.hold.phase u sub.setup.side → IfOk (choose_sub sub c) (IsChosenAgreed u sub.setup.side)
@@ -198,13 +198,13 @@ get-map f [] n x e = absurd (cc e)
 get-map f (y ∷ ys) zero x e = let same : y ≡ x = cc e in ap (λ z. Some (f z)) same
 get-map f (y ∷ ys) (suc n) x e = get-map f ys n x e
 
-has-unit : (setup : Setup) (s : State) (place : ℕ) (sub : Subchannel) → IsSetUp setup s → slice_get s.subs place ≡ Some sub → (u : UnitState) × (slice_get s.units sub.setup.«unit» ≡ Some u)
-has-unit setup s place sub k there =
-    let at : slice_get setup.subchannels place ≡ Some sub.setup =
-    subst (λ (xs : List SubchannelSetup). slice_get xs place ≡ Some sub.setup) k.subs (get-map (λ (y : Subchannel). y.setup) s.subs place sub there) in
+has-unit : (setup : Setup) (s : State) (index : ℕ) (sub : Subchannel) → IsSetUp setup s → slice_get s.subs index ≡ Some sub → (u : UnitState) × (slice_get s.units sub.setup.«unit» ≡ Some u)
+has-unit setup s index sub k there =
+    let at : slice_get setup.subchannels index ≡ Some sub.setup =
+    subst (λ (xs : List SubchannelSetup). slice_get xs index ≡ Some sub.setup) k.subs (get-map (λ (y : Subchannel). y.setup) s.subs index sub there) in
     let placed : IsPlaced (set_count setup) (length setup.units) setup.paths sub.setup =
-    subst (λ (y : SubchannelSetup). IsPlaced (set_count setup) (length setup.units) setup.paths y) (get_or_from_slice_get setup.subchannels place sub.setup sub.setup at)
-    (k.lawful.subchannels place sub.setup (slice_get_within setup.subchannels place sub.setup at)) in
+    subst (λ (y : SubchannelSetup). IsPlaced (set_count setup) (length setup.units) setup.paths y) (get_or_from_slice_get setup.subchannels index sub.setup sub.setup at)
+    (k.lawful.subchannels index sub.setup (slice_get_within setup.subchannels index sub.setup at)) in
     there-is s.units sub.setup.«unit» (subst (λ (n : ℕ). sub.setup.«unit» < n) (sym k.units) placed.«unit»)
 
 -- quiet events
@@ -214,12 +214,12 @@ quiet-agreed sets subs at (event.Up word path) r k q = absurd q
 quiet-agreed sets subs at e r k q = tt
 
 -- an entry of a subchannel, where what it and its unit agree on makes it right
-set-agreed : (setup : Setup) (at : ℕ) (s : State) (word place : ℕ) (sub : Subchannel) (r : Reply) (k : Holding) → IsSetUp setup s → IsSeen at s.units k →
-    setup_named (setups s.subs) (subchannel_named s.sets word) ≡ Some sub.setup → slice_get s.subs place ≡ Some sub →
+set-agreed : (setup : Setup) (at : ℕ) (s : State) (word index : ℕ) (sub : Subchannel) (r : Reply) (k : Holding) → IsSetUp setup s → IsSeen at s.units k →
+    setup_named (setups s.subs) (subchannel_named s.sets word) ≡ Some sub.setup → slice_get s.subs index ≡ Some sub →
     ((u : UnitState) → slice_get s.units sub.setup.«unit» ≡ Some u → AgreesIn sub.setup.side r (holding_of u)) →
     AgreesSet at (setup_named (setups s.subs) (subchannel_named s.sets word)) r k
-set-agreed setup at s word place sub r k set seen is there f =
-    let unit = has-unit setup s place sub set there in
+set-agreed setup at s word index sub r k set seen is there f =
+    let unit = has-unit setup s index sub set there in
     subst (λ (o : Option SubchannelSetup). AgreesSet at o r k) (sym is)
     (λ h.
     subst (λ (x : Holding). AgreesIn sub.setup.side r x) (sym (seen unit.0 (subst (λ (n : ℕ). slice_get s.units n ≡ Some unit.0) (eqb-true sub.setup.«unit» at h) unit.1)))
@@ -228,22 +228,22 @@ set-agreed setup at s word place sub r k set seen is there f =
 walked-agreed : (setup : Setup) (at : ℕ) (s : State) (e : Event) (r : Reply) (new : State) (k : Holding) → Walked s e r new → IsSetUp setup s → AllAgree s → AllAgree new → IsSeen at s.units k →
     IsEntryAgreed s.sets (setups s.subs) at e r k
 walked-agreed setup at s _ _ _ k (walked.Stays e r new q sets subs units up) set old now seen = quiet-agreed s.sets (setups s.subs) at e r k q
-walked-agreed setup at s _ _ _ k (walked.Tested e r place sub c new q one address by answers) set old now seen = quiet-agreed s.sets (setups s.subs) at e r k q
-walked-agreed setup at s _ _ _ k (walked.Modified e r place sub given c new q one) set old now seen = quiet-agreed s.sets (setups s.subs) at e r k q
-walked-agreed setup at s _ _ _ k (walked.Performed e r place sub f c new q one by answers) set old now seen = quiet-agreed s.sets (setups s.subs) at e r k q
-walked-agreed setup at s _ _ _ k (walked.Chosen word place sub choice t new n x w ok one) set old now seen =
-    set-agreed setup at s word place sub t.reply k set seen (setup-is s.subs (subchannel_named s.sets word) place sub n one.there) one.there
+walked-agreed setup at s _ _ _ k (walked.Tested e r index sub c new q one address by answers) set old now seen = quiet-agreed s.sets (setups s.subs) at e r k q
+walked-agreed setup at s _ _ _ k (walked.Modified e r index sub given c new q one) set old now seen = quiet-agreed s.sets (setups s.subs) at e r k q
+walked-agreed setup at s _ _ _ k (walked.Performed e r index sub f c new q one by answers) set old now seen = quiet-agreed s.sets (setups s.subs) at e r k q
+walked-agreed setup at s _ _ _ k (walked.Chosen word index sub choice t new n x w ok one) set old now seen =
+    set-agreed setup at s word index sub t.reply k set seen (setup-is s.subs (subchannel_named s.sets word) index sub n one.there) one.there
     (λ u found.
-    let a : IsAgreed sub.state.hold.phase u sub.setup.side = old place sub u one.there found in
-    subst (λ (r : Result SubTurn Fault). IfOk r (IsChosenAgreed u sub.setup.side)) ok (choose-agrees u (marked_sub sub choice) (chosen sub choice) w.fits a.agree))
-walked-agreed setup at s _ _ _ k (walked.Met word path returns place sub t new n ok one may) set old now seen =
-    set-agreed setup at s word place sub t.reply k set seen (setup-is s.subs (subchannel_named s.sets word) place sub n one.there) one.there
+    let a : IsAgreed sub.state.hold.phase u sub.setup.side = old index sub u one.there found in
+    subst (λ (r : Result SubResult Fault). IfOk r (IsChosenAgreed u sub.setup.side)) ok (choose-agrees u (marked_sub sub choice) (chosen sub choice) w.fits a.agree))
+walked-agreed setup at s _ _ _ k (walked.Met word path returns index sub t new n ok one may) set old now seen =
+    set-agreed setup at s word index sub t.reply k set seen (setup-is s.subs (subchannel_named s.sets word) index sub n one.there) one.there
     (λ u found.
-    let got : IsUpGood u sub t = subst (λ (r : Result UpTurn Fault). IfOk r (IsUpGood u sub)) ok (up-agrees u returns s.storage sub path) in
-    let a : IsAgreed sub.state.hold.phase u sub.setup.side = old place sub u one.there found in
-    let there : slice_get new.subs place ≡ Some t.sub = ap (λ (xs : List Subchannel). slice_get xs place) one.subs ∙ get-set s.subs place sub t.sub one.there in
+    let got : IsUpGood u sub t = subst (λ (r : Result UpResult Fault). IfOk r (IsUpGood u sub)) ok (up-agrees u returns s.storage sub path) in
+    let a : IsAgreed sub.state.hold.phase u sub.setup.side = old index sub u one.there found in
+    let there : slice_get new.subs index ≡ Some t.sub = ap (λ (xs : List Subchannel). slice_get xs index) one.subs ∙ get-set s.subs index sub t.sub one.there in
     let b : IsAgreed t.sub.state.hold.phase u t.sub.setup.side =
-    now place t.sub u there (ap (λ (y : SubchannelSetup). slice_get new.units y.«unit») got.0 ∙ (ap (λ (us : List UnitState). slice_get us sub.setup.«unit») one.units ∙ found)) in
+    now index t.sub u there (ap (λ (y : SubchannelSetup). slice_get new.units y.«unit») got.0 ∙ (ap (λ (us : List UnitState). slice_get us sub.setup.«unit») one.units ∙ found)) in
     got.1 a.agree (subst (λ (y : SubchannelSetup). AgreeAt t.sub.state.hold.phase u y.side) got.0 b.agree))
 walked-agreed setup at s _ _ _ k (walked.Swept e r what new q sets subs units by) set old now seen = quiet-agreed s.sets (setups s.subs) at e r k q
 walked-agreed setup at s _ _ _ k w set old now seen = tt

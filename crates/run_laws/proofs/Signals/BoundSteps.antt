@@ -236,8 +236,8 @@ met-below p f _ _ _ _ _ (Ends x t q c sent commands) b = below-others f sent (co
 met-below p f _ _ _ _ _ (Grants t c) b = b
 met-below p f _ _ _ _ _ other b = tt
 
-met-joint : (p : ℕ) (x : Up) (phase : HoldPhase) (came : Bool) (sent : Option (OnPath Down)) (next : HoldPhase) (us : List (List Up)) (ds : List (List Down)) (o : Option Connected)
-    (available : List Bool) → Meets p x phase came sent next → slice_get (queue us p) 0 ≡ Some x → Joint phase us ds o → Joint next (taken us p) (with_any_sent ds (carried available sent)) o
+met-joint : (p : ℕ) (x : Up) (phase : HoldPhase) (outcome : Bool) (sent : Option (OnPath Down)) (next : HoldPhase) (us : List (List Up)) (ds : List (List Down)) (o : Option Connected)
+    (available : List Bool) → Meets p x phase outcome sent next → slice_get (queue us p) 0 ≡ Some x → Joint phase us ds o → Joint next (taken us p) (with_any_sent ds (carried available sent)) o
 met-joint p _ _ _ _ _ us ds o available (Ignored x phase) front j = joint-taken-up phase p us ds o j
 met-joint p _ _ _ _ _ us ds o available (Turns x phase next sent plain stays quiet) front j =
     joint-stays phase next (taken us p) (with_any_sent ds (carried available sent)) o stays
@@ -253,14 +253,14 @@ met-joint p _ _ _ _ _ us ds o available (Ends_last x t q c) front j = tt
 met-joint p _ _ _ _ _ us ds o available (meet.Leaves t q c) front j = leave-parts t q c p c us ds o front j
 met-joint p _ _ _ _ _ us ds o available (Grants t c) front j = grant-ties t p c (taken us p) ds o available (parted-taken-up t p us ds o j)
 
-pub bound-met : (p : ℕ) (x : Up) (phase : HoldPhase) (came : Bool) (sent : Option (OnPath Down)) (next : HoldPhase) (us : List (List Up)) (ds : List (List Down)) (f : ℕ) (o : Option Connected)
-    (available : List Bool) → Meets p x phase came sent next → slice_get (queue us p) 0 ≡ Some x → IsBackBelow f x → IsBound phase us ds f o →
+pub bound-met : (p : ℕ) (x : Up) (phase : HoldPhase) (outcome : Bool) (sent : Option (OnPath Down)) (next : HoldPhase) (us : List (List Up)) (ds : List (List Down)) (f : ℕ) (o : Option Connected)
+    (available : List Bool) → Meets p x phase outcome sent next → slice_get (queue us p) 0 ≡ Some x → IsBackBelow f x → IsBound phase us ds f o →
     IsBound next (taken us p) (with_any_sent ds (carried available sent)) f o
-bound-met p x phase came sent next us ds f o available m front back b = record {
+bound-met p x phase outcome sent next us ds f o available m front back b = record {
   above = each-taken (λ q. IsUpBelow f) us p b.above;
-  below = each-sent (λ q. IsDownBelow f) ds available sent (met-below p f x phase came sent next m back) b.below;
+  below = each-sent (λ q. IsDownBelow f) ds available sent (met-below p f x phase outcome sent next m back) b.below;
   own = b.own;
-  joint = met-joint p x phase came sent next us ds o available m front b.joint;
+  joint = met-joint p x phase outcome sent next us ds o available m front b.joint;
 }
 
 -- the front of a wire up suits the hold

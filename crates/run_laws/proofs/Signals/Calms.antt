@@ -38,7 +38,7 @@ use Rattle.machine_model.specs.declared.state.Sweep.{Sweep}
 use Rattle.machine_model.specs.declared.state.Sweep.TheVariants as sweep
 use Rattle.machine_model.specs.InstructionSteps.{function_sub, test_with}
 use Rattle.machine_model.specs.PathSteps.{swept}
-use Rattle.machine_model.specs.Turns.{SubTurn, with_state}
+use Rattle.machine_model.specs.Results.{SubResult, with_state}
 use Rattle.step_laws.specs.Walks.{Function, Resumes, Halts, Clears, Cancels, effect_of}
 use Rattle.step_laws.specs.Walks as walks
 use Rattle.run_laws.proofs.Machine.SameHold.{IsSameHold, cause-same, tested-same, halted-same}
@@ -105,18 +105,18 @@ if-ok : {A : Type 0} (P : A → Type 0) (b : Bool) (x y : Result A Fault) → If
 if-ok P true x y e f = e
 if-ok P false x y e f = f
 
-abbrev IsCalmTurn : Subchannel → SubTurn → Type 0
-IsCalmTurn sub t = IsCalm (offers t.reply) sub t.sub
+abbrev IsCalmResult : Subchannel → SubResult → Type 0
+IsCalmResult sub t = IsCalm (offers t.reply) sub t.sub
 
 reset-stays : (h : HoldState) (phase : HoldPhase) (path : ℕ) → (hold_after (record h { phase = phase }) (sending_reset (record h { phase = phase }) phase path)).phase ≡ phase
 reset-stays h hold.Free path = refl
 reset-stays h other path = refl
 
-choose-calm : (sub : Subchannel) (c : Chosen) → IfOk (choose_sub sub c) (IsCalmTurn sub)
+choose-calm : (sub : Subchannel) (c : Chosen) → IfOk (choose_sub sub c) (IsCalmResult sub)
 choose-calm sub Idle = still sub
 choose-calm sub (Resets r path) =
     let stays : Stays sub.state.hold.phase (reset_sent sub.state path).hold.phase = inl (reset-stays sub.state.hold sub.state.hold.phase path) in
-    if-ok (IsCalmTurn sub) (finds_full sub.wires.down (carried_by sub (Some (record { path = path; signal = down.Reset r sub.state.hold.known })))) _ _ tt
+    if-ok (IsCalmResult sub) (finds_full sub.wires.down (carried_by sub (Some (record { path = path; signal = down.Reset r sub.state.hold.known })))) _ _ tt
     (record {
       setup = refl;
       bound = λ f o l b. bound-quiet sub.state.hold.phase (reset_sent sub.state path).hold.phase sub.wires.up sub.wires.down f o sub.state.pmcw.available
@@ -125,7 +125,7 @@ choose-calm sub (Resets r path) =
     })
 choose-calm sub PerformsClear = same-calm sub (with_cause sub.state cause.ClearDone) (cause-same sub.state cause.ClearDone)
 choose-calm sub (Halts t path) =
-    if-ok (IsCalmTurn sub) (finds_full sub.wires.down (carried_by sub (Some (record { path = path; signal = down.Halt t })))) _ _ tt
+    if-ok (IsCalmResult sub) (finds_full sub.wires.down (carried_by sub (Some (record { path = path; signal = down.Halt t })))) _ _ tt
     (record {
       setup = refl;
       bound = λ f o l b. bound-quiet sub.state.hold.phase sub.state.hold.phase sub.wires.up sub.wires.down f o sub.state.pmcw.available
@@ -135,7 +135,7 @@ choose-calm sub (Halts t path) =
 choose-calm sub PerformsHalt = same-calm sub (with_cause sub.state cause.HaltDone) (cause-same sub.state cause.HaltDone)
 choose-calm sub FindsNoPath = same-calm sub (with_cause sub.state cause.NoPath) (cause-same sub.state cause.NoPath)
 choose-calm sub (Offers c path) =
-    if-ok (IsCalmTurn sub) (finds_full sub.wires.down (carried_by sub (Some (record { path = path; signal = down.Select (sub.state.drawn + 1) })))) _ _ tt
+    if-ok (IsCalmResult sub) (finds_full sub.wires.down (carried_by sub (Some (record { path = path; signal = down.Select (sub.state.drawn + 1) })))) _ _ tt
     (record {
       setup = refl;
       bound = λ f o l b. bound-offered sub.state.hold.phase sub.wires.up sub.wires.down f (sub.state.drawn + 1) path o sub.state.pmcw.available
@@ -157,12 +157,12 @@ halt-right other t p k h e = absurd h
 
 choose-halts : (sub : Subchannel) (c : Chosen) (k : SeenPaths) → IsHaltAt sub.state.hold.phase c → Ties sub.state.hold.phase k → IfOk (choose_sub sub c) (λ t. IsHaltRight t.reply k)
 choose-halts sub (Resets r path) k h e =
-    if-ok (λ (t : SubTurn). IsHaltRight t.reply k) (finds_full sub.wires.down (carried_by sub (Some (record { path = path; signal = down.Reset r sub.state.hold.known })))) _ _ tt tt
+    if-ok (λ (t : SubResult). IsHaltRight t.reply k) (finds_full sub.wires.down (carried_by sub (Some (record { path = path; signal = down.Reset r sub.state.hold.known })))) _ _ tt tt
 choose-halts sub (Halts t path) k h e =
-    if-ok (λ (t : SubTurn). IsHaltRight t.reply k) (finds_full sub.wires.down (carried_by sub (Some (record { path = path; signal = down.Halt t })))) _ _ tt
+    if-ok (λ (t : SubResult). IsHaltRight t.reply k) (finds_full sub.wires.down (carried_by sub (Some (record { path = path; signal = down.Halt t })))) _ _ tt
     (halt-right sub.state.hold.phase t path k h e)
 choose-halts sub (Offers c path) k h e =
-    if-ok (λ (t : SubTurn). IsHaltRight t.reply k) (finds_full sub.wires.down (carried_by sub (Some (record { path = path; signal = down.Select (sub.state.drawn + 1) })))) _ _ tt tt
+    if-ok (λ (t : SubResult). IsHaltRight t.reply k) (finds_full sub.wires.down (carried_by sub (Some (record { path = path; signal = down.Select (sub.state.drawn + 1) })))) _ _ tt tt
 choose-halts sub other k h e = tt
 
 -- what is chosen, where that is a Halt, is the halt of this phase
@@ -236,11 +236,11 @@ chosen-halts sub choice k e = choose-halts (marked_sub sub choice) (chosen sub c
 marked-calm : (g : SeenPaths → SeenPaths) (sub after : Subchannel) (choice : Option ℕ) → IsCalm g (marked_sub sub choice) after → IsCalm g sub after
 marked-calm g sub after choice m = record { setup = m.setup; bound = λ f o l b. m.bound f o l b; ties = λ k t. m.ties k t }
 
-ok-marked : (sub : Subchannel) (choice : Option ℕ) (r : Result SubTurn Fault) → IfOk r (IsCalmTurn (marked_sub sub choice)) → IfOk r (IsCalmTurn sub)
+ok-marked : (sub : Subchannel) (choice : Option ℕ) (r : Result SubResult Fault) → IfOk r (IsCalmResult (marked_sub sub choice)) → IfOk r (IsCalmResult sub)
 ok-marked sub choice (Ok t) m = marked-calm (offers t.reply) sub t.sub choice m
 ok-marked sub choice (Err f) m = tt
 
-pub marked-choose : (sub : Subchannel) (choice : Option ℕ) (c : Chosen) → IfOk (choose_sub (marked_sub sub choice) c) (IsCalmTurn sub)
+pub marked-choose : (sub : Subchannel) (choice : Option ℕ) (c : Chosen) → IfOk (choose_sub (marked_sub sub choice) c) (IsCalmResult sub)
 marked-choose sub choice c = ok-marked sub choice (choose_sub (marked_sub sub choice) c) (choose-calm (marked_sub sub choice) c)
 
 -- a path that goes down, comes up or is reset, and a reset of the subsystem

@@ -28,7 +28,7 @@ use Rattle.subchannel_model.specs.Choosing.{chosen, marked_sub}
 use Rattle.subchannel_model.specs.Clear.{cleared}
 use Rattle.subchannel_model.specs.Losing.{path_index, loses_at, loses, shows_at}
 use Rattle.subchannel_model.specs.Modify.{modified_state}
-use Rattle.subchannel_model.specs.Places.{place_in, sub_at}
+use Rattle.subchannel_model.specs.Indices.{index_in, sub_at}
 use Rattle.subchannel_model.specs.Sending.{carried_by, finds_full}
 use Rattle.subchannel_model.specs.Start.{started}
 use Rattle.subchannel_model.specs.Taking.{takes_up}
@@ -36,30 +36,30 @@ use Rattle.machine_model.specs.declared.state.Sweep.{Sweep}
 use Rattle.machine_model.specs.declared.state.Sweep.TheVariants as sweep
 use Rattle.machine_model.specs.InstructionSteps.{function_sub, test_with}
 use Rattle.machine_model.specs.PathSteps.{swept}
-use Rattle.machine_model.specs.State.{State, opening_of, place_of, sub_of}
+use Rattle.machine_model.specs.State.{State, opening_of, index_of, sub_of}
 use Rattle.machine_model.specs.Steps.{Run, Opened, Stepped, Step}
-use Rattle.machine_model.specs.Turns.{SubTurn, UpTurn, DownTurn}
+use Rattle.machine_model.specs.Results.{SubResult, UpResult, DownResult}
 use Rattle.machine_model.specs.UpSteps.{up_front, up_sub}
 use Rattle.run_laws.specs.Returns as returns
-use Rattle.step_laws.proofs.Places.{set-get, map-get}
+use Rattle.step_laws.proofs.Indices.{set-get, map-get}
 use Rattle.step_laws.specs.Walks as walked
 use Rattle.step_laws.specs.Walks.{AreWalks, Walked, IsQuiet, OneSub, Function, Resumes, Clears, Cancels, effect_of, instruction_of, sweep_event}
-use Rattle.run_laws.proofs.Machine.Linked.{place-set}
+use Rattle.run_laws.proofs.Machine.Linked.{index-set}
 use Rattle.run_laws.specs.StateClaims.{is_id}
 use Rattle.run_laws.specs.BeginsItsOwn.{is_code_zero}
 use Rattle.run_laws.specs.Dedicated.{dedicated_met, dedicated_cleared, dedicated_after, IsOfferOn, IsEntryRight, AreRight, OffersOnDedicated}
 use Rattle.run_laws.proofs.Signals.Dedicating.{IsStill, IsByCheck, IsLeft, tested-still, halted-still, loses-still, shows-still, choose-still, takes-left}
 use Rattle.run_laws.proofs.Signals.OwnSteps.{IsApart, down-apart, step-apart, act-apart, up-setup, choose-setup}
 use Rattle.run_laws.proofs.Signals.OwnRuns.{sets-stay}
-use Rattle.run_laws.proofs.Signals.RunPaths.{place-map}
-use Rattle.run_laws.proofs.Machine.Names.{named-is, named-place}
+use Rattle.run_laws.proofs.Signals.RunPaths.{index-map}
+use Rattle.run_laws.proofs.Machine.Names.{named-is, named-index}
 
 -- an allegiance that is seen is that of the subchannel
 abbrev Dedicates : Option ℕ → Option ℕ → Type 0
 Dedicates k dedicated = (d : ℕ) → k ≡ Some d → dedicated ≡ Some d
 
 abbrev DedicatedAt : SubchannelId → List Subchannel → Option ℕ → Type 0
-DedicatedAt id subs k = (place : ℕ) (sub : Subchannel) → place_in id subs ≡ Some place → slice_get subs place ≡ Some sub → Dedicates k sub.state.dedicated
+DedicatedAt id subs k = (index : ℕ) (sub : Subchannel) → index_in id subs ≡ Some index → slice_get subs index ≡ Some sub → Dedicates k sub.state.dedicated
 
 none-dedicates : (dedicated : Option ℕ) → Dedicates None dedicated
 none-dedicates dedicated d e = absurd (cc e)
@@ -70,28 +70,28 @@ IsLess k next = (next ≡ k) ⊎ (next ≡ None)
 
 less-dedicated : (id : SubchannelId) (subs : List Subchannel) (k next : Option ℕ) → IsLess k next → DedicatedAt id subs k → DedicatedAt id subs next
 less-dedicated id subs k next (inl e) ties = subst (λ (o : Option ℕ). DedicatedAt id subs o) (sym e) ties
-less-dedicated id subs k next (inr e) ties = λ place sub named there d f. absurd (cc (sym e ∙ f))
+less-dedicated id subs k next (inr e) ties = λ index sub named there d f. absurd (cc (sym e ∙ f))
 
 -- one subchannel was changed
-dedicated-set : (id : SubchannelId) (subs : List Subchannel) (place : ℕ) (sub after : Subchannel) (k next : Option ℕ) → slice_get subs place ≡ Some sub → after.setup ≡ sub.setup →
-    (place_in id subs ≡ Some place → Dedicates k sub.state.dedicated → Dedicates next after.state.dedicated) → ((place_in id subs ≡ Some place → ⊥) → next ≡ k) → DedicatedAt id subs k →
-    DedicatedAt id (slice_set subs place after) next
-dedicated-set id subs place sub after k next there same here other ties = λ i x named at.
-    let first : place_in id subs ≡ Some i = sym (place-set id subs place sub after there same) ∙ named in
-    elim (set-get subs place after i x at) [
+dedicated-set : (id : SubchannelId) (subs : List Subchannel) (index : ℕ) (sub after : Subchannel) (k next : Option ℕ) → slice_get subs index ≡ Some sub → after.setup ≡ sub.setup →
+    (index_in id subs ≡ Some index → Dedicates k sub.state.dedicated → Dedicates next after.state.dedicated) → ((index_in id subs ≡ Some index → ⊥) → next ≡ k) → DedicatedAt id subs k →
+    DedicatedAt id (slice_set subs index after) next
+dedicated-set id subs index sub after k next there same here other ties = λ i x named at.
+    let first : index_in id subs ≡ Some i = sym (index-set id subs index sub after there same) ∙ named in
+    elim (set-get subs index after i x at) [
       | inl p ↦
-          let mine : place_in id subs ≡ Some place = first ∙ ap Some p.0 in
-          subst (λ (y : Subchannel). Dedicates next y.state.dedicated) (sym p.1) (here mine (ties place sub mine there))
+          let mine : index_in id subs ≡ Some index = first ∙ ap Some p.0 in
+          subst (λ (y : Subchannel). Dedicates next y.state.dedicated) (sym p.1) (here mine (ties index sub mine there))
       | inr p ↦ subst (λ (o : Option ℕ). Dedicates o x.state.dedicated) (sym (other (λ h. p.0 (cc (sym first ∙ h))))) (ties i x first p.1)
     ]
 
-still-set : (id : SubchannelId) (subs : List Subchannel) (place : ℕ) (sub after : Subchannel) (k : Option ℕ) → slice_get subs place ≡ Some sub → after.setup ≡ sub.setup → IsStill sub.state after.state →
-    DedicatedAt id subs k → DedicatedAt id (slice_set subs place after) k
-still-set id subs place sub after k there same still ties = dedicated-set id subs place sub after k k there same (λ mine h d e. still ∙ h d e) (λ not. refl) ties
+still-set : (id : SubchannelId) (subs : List Subchannel) (index : ℕ) (sub after : Subchannel) (k : Option ℕ) → slice_get subs index ≡ Some sub → after.setup ≡ sub.setup → IsStill sub.state after.state →
+    DedicatedAt id subs k → DedicatedAt id (slice_set subs index after) k
+still-set id subs index sub after k there same still ties = dedicated-set id subs index sub after k k there same (λ mine h d e. still ∙ h d e) (λ not. refl) ties
 
-one-still : (id : SubchannelId) (s new : State) (place : ℕ) (sub after : Subchannel) (k : Option ℕ) → OneSub s new place sub after → after.setup ≡ sub.setup → IsStill sub.state after.state → DedicatedAt id s.subs k →
+one-still : (id : SubchannelId) (s new : State) (index : ℕ) (sub after : Subchannel) (k : Option ℕ) → OneSub s new index sub after → after.setup ≡ sub.setup → IsStill sub.state after.state → DedicatedAt id s.subs k →
     DedicatedAt id new.subs k
-one-still id s new place sub after k one same still ties = subst (λ (xs : List Subchannel). DedicatedAt id xs k) (sym one.subs) (still-set id s.subs place sub after k one.there same still ties)
+one-still id s new index sub after k one same still ties = subst (λ (xs : List Subchannel). DedicatedAt id xs k) (sym one.subs) (still-set id s.subs index sub after k one.there same still ties)
 
 -- the instructions
 start-still : (sub : Subchannel) (orb : Orb) (c : ConditionCode) → IsStill sub.state (function_sub sub c (started sub.state orb)).sub.state
@@ -140,17 +140,17 @@ if-else : (b : Bool) (x k : Option ℕ) → (b ≡ true → ⊥) → (if b then 
 if-else true x k n = absurd (n refl)
 if-else false x k n = refl
 
-clear-seen : (id : SubchannelId) (s : State) (word place : ℕ) (sub : Subchannel) (k : Option ℕ) → place_of s word ≡ Some place → slice_get s.subs place ≡ Some sub → DedicatedAt id s.subs k →
-    DedicatedAt id (slice_set s.subs place (function_sub sub code.Zero (cleared sub.state)).sub)
+clear-seen : (id : SubchannelId) (s : State) (word index : ℕ) (sub : Subchannel) (k : Option ℕ) → index_of s word ≡ Some index → slice_get s.subs index ≡ Some sub → DedicatedAt id s.subs k →
+    DedicatedAt id (slice_set s.subs index (function_sub sub code.Zero (cleared sub.state)).sub)
     (if is_id (subchannel_named s.sets word) id then dedicated_cleared (function_sub sub code.Zero (cleared sub.state)).reply k else k)
-clear-seen id s word place sub k n there ties =
+clear-seen id s word index sub k n there ties =
     let named : Option SubchannelId = subchannel_named s.sets word in
-    dedicated-set id s.subs place sub (function_sub sub code.Zero (cleared sub.state)).sub k (if is_id named id then None else k) there refl
-    (λ mine h. if-mine (is_id named id) None k None (named-is s.subs id named place sub n mine there) (none-dedicates None))
-    (λ not. if-else (is_id named id) None k (λ is. not (named-place s.subs id named place n is))) ties
+    dedicated-set id s.subs index sub (function_sub sub code.Zero (cleared sub.state)).sub k (if is_id named id then None else k) there refl
+    (λ mine h. if-mine (is_id named id) None k None (named-is s.subs id named index sub n mine there) (none-dedicates None))
+    (λ not. if-else (is_id named id) None k (λ is. not (named-index s.subs id named index n is))) ties
 
 abbrev Performs : SubchannelId → State → Event → Reply → ℕ → Subchannel → Function → ConditionCode → Option ℕ → Type 0
-Performs id s e r place sub f c k = DedicatedAt id (slice_set s.subs place (function_sub sub c (effect_of f sub.state)).sub) (dedicated_after s.sets id e r k)
+Performs id s e r index sub f c k = DedicatedAt id (slice_set s.subs index (function_sub sub c (effect_of f sub.state)).sub) (dedicated_after s.sets id e r k)
 
 effect-still : (sub : Subchannel) (f : Function) → (f ≡ Clears → ⊥) → IsStill sub.state (effect_of f sub.state)
 effect-still sub Resumes n = refl
@@ -162,23 +162,23 @@ function-still : (sub : Subchannel) (f : Function) (c : ConditionCode) → (c �
 function-still sub f code.Zero n = effect-still sub f (n refl)
 function-still sub f c n = refl
 
-performs-still : (id : SubchannelId) (s : State) (e : Event) (r : Reply) (place : ℕ) (sub : Subchannel) (f : Function) (c : ConditionCode) (k : Option ℕ) → (c ≡ code.Zero → f ≡ Clears → ⊥) → IsQuiet e r →
-    slice_get s.subs place ≡ Some sub → DedicatedAt id s.subs k → Performs id s e r place sub f c k
-performs-still id s e r place sub f c k n q there ties =
+performs-still : (id : SubchannelId) (s : State) (e : Event) (r : Reply) (index : ℕ) (sub : Subchannel) (f : Function) (c : ConditionCode) (k : Option ℕ) → (c ≡ code.Zero → f ≡ Clears → ⊥) → IsQuiet e r →
+    slice_get s.subs index ≡ Some sub → DedicatedAt id s.subs k → Performs id s e r index sub f c k
+performs-still id s e r index sub f c k n q there ties =
     less-dedicated id _ k (dedicated_after s.sets id e r k) (quiet-less s.sets id e r k q).1
-    (still-set id s.subs place sub (function_sub sub c (effect_of f sub.state)).sub k there refl (function-still sub f c n) ties)
+    (still-set id s.subs index sub (function_sub sub c (effect_of f sub.state)).sub k there refl (function-still sub f c n) ties)
 
-performs : (id : SubchannelId) (s : State) (e : Event) (r : Reply) (place cpu word : ℕ) (sub : Subchannel) (f : Function) (c : ConditionCode) (k : Option ℕ) → IsQuiet e r →
-    e ≡ event.Execute cpu (instruction_of f word) → place_of s word ≡ Some place → r ≡ (function_sub sub c (effect_of f sub.state)).reply → slice_get s.subs place ≡ Some sub → DedicatedAt id s.subs k →
-    Performs id s e r place sub f c k
-performs id s e r place cpu word sub Clears code.Zero k q is n answers there ties =
-    subst (λ (y : Event). DedicatedAt id (slice_set s.subs place (function_sub sub code.Zero (cleared sub.state)).sub) (dedicated_after s.sets id y r k)) (sym is)
-    (subst (λ (y : Reply). DedicatedAt id (slice_set s.subs place (function_sub sub code.Zero (cleared sub.state)).sub)
-    (if is_id (subchannel_named s.sets word) id then dedicated_cleared y k else k)) (sym answers) (clear-seen id s word place sub k n there ties))
-performs id s e r place cpu word sub Clears code.One k q is n answers there ties = performs-still id s e r place sub Clears code.One k (λ z. absurd (cc z)) q there ties
-performs id s e r place cpu word sub Clears code.Two k q is n answers there ties = performs-still id s e r place sub Clears code.Two k (λ z. absurd (cc z)) q there ties
-performs id s e r place cpu word sub Clears code.Three k q is n answers there ties = performs-still id s e r place sub Clears code.Three k (λ z. absurd (cc z)) q there ties
-performs id s e r place cpu word sub other c k q is n answers there ties = performs-still id s e r place sub other c k (λ z f. absurd (cc f)) q there ties
+performs : (id : SubchannelId) (s : State) (e : Event) (r : Reply) (index cpu word : ℕ) (sub : Subchannel) (f : Function) (c : ConditionCode) (k : Option ℕ) → IsQuiet e r →
+    e ≡ event.Execute cpu (instruction_of f word) → index_of s word ≡ Some index → r ≡ (function_sub sub c (effect_of f sub.state)).reply → slice_get s.subs index ≡ Some sub → DedicatedAt id s.subs k →
+    Performs id s e r index sub f c k
+performs id s e r index cpu word sub Clears code.Zero k q is n answers there ties =
+    subst (λ (y : Event). DedicatedAt id (slice_set s.subs index (function_sub sub code.Zero (cleared sub.state)).sub) (dedicated_after s.sets id y r k)) (sym is)
+    (subst (λ (y : Reply). DedicatedAt id (slice_set s.subs index (function_sub sub code.Zero (cleared sub.state)).sub)
+    (if is_id (subchannel_named s.sets word) id then dedicated_cleared y k else k)) (sym answers) (clear-seen id s word index sub k n there ties))
+performs id s e r index cpu word sub Clears code.One k q is n answers there ties = performs-still id s e r index sub Clears code.One k (λ z. absurd (cc z)) q there ties
+performs id s e r index cpu word sub Clears code.Two k q is n answers there ties = performs-still id s e r index sub Clears code.Two k (λ z. absurd (cc z)) q there ties
+performs id s e r index cpu word sub Clears code.Three k q is n answers there ties = performs-still id s e r index sub Clears code.Three k (λ z. absurd (cc z)) q there ties
+performs id s e r index cpu word sub other c k q is n answers there ties = performs-still id s e r index sub other c k (λ z f. absurd (cc f)) q there ties
 
 -- an offer
 offer-on : (s : State) (word : ℕ) (sub : Subchannel) (r : Reply) (k : Option ℕ) → returns.OffersOnDedicated s (event.Choose word) r → sub_of s word ≡ Some sub → Dedicates k sub.state.dedicated → IsOfferOn k r
@@ -208,7 +208,7 @@ met-left path (up.Cleared r) taken sent k old new e h = same-left k old new e h
 met-left path (up.Notice b) taken sent k old new e h = same-left k old new e h
 met-left path (up.Attn a status) taken sent k old new e h = same-left k old new e h
 
-abbrev IsMet : Subchannel → ℕ → Option ℕ → UpTurn → Type 0
+abbrev IsMet : Subchannel → ℕ → Option ℕ → UpResult → Type 0
 IsMet sub path k t = Dedicates k sub.state.dedicated → Dedicates (dedicated_met path t.reply k) t.sub.state.dedicated
 
 if-ok : {A : Type 0} (P : A → Type 0) (b : Bool) (x y : Result A Fault) → IfOk x P → IfOk y P → IfOk (if b then x else y) P
@@ -219,8 +219,8 @@ front-met : (returns : Bool) (storage : Contents) (sub : Subchannel) (path : ℕ
 front-met returns storage sub path None k = tt
 front-met returns storage sub path (Some x) k =
     let step : UpStep = (takes_up returns storage sub.state path x).step in
-    if-ok (IsMet sub path k) (finds_full sub.wires.down (carried_by sub step.came.sent)) _ _ tt
-    (λ h. met-left path x step.came.taken step.came.sent k sub.state.dedicated step.state.dedicated (takes-left returns storage sub.state path x) h)
+    if-ok (IsMet sub path k) (finds_full sub.wires.down (carried_by sub step.outcome.sent)) _ _ tt
+    (λ h. met-left path x step.outcome.taken step.outcome.sent k sub.state.dedicated step.state.dedicated (takes-left returns storage sub.state path x) h)
 
 up-met : (returns : Bool) (storage : Contents) (sub : Subchannel) (path : ℕ) (k : Option ℕ) → IfOk (up_sub returns storage sub path) (IsMet sub path k)
 up-met returns storage sub path k =
@@ -253,7 +253,7 @@ swept-still : (id : SubchannelId) (subs : List Subchannel) (f : Subchannel → S
 swept-still id subs f k h ties = λ i x named at.
     let p = map-get f subs i x at in
     subst (λ (y : Subchannel). Dedicates k y.state.dedicated) p.2
-    (same-left k p.0.state.dedicated (f p.0).state.dedicated (h p.0).still (ties i p.0 (sym (place-map f (λ sub. (h sub).setup) id subs) ∙ named) p.1))
+    (same-left k p.0.state.dedicated (f p.0).state.dedicated (h p.0).still (ties i p.0 (sym (index-map f (λ sub. (h sub).setup) id subs) ∙ named) p.1))
 
 swept-seen : (id : SubchannelId) (s : State) (what : Sweep) (k : Option ℕ) → DedicatedAt id s.subs k → (r : Reply) → DedicatedAt id (map (swept what) s.subs) (dedicated_after s.sets id (sweep_event what) r k)
 swept-seen id s sweep.SystemReset k ties r = λ i x named at. none-dedicates x.state.dedicated
@@ -265,52 +265,52 @@ AreOnDedicated = (s : State) (e : Event) (r : Reply) (new : State) → Step s e 
 
 walked-seen : AreOnDedicated → (id : SubchannelId) (s : State) (e : Event) (r : Reply) (new : State) (k : Option ℕ) → Walked s e r new → Step s e r new → DedicatedAt id s.subs k → IsSeen id s e r new k
 walked-seen on id s _ _ _ k (walked.Stays e r new q sets subs units up) step ties = quiet-seen id s e r new k q (subst (λ (xs : List Subchannel). DedicatedAt id xs k) (sym subs) ties)
-walked-seen on id s _ _ _ k (walked.Started cpu word address place sub orb c new n one) step ties = (tt, one-still id s new place sub _ k one refl (start-still sub orb c) ties)
-walked-seen on id s _ _ _ k (walked.Tested e r place sub c new q one address by answers) step ties =
-    quiet-seen id s e r new k q (one-still id s new place sub _ k one (test-setup sub c) (test-still sub c) ties)
-walked-seen on id s _ _ _ k (walked.Modified e r place sub given c new q one) step ties = quiet-seen id s e r new k q (one-still id s new place sub _ k one refl (modify-still sub given c) ties)
-walked-seen on id s _ _ _ k (walked.Performed e r place sub f c new q one by answers) step ties = (
+walked-seen on id s _ _ _ k (walked.Started cpu word address index sub orb c new n one) step ties = (tt, one-still id s new index sub _ k one refl (start-still sub orb c) ties)
+walked-seen on id s _ _ _ k (walked.Tested e r index sub c new q one address by answers) step ties =
+    quiet-seen id s e r new k q (one-still id s new index sub _ k one (test-setup sub c) (test-still sub c) ties)
+walked-seen on id s _ _ _ k (walked.Modified e r index sub given c new q one) step ties = quiet-seen id s e r new k q (one-still id s new index sub _ k one refl (modify-still sub given c) ties)
+walked-seen on id s _ _ _ k (walked.Performed e r index sub f c new q one by answers) step ties = (
   (quiet-less s.sets id e r k q).0,
   subst (λ (xs : List Subchannel). DedicatedAt id xs (dedicated_after s.sets id e r k)) (sym one.subs)
-      (performs id s e r place by.cpu by.word sub f c k q by.event by.at answers one.there ties),
+      (performs id s e r index by.cpu by.word sub f c k q by.event by.at answers one.there ties),
 )
-walked-seen on id s _ _ _ k (walked.Chosen word place sub choice t new n x w ok one) step ties =
+walked-seen on id s _ _ _ k (walked.Chosen word index sub choice t new n x w ok one) step ties =
     let still : IsStill sub.state t.sub.state =
-    subst (λ (r : Result SubTurn Fault). IfOk r (λ t. IsStill sub.state t.sub.state)) ok (choose-still (marked_sub sub choice) (chosen sub choice)) in
+    subst (λ (r : Result SubResult Fault). IfOk r (λ t. IsStill sub.state t.sub.state)) ok (choose-still (marked_sub sub choice) (chosen sub choice)) in
     let same : t.sub.setup ≡ sub.setup =
-    subst (λ (r : Result SubTurn Fault). IfOk r (λ t. t.sub.setup ≡ sub.setup)) ok (choose-setup (marked_sub sub choice) (chosen sub choice)) in (
+    subst (λ (r : Result SubResult Fault). IfOk r (λ t. t.sub.setup ≡ sub.setup)) ok (choose-setup (marked_sub sub choice) (chosen sub choice)) in (
       λ is.
           offer-on s word sub t.reply k (on s (event.Choose word) t.reply new step) (ap (λ (o : Option ℕ). sub_at s.subs o) n ∙ one.there)
-          (ties place sub (named-place s.subs id (subchannel_named s.sets word) place n is) one.there),
-      one-still id s new place sub t.sub k one same still ties,
+          (ties index sub (named-index s.subs id (subchannel_named s.sets word) index n is) one.there),
+      one-still id s new index sub t.sub k one same still ties,
     )
-walked-seen on id s _ _ _ k (walked.Met word path returns place sub t new n ok one may) step ties =
+walked-seen on id s _ _ _ k (walked.Met word path returns index sub t new n ok one may) step ties =
     let named : Option SubchannelId = subchannel_named s.sets word in
-    let met : IsMet sub path k t = subst (λ (r : Result UpTurn Fault). IfOk r (IsMet sub path k)) ok (up-met returns s.storage sub path k) in
-    let same : t.sub.setup ≡ sub.setup = subst (λ (r : Result UpTurn Fault). IfOk r (λ t. t.sub.setup ≡ sub.setup)) ok (up-setup returns s.storage sub path) in (
+    let met : IsMet sub path k t = subst (λ (r : Result UpResult Fault). IfOk r (IsMet sub path k)) ok (up-met returns s.storage sub path k) in
+    let same : t.sub.setup ≡ sub.setup = subst (λ (r : Result UpResult Fault). IfOk r (λ t. t.sub.setup ≡ sub.setup)) ok (up-setup returns s.storage sub path) in (
       tt,
       subst (λ (xs : List Subchannel). DedicatedAt id xs (if is_id named id then dedicated_met path t.reply k else k)) (sym one.subs)
-          (dedicated-set id s.subs place sub t.sub k (if is_id named id then dedicated_met path t.reply k else k) one.there same
-          (λ mine h. if-mine (is_id named id) (dedicated_met path t.reply k) k t.sub.state.dedicated (named-is s.subs id named place sub n mine one.there) (met h))
-          (λ not. if-else (is_id named id) (dedicated_met path t.reply k) k (λ is. not (named-place s.subs id named place n is))) ties),
+          (dedicated-set id s.subs index sub t.sub k (if is_id named id then dedicated_met path t.reply k else k) one.there same
+          (λ mine h. if-mine (is_id named id) (dedicated_met path t.reply k) k t.sub.state.dedicated (named-is s.subs id named index sub n mine one.there) (met h))
+          (λ not. if-else (is_id named id) (dedicated_met path t.reply k) k (λ is. not (named-index s.subs id named index n is))) ties),
     )
-walked-seen on id s _ _ _ k (walked.Sunk word path may owed place sub u t new n ok one) step ties =
-    let apart : IsApart sub t = subst (λ (r : Result DownTurn Fault). IfOk r (IsApart sub)) ok (down-apart may sub path u) in (
+walked-seen on id s _ _ _ k (walked.Sunk word path may owed index sub u t new n ok one) step ties =
+    let apart : IsApart sub t = subst (λ (r : Result DownResult Fault). IfOk r (IsApart sub)) ok (down-apart may sub path u) in (
       tt,
       subst (λ (xs : List Subchannel). DedicatedAt id xs k) (sym one.subs)
-          (still-set id s.subs place sub t.sub k one.there apart.setup (ap (λ (x : SubchannelState). x.dedicated) apart.state) ties),
+          (still-set id s.subs index sub t.sub k one.there apart.setup (ap (λ (x : SubchannelState). x.dedicated) apart.state) ties),
     )
-walked-seen on id s _ _ _ k (walked.Reported at place sub u report t new n reached ok one) step ties =
-    let apart : IsApart sub t = subst (λ (r : Result DownTurn Fault). IfOk r (IsApart sub)) ok (step-apart sub (unit_reports u report)) in (
+walked-seen on id s _ _ _ k (walked.Reported at index sub u report t new n reached ok one) step ties =
+    let apart : IsApart sub t = subst (λ (r : Result DownResult Fault). IfOk r (IsApart sub)) ok (step-apart sub (unit_reports u report)) in (
       tt,
       subst (λ (xs : List Subchannel). DedicatedAt id xs k) (sym one.subs)
-          (still-set id s.subs place sub t.sub k one.there apart.setup (ap (λ (x : SubchannelState). x.dedicated) apart.state) ties),
+          (still-set id s.subs index sub t.sub k one.there apart.setup (ap (λ (x : SubchannelState). x.dedicated) apart.state) ties),
     )
-walked-seen on id s _ _ _ k (walked.Acted at place sub u what t new side its ok one) step ties =
-    let apart : IsApart sub t = subst (λ (r : Result DownTurn Fault). IfOk r (IsApart sub)) ok (act-apart sub u what) in (
+walked-seen on id s _ _ _ k (walked.Acted at index sub u what t new side its ok one) step ties =
+    let apart : IsApart sub t = subst (λ (r : Result DownResult Fault). IfOk r (IsApart sub)) ok (act-apart sub u what) in (
       tt,
       subst (λ (xs : List Subchannel). DedicatedAt id xs k) (sym one.subs)
-          (still-set id s.subs place sub t.sub k one.there apart.setup (ap (λ (x : SubchannelState). x.dedicated) apart.state) ties),
+          (still-set id s.subs index sub t.sub k one.there apart.setup (ap (λ (x : SubchannelState). x.dedicated) apart.state) ties),
     )
 walked-seen on id s _ _ _ k (walked.Restarted at owed u r new found sets subs units up) step ties = (tt, subst (λ (xs : List Subchannel). DedicatedAt id xs k) (sym subs) ties)
 walked-seen on id s _ _ _ k (walked.Swept e r what new q sets subs units by) step ties = (
@@ -340,7 +340,7 @@ record IsRunSeen (sets : ℕ) (id : SubchannelId) (h : List Entry) (s : State) :
   right : AreRight sets id None h
 
 run-seen : AreWalks → AreOnDedicated → (setup : Setup) (id : SubchannelId) (h : List Entry) (s : State) → Run (opening_of setup) h s → IsRunSeen (set_count setup) id h s
-run-seen walks on setup id _ _ Opened = record { count = refl; ties = λ place sub named there. none-dedicates sub.state.dedicated; right = tt }
+run-seen walks on setup id _ _ Opened = record { count = refl; ties = λ index sub named there. none-dedicates sub.state.dedicated; right = tt }
 run-seen walks on setup id _ _ (Stepped h old e r new run step) =
     let before : IsRunSeen (set_count setup) id h old = run-seen walks on setup id h old run in
     let walk : Walked old e r new = walks old e r new step in

@@ -2,7 +2,7 @@
 use Rattle.std.proofs.Common.{◌≡◌, refl, sym, ◌∙◌, ℕ, ◌+◌, ◌==◌, ◌&&◌, nat_lt, Bool, true, false, not, Option, None, Some, Result, IfOk, if◌then◌else◌}
 use Rattle.std.proofs.lemmas.Bool.{and_parts}
 use Rattle.std.specs.Prelude.{is_some, ◌||◌}
-use Rattle.ccw_walk.specs.Places.{WalkPlace}
+use Rattle.ccw_walk.specs.Positions.{WalkPosition}
 use Rattle.chan_model.specs.declared.fault.Fault.{Fault}
 use Rattle.chan_model.specs.declared.hold_state.HoldPhase.{HoldPhase}
 use Rattle.chan_model.specs.declared.hold_state.HoldPhase.TheVariants as hold
@@ -10,13 +10,13 @@ use Rattle.chan_model.specs.declared.hold_state.HoldState.{HoldState}
 use Rattle.chan_model.specs.declared.signal.Down.TheVariants as down
 use Rattle.chan_model.specs.Signals.{Load, Up, load_bytes}
 use Rattle.chan_model.specs.declared.signal.Up.TheVariants as up
-use Rattle.chan_model.specs.HoldTable.{HoldStep, program_begun, offer_accepted, hold_takes, came_of, is_connected, is_on}
+use Rattle.chan_model.specs.HoldTable.{HoldStep, program_begun, offer_accepted, hold_takes, outcome_of, is_connected, is_on}
 use Rattle.chan_model.specs.Loads.{load_length}
 use Rattle.chan_model.specs.UnitReports.{is_last_end, is_outward, has_device_end, has_unit_check}
 use Rattle.storage_keys.specs.Storage.{Contents}
 use Rattle.data_move.specs.declared.transfer.Beginning.{Beginning}
 use Rattle.data_move.specs.declared.transfer.CommandStart.{CommandStart}
-use Rattle.data_move.specs.declared.transfer.CommandStart.TheVariants as came
+use Rattle.data_move.specs.declared.transfer.CommandStart.TheVariants as outcome
 use Rattle.data_move.specs.Commands.{first_command, next_command, begun_with_room}
 use Rattle.data_move.specs.FromDevice.{chunk_stored}
 use Rattle.data_move.specs.ChunkNumbers.{is_answered}
@@ -50,7 +50,7 @@ use Rattle.subchannel_model.specs.Accept.{offered_position, takes_device, with_p
 use Rattle.subchannel_model.specs.Suspension.{program_suspended}
 use Rattle.subchannel_model.specs.Cleared.{clear_performed, takes_cleared}
 use Rattle.machine_model.specs.ChooseSteps.{choose_sub}
-use Rattle.machine_model.specs.Turns.{SubTurn}
+use Rattle.machine_model.specs.Results.{SubResult}
 use Rattle.chan_model.specs.ResetCauses.{rests_on}
 use Rattle.run_laws.proofs.Machine.Beside.{cause-beside, interrupted-beside, suspending-beside, halt_performed-beside, clear_performed-beside, attention-beside, tested-beside}
 
@@ -68,7 +68,7 @@ cause-still s c = (cause-beside s c).dedicated
 interrupted-still : (s : SubchannelState) (b : Option ActiveProgram) → IsStill s (with_pci s b)
 interrupted-still s b = (interrupted-beside s b).dedicated
 
-suspending-still : (s : SubchannelState) (program : Program) (walk : WalkPlace) (count : ℕ) → IsStill s (program_suspended s program walk count)
+suspending-still : (s : SubchannelState) (program : Program) (walk : WalkPosition) (count : ℕ) → IsStill s (program_suspended s program walk count)
 suspending-still s program walk count = (suspending-beside s program walk count).dedicated
 
 halt_performed-still : (s : SubchannelState) → IsStill s (halt_performed s)
@@ -110,14 +110,14 @@ if-ok P false x y e f = f
 pub choose-still : (sub : Subchannel) (c : Chosen) → IfOk (choose_sub sub c) (λ t. IsStill sub.state t.sub.state)
 choose-still sub Idle = refl
 choose-still sub (Resets r path) =
-    if-ok (λ (t : SubTurn). IsStill sub.state t.sub.state) (finds_full sub.wires.down (carried_by sub (Some (record { path = path; signal = down.Reset r sub.state.hold.known })))) _ _ tt refl
+    if-ok (λ (t : SubResult). IsStill sub.state t.sub.state) (finds_full sub.wires.down (carried_by sub (Some (record { path = path; signal = down.Reset r sub.state.hold.known })))) _ _ tt refl
 choose-still sub PerformsClear = cause-still sub.state cause.ClearDone
 choose-still sub (Halts t path) =
-    if-ok (λ (t : SubTurn). IsStill sub.state t.sub.state) (finds_full sub.wires.down (carried_by sub (Some (record { path = path; signal = down.Halt t })))) _ _ tt refl
+    if-ok (λ (t : SubResult). IsStill sub.state t.sub.state) (finds_full sub.wires.down (carried_by sub (Some (record { path = path; signal = down.Halt t })))) _ _ tt refl
 choose-still sub PerformsHalt = cause-still sub.state cause.HaltDone
 choose-still sub FindsNoPath = cause-still sub.state cause.NoPath
 choose-still sub (Offers c path) =
-    if-ok (λ (t : SubTurn). IsStill sub.state t.sub.state) (finds_full sub.wires.down (carried_by sub (Some (record { path = path; signal = down.Select (sub.state.drawn + 1) })))) _ _ tt refl
+    if-ok (λ (t : SubResult). IsStill sub.state t.sub.state) (finds_full sub.wires.down (carried_by sub (Some (record { path = path; signal = down.Select (sub.state.drawn + 1) })))) _ _ tt refl
 
 -- a signal that came up: a Data that is taken may end it, and so may an End; an End with unit check brings one to its path
 abbrev pub IsByCheck : Bool → ℕ → Option ℕ → Type 0
@@ -130,7 +130,7 @@ IsLeft p (up.End t n status more) true old new = IsByCheck (has_unit_check statu
 IsLeft p x taken old new = new ≡ old
 
 abbrev Left : ℕ → Up → SubchannelState → UpStep → Type 0
-Left p x s step = IsLeft p x step.came.taken s.dedicated step.state.dedicated
+Left p x s step = IsLeft p x step.outcome.taken s.dedicated step.state.dedicated
 
 if-left : (p : ℕ) (x : Up) (s : SubchannelState) (b : Bool) (y z : UpStep) → (b ≡ true → Left p x s y) → Left p x s z → Left p x s (if b then y else z)
 if-left p x s true y z k l = k refl
@@ -141,15 +141,15 @@ if-met p x s true y z k l = k
 if-met p x s false y z k l = l
 
 -- Accept
-beginning-left : (storage : Contents) (s : SubchannelState) (p t : ℕ) (st : ProgramPosition) (walk : WalkPlace) (r : CommandStart) → IsStill s (first_ccw_outcome storage s p t st walk r).state
-beginning-left storage s p t st walk (came.Begins transfer) =
+beginning-left : (storage : Contents) (s : SubchannelState) (p t : ℕ) (st : ProgramPosition) (walk : WalkPosition) (r : CommandStart) → IsStill s (first_ccw_outcome storage s p t st walk r).state
+beginning-left storage s p t st walk (outcome.Begins transfer) =
     let next : SubchannelState = with_program_at_work s st.program (begun_with_room storage transfer).transfer in interrupted-still next next.begun
-beginning-left storage s p t st walk came.Suspends = suspending-still s st.program walk st.count
-beginning-left storage s p t st walk (came.Stops check) = cause-still s (cause.FetchFault walk.tried check st.count)
+beginning-left storage s p t st walk outcome.Suspends = suspending-still s st.program walk st.count
+beginning-left storage s p t st walk (outcome.Stops check) = cause-still s (cause.FetchFault walk.tried check st.count)
 
 standing-left : (storage : Contents) (s : SubchannelState) (p t : ℕ) (st : Option ProgramPosition) → IsStill s (begins_at storage s p t st).state
 standing-left storage s p t None = refl
-standing-left storage s p t (Some st) = beginning-left storage s p t st (first_command storage st.walk).walk (first_command storage st.walk).came
+standing-left storage s p t (Some st) = beginning-left storage s p t st (first_command storage st.walk).walk (first_command storage st.walk).outcome
 
 abbrev phased : SubchannelState → HoldState → HoldPhase → SubchannelState
 phased s h phase = record s { hold = record h { phase = phase } }
@@ -209,11 +209,11 @@ unchecked : (check : Bool) (p : ℕ) (new : Option ℕ) → check ≡ false → 
 unchecked true p new e = absurd (cc e)
 unchecked false p new e = tt
 
-chaining-left : (storage : Contents) (s : SubchannelState) (b : ActiveProgram) (x : EndSignal) (walk : WalkPlace) (r : CommandStart) → has_unit_check x.status ≡ false →
+chaining-left : (storage : Contents) (s : SubchannelState) (b : ActiveProgram) (x : EndSignal) (walk : WalkPosition) (r : CommandStart) → has_unit_check x.status ≡ false →
     Left x.path (end_up x) s (next_ccw_outcome storage s b x walk r)
-chaining-left storage s b x walk (came.Begins transfer) e = unchecked (has_unit_check x.status) x.path _ e
-chaining-left storage s b x walk came.Suspends e = unchecked (has_unit_check x.status) x.path _ e
-chaining-left storage s b x walk (came.Stops check) e = unchecked (has_unit_check x.status) x.path _ e
+chaining-left storage s b x walk (outcome.Begins transfer) e = unchecked (has_unit_check x.status) x.path _ e
+chaining-left storage s b x walk outcome.Suspends e = unchecked (has_unit_check x.status) x.path _ e
+chaining-left storage s b x walk (outcome.Stops check) e = unchecked (has_unit_check x.status) x.path _ e
 
 stops-left : (s : SubchannelState) (b : ActiveProgram) (x : EndSignal) → Left x.path (end_up x) s (concludes s b x)
 stops-left s b x =
@@ -228,7 +228,7 @@ end-left storage s (Some b) x =
     (λ h.
     if-left x.path (end_up x) s (chains_command s.scsw b x.status x.more) (chains_at_device_end storage s (with_first_end b) x) (concludes s b x)
     (λ e.
-    if-left x.path (end_up x) s (has_device_end x.status) (chains_with storage s (with_first_end b) x next) _ (λ f. chaining-left storage s (with_first_end b) x next.walk next.came (chained-check s b x e))
+    if-left x.path (end_up x) s (has_device_end x.status) (chains_with storage s (with_first_end b) x next) _ (λ f. chaining-left storage s (with_first_end b) x next.walk next.outcome (chained-check s b x e))
     (ended-left s (record (with_allegiance_after_end s x) { begun = Some (with_first_end b) }) x refl))
     (stops-left s b x))
     refl
@@ -258,4 +258,4 @@ takes-left returns storage s p (up.Cleared r) = reset-left s (hold_takes s.hold 
 takes-left returns storage s p (up.Notice b) = notice-left s b (nat_lt s.hold.known b)
 takes-left returns storage s p (up.Attn a status) =
     let step : Option HoldStep = hold_takes s.hold p (up.Attn a status) (may_take_attention s) in
-    attention-still (hold_outcome s step).state ((came_of step).taken && not (status.0 == 0x20))
+    attention-still (hold_outcome s step).state ((outcome_of step).taken && not (status.0 == 0x20))

@@ -18,7 +18,7 @@ use Rattle.chan_model.specs.Signals.{Down, Up}
 use Rattle.chan_model.specs.declared.signal.Down.TheVariants as down
 use Rattle.chan_model.specs.declared.signal.OnPath.{OnPath}
 use Rattle.chan_model.specs.declared.signal.Up.TheVariants as up
-use Rattle.chan_model.specs.HoldTable.{refusing, granting, asked_back, came_of}
+use Rattle.chan_model.specs.HoldTable.{refusing, granting, asked_back, outcome_of}
 use Rattle.chan_model.specs.PathSets.{mask_of_paths, is_member, each_path}
 use Rattle.chan_model.specs.ResetCauses.{is_path, engaged_path}
 use Rattle.channel_config.specs.declared.parts.SubchannelSetup.{SubchannelSetup}
@@ -38,7 +38,7 @@ use Rattle.machine_model.specs.ChooseSteps.{choose_sub}
 use Rattle.machine_model.specs.OtherSteps.{engaged_byte, engaged_bytes, engaged_chpids}
 use Rattle.machine_model.specs.State.{State, opening_of}
 use Rattle.machine_model.specs.Steps.{Run, Opened, Stepped, Step}
-use Rattle.machine_model.specs.Turns.{SubTurn, UpTurn}
+use Rattle.machine_model.specs.Results.{SubResult, UpResult}
 use Rattle.machine_model.specs.UpSteps.{may_return, returns_at, up_front, up_sub, returns_by}
 use Rattle.subchannel_model.specs.Taking.{takes_up}
 use Rattle.run_laws.specs.OneEngine.{IsOnePath}
@@ -57,8 +57,8 @@ use Rattle.run_laws.proofs.Signals.LinkLists.{AreTied, of-named}
 use Rattle.run_laws.proofs.Signals.LinkPaths.{member-up}
 use Rattle.run_laws.proofs.Signals.LinkRuns.{AreSeen, AreOnePath, IsRunSeen, run-seen, through-more, right-more}
 use Rattle.run_laws.proofs.Signals.LinkSubs.{IsTied}
-use Rattle.step_laws.proofs.Turns as turn
-use Rattle.step_laws.proofs.Turns.{TurnOf, HasTurn, step-turn}
+use Rattle.step_laws.proofs.Results as turn
+use Rattle.step_laws.proofs.Results.{ResultOf, HasResult, step-turn}
 
 -- the path whose engine serves it
 engaged-at : (phase : HoldPhase) (sent : Option ℕ) → engaged_by (link_at phase sent) ≡ engaged_path phase
@@ -90,7 +90,7 @@ any-served is_up (k ∷ ks) (x ∷ xs) chpid all =
 serves-is : (k : Seen) (s : State) (chpid : ℕ) → AreSeen k s → serves k chpid ≡ any_engages s.subs chpid
 serves-is k s chpid tied = any-served k.up k.subs s.subs chpid tied
 
--- the subchannel of a place
+-- the subchannel of an index
 record IsThere (is_up : ℕ → Bool) (k : SubSeen) (subs : List Subchannel) (i : ℕ) : Type 0 where
   sub : Subchannel
   there : slice_get subs i ≡ Some sub
@@ -154,12 +154,12 @@ if-ok P false x y e f = f
 offer-idle : (k : Seen) (s : State) (j : SubSeen) (sub : Subchannel) (choice : Option ℕ) (c : Chosen) → IsChoice (paths_to_choose s.subs sub) choice → IsFitFor c sub.state.hold → IsOffer choice c →
     AreSeen k s → IsTied k.up j sub → IfOk (choose_sub (marked_sub sub choice) c) (λ t. IsOfferRight k t.reply j)
 offer-idle k s j sub choice (Resets r path) x fits o tied tie =
-    if-ok (λ (t : SubTurn). IsOfferRight k t.reply j) (finds_full sub.wires.down (carried_by sub (Some (record { path = path; signal = down.Reset r sub.state.hold.known })))) _ _ tt tt
+    if-ok (λ (t : SubResult). IsOfferRight k t.reply j) (finds_full sub.wires.down (carried_by sub (Some (record { path = path; signal = down.Reset r sub.state.hold.known })))) _ _ tt tt
 offer-idle k s j sub choice (Halts t path) x fits o tied tie =
-    if-ok (λ (t : SubTurn). IsOfferRight k t.reply j) (finds_full sub.wires.down (carried_by sub (Some (record { path = path; signal = down.Halt t })))) _ _ tt tt
+    if-ok (λ (t : SubResult). IsOfferRight k t.reply j) (finds_full sub.wires.down (carried_by sub (Some (record { path = path; signal = down.Halt t })))) _ _ tt tt
 offer-idle k s j sub choice (Offers c path) x fits o tied tie =
     let parts = without-parts (reachable_paths (path_use sub)) (engaged_paths s.subs sub) path (offer-usable s.subs sub choice path x fits o) in
-    if-ok (λ (t : SubTurn). IsOfferRight k t.reply j) (finds_full sub.wires.down (carried_by sub (Some (record { path = path; signal = down.Select (sub.state.drawn + 1) })))) _ _ tt
+    if-ok (λ (t : SubResult). IsOfferRight k t.reply j) (finds_full sub.wires.down (carried_by sub (Some (record { path = path; signal = down.Select (sub.state.drawn + 1) })))) _ _ tt
     (idle-is k s j sub path tied tie (usable-free s.subs sub path parts.0 parts.1))
 offer-idle k s j sub choice other x fits o tied tie = tt
 
@@ -185,8 +185,8 @@ IsGrant p t c taken sent = taken ≡ true → sent ≡ Some (record { path = p; 
 
 grant-if : (h : HoldState) (p u t c : ℕ) (may b : Bool) → ((u == t) && nat_lt h.seen c) ≡ b → u ≡ t → may ≡ true →
     IsGrant p u c
-    (came_of (if b then (if may then Some (granting h p t c) else Some (refusing h p t c)) else None)).taken
-    (came_of (if b then (if may then Some (granting h p t c) else Some (refusing h p t c)) else None)).sent
+    (outcome_of (if b then (if may then Some (granting h p t c) else Some (refusing h p t c)) else None)).taken
+    (outcome_of (if b then (if may then Some (granting h p t c) else Some (refusing h p t c)) else None)).sent
 grant-if h p u t c true true e same may = λ taken. ap (λ (n : ℕ). Some (record { path = p; signal = down.Grant n c })) (sym same)
 grant-if h p u t c false true e same may = absurd (cc may)
 grant-if h p u t c may false e same m = λ taken. absurd (cc taken)
@@ -195,7 +195,7 @@ not-granted : (p t c : ℕ) → IsGrant p t c false None
 not-granted p t c taken = absurd (cc taken)
 
 back-granted : (h : HoldState) (phase : HoldPhase) (reset : Option ℕ) (j : SubSeen) (p u c : ℕ) (may : Bool) → Stands j phase reset → j.link ≡ Apart u → may ≡ true →
-    IsGrant p u c (came_of (asked_back (record h { phase = phase }) phase p u c may)).taken (came_of (asked_back (record h { phase = phase }) phase p u c may)).sent
+    IsGrant p u c (outcome_of (asked_back (record h { phase = phase }) phase p u c may)).taken (outcome_of (asked_back (record h { phase = phase }) phase p u c may)).sent
 back-granted h (hold.Away t) reset j p u c may (inl e) apart m =
     let same : u ≡ t = cc (sym apart ∙ e) in grant-if (record h { phase = hold.Away t }) p u t c may ((u == t) && nat_lt h.seen c) refl same m
 back-granted h (hold.Reset r) reset j p u c may s apart m = not-granted p u c
@@ -212,7 +212,7 @@ grant-due k j p u c true sent f = λ apart first on idle. f apart first on idle 
 grant-due k j p u c false sent f = tt
 
 signal-due : (k : Seen) (s : State) (returns : Bool) (storage : Contents) (j : SubSeen) (sub : Subchannel) (p : ℕ) (x : Up) → slice_get (queue sub.wires.up p) 0 ≡ Some x → returns ≡ returns_at s.subs sub p →
-    AreSeen k s → IsTied k.up j sub → IsGrantDue k p (reply.Up x (takes_up returns storage sub.state p x).step.came.taken (takes_up returns storage sub.state p x).step.came.sent) j
+    AreSeen k s → IsTied k.up j sub → IsGrantDue k p (reply.Up x (takes_up returns storage sub.state p x).step.outcome.taken (takes_up returns storage sub.state p x).step.outcome.sent) j
 signal-due k s returns storage j sub p (up.Accept t) front may tied tie = tt
 signal-due k s returns storage j sub p (up.Busy t) front may tied tie = tt
 signal-due k s returns storage j sub p (up.Leave t c) front may tied tie = tt
@@ -232,13 +232,13 @@ front-due : (k : Seen) (s : State) (returns : Bool) (storage : Contents) (j : Su
     returns ≡ returns_at s.subs sub p → AreSeen k s → IsTied k.up j sub → IfOk (up_front returns storage sub p front) (λ t. IsGrantDue k p t.reply j)
 front-due k s returns storage j sub p None e may tied tie = tt
 front-due k s returns storage j sub p (Some x) e may tied tie =
-    if-ok (λ (t : UpTurn). IsGrantDue k p t.reply j) (finds_full sub.wires.down (carried_by sub (takes_up returns storage sub.state p x).step.came.sent)) _ _ tt
+    if-ok (λ (t : UpResult). IsGrantDue k p t.reply j) (finds_full sub.wires.down (carried_by sub (takes_up returns storage sub.state p x).step.outcome.sent)) _ _ tt
     (signal-due k s returns storage j sub p x e may tied tie)
 
 up-due : (k : Seen) (s : State) (returns : Bool) (storage : Contents) (j : SubSeen) (sub : Subchannel) (p : ℕ) → returns ≡ returns_at s.subs sub p → AreSeen k s → IsTied k.up j sub →
     IfOk (up_sub returns storage sub p) (λ t. IsGrantDue k p t.reply j)
 up-due k s returns storage j sub p may tied tie =
-    if-ok (λ (t : UpTurn). IsGrantDue k p t.reply j) (nat_lt p (length sub.setup.paths)) (up_front returns storage sub p (slice_get (queue sub.wires.up p) 0)) _
+    if-ok (λ (t : UpResult). IsGrantDue k p t.reply j) (nat_lt p (length sub.setup.paths)) (up_front returns storage sub p (slice_get (queue sub.wires.up p) 0)) _
     (front-due k s returns storage j sub p (slice_get (queue sub.wires.up p) 0) refl may tied tie) tt
 
 quiet-idle : (sets : ℕ) (k : Seen) (e : Event) (r : Reply) → IsQuiet e r → GoesByIdle sets k e r
@@ -248,21 +248,21 @@ quiet-idle sets k e r q = tt
 
 walked-idle : (s : State) (e : Event) (r : Reply) (new : State) (k : Seen) → Walked s e r new → AreSeen k s → GoesByIdle s.sets k e r
 walked-idle s _ _ _ k (walked.Stays e r new q sets subs units up) tied = quiet-idle s.sets k e r q
-walked-idle s _ _ _ k (walked.Tested e r place sub c new q one address by answers) tied = quiet-idle s.sets k e r q
-walked-idle s _ _ _ k (walked.Modified e r place sub given c new q one) tied = quiet-idle s.sets k e r q
-walked-idle s _ _ _ k (walked.Performed e r place sub f c new q one by answers) tied = quiet-idle s.sets k e r q
-walked-idle s _ _ _ k (walked.Chosen word place sub choice t new n x w ok one) tied =
-    of-named k.up (IsOfferRight k t.reply) (subchannel_named s.sets word) k.subs s.subs place sub n one.there
+walked-idle s _ _ _ k (walked.Tested e r index sub c new q one address by answers) tied = quiet-idle s.sets k e r q
+walked-idle s _ _ _ k (walked.Modified e r index sub given c new q one) tied = quiet-idle s.sets k e r q
+walked-idle s _ _ _ k (walked.Performed e r index sub f c new q one by answers) tied = quiet-idle s.sets k e r q
+walked-idle s _ _ _ k (walked.Chosen word index sub choice t new n x w ok one) tied =
+    of-named k.up (IsOfferRight k t.reply) (subchannel_named s.sets word) k.subs s.subs index sub n one.there
     (λ j tie.
-    subst (λ (r : Result SubTurn Fault). IfOk r (λ t. IsOfferRight k t.reply j)) ok (offer-idle k s j sub choice (chosen sub choice) x w.fits (chosen-offer sub choice) tied tie)) tied
-walked-idle s _ _ _ k (walked.Met word path returns place sub t new n ok one may) tied =
-    let granted : IsGranted returns sub path t = subst (λ (r : Result UpTurn Fault). IfOk r (IsGranted returns sub path)) ok (up-granted returns s.storage sub path) in
-    of-named k.up (λ j. IsGrantRight k t.reply j × IsGrantDue k path t.reply j) (subchannel_named s.sets word) k.subs s.subs place sub n one.there
+    subst (λ (r : Result SubResult Fault). IfOk r (λ t. IsOfferRight k t.reply j)) ok (offer-idle k s j sub choice (chosen sub choice) x w.fits (chosen-offer sub choice) tied tie)) tied
+walked-idle s _ _ _ k (walked.Met word path returns index sub t new n ok one may) tied =
+    let granted : IsGranted returns sub path t = subst (λ (r : Result UpResult Fault). IfOk r (IsGranted returns sub path)) ok (up-granted returns s.storage sub path) in
+    of-named k.up (λ j. IsGrantRight k t.reply j × IsGrantDue k path t.reply j) (subchannel_named s.sets word) k.subs s.subs index sub n one.there
     (λ j tie. (
       λ q e.
           let g = granted q e in
           subst (λ (p : ℕ). IsIdle k j p) (sym g.1) (idle-is k s j sub path tied tie (return-parts s.subs sub path (returns-right s.subs sub path returns may g.0)).0),
-      subst (λ (r : Result UpTurn Fault). IfOk r (λ t. IsGrantDue k path t.reply j)) ok (up-due k s returns s.storage j sub path may tied tie),
+      subst (λ (r : Result UpResult Fault). IfOk r (λ t. IsGrantDue k path t.reply j)) ok (up-due k s returns s.storage j sub path may tied tie),
     )) tied
 walked-idle s _ _ _ k (walked.Swept e r what new q sets subs units by) tied = quiet-idle s.sets k e r q
 walked-idle s _ _ _ k w tied = tt
@@ -304,12 +304,12 @@ status-is : (k : Seen) (s : State) → AreSeen k s → engaged_bytes (engaged_ch
 unfolding engaged_bytes engaged_chpids status_bytes
 status-is k s tied = map-same (engaged_byte (mapped_chpids s.subs)) (status_byte (serves k)) (range_with_len 0 32) (λ i x e. byte-same k s x (range-at 32 i x e) tied)
 
-turn-shown : (s : State) (e : Event) (r : Reply) (new : State) (k : Seen) → TurnOf s e r new → AreSeen k s → ShowsServed k e r
+turn-shown : (s : State) (e : Event) (r : Reply) (new : State) (k : Seen) → ResultOf s e r new → AreSeen k s → ShowsServed k e r
 turn-shown s _ _ _ k (turn.StoresPaths cpu address) tied = ap (λ (bytes : List ℕ). reply.Paths bytes) (status-is k s tied)
 turn-shown s _ _ _ k t tied = tt
 
 shown : (s : State) (e : Event) (r : Reply) (new : State) (k : Seen) → Step s e r new → AreSeen k s → ShowsServed k e r
-shown s e r new k step tied = let is : HasTurn s e r new = step-turn s e r new step in turn-shown s e r is.left k is.turn tied
+shown s e r new k step tied = let is : HasResult s e r new = step-turn s e r new step in turn-shown s e r is.left k is.turn tied
 
 -- along a run
 pub run-one-engine : AreWalks → AreOnePath → (setup : Setup) (h : List Entry) (s : State) → IsLawful setup → Run (opening_of setup) h s → HasOneEngine setup h

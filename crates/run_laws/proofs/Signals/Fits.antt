@@ -12,7 +12,7 @@ use Rattle.chan_model.specs.declared.signal.Up.TheVariants as up
 use Rattle.chan_model.specs.declared.unit_state.Own.{Own}
 use Rattle.chan_model.specs.declared.unit_state.Own.TheVariants as own
 use Rattle.chan_model.specs.declared.unit_state.Connection.{Connection}
-use Rattle.chan_model.specs.declared.unit_state.Connection.TheVariants as place
+use Rattle.chan_model.specs.declared.unit_state.Connection.TheVariants as connection
 use Rattle.chan_model.specs.declared.unit_state.UnitState.{UnitState}
 use Rattle.chan_model.specs.Sides.{same_side}
 use Rattle.chan_model.specs.UnitTable.{side_of, owns}
@@ -23,7 +23,7 @@ use Rattle.subchannel_model.specs.declared.state.Subchannel.{Subchannel}
 use Rattle.run_laws.proofs.Machine.Growth.{IsLink, covers-first}
 use Rattle.agreement_laws.proofs.SeenSignals.{Rises, IsResetAbove, reset-above}
 use Rattle.run_laws.proofs.Signals.Ties.{linked}
-use Rattle.run_laws.proofs.Signals.UnitMoves.{on_place, on_side, floor_of}
+use Rattle.run_laws.proofs.Signals.UnitMoves.{on_connection, on_side, floor_of}
 use Rattle.run_laws.proofs.Signals.BoundSteps.{IsBackBelow}
 use Rattle.run_laws.proofs.Signals.UnitBounds.{IsSelectAt, IsPlaced}
 
@@ -47,23 +47,23 @@ placed-none : (phase : HoldPhase) → IsPlaced phase None
 placed-none hold.Free = tt
 placed-none other = tt
 
-joined : (p c s q d : ℕ) → IsJoined p c s (place.On q d) → (q ≡ p) × (d ≡ c)
+joined : (p c s q d : ℕ) → IsJoined p c s (connection.On q d) → (q ≡ p) × (d ≡ c)
 joined p c s q d j = (sym j.1, sym j.2)
 
-placed-paired : (phase : HoldPhase) (s f t p c : ℕ) → IsPaired phase s f t (place.On p c) → IsPlaced phase (Some (linked t p c))
+placed-paired : (phase : HoldPhase) (s f t p c : ℕ) → IsPaired phase s f t (connection.On p c) → IsPlaced phase (Some (linked t p c))
 placed-paired (hold.Offer u q) s f t p c m = λ e. joined q 0 0 p c m.1
 placed-paired (hold.On u q d) s f t p c m = λ e. joined q d s p c m.1
 placed-paired other s f t p c m = tt
 
-placed-place : (phase : HoldPhase) (s f t : ℕ) (at : Connection) → IsPaired phase s f t at → IsPlaced phase (on_place t at)
-placed-place phase s f t (place.On p c) m = placed-paired phase s f t p c m
-placed-place phase s f t (place.Ask p c) m = placed-none phase
-placed-place phase s f t (place.Away c) m = placed-none phase
+placed-connection : (phase : HoldPhase) (s f t : ℕ) (at : Connection) → IsPaired phase s f t at → IsPlaced phase (on_connection t at)
+placed-connection phase s f t (connection.On p c) m = placed-paired phase s f t p c m
+placed-connection phase s f t (connection.Ask p c) m = placed-none phase
+placed-connection phase s f t (connection.Away c) m = placed-none phase
 
 placed-owned : (e : Ends) (t : ℕ) (at : Connection) (fresh same : Bool) → (fresh ≡ true → same ≡ false) → IsMatched e (if fresh then SideSeen.Fresh else (if same then Owns t at else SideSeen.Idle)) →
-    IsPlaced e.phase (if same then on_place t at else None)
+    IsPlaced e.phase (if same then on_connection t at else None)
 placed-owned e t at true true free m = absurd (cc (free refl))
-placed-owned e t at false true free m = placed-place e.phase e.last e.floor t at m
+placed-owned e t at false true free m = placed-connection e.phase e.last e.floor t at m
 placed-owned e t at fresh false free m = placed-none e.phase
 
 placed-by : (e : Ends) (o : Own) (side : Side) (fresh : Bool) → (fresh ≡ true → owns o side ≡ false) → IsMatched e (seen_by fresh o side) → IsPlaced e.phase (on_side o side)

@@ -14,7 +14,7 @@ use Rattle.chan_model.specs.declared.unit_state.CurrentCommand.{CurrentCommand}
 use Rattle.chan_model.specs.declared.unit_state.Own.{Own}
 use Rattle.chan_model.specs.declared.unit_state.Own.TheVariants as own
 use Rattle.chan_model.specs.declared.unit_state.Connection.{Connection}
-use Rattle.chan_model.specs.declared.unit_state.Connection.TheVariants as place
+use Rattle.chan_model.specs.declared.unit_state.Connection.TheVariants as connection
 use Rattle.chan_model.specs.declared.unit_state.Progress.{Progress}
 use Rattle.chan_model.specs.declared.unit_state.Progress.TheVariants as progress
 use Rattle.chan_model.specs.declared.unit_state.UnitState.{UnitState}
@@ -26,7 +26,7 @@ use Rattle.step_laws.specs.Walks.{IsOfSide}
 use Rattle.run_laws.specs.Devices as seen
 use Rattle.run_laws.specs.Devices.{Apart, Transfer, Held, side_seen, with_holder, with_transfer, reported, parted, moved, acted_after}
 use Rattle.run_laws.specs.OneHolder.{holds_and, is_connected, IsReportRight, is_held_and, IsActRight}
-use Rattle.run_laws.proofs.Signals.Holdings.{place_of, transfer_of, transfer_in, holder_in, held_with, holding_of, changed-next, hand-next}
+use Rattle.run_laws.proofs.Signals.Holdings.{seen_connection, transfer_of, transfer_in, holder_in, held_with, holding_of, changed-next, hand-next}
 
 -- what a unit does of itself or for its device
 abbrev pub IfStep : Option UnitStep → (UnitState → Type 0) → Type 0
@@ -42,22 +42,22 @@ if-step true step P f = f refl
 if-step false step P f = tt
 
 -- reports: they tell how far the bytes of the command are
-abbrev IsHand : UnitState → (Transfer → Transfer) → UnitState → Type 0
-IsHand u f v = holding_of v ≡ with_holder (with_transfer f) (holding_of u)
+abbrev IsCurrent : UnitState → (Transfer → Transfer) → UnitState → Type 0
+IsCurrent u f v = holding_of v ≡ with_holder (with_transfer f) (holding_of u)
 
 abbrev Hands : UnitState → DeviceAnswer → Option UnitStep → Type 0
-Hands u a step = IfStep step (IsHand u (reported a))
+Hands u a step = IfStep step (IsCurrent u (reported a))
 
 if-hands : (u : UnitState) (a : DeviceAnswer) (b : Bool) (x y : Option UnitStep) → Hands u a x → Hands u a y → Hands u a (if b then x else y)
 if-hands u a true x y e f = e
 if-hands u a false x y e f = f
 
-absorbed-hands : (u : UnitState) (p t c : ℕ) (x : CurrentCommand) (given : Option (List ℕ)) (count : ℕ) → u.at_hand ≡ Some x → Hands u (answer.Absorbed count) (report_absorbed u p t c x given count)
+absorbed-hands : (u : UnitState) (p t c : ℕ) (x : CurrentCommand) (given : Option (List ℕ)) (count : ℕ) → u.current ≡ Some x → Hands u (answer.Absorbed count) (report_absorbed u p t c x given count)
 absorbed-hands u p t c x None count e = tt
 absorbed-hands u p t c x (Some bytes) count e =
     if-hands u (answer.Absorbed count) (nat_le count (length bytes)) _ None (hand-next u x (with_absorbed x count) (reported (answer.Absorbed count)) e refl) tt
 
-again-hands : (u : UnitState) (p t c : ℕ) (x : CurrentCommand) (load : Option Load) → u.at_hand ≡ Some x → Hands u answer.Again (sent_again u p t c x load)
+again-hands : (u : UnitState) (p t c : ℕ) (x : CurrentCommand) (load : Option Load) → u.current ≡ Some x → Hands u answer.Again (sent_again u p t c x load)
 again-hands u p t c x None e = tt
 again-hands u p t c x (Some load) e = if-hands u answer.Again x.again _ None (hand-next u x (record x { again = false }) (reported answer.Again) e refl) tt
 
@@ -67,12 +67,12 @@ begun-outward x e = ap (λ (b : Bool). record { sequence = x.sequence; unanswere
 begun-inward : (x : CurrentCommand) → is_outward x.code ≡ false → transfer_of x ≡ reported answer.Begins (transfer_of x)
 begun-inward x e = ap (λ (b : Bool). record { sequence = x.sequence; unanswered = b || is_some x.unanswered; outward = is_outward x.code }) (sym e)
 
-begun-hands : (u : UnitState) (p t c : ℕ) (x : CurrentCommand) (b : Bool) → is_outward x.code ≡ b → u.at_hand ≡ Some x →
-    Hands u answer.Begins (if b then data_sent u p t c (with_absorbed x 0) (load.Absorbed 0) else changes (record u { at_hand = Some (record x { progress = progress.Working }) }))
+begun-hands : (u : UnitState) (p t c : ℕ) (x : CurrentCommand) (b : Bool) → is_outward x.code ≡ b → u.current ≡ Some x →
+    Hands u answer.Begins (if b then data_sent u p t c (with_absorbed x 0) (load.Absorbed 0) else changes (record u { current = Some (record x { progress = progress.Working }) }))
 begun-hands u p t c x true e h = hand-next u x (with_absorbed x 0) (reported answer.Begins) h (begun-outward x e)
 begun-hands u p t c x false e h = hand-next u x (record x { progress = progress.Working }) (reported answer.Begins) h (begun-inward x e)
 
-answer-hands : (u : UnitState) (p t c : ℕ) (x : CurrentCommand) (at : Progress) (a : DeviceAnswer) → u.at_hand ≡ Some x → Hands u a (answer_taken u p t c x at a)
+answer-hands : (u : UnitState) (p t c : ℕ) (x : CurrentCommand) (at : Progress) (a : DeviceAnswer) → u.current ≡ Some x → Hands u a (answer_taken u p t c x at a)
 answer-hands u p t c x at (answer.Ended status more) e =
     if-hands u (answer.Ended status more) (may_end u.halted x at status more) _ None (hand-next u x (record x { progress = progress_after_end (shown_end at status) }) (reported (answer.Ended status more)) e refl) tt
 answer-hands u p t c x progress.New answer.Begins e = begun-hands u p t c x (is_outward x.code) refl e
@@ -90,28 +90,28 @@ answer-hands u p t c x progress.Ended (answer.Supplied bytes) e = tt
 answer-hands u p t c x progress.Ended answer.Again e = tt
 answer-hands u p t c x progress.ChannelEnded other e = tt
 
-report_on-hands : (u : UnitState) (t : ℕ) (at : Connection) (x : Option CurrentCommand) (r : Report) → u.at_hand ≡ x → Hands u r.answer (report_on u t at x r)
-report_on-hands u t (place.On p c) None r e = tt
-report_on-hands u t (place.On p c) (Some x) r e = if-hands u r.answer (r.sequence == x.sequence) (answer_taken u p t c x x.progress r.answer) None (answer-hands u p t c x x.progress r.answer e) tt
-report_on-hands u t (place.Ask p c) x r e = tt
-report_on-hands u t (place.Away c) x r e = tt
+report_on-hands : (u : UnitState) (t : ℕ) (at : Connection) (x : Option CurrentCommand) (r : Report) → u.current ≡ x → Hands u r.answer (report_on u t at x r)
+report_on-hands u t (connection.On p c) None r e = tt
+report_on-hands u t (connection.On p c) (Some x) r e = if-hands u r.answer (r.sequence == x.sequence) (answer_taken u p t c x x.progress r.answer) None (answer-hands u p t c x x.progress r.answer e) tt
+report_on-hands u t (connection.Ask p c) x r e = tt
+report_on-hands u t (connection.Away c) x r e = tt
 
 report_of-hands : (u : UnitState) (o : Own) (r : Report) → Hands u r.answer (report_of u o r)
 report_of-hands u own.Idle r = tt
 report_of-hands u (own.Owned k t at) r =
-    if-hands u r.answer (same_side k r.side && ((r.number == t) && (r.command == u.last_command))) (report_on u t at u.at_hand r) None (report_on-hands u t at u.at_hand r refl) tt
+    if-hands u r.answer (same_side k r.side && ((r.number == t) && (r.command == u.last_command))) (report_on u t at u.current r) None (report_on-hands u t at u.current r refl) tt
 
 pub reports-hand : (u : UnitState) (r : Report) → Hands u r.answer (unit_reports u r)
 reports-hand u r = report_of-hands u u.own r
 
 -- and are of the program that holds the device
-report_on-right : (u : UnitState) (t : ℕ) (at : Connection) (x : Option CurrentCommand) (r : Report) (C : Type 0) → (is_connected (place_of at) ≡ true → C) → IfStep (report_on u t at x r) (λ v. C)
-report_on-right u t (place.On p c) x r C f = any-step (report_on u t (place.On p c) x r) (λ v. C) (λ v. f refl)
-report_on-right u t (place.Ask p c) x r C f = tt
-report_on-right u t (place.Away c) x r C f = tt
+report_on-right : (u : UnitState) (t : ℕ) (at : Connection) (x : Option CurrentCommand) (r : Report) (C : Type 0) → (is_connected (seen_connection at) ≡ true → C) → IfStep (report_on u t at x r) (λ v. C)
+report_on-right u t (connection.On p c) x r C f = any-step (report_on u t (connection.On p c) x r) (λ v. C) (λ v. f refl)
+report_on-right u t (connection.Ask p c) x r C f = tt
+report_on-right u t (connection.Away c) x r C f = tt
 
 abbrev IsOfHolder : UnitState → Own → Report → Type 0
-IsOfHolder u o r = holds_and (λ h. is_connected h.place && (r.command == h.command)) (holder_in u o) r.side r.number ≡ true
+IsOfHolder u o r = holds_and (λ h. is_connected h.connection && (r.command == h.command)) (holder_in u o) r.side r.number ≡ true
 
 report-build : (a b c d : Bool) → (a && (b && c)) ≡ true → d ≡ true → ((a && b) && (d && c)) ≡ true
 report-build true true true true e f = refl
@@ -123,9 +123,9 @@ report-build false b c d e f = absurd (cc e)
 report_of-right : (u : UnitState) (o : Own) (r : Report) → IfStep (report_of u o r) (λ v. IsOfHolder u o r)
 report_of-right u own.Idle r = tt
 report_of-right u (own.Owned k t at) r =
-    if-step (same_side k r.side && ((r.number == t) && (r.command == u.last_command))) (report_on u t at u.at_hand r) (λ v. IsOfHolder u (own.Owned k t at) r)
-    (λ e. report_on-right u t at u.at_hand r (IsOfHolder u (own.Owned k t at) r)
-    (λ f. report-build (same_side k r.side) (r.number == t) (r.command == u.last_command) (is_connected (place_of at)) e f))
+    if-step (same_side k r.side && ((r.number == t) && (r.command == u.last_command))) (report_on u t at u.current r) (λ v. IsOfHolder u (own.Owned k t at) r)
+    (λ e. report_on-right u t at u.current r (IsOfHolder u (own.Owned k t at) r)
+    (λ f. report-build (same_side k r.side) (r.number == t) (r.command == u.last_command) (is_connected (seen_connection at)) e f))
 
 pub reports-right : (u : UnitState) (r : Report) → IfStep (unit_reports u r) (λ v. IsReportRight (holding_of u) r)
 reports-right u r = report_of-right u u.own r
@@ -142,22 +142,22 @@ marked-transfer None = refl
 marked-transfer (Some x) = refl
 
 leaving_from-acted : (u : UnitState) (side : Side) (t : ℕ) (at : Connection) → u.own ≡ own.Owned side t at → IfStep (leaving_from u side t at) (IsActed u act.Leave)
-leaving_from-acted u side t (place.On p c) e = (
-  held-is u (own.Owned side t (place.On p c)) (λ h. is_connected h.place) true e refl,
-  ap (λ (y : Option Transfer). held_with u (Some (record { side = side; number = t; place = Apart c; command = u.last_command; transfer = y; halted = u.halted }))) (marked-transfer u.at_hand)
-      ∙ changed-next u (own.Owned side t (place.On p c)) (moved parted) _ e refl,
+leaving_from-acted u side t (connection.On p c) e = (
+  held-is u (own.Owned side t (connection.On p c)) (λ h. is_connected h.connection) true e refl,
+  ap (λ (y : Option Transfer). held_with u (Some (record { side = side; number = t; connection = Apart c; command = u.last_command; transfer = y; halted = u.halted }))) (marked-transfer u.current)
+      ∙ changed-next u (own.Owned side t (connection.On p c)) (moved parted) _ e refl,
 )
-leaving_from-acted u side t (place.Ask p c) e = tt
-leaving_from-acted u side t (place.Away c) e = tt
+leaving_from-acted u side t (connection.Ask p c) e = tt
+leaving_from-acted u side t (connection.Away c) e = tt
 
 leaving-acted : (u : UnitState) (o : Own) → u.own ≡ o → IfStep (leaving u o) (IsActed u act.Leave)
 leaving-acted u own.Idle e = tt
 leaving-acted u (own.Owned k t at) e = leaving_from-acted u k t at e
 
 asking_from-acted : (u : UnitState) (side : Side) (t : ℕ) (at : Connection) (p : ℕ) → u.own ≡ own.Owned side t at → IfStep (asking_from u side t at p) (IsActed u (act.Ask p))
-asking_from-acted u side t (place.On q c) p e = tt
+asking_from-acted u side t (connection.On q c) p e = tt
 asking_from-acted u side t other p e =
-    (held-is u (own.Owned side t other) (λ h. not (is_connected h.place)) true e refl, changed-next u (own.Owned side t other) (moved (seen.asking p)) _ e refl)
+    (held-is u (own.Owned side t other) (λ h. not (is_connected h.connection)) true e refl, changed-next u (own.Owned side t other) (moved (seen.asking p)) _ e refl)
 
 asking-acted : (u : UnitState) (o : Own) (p : ℕ) → u.own ≡ o → IfStep (asking u o p) (IsActed u (act.Ask p))
 asking-acted u own.Idle p e = tt

@@ -34,7 +34,7 @@ use Rattle.machine_model.specs.Setups.{IsSetUp, group_of}
 use Rattle.machine_model.specs.Sharing.{members_after, owing_after}
 use Rattle.machine_model.specs.State.{State, opening_of, idle_of}
 use Rattle.machine_model.specs.Steps.{Run, Opened, Stepped, Step}
-use Rattle.step_laws.proofs.Places.{get-set, get-other, map-get, same-or-not}
+use Rattle.step_laws.proofs.Indices.{get-set, get-other, map-get, same-or-not}
 use Rattle.run_laws.specs.Devices.{Held, Holding, with_holder, with_transfer, reported, with_restart, nothing_held, setup_named, acted_after, held_met, holding_met, holding_after}
 use Rattle.run_laws.specs.OneHolder.{Seen, IsFree, IsDownRight, IsSetRight, IsAnswerNumbered, reply_due, IsReportRight, IsActRight, IsEntryRight, seen_after, AreRight, HasOneHolder}
 use Rattle.run_laws.specs.Agreeing.{AreAbove}
@@ -45,8 +45,8 @@ use Rattle.run_laws.proofs.Signals.MemberSteps.{IsSunk, turn-sunk, IsStepped, tu
 use Rattle.run_laws.proofs.Signals.MemberSteps as reading
 use Rattle.run_laws.proofs.Signals.Sharers.{AreBegun, free-of, AfterIs, kept-after, members-after, begun-after, restarted-after}
 use Rattle.interruptions.specs.Requests.{WaitingRequests}
-use Rattle.step_laws.proofs.Turns as turn
-use Rattle.step_laws.proofs.Turns.{TurnOf, HasTurn, step-turn}
+use Rattle.step_laws.proofs.Results as turn
+use Rattle.step_laws.proofs.Results.{ResultOf, HasResult, step-turn}
 
 -- what was seen of a unit is what it keeps
 abbrev pub IsSeen : ℕ → List UnitState → Holding → Type 0
@@ -127,7 +127,7 @@ sunk-right s word path r new seen k t members units begun =
     let v : UnitState = k.turn.«unit» in
     let asks : Bool = asks_at sub path u in
     let is : seen at ≡ holding_of u = units at u k.found in
-    let named : setup_named (setups s.subs) (subchannel_named s.sets word) ≡ Some sub.setup = setup-is s.subs (subchannel_named s.sets word) k.place sub k.named k.there in
+    let named : setup_named (setups s.subs) (subchannel_named s.sets word) ≡ Some sub.setup = setup-is s.subs (subchannel_named s.sets word) k.index sub k.named k.there in
     let m : (x : Member) × (slice_get s.members at ≡ Some x) = members at u k.found in
     let change : Holding → Holding = held_met side path r in
     let holder : is_some (seen at).holder ≡ not (is_idle u.own) = ap (λ (x : Holding). is_some x.holder) is ∙ held-some u u.own in
@@ -150,20 +150,20 @@ sunk-right s word path r new seen k t members units begun =
           (others-are at change seen)));
     }
 
-restart-right : (s : State) (place : ℕ) (r : Reply) (new : State) (seen : Seen) → reading.IsRestarted s place new → AreSeen s.units seen → AreBegun s.members seen → IsRight s (event.Restart place) r new seen
-restart-right s place r new seen k units begun =
+restart-right : (s : State) (index : ℕ) (r : Reply) (new : State) (seen : Seen) → reading.IsRestarted s index new → AreSeen s.units seen → AreBegun s.members seen → IsRight s (event.Restart index) r new seen
+restart-right s index r new seen k units begun =
     let u : UnitState = k.«unit» in
-    let is : seen place ≡ holding_of u = units place u k.found in
+    let is : seen index ≡ holding_of u = units index u k.found in
     record {
       right = tt;
       units =
-          subst (λ (us : List UnitState). AreSeen us (seen_at place with_restart seen)) (sym k.units)
-          (one-seen s.units place u (owing_after s.members place u (restarted u)) with_restart seen k.found refl units);
+          subst (λ (us : List UnitState). AreSeen us (seen_at index with_restart seen)) (sym k.units)
+          (one-seen s.units index u (owing_after s.members index u (restarted u)) with_restart seen k.found refl units);
       begun =
-          subst (λ (ms : List Member). AreBegun ms (seen_at place with_restart seen)) (sym k.members)
-          (begun-after s.members _ seen (seen_at place with_restart seen) place false begun
-          (restarted-after s.members place u (λ m e. begun place m e ∙ (ap (λ (x : Holding). is_some x.holder) is ∙ held-some u u.own)))
-          (ap (λ (x : Holding). is_some x.holder) (here-is place with_restart seen)) (others-are place with_restart seen));
+          subst (λ (ms : List Member). AreBegun ms (seen_at index with_restart seen)) (sym k.members)
+          (begun-after s.members _ seen (seen_at index with_restart seen) index false begun
+          (restarted-after s.members index u (λ m e. begun index m e ∙ (ap (λ (x : Holding). is_some x.holder) is ∙ held-some u u.own)))
+          (ap (λ (x : Holding). is_some x.holder) (here-is index with_restart seen)) (others-are index with_restart seen));
     }
 
 -- reports and acts
@@ -211,22 +211,22 @@ act-right s at what r new seen acting units begun =
           (ap (λ (x : Holding). is_some x.holder) (here-is at change seen) ∙ acted-some what (seen at)) (others-are at change seen));
     }
 
-turn-right : (s : State) (e : Event) (r : Reply) (new : State) (waiting : WaitingRequests) (seen : Seen) → TurnOf s e r new → AreAbove s → AreMembers s → AreSeen s.units seen → AreBegun s.members seen →
+turn-right : (s : State) (e : Event) (r : Reply) (new : State) (waiting : WaitingRequests) (seen : Seen) → ResultOf s e r new → AreAbove s → AreMembers s → AreSeen s.units seen → AreBegun s.members seen →
     IsRight s e r (record new { requests = waiting }) seen
-turn-right s _ _ _ waiting seen (turn.Takes word path place sub u t named there found ok) above members units begun =
-    let k : IsSunk s word path t.reply _ = turn-sunk s word path t.reply _ waiting (turn.Takes word path place sub u t named there found ok) in
+turn-right s _ _ _ waiting seen (turn.Takes word path index sub u t named there found ok) above members units begun =
+    let k : IsSunk s word path t.reply _ = turn-sunk s word path t.reply _ waiting (turn.Takes word path index sub u t named there found ok) in
     sunk-right s word path t.reply _ seen k (sunk-turned s word path t.reply _ k above) members units begun
-turn-right s _ _ _ waiting seen (turn.Reports at place sub u report t found first there ok) above members units begun =
-    report-right s at report t.reply _ seen (turn-reported s at report t.reply _ waiting (turn.Reports at place sub u report t found first there ok)) units begun
-turn-right s _ _ _ waiting seen (turn.Acts at place sub u what side t found is first there ok) above members units begun =
-    act-right s at what t.reply _ seen (turn-acting s at what t.reply _ waiting (turn.Acts at place sub u what side t found is first there ok)) units begun
+turn-right s _ _ _ waiting seen (turn.Reports at index sub u report t found first there ok) above members units begun =
+    report-right s at report t.reply _ seen (turn-reported s at report t.reply _ waiting (turn.Reports at index sub u report t found first there ok)) units begun
+turn-right s _ _ _ waiting seen (turn.Acts at index sub u what side t found is first there ok) above members units begun =
+    act-right s at what t.reply _ seen (turn-acting s at what t.reply _ waiting (turn.Acts at index sub u what side t found is first there ok)) units begun
 turn-right s _ _ _ waiting seen (turn.Restarts at u found) above members units begun =
     restart-right s at reply.Done _ seen (turn-restarted s at reply.Done _ waiting (turn.Restarts at u found)) units begun
 turn-right s _ _ _ waiting seen t above members units begun = record { right = tt; units = units; begun = begun }
 
 step-right : (s : State) (e : Event) (r : Reply) (new : State) (seen : Seen) → Step s e r new → AreAbove s → AreMembers s → AreSeen s.units seen → AreBegun s.members seen → IsRight s e r new seen
 step-right s e r new seen step above members units begun =
-    let is : HasTurn s e r new = step-turn s e r new step in
+    let is : HasResult s e r new = step-turn s e r new step in
     subst (λ (x : State). IsRight s e r x seen) (sym is.settles) (turn-right s e r is.left _ seen is.turn above members units begun)
 
 -- along a run, before which nothing was seen

@@ -14,14 +14,14 @@ use Rattle.chan_model.specs.declared.unit_state.Attention.{Attention}
 use Rattle.chan_model.specs.declared.unit_state.Own.{Own}
 use Rattle.chan_model.specs.declared.unit_state.Own.TheVariants as own
 use Rattle.chan_model.specs.declared.unit_state.Connection.{Connection}
-use Rattle.chan_model.specs.declared.unit_state.Connection.TheVariants as place
+use Rattle.chan_model.specs.declared.unit_state.Connection.TheVariants as connection
 use Rattle.chan_model.specs.declared.unit_state.SideState.{SideState}
 use Rattle.chan_model.specs.declared.unit_state.UnitState.{UnitState}
 use Rattle.chan_model.specs.Sides.{same_side}
 use Rattle.chan_model.specs.UnitReports.{is_outward}
-use Rattle.chan_model.specs.UnitTable.{UnitStep, with_given, at_hand_answered, changes, sends, came_of, unit_after, side_of, with_side, freed, raised, selected, is_owner, is_owner_on, owns, new_command, given_next, answered_load, answered_last, granted_at, granted, grant_refused_at, grant_refused, forgetting, telling, unit_works, unit_takes, is_idle}
+use Rattle.chan_model.specs.UnitTable.{UnitStep, with_given, current_answered, changes, sends, outcome_of, unit_after, side_of, with_side, freed, raised, selected, is_owner, is_owner_on, owns, new_command, given_next, answered_load, answered_last, granted_at, granted, grant_refused_at, grant_refused, forgetting, telling, unit_works, unit_takes, is_idle}
 use Rattle.machine_model.specs.Sharing.{is_asked_for}
-use Rattle.step_laws.proofs.Places.{both-true}
+use Rattle.step_laws.proofs.Indices.{both-true}
 use Rattle.run_laws.specs.Devices as seen
 use Rattle.run_laws.specs.Devices.{Connected, Asking, Apart, Transfer, Held, Asked, commanded, with_transfer, answered, given, Holding, SideSeen, side_seen, with_seen, with_answered, let_go, is_held_by, is_holder, with_holder, parted, moved, held_after, quiet_after, acted_after, held_met}
 use Rattle.run_laws.specs.OneHolder.{is_unanswered, is_next, is_asked, ignores, takes_if, answers, answers_if, holds_and, is_connected_by, is_asking, connection_of, grant_due, works_due, reply_due, IsHigher, IsNumbered, IsAnswerNumbered}
@@ -29,10 +29,10 @@ use Rattle.run_laws.proofs.Signals.UnitMoves.{floor_of}
 use Rattle.agreement_laws.proofs.SeenSignals.{IsResetAbove}
 
 -- what a unit keeps of it
-abbrev pub place_of : Connection → seen.Connection
-place_of (place.On p c) = Connected p c
-place_of (place.Ask p c) = Asking p c
-place_of (place.Away c) = Apart c
+abbrev pub seen_connection : Connection → seen.Connection
+seen_connection (connection.On p c) = Connected p c
+seen_connection (connection.Ask p c) = Asking p c
+seen_connection (connection.Away c) = Apart c
 
 abbrev pub transfer_of : CurrentCommand → Transfer
 transfer_of x = record { sequence = x.sequence; unanswered = is_some x.unanswered; outward = is_outward x.code }
@@ -44,7 +44,7 @@ transfer_in (Some x) = Some (record { sequence = x.sequence; unanswered = is_som
 abbrev pub holder_in : UnitState → Own → Option Held
 holder_in u own.Idle = None
 holder_in u (own.Owned side t at) =
-    Some (record { side = side; number = t; place = place_of at; command = u.last_command; transfer = transfer_in u.at_hand; halted = u.halted })
+    Some (record { side = side; number = t; connection = seen_connection at; command = u.last_command; transfer = transfer_in u.current; halted = u.halted })
 
 abbrev pub asked_in : Option Attention → Option Asked
 asked_in None = None
@@ -68,11 +68,11 @@ holding_of u = record {
 
 -- a signal was met: the reply is the one that is due, and tells what the unit keeps
 abbrev pub reply_of : Down → Option UnitStep → Reply
-reply_of d step = reply.Down d (came_of step).taken (came_of step).sent
+reply_of d step = reply.Down d (outcome_of step).taken (outcome_of step).sent
 
 pub record Turns (u : UnitState) (side : Side) (p : ℕ) (d : Down) (step : Option UnitStep) (due : Reply) : Type 0 where
   pub replies : reply_of d step ≡ due
-  pub numbered : IsAnswerNumbered (holding_of u) side (came_of step).sent
+  pub numbered : IsAnswerNumbered (holding_of u) side (outcome_of step).sent
   pub next : holding_of (unit_after u step) ≡ held_met side p (reply_of d step) (holding_of u)
 
 none-turns : (u : UnitState) (side : Side) (p : ℕ) (d : Down) → Turns u side p d None (ignores d)
@@ -98,7 +98,7 @@ raised-next u First t = refl
 raised-next u Second t = refl
 
 begun-next : (u : UnitState) (side : Side) (t p : ℕ) →
-    holding_of (record (freed (raised u side t)) { own = own.Owned side t (place.On p 0) }) ≡ held_after side p (up.Accept t) (holding_of u)
+    holding_of (record (freed (raised u side t)) { own = own.Owned side t (connection.On p 0) }) ≡ held_after side p (up.Accept t) (holding_of u)
 begun-next u First t p = refl
 begun-next u Second t p = refl
 
@@ -110,7 +110,7 @@ abbrev with_halt : Held → Held
 with_halt h = record h { halted = true }
 
 command-holder : (u : UnitState) (o : Own) (n code room : ℕ) →
-    holder_in (record u { last_command = n; at_hand = Some (new_command code room) }) o ≡ option_map (commanded n code) (holder_in u o)
+    holder_in (record u { last_command = n; current = Some (new_command code room) }) o ≡ option_map (commanded n code) (holder_in u o)
 command-holder u own.Idle n code room = refl
 command-holder u (own.Owned k v at) n code room = refl
 
@@ -118,14 +118,14 @@ halt-holder : (u : UnitState) (o : Own) → holder_in (record u { halted = true 
 halt-holder u own.Idle = refl
 halt-holder u (own.Owned k v at) = refl
 
-hand-holder : (u : UnitState) (o : Own) (x : CurrentCommand) (f : Transfer → Transfer) → transfer_in (Some x) ≡ option_map f (transfer_in u.at_hand) →
-    holder_in (record u { at_hand = Some x }) o ≡ option_map (with_transfer f) (holder_in u o)
+hand-holder : (u : UnitState) (o : Own) (x : CurrentCommand) (f : Transfer → Transfer) → transfer_in (Some x) ≡ option_map f (transfer_in u.current) →
+    holder_in (record u { current = Some x }) o ≡ option_map (with_transfer f) (holder_in u o)
 hand-holder u own.Idle x f e = refl
 hand-holder u (own.Owned k v at) x f e =
-    ap (λ (y : Option Transfer). Some (record { side = k; number = v; place = place_of at; command = u.last_command; transfer = y; halted = u.halted })) e
+    ap (λ (y : Option Transfer). Some (record { side = k; number = v; connection = seen_connection at; command = u.last_command; transfer = y; halted = u.halted })) e
 
-pub hand-next : (u : UnitState) (x y : CurrentCommand) (f : Transfer → Transfer) → u.at_hand ≡ Some x → transfer_of y ≡ f (transfer_of x) →
-    holding_of (record u { at_hand = Some y }) ≡ with_holder (with_transfer f) (holding_of u)
+pub hand-next : (u : UnitState) (x y : CurrentCommand) (f : Transfer → Transfer) → u.current ≡ Some x → transfer_of y ≡ f (transfer_of x) →
+    holding_of (record u { current = Some y }) ≡ with_holder (with_transfer f) (holding_of u)
 hand-next u x y f e g =
     ap (held_with u) (hand-holder u u.own y f (ap (λ (z : Transfer). Some z) g ∙ sym (ap (λ (o : Option CurrentCommand). option_map f (transfer_in o)) e)))
 
@@ -164,19 +164,19 @@ older-turns u side p t v c b e =
     subst (λ (n : ℕ). Turns u side p (down.Grant t c) (if b then sends u p (up.Leave n c) else None) (answers_if b p (down.Grant t c) (up.Leave t c))) e
     (answers-if u side p (down.Grant t c) b u (up.Leave t c) (λ h. tt) (λ h. refl))
 
-asked-turns : (u : UnitState) (side k : Side) (p t v c q d : ℕ) (b : Bool) → u.own ≡ own.Owned k v (place.Ask q d) → t ≡ v →
-    Turns u side p (down.Grant t c) (if b then changes (record u { own = own.Owned k v (place.On q d) }) else (if nat_lt c d then sends u p (up.Leave v c) else None))
+asked-turns : (u : UnitState) (side k : Side) (p t v c q d : ℕ) (b : Bool) → u.own ≡ own.Owned k v (connection.Ask q d) → t ≡ v →
+    Turns u side p (down.Grant t c) (if b then changes (record u { own = own.Owned k v (connection.On q d) }) else (if nat_lt c d then sends u p (up.Leave v c) else None))
     (if b then takes_if true (down.Grant t c) else answers_if (nat_lt c d) p (down.Grant t c) (up.Leave t c))
-asked-turns u side k p t v c q d true e n = record { replies = refl; numbered = tt; next = changed-next u (own.Owned k v (place.Ask q d)) (moved seen.granted) _ e refl }
+asked-turns u side k p t v c q d true e n = record { replies = refl; numbered = tt; next = changed-next u (own.Owned k v (connection.Ask q d)) (moved seen.granted) _ e refl }
 asked-turns u side k p t v c q d false e n = older-turns u side p t v c (nat_lt c d) n
 
 granted_at-turns : (u : UnitState) (side k : Side) (at : Connection) (p t v c : ℕ) (b : Bool) → u.own ≡ own.Owned k v at → (b ≡ true → t ≡ v) →
     Turns u side p (down.Grant t c) (if b then granted_at u k v at p c else None)
-    (if b && is_asking (place_of at) c then takes_if true (down.Grant t c) else answers_if (b && nat_lt c (connection_of (place_of at))) p (down.Grant t c) (up.Leave t c))
+    (if b && is_asking (seen_connection at) c then takes_if true (down.Grant t c) else answers_if (b && nat_lt c (connection_of (seen_connection at))) p (down.Grant t c) (up.Leave t c))
 granted_at-turns u side k at p t v c false e n = none-turns u side p (down.Grant t c)
-granted_at-turns u side k (place.Ask q d) p t v c true e n = asked-turns u side k p t v c q d (c == d) e (n refl)
-granted_at-turns u side k (place.On q d) p t v c true e n = older-turns u side p t v c (nat_lt c d) (n refl)
-granted_at-turns u side k (place.Away d) p t v c true e n = older-turns u side p t v c (nat_lt c d) (n refl)
+granted_at-turns u side k (connection.Ask q d) p t v c true e n = asked-turns u side k p t v c q d (c == d) e (n refl)
+granted_at-turns u side k (connection.On q d) p t v c true e n = older-turns u side p t v c (nat_lt c d) (n refl)
+granted_at-turns u side k (connection.Away d) p t v c true e n = older-turns u side p t v c (nat_lt c d) (n refl)
 
 granted-turns : (u : UnitState) (side : Side) (o : Own) (p t c : ℕ) → u.own ≡ o → Turns u side p (down.Grant t c) (granted u o side p t c) (grant_due (holder_in u o) side p t c)
 granted-turns u side own.Idle p t c e = none-turns u side p (down.Grant t c)
@@ -184,26 +184,26 @@ granted-turns u side (own.Owned k v at) p t c e =
     granted_at-turns u side k at p t v c (same_side k side && (t == v)) e (λ f. eqb-true t v (and_parts (same_side k side) (t == v) f).1)
 
 refused_at-turns : (u : UnitState) (side k : Side) (at : Connection) (p t v c : ℕ) (b : Bool) → u.own ≡ own.Owned k v at →
-    Turns u side p (down.Refuse t c) (if b then grant_refused_at u k v at c else None) (takes_if (b && is_asking (place_of at) c) (down.Refuse t c))
+    Turns u side p (down.Refuse t c) (if b then grant_refused_at u k v at c else None) (takes_if (b && is_asking (seen_connection at) c) (down.Refuse t c))
 refused_at-turns u side k at p t v c false e = none-turns u side p (down.Refuse t c)
-refused_at-turns u side k (place.Ask q d) p t v c true e =
-    takes-if u side p (down.Refuse t c) (c == d) _ (λ f. changed-next u (own.Owned k v (place.Ask q d)) (moved parted) _ e refl)
-refused_at-turns u side k (place.On q d) p t v c true e = none-turns u side p (down.Refuse t c)
-refused_at-turns u side k (place.Away d) p t v c true e = none-turns u side p (down.Refuse t c)
+refused_at-turns u side k (connection.Ask q d) p t v c true e =
+    takes-if u side p (down.Refuse t c) (c == d) _ (λ f. changed-next u (own.Owned k v (connection.Ask q d)) (moved parted) _ e refl)
+refused_at-turns u side k (connection.On q d) p t v c true e = none-turns u side p (down.Refuse t c)
+refused_at-turns u side k (connection.Away d) p t v c true e = none-turns u side p (down.Refuse t c)
 
 refused-turns : (u : UnitState) (side : Side) (o : Own) (p t c : ℕ) → u.own ≡ o →
-    Turns u side p (down.Refuse t c) (grant_refused u o side t c) (takes_if (holds_and (λ h. is_asking h.place c) (holder_in u o) side t) (down.Refuse t c))
+    Turns u side p (down.Refuse t c) (grant_refused u o side t c) (takes_if (holds_and (λ h. is_asking h.connection c) (holder_in u o) side t) (down.Refuse t c))
 refused-turns u side own.Idle p t c e = none-turns u side p (down.Refuse t c)
 refused-turns u side (own.Owned k v at) p t c e = refused_at-turns u side k at p t v c (same_side k side && (t == v)) e
 
 -- Took
-took-load : (u : UnitState) (side : Side) (p t n s room : ℕ) (x : CurrentCommand) (load : Option Load) (b : Bool) → u.at_hand ≡ Some x →
+took-load : (u : UnitState) (side : Side) (p t n s room : ℕ) (x : CurrentCommand) (load : Option Load) (b : Bool) → u.current ≡ Some x →
     Turns u side p (down.Took t n s room) (if b then answered_load u x load room else None) (takes_if (b && is_some load) (down.Took t n s room))
 took-load u side p t n s room x load false e = none-turns u side p (down.Took t n s room)
 took-load u side p t n s room x None true e = none-turns u side p (down.Took t n s room)
-took-load u side p t n s room x (Some load) true e = record { replies = refl; numbered = tt; next = hand-next u x (at_hand_answered x load room) answered e refl }
+took-load u side p t n s room x (Some load) true e = record { replies = refl; numbered = tt; next = hand-next u x (current_answered x load room) answered e refl }
 
-took-last : (u : UnitState) (side : Side) (p t n s room : ℕ) (hand : Option CurrentCommand) (b c : Bool) → u.at_hand ≡ hand →
+took-last : (u : UnitState) (side : Side) (p t n s room : ℕ) (hand : Option CurrentCommand) (b c : Bool) → u.current ≡ hand →
     Turns u side p (down.Took t n s room) (if b && c then answered_last u hand s room else None) (takes_if (b && (c && is_unanswered (transfer_in hand) s)) (down.Took t n s room))
 took-last u side p t n s room hand false c e = none-turns u side p (down.Took t n s room)
 took-last u side p t n s room hand true false e = none-turns u side p (down.Took t n s room)
@@ -211,17 +211,17 @@ took-last u side p t n s room None true true e = none-turns u side p (down.Took 
 took-last u side p t n s room (Some x) true true e = took-load u side p t n s room x x.unanswered (s == x.sequence) e
 
 took-turns : (u : UnitState) (side : Side) (o : Own) (p t n s room : ℕ) →
-    Turns u side p (down.Took t n s room) (if is_owner o side t && (n == u.last_command) then answered_last u u.at_hand s room else None)
+    Turns u side p (down.Took t n s room) (if is_owner o side t && (n == u.last_command) then answered_last u u.current s room else None)
     (takes_if (holds_and (λ h. (n == h.command) && is_unanswered h.transfer s) (holder_in u o) side t) (down.Took t n s room))
 took-turns u side own.Idle p t n s room = none-turns u side p (down.Took t n s room)
-took-turns u side (own.Owned k v at) p t n s room = took-last u side p t n s room u.at_hand (same_side k side && (t == v)) (n == u.last_command) refl
+took-turns u side (own.Owned k v at) p t n s room = took-last u side p t n s room u.current (same_side k side && (t == v)) (n == u.last_command) refl
 
 -- Give
-give-chunk : (u : UnitState) (side : Side) (p t c n s : ℕ) (bytes : List ℕ) (x : CurrentCommand) (b : Bool) → u.at_hand ≡ Some x →
-    Turns u side p (down.Give bytes t c n s) (if b then changes (record u { at_hand = Some (with_given x s bytes) }) else None) (takes_if b (down.Give bytes t c n s))
+give-chunk : (u : UnitState) (side : Side) (p t c n s : ℕ) (bytes : List ℕ) (x : CurrentCommand) (b : Bool) → u.current ≡ Some x →
+    Turns u side p (down.Give bytes t c n s) (if b then changes (record u { current = Some (with_given x s bytes) }) else None) (takes_if b (down.Give bytes t c n s))
 give-chunk u side p t c n s bytes x b e = takes-if u side p (down.Give bytes t c n s) b _ (λ f. hand-next u x (with_given x s bytes) (given s) e refl)
 
-give-last : (u : UnitState) (side : Side) (p t c n s : ℕ) (bytes : List ℕ) (hand : Option CurrentCommand) (b on last : Bool) → u.at_hand ≡ hand →
+give-last : (u : UnitState) (side : Side) (p t c n s : ℕ) (bytes : List ℕ) (hand : Option CurrentCommand) (b on last : Bool) → u.current ≡ hand →
     Turns u side p (down.Give bytes t c n s) (if (b && on) && last then given_next u hand s bytes else None)
     (takes_if (b && (on && (last && is_next (transfer_in hand) s))) (down.Give bytes t c n s))
 give-last u side p t c n s bytes hand false on last e = none-turns u side p (down.Give bytes t c n s)
@@ -230,19 +230,19 @@ give-last u side p t c n s bytes hand true true false e = none-turns u side p (d
 give-last u side p t c n s bytes None true true true e = none-turns u side p (down.Give bytes t c n s)
 give-last u side p t c n s bytes (Some x) true true true e = give-chunk u side p t c n s bytes x (s == x.sequence + 1) e
 
-connected-by : (at : Connection) (c : ℕ) → elim at [ place.On p d ↦ c == d | other ↦ false ] ≡ is_connected_by (place_of at) c
-connected-by (place.On p d) c = refl
-connected-by (place.Ask p d) c = refl
-connected-by (place.Away d) c = refl
+connected-by : (at : Connection) (c : ℕ) → elim at [ connection.On p d ↦ c == d | other ↦ false ] ≡ is_connected_by (seen_connection at) c
+connected-by (connection.On p d) c = refl
+connected-by (connection.Ask p d) c = refl
+connected-by (connection.Away d) c = refl
 
 give-turns : (u : UnitState) (side : Side) (o : Own) (p t c n s : ℕ) (bytes : List ℕ) →
-    Turns u side p (down.Give bytes t c n s) (if is_owner_on o side t c && (n == u.last_command) then given_next u u.at_hand s bytes else None)
-    (takes_if (holds_and (λ h. is_connected_by h.place c && ((n == h.command) && is_next h.transfer s)) (holder_in u o) side t) (down.Give bytes t c n s))
+    Turns u side p (down.Give bytes t c n s) (if is_owner_on o side t c && (n == u.last_command) then given_next u u.current s bytes else None)
+    (takes_if (holds_and (λ h. is_connected_by h.connection c && ((n == h.command) && is_next h.transfer s)) (holder_in u o) side t) (down.Give bytes t c n s))
 give-turns u side own.Idle p t c n s bytes = none-turns u side p (down.Give bytes t c n s)
 give-turns u side (own.Owned k v at) p t c n s bytes =
-    subst (λ (b : Bool). Turns u side p (down.Give bytes t c n s) (if is_owner_on (own.Owned k v at) side t c && (n == u.last_command) then given_next u u.at_hand s bytes else None)
-    (takes_if ((same_side k side && (t == v)) && (b && ((n == u.last_command) && is_next (transfer_in u.at_hand) s))) (down.Give bytes t c n s))) (connected-by at c)
-    (give-last u side p t c n s bytes u.at_hand (same_side k side && (t == v)) (elim at [ place.On p d ↦ c == d | other ↦ false ]) (n == u.last_command) refl)
+    subst (λ (b : Bool). Turns u side p (down.Give bytes t c n s) (if is_owner_on (own.Owned k v at) side t c && (n == u.last_command) then given_next u u.current s bytes else None)
+    (takes_if ((same_side k side && (t == v)) && (b && ((n == u.last_command) && is_next (transfer_in u.current) s))) (down.Give bytes t c n s))) (connected-by at c)
+    (give-last u side p t c n s bytes u.current (same_side k side && (t == v)) (elim at [ connection.On p d ↦ c == d | other ↦ false ]) (n == u.last_command) refl)
 
 -- Got
 got-turns : (u : UnitState) (side : Side) (p a : ℕ) (x : Option Attention) → Turns u side p (down.Got a) (forgetting u x side a) (takes_if (is_asked (asked_in x) side a) (down.Got a))

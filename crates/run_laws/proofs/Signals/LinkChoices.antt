@@ -27,7 +27,7 @@ use Rattle.subchannel_model.specs.Choosing.{unsent_reset, is_away, first_some, c
 use Rattle.subchannel_model.specs.Sending.{carried_by, finds_full, with_any_sent}
 use Rattle.subchannel_model.specs.Store.{available_paths}
 use Rattle.machine_model.specs.ChooseSteps.{choose_sub}
-use Rattle.machine_model.specs.Turns.{SubTurn, with_state}
+use Rattle.machine_model.specs.Results.{SubResult, with_state}
 use Rattle.run_laws.proofs.Machine.PathSets.{both-parts, without-parts, each-true, usable-member}
 use Rattle.run_laws.proofs.Machine.SameState.{cause-same}
 use Rattle.run_laws.proofs.Machine.WaitingSignals.{carried-each, signals-weaker}
@@ -216,7 +216,7 @@ settled-tied is_up k sub n tie = record {
   ups = tie.ups;
 }
 
-pub record IsChoiceTied (is_up : ℕ → Bool) (k : SubSeen) (t : SubTurn) : Type 0 where
+pub record IsChoiceTied (is_up : ℕ → Bool) (k : SubSeen) (t : SubResult) : Type 0 where
   pub right : IsChosenRight is_up t.reply k
   pub tied : IsTied is_up (sub_chosen is_up t.reply k) t.sub
 

@@ -11,7 +11,7 @@ use Rattle.chan_model.specs.Signals.{Down, Up}
 use Rattle.chan_model.specs.declared.signal.Down.TheVariants as down
 use Rattle.chan_model.specs.declared.signal.OnPath.{OnPath}
 use Rattle.chan_model.specs.declared.signal.Up.TheVariants as up
-use Rattle.chan_model.specs.HoldTable.{HoldStep, found_busy, left, refusing, granting, asked_back, released, reset_cleared, attended, hold_after, came_of}
+use Rattle.chan_model.specs.HoldTable.{HoldStep, found_busy, left, refusing, granting, asked_back, released, reset_cleared, attended, hold_after, outcome_of}
 use Rattle.run_laws.specs.Links.{Link, Nowhere, Offered, Connected, Apart, Leaving, Resetting, Reset_sent, SubSeen, sub_met, is_offered, is_leaving, is_reset_sent, is_held_for, is_connected_by, program_of, mover_of, IsSilent, IsTaken}
 
 -- where a hold has the program
@@ -115,7 +115,7 @@ pub record Turned (path : ℕ) (x : Up) (k : SubSeen) (took : Bool) (answer : Op
   pub after : IsHeldAs (sub_met (reply.Up x took answer) k) next n
 
 abbrev pub TurnedBy : ℕ → Up → SubSeen → HoldState → ℕ → Option HoldStep → Type 0
-TurnedBy path x k h n step = Turned path x k (came_of step).taken (came_of step).sent (hold_after h step) n
+TurnedBy path x k h n step = Turned path x k (outcome_of step).taken (outcome_of step).sent (hold_after h step) n
 
 pub ignored : (p : ℕ) (x : Up) (k : SubSeen) (h : HoldState) (n : ℕ) → IsTaken k p x false → IsHeldAs k h n → Turned p x k false None h n
 ignored p x k h n taken tie = record { taken = taken; sent = tt; after = tie }

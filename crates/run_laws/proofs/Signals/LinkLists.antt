@@ -11,7 +11,7 @@ use Rattle.channel_config.specs.Lawful.{IsPlaced}
 use Rattle.channel_config.specs.Setup.{has_number, are_distinct}
 use Rattle.subchannel_model.specs.declared.state.Subchannel.{Subchannel}
 use Rattle.subchannel_model.specs.Opening.{opened}
-use Rattle.subchannel_model.specs.Places.{is_named, place_in, place_of_id}
+use Rattle.subchannel_model.specs.Indices.{is_named, index_in, index_of_id}
 use Rattle.run_laws.proofs.Machine.WaitingSignals.{none-wait}
 use Rattle.run_laws.specs.Links.{SubSeen, first_seen, seen_named, change_first, change_named, nothing_offered, OfSub}
 use Rattle.run_laws.proofs.Signals.UnitTurns.{first-cases}
@@ -26,13 +26,13 @@ AreTied is_up (k ∷ ks) [] = ⊥
 AreTied is_up (k ∷ ks) (sub ∷ subs) = IsTied is_up k sub × AreTied is_up ks subs
 
 -- one is changed, in what is not seen
-pub tied-set : (is_up : ℕ → Bool) (ks : List SubSeen) (subs : List Subchannel) (place : ℕ) (sub after : Subchannel) → slice_get subs place ≡ Some sub →
-    ((k : SubSeen) → IsTied is_up k sub → IsTied is_up k after) → AreTied is_up ks subs → AreTied is_up ks (slice_set subs place after)
-tied-set is_up [] [] place sub after e f all = absurd (cc e)
-tied-set is_up [] (x ∷ xs) place sub after e f all = absurd all
-tied-set is_up (k ∷ ks) [] place sub after e f all = absurd all
+pub tied-set : (is_up : ℕ → Bool) (ks : List SubSeen) (subs : List Subchannel) (index : ℕ) (sub after : Subchannel) → slice_get subs index ≡ Some sub →
+    ((k : SubSeen) → IsTied is_up k sub → IsTied is_up k after) → AreTied is_up ks subs → AreTied is_up ks (slice_set subs index after)
+tied-set is_up [] [] index sub after e f all = absurd (cc e)
+tied-set is_up [] (x ∷ xs) index sub after e f all = absurd all
+tied-set is_up (k ∷ ks) [] index sub after e f all = absurd all
 tied-set is_up (k ∷ ks) (x ∷ xs) zero sub after e f all = let same : x ≡ sub = cc e in (f k (subst (λ (y : Subchannel). IsTied is_up k y) same all.0), all.1)
-tied-set is_up (k ∷ ks) (x ∷ xs) (suc place) sub after e f all = (all.0, tied-set is_up ks xs place sub after e f all.1)
+tied-set is_up (k ∷ ks) (x ∷ xs) (suc index) sub after e f all = (all.0, tied-set is_up ks xs index sub after e f all.1)
 
 -- all are
 pub tied-map : (old new : ℕ → Bool) (f : SubSeen → SubSeen) (g : Subchannel → Subchannel) (ks : List SubSeen) (subs : List Subchannel) →
@@ -53,13 +53,13 @@ tied-subs old new g (k ∷ ks) (x ∷ xs) h all = (h k x all.0, tied-subs old ne
 named-same : (is_up : ℕ → Bool) (id : SubchannelId) (k : SubSeen) (sub : Subchannel) (b : Bool) → IsTied is_up k sub → is_named id sub ≡ b → ((k.setup.id.set == id.set) && (k.setup.id.number == id.number)) ≡ b
 named-same is_up id k sub b tie e = ap (λ (s : SubchannelSetup). (s.id.set == id.set) && (s.id.number == id.number)) tie.setup ∙ e
 
-pub of-first : (is_up : ℕ → Bool) (P : SubSeen → Type 0) (id : SubchannelId) (ks : List SubSeen) (subs : List Subchannel) (place : ℕ) (sub : Subchannel) → place_in id subs ≡ Some place →
-    slice_get subs place ≡ Some sub → ((k : SubSeen) → IsTied is_up k sub → P k) → AreTied is_up ks subs → OfSub P (first_seen id ks)
-of-first is_up P id [] [] place sub e there f all = absurd (cc there)
-of-first is_up P id [] (x ∷ xs) place sub e there f all = absurd all
-of-first is_up P id (k ∷ ks) [] place sub e there f all = absurd all
-of-first is_up P id (k ∷ ks) (x ∷ xs) place sub e there f all =
-    elim (first-cases (is_named id x) (place_in id xs) place e) [
+pub of-first : (is_up : ℕ → Bool) (P : SubSeen → Type 0) (id : SubchannelId) (ks : List SubSeen) (subs : List Subchannel) (index : ℕ) (sub : Subchannel) → index_in id subs ≡ Some index →
+    slice_get subs index ≡ Some sub → ((k : SubSeen) → IsTied is_up k sub → P k) → AreTied is_up ks subs → OfSub P (first_seen id ks)
+of-first is_up P id [] [] index sub e there f all = absurd (cc there)
+of-first is_up P id [] (x ∷ xs) index sub e there f all = absurd all
+of-first is_up P id (k ∷ ks) [] index sub e there f all = absurd all
+of-first is_up P id (k ∷ ks) (x ∷ xs) index sub e there f all =
+    elim (first-cases (is_named id x) (index_in id xs) index e) [
       | inl h ↦
           let same : x ≡ sub = cc (subst (λ (i : ℕ). slice_get (x ∷ xs) i ≡ Some sub) h.1 there) in
           subst (λ (o : Option SubSeen). OfSub P o) (sym (ap (λ (b : Bool). if b then Some k else first_seen id ks) (named-same is_up id k x true all.0 h.0)))
@@ -69,13 +69,13 @@ of-first is_up P id (k ∷ ks) (x ∷ xs) place sub e there f all =
           (of-first is_up P id ks xs h.1.0 sub h.1.1 (subst (λ (i : ℕ). slice_get (x ∷ xs) i ≡ Some sub) h.1.2 there) f all.1)
     ]
 
-change-tied : (is_up : ℕ → Bool) (id : SubchannelId) (f : SubSeen → SubSeen) (ks : List SubSeen) (subs : List Subchannel) (place : ℕ) (sub after : Subchannel) → place_in id subs ≡ Some place →
-    slice_get subs place ≡ Some sub → ((k : SubSeen) → IsTied is_up k sub → IsTied is_up (f k) after) → AreTied is_up ks subs → AreTied is_up (change_first id f ks) (slice_set subs place after)
-change-tied is_up id f [] [] place sub after e there h all = absurd (cc there)
-change-tied is_up id f [] (x ∷ xs) place sub after e there h all = absurd all
-change-tied is_up id f (k ∷ ks) [] place sub after e there h all = absurd all
-change-tied is_up id f (k ∷ ks) (x ∷ xs) place sub after e there h all =
-    elim (first-cases (is_named id x) (place_in id xs) place e) [
+change-tied : (is_up : ℕ → Bool) (id : SubchannelId) (f : SubSeen → SubSeen) (ks : List SubSeen) (subs : List Subchannel) (index : ℕ) (sub after : Subchannel) → index_in id subs ≡ Some index →
+    slice_get subs index ≡ Some sub → ((k : SubSeen) → IsTied is_up k sub → IsTied is_up (f k) after) → AreTied is_up ks subs → AreTied is_up (change_first id f ks) (slice_set subs index after)
+change-tied is_up id f [] [] index sub after e there h all = absurd (cc there)
+change-tied is_up id f [] (x ∷ xs) index sub after e there h all = absurd all
+change-tied is_up id f (k ∷ ks) [] index sub after e there h all = absurd all
+change-tied is_up id f (k ∷ ks) (x ∷ xs) index sub after e there h all =
+    elim (first-cases (is_named id x) (index_in id xs) index e) [
       | inl z ↦
           let same : x ≡ sub = cc (subst (λ (i : ℕ). slice_get (x ∷ xs) i ≡ Some sub) z.1 there) in
           subst (λ (i : ℕ). AreTied is_up (change_first id f (k ∷ ks)) (slice_set (x ∷ xs) i after)) (sym z.1)
@@ -88,15 +88,15 @@ change-tied is_up id f (k ∷ ks) (x ∷ xs) place sub after e there h all =
     ]
 
 -- the subchannel that a word names
-pub of-named : (is_up : ℕ → Bool) (P : SubSeen → Type 0) (x : Option SubchannelId) (ks : List SubSeen) (subs : List Subchannel) (place : ℕ) (sub : Subchannel) → place_of_id subs x ≡ Some place →
-    slice_get subs place ≡ Some sub → ((k : SubSeen) → IsTied is_up k sub → P k) → AreTied is_up ks subs → OfSub P (seen_named x ks)
-of-named is_up P None ks subs place sub e there f all = absurd (cc e)
-of-named is_up P (Some id) ks subs place sub e there f all = of-first is_up P id ks subs place sub e there f all
+pub of-named : (is_up : ℕ → Bool) (P : SubSeen → Type 0) (x : Option SubchannelId) (ks : List SubSeen) (subs : List Subchannel) (index : ℕ) (sub : Subchannel) → index_of_id subs x ≡ Some index →
+    slice_get subs index ≡ Some sub → ((k : SubSeen) → IsTied is_up k sub → P k) → AreTied is_up ks subs → OfSub P (seen_named x ks)
+of-named is_up P None ks subs index sub e there f all = absurd (cc e)
+of-named is_up P (Some id) ks subs index sub e there f all = of-first is_up P id ks subs index sub e there f all
 
-pub named-tied : (is_up : ℕ → Bool) (x : Option SubchannelId) (f : SubSeen → SubSeen) (ks : List SubSeen) (subs : List Subchannel) (place : ℕ) (sub after : Subchannel) → place_of_id subs x ≡ Some place →
-    slice_get subs place ≡ Some sub → ((k : SubSeen) → IsTied is_up k sub → IsTied is_up (f k) after) → AreTied is_up ks subs → AreTied is_up (change_named x f ks) (slice_set subs place after)
-named-tied is_up None f ks subs place sub after e there h all = absurd (cc e)
-named-tied is_up (Some id) f ks subs place sub after e there h all = change-tied is_up id f ks subs place sub after e there h all
+pub named-tied : (is_up : ℕ → Bool) (x : Option SubchannelId) (f : SubSeen → SubSeen) (ks : List SubSeen) (subs : List Subchannel) (index : ℕ) (sub after : Subchannel) → index_of_id subs x ≡ Some index →
+    slice_get subs index ≡ Some sub → ((k : SubSeen) → IsTied is_up k sub → IsTied is_up (f k) after) → AreTied is_up ks subs → AreTied is_up (change_named x f ks) (slice_set subs index after)
+named-tied is_up None f ks subs index sub after e there h all = absurd (cc e)
+named-tied is_up (Some id) f ks subs index sub after e there h all = change-tied is_up id f ks subs index sub after e there h all
 
 -- nothing is changed
 if-same : (b : Bool) (x : SubSeen) (y z : SubSeen) (ys zs : List SubSeen) → y ≡ x → z ≡ x → ys ≡ zs → (if b then y ∷ zs else z ∷ ys) ≡ x ∷ zs

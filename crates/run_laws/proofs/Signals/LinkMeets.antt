@@ -1,6 +1,6 @@
 -- What is seen of a subchannel's program is where its hold has it, after each signal that it takes.
 use Rattle.std.proofs.Common.{◌≡◌, refl, sym, ◌∙◌, ap, subst, ℕ, ◌≤◌, ◌==◌, ◌&&◌, nat_lt, Bool, true, false, not, Option, None, Some, if◌then◌else◌, inl, arith}
-use Rattle.ccw_walk.specs.Places.{WalkPlace}
+use Rattle.ccw_walk.specs.Positions.{WalkPosition}
 use Rattle.chan_events.specs.declared.reply.Reply.TheVariants as reply
 use Rattle.chan_model.specs.declared.hold_state.HoldPhase.{HoldPhase}
 use Rattle.chan_model.specs.declared.hold_state.HoldPhase.TheVariants as hold
@@ -9,7 +9,7 @@ use Rattle.chan_model.specs.Signals.{Down, Load, Up, load_bytes}
 use Rattle.chan_model.specs.declared.signal.OnPath.{OnPath}
 use Rattle.chan_model.specs.declared.signal.Taken.{Taken}
 use Rattle.chan_model.specs.declared.signal.Up.TheVariants as up
-use Rattle.chan_model.specs.HoldTable.{HoldStep, program_begun, offer_accepted, hold_takes, hold_after, came_of, is_connected, is_on, letting_go}
+use Rattle.chan_model.specs.HoldTable.{HoldStep, program_begun, offer_accepted, hold_takes, hold_after, outcome_of, is_connected, is_on, letting_go}
 use Rattle.chan_model.specs.Loads.{load_length}
 use Rattle.chan_model.specs.ResetCauses.{engaged_path}
 use Rattle.chan_model.specs.UnitReports.{is_last_end, is_outward, has_device_end}
@@ -17,7 +17,7 @@ use Rattle.data_move.specs.Moving.{residual}
 use Rattle.storage_keys.specs.Storage.{Contents}
 use Rattle.data_move.specs.declared.transfer.Beginning.{Beginning}
 use Rattle.data_move.specs.declared.transfer.CommandStart.{CommandStart}
-use Rattle.data_move.specs.declared.transfer.CommandStart.TheVariants as came
+use Rattle.data_move.specs.declared.transfer.CommandStart.TheVariants as outcome
 use Rattle.data_move.specs.Commands.{first_command, next_command, begun_with_room, with_room}
 use Rattle.data_move.specs.ToDevice.{chunk_absorbed, next_chunk}
 use Rattle.data_move.specs.FromDevice.{chunk_stored}
@@ -56,8 +56,8 @@ record IsLeft (s : SubchannelState) (step : UpStep) : Type 0 where
   hold : Rephased s.hold step.state.hold
   drawn : step.state.drawn ≡ s.drawn
 
-same-left : (s x : SubchannelState) (came : Taken Down) → IsSame s x → IsLeft s (record { state = x; came = came })
-same-left s x came same = record { hold = subst (λ (h : HoldState). Rephased s.hold h) (sym same.hold) refl; drawn = same.drawn }
+same-left : (s x : SubchannelState) (outcome : Taken Down) → IsSame s x → IsLeft s (record { state = x; outcome = outcome })
+same-left s x outcome same = record { hold = subst (λ (h : HoldState). Rephased s.hold h) (sym same.hold) refl; drawn = same.drawn }
 
 lets : (h : HoldState) (phase : HoldPhase) → Rephased (phased h phase) (hold_after (phased h phase) (letting_go (phased h phase) phase))
 lets h hold.Free = refl
@@ -83,35 +83,35 @@ if-met s false x y k l = l
 -- Accept
 record IsBegun (s : SubchannelState) (step : UpStep) : Type 0 where
   left : IsLeft s step
-  taken : step.came.taken ≡ true
+  taken : step.outcome.taken ≡ true
 
-beginning-left : (storage : Contents) (s : SubchannelState) (p t : ℕ) (st : ProgramPosition) (walk : WalkPlace) (r : CommandStart) → IsBegun s (first_ccw_outcome storage s p t st walk r)
-beginning-left storage s p t st walk (came.Begins transfer) =
+beginning-left : (storage : Contents) (s : SubchannelState) (p t : ℕ) (st : ProgramPosition) (walk : WalkPosition) (r : CommandStart) → IsBegun s (first_ccw_outcome storage s p t st walk r)
+beginning-left storage s p t st walk (outcome.Begins transfer) =
     let next : SubchannelState = with_program_at_work s st.program (begun_with_room storage transfer).transfer in
     record {
       left = same-left s (with_pci next next.begun) _ (same-then s next (with_pci next next.begun) (is-same s next refl refl refl) (interrupted-same next next.begun));
       taken = refl;
     }
-beginning-left storage s p t st walk came.Suspends =
+beginning-left storage s p t st walk outcome.Suspends =
     record { left = let-left s (program_suspended s st.program walk st.count) (suspending-same s st.program walk st.count); taken = refl }
-beginning-left storage s p t st walk (came.Stops check) =
+beginning-left storage s p t st walk (outcome.Stops check) =
     record { left = let-left s (with_cause s (cause.FetchFault walk.tried check st.count)) (cause-same s (cause.FetchFault walk.tried check st.count)); taken = refl }
 
 standing-left : (storage : Contents) (s : SubchannelState) (p t : ℕ) (st : Option ProgramPosition) → IsBegun s (begins_at storage s p t st)
 standing-left storage s p t None = record { left = same-left s s _ (is-same s s refl refl refl); taken = refl }
-standing-left storage s p t (Some st) = beginning-left storage s p t st (first_command storage st.walk).walk (first_command storage st.walk).came
+standing-left storage s p t (Some st) = beginning-left storage s p t st (first_command storage st.walk).walk (first_command storage st.walk).outcome
 
 abbrev noted : Up → Bool → HoldState → HoldPhase → HoldState
 noted (up.Accept t) true h phase = record h { phase = phase; seen = 0; first_path = engaged_path h.phase }
 noted x taken h phase = phased h phase
 
 record IsNoted (x : Up) (s : SubchannelState) (step : UpStep) : Type 0 where
-  hold : step.state.hold ≡ noted x step.came.taken s.hold step.state.hold.phase
+  hold : step.state.hold ≡ noted x step.outcome.taken s.hold step.state.hold.phase
   drawn : step.state.drawn ≡ s.drawn
 
 record IsAccepted (u : ℕ) (s : SubchannelState) (step : UpStep) : Type 0 where
   noted : IsNoted (up.Accept u) s step
-  taken : step.came.taken ≡ is_offer_of s.hold.phase u
+  taken : step.outcome.taken ≡ is_offer_of s.hold.phase u
 
 not-accepted : (u : ℕ) (s : SubchannelState) (h : HoldState) (phase : HoldPhase) → is_offer_of phase u ≡ false → IsAccepted u (record s { hold = phased h phase }) (signal_ignored (record s { hold = phased h phase }))
 not-accepted u s h phase e = record { noted = record { hold = refl; drawn = refl }; taken = sym e }
@@ -159,13 +159,13 @@ data-left storage s (Some b) signal load =
 ended-same : (s x : SubchannelState) (signal : EndSignal) → IsSame (with_allegiance_after_end s signal) x → IsSame s x
 ended-same s x signal same = is-same s x same.drawn same.hold same.available
 
-chaining-left : (storage : Contents) (s : SubchannelState) (b : ActiveProgram) (signal : EndSignal) (walk : WalkPlace) (r : CommandStart) → IsLeft s (next_ccw_outcome storage s b signal walk r)
-chaining-left storage s b signal walk (came.Begins transfer) =
+chaining-left : (storage : Contents) (s : SubchannelState) (b : ActiveProgram) (signal : EndSignal) (walk : WalkPosition) (r : CommandStart) → IsLeft s (next_ccw_outcome storage s b signal walk r)
+chaining-left storage s b signal walk (outcome.Begins transfer) =
     same-left s (after_chunk s b (begun_with_room storage transfer).transfer) _ (moving-same s b (begun_with_room storage transfer).transfer)
-chaining-left storage s b signal walk came.Suspends =
+chaining-left storage s b signal walk outcome.Suspends =
     let x : SubchannelState = program_suspended (with_allegiance_after_end s signal) b.program walk (residual b.transfer.moving) in
     let-left s x (ended-same s x signal (suspending-same (with_allegiance_after_end s signal) b.program walk (residual b.transfer.moving)))
-chaining-left storage s b signal walk (came.Stops check) =
+chaining-left storage s b signal walk (outcome.Stops check) =
     let x : SubchannelState = with_cause (with_allegiance_after_end s signal) (cause.FetchFault walk.tried check (residual b.transfer.moving)) in
     let-left s x (ended-same s x signal (cause-same (with_allegiance_after_end s signal) (cause.FetchFault walk.tried check (residual b.transfer.moving))))
 
@@ -182,7 +182,7 @@ end-left storage s (Some b) signal =
     let next : Beginning = next_command storage (with_first_end b).transfer (has_status_modifier signal.status) in
     if-left s (signal.command == b.transfer.command) (ends_command storage s b signal) (signal_ignored s)
     (if-left s (chains_command s.scsw b signal.status signal.more) (chains_at_device_end storage s (with_first_end b) signal) (concludes s b signal)
-    (if-left s (has_device_end signal.status) (chains_with storage s (with_first_end b) signal next) _ (chaining-left storage s (with_first_end b) signal next.walk next.came)
+    (if-left s (has_device_end signal.status) (chains_with storage s (with_first_end b) signal next) _ (chaining-left storage s (with_first_end b) signal next.walk next.outcome)
     (same-left s (record (with_allegiance_after_end s signal) { begun = Some (with_first_end b) }) _ (is-same s _ refl refl refl)))
     (stops-left s b signal))
     (ignored-left s)
@@ -342,18 +342,18 @@ meets-after p _ _ _ _ _ k h n (Grants t c) steady tie = absurd steady
 
 -- the signals together
 abbrev IsTurn : ℕ → Up → SubSeen → UpStep → Type 0
-IsTurn p x k step = Turned p x k step.came.taken step.came.sent step.state.hold step.state.drawn
+IsTurn p x k step = Turned p x k step.outcome.taken step.outcome.sent step.state.hold step.state.drawn
 
 after-as : (k : SubSeen) (h x : HoldState) (n m : ℕ) → x ≡ h → m ≡ n → IsHeldAs k h n → IsHeldAs k x m
 after-as k h x n m e f tie = subst (λ (y : HoldState). IsHeldAs k y m) (sym e) (subst (λ (j : ℕ). IsHeldAs k h j) (sym f) tie)
 
-steady-turned : (p : ℕ) (x : Up) (k : SubSeen) (s : SubchannelState) (step : UpStep) → IsSteady x → Meets p x s.hold.phase step.came.taken step.came.sent step.state.hold.phase → IsNoted x s step →
-    IsTaken k p x step.came.taken → IsHeldAs k s.hold s.drawn → IsTurn p x k step
+steady-turned : (p : ℕ) (x : Up) (k : SubSeen) (s : SubchannelState) (step : UpStep) → IsSteady x → Meets p x s.hold.phase step.outcome.taken step.outcome.sent step.state.hold.phase → IsNoted x s step →
+    IsTaken k p x step.outcome.taken → IsHeldAs k s.hold s.drawn → IsTurn p x k step
 steady-turned p x k s step steady m noted taken tie = record {
   taken = taken;
-  sent = meets-sent p x s.hold.phase step.came.taken step.came.sent step.state.hold.phase k m steady;
-  after = after-as (sub_met (reply.Up x step.came.taken step.came.sent) k) _ step.state.hold s.drawn step.state.drawn noted.hold noted.drawn
-      (meets-after p x s.hold.phase step.came.taken step.came.sent step.state.hold.phase k s.hold s.drawn m steady tie);
+  sent = meets-sent p x s.hold.phase step.outcome.taken step.outcome.sent step.state.hold.phase k m steady;
+  after = after-as (sub_met (reply.Up x step.outcome.taken step.outcome.sent) k) _ step.state.hold s.drawn step.state.drawn noted.hold noted.drawn
+      (meets-after p x s.hold.phase step.outcome.taken step.outcome.sent step.state.hold.phase k s.hold s.drawn m steady tie);
 }
 
 same-turned : (p : ℕ) (x : Up) (k : SubSeen) (s y : SubchannelState) (taken : Bool) (sent : Option (OnPath Down)) → IsSame s y → Turned p x k taken sent s.hold s.drawn → Turned p x k taken sent y.hold y.drawn
@@ -415,6 +415,6 @@ takes-turned returns storage s p (up.Cleared r) k single seen tie =
 takes-turned returns storage s p (up.Notice b) k single seen tie = notice-turned p k s b (nat_lt s.hold.known b) refl tie
 takes-turned returns storage s p (up.Attn a status) k single seen tie =
     let step : Option HoldStep = hold_takes s.hold p (up.Attn a status) (may_take_attention s) in
-    let shows : Bool = (came_of step).taken && not (status.0 == 0x20) in
-    same-turned p (up.Attn a status) k (hold_outcome s step).state (with_attention (hold_outcome s step).state shows) (came_of step).taken (came_of step).sent
+    let shows : Bool = (outcome_of step).taken && not (status.0 == 0x20) in
+    same-turned p (up.Attn a status) k (hold_outcome s step).state (with_attention (hold_outcome s step).state shows) (outcome_of step).taken (outcome_of step).sent
     (attention-same (hold_outcome s step).state shows) (attended-turned p k s.hold s.drawn s.hold.phase a status (may_take_attention s) tie)

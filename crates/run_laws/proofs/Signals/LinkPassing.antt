@@ -26,7 +26,7 @@ use Rattle.subchannel_model.specs.Taking.{takes_up}
 use Rattle.machine_model.specs.ActSteps.{has_path_of_act, acts, act_sub}
 use Rattle.machine_model.specs.DownSteps.{down_front, down_sub}
 use Rattle.machine_model.specs.ReportSteps.{report_taken, report_sub}
-use Rattle.machine_model.specs.Turns.{UpTurn, DownTurn}
+use Rattle.machine_model.specs.Results.{UpResult, DownResult}
 use Rattle.machine_model.specs.UpSteps.{up_front, up_sub}
 use Rattle.run_laws.proofs.Machine.Meeting.{AreAnswers, takes-met}
 use Rattle.run_laws.proofs.Machine.WaitingSignals.{Each, OnSent, each-front, taken-each, carried-each}
@@ -95,7 +95,7 @@ met-seen k x true sent = (refl, refl)
 met-seen k x false sent = (refl, refl)
 
 -- a signal that came up
-pub record IsUpTied (is_up : ℕ → Bool) (k : SubSeen) (path : ℕ) (t : UpTurn) : Type 0 where
+pub record IsUpTied (is_up : ℕ → Bool) (k : SubSeen) (path : ℕ) (t : UpResult) : Type 0 where
   pub right : IsMetRight is_up path t.reply k
   pub tied : IsTied is_up (sub_met t.reply k) t.sub
 
@@ -111,25 +111,25 @@ front-tied is_up k returns storage sub path (Some x) may e tie =
     let seen : IsSeenUp k.drawn x = each-front (λ y. IsSeenUp k.drawn y) (queue sub.wires.up path) x (tie.ups path) e in
     let single : returns ≡ true → sub.state.hold.single_path ≡ true → sub.state.hold.first_path ≡ Some path =
     λ r s. first-path sub.state.hold.single_path (is_member (available_paths sub) path) sub.state.hold.first_path path (may r).first s in
-    let t : Turned path x k step.came.taken step.came.sent step.state.hold step.state.drawn = takes-turned returns storage sub.state path x k single seen tie.held in
+    let t : Turned path x k step.outcome.taken step.outcome.sent step.state.hold step.state.drawn = takes-turned returns storage sub.state path x k single seen tie.held in
     let m = takes-met returns storage sub.state path x in
-    let same = met-seen k x step.came.taken step.came.sent in
-    let next : SubSeen = sub_met (reply.Up x step.came.taken step.came.sent) k in
+    let same = met-seen k x step.outcome.taken step.outcome.sent in
+    let next : SubSeen = sub_met (reply.Up x step.outcome.taken step.outcome.sent) k in
     let is : returns ≡ true → IsUp is_up k path =
     λ r.
     let got = member-up is_up sub path tie.shown (may r).available in
     (got.0, ap (λ s. slice_get s.paths path) tie.setup ∙ got.1, got.2) in
-    if-ok (IsUpTied is_up k path) (finds_full sub.wires.down (carried_by sub step.came.sent)) _ _ tt
+    if-ok (IsUpTied is_up k path) (finds_full sub.wires.down (carried_by sub step.outcome.sent)) _ _ tt
     (record {
-      right = (t.taken, sents-for is_up k path x returns sub.state.hold.phase step.came.taken step.came.sent t.sent m.sent is);
+      right = (t.taken, sents-for is_up k path x returns sub.state.hold.phase step.outcome.taken step.outcome.sent t.sent m.sent is);
       tied = record {
         setup = same.0 ∙ tie.setup;
         paths = tie.paths;
         long = ap length m.available ∙ tie.long;
         shown = subst (λ (available : List Bool). IsShownBy is_up sub.setup.paths available) (sym m.available) tie.shown;
         held = t.after;
-        downs = subst (λ (n : ℕ). (q : ℕ) → Each (λ d. IsSeenDown n d) (queue (with_any_sent sub.wires.down (carried_by sub step.came.sent)) q)) (sym same.1)
-            (carried-each (λ p d. IsSeenDown k.drawn d) sub.wires.down sub.state.pmcw.available step.came.sent (sents-seen k.drawn k path x sub.state.pmcw.available step.came.taken step.came.sent t.sent) tie.downs);
+        downs = subst (λ (n : ℕ). (q : ℕ) → Each (λ d. IsSeenDown n d) (queue (with_any_sent sub.wires.down (carried_by sub step.outcome.sent)) q)) (sym same.1)
+            (carried-each (λ p d. IsSeenDown k.drawn d) sub.wires.down sub.state.pmcw.available step.outcome.sent (sents-seen k.drawn k path x sub.state.pmcw.available step.outcome.taken step.outcome.sent t.sent) tie.downs);
         ups = subst (λ (n : ℕ). (q : ℕ) → Each (λ y. IsSeenUp n y) (queue (taken sub.wires.up path) q)) (sym same.1)
             (taken-each (λ p y. IsSeenUp k.drawn y) sub.wires.up path tie.ups);
       };
@@ -142,7 +142,7 @@ met-tied is_up k returns storage sub path may tie =
     (front-tied is_up k returns storage sub path (slice_get (queue sub.wires.up path) 0) may refl tie) tt
 
 -- a step of the unit
-abbrev pub IsDownTied : (ℕ → Bool) → SubSeen → DownTurn → Type 0
+abbrev pub IsDownTied : (ℕ → Bool) → SubSeen → DownResult → Type 0
 IsDownTied is_up k t = IsTied is_up k t.sub
 
 ups-seen : (n : ℕ) (available : List Bool) (one : Option (OnPath Up)) → AreSeenUp n one → OnSent (λ p x. IsSeenUp n x) available one
@@ -153,7 +153,7 @@ down-front-tied : (is_up : ℕ → Bool) (k : SubSeen) (may : Bool) (sub : Subch
     IfOk (down_front may sub path u front) (IsDownTied is_up k)
 down-front-tied is_up k may sub path u None e tie = tt
 down-front-tied is_up k may sub path u (Some d) e tie =
-    let one : Option (OnPath Up) = (unit_table.came_of (unit_takes u sub.setup.side path d may)).sent in
+    let one : Option (OnPath Up) = (unit_table.outcome_of (unit_takes u sub.setup.side path d may)).sent in
     let seen : IsSeenDown k.drawn d = each-front (λ y. IsSeenDown k.drawn y) (queue sub.wires.down path) d (tie.downs path) e in
     if-ok (IsDownTied is_up k) (finds_full sub.wires.up (carried_by sub one)) _ _ tt
     (record {
@@ -171,7 +171,7 @@ sunk-tied is_up k may sub path u tie =
     if-ok (IsDownTied is_up k) (nat_lt path (length sub.setup.paths)) (down_front may sub path u (slice_get (queue sub.wires.down path) 0)) _
     (down-front-tied is_up k may sub path u (slice_get (queue sub.wires.down path) 0) refl tie) tt
 
-step-tied : (is_up : ℕ → Bool) (k : SubSeen) (sub : Subchannel) (step : Option UnitStep) → AreSeenUp k.drawn (unit_table.came_of step).sent → IsTied is_up k sub →
+step-tied : (is_up : ℕ → Bool) (k : SubSeen) (sub : Subchannel) (step : Option UnitStep) → AreSeenUp k.drawn (unit_table.outcome_of step).sent → IsTied is_up k sub →
     IfOk (report_taken sub step) (IsDownTied is_up k)
 step-tied is_up k sub None seen tie = tt
 step-tied is_up k sub (Some step) seen tie =

@@ -11,11 +11,11 @@ use Rattle.channel_config.specs.declared.parts.SubchannelSetup.{SubchannelSetup}
 use Rattle.channel_config.specs.Setup.{has_number, are_distinct}
 use Rattle.subchannel_model.specs.declared.state.Subchannel.{Subchannel}
 use Rattle.subchannel_model.specs.Losing.{path_index}
-use Rattle.subchannel_model.specs.Places.{one_later}
+use Rattle.subchannel_model.specs.Indices.{one_later}
 use Rattle.subchannel_model.specs.Store.{installed_paths, available_paths}
 use Rattle.run_laws.proofs.Machine.PathSets.{each-true, each-from, both-parts}
 use Rattle.run_laws.proofs.Machine.SweptPaths.{set-here, set-other}
-use Rattle.step_laws.proofs.Places.{same-or-not}
+use Rattle.step_laws.proofs.Indices.{same-or-not}
 use Rattle.run_laws.specs.Links.{is_on, has_up, with_up}
 
 -- eight different paths at most
@@ -27,7 +27,7 @@ pub record ArePaths (paths : List ℕ) : Type 0 where
 abbrev pub IsShownBy : (ℕ → Bool) → List ℕ → List Bool → Type 0
 IsShownBy is_up paths available = (p chpid : ℕ) → slice_get paths p ≡ Some chpid → is_member available p ≡ is_up chpid
 
--- a channel path is at one place
+-- a channel path is at one index
 not-again : (x c : ℕ) (xs : List ℕ) (p : ℕ) → are_distinct (x ∷ xs) ≡ true → x ≡ c → slice_get xs p ≡ Some c → ⊥
 not-again x c xs p d same e =
     let again : has_number xs x ≡ true = any_passes_from_place (λ m. m == x) xs p c e (eq-eqb c x (sym same)) in

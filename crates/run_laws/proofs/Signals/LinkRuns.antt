@@ -26,9 +26,9 @@ use Rattle.machine_model.specs.declared.state.Sweep.TheVariants as sweep
 use Rattle.machine_model.specs.InstructionSteps.{code_at, function_sub}
 use Rattle.machine_model.specs.OtherSteps.{is_up}
 use Rattle.machine_model.specs.PathSteps.{swept}
-use Rattle.machine_model.specs.State.{State, opening_of, place_of}
+use Rattle.machine_model.specs.State.{State, opening_of, index_of}
 use Rattle.machine_model.specs.Steps.{Run, Opened, Stepped, Step}
-use Rattle.machine_model.specs.Turns.{SubTurn, UpTurn, DownTurn, with_state}
+use Rattle.machine_model.specs.Results.{SubResult, UpResult, DownResult, with_state}
 use Rattle.run_laws.proofs.Machine.Moving.{return-parts}
 use Rattle.run_laws.proofs.Machine.Turning.{returns-right}
 use Rattle.run_laws.specs.OneEngine.{IsOnePath}
@@ -42,12 +42,12 @@ use Rattle.run_laws.proofs.Signals.LinkPassing.{MayReturn, IsUpTied, IsDownTied,
 use Rattle.run_laws.proofs.Signals.LinkSubs.{IsTied, same-tied, start-tied, test-tied, modify-tied, IsNotClear, function-tied, clear-tied, system-tied, down-tied, up-tied, reset-tied}
 use Rattle.run_laws.proofs.Signals.OwnRuns.{Answered, Unfound, There, step-answered, sets-stay}
 use Rattle.run_laws.proofs.Machine.SameState.{is-same}
-use Rattle.step_laws.proofs.Turns as turn
-use Rattle.step_laws.proofs.Turns.{TurnOf, HasTurn, step-turn}
+use Rattle.step_laws.proofs.Results as turn
+use Rattle.step_laws.proofs.Results.{ResultOf, HasResult, step-turn}
 
 -- each engine that serves a subchannel is of a path that is available
 abbrev pub AreEngaged : State → Type 0
-AreEngaged s = (place p : ℕ) (x : Subchannel) → slice_get s.subs place ≡ Some x → engaged_path x.state.hold.phase ≡ Some p → is_member (available_paths x) p ≡ true
+AreEngaged s = (index p : ℕ) (x : Subchannel) → slice_get s.subs index ≡ Some x → engaged_path x.state.hold.phase ≡ Some p → is_member (available_paths x) p ≡ true
 
 abbrev pub AreSeen : Seen → State → Type 0
 AreSeen k s = AreTied k.up k.subs s.subs
@@ -84,8 +84,8 @@ plain sets e r k q c = record { same = refl; right = tt }
 plain-step : (s : State) (e : Event) (r : Reply) (new : State) (k : Seen) → IsPlain s.sets e r k → AreSeen k new → IsSeenStep s e r new k
 plain-step s e r new k p tied = record { right = p.right; tied = subst (λ (y : Seen). AreSeen y new) (sym p.same) tied }
 
-one-seen : (s new : State) (place : ℕ) (sub after : Subchannel) (k : Seen) → OneSub s new place sub after → ((j : SubSeen) → IsTied k.up j sub → IsTied k.up j after) → AreSeen k s → AreSeen k new
-one-seen s new place sub after k one f tied = subst (λ (xs : List Subchannel). AreTied k.up k.subs xs) (sym one.subs) (tied-set k.up k.subs s.subs place sub after one.there f tied)
+one-seen : (s new : State) (index : ℕ) (sub after : Subchannel) (k : Seen) → OneSub s new index sub after → ((j : SubSeen) → IsTied k.up j sub → IsTied k.up j after) → AreSeen k s → AreSeen k new
+one-seen s new index sub after k one f tied = subst (λ (xs : List Subchannel). AreTied k.up k.subs xs) (sym one.subs) (tied-set k.up k.subs s.subs index sub after one.there f tied)
 
 same-seen : (s new : State) (k : Seen) → new.subs ≡ s.subs → AreSeen k s → AreSeen k new
 same-seen s new k subs tied = subst (λ (xs : List Subchannel). AreTied k.up k.subs xs) (sym subs) tied
@@ -101,16 +101,16 @@ no-sweep other c = c
 marked-tied : (is_up : ℕ → Bool) (k : SubSeen) (sub : Subchannel) (choice : Option ℕ) → IsTied is_up k sub → IsTied is_up k (marked_sub sub choice)
 marked-tied is_up k sub choice tie = same-tied is_up k sub (marked_sub sub choice).state (is-same sub.state (marked_sub sub choice).state refl refl refl) tie
 
-chosen-tied : (s : State) (place : ℕ) (sub : Subchannel) (choice : Option ℕ) (t : SubTurn) (is_up : ℕ → Bool) (k : SubSeen) → IsChoice (paths_to_choose s.subs sub) choice →
+chosen-tied : (s : State) (index : ℕ) (sub : Subchannel) (choice : Option ℕ) (t : SubResult) (is_up : ℕ → Bool) (k : SubSeen) → IsChoice (paths_to_choose s.subs sub) choice →
     IsFitFor (chosen sub choice) sub.state.hold → choose_sub (marked_sub sub choice) (chosen sub choice) ≡ Ok t →
-    slice_get s.subs place ≡ Some sub → AreEngaged s → IsTied is_up k sub → IsChoiceTied is_up k t
-chosen-tied s place sub choice t is_up k x fits ok there engaged tie =
-    subst (λ (r : Result SubTurn Fault). IfOk r (IsChoiceTied is_up k)) ok
+    slice_get s.subs index ≡ Some sub → AreEngaged s → IsTied is_up k sub → IsChoiceTied is_up k t
+chosen-tied s index sub choice t is_up k x fits ok there engaged tie =
+    subst (λ (r : Result SubResult Fault). IfOk r (IsChoiceTied is_up k)) ok
     (choose-tied is_up k (marked_sub sub choice) choice (chosen sub choice)
     (record {
       chosen = chosen-for sub choice;
       fits = fits;
-      engaged = λ p e. engaged place p sub there e;
+      engaged = λ p e. engaged index p sub there e;
       available = λ p e. choice-available s.subs sub choice p x e;
       due = λ r e has. due-choice is_up k s.subs sub choice r x tie e has;
     })
@@ -118,49 +118,49 @@ chosen-tied s place sub choice t is_up k x fits ok there engaged tie =
 
 walked-seen : (s : State) (e : Event) (r : Reply) (new : State) (k : Seen) → Walked s e r new → IsCalm e → AreEngaged s → AreSeen k s → IsSeenStep s e r new k
 walked-seen s _ _ _ k (walked.Stays e r new q sets subs units up) c engaged tied = plain-step s e r new k (plain s.sets e r k q c) (same-seen s new k subs tied)
-walked-seen s _ _ _ k (walked.Started cpu word address place sub orb c new n one) calm engaged tied =
-    record { right = tt; tied = one-seen s new place sub _ k one (λ j. start-tied k.up j sub orb c) tied }
-walked-seen s _ _ _ k (walked.Tested e r place sub c new q one address by answers) calm engaged tied =
-    plain-step s e r new k (plain s.sets e r k q calm) (one-seen s new place sub _ k one (λ j. test-tied k.up j sub c) tied)
-walked-seen s _ _ _ k (walked.Modified e r place sub given c new q one) calm engaged tied =
-    plain-step s e r new k (plain s.sets e r k q calm) (one-seen s new place sub _ k one (λ j. modify-tied k.up j sub given c) tied)
-walked-seen s _ _ _ k (walked.Performed e r place sub f c new q one by answers) calm engaged tied =
+walked-seen s _ _ _ k (walked.Started cpu word address index sub orb c new n one) calm engaged tied =
+    record { right = tt; tied = one-seen s new index sub _ k one (λ j. start-tied k.up j sub orb c) tied }
+walked-seen s _ _ _ k (walked.Tested e r index sub c new q one address by answers) calm engaged tied =
+    plain-step s e r new k (plain s.sets e r k q calm) (one-seen s new index sub _ k one (λ j. test-tied k.up j sub c) tied)
+walked-seen s _ _ _ k (walked.Modified e r index sub given c new q one) calm engaged tied =
+    plain-step s e r new k (plain s.sets e r k q calm) (one-seen s new index sub _ k one (λ j. modify-tied k.up j sub given c) tied)
+walked-seen s _ _ _ k (walked.Performed e r index sub f c new q one by answers) calm engaged tied =
     plain-step s e r new k (plain s.sets e r k q calm)
-    (one-seen s new place sub _ k one (λ j. function-tied k.up j sub f c (not-clear f by.cpu by.word (subst (λ (y : Event). IsCalm y) by.event calm))) tied)
-walked-seen s _ _ _ k (walked.Chosen word place sub choice t new n x w ok one) calm engaged tied =
-    let turn : (j : SubSeen) → IsTied k.up j sub → IsChoiceTied k.up j t = λ j tie. chosen-tied s place sub choice t k.up j x w.fits ok one.there engaged tie in
+    (one-seen s new index sub _ k one (λ j. function-tied k.up j sub f c (not-clear f by.cpu by.word (subst (λ (y : Event). IsCalm y) by.event calm))) tied)
+walked-seen s _ _ _ k (walked.Chosen word index sub choice t new n x w ok one) calm engaged tied =
+    let turn : (j : SubSeen) → IsTied k.up j sub → IsChoiceTied k.up j t = λ j tie. chosen-tied s index sub choice t k.up j x w.fits ok one.there engaged tie in
     record {
-      right = of-named k.up (IsChosenRight k.up t.reply) (subchannel_named s.sets word) k.subs s.subs place sub n one.there (λ j tie. (turn j tie).right) tied;
+      right = of-named k.up (IsChosenRight k.up t.reply) (subchannel_named s.sets word) k.subs s.subs index sub n one.there (λ j tie. (turn j tie).right) tied;
       tied = subst (λ (xs : List Subchannel). AreTied k.up (change_named (subchannel_named s.sets word) (sub_chosen k.up t.reply) k.subs) xs) (sym one.subs)
-          (named-tied k.up (subchannel_named s.sets word) (sub_chosen k.up t.reply) k.subs s.subs place sub t.sub n one.there (λ j tie. (turn j tie).tied) tied);
+          (named-tied k.up (subchannel_named s.sets word) (sub_chosen k.up t.reply) k.subs s.subs index sub t.sub n one.there (λ j tie. (turn j tie).tied) tied);
     }
-walked-seen s _ _ _ k (walked.Met word path returns place sub t new n ok one may) calm engaged tied =
+walked-seen s _ _ _ k (walked.Met word path returns index sub t new n ok one may) calm engaged tied =
     let returned : returns ≡ true → MayReturn sub path =
     λ e. let p = return-parts s.subs sub path (returns-right s.subs sub path returns may e) in record { available = p.0.0; first = p.1 } in
     let turn : (j : SubSeen) → IsTied k.up j sub → IsUpTied k.up j path t =
-    λ j tie. subst (λ (r : Result UpTurn Fault). IfOk r (IsUpTied k.up j path)) ok (met-tied k.up j returns s.storage sub path returned tie) in
+    λ j tie. subst (λ (r : Result UpResult Fault). IfOk r (IsUpTied k.up j path)) ok (met-tied k.up j returns s.storage sub path returned tie) in
     record {
-      right = of-named k.up (IsMetRight k.up path t.reply) (subchannel_named s.sets word) k.subs s.subs place sub n one.there (λ j tie. (turn j tie).right) tied;
+      right = of-named k.up (IsMetRight k.up path t.reply) (subchannel_named s.sets word) k.subs s.subs index sub n one.there (λ j tie. (turn j tie).right) tied;
       tied = subst (λ (xs : List Subchannel). AreTied k.up (change_named (subchannel_named s.sets word) (sub_met t.reply) k.subs) xs) (sym one.subs)
-          (named-tied k.up (subchannel_named s.sets word) (sub_met t.reply) k.subs s.subs place sub t.sub n one.there (λ j tie. (turn j tie).tied) tied);
+          (named-tied k.up (subchannel_named s.sets word) (sub_met t.reply) k.subs s.subs index sub t.sub n one.there (λ j tie. (turn j tie).tied) tied);
     }
-walked-seen s _ _ _ k (walked.Sunk word path may owed place sub u t new n ok one) calm engaged tied =
+walked-seen s _ _ _ k (walked.Sunk word path may owed index sub u t new n ok one) calm engaged tied =
     record {
       right = tt;
       tied = subst (λ (xs : List Subchannel). AreTied k.up k.subs xs) (sym one.subs)
-          (tied-set k.up k.subs s.subs place sub t.sub one.there (λ j tie. subst (λ (r : Result DownTurn Fault). IfOk r (IsDownTied k.up j)) ok (sunk-tied k.up j may sub path u tie)) tied);
+          (tied-set k.up k.subs s.subs index sub t.sub one.there (λ j tie. subst (λ (r : Result DownResult Fault). IfOk r (IsDownTied k.up j)) ok (sunk-tied k.up j may sub path u tie)) tied);
     }
-walked-seen s _ _ _ k (walked.Reported at place sub u report t new n reached ok one) calm engaged tied =
+walked-seen s _ _ _ k (walked.Reported at index sub u report t new n reached ok one) calm engaged tied =
     record {
       right = tt;
       tied = subst (λ (xs : List Subchannel). AreTied k.up k.subs xs) (sym one.subs)
-          (tied-set k.up k.subs s.subs place sub t.sub one.there (λ j tie. subst (λ (r : Result DownTurn Fault). IfOk r (IsDownTied k.up j)) ok (report-tied k.up j sub u report tie)) tied);
+          (tied-set k.up k.subs s.subs index sub t.sub one.there (λ j tie. subst (λ (r : Result DownResult Fault). IfOk r (IsDownTied k.up j)) ok (report-tied k.up j sub u report tie)) tied);
     }
-walked-seen s _ _ _ k (walked.Acted at place sub u what t new side its ok one) calm engaged tied =
+walked-seen s _ _ _ k (walked.Acted at index sub u what t new side its ok one) calm engaged tied =
     record {
       right = tt;
       tied = subst (λ (xs : List Subchannel). AreTied k.up k.subs xs) (sym one.subs)
-          (tied-set k.up k.subs s.subs place sub t.sub one.there (λ j tie. subst (λ (r : Result DownTurn Fault). IfOk r (IsDownTied k.up j)) ok (act-tied k.up j sub u what tie)) tied);
+          (tied-set k.up k.subs s.subs index sub t.sub one.there (λ j tie. subst (λ (r : Result DownResult Fault). IfOk r (IsDownTied k.up j)) ok (act-tied k.up j sub u what tie)) tied);
     }
 walked-seen s _ _ _ k (walked.Restarted at owed u r new found sets subs units up) calm engaged tied = record { right = tt; tied = same-seen s new k subs tied }
 walked-seen s _ _ _ k (walked.Swept e r what new q sets subs units by) calm engaged tied = absurd (no-sweep what (subst (λ (y : Event). IsCalm y) by.event calm))
@@ -169,20 +169,20 @@ walked-seen s _ _ _ k (walked.Swept e r what new q sets subs units by) calm enga
 not-cleared : (r : Reply) (k : SubSeen) → is_code_zero r ≡ false → sub_cleared r k ≡ k
 not-cleared r k e = ap (λ (b : Bool). if b then sub_reset k else k) e
 
-code-tied : (s : State) (word place : ℕ) (sub : Subchannel) (c : ConditionCode) (is_up : ℕ → Bool) (ks : List SubSeen) → place_of s word ≡ Some place → slice_get s.subs place ≡ Some sub → AreTied is_up ks s.subs →
-    AreTied is_up (change_named (subchannel_named s.sets word) (sub_cleared (function_sub sub c (cleared sub.state)).reply) ks) (slice_set s.subs place (function_sub sub c (cleared sub.state)).sub)
-code-tied s word place sub code.Zero is_up ks n there tied =
-    named-tied is_up (subchannel_named s.sets word) sub_reset ks s.subs place sub (with_state sub (cleared sub.state)) n there (λ j tie. clear-tied is_up j sub tie) tied
-code-tied s word place sub c is_up ks n there tied = named-tied is_up (subchannel_named s.sets word) (λ j. j) ks s.subs place sub sub n there (λ j tie. tie) tied
+code-tied : (s : State) (word index : ℕ) (sub : Subchannel) (c : ConditionCode) (is_up : ℕ → Bool) (ks : List SubSeen) → index_of s word ≡ Some index → slice_get s.subs index ≡ Some sub → AreTied is_up ks s.subs →
+    AreTied is_up (change_named (subchannel_named s.sets word) (sub_cleared (function_sub sub c (cleared sub.state)).reply) ks) (slice_set s.subs index (function_sub sub c (cleared sub.state)).sub)
+code-tied s word index sub code.Zero is_up ks n there tied =
+    named-tied is_up (subchannel_named s.sets word) sub_reset ks s.subs index sub (with_state sub (cleared sub.state)) n there (λ j tie. clear-tied is_up j sub tie) tied
+code-tied s word index sub c is_up ks n there tied = named-tied is_up (subchannel_named s.sets word) (λ j. j) ks s.subs index sub sub n there (λ j tie. tie) tied
 
 cleared-seen : (s : State) (word : ℕ) (r : Reply) (subs : List Subchannel) (is_up : ℕ → Bool) (ks : List SubSeen) → Answered s word csch_code cleared r subs → AreTied is_up ks s.subs →
     AreTied is_up (change_named (subchannel_named s.sets word) (sub_cleared r) ks) subs
 cleared-seen s word _ _ is_up ks (Unfound r z) tied =
     subst (λ (ys : List SubSeen). AreTied is_up ys s.subs) (sym (named-none (subchannel_named s.sets word) (sub_cleared r) ks (λ k. not-cleared r k z))) tied
-cleared-seen s word _ _ is_up ks (There place sub n there) tied = code-tied s word place sub (code_at csch_code sub) is_up ks n there tied
+cleared-seen s word _ _ is_up ks (There index sub n there) tied = code-tied s word index sub (code_at csch_code sub) is_up ks n there tied
 
 -- the events of channel paths
-turn-swept : (s : State) (what : Sweep) (r : Reply) (new : State) → TurnOf s (sweep_event what) r new → new.subs ≡ map (swept what) s.subs
+turn-swept : (s : State) (what : Sweep) (r : Reply) (new : State) → ResultOf s (sweep_event what) r new → new.subs ≡ map (swept what) s.subs
 turn-swept s (sweep.GoesDown _) _ _ (turn.GoesDown chpid) = refl
 turn-swept s (sweep.ComesUp _) _ _ (turn.ComesUp chpid) = refl
 turn-swept s (sweep.PathReset _) _ _ (turn.IsReset chpid asked) = refl
@@ -190,7 +190,7 @@ turn-swept s sweep.SystemReset _ _ turn.ResetsAll = refl
 
 pub swept-subs : (s : State) (what : Sweep) (r : Reply) (new : State) → Step s (sweep_event what) r new → new.subs ≡ map (swept what) s.subs
 swept-subs s what r new step =
-    let is : HasTurn s (sweep_event what) r new = step-turn s (sweep_event what) r new step in
+    let is : HasResult s (sweep_event what) r new = step-turn s (sweep_event what) r new step in
     subst (λ (x : State). x.subs ≡ map (swept what) s.subs) (sym is.settles) (turn-swept s what r is.left is.turn)
 
 -- each step

@@ -24,7 +24,7 @@ use Rattle.subchannel_model.specs.Start.{started}
 use Rattle.subchannel_model.specs.SystemReset.{reset_by_system}
 use Rattle.subchannel_model.specs.Test.{tested_wholly}
 use Rattle.machine_model.specs.InstructionSteps.{function_sub, test_with}
-use Rattle.machine_model.specs.Turns.{with_state}
+use Rattle.machine_model.specs.Results.{with_state}
 use Rattle.step_laws.specs.Walks as walked
 use Rattle.step_laws.specs.Walks.{Function, Resumes, Clears, Cancels, effect_of}
 use Rattle.run_laws.proofs.Machine.SameState.{IsSame, is-same, tested-same, halted-same}

@@ -10,13 +10,13 @@ use Rattle.chan_model.specs.declared.unit_state.CurrentCommand.{CurrentCommand}
 use Rattle.chan_model.specs.declared.unit_state.Own.{Own}
 use Rattle.chan_model.specs.declared.unit_state.Own.TheVariants as own
 use Rattle.chan_model.specs.declared.unit_state.Connection.{Connection}
-use Rattle.chan_model.specs.declared.unit_state.Connection.TheVariants as place
+use Rattle.chan_model.specs.declared.unit_state.Connection.TheVariants as connection
 use Rattle.chan_model.specs.declared.unit_state.Progress.{Progress}
 use Rattle.chan_model.specs.declared.unit_state.Progress.TheVariants as progress
 use Rattle.chan_model.specs.declared.unit_state.UnitState.{UnitState}
 use Rattle.chan_model.specs.Sides.{same_side}
 use Rattle.chan_model.specs.UnitReports.{is_outward, may_end, most_of, is_to_supply, command_begun, answer_taken, report_on, report_of, unit_reports, report_absorbed, sent_again}
-use Rattle.chan_model.specs.UnitTable.{UnitStep, came_of, side_of, telling, unit_takes, leaving_from, leaving, asking_from, asking, is_idle}
+use Rattle.chan_model.specs.UnitTable.{UnitStep, outcome_of, side_of, telling, unit_takes, leaving_from, leaving, asking_from, asking, is_idle}
 use Rattle.chan_model.proofs.TakenSignals.{Takes, Ignores, Notices, Accepts, Denies, Begins, Joins, Leaves, Parts, Answers, Gives, Halts, Frees, Resets, Forgets, takes-by}
 use Rattle.chan_events.specs.declared.event.UnitAct.{UnitAct}
 use Rattle.chan_events.specs.declared.event.UnitAct.TheVariants as act
@@ -33,7 +33,7 @@ AreSeenUp n None = Unit {0}
 AreSeenUp n (Some s) = IsSeenUp n s.signal
 
 abbrev Sends : ℕ → Option UnitStep → Type 0
-Sends n step = AreSeenUp n (came_of step).sent
+Sends n step = AreSeenUp n (outcome_of step).sent
 
 if-sends : (n : ℕ) (b : Bool) (x y : Option UnitStep) → Sends n x → Sends n y → Sends n (if b then x else y)
 if-sends n true x y k l = k
@@ -55,7 +55,7 @@ taken-seen n u side p _ _ seen (Frees t at is) = tt
 taken-seen n u side p _ _ seen (Resets r b is) = seen
 taken-seen n u side p _ _ seen (Forgets a) = tt
 
-pub takes-seen : (n : ℕ) (u : UnitState) (side : Side) (p : ℕ) (d : Down) (may : Bool) → IsSeenDown n d → AreSeenUp n (came_of (unit_takes u side p d may)).sent
+pub takes-seen : (n : ℕ) (u : UnitState) (side : Side) (p : ℕ) (d : Down) (may : Bool) → IsSeenDown n d → AreSeenUp n (outcome_of (unit_takes u side p d may)).sent
 takes-seen n u side p d may seen = taken-seen n u side p d _ seen (takes-by u side p d may)
 
 -- none sends Cleared of itself
@@ -87,40 +87,40 @@ answer-sends n u p t c x progress.Ended answer.Again = tt
 answer-sends n u p t c x progress.ChannelEnded other = tt
 
 report_on-sends : (n : ℕ) (u : UnitState) (t : ℕ) (at : Connection) (x : Option CurrentCommand) (r : Report) → Sends n (report_on u t at x r)
-report_on-sends n u t (place.On p c) None r = tt
-report_on-sends n u t (place.On p c) (Some x) r =
+report_on-sends n u t (connection.On p c) None r = tt
+report_on-sends n u t (connection.On p c) (Some x) r =
     if-sends n (r.sequence == x.sequence) (answer_taken u p t c x x.progress r.answer) None (answer-sends n u p t c x x.progress r.answer) tt
-report_on-sends n u t (place.Ask p c) x r = tt
-report_on-sends n u t (place.Away c) x r = tt
+report_on-sends n u t (connection.Ask p c) x r = tt
+report_on-sends n u t (connection.Away c) x r = tt
 
 report_of-sends : (n : ℕ) (u : UnitState) (o : Own) (r : Report) → Sends n (report_of u o r)
 report_of-sends n u own.Idle r = tt
 report_of-sends n u (own.Owned k t at) r =
-    if-sends n (same_side k r.side && ((r.number == t) && (r.command == u.last_command))) (report_on u t at u.at_hand r) None
-    (report_on-sends n u t at u.at_hand r) tt
+    if-sends n (same_side k r.side && ((r.number == t) && (r.command == u.last_command))) (report_on u t at u.current r) None
+    (report_on-sends n u t at u.current r) tt
 
-pub reports-seen : (n : ℕ) (u : UnitState) (r : Report) → AreSeenUp n (came_of (unit_reports u r)).sent
+pub reports-seen : (n : ℕ) (u : UnitState) (r : Report) → AreSeenUp n (outcome_of (unit_reports u r)).sent
 reports-seen n u r = report_of-sends n u u.own r
 
 leaving_from-sends : (n : ℕ) (u : UnitState) (side : Side) (t : ℕ) (at : Connection) → Sends n (leaving_from u side t at)
-leaving_from-sends n u side t (place.On p c) = tt
-leaving_from-sends n u side t (place.Ask p c) = tt
-leaving_from-sends n u side t (place.Away c) = tt
+leaving_from-sends n u side t (connection.On p c) = tt
+leaving_from-sends n u side t (connection.Ask p c) = tt
+leaving_from-sends n u side t (connection.Away c) = tt
 
 leaving-sends : (n : ℕ) (u : UnitState) (o : Own) → Sends n (leaving u o)
 leaving-sends n u own.Idle = tt
 leaving-sends n u (own.Owned k t at) = leaving_from-sends n u k t at
 
 asking_from-sends : (n : ℕ) (u : UnitState) (side : Side) (t : ℕ) (at : Connection) (p : ℕ) → Sends n (asking_from u side t at p)
-asking_from-sends n u side t (place.On q c) p = tt
-asking_from-sends n u side t (place.Ask q c) p = tt
-asking_from-sends n u side t (place.Away c) p = tt
+asking_from-sends n u side t (connection.On q c) p = tt
+asking_from-sends n u side t (connection.Ask q c) p = tt
+asking_from-sends n u side t (connection.Away c) p = tt
 
 asking-sends : (n : ℕ) (u : UnitState) (o : Own) (p : ℕ) → Sends n (asking u o p)
 asking-sends n u own.Idle p = tt
 asking-sends n u (own.Owned k t at) p = asking_from-sends n u k t at p
 
-pub acts-seen : (n : ℕ) (u : UnitState) (side : Side) (what : UnitAct) → AreSeenUp n (came_of (acts u side what)).sent
+pub acts-seen : (n : ℕ) (u : UnitState) (side : Side) (what : UnitAct) → AreSeenUp n (outcome_of (acts u side what)).sent
 acts-seen n u side act.Leave = leaving-sends n u u.own
 acts-seen n u side (act.Ask p) = asking-sends n u u.own p
 acts-seen n u side (act.Attention p named) = if-sends n (is_idle u.own && not (side_of u side).fresh) _ None tt tt

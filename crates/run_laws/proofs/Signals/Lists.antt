@@ -2,7 +2,7 @@
 use Rattle.std.proofs.Common.{◌≡◌, ◌≢◌, sym, subst, inl, inr, arith, ℕ, zero, suc, Bool, true, false, Option, None, Some, List, [], ◌∷◌, ◌++◌, drop, replicate, slice_get, slice_set}
 use Rattle.chan_model.specs.PathSets.{is_member}
 use Rattle.chan_model.specs.declared.signal.OnPath.{OnPath}
-use Rattle.step_laws.proofs.Places.{same-or-not}
+use Rattle.step_laws.proofs.Indices.{same-or-not}
 use Rattle.run_laws.proofs.Machine.WaitingSignals.{Each, each-append}
 use Rattle.wires.specs.Queues.{queue, taken, lost}
 use Rattle.subchannel_model.specs.Sending.{carried, with_any_sent, carried_where}

@@ -10,12 +10,12 @@ use Rattle.chan_model.specs.Signals.{Down, Load, Up, load_bytes}
 use Rattle.chan_model.specs.declared.signal.Down.TheVariants as down
 use Rattle.chan_model.specs.declared.signal.OnPath.{OnPath}
 use Rattle.chan_model.specs.declared.signal.Up.TheVariants as up
-use Rattle.chan_model.specs.HoldTable.{HoldStep, program_begun, offer_accepted, found_busy, left, refusing, granting, asked_back, released, reset_cleared, attended, hold_takes, hold_after, is_connected, is_on, letting_go, came_of}
+use Rattle.chan_model.specs.HoldTable.{HoldStep, program_begun, offer_accepted, found_busy, left, refusing, granting, asked_back, released, reset_cleared, attended, hold_takes, hold_after, is_connected, is_on, letting_go, outcome_of}
 use Rattle.chan_model.specs.UnitReports.{is_last_end, is_outward, has_device_end}
-use Rattle.ccw_walk.specs.Places.{WalkPlace}
+use Rattle.ccw_walk.specs.Positions.{WalkPosition}
 use Rattle.data_move.specs.Moving.{residual}
 use Rattle.data_move.specs.declared.transfer.CommandStart.{CommandStart}
-use Rattle.data_move.specs.declared.transfer.CommandStart.TheVariants as came
+use Rattle.data_move.specs.declared.transfer.CommandStart.TheVariants as outcome
 use Rattle.data_move.specs.Commands.{first_command, next_command, begun_with_room, with_room}
 use Rattle.data_move.specs.ToDevice.{chunk_absorbed, next_chunk}
 use Rattle.data_move.specs.FromDevice.{chunk_stored}
@@ -107,7 +107,7 @@ pub data Meets (p : ℕ) : Up → HoldPhase → Bool → Option (OnPath Down) �
   Grants : (t c : ℕ) → Meets p (up.Back t c) (hold.Away t) true (Some (record { path = p; signal = down.Grant t c })) (hold.On t p c)
 
 abbrev pub IsMet : ℕ → Up → SubchannelState → UpStep → Type 0
-IsMet p x s step = Meets p x s.hold.phase step.came.taken step.came.sent step.state.hold.phase
+IsMet p x s step = Meets p x s.hold.phase step.outcome.taken step.outcome.sent step.state.hold.phase
 
 if-met : (p : ℕ) (x : Up) (s : SubchannelState) (b : Bool) (y z : UpStep) → (b ≡ true → IsMet p x s y) → IsMet p x s z → IsMet p x s (if b then y else z)
 if-met p x s true y z e f = e refl
@@ -132,37 +132,37 @@ pub phase-of : (s x : SubchannelState) → IsSameHold s x → x.hold.phase ≡ s
 phase-of s x h = ap (λ (y : HoldState). y.phase) h.hold
 
 -- the device is let go where a program is connected
-lets-sent : (h : HoldState) (phase : HoldPhase) (t q c : ℕ) → phase ≡ hold.On t q c → (came_of (letting_go h phase)).sent ≡ releases t q
-lets-sent h phase t q c e = subst (λ (y : HoldPhase). (came_of (letting_go h y)).sent ≡ releases t q) (sym e) refl
+lets-sent : (h : HoldState) (phase : HoldPhase) (t q c : ℕ) → phase ≡ hold.On t q c → (outcome_of (letting_go h phase)).sent ≡ releases t q
+lets-sent h phase t q c e = subst (λ (y : HoldPhase). (outcome_of (letting_go h y)).sent ≡ releases t q) (sym e) refl
 
 lets-phase : (h : HoldState) (phase : HoldPhase) (t q c : ℕ) → phase ≡ hold.On t q c → (hold_after h (letting_go h phase)).phase ≡ hold.Letting t q
 lets-phase h phase t q c e = subst (λ (y : HoldPhase). (hold_after h (letting_go h y)).phase ≡ hold.Letting t q) (sym e) refl
 
 -- Accept
 let-accepted : (p t q : ℕ) (x : SubchannelState) → x.hold.phase ≡ hold.On t q 0 →
-    Meets p (up.Accept t) (hold.Offer t q) true (device_released x).came.sent (device_released x).state.hold.phase
+    Meets p (up.Accept t) (hold.Offer t q) true (device_released x).outcome.sent (device_released x).state.hold.phase
 let-accepted p t q x e =
     met-as p (up.Accept t) (hold.Offer t q) (hold.Offer t q) (hold.Letting t q) _ true (releases t q) _ refl
     (lets-phase x.hold x.hold.phase t q 0 e) (lets-sent x.hold x.hold.phase t q 0 e) (Declines t q)
 
-beginning-meets : (storage : Contents) (s : SubchannelState) (p t q : ℕ) (st : ProgramPosition) (walk : WalkPlace) (r : CommandStart) → s.hold.phase ≡ hold.On t q 0 →
-    Meets p (up.Accept t) (hold.Offer t q) (first_ccw_outcome storage s q t st walk r).came.taken (first_ccw_outcome storage s q t st walk r).came.sent (first_ccw_outcome storage s q t st walk r).state.hold.phase
-beginning-meets storage s p t q st walk (came.Begins transfer) e =
+beginning-meets : (storage : Contents) (s : SubchannelState) (p t q : ℕ) (st : ProgramPosition) (walk : WalkPosition) (r : CommandStart) → s.hold.phase ≡ hold.On t q 0 →
+    Meets p (up.Accept t) (hold.Offer t q) (first_ccw_outcome storage s q t st walk r).outcome.taken (first_ccw_outcome storage s q t st walk r).outcome.sent (first_ccw_outcome storage s q t st walk r).state.hold.phase
+beginning-meets storage s p t q st walk (outcome.Begins transfer) e =
     let next = with_program_at_work s st.program (begun_with_room storage transfer).transfer in
     met-as p (up.Accept t) (hold.Offer t q) (hold.Offer t q) (hold.On t q 0) _ true _ _ refl
     (phase-of s (with_pci next next.begun) (same-then s next (with_pci next next.begun) (same-hold s next refl refl) (interrupted-same next next.begun)) ∙ e) refl
     (Begins t q _ (Sends_command _ _ _ _ refl refl))
-beginning-meets storage s p t q st walk came.Suspends e =
+beginning-meets storage s p t q st walk outcome.Suspends e =
     let x = program_suspended s st.program walk st.count in
     let-accepted p t q x (phase-of s x (suspending-same s st.program walk st.count) ∙ e)
-beginning-meets storage s p t q st walk (came.Stops check) e =
+beginning-meets storage s p t q st walk (outcome.Stops check) e =
     let x = with_cause s (cause.FetchFault walk.tried check st.count) in
     let-accepted p t q x (phase-of s x (cause-same s (cause.FetchFault walk.tried check st.count)) ∙ e)
 
 begin-meets : (storage : Contents) (s : SubchannelState) (p t q : ℕ) (st : Option ProgramPosition) → s.hold.phase ≡ hold.On t q 0 →
-    Meets p (up.Accept t) (hold.Offer t q) (begins_at storage s q t st).came.taken (begins_at storage s q t st).came.sent (begins_at storage s q t st).state.hold.phase
+    Meets p (up.Accept t) (hold.Offer t q) (begins_at storage s q t st).outcome.taken (begins_at storage s q t st).outcome.sent (begins_at storage s q t st).state.hold.phase
 begin-meets storage s p t q None e = met-as p (up.Accept t) (hold.Offer t q) (hold.Offer t q) (hold.On t q 0) _ true None None refl e refl (Begins t q None tt)
-begin-meets storage s p t q (Some st) e = beginning-meets storage s p t q st (first_command storage st.walk).walk (first_command storage st.walk).came e
+begin-meets storage s p t q (Some st) e = beginning-meets storage s p t q st (first_command storage st.walk).walk (first_command storage st.walk).outcome e
 
 abbrev with_hold : SubchannelState → HoldState → HoldPhase → SubchannelState
 with_hold s h phase = record s { hold = record h { phase = phase } }
@@ -173,7 +173,7 @@ begun-meets : (storage : Contents) (s : SubchannelState) (h : HoldState) (p t q 
 begun-meets storage s h p t q u true true e =
     let n : u ≡ t = e refl in
     let x = record s { hold = record h { phase = hold.On t q 0; seen = 0; first_path = Some q }; pmcw = with_path_used s.pmcw q } in
-    subst (λ (v : ℕ). Meets p (up.Accept v) (hold.Offer t q) (begins_at storage x q t (offered_position s)).came.taken (begins_at storage x q t (offered_position s)).came.sent
+    subst (λ (v : ℕ). Meets p (up.Accept v) (hold.Offer t q) (begins_at storage x q t (offered_position s)).outcome.taken (begins_at storage x q t (offered_position s)).outcome.sent
     (begins_at storage x q t (offered_position s)).state.hold.phase) (sym n)
     (begin-meets storage x p t q (offered_position s) refl)
 begun-meets storage s h p t q u false true e =
@@ -239,13 +239,13 @@ let-ended s y x q c e h =
     met-as x.path (end_up x) (hold.On x.number q c) s.hold.phase (hold.Letting x.number q) _ true (releases x.number q) _ e
     (lets-phase y.hold y.hold.phase x.number q c (phase-of s y h ∙ e)) (lets-sent y.hold y.hold.phase x.number q c (phase-of s y h ∙ e)) (Ends_last x x.number q c)
 
-chaining-meets : (storage : Contents) (s : SubchannelState) (b : ActiveProgram) (x : EndSignal) (q c : ℕ) (walk : WalkPlace) (r : CommandStart) → s.hold.phase ≡ hold.On x.number q c →
+chaining-meets : (storage : Contents) (s : SubchannelState) (b : ActiveProgram) (x : EndSignal) (q c : ℕ) (walk : WalkPosition) (r : CommandStart) → s.hold.phase ≡ hold.On x.number q c →
     IsMet x.path (end_up x) s (next_ccw_outcome storage s b x walk r)
-chaining-meets storage s b x q c walk (came.Begins transfer) e = ends-by s _ x q c _ e (moving-same s b (begun_with_room storage transfer).transfer) (Sends_command _ _ _ _ refl refl)
-chaining-meets storage s b x q c walk came.Suspends e =
+chaining-meets storage s b x q c walk (outcome.Begins transfer) e = ends-by s _ x q c _ e (moving-same s b (begun_with_room storage transfer).transfer) (Sends_command _ _ _ _ refl refl)
+chaining-meets storage s b x q c walk outcome.Suspends e =
     let same : IsSameHold (with_allegiance_after_end s x) _ = suspending-same (with_allegiance_after_end s x) b.program walk (residual b.transfer.moving) in
     let-ended s _ x q c e (same-then s (with_allegiance_after_end s x) _ (same-hold s (with_allegiance_after_end s x) refl refl) same)
-chaining-meets storage s b x q c walk (came.Stops check) e =
+chaining-meets storage s b x q c walk (outcome.Stops check) e =
     let same : IsSameHold (with_allegiance_after_end s x) _ = cause-same (with_allegiance_after_end s x) (cause.FetchFault walk.tried check (residual b.transfer.moving)) in
     let-ended s _ x q c e (same-then s (with_allegiance_after_end s x) _ (same-hold s (with_allegiance_after_end s x) refl refl) same)
 
@@ -278,7 +278,7 @@ end-meets storage s x =
 
 -- what the hold does alone
 abbrev Stepped : ℕ → Up → HoldState → Option HoldStep → Type 0
-Stepped p x h step = Meets p x h.phase (came_of step).taken (came_of step).sent (hold_after h step).phase
+Stepped p x h step = Meets p x h.phase (outcome_of step).taken (outcome_of step).sent (hold_after h step).phase
 
 abbrev phased : HoldState → HoldPhase → HoldState
 phased h phase = record h { phase = phase }
@@ -376,7 +376,7 @@ takes-meets returns storage s p (up.Notice b) = notice-met p b s
 takes-meets returns storage s p (up.Attn a status) =
     let step : Option HoldStep = hold_takes s.hold p (up.Attn a status) (may_take_attention s) in
     let next : SubchannelState = (hold_outcome s step).state in
-    let shows : Bool = (came_of step).taken && not (status.0 == 0x20) in
+    let shows : Bool = (outcome_of step).taken && not (status.0 == 0x20) in
     met-as p (up.Attn a status) s.hold.phase s.hold.phase next.hold.phase (with_attention next shows).hold.phase _ _ _ refl
     (phase-of next (with_attention next shows) (attention-same next shows)) refl
     (attended-stepped p s.hold s.hold.phase (up.Attn a status) a (may_take_attention s) tt)

@@ -13,10 +13,10 @@ use Rattle.chan_model.specs.declared.signal.OnPath.{OnPath}
 use Rattle.chan_model.specs.declared.signal.Up.TheVariants as up
 use Rattle.chan_events.specs.declared.reply.Reply.TheVariants as reply
 use Rattle.chan_model.specs.ConditionCodes.{in_order}
-use Rattle.chan_model.specs.HoldTable.{HoldStep, hold_after, came_of, program_begun, letting_go}
+use Rattle.chan_model.specs.HoldTable.{HoldStep, hold_after, outcome_of, program_begun, letting_go}
 use Rattle.ccw_walk.specs.declared.program.Advance.{Advance}
 use Rattle.ccw_walk.specs.declared.program.Advance.TheVariants as advance
-use Rattle.ccw_walk.specs.Places.{WalkPlace, after_acts}
+use Rattle.ccw_walk.specs.Positions.{WalkPosition, after_acts}
 use Rattle.ccw_walk.specs.Advancing.{advance_acts, advance_of_acts}
 use Rattle.data_move.specs.Accesses as access
 use Rattle.data_move.specs.Moving.{Moving}
@@ -24,7 +24,7 @@ use Rattle.ccw_walk.specs.declared.check.Check.{Check}
 use Rattle.orb_block.specs.declared.Orb.{Orb}
 use Rattle.storage_keys.specs.Storage.{Contents}
 use Rattle.data_move.specs.declared.transfer.CommandStart.{CommandStart}
-use Rattle.data_move.specs.declared.transfer.CommandStart.TheVariants as came
+use Rattle.data_move.specs.declared.transfer.CommandStart.TheVariants as outcome
 use Rattle.data_move.specs.declared.transfer.Transfer.{Transfer}
 use Rattle.data_move.specs.declared.transfer.WithRoom.{WithRoom}
 use Rattle.data_move.specs.Commands.{first_command, command_begins, begun_with_room, with_room, with_located}
@@ -143,14 +143,14 @@ tested-phase s = either (ends_suspended s.scsw) (tested s)
 
 -- the first command
 abbrev IsFirst : CommandStart → Type 0
-IsFirst (came.Begins transfer) = transfer.command ≡ 1
+IsFirst (outcome.Begins transfer) = transfer.command ≡ 1
 IsFirst c = Unit {0}
 
-begins-first : (walk : WalkPlace) (o : Option Advance) → IsFirst (command_begins walk 1 o)
+begins-first : (walk : WalkPosition) (o : Option Advance) → IsFirst (command_begins walk 1 o)
 begins-first walk (Some (advance.Takes ccw)) = refl
 begins-first walk other = tt
 
-first-first : (storage : Contents) (walk : WalkPlace) → IsFirst (first_command storage walk).came
+first-first : (storage : Contents) (walk : WalkPosition) → IsFirst (first_command storage walk).outcome
 first-first storage walk = begins-first (after_acts walk (advance_acts storage walk)) (advance_of_acts walk (advance_acts storage walk))
 
 located-command : (t : Transfer) (r : Result Moving Check) → (with_located t r).command ≡ t.command
@@ -172,28 +172,28 @@ begun-command storage t =
     (if-command (is_some t.fault) t t (with_located t r) refl (located-command t r)) refl
 
 -- Accept
-lets-sent : (h : HoldState) (phase : HoldPhase) (t q c : ℕ) → phase ≡ hold.On t q c → (came_of (letting_go h phase)).sent ≡ releases t q
-lets-sent h phase t q c e = subst (λ (y : HoldPhase). (came_of (letting_go h y)).sent ≡ releases t q) (sym e) refl
+lets-sent : (h : HoldState) (phase : HoldPhase) (t q c : ℕ) → phase ≡ hold.On t q c → (outcome_of (letting_go h phase)).sent ≡ releases t q
+lets-sent h phase t q c e = subst (λ (y : HoldPhase). (outcome_of (letting_go h y)).sent ≡ releases t q) (sym e) refl
 
-let-answered : (t q : ℕ) (x : SubchannelState) → x.hold.phase ≡ hold.On t q 0 → IsAnswered false t (device_released x).came.sent
+let-answered : (t q : ℕ) (x : SubchannelState) → x.hold.phase ≡ hold.On t q 0 → IsAnswered false t (device_released x).outcome.sent
 let-answered t q x e = subst (λ (o : Option (OnPath Down)). IsAnswered false t o) (sym (lets-sent x.hold x.hold.phase t q 0 e)) (inl refl)
 
-beginning-answered : (storage : Contents) (s : SubchannelState) (t q : ℕ) (st : ProgramPosition) (walk : WalkPlace) (c : CommandStart) → IsFirst c → s.hold.phase ≡ hold.On t q 0 →
-    IsAnswered false t (first_ccw_outcome storage s q t st walk c).came.sent
-beginning-answered storage s t q st walk (came.Begins transfer) f e =
+beginning-answered : (storage : Contents) (s : SubchannelState) (t q : ℕ) (st : ProgramPosition) (walk : WalkPosition) (c : CommandStart) → IsFirst c → s.hold.phase ≡ hold.On t q 0 →
+    IsAnswered false t (first_ccw_outcome storage s q t st walk c).outcome.sent
+beginning-answered storage s t q st walk (outcome.Begins transfer) f e =
     let x : WithRoom = begun_with_room storage transfer in
     inr (x.transfer.code, x.room, ap (λ (n : ℕ). down.Command t n x.transfer.code x.room) (begun-command storage transfer ∙ f))
-beginning-answered storage s t q st walk came.Suspends f e =
+beginning-answered storage s t q st walk outcome.Suspends f e =
     let x = program_suspended s st.program walk st.count in let-answered t q x (phase-of s x (suspending-same s st.program walk st.count) ∙ e)
-beginning-answered storage s t q st walk (came.Stops check) f e =
+beginning-answered storage s t q st walk (outcome.Stops check) f e =
     let x = with_cause s (cause.FetchFault walk.tried check st.count) in
     let-answered t q x (phase-of s x (cause-same s (cause.FetchFault walk.tried check st.count)) ∙ e)
 
 begin-answered : (storage : Contents) (s : SubchannelState) (t q : ℕ) (st : Option ProgramPosition) → is_some st ≡ true → s.hold.phase ≡ hold.On t q 0 →
-    IsAnswered false t (begins_at storage s q t st).came.sent
+    IsAnswered false t (begins_at storage s q t st).outcome.sent
 begin-answered storage s t q None h e = absurd (cc h)
 begin-answered storage s t q (Some st) h e =
-    beginning-answered storage s t q st (first_command storage st.walk).walk (first_command storage st.walk).came (first-first storage st.walk) e
+    beginning-answered storage s t q st (first_command storage st.walk).walk (first_command storage st.walk).outcome (first-first storage st.walk) e
 
 either-answered : (over : Bool) (t : ℕ) (sent : Option (OnPath Down)) → (over ≡ true → ⊥) → IsAnswered false t sent → IsAnswered over t sent
 either-answered true t sent n a = absurd (n refl)
@@ -210,19 +210,19 @@ abbrev pub offer_begun : HoldState → ℕ → ℕ → Bool → Bool → Option 
 offer_begun h t q may same = if same then Some (program_begun (record h { phase = hold.Offer t q }) t q may) else None
 
 begun-answered : (storage : Contents) (s : SubchannelState) (h : HoldState) (t q u : ℕ) (over may same : Bool) → (same ≡ true → u ≡ t) → (may ≡ true → is_some (offered_position s) ≡ true) →
-    (over ≡ true → may ≡ false) → (takes_accept storage (with_hold s h (hold.Offer t q)) (offer_begun h t q may same)).came.taken ≡ true →
-    IsAnswered over u (takes_accept storage (with_hold s h (hold.Offer t q)) (offer_begun h t q may same)).came.sent
+    (over ≡ true → may ≡ false) → (takes_accept storage (with_hold s h (hold.Offer t q)) (offer_begun h t q may same)).outcome.taken ≡ true →
+    IsAnswered over u (takes_accept storage (with_hold s h (hold.Offer t q)) (offer_begun h t q may same)).outcome.sent
 begun-answered storage s h t q u over true true e f g i =
     let n : u ≡ t = e refl in
     let x = record s { hold = record h { phase = hold.On t q 0; seen = 0; first_path = Some q }; pmcw = with_path_used s.pmcw q } in
-    subst (λ (v : ℕ). IsAnswered over v (begins_at storage x q t (offered_position s)).came.sent) (sym n)
-    (either-answered over t (begins_at storage x q t (offered_position s)).came.sent (λ y. absurd (cc (g y))) (begin-answered storage x t q (offered_position s) (f refl) refl))
+    subst (λ (v : ℕ). IsAnswered over v (begins_at storage x q t (offered_position s)).outcome.sent) (sym n)
+    (either-answered over t (begins_at storage x q t (offered_position s)).outcome.sent (λ y. absurd (cc (g y))) (begin-answered storage x t q (offered_position s) (f refl) refl))
 begun-answered storage s h t q u over false true e f g i = subst (λ (v : ℕ). IsAnswered over v (releases t q)) (sym (e refl)) (release-answered over t q)
 begun-answered storage s h t q u over may false e f g i = absurd (cc i)
 
 accept-answered : (returns : Bool) (storage : Contents) (s : SubchannelState) (h : HoldState) (phase : HoldPhase) (p u : ℕ) (over : Bool) → Tied over (with_hold s h phase) →
-    (takes_up returns storage (with_hold s h phase) p (up.Accept u)).step.came.taken ≡ true →
-    IsAnswered over u (takes_up returns storage (with_hold s h phase) p (up.Accept u)).step.came.sent
+    (takes_up returns storage (with_hold s h phase) p (up.Accept u)).step.outcome.taken ≡ true →
+    IsAnswered over u (takes_up returns storage (with_hold s h phase) p (up.Accept u)).step.outcome.sent
 accept-answered returns storage s h (hold.Offer t q) p u over k i =
     begun-answered storage s h t q u over (takes_device s) (u == t) (λ e. eqb-true u t e)
     (λ e. (and_parts (is_some (offered_position s)) (not s.scsw.activity.halt_pending) e).0)
@@ -234,10 +234,10 @@ taken-right over true u sent f = f refl
 taken-right over false u sent f = tt
 
 pub takes-right : (returns : Bool) (storage : Contents) (s : SubchannelState) (p : ℕ) (x : Up) (over : Bool) → Tied over s →
-    IsAcceptRight (reply.Up x (takes_up returns storage s p x).step.came.taken (takes_up returns storage s p x).step.came.sent) over
+    IsAcceptRight (reply.Up x (takes_up returns storage s p x).step.outcome.taken (takes_up returns storage s p x).step.outcome.sent) over
 takes-right returns storage s p (up.Accept t) over k =
     let step : UpStep = (takes_up returns storage s p (up.Accept t)).step in
-    taken-right over step.came.taken t step.came.sent (accept-answered returns storage s s.hold s.hold.phase p t over k)
+    taken-right over step.outcome.taken t step.outcome.sent (accept-answered returns storage s s.hold s.hold.phase p t over k)
 takes-right returns storage s p (up.Busy t) over k = tt
 takes-right returns storage s p (up.Leave t c) over k = tt
 takes-right returns storage s p (up.Back t c) over k = tt
@@ -267,14 +267,14 @@ if-same : (s : SubchannelState) (b : Bool) (x y : UpStep) → IsSameOr s x.state
 if-same s true x y e f = e
 if-same s false x y e f = f
 
-starts-taken : (storage : Contents) (s : SubchannelState) (p t : ℕ) (st : ProgramPosition) (walk : WalkPlace) (c : CommandStart) → (first_ccw_outcome storage s p t st walk c).came.taken ≡ true
-starts-taken storage s p t st walk (came.Begins transfer) = refl
-starts-taken storage s p t st walk came.Suspends = refl
-starts-taken storage s p t st walk (came.Stops check) = refl
+starts-taken : (storage : Contents) (s : SubchannelState) (p t : ℕ) (st : ProgramPosition) (walk : WalkPosition) (c : CommandStart) → (first_ccw_outcome storage s p t st walk c).outcome.taken ≡ true
+starts-taken storage s p t st walk (outcome.Begins transfer) = refl
+starts-taken storage s p t st walk outcome.Suspends = refl
+starts-taken storage s p t st walk (outcome.Stops check) = refl
 
-pub begin-taken : (storage : Contents) (s : SubchannelState) (p t : ℕ) (o : Option ProgramPosition) → (begins_at storage s p t o).came.taken ≡ true
+pub begin-taken : (storage : Contents) (s : SubchannelState) (p t : ℕ) (o : Option ProgramPosition) → (begins_at storage s p t o).outcome.taken ≡ true
 begin-taken storage s p t None = refl
-begin-taken storage s p t (Some st) = starts-taken storage s p t st (first_command storage st.walk).walk (first_command storage st.walk).came
+begin-taken storage s p t (Some st) = starts-taken storage s p t st (first_command storage st.walk).walk (first_command storage st.walk).outcome
 
 pub meets-accept : (p u : ℕ) (x : Up) (phase : HoldPhase) (taken : Bool) (sent : Option (OnPath Down)) (next : HoldPhase) (t q : ℕ) → x ≡ up.Accept u → taken ≡ true → Meets p x phase taken sent next →
     next ≡ hold.Offer t q → ⊥
@@ -283,8 +283,8 @@ meets-accept p u _ _ _ _ _ t q h i (Turns x phase next sent plain stays quiet) e
 meets-accept p u _ _ _ _ _ t q h i other e = absurd (cc e)
 
 begun-same : (storage : Contents) (s : SubchannelState) (h : HoldState) (p t q u : ℕ) (may same : Bool) →
-    Meets p (up.Accept u) (hold.Offer t q) (takes_accept storage (with_hold s h (hold.Offer t q)) (offer_begun h t q may same)).came.taken
-    (takes_accept storage (with_hold s h (hold.Offer t q)) (offer_begun h t q may same)).came.sent
+    Meets p (up.Accept u) (hold.Offer t q) (takes_accept storage (with_hold s h (hold.Offer t q)) (offer_begun h t q may same)).outcome.taken
+    (takes_accept storage (with_hold s h (hold.Offer t q)) (offer_begun h t q may same)).outcome.sent
     (takes_accept storage (with_hold s h (hold.Offer t q)) (offer_begun h t q may same)).state.hold.phase →
     IsSameOr (with_hold s h (hold.Offer t q)) (takes_accept storage (with_hold s h (hold.Offer t q)) (offer_begun h t q may same)).state
 begun-same storage s h p t q u true true m =
@@ -325,7 +325,7 @@ same-in returns storage s t q p x e =
 pub takes-tied : (returns : Bool) (storage : Contents) (s : SubchannelState) (p : ℕ) (x : Up) (over : Bool) → Tied over s → Tied over (takes_up returns storage s p x).step.state
 takes-tied returns storage s p x over k = λ t q e o.
     let step : UpStep = (takes_up returns storage s p x).step in
-    let old : s.hold.phase ≡ hold.Offer t q = meets-offer p x s.hold.phase step.came.taken step.came.sent step.state.hold.phase t q (takes-meets returns storage s p x) e in
+    let old : s.hold.phase ≡ hold.Offer t q = meets-offer p x s.hold.phase step.outcome.taken step.outcome.sent step.state.hold.phase t q (takes-meets returns storage s p x) e in
     elim (same-in returns storage s t q p x old) [
       | inl same ↦ subst (λ (y : SubchannelState). IsOver y) (sym same) (k t q old o)
       | inr n ↦ absurd (n t q e)

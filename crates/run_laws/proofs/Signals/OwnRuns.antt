@@ -25,70 +25,70 @@ use Rattle.subchannel_model.specs.Choosing.{chosen, marked_sub}
 use Rattle.subchannel_model.specs.Conditions.{condition_of}
 use Rattle.subchannel_model.specs.Halt.{hsch_code, halted}
 use Rattle.subchannel_model.specs.Opening.{opened}
-use Rattle.subchannel_model.specs.Places.{Found, place_in, place_of_id, found_at}
+use Rattle.subchannel_model.specs.Indices.{Found, index_in, index_of_id, found_at}
 use Rattle.subchannel_model.specs.Start.{started}
 use Rattle.machine_model.specs.declared.state.Sweep.{Sweep}
 use Rattle.chan_events.specs.Instructions.{subchannel_word}
 use Rattle.machine_model.specs.InstructionSteps.{code_at, function_sub}
 use Rattle.machine_model.specs.PathSteps.{swept}
-use Rattle.machine_model.specs.State.{State, opening_of, place_of}
+use Rattle.machine_model.specs.State.{State, opening_of, index_of}
 use Rattle.machine_model.specs.Steps.{Run, Opened, Stepped, Step}
-use Rattle.machine_model.specs.Turns.{SubTurn, UpTurn, DownTurn, with_state}
-use Rattle.step_laws.proofs.Places.{set-get, map-get, found-there}
+use Rattle.machine_model.specs.Results.{SubResult, UpResult, DownResult, with_state}
+use Rattle.step_laws.proofs.Indices.{set-get, map-get, found-there}
 use Rattle.step_laws.specs.Walks as walked
 use Rattle.step_laws.specs.Walks.{AreWalks, Walked, IsQuiet, is_start, OneSub}
-use Rattle.run_laws.proofs.Machine.Linked.{place-set}
+use Rattle.run_laws.proofs.Machine.Linked.{index-set}
 use Rattle.run_laws.specs.StateClaims.{is_id}
 use Rattle.run_laws.specs.BeginsItsOwn.{is_code_zero, over_by, over_chosen, over_after, IsEntryRight, AreRight, BeginsItsOwn}
 use Rattle.run_laws.proofs.Signals.Overs.{start-over, halt-over}
-use Rattle.run_laws.proofs.Signals.RunPaths.{place-map}
-use Rattle.run_laws.proofs.Machine.Names.{named-is, named-place}
+use Rattle.run_laws.proofs.Signals.RunPaths.{index-map}
+use Rattle.run_laws.proofs.Machine.Names.{named-is, named-index}
 use Rattle.run_laws.proofs.Signals.Starts.{start-within, halt-within}
 use Rattle.run_laws.proofs.Signals.OwnSteps.{Owned, Goes, test-goes, modify-goes, function-goes, IsTurn, choose-setup, chosen-owned, IsMet, up-owned, up-setup, IsApart, down-apart, step-apart, act-apart, swept-goes}
 use Rattle.chan_events.specs.declared.event.Instruction.{Instruction}
 use Rattle.step_laws.specs.Codes.{code_by}
 use Rattle.step_laws.proofs.Executed.{IsEffect, IsDone, code_for, reply_of, state_left}
-use Rattle.step_laws.proofs.Turns as turn
-use Rattle.step_laws.proofs.Turns.{TurnOf, HasTurn, step-turn}
+use Rattle.step_laws.proofs.Results as turn
+use Rattle.step_laws.proofs.Results.{ResultOf, HasResult, step-turn}
 
 -- of the subchannel of a name
 abbrev OwnedAt : SubchannelId → List Subchannel → Bool → Type 0
-OwnedAt id subs over = (place : ℕ) (sub : Subchannel) → place_in id subs ≡ Some place → slice_get subs place ≡ Some sub → Owned over sub.state
+OwnedAt id subs over = (index : ℕ) (sub : Subchannel) → index_in id subs ≡ Some index → slice_get subs index ≡ Some sub → Owned over sub.state
 
-owned-set : (id : SubchannelId) (subs : List Subchannel) (place : ℕ) (sub after : Subchannel) (over next : Bool) → slice_get subs place ≡ Some sub → after.setup ≡ sub.setup →
-    (place_in id subs ≡ Some place → Owned over sub.state → Owned next after.state) → ((place_in id subs ≡ Some place → ⊥) → next ≡ over) → OwnedAt id subs over →
-    OwnedAt id (slice_set subs place after) next
-owned-set id subs place sub after over next there same here other owned = λ i x named at.
-    let first : place_in id subs ≡ Some i = sym (place-set id subs place sub after there same) ∙ named in
-    elim (set-get subs place after i x at) [
+owned-set : (id : SubchannelId) (subs : List Subchannel) (index : ℕ) (sub after : Subchannel) (over next : Bool) → slice_get subs index ≡ Some sub → after.setup ≡ sub.setup →
+    (index_in id subs ≡ Some index → Owned over sub.state → Owned next after.state) → ((index_in id subs ≡ Some index → ⊥) → next ≡ over) → OwnedAt id subs over →
+    OwnedAt id (slice_set subs index after) next
+owned-set id subs index sub after over next there same here other owned = λ i x named at.
+    let first : index_in id subs ≡ Some i = sym (index-set id subs index sub after there same) ∙ named in
+    elim (set-get subs index after i x at) [
       | inl p ↦
-          let mine : place_in id subs ≡ Some place = first ∙ ap Some p.0 in
-          subst (λ (y : Subchannel). Owned next y.state) (sym p.1) (here mine (owned place sub mine there))
+          let mine : index_in id subs ≡ Some index = first ∙ ap Some p.0 in
+          subst (λ (y : Subchannel). Owned next y.state) (sym p.1) (here mine (owned index sub mine there))
       | inr p ↦ subst (λ (y : Bool). Owned y x.state) (sym (other (λ h. p.0 (cc (sym first ∙ h))))) (owned i x first p.1)
     ]
 
-goes-owned : (id : SubchannelId) (s new : State) (place : ℕ) (sub after : Subchannel) (over : Bool) → OneSub s new place sub after → Goes over over sub after → OwnedAt id s.subs over →
+goes-owned : (id : SubchannelId) (s new : State) (index : ℕ) (sub after : Subchannel) (over : Bool) → OneSub s new index sub after → Goes over over sub after → OwnedAt id s.subs over →
     OwnedAt id new.subs over
-goes-owned id s new place sub after over one m owned =
+goes-owned id s new index sub after over one m owned =
     subst (λ (xs : List Subchannel). OwnedAt id xs over) (sym one.subs)
-    (owned-set id s.subs place sub after over over one.there m.setup (λ h k. m.owned k) (λ h. refl) owned)
+    (owned-set id s.subs index sub after over over one.there m.setup (λ h k. m.owned k) (λ h. refl) owned)
 
-apart-owned : (id : SubchannelId) (subs : List Subchannel) (place : ℕ) (sub : Subchannel) (t : DownTurn) (over : Bool) → slice_get subs place ≡ Some sub → IsApart sub t → OwnedAt id subs over →
-    OwnedAt id (slice_set subs place t.sub) over
-apart-owned id subs place sub t over there m owned =
-    owned-set id subs place sub t.sub over over there m.setup (λ h k. subst (λ (x : SubchannelState). Owned over x) (sym m.state) k) (λ h. refl) owned
+apart-owned : (id : SubchannelId) (subs : List Subchannel) (index : ℕ) (sub : Subchannel) (t : DownResult) (over : Bool) → slice_get subs index ≡ Some sub → IsApart sub t → OwnedAt id subs over →
+    OwnedAt id (slice_set subs index t.sub) over
+apart-owned id subs index sub t over there m owned =
+    owned-set id subs index sub t.sub over over there m.setup (λ h k. subst (λ (x : SubchannelState). Owned over x) (sym m.state) k) (λ h. refl) owned
 
 swept-owned : (over : Bool) (what : Sweep) (id : SubchannelId) (subs : List Subchannel) → OwnedAt id subs over → OwnedAt id (map (swept what) subs) over
 swept-owned over what id subs owned = λ i x named at.
     let p = map-get (swept what) subs i x at in
     subst (λ (y : Subchannel). Owned over y.state) p.2
-    ((swept-goes over what p.0).owned (owned i p.0 (sym (place-map (swept what) (λ sub. (swept-goes over what sub).setup) id subs) ∙ named) p.1))
+    ((swept-goes over what p.0).owned (owned i p.0 (sym (index-map (swept what) (λ sub. (swept-goes over what sub).setup) id subs) ∙ named) p.1))
 
 -- HALT and CANCEL, by what they answer
 pub data Answered (s : State) (word : ℕ) (table : Condition → ConditionCode) (effect : SubchannelState → SubchannelState) : Reply → List Subchannel → Type 0 where
   Unfound : (r : Reply) → is_code_zero r ≡ false → Answered s word table effect r s.subs
-  There : (place : ℕ) (sub : Subchannel) → place_of s word ≡ Some place → slice_get s.subs place ≡ Some sub →
-      Answered s word table effect (function_sub sub (code_at table sub) (effect sub.state)).reply (slice_set s.subs place (function_sub sub (code_at table sub) (effect sub.state)).sub)
+  There : (index : ℕ) (sub : Subchannel) → index_of s word ≡ Some index → slice_get s.subs index ≡ Some sub →
+      Answered s word table effect (function_sub sub (code_at table sub) (effect sub.state)).reply (slice_set s.subs index (function_sub sub (code_at table sub) (effect sub.state)).sub)
 
 -- an instruction that answers its code, with the serials that it leaves, and has this effect
 abbrev HasEffect : Instruction → (SubchannelState → SubchannelState) → Type 0
@@ -96,29 +96,29 @@ HasEffect i effect = (sub : Subchannel) (x : SubchannelState) → IsEffect i sub
     (x ≡ effect sub.state) × (reply_of i (code_for i sub) sub.state (state_left i sub x) ≡ reply.Code (answer_of_code (code_for i sub) (state_left i sub x).serials))
 
 found-answered : (s : State) (i : Instruction) (effect : SubchannelState → SubchannelState) (q : Option Found) (p : Option ℕ) (r : Reply) (new : State) → HasEffect i effect →
-    code_by i (condition_of None) ≡ code.Three → place_of s (subchannel_word i) ≡ p → found_at s.subs p ≡ q → IsDone s i q r new → Answered s (subchannel_word i) (code_by i) effect r new.subs
+    code_by i (condition_of None) ≡ code.Three → index_of s (subchannel_word i) ≡ p → found_at s.subs p ≡ q → IsDone s i q r new → Answered s (subchannel_word i) (code_by i) effect r new.subs
 found-answered s i effect None p r new has three n e k =
     subst (λ (xs : List Subchannel). Answered s (subchannel_word i) (code_by i) effect r xs) (sym k.subs)
     (Unfound r (ap is_code_zero k.replies ∙ ap (λ (c : ConditionCode). is_code_zero (reply.Code (answer_of_code c (record { made = 0; cleared = 0 })))) three))
 found-answered s i effect (Some f) p r new has three n e k =
-    let there : (p ≡ Some f.place) × (slice_get s.subs f.place ≡ Some f.sub) = found-there s.subs p f e in
+    let there : (p ≡ Some f.index) × (slice_get s.subs f.index ≡ Some f.sub) = found-there s.subs p f e in
     let its : (k.effect ≡ effect f.sub.state) × (reply_of i (code_for i f.sub) f.sub.state (state_left i f.sub k.effect) ≡ reply.Code (answer_of_code (code_for i f.sub) (state_left i f.sub k.effect).serials)) =
     has f.sub k.effect k.is in
     subst (λ (xs : List Subchannel). Answered s (subchannel_word i) (code_by i) effect r xs)
-    (sym (k.subs ∙ ap (λ (x : SubchannelState). slice_set s.subs f.place (with_state f.sub (state_left i f.sub x))) its.0))
-    (subst (λ (y : Reply). Answered s (subchannel_word i) (code_by i) effect y (slice_set s.subs f.place (with_state f.sub (state_left i f.sub (effect f.sub.state)))))
+    (sym (k.subs ∙ ap (λ (x : SubchannelState). slice_set s.subs f.index (with_state f.sub (state_left i f.sub x))) its.0))
+    (subst (λ (y : Reply). Answered s (subchannel_word i) (code_by i) effect y (slice_set s.subs f.index (with_state f.sub (state_left i f.sub (effect f.sub.state)))))
     (sym (k.replies ∙ its.1 ∙ ap (λ (x : SubchannelState). reply.Code (answer_of_code (code_for i f.sub) (state_left i f.sub x).serials)) its.0))
-    (There f.place f.sub (n ∙ there.0) there.1))
+    (There f.index f.sub (n ∙ there.0) there.1))
 
 turn-answered : (s : State) (cpu : ℕ) (i : Instruction) (effect : SubchannelState → SubchannelState) (r : Reply) (new : State) → HasEffect i effect →
-    code_by i (condition_of None) ≡ code.Three → TurnOf s (event.Execute cpu i) r new → Answered s (subchannel_word i) (code_by i) effect r new.subs
+    code_by i (condition_of None) ≡ code.Three → ResultOf s (event.Execute cpu i) r new → Answered s (subchannel_word i) (code_by i) effect r new.subs
 turn-answered s _ _ effect _ _ has three (turn.Executes cpu i id q r storage subs n e blocks left done) =
-    found-answered s i effect q (place_in id s.subs) r (record s { storage = storage; subs = subs }) has three (ap (place_of_id s.subs) n) e done
+    found-answered s i effect q (index_in id s.subs) r (record s { storage = storage; subs = subs }) has three (ap (index_of_id s.subs) n) e done
 
 pub step-answered : (s : State) (cpu : ℕ) (i : Instruction) (effect : SubchannelState → SubchannelState) (r : Reply) (new : State) → HasEffect i effect →
     code_by i (condition_of None) ≡ code.Three → Step s (event.Execute cpu i) r new → Answered s (subchannel_word i) (code_by i) effect r new.subs
 step-answered s cpu i effect r new has three step =
-    let is : HasTurn s (event.Execute cpu i) r new = step-turn s (event.Execute cpu i) r new step in
+    let is : HasResult s (event.Execute cpu i) r new = step-turn s (event.Execute cpu i) r new step in
     subst (λ (x : State). Answered s (subchannel_word i) (code_by i) effect r x.subs) (sym is.settles) (turn-answered s cpu i effect r is.left has three is.turn)
 
 pub halt-answered : (s : State) (cpu word : ℕ) (r : Reply) (new : State) → Step s (event.Execute cpu (instruction.Hsch word)) r new → Answered s word hsch_code halted r new.subs
@@ -144,25 +144,25 @@ by-same true true over e = absurd (cc e)
 by-same true false over e = refl
 by-same false z over e = refl
 
-code-owned : (s : State) (id : SubchannelId) (word : ℕ) (effect : SubchannelState → SubchannelState) (over : Bool) (place : ℕ) (sub : Subchannel) (c : ConditionCode) →
-    place_of s word ≡ Some place → slice_get s.subs place ≡ Some sub → (c ≡ code.Zero → Owned over sub.state → Owned true (effect sub.state)) → OwnedAt id s.subs over →
-    OwnedAt id (slice_set s.subs place (function_sub sub c (effect sub.state)).sub)
+code-owned : (s : State) (id : SubchannelId) (word : ℕ) (effect : SubchannelState → SubchannelState) (over : Bool) (index : ℕ) (sub : Subchannel) (c : ConditionCode) →
+    index_of s word ≡ Some index → slice_get s.subs index ≡ Some sub → (c ≡ code.Zero → Owned over sub.state → Owned true (effect sub.state)) → OwnedAt id s.subs over →
+    OwnedAt id (slice_set s.subs index (function_sub sub c (effect sub.state)).sub)
     (if is_id (subchannel_named s.sets word) id then over_by (function_sub sub c (effect sub.state)).reply over else over)
-code-owned s id word effect over place sub code.Zero n there f owned =
+code-owned s id word effect over index sub code.Zero n there f owned =
     let named : Option SubchannelId = subchannel_named s.sets word in
-    owned-set id s.subs place sub (with_state sub (effect sub.state)) over (if is_id named id then true else over) there refl
-    (λ mine k. if-mine (is_id named id) true over (effect sub.state) (named-is s.subs id named place sub n mine there) (f refl k))
-    (λ not. if-else (is_id named id) true over (λ is. not (named-place s.subs id named place n is))) owned
-code-owned s id word effect over place sub c n there f owned =
-    subst (λ (b : Bool). OwnedAt id (slice_set s.subs place sub) b) (sym (if-both (is_id (subchannel_named s.sets word) id) over))
-    (owned-set id s.subs place sub sub over over there refl (λ h k. k) (λ h. refl) owned)
+    owned-set id s.subs index sub (with_state sub (effect sub.state)) over (if is_id named id then true else over) there refl
+    (λ mine k. if-mine (is_id named id) true over (effect sub.state) (named-is s.subs id named index sub n mine there) (f refl k))
+    (λ not. if-else (is_id named id) true over (λ is. not (named-index s.subs id named index n is))) owned
+code-owned s id word effect over index sub c n there f owned =
+    subst (λ (b : Bool). OwnedAt id (slice_set s.subs index sub) b) (sym (if-both (is_id (subchannel_named s.sets word) id) over))
+    (owned-set id s.subs index sub sub over over there refl (λ h k. k) (λ h. refl) owned)
 
 answered-owned : (s : State) (id : SubchannelId) (word : ℕ) (table : Condition → ConditionCode) (effect : SubchannelState → SubchannelState) (over : Bool) (r : Reply) (subs : List Subchannel) →
     ((sub : Subchannel) → table (condition_of (Some sub.state)) ≡ code.Zero → Owned over sub.state → Owned true (effect sub.state)) → Answered s word table effect r subs →
     OwnedAt id s.subs over → OwnedAt id subs (if is_id (subchannel_named s.sets word) id then over_by r over else over)
 answered-owned s id word table effect over _ _ f (Unfound r z) owned =
     subst (λ (b : Bool). OwnedAt id s.subs b) (sym (by-same (is_id (subchannel_named s.sets word) id) (is_code_zero r) over z)) owned
-answered-owned s id word table effect over _ _ f (There place sub n there) owned = code-owned s id word effect over place sub (code_at table sub) n there (f sub) owned
+answered-owned s id word table effect over _ _ f (There index sub n there) owned = code-owned s id word effect over index sub (code_at table sub) n there (f sub) owned
 
 halt-owned : (over : Bool) (sub : Subchannel) → hsch_code (condition_of (Some sub.state)) ≡ code.Zero → Owned over sub.state → Owned true (halted sub.state)
 halt-owned over sub e k = record { within = halt-within sub.state k.within; tied = λ t q h o. halt-over sub.state e }
@@ -214,52 +214,52 @@ quiet-right id s e r new over q step before after =
 walked-right : (id : SubchannelId) (s : State) (e : Event) (r : Reply) (new : State) (over : Bool) → Walked s e r new → Step s e r new → OwnedAt id s.subs over → IsRight id s e r new over
 walked-right id s _ _ _ over (walked.Stays e r new q sets subs units up) step owned =
     quiet-right id s e r new over q step owned (subst (λ (xs : List Subchannel). OwnedAt id xs over) (sym subs) owned)
-walked-right id s _ _ _ over (walked.Started cpu word address place sub orb c new n one) step owned = (
+walked-right id s _ _ _ over (walked.Started cpu word address index sub orb c new n one) step owned = (
   tt,
   subst (λ (xs : List Subchannel). OwnedAt id xs (if is_id (subchannel_named s.sets word) id then over_by (function_sub sub c (started sub.state orb)).reply over else over)) (sym one.subs)
-      (code-owned s id word (λ x. started x orb) over place sub c n one.there
+      (code-owned s id word (λ x. started x orb) over index sub c n one.there
       (λ e k. record { within = start-within sub.state orb k.within; tied = λ t q h o. start-over sub.state orb k.within }) owned),
 )
-walked-right id s _ _ _ over (walked.Tested e r place sub c new q one address by answers) step owned =
-    quiet-right id s e r new over q step owned (goes-owned id s new place sub _ over one (test-goes over sub c) owned)
-walked-right id s _ _ _ over (walked.Modified e r place sub given c new q one) step owned =
-    quiet-right id s e r new over q step owned (goes-owned id s new place sub _ over one (modify-goes over sub given c) owned)
-walked-right id s _ _ _ over (walked.Performed e r place sub f c new q one by answers) step owned =
-    quiet-right id s e r new over q step owned (goes-owned id s new place sub _ over one (function-goes over sub f c) owned)
-walked-right id s _ _ _ over (walked.Chosen word place sub choice t new n x w ok one) step owned =
+walked-right id s _ _ _ over (walked.Tested e r index sub c new q one address by answers) step owned =
+    quiet-right id s e r new over q step owned (goes-owned id s new index sub _ over one (test-goes over sub c) owned)
+walked-right id s _ _ _ over (walked.Modified e r index sub given c new q one) step owned =
+    quiet-right id s e r new over q step owned (goes-owned id s new index sub _ over one (modify-goes over sub given c) owned)
+walked-right id s _ _ _ over (walked.Performed e r index sub f c new q one by answers) step owned =
+    quiet-right id s e r new over q step owned (goes-owned id s new index sub _ over one (function-goes over sub f c) owned)
+walked-right id s _ _ _ over (walked.Chosen word index sub choice t new n x w ok one) step owned =
     let named : Option SubchannelId = subchannel_named s.sets word in
     let turn : Owned over sub.state → IsTurn over (marked_sub sub choice) t =
-    λ k. subst (λ (r : Result SubTurn Fault). IfOk r (IsTurn over (marked_sub sub choice))) ok (chosen-owned over sub choice k) in (
+    λ k. subst (λ (r : Result SubResult Fault). IfOk r (IsTurn over (marked_sub sub choice))) ok (chosen-owned over sub choice k) in (
       tt,
       subst (λ (xs : List Subchannel). OwnedAt id xs (if is_id named id then over_chosen t.reply over else over)) (sym one.subs)
-          (owned-set id s.subs place sub t.sub over _ one.there
-          (subst (λ (r : Result SubTurn Fault). IfOk r (λ t. t.sub.setup ≡ sub.setup)) ok (choose-setup (marked_sub sub choice) (chosen sub choice)))
-          (λ mine k. if-mine (is_id named id) (over_chosen t.reply over) over t.sub.state (named-is s.subs id named place sub n mine one.there) (turn k).owned)
-          (λ not. if-else (is_id named id) (over_chosen t.reply over) over (λ is. not (named-place s.subs id named place n is))) owned),
+          (owned-set id s.subs index sub t.sub over _ one.there
+          (subst (λ (r : Result SubResult Fault). IfOk r (λ t. t.sub.setup ≡ sub.setup)) ok (choose-setup (marked_sub sub choice) (chosen sub choice)))
+          (λ mine k. if-mine (is_id named id) (over_chosen t.reply over) over t.sub.state (named-is s.subs id named index sub n mine one.there) (turn k).owned)
+          (λ not. if-else (is_id named id) (over_chosen t.reply over) over (λ is. not (named-index s.subs id named index n is))) owned),
     )
-walked-right id s _ _ _ over (walked.Met word path returns place sub t new n ok one may) step owned =
+walked-right id s _ _ _ over (walked.Met word path returns index sub t new n ok one may) step owned =
     let named : Option SubchannelId = subchannel_named s.sets word in
-    let met : Owned over sub.state → IsMet over sub t = λ k. subst (λ (r : Result UpTurn Fault). IfOk r (IsMet over sub)) ok (up-owned over returns s.storage sub path k) in (
-      λ is. (met (owned place sub (named-place s.subs id named place n is) one.there)).right,
+    let met : Owned over sub.state → IsMet over sub t = λ k. subst (λ (r : Result UpResult Fault). IfOk r (IsMet over sub)) ok (up-owned over returns s.storage sub path k) in (
+      λ is. (met (owned index sub (named-index s.subs id named index n is) one.there)).right,
       subst (λ (xs : List Subchannel). OwnedAt id xs over) (sym one.subs)
-          (owned-set id s.subs place sub t.sub over over one.there
-          (subst (λ (r : Result UpTurn Fault). IfOk r (λ t. t.sub.setup ≡ sub.setup)) ok (up-setup returns s.storage sub path))
+          (owned-set id s.subs index sub t.sub over over one.there
+          (subst (λ (r : Result UpResult Fault). IfOk r (λ t. t.sub.setup ≡ sub.setup)) ok (up-setup returns s.storage sub path))
           (λ mine k. (met k).owned) (λ not. refl) owned),
     )
-walked-right id s _ _ _ over (walked.Sunk word path may owed place sub u t new n ok one) step owned = (
+walked-right id s _ _ _ over (walked.Sunk word path may owed index sub u t new n ok one) step owned = (
   tt,
   subst (λ (xs : List Subchannel). OwnedAt id xs over) (sym one.subs)
-      (apart-owned id s.subs place sub t over one.there (subst (λ (r : Result DownTurn Fault). IfOk r (IsApart sub)) ok (down-apart may sub path u)) owned),
+      (apart-owned id s.subs index sub t over one.there (subst (λ (r : Result DownResult Fault). IfOk r (IsApart sub)) ok (down-apart may sub path u)) owned),
 )
-walked-right id s _ _ _ over (walked.Reported at place sub u report t new n reached ok one) step owned = (
+walked-right id s _ _ _ over (walked.Reported at index sub u report t new n reached ok one) step owned = (
   tt,
   subst (λ (xs : List Subchannel). OwnedAt id xs over) (sym one.subs)
-      (apart-owned id s.subs place sub t over one.there (subst (λ (r : Result DownTurn Fault). IfOk r (IsApart sub)) ok (step-apart sub (unit_reports u report))) owned),
+      (apart-owned id s.subs index sub t over one.there (subst (λ (r : Result DownResult Fault). IfOk r (IsApart sub)) ok (step-apart sub (unit_reports u report))) owned),
 )
-walked-right id s _ _ _ over (walked.Acted at place sub u what t new side its ok one) step owned = (
+walked-right id s _ _ _ over (walked.Acted at index sub u what t new side its ok one) step owned = (
   tt,
   subst (λ (xs : List Subchannel). OwnedAt id xs over) (sym one.subs)
-      (apart-owned id s.subs place sub t over one.there (subst (λ (r : Result DownTurn Fault). IfOk r (IsApart sub)) ok (act-apart sub u what)) owned),
+      (apart-owned id s.subs index sub t over one.there (subst (λ (r : Result DownResult Fault). IfOk r (IsApart sub)) ok (act-apart sub u what)) owned),
 )
 walked-right id s _ _ _ over (walked.Restarted at owed u r new found sets subs units up) step owned = (tt, subst (λ (xs : List Subchannel). OwnedAt id xs over) (sym subs) owned)
 walked-right id s _ _ _ over (walked.Swept e r what new q sets subs units by) step owned =
@@ -268,15 +268,15 @@ walked-right id s _ _ _ over (walked.Swept e r what new q sets subs units by) st
 -- how many sets there are stays
 pub sets-stay : (s : State) (e : Event) (r : Reply) (new : State) → Walked s e r new → new.sets ≡ s.sets
 sets-stay s _ _ _ (walked.Stays e r new q sets subs units up) = sets
-sets-stay s _ _ _ (walked.Started cpu word address place sub orb c new n one) = one.sets
-sets-stay s _ _ _ (walked.Tested e r place sub c new q one address by answers) = one.sets
-sets-stay s _ _ _ (walked.Modified e r place sub given c new q one) = one.sets
-sets-stay s _ _ _ (walked.Performed e r place sub f c new q one by answers) = one.sets
-sets-stay s _ _ _ (walked.Chosen word place sub choice t new n x w ok one) = one.sets
-sets-stay s _ _ _ (walked.Met word path returns place sub t new n ok one may) = one.sets
-sets-stay s _ _ _ (walked.Sunk word path may owed place sub u t new n ok one) = one.sets
-sets-stay s _ _ _ (walked.Reported at place sub u report t new n reached ok one) = one.sets
-sets-stay s _ _ _ (walked.Acted at place sub u what t new side its ok one) = one.sets
+sets-stay s _ _ _ (walked.Started cpu word address index sub orb c new n one) = one.sets
+sets-stay s _ _ _ (walked.Tested e r index sub c new q one address by answers) = one.sets
+sets-stay s _ _ _ (walked.Modified e r index sub given c new q one) = one.sets
+sets-stay s _ _ _ (walked.Performed e r index sub f c new q one by answers) = one.sets
+sets-stay s _ _ _ (walked.Chosen word index sub choice t new n x w ok one) = one.sets
+sets-stay s _ _ _ (walked.Met word path returns index sub t new n ok one may) = one.sets
+sets-stay s _ _ _ (walked.Sunk word path may owed index sub u t new n ok one) = one.sets
+sets-stay s _ _ _ (walked.Reported at index sub u report t new n reached ok one) = one.sets
+sets-stay s _ _ _ (walked.Acted at index sub u what t new side its ok one) = one.sets
 sets-stay s _ _ _ (walked.Restarted at owed u r new found sets subs units up) = sets
 sets-stay s _ _ _ (walked.Swept e r what new q sets subs units by) = sets
 
@@ -301,8 +301,8 @@ record IsRunRight (sets : ℕ) (id : SubchannelId) (h : List Entry) (s : State) 
   right : AreRight sets id false h
 
 opened-owned : (setup : Setup) (id : SubchannelId) → OwnedAt id (opening_of setup).subs false
-opened-owned setup id place sub named e =
-    let p : (s : SubchannelSetup) × (slice_get setup.subchannels place ≡ Some s) × (opened s ≡ sub) = map-get opened setup.subchannels place sub e in
+opened-owned setup id index sub named e =
+    let p : (s : SubchannelSetup) × (slice_get setup.subchannels index ≡ Some s) × (opened s ≡ sub) = map-get opened setup.subchannels index sub e in
     subst (λ (y : Subchannel). Owned false y.state) p.2 (record { within = (omega arith, tt, tt, tt); tied = λ t q h o. absurd (cc o) })
 
 run-right : AreWalks → (setup : Setup) (id : SubchannelId) (h : List Entry) (s : State) → Run (opening_of setup) h s → IsRunRight (set_count setup) id h s

@@ -46,7 +46,7 @@ use Rattle.machine_model.specs.DownSteps.{down_front, down_sub}
 use Rattle.machine_model.specs.InstructionSteps.{function_sub, test_with}
 use Rattle.machine_model.specs.PathSteps.{swept}
 use Rattle.machine_model.specs.ReportSteps.{report_taken}
-use Rattle.machine_model.specs.Turns.{SubTurn, UpTurn, DownTurn, with_state}
+use Rattle.machine_model.specs.Results.{SubResult, UpResult, DownResult, with_state}
 use Rattle.machine_model.specs.UpSteps.{up_front, up_sub}
 use Rattle.step_laws.specs.Walks as walked
 use Rattle.step_laws.specs.Walks.{Function, Resumes, Clears, Cancels, effect_of}
@@ -133,7 +133,7 @@ idle-at sub choice t p =
 pub chosen-idle : (sub : Subchannel) (choice : Option ℕ) (t p : ℕ) → sub.state.hold.phase ≡ hold.Offer t p → chosen sub choice ≡ Idle
 chosen-idle sub choice t p e = subst (λ (y : HoldPhase). chosen (with_phase sub y) choice ≡ Idle) (sym e) (idle-at sub choice t p)
 
-pub record IsTurn (over : Bool) (sub : Subchannel) (t : SubTurn) : Type 0 where
+pub record IsTurn (over : Bool) (sub : Subchannel) (t : SubResult) : Type 0 where
   pub setup : t.sub.setup ≡ sub.setup
   pub owned : Owned (over_chosen t.reply over) t.sub.state
 
@@ -183,10 +183,10 @@ choose-owned over sub (Offers c path) m n k =
 
 pub choose-setup : (sub : Subchannel) (c : Chosen) → IfOk (choose_sub sub c) (λ t. t.sub.setup ≡ sub.setup)
 choose-setup sub (Resets r path) =
-    if-ok (λ (t : SubTurn). t.sub.setup ≡ sub.setup) (finds_full sub.wires.down (carried_by sub (Some (record { path = path; signal = down.Reset r sub.state.hold.known })))) _ _ tt refl
-choose-setup sub (Halts t path) = if-ok (λ (t : SubTurn). t.sub.setup ≡ sub.setup) (finds_full sub.wires.down (carried_by sub (Some (record { path = path; signal = down.Halt t })))) _ _ tt refl
+    if-ok (λ (t : SubResult). t.sub.setup ≡ sub.setup) (finds_full sub.wires.down (carried_by sub (Some (record { path = path; signal = down.Reset r sub.state.hold.known })))) _ _ tt refl
+choose-setup sub (Halts t path) = if-ok (λ (t : SubResult). t.sub.setup ≡ sub.setup) (finds_full sub.wires.down (carried_by sub (Some (record { path = path; signal = down.Halt t })))) _ _ tt refl
 choose-setup sub (Offers c path) =
-    if-ok (λ (t : SubTurn). t.sub.setup ≡ sub.setup) (finds_full sub.wires.down (carried_by sub (Some (record { path = path; signal = down.Select (sub.state.drawn + 1) })))) _ _ tt refl
+    if-ok (λ (t : SubResult). t.sub.setup ≡ sub.setup) (finds_full sub.wires.down (carried_by sub (Some (record { path = path; signal = down.Select (sub.state.drawn + 1) })))) _ _ tt refl
 choose-setup sub other = refl
 
 pub offered-or : (phase : HoldPhase) → ((t : ℕ) × (p : ℕ) × (phase ≡ hold.Offer t p)) ⊎ ((t p : ℕ) → phase ≡ hold.Offer t p → ⊥)
@@ -204,7 +204,7 @@ chosen-owned over sub choice k =
     ]
 
 -- a signal that came up
-pub record IsMet (over : Bool) (sub : Subchannel) (t : UpTurn) : Type 0 where
+pub record IsMet (over : Bool) (sub : Subchannel) (t : UpResult) : Type 0 where
   pub setup : t.sub.setup ≡ sub.setup
   pub owned : Owned over t.sub.state
   pub right : IsAcceptRight t.reply over
@@ -213,7 +213,7 @@ front-owned : (over returns : Bool) (storage : Contents) (sub : Subchannel) (pat
 front-owned over returns storage sub path None k = tt
 front-owned over returns storage sub path (Some x) k =
     let step : UpStep = (takes_up returns storage sub.state path x).step in
-    if-ok (IsMet over sub) (finds_full sub.wires.down (carried_by sub step.came.sent)) _ _ tt
+    if-ok (IsMet over sub) (finds_full sub.wires.down (carried_by sub step.outcome.sent)) _ _ tt
     (record {
       setup = refl;
       owned = record { within = takes-within returns storage sub.state path x k.within; tied = takes-tied returns storage sub.state path x over k.tied };
@@ -228,15 +228,15 @@ up-owned over returns storage sub path k =
 front-setup : (returns : Bool) (storage : Contents) (sub : Subchannel) (path : ℕ) (front : Option Up) → IfOk (up_front returns storage sub path front) (λ t. t.sub.setup ≡ sub.setup)
 front-setup returns storage sub path None = tt
 front-setup returns storage sub path (Some x) =
-    if-ok (λ (t : UpTurn). t.sub.setup ≡ sub.setup) (finds_full sub.wires.down (carried_by sub (takes_up returns storage sub.state path x).step.came.sent)) _ _ tt refl
+    if-ok (λ (t : UpResult). t.sub.setup ≡ sub.setup) (finds_full sub.wires.down (carried_by sub (takes_up returns storage sub.state path x).step.outcome.sent)) _ _ tt refl
 
 pub up-setup : (returns : Bool) (storage : Contents) (sub : Subchannel) (path : ℕ) → IfOk (up_sub returns storage sub path) (λ t. t.sub.setup ≡ sub.setup)
 up-setup returns storage sub path =
-    if-ok (λ (t : UpTurn). t.sub.setup ≡ sub.setup) (nat_lt path (length sub.setup.paths)) (up_front returns storage sub path (slice_get (queue sub.wires.up path) 0)) _
+    if-ok (λ (t : UpResult). t.sub.setup ≡ sub.setup) (nat_lt path (length sub.setup.paths)) (up_front returns storage sub path (slice_get (queue sub.wires.up path) 0)) _
     (front-setup returns storage sub path (slice_get (queue sub.wires.up path) 0)) tt
 
 -- a step of the unit
-pub record IsApart (sub : Subchannel) (t : DownTurn) : Type 0 where
+pub record IsApart (sub : Subchannel) (t : DownResult) : Type 0 where
   pub setup : t.sub.setup ≡ sub.setup
   pub state : t.sub.state ≡ sub.state
 
@@ -244,7 +244,7 @@ down_front-apart : (may : Bool) (sub : Subchannel) (path : ℕ) (u : UnitState) 
 down_front-apart may sub path u None = tt
 down_front-apart may sub path u (Some d) =
     let step : Option UnitStep = unit_takes u sub.setup.side path d may in
-    if-ok (IsApart sub) (finds_full sub.wires.up (carried_by sub (unit_table.came_of step).sent)) _ _ tt (record { setup = refl; state = refl })
+    if-ok (IsApart sub) (finds_full sub.wires.up (carried_by sub (unit_table.outcome_of step).sent)) _ _ tt (record { setup = refl; state = refl })
 
 pub down-apart : (may : Bool) (sub : Subchannel) (path : ℕ) (u : UnitState) → IfOk (down_sub may sub path u) (IsApart sub)
 down-apart may sub path u =

@@ -21,13 +21,13 @@ use Rattle.machine_model.specs.OtherSteps.{is_up}
 use Rattle.machine_model.specs.State.{State, configured_paths, opening_of}
 use Rattle.machine_model.specs.Steps.{Run, Opened, Stepped, Step}
 use Rattle.run_laws.proofs.Machine.SweptPaths.{set-here, set-other, set-default}
-use Rattle.step_laws.proofs.Places.{same-or-not}
+use Rattle.step_laws.proofs.Indices.{same-or-not}
 use Rattle.run_laws.specs.Links.{with_up}
 use Rattle.run_laws.specs.PathReports.{PathsSeen, marked, queued, reported, asked_by, paths_after, reset_code, IsEntryRight, AreRight, AnswersByPaths}
 use Rattle.run_laws.proofs.Signals.LinkPaths.{up-here, up-other, there-is}
 use Rattle.chan_model.specs.declared.answer.ConditionCode.{ConditionCode}
-use Rattle.step_laws.proofs.Turns as turn
-use Rattle.step_laws.proofs.Turns.{TurnOf, HasTurn, step-turn}
+use Rattle.step_laws.proofs.Results as turn
+use Rattle.step_laws.proofs.Results.{ResultOf, HasResult, step-turn}
 
 record IsSeen (k : PathsSeen) (up : List Bool) (w : WaitingReports) : Type 0 where
   up_seen : (c : ℕ) → c < 0x100 → k.up c ≡ is_up up c
@@ -159,7 +159,7 @@ asked-right k s chpid low seen =
     ∙ ap (λ (b : Bool). reset_code (record { up = λ c. b; asked = λ c. reports.is_asked s.reports chpid; reports = [] }) 0) (sym (seen.up_seen chpid low))
     ∙ ap (λ (b : Bool). reset_code (record { up = λ c. k.up chpid; asked = λ c. b; reports = [] }) 0) (sym (seen.asked_seen chpid))
 
-turn-seen : (k : PathsSeen) (s : State) (e : Event) (r : Reply) (new : State) → TurnOf s e r new → IsSeen k s.up s.reports → IsStepSeen k e r new
+turn-seen : (k : PathsSeen) (s : State) (e : Event) (r : Reply) (new : State) → ResultOf s e r new → IsSeen k s.up s.reports → IsStepSeen k e r new
 turn-seen k s _ _ _ (turn.AsksReset cpu path) seen =
     let chpid : ℕ = field_of path 24 31 in
     let low : chpid < 0x100 = byte-low path in
@@ -182,7 +182,7 @@ turn-seen k s _ _ _ t seen = record { right = tt; seen = seen }
 
 step-seen : (k : PathsSeen) (s : State) (e : Event) (r : Reply) (new : State) → Step s e r new → IsSeen k s.up s.reports → IsStepSeen k e r new
 step-seen k s e r new step seen =
-    let is : HasTurn s e r new = step-turn s e r new step in
+    let is : HasResult s e r new = step-turn s e r new step in
     let now : IsStepSeen k e r is.left = turn-seen k s e r is.left is.turn seen in
     subst (IsStepSeen k e r) (sym is.settles) (record { right = now.right; seen = now.seen })
 

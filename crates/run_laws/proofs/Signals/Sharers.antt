@@ -18,7 +18,7 @@ use Rattle.control_units.specs.declared.Member.{Member}
 use Rattle.control_units.specs.Units.{any_other, is_begun_in, member_told, may_serve, may_serve_at, begun_at, over_at}
 use Rattle.machine_model.specs.Setups.{group_of}
 use Rattle.machine_model.specs.Sharing.{is_asked_for, members_asked, is_let_go, members_over, members_after}
-use Rattle.step_laws.proofs.Places.{set-get, map-get, same-or-not}
+use Rattle.step_laws.proofs.Indices.{set-get, map-get, same-or-not}
 use Rattle.run_laws.specs.Devices.{Held, Holding}
 use Rattle.run_laws.specs.OneHolder.{Seen, IsFree}
 use Rattle.run_laws.proofs.Signals.UnitMoves.{side-own}

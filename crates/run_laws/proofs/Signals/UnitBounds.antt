@@ -10,7 +10,7 @@ use Rattle.chan_model.specs.declared.signal.Down.TheVariants as down
 use Rattle.chan_model.specs.declared.signal.OnPath.{OnPath}
 use Rattle.chan_model.specs.declared.signal.Up.TheVariants as up
 use Rattle.chan_model.specs.declared.unit_state.UnitState.{UnitState}
-use Rattle.step_laws.proofs.Places.{same-or-not}
+use Rattle.step_laws.proofs.Indices.{same-or-not}
 use Rattle.wires.specs.Queues.{queue, taken}
 use Rattle.subchannel_model.specs.Sending.{carried, with_any_sent}
 use Rattle.agreement_laws.specs.PathsSeen.{Connected}

@@ -10,7 +10,7 @@ use Rattle.chan_model.specs.declared.unit_state.CurrentCommand.{CurrentCommand}
 use Rattle.chan_model.specs.declared.unit_state.Own.{Own}
 use Rattle.chan_model.specs.declared.unit_state.Own.TheVariants as own
 use Rattle.chan_model.specs.declared.unit_state.Connection.{Connection}
-use Rattle.chan_model.specs.declared.unit_state.Connection.TheVariants as place
+use Rattle.chan_model.specs.declared.unit_state.Connection.TheVariants as connection
 use Rattle.chan_model.specs.declared.unit_state.Progress.{Progress}
 use Rattle.chan_model.specs.declared.unit_state.Progress.TheVariants as progress
 use Rattle.chan_model.specs.declared.unit_state.SideState.{SideState}
@@ -27,14 +27,14 @@ use Rattle.run_laws.proofs.Signals.Ties.{linked}
 use Rattle.step_laws.specs.Walks.{IsOfSide}
 
 -- where the program of a side is connected
-abbrev pub on_place : ℕ → Connection → Option Connected
-on_place t (place.On p c) = Some (linked t p c)
-on_place t (place.Ask p c) = None
-on_place t (place.Away c) = None
+abbrev pub on_connection : ℕ → Connection → Option Connected
+on_connection t (connection.On p c) = Some (linked t p c)
+on_connection t (connection.Ask p c) = None
+on_connection t (connection.Away c) = None
 
 abbrev pub on_side : Own → Side → Option Connected
 on_side own.Idle side = None
-on_side (own.Owned k t at) side = if same_side k side then on_place t at else None
+on_side (own.Owned k t at) side = if same_side k side then on_connection t at else None
 
 -- it stays there, or is connected no more
 abbrev pub IsOff : Option Connected → Option Connected → Type 0
@@ -60,7 +60,7 @@ other-own : (u v : UnitState) (side j : Side) → same_side side j ≡ false →
 other-own u v side j n (inl e) = inl (ap (λ (o : Own). on_side o j) e)
 other-own u v side j n (inr (inl e)) = inr (ap (λ (o : Own). on_side o j) e)
 other-own u v side j n (inr (inr h)) =
-    inr (ap (λ (o : Own). on_side o j) h.2 ∙ ap (λ (b : Bool). if b then on_place h.0 h.1 else None) n)
+    inr (ap (λ (o : Own). on_side o j) h.2 ∙ ap (λ (b : Bool). if b then on_connection h.0 h.1 else None) n)
 
 pub other-less : (u v : UnitState) (side j : Side) → IsOther u v side → same_side side j ≡ false → IsLess u v j
 other-less u v side j k n = record { floor = let e : floor_of v j ≡ floor_of u j = k.floor j n in omega (arith, e); off = other-own u v side j n k.own }
@@ -127,14 +127,14 @@ taken-others : (u : UnitState) (side : Side) (p : ℕ) (d : Down) (step : Option
 taken-others u side p _ _ (Ignores d) = stays u side
 taken-others u side p _ _ (Notices d fresh) = stays u side
 taken-others u side p _ _ (Accepts t above idle) = record {
-  floor = λ j n. freed-side (raised u side t) (own.Owned side t (place.On p 0)) j ∙ side-floor u side _ j n;
-  own = inr (inr (t, place.On p 0, refl));
+  floor = λ j n. freed-side (raised u side t) (own.Owned side t (connection.On p 0)) j ∙ side-floor u side _ j n;
+  own = inr (inr (t, connection.On p 0, refl));
 }
 taken-others u side p _ _ (Denies t above) = record { floor = λ j n. side-floor u side _ j n; own = inl (side-own u side _) }
 taken-others u side p _ _ (Begins t n code room at is next) = same-own u _ side refl refl refl
-taken-others u side p _ _ (Joins t c q is) = owns-now u _ side refl refl (inr (inr (t, place.On q c, refl)))
+taken-others u side p _ _ (Joins t c q is) = owns-now u _ side refl refl (inr (inr (t, connection.On q c, refl)))
 taken-others u side p _ _ (Leaves t c at is) = stays u side
-taken-others u side p _ _ (Parts t c q is) = owns-now u _ side refl refl (inr (inr (t, place.Away c, refl)))
+taken-others u side p _ _ (Parts t c q is) = owns-now u _ side refl refl (inr (inr (t, connection.Away c, refl)))
 taken-others u side p _ _ (Answers t s room at x load is hand last loaded) = same-own u _ side refl refl refl
 taken-others u side p _ _ (Gives bytes t c s q x is hand next) = same-own u _ side refl refl refl
 taken-others u side p _ _ (Halts t at is first) = same-own u _ side refl refl refl
@@ -149,7 +149,7 @@ pub takes-others : (u : UnitState) (side : Side) (p : ℕ) (d : Down) (may : Boo
 takes-others u side p d may = taken-others u side p d _ (takes-by u side p d may)
 
 -- reports change what is at hand
-data-others : (u : UnitState) (side : Side) (x : CurrentCommand) → IsOther u (record u { at_hand = Some x }) side
+data-others : (u : UnitState) (side : Side) (x : CurrentCommand) → IsOther u (record u { current = Some x }) side
 data-others u side x = same-own u _ side refl refl refl
 
 absorbed-others : (u : UnitState) (side : Side) (p t c : ℕ) (x : CurrentCommand) (given : Option (List ℕ)) (count : ℕ) → Others u side (report_absorbed u p t c x given count)
@@ -178,35 +178,35 @@ answer-others u side p t c x progress.Ended answer.Again = stays u side
 answer-others u side p t c x progress.ChannelEnded other = stays u side
 
 report_on-others : (u : UnitState) (side : Side) (t : ℕ) (at : Connection) (x : Option CurrentCommand) (r : Report) → Others u side (report_on u t at x r)
-report_on-others u side t (place.On p c) None r = stays u side
-report_on-others u side t (place.On p c) (Some x) r =
+report_on-others u side t (connection.On p c) None r = stays u side
+report_on-others u side t (connection.On p c) (Some x) r =
     if-others u side (r.sequence == x.sequence) (answer_taken u p t c x x.progress r.answer) None (λ e. answer-others u side p t c x x.progress r.answer) (stays u side)
-report_on-others u side t (place.Ask p c) x r = stays u side
-report_on-others u side t (place.Away c) x r = stays u side
+report_on-others u side t (connection.Ask p c) x r = stays u side
+report_on-others u side t (connection.Away c) x r = stays u side
 
 report_of-others : (u : UnitState) (side : Side) (o : Own) (r : Report) → Others u side (report_of u o r)
 report_of-others u side own.Idle r = stays u side
 report_of-others u side (own.Owned k t at) r =
-    if-others u side (same_side k r.side && ((r.number == t) && (r.command == u.last_command))) (report_on u t at u.at_hand r) None
-    (λ e. report_on-others u side t at u.at_hand r) (stays u side)
+    if-others u side (same_side k r.side && ((r.number == t) && (r.command == u.last_command))) (report_on u t at u.current r) None
+    (λ e. report_on-others u side t at u.current r) (stays u side)
 
 pub reports-others : (u : UnitState) (side : Side) (r : Report) → Others u side (unit_reports u r)
 reports-others u side r = report_of-others u side u.own r
 
 -- acts
 leaving_from-others : (u : UnitState) (side : Side) (t : ℕ) (at : Connection) → Others u side (leaving_from u side t at)
-leaving_from-others u side t (place.On p c) = owns-now u _ side refl refl (inr (inr (t, place.Away c, refl)))
-leaving_from-others u side t (place.Ask p c) = stays u side
-leaving_from-others u side t (place.Away c) = stays u side
+leaving_from-others u side t (connection.On p c) = owns-now u _ side refl refl (inr (inr (t, connection.Away c, refl)))
+leaving_from-others u side t (connection.Ask p c) = stays u side
+leaving_from-others u side t (connection.Away c) = stays u side
 
 leaving-others : (u : UnitState) (o : Own) (side : Side) → ((k : Side) (t : ℕ) (at : Connection) → o ≡ own.Owned k t at → k ≡ side) → Others u side (leaving u o)
 leaving-others u own.Idle side f = stays u side
 leaving-others u (own.Owned k t at) side f = subst (λ (j : Side). IsOther u (unit_after u (leaving_from u k t at)) j) (f k t at refl) (leaving_from-others u k t at)
 
 asking_from-others : (u : UnitState) (side : Side) (t : ℕ) (at : Connection) (p : ℕ) → Others u side (asking_from u side t at p)
-asking_from-others u side t (place.On q c) p = stays u side
-asking_from-others u side t (place.Ask q c) p = owns-now u _ side refl refl (inr (inr (t, place.Ask p (c + 1), refl)))
-asking_from-others u side t (place.Away c) p = owns-now u _ side refl refl (inr (inr (t, place.Ask p (c + 1), refl)))
+asking_from-others u side t (connection.On q c) p = stays u side
+asking_from-others u side t (connection.Ask q c) p = owns-now u _ side refl refl (inr (inr (t, connection.Ask p (c + 1), refl)))
+asking_from-others u side t (connection.Away c) p = owns-now u _ side refl refl (inr (inr (t, connection.Ask p (c + 1), refl)))
 
 asking-others : (u : UnitState) (o : Own) (side : Side) (p : ℕ) → ((k : Side) (t : ℕ) (at : Connection) → o ≡ own.Owned k t at → k ≡ side) → Others u side (asking u o p)
 asking-others u own.Idle side p f = stays u side

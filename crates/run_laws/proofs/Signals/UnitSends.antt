@@ -16,13 +16,13 @@ use Rattle.chan_model.specs.declared.unit_state.Attention.{Attention}
 use Rattle.chan_model.specs.declared.unit_state.Own.{Own}
 use Rattle.chan_model.specs.declared.unit_state.Own.TheVariants as own
 use Rattle.chan_model.specs.declared.unit_state.Connection.{Connection}
-use Rattle.chan_model.specs.declared.unit_state.Connection.TheVariants as place
+use Rattle.chan_model.specs.declared.unit_state.Connection.TheVariants as connection
 use Rattle.chan_model.specs.declared.unit_state.Progress.{Progress}
 use Rattle.chan_model.specs.declared.unit_state.Progress.TheVariants as progress
 use Rattle.chan_model.specs.declared.unit_state.UnitState.{UnitState}
 use Rattle.chan_model.specs.Sides.{same_side}
 use Rattle.chan_model.specs.UnitReports.{is_outward, may_end, most_of, is_to_supply, answer_taken, report_on, report_of, unit_reports, report_absorbed, sent_again}
-use Rattle.chan_model.specs.UnitTable.{UnitStep, came_of, unit_after, side_of, freed, raised, owns, telling, unit_takes, leaving_from, leaving, asking_from, asking, is_idle, marked_again, new_command, at_hand_answered, with_given, reset_side, without_side}
+use Rattle.chan_model.specs.UnitTable.{UnitStep, outcome_of, unit_after, side_of, freed, raised, owns, telling, unit_takes, leaving_from, leaving, asking_from, asking, is_idle, marked_again, new_command, current_answered, with_given, reset_side, without_side}
 use Rattle.chan_model.proofs.TakenSignals as taken
 use Rattle.agreement_laws.proofs.SeenSignals.{IsResetAbove}
 use Rattle.chan_events.specs.declared.event.UnitAct.{UnitAct}
@@ -33,7 +33,7 @@ use Rattle.step_laws.specs.Walks.{IsOfSide}
 use Rattle.agreement_laws.specs.PathsSeen.{Connected}
 use Rattle.run_laws.proofs.Signals.Meets.{IsPlainUp}
 use Rattle.run_laws.proofs.Signals.Ties.{linked}
-use Rattle.run_laws.proofs.Signals.UnitMoves.{on_place, on_side, IsOff, floor_of, IsLess, side-own, here-floor, freed-floor, freed-side, owner-of-act}
+use Rattle.run_laws.proofs.Signals.UnitMoves.{on_connection, on_side, IsOff, floor_of, IsLess, side-own, here-floor, freed-floor, freed-side, owner-of-act}
 
 abbrev pub ArePlainUp : Option (OnPath Up) → Type 0
 ArePlainUp None = Unit {0}
@@ -65,10 +65,10 @@ pub data Acts (side : Side) (u : UnitState) : Option (OnPath Up) → UnitState �
       on_side v.own side ≡ on_side u.own side → Acts side u (sends_up p x) v
 
 abbrev TakesIn : Side → UnitState → ℕ → Down → Option UnitStep → Type 0
-TakesIn side u p d step = Takes side u p d (came_of step).sent (unit_after u step)
+TakesIn side u p d step = Takes side u p d (outcome_of step).sent (unit_after u step)
 
 abbrev ActsOut : Side → UnitState → Option UnitStep → Type 0
-ActsOut side u step = Acts side u (came_of step).sent (unit_after u step)
+ActsOut side u step = Acts side u (outcome_of step).sent (unit_after u step)
 
 if-acts : (side : Side) (u : UnitState) (b : Bool) (x y : Option UnitStep) → (b ≡ true → ActsOut side u x) → ActsOut side u y → ActsOut side u (if b then x else y)
 if-acts side u true x y e f = e refl
@@ -84,7 +84,7 @@ less u v side o f = record { floor = omega (arith, f); off = inl (ap (λ (x : Ow
 off : (u v : UnitState) (side : Side) → floor_of v side ≡ floor_of u side → on_side v.own side ≡ None → IsLess u v side
 off u v side f o = record { floor = omega (arith, f); off = inr o }
 
-hand-floor : (u : UnitState) (x : Option CurrentCommand) (side : Side) → floor_of (record u { at_hand = x }) side ≡ floor_of u side
+hand-floor : (u : UnitState) (x : Option CurrentCommand) (side : Side) → floor_of (record u { current = x }) side ≡ floor_of u side
 hand-floor u x First = refl
 hand-floor u x Second = refl
 
@@ -95,10 +95,10 @@ own-floor : (u : UnitState) (o : Own) (side : Side) → floor_of (record u { own
 own-floor u o First = refl
 own-floor u o Second = refl
 
-on-owned : (side : Side) (t : ℕ) (at : Connection) → on_side (own.Owned side t at) side ≡ on_place t at
-on-owned side t at = ap (λ (b : Bool). if b then on_place t at else None) (same-side side)
+on-owned : (side : Side) (t : ℕ) (at : Connection) → on_side (own.Owned side t at) side ≡ on_connection t at
+on-owned side t at = ap (λ (b : Bool). if b then on_connection t at else None) (same-side side)
 
-commanded-floor : (u : UnitState) (n : ℕ) (x : Option CurrentCommand) (side : Side) → floor_of (record u { last_command = n; at_hand = x }) side ≡ floor_of u side
+commanded-floor : (u : UnitState) (n : ℕ) (x : Option CurrentCommand) (side : Side) → floor_of (record u { last_command = n; current = x }) side ≡ floor_of u side
 commanded-floor u n x First = refl
 commanded-floor u n x Second = refl
 
@@ -130,16 +130,16 @@ taken-takes : (side : Side) (u : UnitState) (p : ℕ) (d : Down) (step : Option 
 taken-takes side u p _ _ above (taken.Ignores d) = Rests d None u tt (still u side)
 taken-takes side u p _ _ above (taken.Notices d fresh) = Rests d _ u tt (still u side)
 taken-takes side u p _ _ above (taken.Accepts t high idle) =
-    Accepts t _ high (freed-side (raised u side t) (own.Owned side t (place.On p 0)) side ∙ here-floor u side _) (on-owned side t (place.On p 0))
+    Accepts t _ high (freed-side (raised u side t) (own.Owned side t (connection.On p 0)) side ∙ here-floor u side _) (on-owned side t (connection.On p 0))
 taken-takes side u p _ _ above (taken.Denies t high) =
     Rests _ _ (raised u side t) tt
     (record { floor = let f : floor_of (raised u side t) side ≡ t = here-floor u side _ in omega (arith, f, high); off = inl (ap (λ (x : Own). on_side x side) (side-own u side _)) })
 taken-takes side u p _ _ above (taken.Begins t n code room at is next) = Rests _ None _ tt (less u _ side refl (commanded-floor u n (Some (new_command code room)) side))
-taken-takes side u p _ _ above (taken.Joins t c q is) = Joins t c q _ (own-floor u (own.Owned side t (place.On q c)) side) (on-owned side t (place.On q c))
+taken-takes side u p _ _ above (taken.Joins t c q is) = Joins t c q _ (own-floor u (own.Owned side t (connection.On q c)) side) (on-owned side t (connection.On q c))
 taken-takes side u p _ _ above (taken.Leaves t c at is) = Answers t c
-taken-takes side u p _ _ above (taken.Parts t c q is) = Rests _ None _ tt (off u _ side (own-floor u (own.Owned side t (place.Away c)) side) (on-owned side t (place.Away c)))
+taken-takes side u p _ _ above (taken.Parts t c q is) = Rests _ None _ tt (off u _ side (own-floor u (own.Owned side t (connection.Away c)) side) (on-owned side t (connection.Away c)))
 taken-takes side u p _ _ above (taken.Answers t s room at x load is hand last loaded) =
-    Rests _ None _ tt (less u _ side refl (hand-floor u (Some (at_hand_answered x load room)) side))
+    Rests _ None _ tt (less u _ side refl (hand-floor u (Some (current_answered x load room)) side))
 taken-takes side u p _ _ above (taken.Gives bytes t c s q x is hand next) = Rests _ None _ tt (less u _ side refl (hand-floor u (Some (with_given x s bytes)) side))
 taken-takes side u p _ _ above (taken.Halts t at is first) = Rests _ None _ tt (less u _ side refl (halted-floor u true side))
 taken-takes side u p _ _ above (taken.Frees t at is) = Rests _ _ (freed u) tt (off u (freed u) side (freed-floor u side) refl)
@@ -153,10 +153,10 @@ takes-takes side u p d may above = taken-takes side u p d _ above (taken.takes-b
 abbrev IsOn : UnitState → Side → ℕ → ℕ → ℕ → Type 0
 IsOn u side t p c = on_side u.own side ≡ Some (linked t p c)
 
-data-sends : (side : Side) (u : UnitState) (p t c n s : ℕ) (x : CurrentCommand) (load : Load) → IsOn u side t p c → Acts side u (sends_up p (up.Data load t c n s)) (record u { at_hand = Some x })
+data-sends : (side : Side) (u : UnitState) (p t c n s : ℕ) (x : CurrentCommand) (load : Load) → IsOn u side t p c → Acts side u (sends_up p (up.Data load t c n s)) (record u { current = Some x })
 data-sends side u p t c n s x load on = Sends t p c (up.Data load t c n s) _ (refl, refl) on (hand-floor u (Some x) side) refl
 
-hand-acts : (side : Side) (u : UnitState) (x : CurrentCommand) → Acts side u None (record u { at_hand = Some x })
+hand-acts : (side : Side) (u : UnitState) (x : CurrentCommand) → Acts side u None (record u { current = Some x })
 hand-acts side u x = Idles None _ tt (less u _ side refl (hand-floor u (Some x) side))
 
 absorbed-acts : (side : Side) (u : UnitState) (p t c : ℕ) (x : CurrentCommand) (given : Option (List ℕ)) (count : ℕ) → IsOn u side t p c → ActsOut side u (report_absorbed u p t c x given count)
@@ -168,7 +168,7 @@ again-acts side u p t c x None on = idles side u
 again-acts side u p t c x (Some load) on = if-acts side u x.again _ None (λ e. data-sends side u p t c _ _ _ _ on) (idles side u)
 
 end-acts : (side : Side) (u : UnitState) (p t c : ℕ) (x : CurrentCommand) (n : ℕ) (status : DeviceStatus) (more : Bool) → IsOn u side t p c →
-    Acts side u (sends_up p (up.End t n status more)) (record u { at_hand = Some x })
+    Acts side u (sends_up p (up.End t n status more)) (record u { current = Some x })
 end-acts side u p t c x n status more on = Sends t p c (up.End t n status more) _ refl on (hand-floor u (Some x) side) refl
 
 answer-acts : (side : Side) (u : UnitState) (p t c : ℕ) (x : CurrentCommand) (at : Progress) (a : DeviceAnswer) → IsOn u side t p c → ActsOut side u (answer_taken u p t c x at a)
@@ -188,47 +188,47 @@ answer-acts side u p t c x progress.Ended (answer.Supplied bytes) on = idles sid
 answer-acts side u p t c x progress.Ended answer.Again on = idles side u
 answer-acts side u p t c x progress.ChannelEnded other on = idles side u
 
-owned-on : (u : UnitState) (side k : Side) (t : ℕ) (at : Connection) → u.own ≡ own.Owned k t at → same_side k side ≡ true → on_side u.own side ≡ on_place t at
-owned-on u side k t at e s = ap (λ (o : Own). on_side o side) e ∙ ap (λ (b : Bool). if b then on_place t at else None) s
+owned-on : (u : UnitState) (side k : Side) (t : ℕ) (at : Connection) → u.own ≡ own.Owned k t at → same_side k side ≡ true → on_side u.own side ≡ on_connection t at
+owned-on u side k t at e s = ap (λ (o : Own). on_side o side) e ∙ ap (λ (b : Bool). if b then on_connection t at else None) s
 
-report_on-acts : (side : Side) (u : UnitState) (t : ℕ) (at : Connection) (x : Option CurrentCommand) (r : Report) → on_side u.own side ≡ on_place t at → ActsOut side u (report_on u t at x r)
-report_on-acts side u t (place.On p c) None r on = idles side u
-report_on-acts side u t (place.On p c) (Some x) r on =
+report_on-acts : (side : Side) (u : UnitState) (t : ℕ) (at : Connection) (x : Option CurrentCommand) (r : Report) → on_side u.own side ≡ on_connection t at → ActsOut side u (report_on u t at x r)
+report_on-acts side u t (connection.On p c) None r on = idles side u
+report_on-acts side u t (connection.On p c) (Some x) r on =
     if-acts side u (r.sequence == x.sequence) (answer_taken u p t c x x.progress r.answer) None (λ e. answer-acts side u p t c x x.progress r.answer on) (idles side u)
-report_on-acts side u t (place.Ask p c) x r on = idles side u
-report_on-acts side u t (place.Away c) x r on = idles side u
+report_on-acts side u t (connection.Ask p c) x r on = idles side u
+report_on-acts side u t (connection.Away c) x r on = idles side u
 
 report_of-acts : (u : UnitState) (o : Own) (r : Report) → u.own ≡ o → ActsOut r.side u (report_of u o r)
 report_of-acts u own.Idle r e = idles r.side u
 report_of-acts u (own.Owned k t at) r e =
-    if-acts r.side u (same_side k r.side && ((r.number == t) && (r.command == u.last_command))) (report_on u t at u.at_hand r) None
-    (λ h. report_on-acts r.side u t at u.at_hand r (owned-on u r.side k t at e (and_parts (same_side k r.side) ((r.number == t) && (r.command == u.last_command)) h).0))
+    if-acts r.side u (same_side k r.side && ((r.number == t) && (r.command == u.last_command))) (report_on u t at u.current r) None
+    (λ h. report_on-acts r.side u t at u.current r (owned-on u r.side k t at e (and_parts (same_side k r.side) ((r.number == t) && (r.command == u.last_command)) h).0))
     (idles r.side u)
 
 pub reports-acts : (u : UnitState) (r : Report) → ActsOut r.side u (unit_reports u r)
 reports-acts u r = report_of-acts u u.own r refl
 
 -- acts
-leaving-floor : (u : UnitState) (o : Own) (x : Option CurrentCommand) (side : Side) → floor_of (record u { own = o; at_hand = x }) side ≡ floor_of u side
+leaving-floor : (u : UnitState) (o : Own) (x : Option CurrentCommand) (side : Side) → floor_of (record u { own = o; current = x }) side ≡ floor_of u side
 leaving-floor u o x First = refl
 leaving-floor u o x Second = refl
 
 leaving_from-acts : (side : Side) (u : UnitState) (t : ℕ) (at : Connection) → u.own ≡ own.Owned side t at → ActsOut side u (leaving_from u side t at)
-leaving_from-acts side u t (place.On p c) e =
-    Leaves t p c _ (owned-on u side side t (place.On p c) e (same-side side)) (leaving-floor u (own.Owned side t (place.Away c)) (marked_again u.at_hand) side) (on-owned side t (place.Away c))
-leaving_from-acts side u t (place.Ask p c) e = idles side u
-leaving_from-acts side u t (place.Away c) e = idles side u
+leaving_from-acts side u t (connection.On p c) e =
+    Leaves t p c _ (owned-on u side side t (connection.On p c) e (same-side side)) (leaving-floor u (own.Owned side t (connection.Away c)) (marked_again u.current) side) (on-owned side t (connection.Away c))
+leaving_from-acts side u t (connection.Ask p c) e = idles side u
+leaving_from-acts side u t (connection.Away c) e = idles side u
 
 leaving-acts : (side : Side) (u : UnitState) (o : Own) → u.own ≡ o → ((k : Side) (t : ℕ) (at : Connection) → o ≡ own.Owned k t at → k ≡ side) → ActsOut side u (leaving u o)
 leaving-acts side u own.Idle e f = idles side u
 leaving-acts side u (own.Owned k t at) e f = subst (λ (j : Side). ActsOut j u (leaving_from u k t at)) (f k t at refl) (leaving_from-acts k u t at e)
 
 asking_from-acts : (side : Side) (u : UnitState) (t : ℕ) (at : Connection) (p : ℕ) → ActsOut side u (asking_from u side t at p)
-asking_from-acts side u t (place.On q c) p = idles side u
-asking_from-acts side u t (place.Ask q c) p =
-    Idles _ _ tt (off u _ side (own-floor u (own.Owned side t (place.Ask p (c + 1))) side) (on-owned side t (place.Ask p (c + 1))))
-asking_from-acts side u t (place.Away c) p =
-    Idles _ _ tt (off u _ side (own-floor u (own.Owned side t (place.Ask p (c + 1))) side) (on-owned side t (place.Ask p (c + 1))))
+asking_from-acts side u t (connection.On q c) p = idles side u
+asking_from-acts side u t (connection.Ask q c) p =
+    Idles _ _ tt (off u _ side (own-floor u (own.Owned side t (connection.Ask p (c + 1))) side) (on-owned side t (connection.Ask p (c + 1))))
+asking_from-acts side u t (connection.Away c) p =
+    Idles _ _ tt (off u _ side (own-floor u (own.Owned side t (connection.Ask p (c + 1))) side) (on-owned side t (connection.Ask p (c + 1))))
 
 asking-acts : (side : Side) (u : UnitState) (o : Own) (p : ℕ) → ((k : Side) (t : ℕ) (at : Connection) → o ≡ own.Owned k t at → k ≡ side) → ActsOut side u (asking u o p)
 asking-acts side u own.Idle p f = idles side u

@@ -17,12 +17,12 @@ use Rattle.control_units.specs.Units.{may_serve}
 use Rattle.wires.specs.Queues.{queue}
 use Rattle.subchannel_model.specs.declared.state.Subchannel.{Subchannel}
 use Rattle.subchannel_model.specs.Opening.{opened}
-use Rattle.subchannel_model.specs.Places.{is_named, place_in, place_of_id, one_later}
+use Rattle.subchannel_model.specs.Indices.{is_named, index_in, index_of_id, one_later}
 use Rattle.subchannel_model.specs.Sending.{carried_by, finds_full}
 use Rattle.machine_model.specs.DownSteps.{with_answer, asks_at, down_front, down_sub}
 use Rattle.machine_model.specs.Sharing.{is_asked_for, may_take}
 use Rattle.machine_model.specs.State.{State}
-use Rattle.machine_model.specs.Turns.{DownTurn}
+use Rattle.machine_model.specs.Results.{DownResult}
 use Rattle.run_laws.specs.Devices.{first_named, setup_named, held_met}
 use Rattle.run_laws.specs.OneHolder.{IsAnswerNumbered, reply_due}
 use Rattle.run_laws.specs.Agreeing.{AreAbove}
@@ -40,17 +40,17 @@ opened-setups [] = refl
 opened-setups (x ∷ xs) = ap (λ (ys : List SubchannelSetup). x ∷ ys) (opened-setups xs)
 
 -- the subchannel that a word names is set up as the first of its name
-pub first-cases : (b : Bool) (later : Option ℕ) (place : ℕ) → (if b then Some 0 else one_later later) ≡ Some place →
-    ((b ≡ true) × (place ≡ 0)) ⊎ ((b ≡ false) × ((i : ℕ) × (later ≡ Some i) × (place ≡ suc i)))
-first-cases true later place e = let z : 0 ≡ place = cc e in inl (refl, sym z)
-first-cases false None place e = absurd (cc e)
-first-cases false (Some i) place e = let z : i + 1 ≡ place = cc e in inr (refl, (i, refl, omega (arith, z)))
+pub first-cases : (b : Bool) (later : Option ℕ) (index : ℕ) → (if b then Some 0 else one_later later) ≡ Some index →
+    ((b ≡ true) × (index ≡ 0)) ⊎ ((b ≡ false) × ((i : ℕ) × (later ≡ Some i) × (index ≡ suc i)))
+first-cases true later index e = let z : 0 ≡ index = cc e in inl (refl, sym z)
+first-cases false None index e = absurd (cc e)
+first-cases false (Some i) index e = let z : i + 1 ≡ index = cc e in inr (refl, (i, refl, omega (arith, z)))
 
-first-is : (id : SubchannelId) (subs : List Subchannel) (place : ℕ) (sub : Subchannel) → place_in id subs ≡ Some place → slice_get subs place ≡ Some sub →
+first-is : (id : SubchannelId) (subs : List Subchannel) (index : ℕ) (sub : Subchannel) → index_in id subs ≡ Some index → slice_get subs index ≡ Some sub →
     first_named id (setups subs) ≡ Some sub.setup
-first-is id [] place sub e there = absurd (cc e)
-first-is id (x ∷ xs) place sub e there =
-    elim (first-cases (is_named id x) (place_in id xs) place e) [
+first-is id [] index sub e there = absurd (cc e)
+first-is id (x ∷ xs) index sub e there =
+    elim (first-cases (is_named id x) (index_in id xs) index e) [
       | inl h ↦
           let same : x ≡ sub = cc (subst (λ (k : ℕ). slice_get (x ∷ xs) k ≡ Some sub) h.1 there) in
           ap (λ (b : Bool). if b then Some x.setup else first_named id (setups xs)) h.0 ∙ ap (λ (y : Subchannel). Some y.setup) same
@@ -59,10 +59,10 @@ first-is id (x ∷ xs) place sub e there =
           ∙ first-is id xs h.1.0 sub h.1.1 (subst (λ (k : ℕ). slice_get (x ∷ xs) k ≡ Some sub) h.1.2 there)
     ]
 
-pub setup-is : (subs : List Subchannel) (x : Option SubchannelId) (place : ℕ) (sub : Subchannel) → place_of_id subs x ≡ Some place → slice_get subs place ≡ Some sub →
+pub setup-is : (subs : List Subchannel) (x : Option SubchannelId) (index : ℕ) (sub : Subchannel) → index_of_id subs x ≡ Some index → slice_get subs index ≡ Some sub →
     setup_named (setups subs) x ≡ Some sub.setup
-setup-is subs None place sub e there = absurd (cc e)
-setup-is subs (Some id) place sub e there = first-is id subs place sub e there
+setup-is subs None index sub e there = absurd (cc e)
+setup-is subs (Some id) index sub e there = first-is id subs index sub e there
 
 -- steps of the unit
 pub if-ok : {A : Type 0} (P : A → Type 0) (b : Bool) (x y : Result A Fault) → IfOk x P → IfOk y P → IfOk (if b then x else y) P
@@ -73,21 +73,21 @@ if-ok P false x y e f = f
 abbrev AreAboveFor : Subchannel → UnitState → Type 0
 AreAboveFor sub u = (p : ℕ) (d : Down) → slice_get (queue sub.wires.down p) 0 ≡ Some d → IsResetAbove u sub.setup.side d
 
-above-for : (s : State) (place : ℕ) (sub : Subchannel) (u : UnitState) → AreAbove s → slice_get s.subs place ≡ Some sub → slice_get s.units sub.setup.«unit» ≡ Some u → AreAboveFor sub u
-above-for s place sub u above there found p d front r b is e = above place sub u p r b there found (front ∙ ap (λ (x : Down). Some x) is) e
+above-for : (s : State) (index : ℕ) (sub : Subchannel) (u : UnitState) → AreAbove s → slice_get s.subs index ≡ Some sub → slice_get s.units sub.setup.«unit» ≡ Some u → AreAboveFor sub u
+above-for s index sub u above there found p d front r b is e = above index sub u p r b there found (front ∙ ap (λ (x : Down). Some x) is) e
 
 -- what its front signal does, and whether the control unit is asked
-pub record IsMet (sub : Subchannel) (path : ℕ) (u : UnitState) (may : Bool) (t : DownTurn) : Type 0 where
+pub record IsMet (sub : Subchannel) (path : ℕ) (u : UnitState) (may : Bool) (t : DownResult) : Type 0 where
   pub signal : Down
   pub front : slice_get (queue sub.wires.down path) 0 ≡ Some signal
   pub reply : t.reply ≡ reply_of signal (unit_takes u sub.setup.side path signal may)
   pub «unit» : t.«unit» ≡ unit_after u (unit_takes u sub.setup.side path signal may)
-  pub left : t.sub ≡ with_answer sub path (unit_table.came_of (unit_takes u sub.setup.side path signal may)).sent
+  pub left : t.sub ≡ with_answer sub path (unit_table.outcome_of (unit_takes u sub.setup.side path signal may)).sent
 
 front-met : (may : Bool) (sub : Subchannel) (path : ℕ) (u : UnitState) (front : Option Down) → slice_get (queue sub.wires.down path) 0 ≡ front → IfOk (down_front may sub path u front) (IsMet sub path u may)
 front-met may sub path u None e = tt
 front-met may sub path u (Some d) e =
-    if-ok (IsMet sub path u may) (finds_full sub.wires.up (carried_by sub (unit_table.came_of (unit_takes u sub.setup.side path d may)).sent)) _ _ tt
+    if-ok (IsMet sub path u may) (finds_full sub.wires.up (carried_by sub (unit_table.outcome_of (unit_takes u sub.setup.side path d may)).sent)) _ _ tt
     (record { signal = d; front = e; reply = refl; «unit» = refl; left = refl })
 
 downs-met : (may : Bool) (sub : Subchannel) (path : ℕ) (u : UnitState) → IfOk (down_sub may sub path u) (IsMet sub path u may)
@@ -131,19 +131,19 @@ sunk-turned s word path r new k above =
     let u : UnitState = k.«unit» in
     let asks : Bool = asks_at sub path u in
     let may : Bool = may_take s.members at asks in
-    let met : IsMet sub path u may k.turn = subst (λ (x : Result DownTurn Fault). IfOk x (IsMet sub path u may)) k.ok (downs-met may sub path u) in
+    let met : IsMet sub path u may k.turn = subst (λ (x : Result DownResult Fault). IfOk x (IsMet sub path u may)) k.ok (downs-met may sub path u) in
     let d : Down = met.signal in
     let step : Option UnitStep = unit_takes u side path d may in
     let asked : asks ≡ is_asked_for u side d = asks-front sub path u d met.front in
     let turns : Turns u side path d step (reply_due (holding_of u) side path (is_idle u.own && may_serve s.members at) d) =
-    takes-turns u side path d may (is_idle u.own && may_serve s.members at) (above-for s k.place sub u above k.there k.found path d met.front)
+    takes-turns u side path d may (is_idle u.own && may_serve s.members at) (above-for s k.index sub u above k.there k.found path d met.front)
     (free-asked u side d s.members at asks asked (λ e. (asked-holds u side path d may e).0)) in
     let replied : r ≡ reply_of d step = k.reply ∙ met.reply in
     let idle : is_idle k.turn.«unit».own ≡ is_idle (unit_after u step).own = ap (λ (v : UnitState). is_idle v.own) met.«unit» in
     record {
       signal = d;
-      taken = (unit_table.came_of step).taken;
-      sent = (unit_table.came_of step).sent;
+      taken = (unit_table.outcome_of step).taken;
+      sent = (unit_table.outcome_of step).sent;
       front = met.front;
       replied = replied;
       due = turns.replies;

@@ -32,9 +32,9 @@ use Rattle.machine_model.specs.PathSteps.{swept}
 use Rattle.machine_model.specs.ReportSteps.{with_any_up}
 use Rattle.machine_model.specs.State.{State, opening_of}
 use Rattle.machine_model.specs.Steps.{Run, Opened, Stepped, Step}
-use Rattle.machine_model.specs.Turns.{SubTurn, UpTurn, with_state}
+use Rattle.machine_model.specs.Results.{SubResult, UpResult, with_state}
 use Rattle.chan_model.proofs.OneSide.{same-side, one-side}
-use Rattle.step_laws.proofs.Places.{set-get, map-get, both-true, found-there}
+use Rattle.step_laws.proofs.Indices.{set-get, map-get, both-true, found-there}
 use Rattle.step_laws.specs.Walks.{OneSub}
 use Rattle.run_laws.specs.Agreeing.{AreAbove}
 use Rattle.run_laws.specs.Devices.{Transfer, Holding, with_holder, with_transfer, reported, side_seen, with_restart, setup_named, acted_after, held_met, holding_met, holding_after, nothing_held}
@@ -56,38 +56,38 @@ use Rattle.interruptions.specs.Requests.{WaitingRequests}
 use Rattle.machine_model.specs.declared.state.Sweep.TheVariants as sweep
 use Rattle.machine_model.specs.UpSteps.{returns_at}
 use Rattle.chan_events.specs.declared.event.Instruction.{Instruction}
-use Rattle.subchannel_model.specs.Places.{Found, found_at, place_in}
+use Rattle.subchannel_model.specs.Indices.{Found, found_at, index_in}
 use Rattle.step_laws.proofs.Executed.{IsDone, state_left}
-use Rattle.step_laws.proofs.Turns as turn
-use Rattle.step_laws.proofs.Turns.{TurnOf, HasTurn, step-turn}
+use Rattle.step_laws.proofs.Results as turn
+use Rattle.step_laws.proofs.Results.{ResultOf, HasResult, step-turn}
 
 -- of each subchannel
 abbrev AllWays : Type 0
 AllWays = ℕ → Side → Ways
 
 abbrev AreWayed : List Subchannel → Seen → AllWays → Type 0
-AreWayed subs seen ways = (place : ℕ) (sub : Subchannel) → slice_get subs place ≡ Some sub → WaySub sub (seen sub.setup.«unit») (ways sub.setup.«unit» sub.setup.side)
+AreWayed subs seen ways = (index : ℕ) (sub : Subchannel) → slice_get subs index ≡ Some sub → WaySub sub (seen sub.setup.«unit») (ways sub.setup.«unit» sub.setup.side)
 
 all-follow : (subs : List Subchannel) (seen next : Seen) (ways after : AllWays) → ((at : ℕ) (side : Side) → Follows (seen at) (next at) side (ways at side) (after at side)) → AreWayed subs seen ways →
     AreWayed subs next after
-all-follow subs seen next ways after f all = λ place sub e.
+all-follow subs seen next ways after f all = λ index sub e.
     wires-follow sub.setup.side sub.wires.up sub.wires.down (seen sub.setup.«unit») (next sub.setup.«unit») (ways sub.setup.«unit» sub.setup.side) (after sub.setup.«unit» sub.setup.side)
-    (f sub.setup.«unit» sub.setup.side) (all place sub e)
+    (f sub.setup.«unit» sub.setup.side) (all index sub e)
 
-set-wayed : (subs : List Subchannel) (place : ℕ) (sub after : Subchannel) (seen : Seen) (ways : AllWays) → after.setup ≡ sub.setup → WaySub after (seen sub.setup.«unit») (ways sub.setup.«unit» sub.setup.side) →
-    AreWayed subs seen ways → AreWayed (slice_set subs place after) seen ways
-set-wayed subs place sub after seen ways e w all = λ i x f.
-    elim (set-get subs place after i x f) [
+set-wayed : (subs : List Subchannel) (index : ℕ) (sub after : Subchannel) (seen : Seen) (ways : AllWays) → after.setup ≡ sub.setup → WaySub after (seen sub.setup.«unit») (ways sub.setup.«unit» sub.setup.side) →
+    AreWayed subs seen ways → AreWayed (slice_set subs index after) seen ways
+set-wayed subs index sub after seen ways e w all = λ i x f.
+    elim (set-get subs index after i x f) [
       | inl p ↦
           subst (λ (y : Subchannel). WaySub y (seen y.setup.«unit») (ways y.setup.«unit» y.setup.side)) (sym p.1)
           (subst (λ (y : SubchannelSetup). WaySub after (seen y.«unit») (ways y.«unit» y.side)) (sym e) w)
       | inr p ↦ all i x p.1
     ]
 
-carries-wayed : (subs : List Subchannel) (place : ℕ) (sub after : Subchannel) (seen : Seen) (ways : AllWays) → slice_get subs place ≡ Some sub → Carries sub after → AreWayed subs seen ways →
-    AreWayed (slice_set subs place after) seen ways
-carries-wayed subs place sub after seen ways there c all =
-    set-wayed subs place sub after seen ways (carries-setup sub after c) (carries-way sub after (seen sub.setup.«unit») (ways sub.setup.«unit» sub.setup.side) c (all place sub there)) all
+carries-wayed : (subs : List Subchannel) (index : ℕ) (sub after : Subchannel) (seen : Seen) (ways : AllWays) → slice_get subs index ≡ Some sub → Carries sub after → AreWayed subs seen ways →
+    AreWayed (slice_set subs index after) seen ways
+carries-wayed subs index sub after seen ways there c all =
+    set-wayed subs index sub after seen ways (carries-setup sub after c) (carries-way sub after (seen sub.setup.«unit») (ways sub.setup.«unit» sub.setup.side) c (all index sub there)) all
 
 swept-wayed : (f : Subchannel → Subchannel) → ((sub : Subchannel) → Carries sub (f sub)) → (subs : List Subchannel) (seen : Seen) (ways : AllWays) → AreWayed subs seen ways → AreWayed (map f subs) seen ways
 swept-wayed f carry subs seen ways all = λ i x e.
@@ -113,26 +113,26 @@ at-parts : (x : SubchannelSetup) (at : ℕ) (side : Side) → is_at at side (Som
 at-parts x at side e =
     let both = and_parts (x.«unit» == at) (same_side x.side side) e in (eqb-true x.«unit» at both.0, one-side x.side side both.1)
 
-reply-at : (s : State) (word path place : ℕ) (sub : Subchannel) (r : Reply) (seen : Seen) (ways : AllWays) → setup_named (setups s.subs) (subchannel_named s.sets word) ≡ Some sub.setup →
+reply-at : (s : State) (word path index : ℕ) (sub : Subchannel) (r : Reply) (seen : Seen) (ways : AllWays) → setup_named (setups s.subs) (subchannel_named s.sets word) ≡ Some sub.setup →
     IsReplyBy (seen sub.setup.«unit») (ways sub.setup.«unit» sub.setup.side) path r → (at : ℕ) (side : Side) →
     is_at at side (setup_named (setups s.subs) (subchannel_named s.sets word)) ≡ true → IsReplyBy (seen at) (ways at side) path r
-reply-at s word path place sub r seen ways named w at side e =
+reply-at s word path index sub r seen ways named w at side e =
     let its = at-parts sub.setup at side (ap (λ (o : Option SubchannelSetup). is_at at side o) (sym named) ∙ e) in
     subst (λ (j : Side). IsReplyBy (seen at) (ways at j) path r) its.1 (subst (λ (n : ℕ). IsReplyBy (seen n) (ways n sub.setup.side) path r) its.0 w)
 
-met-by : (s : State) (word path place : ℕ) (sub : Subchannel) (t : UpTurn) (new : State) (seen : Seen) (ways : AllWays) → setup_named (setups s.subs) (subchannel_named s.sets word) ≡ Some sub.setup →
-    OneSub s new place sub t.sub → IsUpMet sub path t → AreWayed s.subs seen ways → IsStepBy s (event.Up word path) t.reply new seen ways
-met-by s word path place sub t new seen ways named one k all =
+met-by : (s : State) (word path index : ℕ) (sub : Subchannel) (t : UpResult) (new : State) (seen : Seen) (ways : AllWays) → setup_named (setups s.subs) (subchannel_named s.sets word) ≡ Some sub.setup →
+    OneSub s new index sub t.sub → IsUpMet sub path t → AreWayed s.subs seen ways → IsStepBy s (event.Up word path) t.reply new seen ways
+met-by s word path index sub t new seen ways named one k all =
     let side : Side = sub.setup.side in
     let mine : Ways = ways sub.setup.«unit» side in
     let held : Holding = seen sub.setup.«unit» in
-    let w : WaySub sub held mine = all place sub one.there in
+    let w : WaySub sub held mine = all index sub one.there in
     let front : UpWay mine held side path k.signal = each-front (UpWay mine held side path) (queue sub.wires.up path) k.signal (w.up path) k.front in
     record {
-      entry = λ at j e. reply-at s word path place sub t.reply seen ways named (subst (λ (x : Reply). IsReplyBy held mine path x) (sym k.reply) (up-by mine held side path k.signal front)) at j e;
+      entry = λ at j e. reply-at s word path index sub t.reply seen ways named (subst (λ (x : Reply). IsReplyBy held mine path x) (sym k.reply) (up-by mine held side path k.signal front)) at j e;
       wayed =
           subst (λ (xs : List Subchannel). AreWayed xs seen ways) (sym one.subs)
-          (set-wayed s.subs place sub t.sub seen ways k.setup
+          (set-wayed s.subs index sub t.sub seen ways k.setup
           (as-set_up sub t.sub _ _ held mine k.setup k.up k.down
           (record {
             up = each-taken (λ p x. UpWay mine held side p x) sub.wires.up path w.up;
@@ -147,7 +147,7 @@ executed-wayed : (s : State) (i : Instruction) (p : Option ℕ) (q : Option Foun
 executed-wayed s i p None r new seen ways e k all = subst (λ (xs : List Subchannel). AreWayed xs seen ways) (sym k.subs) all
 executed-wayed s i p (Some f) r new seen ways e k all =
     subst (λ (xs : List Subchannel). AreWayed xs seen ways) (sym k.subs)
-    (carries-wayed s.subs f.place f.sub (with_state f.sub (state_left i f.sub k.effect)) seen ways (found-there s.subs p f e).1 (wires.Keeps _ refl refl) all)
+    (carries-wayed s.subs f.index f.sub (with_state f.sub (state_left i f.sub k.effect)) seen ways (found-there s.subs p f e).1 (wires.Keeps _ refl refl) all)
 
 -- a unit takes a signal
 one-follows : (k : Holding) (side j : Side) (path : ℕ) (d : Down) (taken : Bool) (sent : Option (OnPath Up)) (w : Ways) (here mine : Bool) → (here ≡ true → IsAnswerNumbered k side sent) →
@@ -181,8 +181,8 @@ sunk-by s word path r new seen ways k t units all =
     let answer : Reply = reply.Down d t.taken t.sent in
     let due : answer ≡ reply_due (seen at) side path free d = t.due ∙ ap (λ (x : Holding). reply_due x side path free d) (sym is) in
     let numbered : IsAnswerNumbered (seen at) side t.sent = subst (λ (x : Holding). IsAnswerNumbered x side t.sent) (sym is) t.numbered in
-    let named : setup_named (setups s.subs) (subchannel_named s.sets word) ≡ Some sub.setup = setup-is s.subs (subchannel_named s.sets word) k.place sub k.named k.there in
-    let w : WaySub sub (seen at) (ways at side) = all k.place sub k.there in
+    let named : setup_named (setups s.subs) (subchannel_named s.sets word) ≡ Some sub.setup = setup-is s.subs (subchannel_named s.sets word) k.index sub k.named k.there in
+    let w : WaySub sub (seen at) (ways at side) = all k.index sub k.there in
     let front : DownWay (ways at side) (seen at) side path d = each-front (DownWay (ways at side) (seen at) side path) (queue sub.wires.down path) d (w.down path) t.front in
     let next : Seen = met_seen (Some sub.setup) path answer seen in
     let after : AllWays = met_ways (Some sub.setup) path answer ways in
@@ -205,23 +205,23 @@ sunk-by s word path r new seen ways k t units all =
     } in
     record {
       entry = λ i j e.
-          reply-at s word path k.place sub r seen ways named
+          reply-at s word path k.index sub r seen ways named
           (subst (λ (x : Reply). IsReplyBy (seen at) (ways at side) path x) (sym t.replied)
           (down-by (ways at side) (seen at) side path d front, taken-to (ways at side) (seen at) side path free d t.taken t.sent w.own front due)) i j e;
       wayed =
           subst (λ (o : Option SubchannelSetup). AreWayed new.subs (met_seen o path r seen) (met_ways o path r ways)) (sym named)
           (subst (λ (x : Reply). AreWayed new.subs (met_seen (Some sub.setup) path x seen) (met_ways (Some sub.setup) path x ways)) (sym t.replied)
           (subst (λ (xs : List Subchannel). AreWayed xs next after) (sym k.subs)
-          (subst (λ (x : Subchannel). AreWayed (slice_set s.subs k.place x) next after) (sym t.left)
-          (set-wayed s.subs k.place sub (with_answer sub path t.sent) next after refl now (all-follow s.subs seen next ways after follows all)))));
+          (subst (λ (x : Subchannel). AreWayed (slice_set s.subs k.index x) next after) (sym t.left)
+          (set-wayed s.subs k.index sub (with_answer sub path t.sent) next after refl now (all-follow s.subs seen next ways after follows all)))));
     }
 
 -- a unit is restarted
-restart-by : (s : State) (place : ℕ) (r : Reply) (new : State) (seen : Seen) (ways : AllWays) → reading.IsRestarted s place new → AreWayed s.subs seen ways → IsStepBy s (event.Restart place) r new seen ways
-restart-by s place r new seen ways k all = record {
+restart-by : (s : State) (index : ℕ) (r : Reply) (new : State) (seen : Seen) (ways : AllWays) → reading.IsRestarted s index new → AreWayed s.subs seen ways → IsStepBy s (event.Restart index) r new seen ways
+restart-by s index r new seen ways k all = record {
   entry = λ at side. tt;
-  wayed = subst (λ (xs : List Subchannel). AreWayed xs (next_seen s (event.Restart place) r seen) ways) (sym k.subs)
-      (all-follow s.subs seen (next_seen s (event.Restart place) r seen) ways ways (λ at side. by (place == at) at side) all);
+  wayed = subst (λ (xs : List Subchannel). AreWayed xs (next_seen s (event.Restart index) r seen) ways) (sym k.subs)
+      (all-follow s.subs seen (next_seen s (event.Restart index) r seen) ways ways (λ at side. by (index == at) at side) all);
 }
   where
     by : (b : Bool) (at : ℕ) (side : Side) → Follows (seen at) (if b then with_restart (seen at) else seen at) side (ways at side) (ways at side)
@@ -233,12 +233,12 @@ sent-wayed : (s : State) (at : ℕ) (side : Side) (new : State) (steps : UnitSta
     SentWay (after at side) (next at) side k.step.sent → AreWayed s.subs next after → AreWayed new.subs next after
 sent-wayed s at side new steps k next after sent all =
     let sub : Subchannel = k.sub in
-    let w : WaySub sub (next sub.setup.«unit») (after sub.setup.«unit» sub.setup.side) = all k.place sub k.there in
+    let w : WaySub sub (next sub.setup.«unit») (after sub.setup.«unit» sub.setup.side) = all k.index sub k.there in
     let its : SentWay (after sub.setup.«unit» sub.setup.side) (next sub.setup.«unit») sub.setup.side k.step.sent =
     subst (λ (n : ℕ). SentWay (after n sub.setup.side) (next n) sub.setup.side k.step.sent) (sym k.its_unit)
     (subst (λ (j : Side). SentWay (after at j) (next at) j k.step.sent) (sym k.its_side) sent) in
     subst (λ (xs : List Subchannel). AreWayed xs next after) (sym k.subs)
-    (set-wayed s.subs k.place sub (with_any_up sub k.step.sent) next after refl
+    (set-wayed s.subs k.index sub (with_any_up sub k.step.sent) next after refl
     (record {
       up = each-sent (λ p x. UpWay (after sub.setup.«unit» sub.setup.side) (next sub.setup.«unit») sub.setup.side p x) sub.wires.up sub.state.pmcw.available k.step.sent its w.up;
       down = w.down;
@@ -250,7 +250,7 @@ OwnAt seen ways at side = OwnWay (ways at side) (side_seen (seen at) side).numbe
 
 own-at : (s : State) (at : ℕ) (side : Side) (new : State) (steps : UnitState → Option UnitStep) (k : IsStepped s at side new steps) (seen : Seen) (ways : AllWays) → AreWayed s.subs seen ways → OwnAt seen ways at side
 own-at s at side new steps k seen ways all =
-    subst (λ (j : Side). OwnAt seen ways at j) k.its_side (subst (λ (n : ℕ). OwnAt seen ways n k.sub.setup.side) k.its_unit (all k.place k.sub k.there).own)
+    subst (λ (j : Side). OwnAt seen ways at j) k.its_side (subst (λ (n : ℕ). OwnAt seen ways n k.sub.setup.side) k.its_unit (all k.index k.sub k.there).own)
 
 report-if : (b : Bool) (k : Holding) (side : Side) (w : Ways) (f : Transfer → Transfer) → Follows k (if b then with_holder (with_transfer f) k else k) side w w
 report-if true k side w f = transfer-follows k side w f
@@ -316,31 +316,31 @@ act-by s at what r new seen ways acting units all =
     sent-wayed s at side new (λ v. acts v side what) k next after sent (all-follow s.subs seen next ways after (λ i j. act-if (at == i) (seen i) j what (ways i j)) all) in
     record {
       entry = λ i j. tt;
-      wayed = λ place sub f.
+      wayed = λ index sub f.
           subst (λ (y : Ways). WaySub sub (next sub.setup.«unit») y)
-          (way-act s.sets (setups s.subs) sub.setup.«unit» sub.setup.side at what r (seen sub.setup.«unit») (ways sub.setup.«unit» sub.setup.side)) (wayed place sub f);
+          (way-act s.sets (setups s.subs) sub.setup.«unit» sub.setup.side at what r (seen sub.setup.«unit») (ways sub.setup.«unit» sub.setup.side)) (wayed index sub f);
     }
 
-turn-by : (s : State) (e : Event) (r : Reply) (new : State) (waiting : WaitingRequests) (seen : Seen) (ways : AllWays) → TurnOf s e r new → AreAbove s → AreSeen s.units seen → AreWayed s.subs seen ways →
+turn-by : (s : State) (e : Event) (r : Reply) (new : State) (waiting : WaitingRequests) (seen : Seen) (ways : AllWays) → ResultOf s e r new → AreAbove s → AreSeen s.units seen → AreWayed s.subs seen ways →
     IsStepBy s e r (record new { requests = waiting }) seen ways
 turn-by s _ _ _ waiting seen ways (turn.Executes cpu i id q r storage subs n e blocks left done) above units all =
-    record { entry = λ at side. tt; wayed = executed-wayed s i (place_in id s.subs) q r (record s { storage = storage; subs = subs }) seen ways e done all }
-turn-by s _ _ _ waiting seen ways (turn.Chosen word place sub choice t named there is ok) above units all =
+    record { entry = λ at side. tt; wayed = executed-wayed s i (index_in id s.subs) q r (record s { storage = storage; subs = subs }) seen ways e done all }
+turn-by s _ _ _ waiting seen ways (turn.Chosen word index sub choice t named there is ok) above units all =
     record {
       entry = λ at side. tt;
-      wayed = carries-wayed s.subs place sub t.sub seen ways there
-          (subst (λ (y : Result SubTurn Fault). IfOk y (λ t. Carries sub t.sub)) ok (choose-carries sub choice (chosen sub choice))) all;
+      wayed = carries-wayed s.subs index sub t.sub seen ways there
+          (subst (λ (y : Result SubResult Fault). IfOk y (λ t. Carries sub t.sub)) ok (choose-carries sub choice (chosen sub choice))) all;
     }
-turn-by s _ _ _ waiting seen ways (turn.Meets word path place sub t named there ok) above units all =
-    met-by s word path place sub t _ seen ways (setup-is s.subs (subchannel_named s.sets word) place sub named there) (record { there = there; sets = refl; up = refl; subs = refl; units = refl })
-    (subst (λ (y : Result UpTurn Fault). IfOk y (IsUpMet sub path)) ok (ups-met (returns_at s.subs sub path) s.storage sub path)) all
-turn-by s _ _ _ waiting seen ways (turn.Takes word path place sub u t named there found ok) above units all =
-    let k : IsSunk s word path t.reply _ = turn-sunk s word path t.reply _ waiting (turn.Takes word path place sub u t named there found ok) in
+turn-by s _ _ _ waiting seen ways (turn.Meets word path index sub t named there ok) above units all =
+    met-by s word path index sub t _ seen ways (setup-is s.subs (subchannel_named s.sets word) index sub named there) (record { there = there; sets = refl; up = refl; subs = refl; units = refl })
+    (subst (λ (y : Result UpResult Fault). IfOk y (IsUpMet sub path)) ok (ups-met (returns_at s.subs sub path) s.storage sub path)) all
+turn-by s _ _ _ waiting seen ways (turn.Takes word path index sub u t named there found ok) above units all =
+    let k : IsSunk s word path t.reply _ = turn-sunk s word path t.reply _ waiting (turn.Takes word path index sub u t named there found ok) in
     sunk-by s word path t.reply _ seen ways k (sunk-turned s word path t.reply _ k above) units all
-turn-by s _ _ _ waiting seen ways (turn.Reports at place sub u report t found first there ok) above units all =
-    report-by s at report t.reply _ seen ways (turn-reported s at report t.reply _ waiting (turn.Reports at place sub u report t found first there ok)) units all
-turn-by s _ _ _ waiting seen ways (turn.Acts at place sub u what side t found is first there ok) above units all =
-    act-by s at what t.reply _ seen ways (turn-acting s at what t.reply _ waiting (turn.Acts at place sub u what side t found is first there ok)) units all
+turn-by s _ _ _ waiting seen ways (turn.Reports at index sub u report t found first there ok) above units all =
+    report-by s at report t.reply _ seen ways (turn-reported s at report t.reply _ waiting (turn.Reports at index sub u report t found first there ok)) units all
+turn-by s _ _ _ waiting seen ways (turn.Acts at index sub u what side t found is first there ok) above units all =
+    act-by s at what t.reply _ seen ways (turn-acting s at what t.reply _ waiting (turn.Acts at index sub u what side t found is first there ok)) units all
 turn-by s _ _ _ waiting seen ways (turn.Restarts at u found) above units all =
     restart-by s at reply.Done _ seen ways (turn-restarted s at reply.Done _ waiting (turn.Restarts at u found)) all
 turn-by s _ _ _ waiting seen ways (turn.GoesDown chpid) above units all =
@@ -356,7 +356,7 @@ turn-by s _ _ _ waiting seen ways t above units all = record { entry = λ at sid
 step-by : (s : State) (e : Event) (r : Reply) (new : State) (seen : Seen) (ways : AllWays) → Step s e r new → AreAbove s → AreSeen s.units seen → AreWayed s.subs seen ways →
     IsStepBy s e r new seen ways
 step-by s e r new seen ways step above units all =
-    let is : HasTurn s e r new = step-turn s e r new step in
+    let is : HasResult s e r new = step-turn s e r new step in
     subst (λ (x : State). IsStepBy s e r x seen ways) (sym is.settles) (turn-by s e r is.left _ seen ways is.turn above units all)
 
 -- along a run
@@ -386,8 +386,8 @@ record IsRunBy (setup : Setup) (h : List Entry) (s : State) : Type 0 where
   by : HasOneWayEach setup h
 
 opened-wayed : (setup : Setup) → AreWayed (opening_of setup).subs (run_seen setup []) (run_ways setup [])
-opened-wayed setup place sub e =
-    let p = map-get opened setup.subchannels place sub e in
+opened-wayed setup index sub e =
+    let p = map-get opened setup.subchannels index sub e in
     subst (λ (x : Subchannel). WaySub x nothing_held no_ways) p.2
     (record {
       up = none-wait (λ q xs. Each (UpWay no_ways nothing_held p.0.side q) xs) 8 (λ q. tt);
@@ -416,11 +416,11 @@ run-by known setup _ _ lawful (Stepped h old e r new run step) =
     ∙ (ap (λ (xs : List SubchannelSetup). ways_after (set_count setup) xs at side e r (seen at) (ways at side)) subs
     ∙ sym (ways-more (set_count setup) setup.subchannels at side nothing_held no_ways h x)) in
     record {
-      wayed = λ place sub f.
+      wayed = λ index sub f.
           let at : ℕ = sub.setup.«unit» in
           let side : Side = sub.setup.side in
           subst (λ (k : Holding). WaySub sub k (run_ways setup (h ++ x ∷ []) at side)) (held at)
-          (subst (λ (w : Ways). WaySub sub (holding_after old.sets (setups old.subs) at e r (seen at)) w) (went at side) (now.wayed place sub f));
+          (subst (λ (w : Ways). WaySub sub (holding_after old.sets (setups old.subs) at e r (seen at)) w) (went at side) (now.wayed index sub f));
       by = λ at side.
           by-more (set_count setup) setup.subchannels at side nothing_held no_ways h x (before.by at side)
           (subst (λ (n : ℕ). IsEntryBy n setup.subchannels at side e r (seen at) (ways at side)) sets

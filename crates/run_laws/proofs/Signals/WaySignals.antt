@@ -18,13 +18,13 @@ use Rattle.chan_model.specs.declared.unit_state.CurrentCommand.{CurrentCommand}
 use Rattle.chan_model.specs.declared.unit_state.Own.{Own}
 use Rattle.chan_model.specs.declared.unit_state.Own.TheVariants as own
 use Rattle.chan_model.specs.declared.unit_state.Connection.{Connection}
-use Rattle.chan_model.specs.declared.unit_state.Connection.TheVariants as place
+use Rattle.chan_model.specs.declared.unit_state.Connection.TheVariants as connection
 use Rattle.chan_model.specs.declared.unit_state.Progress.{Progress}
 use Rattle.chan_model.specs.declared.unit_state.Progress.TheVariants as progress
 use Rattle.chan_model.specs.declared.unit_state.UnitState.{UnitState}
 use Rattle.chan_model.specs.Sides.{same_side}
 use Rattle.chan_model.specs.UnitReports.{is_outward, may_end, most_of, is_to_supply, answer_taken, report_on, report_of, unit_reports, report_absorbed, sent_again}
-use Rattle.chan_model.specs.UnitTable.{UnitStep, came_of, side_of, leaving_from, leaving, asking_from, asking, is_idle, telling}
+use Rattle.chan_model.specs.UnitTable.{UnitStep, outcome_of, side_of, leaving_from, leaving, asking_from, asking, is_idle, telling}
 use Rattle.machine_model.specs.ActSteps.{acts}
 use Rattle.chan_model.proofs.OneSide.{same-side}
 use Rattle.step_laws.specs.Walks.{IsOfSide}
@@ -128,8 +128,8 @@ works-sends k side p free (down.Select t) =
     if-due p (down.Select t) (nat_lt (side_seen k side).number t) _ _ (refl, refl, if-sent (down.Select t) free (up.Accept t) (up.Busy t) tt tt) tt
 works-sends k side p free (down.Command t n code room) = tt
 works-sends k side p free (down.Grant t c) =
-    if-due p (down.Grant t c) (holds_and (λ h. is_asking h.place c) k.holder side t) _ _ tt
-    (if-due p (down.Grant t c) (holds_and (λ h. nat_lt c (connection_of h.place)) k.holder side t) _ _ (refl, refl, refl) tt)
+    if-due p (down.Grant t c) (holds_and (λ h. is_asking h.connection c) k.holder side t) _ _ tt
+    (if-due p (down.Grant t c) (holds_and (λ h. nat_lt c (connection_of h.connection)) k.holder side t) _ _ (refl, refl, refl) tt)
 works-sends k side p free (down.Refuse t c) = tt
 works-sends k side p free (down.Took t n s room) = tt
 works-sends k side p free (down.Give bytes t c n s) = tt
@@ -199,18 +199,18 @@ placed-is : (ways : Ways) (t p q c : ℕ) (at : seen.Connection) → at ≡ Conn
 placed-is ways t p q c at e w f = e ∙ ap (λ (n : ℕ). Connected n c) (same-way q p (ways t c) (subst (IsPlaced ways t) e w) f)
 
 given-held : (ways : Ways) (f : ℕ) (o : Option Held) (side : Side) (p t c n s : ℕ) → OwnWay ways f o side → ways t c ≡ Some p →
-    holds_and (λ h. is_connected_by h.place c && ((n == h.command) && is_next h.transfer s)) o side t ≡ true → (h : Held) × (o ≡ Some h) × (h.place ≡ Connected p c)
+    holds_and (λ h. is_connected_by h.connection c && ((n == h.command) && is_next h.transfer s)) o side t ≡ true → (h : Held) × (o ≡ Some h) × (h.connection ≡ Connected p c)
 given-held ways f None side p t c n s w e g = absurd (cc g)
 given-held ways f (Some h) side p t c n s w e g =
     let both = and_parts (is_holder (Some h) side t) _ g in
     let its = and_parts (same_side h.side side) (t == h.number) both.0 in
-    let at = connected-is h.place c (and_parts (is_connected_by h.place c) ((n == h.command) && is_next h.transfer s) both.1).0 in
-    (h, refl, placed-is ways h.number p at.0 c h.place at.1 (w its.0).1 (subst (λ (m : ℕ). ways m c ≡ Some p) (eqb-true t h.number its.1) e))
+    let at = connected-is h.connection c (and_parts (is_connected_by h.connection c) ((n == h.command) && is_next h.transfer s) both.1).0 in
+    (h, refl, placed-is ways h.number p at.0 c h.connection at.1 (w its.0).1 (subst (λ (m : ℕ). ways m c ≡ Some p) (eqb-true t h.number its.1) e))
 
 given-if : (ways : Ways) (k : Holding) (side : Side) (p t c n s : ℕ) (bytes : List ℕ) (restarted : Bool) → OwnWay ways (side_seen k side).number k.holder side → ways t c ≡ Some p →
     reply.Down (down.Give bytes t c n s) true None ≡
     (if restarted then restarted_due k p (down.Give bytes t c n s)
-    else takes_if (holds_and (λ h. is_connected_by h.place c && ((n == h.command) && is_next h.transfer s)) k.holder side t) (down.Give bytes t c n s)) →
+    else takes_if (holds_and (λ h. is_connected_by h.connection c && ((n == h.command) && is_next h.transfer s)) k.holder side t) (down.Give bytes t c n s)) →
     IsGivenTo k p c
 given-if ways k side p t c n s bytes true w e g = absurd (cc g)
 given-if ways k side p t c n s bytes false w e g = given-held ways (side_seen k side).number k.holder side p t c n s w e (sym (ap taken_in g))
@@ -254,7 +254,7 @@ data-way ways k side t p c q _ (Sends_room u m s room number path) w = tt
 data-way ways k side t p c q _ (Sends_bytes bytes u e m s number path connection) w =
     subst (λ (x : ℕ). OnWay ways k side x u e) path (subst (λ (x : ℕ). OnWay ways k side p x e) number (subst (λ (x : ℕ). OnWay ways k side p t x) connection w))
 
-pub met-way : (ways : Ways) (k : Holding) (side : Side) (p : ℕ) (x : Up) (phase : HoldPhase) (came : Bool) (sent : Option (OnPath Down)) (next : HoldPhase) → Meets p x phase came sent next →
+pub met-way : (ways : Ways) (k : Holding) (side : Side) (p : ℕ) (x : Up) (phase : HoldPhase) (outcome : Bool) (sent : Option (OnPath Down)) (next : HoldPhase) → Meets p x phase outcome sent next →
     UpWay ways k side p x → OnSent (λ q d. DownWay ways k side q d) sent
 met-way ways k side p _ _ _ _ _ (Turns x phase next sent plain stays quiet) w = plain-way ways k side sent quiet
 met-way ways k side p _ _ _ _ _ (Begins t q sent commands) w = commands-way ways k side t q sent commands
@@ -264,7 +264,7 @@ met-way ways k side p _ _ _ _ _ (Grants t c) w = w
 met-way ways k side p _ _ _ _ _ other w = tt
 
 -- what a unit sends of itself or for its device
-own-on : (ways : Ways) (k : Holding) (side : Side) (h : Held) (p c : ℕ) → k.holder ≡ Some h → same_side h.side side ≡ true → connection_of h.place ≡ c → (IsPlaced ways h.number h.place → ways h.number c ≡ Some p) →
+own-on : (ways : Ways) (k : Holding) (side : Side) (h : Held) (p c : ℕ) → k.holder ≡ Some h → same_side h.side side ≡ true → connection_of h.connection ≡ c → (IsPlaced ways h.number h.connection → ways h.number c ≡ Some p) →
     OwnWay ways (side_seen k side).number k.holder side → OnWay ways k side p h.number c
 own-on ways k side h p c e s connection f w =
     let y = subst (λ (o : Option Held). OwnWay ways (side_seen k side).number o side) e w s in
@@ -275,7 +275,7 @@ own-on ways k side h p c e s connection f w =
     }
 
 abbrev pub Sends : Ways → Holding → Side → Option UnitStep → Type 0
-Sends ways k side step = SentWay ways k side (came_of step).sent
+Sends ways k side step = SentWay ways k side (outcome_of step).sent
 
 if-sends : (ways : Ways) (k : Holding) (side : Side) (b : Bool) (x y : Option UnitStep) → Sends ways k side x → Sends ways k side y → Sends ways k side (if b then x else y)
 if-sends ways k side true x y e f = e
@@ -307,21 +307,21 @@ answer-sends ways k side u p t c x progress.ChannelEnded other w = tt
 
 report_on-sends : (ways : Ways) (side j : Side) (u : UnitState) (t : ℕ) (at : Connection) (x : Option CurrentCommand) (r : Report) → u.own ≡ own.Owned j t at → same_side j side ≡ true →
     OwnWay ways (side_seen (holding_of u) side).number (holding_of u).holder side → Sends ways (holding_of u) side (report_on u t at x r)
-report_on-sends ways side j u t (place.On p c) None r e s w = tt
-report_on-sends ways side j u t (place.On p c) (Some x) r e s w =
+report_on-sends ways side j u t (connection.On p c) None r e s w = tt
+report_on-sends ways side j u t (connection.On p c) (Some x) r e s w =
     if-sends ways (holding_of u) side (r.sequence == x.sequence) (answer_taken u p t c x x.progress r.answer) None
     (answer-sends ways (holding_of u) side u p t c x x.progress r.answer
-    (own-on ways (holding_of u) side (record { side = j; number = t; place = Connected p c; command = u.last_command; transfer = transfer_in u.at_hand; halted = u.halted }) p c (ap (holder_in u) e) s refl (λ y. y) w)) tt
-report_on-sends ways side j u t (place.Ask p c) x r e s w = tt
-report_on-sends ways side j u t (place.Away c) x r e s w = tt
+    (own-on ways (holding_of u) side (record { side = j; number = t; connection = Connected p c; command = u.last_command; transfer = transfer_in u.current; halted = u.halted }) p c (ap (holder_in u) e) s refl (λ y. y) w)) tt
+report_on-sends ways side j u t (connection.Ask p c) x r e s w = tt
+report_on-sends ways side j u t (connection.Away c) x r e s w = tt
 
 report_of-sends : (ways : Ways) (u : UnitState) (o : Own) (r : Report) → u.own ≡ o → OwnWay ways (side_seen (holding_of u) r.side).number (holding_of u).holder r.side →
     Sends ways (holding_of u) r.side (report_of u o r)
 report_of-sends ways u own.Idle r e w = tt
 report_of-sends ways u (own.Owned j t at) r e w = by (same_side j r.side) refl
   where
-    by : (b : Bool) → same_side j r.side ≡ b → Sends ways (holding_of u) r.side (if b && ((r.number == t) && (r.command == u.last_command)) then report_on u t at u.at_hand r else None)
-    by true s = if-sends ways (holding_of u) r.side ((r.number == t) && (r.command == u.last_command)) (report_on u t at u.at_hand r) None (report_on-sends ways r.side j u t at u.at_hand r e s w) tt
+    by : (b : Bool) → same_side j r.side ≡ b → Sends ways (holding_of u) r.side (if b && ((r.number == t) && (r.command == u.last_command)) then report_on u t at u.current r else None)
+    by true s = if-sends ways (holding_of u) r.side ((r.number == t) && (r.command == u.last_command)) (report_on u t at u.current r) None (report_on-sends ways r.side j u t at u.current r e s w) tt
     by false s = tt
 
 pub reports-send : (ways : Ways) (u : UnitState) (r : Report) → OwnWay ways (side_seen (holding_of u) r.side).number (holding_of u).holder r.side → Sends ways (holding_of u) r.side (unit_reports u r)
@@ -337,11 +337,11 @@ acted-own ways u side what w = (act-follows (holding_of u) side what ways).own w
 
 leaving_from-sends : (ways : Ways) (u : UnitState) (side : Side) (t : ℕ) (at : Connection) → u.own ≡ own.Owned side t at → OwnWay ways (side_seen (holding_of u) side).number (holding_of u).holder side →
     ActsBy ways u side act.Leave (leaving_from u side t at)
-leaving_from-sends ways u side t (place.On p c) e w =
+leaving_from-sends ways u side t (connection.On p c) e w =
     (act-follows (holding_of u) side act.Leave ways).way p t c
-    (own-on ways (holding_of u) side (record { side = side; number = t; place = Connected p c; command = u.last_command; transfer = transfer_in u.at_hand; halted = u.halted }) p c (ap (holder_in u) e) (same-side side) refl (λ y. y) w)
-leaving_from-sends ways u side t (place.Ask p c) e w = tt
-leaving_from-sends ways u side t (place.Away c) e w = tt
+    (own-on ways (holding_of u) side (record { side = side; number = t; connection = Connected p c; command = u.last_command; transfer = transfer_in u.current; halted = u.halted }) p c (ap (holder_in u) e) (same-side side) refl (λ y. y) w)
+leaving_from-sends ways u side t (connection.Ask p c) e w = tt
+leaving_from-sends ways u side t (connection.Away c) e w = tt
 
 leaving-sends : (ways : Ways) (u : UnitState) (side : Side) (o : Own) → u.own ≡ o → ((k : Side) (t : ℕ) (at : Connection) → o ≡ own.Owned k t at → k ≡ side) →
     OwnWay ways (side_seen (holding_of u) side).number (holding_of u).holder side → ActsBy ways u side act.Leave (leaving u o)
@@ -351,14 +351,14 @@ leaving-sends ways u side (own.Owned k t at) e f w =
 
 asking_from-sends : (ways : Ways) (u : UnitState) (side : Side) (t : ℕ) (at : Connection) (p : ℕ) → u.own ≡ own.Owned side t at → OwnWay ways (side_seen (holding_of u) side).number (holding_of u).holder side →
     ActsBy ways u side (act.Ask p) (asking_from u side t at p)
-asking_from-sends ways u side t (place.On q c) p e w = tt
-asking_from-sends ways u side t (place.Ask q c) p e w =
+asking_from-sends ways u side t (connection.On q c) p e w = tt
+asking_from-sends ways u side t (connection.Ask q c) p e w =
     own-on (way_acted side (act.Ask p) (holding_of u).holder ways) (acted_after (act.Ask p) (holding_of u)) side
-    (record { side = side; number = t; place = Asking p (c + 1); command = u.last_command; transfer = transfer_in u.at_hand; halted = u.halted }) p (c + 1)
+    (record { side = side; number = t; connection = Asking p (c + 1); command = u.last_command; transfer = transfer_in u.current; halted = u.halted }) p (c + 1)
     (ap (λ (o : Own). option_map (moved (seen.asking p)) (holder_in u o)) e) (same-side side) refl (λ y. y) (acted-own ways u side (act.Ask p) w)
-asking_from-sends ways u side t (place.Away c) p e w =
+asking_from-sends ways u side t (connection.Away c) p e w =
     own-on (way_acted side (act.Ask p) (holding_of u).holder ways) (acted_after (act.Ask p) (holding_of u)) side
-    (record { side = side; number = t; place = Asking p (c + 1); command = u.last_command; transfer = transfer_in u.at_hand; halted = u.halted }) p (c + 1)
+    (record { side = side; number = t; connection = Asking p (c + 1); command = u.last_command; transfer = transfer_in u.current; halted = u.halted }) p (c + 1)
     (ap (λ (o : Own). option_map (moved (seen.asking p)) (holder_in u o)) e) (same-side side) refl (λ y. y) (acted-own ways u side (act.Ask p) w)
 
 asking-sends : (ways : Ways) (u : UnitState) (side : Side) (o : Own) (p : ℕ) → u.own ≡ o → ((k : Side) (t : ℕ) (at : Connection) → o ≡ own.Owned k t at → k ≡ side) →

@@ -21,7 +21,7 @@ use Rattle.machine_model.specs.ChooseSteps.{choose_sub}
 use Rattle.machine_model.specs.declared.state.Sweep.{Sweep}
 use Rattle.machine_model.specs.declared.state.Sweep.TheVariants as sweep
 use Rattle.machine_model.specs.PathSteps.{swept}
-use Rattle.machine_model.specs.Turns.{SubTurn, UpTurn}
+use Rattle.machine_model.specs.Results.{SubResult, UpResult}
 use Rattle.machine_model.specs.UpSteps.{up_front, up_sub}
 use Rattle.run_laws.specs.Devices.{Holding, side_seen}
 use Rattle.run_laws.specs.DevicePaths.{Ways}
@@ -81,7 +81,7 @@ carries-way sub _ k ways (Loses after p e f g) w =
     })
 
 -- choosing
-abbrev IsCarried : Subchannel → SubTurn → Type 0
+abbrev IsCarried : Subchannel → SubResult → Type 0
 IsCarried sub t = Carries sub t.sub
 
 choose-plain : (sub : Subchannel) (c : Chosen) → IfOk (choose_sub sub c) (IsCarried sub)
@@ -102,7 +102,7 @@ marked-carries sub _ choice (Keeps after e f) = Keeps after e f
 marked-carries sub _ choice (Sends after available one e plain f g) = Sends after available one e plain f g
 marked-carries sub _ choice (Loses after p e f g) = Loses after p e f g
 
-ok-marked : (sub : Subchannel) (choice : Option ℕ) (r : Result SubTurn Fault) → IfOk r (IsCarried (marked_sub sub choice)) → IfOk r (IsCarried sub)
+ok-marked : (sub : Subchannel) (choice : Option ℕ) (r : Result SubResult Fault) → IfOk r (IsCarried (marked_sub sub choice)) → IfOk r (IsCarried sub)
 ok-marked sub choice (Ok t) m = marked-carries sub t.sub choice m
 ok-marked sub choice (Err f) m = tt
 
@@ -128,12 +128,12 @@ swept-carries (sweep.PathReset chpid) sub = loses-carries sub (path_index chpid 
 swept-carries sweep.SystemReset sub = Keeps _ refl refl
 
 -- a signal that came up
-pub record IsUpMet (sub : Subchannel) (path : ℕ) (t : UpTurn) : Type 0 where
+pub record IsUpMet (sub : Subchannel) (path : ℕ) (t : UpResult) : Type 0 where
   pub signal : Up
-  pub came : Bool
+  pub outcome : Bool
   pub sent : Option (OnPath Down)
   pub front : slice_get (queue sub.wires.up path) 0 ≡ Some signal
-  pub reply : t.reply ≡ reply.Up signal came sent
+  pub reply : t.reply ≡ reply.Up signal outcome sent
   pub setup : t.sub.setup ≡ sub.setup
   pub up : t.sub.wires.up ≡ taken sub.wires.up path
   pub down : t.sub.wires.down ≡ with_any_sent sub.wires.down (carried sub.state.pmcw.available sent)
@@ -143,17 +143,17 @@ front-up : (returns : Bool) (storage : Contents) (sub : Subchannel) (path : ℕ)
 front-up returns storage sub path None e = tt
 front-up returns storage sub path (Some x) e =
     let step : UpStep = (takes_up returns storage sub.state path x).step in
-    if-ok (IsUpMet sub path) (finds_full sub.wires.down (carried_by sub step.came.sent)) _ _ tt
+    if-ok (IsUpMet sub path) (finds_full sub.wires.down (carried_by sub step.outcome.sent)) _ _ tt
     (record {
       signal = x;
-      came = step.came.taken;
-      sent = step.came.sent;
+      outcome = step.outcome.taken;
+      sent = step.outcome.sent;
       front = e;
       reply = refl;
       setup = refl;
       up = refl;
       down = refl;
-      way = λ ways k side w. met-way ways k side path x sub.state.hold.phase step.came.taken step.came.sent step.state.hold.phase (takes-meets returns storage sub.state path x) w;
+      way = λ ways k side w. met-way ways k side path x sub.state.hold.phase step.outcome.taken step.outcome.sent step.state.hold.phase (takes-meets returns storage sub.state path x) w;
     })
 
 pub ups-met : (returns : Bool) (storage : Contents) (sub : Subchannel) (path : ℕ) → IfOk (up_sub returns storage sub path) (IsUpMet sub path)

@@ -12,7 +12,7 @@ use Rattle.chan_model.specs.declared.signal.Down.TheVariants as down
 use Rattle.chan_model.specs.declared.signal.OnPath.{OnPath}
 use Rattle.chan_model.specs.declared.signal.Up.TheVariants as up
 use Rattle.chan_model.specs.Sides.{same_side}
-use Rattle.step_laws.proofs.Places.{same-or-not}
+use Rattle.step_laws.proofs.Indices.{same-or-not}
 use Rattle.run_laws.specs.Devices.{Connection, Connected, Asking, Apart, Transfer, Held, Asked, commanded, with_transfer, answered, given, Holding, SideSeen, side_seen, with_seen, with_answered, let_go, is_held_by, with_holder, granted, parted, asking, moved, with_restart, held_after, quiet_after, acted_after, held_met}
 use Rattle.run_laws.specs.OneHolder.{connection_of, IsHigher, IsNumbered, IsAnswerNumbered}
 use Rattle.run_laws.specs.DevicePaths.{Ways, with_way, way_answered, way_met, way_asked}
@@ -20,7 +20,7 @@ use Rattle.run_laws.specs.DevicePaths.{Ways, with_way, way_answered, way_met, wa
 -- a connection of the program that holds the device was drawn already
 abbrev pub IsPast : Option Held → Side → ℕ → ℕ → Type 0
 IsPast None side t c = Unit {0}
-IsPast (Some h) side t c = same_side h.side side ≡ true → h.number ≡ t → c ≤ connection_of h.place
+IsPast (Some h) side t c = same_side h.side side ≡ true → h.number ≡ t → c ≤ connection_of h.connection
 
 -- a signal of this number and connection came by its path
 pub record OnWay (ways : Ways) (k : Holding) (side : Side) (p t c : ℕ) : Type 0 where
@@ -36,7 +36,7 @@ IsPlaced ways t (Apart c) = Unit {0}
 
 abbrev pub OwnWay : Ways → ℕ → Option Held → Side → Type 0
 OwnWay ways f None side = Unit {0}
-OwnWay ways f (Some h) side = same_side h.side side ≡ true → (h.number ≤ f) × IsPlaced ways h.number h.place
+OwnWay ways f (Some h) side = same_side h.side side ≡ true → (h.number ≤ f) × IsPlaced ways h.number h.connection
 
 pub record Follows (k next : Holding) (side : Side) (ways after : Ways) : Type 0 where
   pub way : (p t c : ℕ) → OnWay ways k side p t c → OnWay after next side p t c
@@ -164,9 +164,9 @@ answered-follows k side path (up.Attn a status) ways above = follows-same k side
 -- the other side
 other-follows : (k : Holding) (side j : Side) (path : ℕ) (x : Up) (ways : Ways) → same_side side j ≡ false → Follows k (held_after side path x k) j ways ways
 other-follows k side j path (up.Accept t) ways n =
-    taken-by k (accepted k side path t) j ways (record { side = side; number = t; place = Connected path 0; command = 0; transfer = None; halted = false })
+    taken-by k (accepted k side path t) j ways (record { side = side; number = t; connection = Connected path 0; command = 0; transfer = None; halted = false })
     (rises-to k (accepted k side path t) j (side_seen k j)
-    (held-seen (with_answered k side t) (Some (record { side = side; number = t; place = Connected path 0; command = 0; transfer = None; halted = false })) j ∙ other-seen k side j (record (side_seen k side) { number = t }) n) (omega arith))
+    (held-seen (with_answered k side t) (Some (record { side = side; number = t; connection = Connected path 0; command = 0; transfer = None; halted = false })) j ∙ other-seen k side j (record (side_seen k side) { number = t }) n) (omega arith))
     refl n
 other-follows k side j path (up.Busy t) ways n =
     stays-by k (with_answered k side t) j ways
@@ -187,8 +187,8 @@ other-follows k side j path (up.Attn a status) ways n = follows-same k j ways
 pub record IsMove (ways : Ways) (f : Held → Held) : Type 0 where
   pub side : (h : Held) → (f h).side ≡ h.side
   pub number : (h : Held) → (f h).number ≡ h.number
-  pub connection : (h : Held) → connection_of (f h).place ≡ connection_of h.place
-  pub placed : (h : Held) (t : ℕ) → IsPlaced ways t h.place → IsPlaced ways t (f h).place
+  pub connection : (h : Held) → connection_of (f h).connection ≡ connection_of h.connection
+  pub placed : (h : Held) (t : ℕ) → IsPlaced ways t h.connection → IsPlaced ways t (f h).connection
 
 moved-past : (ways : Ways) (f : Held → Held) (o : Option Held) (side : Side) (t c : ℕ) → IsMove ways f → IsPast o side t c → IsPast (option_map f o) side t c
 moved-past ways f None side t c m x = tt
@@ -199,7 +199,7 @@ moved-own : (ways : Ways) (f : Held → Held) (g : ℕ) (o : Option Held) (side 
 moved-own ways f g None side m x = tt
 moved-own ways f g (Some h) side m x = λ s.
     let y = x (sym (ap (λ (j : Side). same_side j side) (m.side h)) ∙ s) in
-    (subst (λ (n : ℕ). n ≤ g) (sym (m.number h)) y.0, subst (λ (n : ℕ). IsPlaced ways n (f h).place) (sym (m.number h)) (m.placed h h.number y.1))
+    (subst (λ (n : ℕ). n ≤ g) (sym (m.number h)) y.0, subst (λ (n : ℕ). IsPlaced ways n (f h).connection) (sym (m.number h)) (m.placed h h.number y.1))
 
 moved-follows : (k : Holding) (side : Side) (ways : Ways) (f : Held → Held) → IsMove ways f → Follows k (with_holder f k) side ways ways
 moved-follows k side ways f m =
@@ -227,10 +227,10 @@ parted-placed ways t (Asking p c) = tt
 parted-placed ways t (Apart c) = tt
 
 grant-move : (ways : Ways) → IsMove ways (moved granted)
-grant-move ways = record { side = λ h. refl; number = λ h. refl; connection = λ h. granted-connection h.place; placed = λ h t x. granted-placed ways t h.place x }
+grant-move ways = record { side = λ h. refl; number = λ h. refl; connection = λ h. granted-connection h.connection; placed = λ h t x. granted-placed ways t h.connection x }
 
 part-move : (ways : Ways) → IsMove ways (moved parted)
-part-move ways = record { side = λ h. refl; number = λ h. refl; connection = λ h. parted-connection h.place; placed = λ h t x. parted-placed ways t h.place }
+part-move ways = record { side = λ h. refl; number = λ h. refl; connection = λ h. parted-connection h.connection; placed = λ h t x. parted-placed ways t h.connection }
 
 pub transfer-follows : (k : Holding) (side : Side) (ways : Ways) (f : Transfer → Transfer) → Follows k (with_holder (with_transfer f) k) side ways ways
 transfer-follows k side ways f = moved-follows k side ways (with_transfer f) (record { side = λ h. refl; number = λ h. refl; connection = λ h. refl; placed = λ h t x. x })
@@ -286,9 +286,9 @@ not-next t n c m f =
     and-false true = refl
     and-false false = refl
 
-asked-if : (b : Bool) (h : Held) (path : ℕ) (ways : Ways) (p t c : ℕ) → ways t c ≡ Some p → (b ≡ true → h.number ≡ t → c ≤ connection_of h.place) →
-    (if b then with_way h.number (connection_of h.place + 1) path ways else ways) t c ≡ Some p
-asked-if true h path ways p t c e past = ap (λ (b : Bool). if b then Some path else ways t c) (not-next t h.number c (connection_of h.place) (past refl)) ∙ e
+asked-if : (b : Bool) (h : Held) (path : ℕ) (ways : Ways) (p t c : ℕ) → ways t c ≡ Some p → (b ≡ true → h.number ≡ t → c ≤ connection_of h.connection) →
+    (if b then with_way h.number (connection_of h.connection + 1) path ways else ways) t c ≡ Some p
+asked-if true h path ways p t c e past = ap (λ (b : Bool). if b then Some path else ways t c) (not-next t h.number c (connection_of h.connection) (past refl)) ∙ e
 asked-if false h path ways p t c e past = e
 
 asked-way : (o : Option Held) (side : Side) (path : ℕ) (ways : Ways) (p t c : ℕ) → ways t c ≡ Some p → IsPast o side t c → way_asked side path o ways t c ≡ Some p
@@ -303,8 +303,8 @@ asking-connection path (Apart c) = refl
 asked-past : (o : Option Held) (side : Side) (path t c : ℕ) → IsPast o side t c → IsPast (option_map (moved (asking path)) o) side t c
 asked-past None side path t c x = tt
 asked-past (Some h) side path t c x = λ s e.
-    let l : c ≤ connection_of h.place = x s e in
-    let n : connection_of (asking path h.place) ≡ connection_of h.place + 1 = asking-connection path h.place in
+    let l : c ≤ connection_of h.connection = x s e in
+    let n : connection_of (asking path h.connection) ≡ connection_of h.connection + 1 = asking-connection path h.connection in
     omega (arith, l, n)
 
 asking-placed : (path t : ℕ) (at : Connection) (ways : Ways) → ways t (connection_of at + 1) ≡ Some path → IsPlaced ways t (asking path at)
@@ -316,8 +316,8 @@ asked-own : (o : Option Held) (side : Side) (path : ℕ) (ways : Ways) (f : ℕ)
 asked-own None side path ways f x = tt
 asked-own (Some h) side path ways f x = λ s. (
   (x s).0,
-  asking-placed path h.number h.place (way_asked side path (Some h) ways)
-      (ap (λ (b : Bool). (if b then with_way h.number (connection_of h.place + 1) path ways else ways) h.number (connection_of h.place + 1)) s ∙ new-way h.number (connection_of h.place + 1) path ways),
+  asking-placed path h.number h.connection (way_asked side path (Some h) ways)
+      (ap (λ (b : Bool). (if b then with_way h.number (connection_of h.connection + 1) path ways else ways) h.number (connection_of h.connection + 1)) s ∙ new-way h.number (connection_of h.connection + 1) path ways),
 )
 
 ask-follows : (k : Holding) (side : Side) (path : ℕ) (ways : Ways) → Follows k (acted_after (act.Ask path) k) side ways (way_asked side path k.holder ways)

@@ -13,11 +13,11 @@ use Rattle.chan_model.specs.UnitReports.{is_outward, is_last_end}
 use Rattle.ccw_walk.specs.declared.check.Check.{Check}
 use Rattle.ccw_walk.specs.Sequences.{Sequence, ◌▸◌, ◌▸▸◌}
 use Rattle.ccw_walk.specs.Acts.{Act, End}
-use Rattle.ccw_walk.specs.Places.{WalkPlace, walk_place}
+use Rattle.ccw_walk.specs.Positions.{WalkPosition, walk_position}
 use Rattle.data_move.specs.Moving.{residual}
 use Rattle.data_move.specs.declared.transfer.Beginning.{Beginning}
 use Rattle.data_move.specs.declared.transfer.CommandStart.{CommandStart}
-use Rattle.data_move.specs.declared.transfer.CommandStart.TheVariants as came
+use Rattle.data_move.specs.declared.transfer.CommandStart.TheVariants as outcome
 use Rattle.data_move.specs.Commands.{next_command, begun_with_room, with_room}
 use Rattle.data_move.specs.FromDevice.{chunk_stored}
 use Rattle.data_move.specs.ChunkNumbers.{is_answered}
@@ -52,11 +52,11 @@ use Rattle.run_laws.proofs.Traces.Holds.{HasWork, IsHeld}
 use Rattle.run_laws.proofs.Traces.HoldMeets.{chains-facts, ending, next-went, end-left}
 
 -- a status shows its address and its count
-abbrev pub HasPlace : Scsw → ℕ → ℕ → Type 0
-HasPlace scsw address count = (scsw.command_address ≡ address) × (scsw.count ≡ count)
+abbrev pub HasPosition : Scsw → ℕ → ℕ → Type 0
+HasPosition scsw address count = (scsw.command_address ≡ address) × (scsw.count ≡ count)
 
 joined-count : (b : Bool) (scsw : Scsw) (shown : Shown) →
-    HasPlace
+    HasPosition
     (if b then with_joined scsw scsw.status scsw.device_status scsw.subchannel_status shown
     else with_joined scsw no_status no_device_status no_subchannel_status shown)
     shown.command_address shown.count
@@ -64,7 +64,7 @@ joined-count true scsw shown = (refl, refl)
 joined-count false scsw shown = (refl, refl)
 
 pub status-count : (enabled : Bool) (scsw : Scsw) (x : Serials) (shown : Shown) → x.made < (serials_made enabled x).made →
-    HasPlace (scsw_made enabled scsw shown) shown.command_address shown.count
+    HasPosition (scsw_made enabled scsw shown) shown.command_address shown.count
 status-count true scsw x shown l = joined-count scsw.status.pending scsw shown
 status-count false scsw x shown l = absurd (omega (arith, l))
 
@@ -75,13 +75,13 @@ ShowsRestOf made s k = made < s.serials.made → IsRestAt s.scsw.command_address
 pub unmade : (made : ℕ) (s : SubchannelState) (k : ProgramTrace) → s.serials.made ≡ made → ShowsRestOf made s k
 unmade made s k e = λ l. absurd (omega (arith, e, l))
 
-pub counted : (scsw : Scsw) (address count : ℕ) (k : ProgramTrace) → HasPlace scsw address count → IsRestAt address count k → IsRestAt scsw.command_address scsw.count k
+pub counted : (scsw : Scsw) (address count : ℕ) (k : ProgramTrace) → HasPosition scsw address count → IsRestAt address count k → IsRestAt scsw.command_address scsw.count k
 counted scsw address count k e r = (e.0 ∙ r.0, subst (λ (x : ℕ). IsRest x k) (sym e.1) r.1)
 
 -- of a command at work
 pub rest-of : (b : ActiveProgram) (k : ProgramTrace) → HasWork (Some b) k → IsRestAt b.transfer.walk.tried (residual b.transfer.moving) k
 rest-of b k w =
-    (ap (λ (x : WalkPlace). x.tried) w.0.tied.walk, spot-counts k.orb (data_areas k.orb k.now.acts) b.transfer k.now.moved w.0.tied.spot)
+    (ap (λ (x : WalkPosition). x.tried) w.0.tied.walk, spot-counts k.orb (data_areas k.orb k.now.acts) b.transfer k.now.moved w.0.tied.spot)
 
 -- an interruption by the program
 pub interrupted-shows : (s : SubchannelState) (b : ActiveProgram) (k : ProgramTrace) (x : Bool) →
@@ -125,12 +125,12 @@ data-shows storage s signal load k true h = begun-shows storage s s.begun signal
 data-shows storage s signal load k false h = unmade s.serials.made s k refl
 
 -- a command can't begin: what is fetched for it takes no control
-pub rest-stays : (k : ProgramTrace) (acts : Sequence Act) (before : Sequence Act) (walk : WalkPlace) (n : ℕ) → walk ≡ walk_place k.orb (k.now.acts ▸▸ acts) →
+pub rest-stays : (k : ProgramTrace) (acts : Sequence Act) (before : Sequence Act) (walk : WalkPosition) (n : ℕ) → walk ≡ walk_position k.orb (k.now.acts ▸▸ acts) →
     data_areas k.orb (k.now.acts ▸▸ acts) ≡ data_areas k.orb before →
     data_areas k.orb before ≡ data_areas k.orb k.now.acts → IsRest n k → IsRestAt walk.tried n (record k { now = with_acts k.now acts })
-rest-stays k acts before walk n w e f r = (ap (λ (x : WalkPlace). x.tried) w, ap counts (e ∙ f) ∙ r)
+rest-stays k acts before walk n w e f r = (ap (λ (x : WalkPosition). x.tried) w, ap counts (e ∙ f) ∙ r)
 
-pub suspended-shows : (s : SubchannelState) (program : Program) (walk : WalkPlace) (count : ℕ) (k : ProgramTrace) (x : Bool) → IsRestAt walk.tried count k →
+pub suspended-shows : (s : SubchannelState) (program : Program) (walk : WalkPosition) (count : ℕ) (k : ProgramTrace) (x : Bool) → IsRestAt walk.tried count k →
     ShowsRestOf s.serials.made (device_released (if x then record (with_suspended_program s program walk count) { scsw = suspended_alone s.scsw }
     else with_cause (with_suspended_program s program walk count) (cause.Suspension walk.tried count))).state k
 suspended-shows s program walk count k true r = λ l. absurd (omega (arith, l))
@@ -149,7 +149,7 @@ fault-shows s (Some b) tried check count k r =
 -- an End after which nothing is chained
 last-count : (s next : SubchannelState) (b : ActiveProgram) (k : ProgramTrace) (status : DeviceStatus) (more last : Bool) (w : Option Program) →
     (let shown : Shown = if last then last_shown s.scsw b w status more else channel_end_shown s.scsw b status more in
-    s.serials.made < next.serials.made → HasPlace next.scsw shown.command_address shown.count) →
+    s.serials.made < next.serials.made → HasPosition next.scsw shown.command_address shown.count) →
     IsRestAt b.transfer.walk.tried (residual b.transfer.moving) k → IsShownBy (is_none w || not last) s next k
 last-count s next b k status more true None f r = λ l. counted next.scsw b.transfer.walk.tried (residual b.transfer.moving) k (f l) r
 last-count s next b k status more true (Some program) f r = f
@@ -159,7 +159,7 @@ last-count s next b k status more false (Some program) f r = λ l. counted next.
 module _ (laws : AreLaws) (accesses : AreAccesses) where
   stops-count : (s : SubchannelState) (b : ActiveProgram) (signal : EndSignal) (shown : Shown) (last : Bool) →
       let after : SubchannelState = (if last then device_released (end-left laws accesses s b signal shown last) else outcomes.signal_taken (end-left laws accesses s b signal shown last)).state in
-      s.serials.made < after.serials.made → HasPlace after.scsw shown.command_address shown.count
+      s.serials.made < after.serials.made → HasPosition after.scsw shown.command_address shown.count
   stops-count s b signal shown true l = status-count s.pmcw.enabled (scsw_joined s.pmcw.enabled s.scsw s.scsw) s.serials shown l
   stops-count s b signal shown false l = status-count s.pmcw.enabled (scsw_joined s.pmcw.enabled s.scsw s.scsw) s.serials shown l
 
@@ -169,17 +169,17 @@ module _ (laws : AreLaws) (accesses : AreAccesses) where
       last-count s (on_end.concludes s b signal).state b (stories.ends_alone signal.status k) signal.status signal.more (is_last_end signal.status) s.waiting
       (stops-count s b signal (end_shown s b signal.status signal.more) (is_last_end signal.status)) (rest-of b k w)
 
-  chains-shows : (storage : Contents) (s : SubchannelState) (b : ActiveProgram) (k : ProgramTrace) (signal : EndSignal) (walk : WalkPlace) (c : CommandStart) (acts before : Sequence Act) (n : ℕ) →
+  chains-shows : (storage : Contents) (s : SubchannelState) (b : ActiveProgram) (k : ProgramTrace) (signal : EndSignal) (walk : WalkPosition) (c : CommandStart) (acts before : Sequence Act) (n : ℕ) →
       WentOn k.earlier laws storage k.orb before (k.now.acts ▸▸ acts) n walk c → data_areas k.orb before ≡ data_areas k.orb k.now.acts →
       IsRest (residual b.transfer.moving) k → IsHeld (on_end.next_ccw_outcome storage s (with_first_end b) signal walk c).state (stories.trace_goes_on storage c acts k) →
       ShowsRestOf s.serials.made (on_end.next_ccw_outcome storage s (with_first_end b) signal walk c).state (stories.trace_goes_on storage c acts k)
-  chains-shows storage s b k signal walk (came.Begins transfer) acts before n w e r h =
+  chains-shows storage s b k signal walk (outcome.Begins transfer) acts before n w e r h =
       let t = (begun_with_room storage transfer).transfer in
-      interrupted-shows (command_spec.with_transfer s (with_first_end b) t) (record (with_first_end b) { transfer = t }) (stories.trace_goes_on storage (came.Begins transfer) acts k) t.pci_pending h
-  chains-shows storage s b k signal walk came.Suspends acts before n w e r h =
+      interrupted-shows (command_spec.with_transfer s (with_first_end b) t) (record (with_first_end b) { transfer = t }) (stories.trace_goes_on storage (outcome.Begins transfer) acts k) t.pci_pending h
+  chains-shows storage s b k signal walk outcome.Suspends acts before n w e r h =
       suspended-shows (on_end.with_allegiance_after_end s signal) b.program walk (residual b.transfer.moving) (record k { now = with_acts k.now acts }) b.program.orb.suppress_suspended
       (rest-stays k acts before walk (residual b.transfer.moving) w.4 w.1 e r)
-  chains-shows storage s b k signal walk (came.Stops check) acts before n w e r h =
+  chains-shows storage s b k signal walk (outcome.Stops check) acts before n w e r h =
       fault-shows (on_end.with_allegiance_after_end s signal) s.begun walk.tried check (residual b.transfer.moving) (record k { now = with_acts k.now acts })
       (rest-stays k acts before walk (residual b.transfer.moving) w.5 w.1 e r)
 
@@ -187,11 +187,11 @@ module _ (laws : AreLaws) (accesses : AreAccesses) where
       HasWork (Some b) k →
       let next : Beginning = next_command storage b.transfer (has_status_modifier signal.status) in
       let after : SubchannelState = (chains_with storage s (with_first_end b) signal next).state in
-      let now : ProgramTrace = stories.trace_goes_on storage next.came (next_acts storage b.transfer (has_status_modifier signal.status)) k in
+      let now : ProgramTrace = stories.trace_goes_on storage next.outcome (next_acts storage b.transfer (has_status_modifier signal.status)) k in
       IsHeld after now → ShowsRestOf s.serials.made after now
   next-shows storage s b k signal c w h =
       let f : (_ : b.transfer.moving.ccw.chain_data ≡ false) × (is_some b.transfer.fault ≡ false) = chains-facts laws accesses s.scsw b signal.status signal.more c in
       let modifier : Bool = has_status_modifier signal.status in
       let next : Beginning = next_command storage b.transfer modifier in
-      chains-shows storage s b k signal next.walk next.came (next_acts storage b.transfer modifier) (k.now.acts ▸ End (ending laws accesses modifier)) (b.transfer.command + 1)
+      chains-shows storage s b k signal next.walk next.outcome (next_acts storage b.transfer modifier) (k.now.acts ▸ End (ending laws accesses modifier)) (b.transfer.command + 1)
       (next-went laws accesses k.earlier storage k.orb k.now b.transfer modifier w.0.tied f.0 f.1) refl (rest-of b k w).1 h

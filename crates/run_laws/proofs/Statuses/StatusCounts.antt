@@ -11,7 +11,7 @@ use Rattle.chan_model.specs.declared.signal.Down.TheVariants as down
 use Rattle.chan_model.specs.HoldTable as hold_table
 use Rattle.chan_model.specs.HoldTable.{HoldStep}
 use Rattle.chan_events.specs.declared.reply.Reply.TheVariants as reply
-use Rattle.ccw_walk.specs.Places.{WalkPlace}
+use Rattle.ccw_walk.specs.Positions.{WalkPosition}
 use Rattle.data_move.specs.Moving.{residual}
 use Rattle.scsw_irb.specs.declared.scsw.Scsw.{Scsw}
 use Rattle.scsw_irb.specs.declared.status.DeviceStatus.{DeviceStatus}
@@ -36,13 +36,13 @@ use Rattle.subchannel_model.specs.Accept.{halt_performed}
 use Rattle.subchannel_model.specs.Cleared.{takes_cleared}
 use Rattle.subchannel_model.specs.SystemReset.{state_reset}
 use Rattle.machine_model.specs.ChooseSteps.{choose_sub}
-use Rattle.machine_model.specs.Turns.{SubTurn}
+use Rattle.machine_model.specs.Results.{SubResult}
 use Rattle.machine_model.specs.declared.state.Sweep.{Sweep}
 use Rattle.machine_model.specs.PathSteps.{swept}
 use Rattle.run_laws.specs.Shows.{IsStandingShown, IsZeroShown, IsShownBy, IsShownOf, is_of_program}
 use Rattle.run_laws.specs.Traces.{ProgramTrace}
 use Rattle.run_laws.proofs.Traces.Holds.{HasWork, IsStanding, HeldBy}
-use Rattle.run_laws.proofs.Statuses.Shows.{HasPlace, status-count, counted, rest-of}
+use Rattle.run_laws.proofs.Statuses.Shows.{HasPosition, status-count, counted, rest-of}
 use Rattle.run_laws.proofs.Traces.Sweeps.{swept-kept}
 use Rattle.run_laws.proofs.Links.Vanishing.{send-ok}
 
@@ -59,36 +59,36 @@ none-counted s next k e = none-by (is_of_program s) s next k e
 
 -- where a status was made, its address and its count are those of the program of which it speaks
 abbrev pub ShowsItsProgram : SubchannelState → SubchannelState → Type 0
-ShowsItsProgram s next = s.serials.made < next.serials.made → HasPlace next.scsw (address_shown s) (count_shown s)
+ShowsItsProgram s next = s.serials.made < next.serials.made → HasPosition next.scsw (address_shown s) (count_shown s)
 
 -- by its programs
 abbrev address_by : ℕ → Option Program → Option ActiveProgram → Option ProgramPosition → ℕ
 address_by stands waiting begun suspended = of_program stands (λ b. b.transfer.walk.tried) (λ st. st.walk.tried) waiting begun suspended
 
-abbrev HasPlaceBy : Scsw → Scsw → Option Program → Option ActiveProgram → Option ProgramPosition → Type 0
-HasPlaceBy next scsw waiting begun suspended =
-    HasPlace next (address_by scsw.command_address waiting begun suspended) (program_count scsw.count waiting begun suspended)
+abbrev HasPositionBy : Scsw → Scsw → Option Program → Option ActiveProgram → Option ProgramPosition → Type 0
+HasPositionBy next scsw waiting begun suspended =
+    HasPosition next (address_by scsw.command_address waiting begun suspended) (program_count scsw.count waiting begun suspended)
 
 pub none-made : (s next : SubchannelState) → next.serials.made ≡ s.serials.made → ShowsItsProgram s next
 none-made s next e = λ l. absurd (omega (arith, e, l))
 
 -- so they are of the program at work, or of the suspended one; or they stand
 count-of : (s next : SubchannelState) (w : Option Program) (b : Option ActiveProgram) (st : Option ProgramPosition) (k : ProgramTrace) → HasWork b k → IsStanding w b st k →
-    (s.serials.made < next.serials.made → HasPlaceBy next.scsw s.scsw w b st) → IsShownBy (is_none w && (is_some b || is_some st)) s next k
+    (s.serials.made < next.serials.made → HasPositionBy next.scsw s.scsw w b st) → IsShownBy (is_none w && (is_some b || is_some st)) s next k
 count-of s next (Some program) b st k h x f = f
 count-of s next None (Some b) st k h x f = λ l. counted next.scsw b.transfer.walk.tried (residual b.transfer.moving) k (f l) (rest-of b k h)
-count-of s next None None (Some st) k h x f = λ l. counted next.scsw st.walk.tried st.count k (f l) (ap (λ (y : WalkPlace). y.tried) x.2, x.4)
+count-of s next None None (Some st) k h x f = λ l. counted next.scsw st.walk.tried st.count k (f l) (ap (λ (y : WalkPosition). y.tried) x.2, x.4)
 count-of s next None None None k h x f = f
 
-place-stands : (next scsw : Scsw) (w : Option Program) (b : Option ActiveProgram) (st : Option ProgramPosition) → b ≡ None → st ≡ None →
-    HasPlaceBy next scsw w b st → HasPlace next scsw.command_address scsw.count
-place-stands next scsw (Some program) b st e f g = g
-place-stands next scsw None None None e f g = g
-place-stands next scsw None None (Some st) e f g = absurd (cc f)
-place-stands next scsw None (Some b) st e f g = absurd (cc e)
+index-stands : (next scsw : Scsw) (w : Option Program) (b : Option ActiveProgram) (st : Option ProgramPosition) → b ≡ None → st ≡ None →
+    HasPositionBy next scsw w b st → HasPosition next scsw.command_address scsw.count
+index-stands next scsw (Some program) b st e f g = g
+index-stands next scsw None None None e f g = g
+index-stands next scsw None None (Some st) e f g = absurd (cc f)
+index-stands next scsw None (Some b) st e f g = absurd (cc e)
 
 pub of-program : (s next : SubchannelState) (k : Option ProgramTrace) → HeldBy s k → ShowsItsProgram s next → IsShownOf s next k
-of-program s next None h f = λ l. place-stands next.scsw s.scsw s.waiting s.begun s.suspended h.begun h.suspended (f l)
+of-program s next None h f = λ l. index-stands next.scsw s.scsw s.waiting s.begun s.suspended h.begun h.suspended (f l)
 of-program s next (Some k) h f = count-of s next s.waiting s.begun s.suspended k h.work h.standing f
 
 -- a halt that is performed
@@ -131,7 +131,7 @@ pub attended-left : (s : SubchannelState) (p a : ℕ) (status : DeviceStatus) �
     IsStandingShown s (on_attention.takes_attention s status (hold_table.attended s.hold s.hold.phase p a (on_attention.may_take_attention s))).state
 attended-left s p a status =
     let step : Option HoldStep = hold_table.attended s.hold s.hold.phase p a (on_attention.may_take_attention s) in
-    attention-left (record s { hold = hold_table.hold_after s.hold step }) ((hold_table.came_of step).taken && not (status.0 == 0x20))
+    attention-left (record s { hold = hold_table.hold_after s.hold step }) ((hold_table.outcome_of step).taken && not (status.0 == 0x20))
 
 -- the hold is to be reset as a path is lost, or as the unit was restarted
 reset-shows : (s : SubchannelState) (shows : Bool) → ShowsItsProgram s (reset_with s shows)
@@ -250,11 +250,11 @@ marked-shows : (sub : Subchannel) (choice : Option ℕ) (clear : Option Chosen) 
 marked-shows sub choice None next f = f
 marked-shows sub choice (Some c) next f = f
 
-pub chosen-shows : (sub : Subchannel) (choice : Option ℕ) (t : SubTurn) → choose_sub (marked_sub sub choice) (chosen sub choice) ≡ Ok t →
+pub chosen-shows : (sub : Subchannel) (choice : Option ℕ) (t : SubResult) → choose_sub (marked_sub sub choice) (chosen sub choice) ≡ Ok t →
     ChooseShows (clear_of sub.state) sub.state t.sub.state
 chosen-shows sub choice t e =
     let clear : Option Chosen = clear_of sub.state in
     let marked : Subchannel = marked_sub sub choice in
     marked-shows sub choice clear t.sub.state
-    (subst (λ (r : Result SubTurn Fault). IfOk r (λ t. ChooseShows clear marked.state t.sub.state)) e
+    (subst (λ (r : Result SubResult Fault). IfOk r (λ t. ChooseShows clear marked.state t.sub.state)) e
     (choose-shows clear marked (chosen sub choice) (chosen-clear sub choice)))

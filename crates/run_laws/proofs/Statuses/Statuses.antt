@@ -18,7 +18,7 @@ use Rattle.ccw_walk.specs.Acts.{Act}
 use Rattle.subchannel_model.specs.declared.state.Subchannel.{Subchannel}
 use Rattle.subchannel_model.specs.declared.state.SubchannelState.{SubchannelState}
 use Rattle.subchannel_model.specs.Choosing.{unsent_reset, clear_chosen}
-use Rattle.machine_model.specs.State.{State, place_of}
+use Rattle.machine_model.specs.State.{State, index_of}
 use Rattle.run_laws.proofs.Signals.Overs.{over-stops}
 use Rattle.run_laws.proofs.Offers.Offers.{ahead-over}
 use Rattle.run_laws.specs.Shows.{ShowsStanding, ShowsIf, ShowsZero, IsShownOf}
@@ -165,8 +165,8 @@ abbrev pub IsNoInstruction : Event → Type 0
 IsNoInstruction (event.Execute cpu i) = ⊥
 IsNoInstruction e = Unit {0}
 
--- a step: the subchannel of a place before it and after it
-module _ (over behind : Bool) (s new : State) (place : ℕ) (old sub : Subchannel) (there : slice_get s.subs place ≡ Some old) (here : slice_get new.subs place ≡ Some sub)
+-- a step: the subchannel of an index before it and after it
+module _ (over behind : Bool) (s new : State) (index : ℕ) (old sub : Subchannel) (there : slice_get s.subs index ≡ Some old) (here : slice_get new.subs index ≡ Some sub)
     (p : TellsPrograms old.state) (made : old.state.serials.made < sub.state.serials.made) where
   abbrev Shown : Event → Reply → Option ProgramTrace → Type 0
   Shown e r k = ShowsAfter over behind e r old.state.scsw sub.state.scsw k
@@ -176,8 +176,8 @@ module _ (over behind : Bool) (s new : State) (place : ℕ) (old sub : Subchanne
       ((t : ℕ) (sent : Option (OnPath Down)) → r ≡ reply.Up (up.Accept t) true sent → IsJust over old.state)
       × ((t n : ℕ) (status : DeviceStatus) (more : Bool) (sent : Option (OnPath Down)) → r ≡ reply.Up (up.End t n status more) true sent → is_some old.state.begun ≡ true)
 
-  signal-shown : (b : IsBehind behind old.state) (mine : Bool) (word path : ℕ) (signal : Up) (sent : Option (OnPath Down)) (k after : Option ProgramTrace) → is_path (place_of s word) place ≡ mine →
-      (mine ≡ true → IsSuitedTo (reply.Up signal true sent)) → GoesBy place s (event.Up word path) (reply.Up signal true sent) new k after →
+  signal-shown : (b : IsBehind behind old.state) (mine : Bool) (word path : ℕ) (signal : Up) (sent : Option (OnPath Down)) (k after : Option ProgramTrace) → is_path (index_of s word) index ≡ mine →
+      (mine ≡ true → IsSuitedTo (reply.Up signal true sent)) → GoesBy index s (event.Up word path) (reply.Up signal true sent) new k after →
       Shown (event.Up word path) (reply.Up signal true sent) after
   signal-shown b true word path signal sent k after mine suited goes =
       both-shown old.state sub.state p behind b made over s.storage new.storage signal sent k after (
@@ -187,16 +187,16 @@ module _ (over behind : Bool) (s new : State) (place : ℕ) (old sub : Subchanne
   signal-shown b false word path signal sent k after mine suited goes =
       let same : sub.state.serials.made ≡ old.state.serials.made = (goes.0 mine).1 old sub there here in absurd (omega (arith, same, made))
 
-  up-shown : (b : IsBehind behind old.state) (word path : ℕ) (r : Reply) (k after : Option ProgramTrace) → (is_path (place_of s word) place ≡ true → IsSuitedTo r) →
-      GoesBy place s (event.Up word path) r new k after → Shown (event.Up word path) r after
+  up-shown : (b : IsBehind behind old.state) (word path : ℕ) (r : Reply) (k after : Option ProgramTrace) → (is_path (index_of s word) index ≡ true → IsSuitedTo r) →
+      GoesBy index s (event.Up word path) r new k after → Shown (event.Up word path) r after
   up-shown b word path (reply.Up signal true sent) k after suited goes =
-      signal-shown b (is_path (place_of s word) place) word path signal sent k after refl suited goes
+      signal-shown b (is_path (index_of s word) index) word path signal sent k after refl suited goes
   up-shown b word path r k after suited goes = tt
 
-  choose-shown : (b : IsBehind behind old.state) (word : ℕ) (r : Reply) (k after : Option ProgramTrace) → GoesBy place s (event.Choose word) r new k after → Shown (event.Choose word) r after
+  choose-shown : (b : IsBehind behind old.state) (word : ℕ) (r : Reply) (k after : Option ProgramTrace) → GoesBy index s (event.Choose word) r new k after → Shown (event.Choose word) r after
   choose-shown b word reply.Pending k after goes =
       subst (λ (x : Option ProgramTrace). ShowsChosen old.state.scsw.activity.clear_pending behind old.state.scsw sub.state.scsw x)
-      (sym (goes.0 ∙ pending-same (is_path (place_of s word) place) (slice_get s.subs place) k))
+      (sym (goes.0 ∙ pending-same (is_path (index_of s word) index) (slice_get s.subs index) k))
       (chosen-shown old.state sub.state p behind b made (unsent_reset old.state.hold) old.state.scsw.activity.clear_pending k refl (goes.1 old sub there here))
   choose-shown b word r k after goes = tt
 
@@ -204,8 +204,8 @@ module _ (over behind : Bool) (s new : State) (place : ℕ) (old sub : Subchanne
   lost-shown b k after e f = subst (λ (x : Option ProgramTrace). ShowsOf behind old.state.scsw sub.state.scsw x) (sym e) (of-shown old.state sub.state p behind b made k f)
 
   pub step-shown : (e : Event) (r : Reply) (k after : Option ProgramTrace) →
-      (IsNoInstruction e → IsBehind behind old.state) → ((word path : ℕ) → e ≡ event.Up word path → is_path (place_of s word) place ≡ true → IsSuitedTo r) →
-      GoesBy place s e r new k after → Shown e r after
+      (IsNoInstruction e → IsBehind behind old.state) → ((word path : ℕ) → e ≡ event.Up word path → is_path (index_of s word) index ≡ true → IsSuitedTo r) →
+      GoesBy index s e r new k after → Shown e r after
   step-shown (event.Choose word) r k after b suited goes = choose-shown (b tt) word r k after goes
   step-shown (event.Up word path) r k after b suited goes = up-shown (b tt) word path r k after (λ mine. suited word path refl mine) goes
   step-shown (event.PathDown chpid) r k after b suited goes = lost-shown (b tt) k after goes.0 (goes.1 old sub there here)

@@ -19,12 +19,12 @@ use Rattle.subchannel_model.specs.Test.{ends_suspended, tested, tested_wholly}
 use Rattle.machine_model.specs.InstructionSteps.{function_sub, test_with}
 use Rattle.machine_model.specs.PathSteps.{swept}
 use Rattle.machine_model.specs.State.{State}
-use Rattle.machine_model.specs.Turns.{DownTurn}
+use Rattle.machine_model.specs.Results.{DownResult}
 use Rattle.step_laws.specs.Walks as walked
 use Rattle.step_laws.specs.Walks.{Walked, Function, IsQuiet, effect_of}
-use Rattle.step_laws.proofs.Places.{set-get, map-get}
+use Rattle.step_laws.proofs.Indices.{set-get, map-get}
 use Rattle.run_laws.specs.Shows.{IsZeroShown, IsShownOf}
-use Rattle.run_laws.specs.Tells.{ShowsBy, AtPlace, IsShownOfChoice}
+use Rattle.run_laws.specs.Tells.{ShowsBy, AtIndex, IsShownOfChoice}
 use Rattle.run_laws.specs.Traces.{ProgramTrace}
 use Rattle.run_laws.proofs.Traces.Holds.{HeldBy}
 use Rattle.run_laws.proofs.Statuses.StatusCounts.{none-left, none-counted, clear_of, ChooseShows, chosen-shows, of-program, swept-shows}
@@ -75,27 +75,27 @@ function-made : (sub : Subchannel) (c : ConditionCode) (effect : SubchannelState
 function-made sub code.Zero effect e = e
 function-made sub c effect e = refl
 
-module _ (s : State) (place : ℕ) where
+module _ (s : State) (index : ℕ) where
   -- where the subchannels stay, and where one was changed
-  all-stay : (new : State) (P : SubchannelState → SubchannelState → Type 0) → new.subs ≡ s.subs → ((x : SubchannelState) → P x x) → AtPlace place s new P
+  all-stay : (new : State) (P : SubchannelState → SubchannelState → Type 0) → new.subs ≡ s.subs → ((x : SubchannelState) → P x x) → AtIndex index s new P
   all-stay new P subs same x next f g =
-      let is : x ≡ next = cc (sym f ∙ subst (λ (xs : List Subchannel). slice_get xs place ≡ Some next) subs g) in
+      let is : x ≡ next = cc (sym f ∙ subst (λ (xs : List Subchannel). slice_get xs index ≡ Some next) subs g) in
       subst (λ (y : Subchannel). P x.state y.state) is (same x.state)
 
   one-changes : (new : State) (at : ℕ) (sub after : Subchannel) (P : SubchannelState → SubchannelState → Type 0) → slice_get s.subs at ≡ Some sub →
-      new.subs ≡ slice_set s.subs at after → (slice_get s.subs place ≡ Some sub → P sub.state after.state) → ((x : SubchannelState) → P x x) → AtPlace place s new P
+      new.subs ≡ slice_set s.subs at after → (slice_get s.subs index ≡ Some sub → P sub.state after.state) → ((x : SubchannelState) → P x x) → AtIndex index s new P
   one-changes new at sub after P there subs mine same x next f g =
-      elim (set-get s.subs at after place next (subst (λ (xs : List Subchannel). slice_get xs place ≡ Some next) subs g)) [
+      elim (set-get s.subs at after index next (subst (λ (xs : List Subchannel). slice_get xs index ≡ Some next) subs g)) [
         | inl w ↦
-            let here : slice_get s.subs place ≡ Some sub = subst (λ (i : ℕ). slice_get s.subs i ≡ Some sub) (sym w.0) there in
+            let here : slice_get s.subs index ≡ Some sub = subst (λ (i : ℕ). slice_get s.subs i ≡ Some sub) (sym w.0) there in
             let was : sub ≡ x = cc (sym here ∙ f) in
             subst (λ (y : Subchannel). P y.state next.state) was (subst (λ (y : Subchannel). P sub.state y.state) (sym w.1) (mine here))
         | inr w ↦ let is : x ≡ next = cc (sym f ∙ w.1) in subst (λ (y : Subchannel). P x.state y.state) is (same x.state)
       ]
 
-  module _ (k : Option ProgramTrace) (held : (sub : Subchannel) → slice_get s.subs place ≡ Some sub → HeldBy sub.state k) where
+  module _ (k : Option ProgramTrace) (held : (sub : Subchannel) → slice_get s.subs index ≡ Some sub → HeldBy sub.state k) where
     abbrev AllShow : Event → State → Type 0
-    AllShow e new = AtPlace place s new (λ x y. ShowsBy e x y k)
+    AllShow e new = AtIndex index s new (λ x y. ShowsBy e x y k)
 
     unshown : (e : Event) (new : State) → new.subs ≡ s.subs → AllShow e new
     unshown e new subs = all-stay new (λ x y. ShowsBy e x y k) subs (λ x. none-made e x x k refl)
@@ -127,17 +127,17 @@ module _ (s : State) (place : ℕ) where
     walk-shows _ _ _ (walked.Met word path returns at sub t new named h o may) n = absurd (n word path refl)
     walk-shows _ _ _ (walked.Sunk word path may owed at sub u t new named h o) n =
         one-unshown (event.Down word path) new at sub t.sub o.there o.subs
-        (state-made sub t.sub (subst (λ (r : Result DownTurn Fault). IfOk r (λ t. IsSameSub sub t.sub)) h (down-same may sub path u)))
+        (state-made sub t.sub (subst (λ (r : Result DownResult Fault). IfOk r (λ t. IsSameSub sub t.sub)) h (down-same may sub path u)))
     walk-shows _ _ _ (walked.Reported i at sub u report t new found reached h o) n =
         one-unshown (event.Report i report) new at sub t.sub o.there o.subs
-        (state-made sub t.sub (subst (λ (r : Result DownTurn Fault). IfOk r (λ t. IsSameSub sub t.sub)) h (report-same sub u report)))
+        (state-made sub t.sub (subst (λ (r : Result DownResult Fault). IfOk r (λ t. IsSameSub sub t.sub)) h (report-same sub u report)))
     walk-shows _ _ _ (walked.Acted i at sub u what t new side its h o) n =
-        let acted : IsActed sub u t = subst (λ (r : Result DownTurn Fault). IfOk r (IsActed sub u)) h (act-acted sub u what) in
+        let acted : IsActed sub u t = subst (λ (r : Result DownResult Fault). IfOk r (IsActed sub u)) h (act-acted sub u what) in
         one-unshown (event.Act i what) new at sub t.sub o.there o.subs (ap (λ (x : Subchannel). x.state.serials.made) acted.sub_is)
     walk-shows _ _ _ (walked.Restarted i owed u r new found sets subs units up) n = unshown (event.Restart i) new subs
     walk-shows _ _ _ (walked.Swept e r what new q sets subs units by) n = λ x next f g.
-        let a : (sub : Subchannel) × (slice_get s.subs place ≡ Some sub) × (swept what sub ≡ next) =
-        map-get (swept what) s.subs place next (subst (λ (xs : List Subchannel). slice_get xs place ≡ Some next) subs g) in
+        let a : (sub : Subchannel) × (slice_get s.subs index ≡ Some sub) × (swept what sub ≡ next) =
+        map-get (swept what) s.subs index next (subst (λ (xs : List Subchannel). slice_get xs index ≡ Some next) subs g) in
         let was : a.0 ≡ x = cc (sym a.1 ∙ f) in
         subst (λ (y : Subchannel). ShowsBy e y.state next.state k) was
         (subst (λ (y : Subchannel). ShowsBy e a.0.state y.state k) a.2

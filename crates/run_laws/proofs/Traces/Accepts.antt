@@ -11,10 +11,10 @@ use Rattle.chan_model.specs.HoldTable.{HoldStep}
 use Rattle.ccw_walk.specs.Sequences.{Sequence, ◌▸▸◌, count}
 use Rattle.ccw_walk.specs.Acts.{Act}
 use Rattle.ccw_walk.specs.Programs.{IsProgram, role_of, next, commands}
-use Rattle.ccw_walk.specs.Places.{WalkPlace, walk_place}
+use Rattle.ccw_walk.specs.Positions.{WalkPosition, walk_position}
 use Rattle.ccw_walk.specs.Advancing.{advance_acts}
 use Rattle.data_move.specs.declared.transfer.CommandStart.{CommandStart}
-use Rattle.data_move.specs.declared.transfer.CommandStart.TheVariants as came
+use Rattle.data_move.specs.declared.transfer.CommandStart.TheVariants as outcome
 use Rattle.data_move.specs.Commands.{first_command, begun_with_room}
 use Rattle.subchannel_model.specs.declared.state.ActiveProgram.{ActiveProgram}
 use Rattle.subchannel_model.specs.declared.state.Program.{Program}
@@ -47,15 +47,15 @@ use Rattle.run_laws.proofs.Offers.Offers.{IsOffered, IsOfferedAt, beginning, beg
 use Rattle.run_laws.proofs.Traces.Sequences.{count-joined}
 
 -- the signal is taken
-starts-taken : (storage : Contents) (s : SubchannelState) (p t : ℕ) (st : ProgramPosition) (walk : WalkPlace) (c : CommandStart) →
-    (on_accept.first_ccw_outcome storage s p t st walk c).came.taken ≡ true
-starts-taken storage s p t st walk (came.Begins transfer) = refl
-starts-taken storage s p t st walk came.Suspends = refl
-starts-taken storage s p t st walk (came.Stops check) = refl
+starts-taken : (storage : Contents) (s : SubchannelState) (p t : ℕ) (st : ProgramPosition) (walk : WalkPosition) (c : CommandStart) →
+    (on_accept.first_ccw_outcome storage s p t st walk c).outcome.taken ≡ true
+starts-taken storage s p t st walk (outcome.Begins transfer) = refl
+starts-taken storage s p t st walk outcome.Suspends = refl
+starts-taken storage s p t st walk (outcome.Stops check) = refl
 
-standing-taken : (storage : Contents) (s : SubchannelState) (p t : ℕ) (o : Option ProgramPosition) → (on_accept.begins_at storage s p t o).came.taken ≡ true
+standing-taken : (storage : Contents) (s : SubchannelState) (p t : ℕ) (o : Option ProgramPosition) → (on_accept.begins_at storage s p t o).outcome.taken ≡ true
 standing-taken storage s p t None = refl
-standing-taken storage s p t (Some st) = starts-taken storage s p t st (first_command storage st.walk).walk (first_command storage st.walk).came
+standing-taken storage s p t (Some st) = starts-taken storage s p t st (first_command storage st.walk).walk (first_command storage st.walk).outcome
 
 -- where the program does not go ahead it is over, or a halt is pending
 over-by : (pending : Bool) (w : Option Program) (st : Option ProgramPosition) (start : ℕ) → (is_some (position_of_start w st start) && not pending) ≡ false →
@@ -100,75 +100,75 @@ longer more before l e =
 module _ (laws : AreLaws) where
   -- a program goes on from where it stands, and what status shows then are its address and its count
   abbrev Starts : Contents → SubchannelState → UpStep → ProgramTrace → ProgramTrace → Type 0
-  Starts storage s x k after = IsHeld x.state after → Begins storage x.came.sent k after × ShowsRestOf s.serials.made x.state after × Interrupts s x.state k after
-      × (is_some (command_sent x.came.sent) ≡ true → OnlyInterrupts s x.state k after)
+  Starts storage s x k after = IsHeld x.state after → Begins storage x.outcome.sent k after × ShowsRestOf s.serials.made x.state after × Interrupts s x.state k after
+      × (is_some (command_sent x.outcome.sent) ≡ true → OnlyInterrupts s x.state k after)
 
-  starts-shows : (storage : Contents) (s : SubchannelState) (p t : ℕ) (st : ProgramPosition) (walk : WalkPlace) (k : ProgramTrace) (c : CommandStart) (acts : Sequence Act) (n : ℕ) →
+  starts-shows : (storage : Contents) (s : SubchannelState) (p t : ℕ) (st : ProgramPosition) (walk : WalkPosition) (k : ProgramTrace) (c : CommandStart) (acts : Sequence Act) (n : ℕ) →
       WentOn k.earlier laws storage k.orb k.now.acts (k.now.acts ▸▸ acts) n walk c → IsRest st.count k →
       IsHeld (on_accept.first_ccw_outcome storage s p t st walk c).state (stories.trace_goes_on storage c acts k) →
       ShowsRestOf s.serials.made (on_accept.first_ccw_outcome storage s p t st walk c).state (stories.trace_goes_on storage c acts k)
-  starts-shows storage s p t st walk k (came.Begins transfer) acts n w r h =
+  starts-shows storage s p t st walk k (outcome.Begins transfer) acts n w r h =
       let u = (begun_with_room storage transfer).transfer in
       interrupted-shows (on_accept.with_program_at_work s st.program u) (record { program = st.program; primary_shown = false; transfer = u })
-      (stories.trace_goes_on storage (came.Begins transfer) acts k) u.pci_pending h
-  starts-shows storage s p t st walk k came.Suspends acts n w r h =
+      (stories.trace_goes_on storage (outcome.Begins transfer) acts k) u.pci_pending h
+  starts-shows storage s p t st walk k outcome.Suspends acts n w r h =
       suspended-shows s st.program walk st.count (record k { now = with_acts k.now acts }) st.program.orb.suppress_suspended (rest-stays k acts k.now.acts walk st.count w.4 w.1 refl r)
-  starts-shows storage s p t st walk k (came.Stops check) acts n w r h =
+  starts-shows storage s p t st walk k (outcome.Stops check) acts n w r h =
       fault-shows s s.begun walk.tried check st.count (record k { now = with_acts k.now acts }) (rest-stays k acts k.now.acts walk st.count w.5 w.1 refl r)
 
   -- and a block that asks for an interruption gets one
-  starts-asks : (storage : Contents) (s : SubchannelState) (p t : ℕ) (st : ProgramPosition) (walk : WalkPlace) (k : ProgramTrace) (c : CommandStart) (acts : Sequence Act) →
+  starts-asks : (storage : Contents) (s : SubchannelState) (p t : ℕ) (st : ProgramPosition) (walk : WalkPosition) (k : ProgramTrace) (c : CommandStart) (acts : Sequence Act) →
       BeginsAsking storage (asked k.orb k.now.acts) (asked k.orb (k.now.acts ▸▸ acts)) c →
       Interrupts s (on_accept.first_ccw_outcome storage s p t st walk c).state k (stories.trace_goes_on storage c acts k)
-  starts-asks storage s p t st walk k (came.Begins transfer) acts a =
+  starts-asks storage s p t st walk k (outcome.Begins transfer) acts a =
       let u = (begun_with_room storage transfer).transfer in
       asked-interrupts (on_accept.with_program_at_work s st.program u) (record { program = st.program; primary_shown = false; transfer = u })
       (asked k.orb k.now.acts) (asked k.orb (k.now.acts ▸▸ acts)) u.pci_pending a.0
-  starts-asks storage s p t st walk k came.Suspends acts a = λ l on. absurd (omega (arith, a, l))
-  starts-asks storage s p t st walk k (came.Stops check) acts a = λ l on. absurd (omega (arith, a, l))
+  starts-asks storage s p t st walk k outcome.Suspends acts a = λ l on. absurd (omega (arith, a, l))
+  starts-asks storage s p t st walk k (outcome.Stops check) acts a = λ l on. absurd (omega (arith, a, l))
 
-  starts-only : (storage : Contents) (s : SubchannelState) (p t : ℕ) (st : ProgramPosition) (walk : WalkPlace) (k : ProgramTrace) (c : CommandStart) (acts : Sequence Act) →
+  starts-only : (storage : Contents) (s : SubchannelState) (p t : ℕ) (st : ProgramPosition) (walk : WalkPosition) (k : ProgramTrace) (c : CommandStart) (acts : Sequence Act) →
       BeginsAsking storage (asked k.orb k.now.acts) (asked k.orb (k.now.acts ▸▸ acts)) c →
-      is_some (command_sent (on_accept.first_ccw_outcome storage s p t st walk c).came.sent) ≡ true →
+      is_some (command_sent (on_accept.first_ccw_outcome storage s p t st walk c).outcome.sent) ≡ true →
       OnlyInterrupts s (on_accept.first_ccw_outcome storage s p t st walk c).state k (stories.trace_goes_on storage c acts k)
-  starts-only storage s p t st walk k (came.Begins transfer) acts a e =
+  starts-only storage s p t st walk k (outcome.Begins transfer) acts a e =
       let u = (begun_with_room storage transfer).transfer in
       only-asked (on_accept.with_program_at_work s st.program u) (record { program = st.program; primary_shown = false; transfer = u })
       (asked k.orb k.now.acts) (asked k.orb (k.now.acts ▸▸ acts)) u.pci_pending a.1
-  starts-only storage s p t st walk k came.Suspends acts a e =
+  starts-only storage s p t st walk k outcome.Suspends acts a e =
       none-sent (device_released-silent (suspension.program_suspended s st.program walk st.count)) e
-  starts-only storage s p t st walk k (came.Stops check) acts a e =
+  starts-only storage s p t st walk k (outcome.Stops check) acts a e =
       none-sent (device_released-silent (with_cause s (cause.FetchFault walk.tried check st.count))) e
 
   -- something is fetched
   starts-some : (storage : Contents) (c : CommandStart) (acts : Sequence Act) (k : ProgramTrace) → 1 ≤ count acts →
       (stories.trace_goes_on storage c acts k).now.acts ≡ k.now.acts → ⊥
-  starts-some storage (came.Begins transfer) acts k l e = longer acts k.now.acts l e
-  starts-some storage came.Suspends acts k l e = longer acts k.now.acts l e
-  starts-some storage (came.Stops check) acts k l e = longer acts k.now.acts l e
+  starts-some storage (outcome.Begins transfer) acts k l e = longer acts k.now.acts l e
+  starts-some storage outcome.Suspends acts k l e = longer acts k.now.acts l e
+  starts-some storage (outcome.Stops check) acts k l e = longer acts k.now.acts l e
 
   -- and all that is next
-  starts-whole : (storage : Contents) (k : ProgramTrace) (acts : Sequence Act) (n : ℕ) (walk : WalkPlace) (c : CommandStart) →
+  starts-whole : (storage : Contents) (k : ProgramTrace) (acts : Sequence Act) (n : ℕ) (walk : WalkPosition) (c : CommandStart) →
       WentOn k.earlier laws storage k.orb k.now.acts (k.now.acts ▸▸ acts) n walk c →
       (next k.orb (stories.trace_goes_on storage c acts k).now.acts ≡ None) ⊎ IsSuspended k.orb (stories.trace_goes_on storage c acts k).now.acts
-  starts-whole storage k acts n walk (came.Begins transfer) w = inl w.0.stands
-  starts-whole storage k acts n walk came.Suspends w = inr w.5
-  starts-whole storage k acts n walk (came.Stops check) w = inl w.3
+  starts-whole storage k acts n walk (outcome.Begins transfer) w = inl w.0.stands
+  starts-whole storage k acts n walk outcome.Suspends w = inr w.5
+  starts-whole storage k acts n walk (outcome.Stops check) w = inl w.3
 
-  starts-on : (storage : Contents) (s : SubchannelState) (p t : ℕ) (st : ProgramPosition) (k : ProgramTrace) → st.walk ≡ walk_place k.orb k.now.acts →
+  starts-on : (storage : Contents) (s : SubchannelState) (p t : ℕ) (st : ProgramPosition) (k : ProgramTrace) → st.walk ≡ walk_position k.orb k.now.acts →
       (role_of k.orb k.now.acts).chained ≡ false → count (commands k.orb k.now.acts) ≡ k.earlier → IsProgram k.orb k.now.acts → t ≡ k.number → k.sent ≡ 0 → IsRest st.count k →
       has_check k.orb k.now.acts ≡ false → EndsAtCheck k.orb k.now.acts → (address : ℕ) → next k.orb k.now.acts ≡ Some address →
       Starts storage s (on_accept.begins_at storage s p t (Some st)) k (stories.trace_begins storage st.walk k)
   starts-on storage s p t st k w c l p' f z r hc en address at =
-      let old : WalkPlace = walk_place k.orb k.now.acts in
+      let old : WalkPosition = walk_position k.orb k.now.acts in
       let many : count (commands k.orb k.now.acts) + 1 ≡ k.earlier + 1 = ap (λ (n : ℕ). n + 1) l in
       let went = goes-on k.earlier laws storage k.orb k.now.acts 1 c many p' hc en in
       let first = first_command storage old in
       let some : 1 ≤ count (advance_acts storage old) = advance-some storage k.orb k.now.acts address at in
-      let all : count (first_acts storage old) ≡ count (room_acts storage first.came) + count (advance_acts storage old) =
-      count-joined (advance_acts storage old) (room_acts storage first.came) in
+      let all : count (first_acts storage old) ≡ count (room_acts storage first.outcome) + count (advance_acts storage old) =
+      count-joined (advance_acts storage old) (room_acts storage first.outcome) in
       subst
-      (λ (x : WalkPlace). Starts storage s (on_accept.first_ccw_outcome storage s p t st (first_command storage x).walk (first_command storage x).came) k
+      (λ (x : WalkPosition). Starts storage s (on_accept.first_ccw_outcome storage s p t st (first_command storage x).walk (first_command storage x).outcome) k
       (stories.trace_begins storage x k))
       (sym w)
       (λ h. (
@@ -176,19 +176,19 @@ module _ (laws : AreLaws) where
           goes = (
             k.now.acts ▸▸ first_acts storage old,
             (first_acts storage old, refl, goes-fetched k.earlier laws storage k.orb k.now.acts 1 c many p' hc en),
-            begins-goes laws storage s p t st first.walk k first.came (first_acts storage old) 1 went f
+            begins-goes laws storage s p t st first.walk k first.outcome (first_acts storage old) 1 went f
                 (let n : 1 ≡ k.sent + 1 = omega (arith, z) in n),
           );
-          fetches = starts-some storage first.came (first_acts storage old) k (omega (arith, some, all));
-          whole = starts-whole storage k (first_acts storage old) 1 first.walk first.came went;
+          fetches = starts-some storage first.outcome (first_acts storage old) k (omega (arith, some, all));
+          whole = starts-whole storage k (first_acts storage old) 1 first.walk first.outcome went;
         },
-        starts-shows storage s p t st first.walk k first.came (first_acts storage old) 1 went r h,
-        starts-asks storage s p t st first.walk k first.came (first_acts storage old) (goes-asking storage k.orb k.now.acts 1),
-        starts-only storage s p t st first.walk k first.came (first_acts storage old) (goes-asking storage k.orb k.now.acts 1),
+        starts-shows storage s p t st first.walk k first.outcome (first_acts storage old) 1 went r h,
+        starts-asks storage s p t st first.walk k first.outcome (first_acts storage old) (goes-asking storage k.orb k.now.acts 1),
+        starts-only storage s p t st first.walk k first.outcome (first_acts storage old) (goes-asking storage k.orb k.now.acts 1),
       ))
 
   again-on : (storage : Contents) (s : SubchannelState) (p t : ℕ) (st : ProgramPosition) (k : ProgramTrace) (x : Bool) → is_some (if x then Some st else None) ≡ true →
-      st.walk ≡ walk_place k.orb k.now.acts → (role_of k.orb k.now.acts).chained ≡ false → IsProgram k.orb k.now.acts → t ≡ k.number → k.sent ≡ 0 → IsRest st.count k →
+      st.walk ≡ walk_position k.orb k.now.acts → (role_of k.orb k.now.acts).chained ≡ false → IsProgram k.orb k.now.acts → t ≡ k.number → k.sent ≡ 0 → IsRest st.count k →
       IsSuspended k.orb k.now.acts → EndsAtCheck k.orb k.now.acts →
       Starts storage s (on_accept.begins_at storage s p t (if x then Some st else None)) (beginning None k) (if x then stories.begins_again storage st k else k)
   again-on storage s p t st k true e w c p' f z r su en =
@@ -221,11 +221,11 @@ module _ (laws : AreLaws) where
   AcceptsBy storage s u step k =
       let x : UpStep = on_accept.takes_accept storage s step in
       let after : ProgramTrace = stories.trace_accepted storage s step k in
-      IsHeld x.state after → Meets storage storage s x.state (up.Accept u) x.came.taken x.came.sent k after
+      IsHeld x.state after → Meets storage storage s x.state (up.Accept u) x.outcome.taken x.outcome.sent k after
 
-  taken-meets : (storage : Contents) (s : SubchannelState) (u : ℕ) (x : UpStep) (k after : ProgramTrace) → u ≡ k.number → x.came.taken ≡ true → Accepted storage s x.state x.came.sent k after →
-      Meets storage storage s x.state (up.Accept u) x.came.taken x.came.sent k after
-  taken-meets storage s u x k after n e a = subst (λ (b : Bool). Meets storage storage s x.state (up.Accept u) b x.came.sent k after) (sym e) (n, refl, a)
+  taken-meets : (storage : Contents) (s : SubchannelState) (u : ℕ) (x : UpStep) (k after : ProgramTrace) → u ≡ k.number → x.outcome.taken ≡ true → Accepted storage s x.state x.outcome.sent k after →
+      Meets storage storage s x.state (up.Accept u) x.outcome.taken x.outcome.sent k after
+  taken-meets storage s u x k after n e a = subst (λ (b : Bool). Meets storage storage s x.state (up.Accept u) b x.outcome.sent k after) (sym e) (n, refl, a)
 
   and-true : (a b : Bool) → (a && b) ≡ true → a ≡ true
   and-true true b e = refl

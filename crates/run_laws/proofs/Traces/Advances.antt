@@ -17,7 +17,7 @@ use Rattle.ccw_walk.specs.Acts.{Act, Block, Unfetched, Used_up, End, Word}
 use Rattle.ccw_walk.specs.Blocks.{reads}
 use Rattle.ccw_walk.specs.Programs.{Command, next, next_after, role_of, role_after, commands, commands_after}
 use Rattle.ccw_walk.specs.Advancing.{acts_from_next, with_tic_target, advance_of_ccw, acts_from_fetch, advance_acts, advance_of_acts}
-use Rattle.ccw_walk.specs.Places.{after_block, WalkPlace, walk_place}
+use Rattle.ccw_walk.specs.Positions.{after_block, WalkPosition, walk_position}
 use Rattle.ccw_walk.specs.Fetching.{act_of_fetch, is_program_misplaced, fetch_act}
 use Rattle.idaw.specs.Places.{Reach}
 use Rattle.run_laws.specs.ProgramClaims.{shows_check, has_check, EndsAtCheck}
@@ -63,7 +63,7 @@ block-checks other b e = e
 abbrev pub WentTo : Orb → Sequence Act → Sequence Act → Type 0
 WentTo orb before acts =
     Went (role_of orb before).chained (commands orb before) (commands orb (before ▸▸ acts)) (data_areas orb before) (data_areas orb (before ▸▸ acts))
-    (next orb (before ▸▸ acts)) (role_of orb (before ▸▸ acts)) (advance_of_acts (walk_place orb before) acts)
+    (next orb (before ▸▸ acts)) (role_of orb (before ▸▸ acts)) (advance_of_acts (walk_position orb before) acts)
 
 went-from : (c d : Bool) (cs ds es : Sequence Command) (rs qs ps : Sequence Reach) (n : Option ℕ) (role : Role) (a : Option Advance) → d ≡ c → ds ≡ cs → qs ≡ rs →
     Went d ds es qs ps n role a → Went c cs es rs ps n role a
@@ -72,7 +72,7 @@ went-from c d cs ds es rs qs ps n role a e f g w =
     (subst (λ (x : Sequence Command). Went d x es rs ps n role a) f (subst (λ (x : Sequence Reach). Went d ds es x ps n role a) g w))
 
 target-went : (storage : Contents) (orb : Orb) (before : Sequence Act) (address : ℕ) (bytes : List ℕ) (r : Reading) → reads orb (role_of orb before) bytes ≡ r →
-    WentTo orb before (with_tic_target storage (after_block (walk_place orb before) address bytes) r (Nothing ▸ Block address bytes))
+    WentTo orb before (with_tic_target storage (after_block (walk_position orb before) address bytes) r (Nothing ▸ Block address bytes))
 target-went storage orb before address bytes (Transfers target) e =
     let role : Role = role_of orb before in
     let cs : Sequence Command = commands orb before in
@@ -87,23 +87,23 @@ target-went storage orb before address bytes (Transfers target) e =
     (λ check. (commanded, reached))
 target-went storage orb before address bytes other e = block-went (commands orb before) (data_areas orb before) address (role_of orb before) (reads orb (role_of orb before) bytes)
 
-at-went : (storage : Contents) (orb : Orb) (before : Sequence Act) (n : Option ℕ) → WentTo orb before (acts_from_next storage (walk_place orb before) n)
+at-went : (storage : Contents) (orb : Orb) (before : Sequence Act) (n : Option ℕ) → WentTo orb before (acts_from_next storage (walk_position orb before) n)
 at-went storage orb before None = (refl, refl)
 at-went storage orb before (Some address) =
-    fetch_cases (λ act. WentTo orb before (acts_from_fetch storage (walk_place orb before) act)) storage orb (role_of orb before) address
+    fetch_cases (λ act. WentTo orb before (acts_from_fetch storage (walk_position orb before) act)) storage orb (role_of orb before) address
     (λ bytes. target-went storage orb before address bytes (reads orb (role_of orb before) bytes) refl)
     (λ check. (refl, refl))
 
-pub advance-went : (storage : Contents) (orb : Orb) (before : Sequence Act) → WentTo orb before (advance_acts storage (walk_place orb before))
+pub advance-went : (storage : Contents) (orb : Orb) (before : Sequence Act) → WentTo orb before (advance_acts storage (walk_position orb before))
 advance-went storage orb before = at-went storage orb before (next orb before)
 
 -- none is fetched after a check
 abbrev EndsTo : Orb → Sequence Act → Sequence Act → Type 0
-EndsTo orb before acts = EndsAtCheck orb (before ▸▸ acts) × UnlessStops (advance_of_acts (walk_place orb before) acts) (has_check orb (before ▸▸ acts))
+EndsTo orb before acts = EndsAtCheck orb (before ▸▸ acts) × UnlessStops (advance_of_acts (walk_position orb before) acts) (has_check orb (before ▸▸ acts))
 
 target-ends : (storage : Contents) (orb : Orb) (before : Sequence Act) (address : ℕ) (bytes : List ℕ) (r : Reading) → reads orb (role_of orb before) bytes ≡ r →
     has_check orb before ≡ false → EndsAtCheck orb before →
-    EndsTo orb before (with_tic_target storage (after_block (walk_place orb before) address bytes) r (Nothing ▸ Block address bytes))
+    EndsTo orb before (with_tic_target storage (after_block (walk_position orb before) address bytes) r (Nothing ▸ Block address bytes))
 target-ends storage orb before address bytes (Transfers target) e h k =
     let mid : Sequence Act = before ▸ Block address bytes in
     let unchecked : has_check orb mid ≡ false = ap (λ (r : Reading). shows_check r || has_check orb before) e ∙ h in
@@ -113,19 +113,19 @@ target-ends storage orb before address bytes (Transfers target) e h k =
 target-ends storage orb before address bytes other e h k = ((h, k), block-checks (reads orb (role_of orb before) bytes) (has_check orb before) h)
 
 at-ends : (storage : Contents) (orb : Orb) (before : Sequence Act) (n : Option ℕ) → has_check orb before ≡ false → EndsAtCheck orb before →
-    EndsTo orb before (acts_from_next storage (walk_place orb before) n)
+    EndsTo orb before (acts_from_next storage (walk_position orb before) n)
 at-ends storage orb before None h k = (k, h)
 at-ends storage orb before (Some address) h k =
-    fetch_cases (λ act. EndsTo orb before (acts_from_fetch storage (walk_place orb before) act)) storage orb (role_of orb before) address
+    fetch_cases (λ act. EndsTo orb before (acts_from_fetch storage (walk_position orb before) act)) storage orb (role_of orb before) address
     (λ bytes. target-ends storage orb before address bytes (reads orb (role_of orb before) bytes) refl h k)
     (λ check. ((h, k), refl))
 
 pub advance-ends : (storage : Contents) (orb : Orb) (before : Sequence Act) → has_check orb before ≡ false → EndsAtCheck orb before →
-    EndsTo orb before (advance_acts storage (walk_place orb before))
+    EndsTo orb before (advance_acts storage (walk_position orb before))
 advance-ends storage orb before h k = at-ends storage orb before (next orb before) h k
 
 -- where a block is next, one is fetched
-from-some : (storage : Contents) (old : WalkPlace) (act : Act) → 1 ≤ count (acts_from_fetch storage old act)
+from-some : (storage : Contents) (old : WalkPosition) (act : Act) → 1 ≤ count (acts_from_fetch storage old act)
 from-some storage old (Block address bytes) = by (reads old.orb old.role bytes)
   where
     by : (r : Reading) → 1 ≤ count (with_tic_target storage (after_block old address bytes) r (Nothing ▸ Block address bytes))
@@ -139,7 +139,7 @@ from-some storage old (End ended) = omega arith
 from-some storage old (Word word) = omega arith
 
 pub advance-some : (storage : Contents) (orb : Orb) (before : Sequence Act) (address : ℕ) → next orb before ≡ Some address →
-    1 ≤ count (advance_acts storage (walk_place orb before))
+    1 ≤ count (advance_acts storage (walk_position orb before))
 advance-some storage orb before address e =
-    let old : WalkPlace = walk_place orb before in
+    let old : WalkPosition = walk_position orb before in
     subst (λ (n : Option ℕ). 1 ≤ count (acts_from_next storage old n)) (sym e) (from-some storage old (fetch_act storage orb old.role address))

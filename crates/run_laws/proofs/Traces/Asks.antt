@@ -22,14 +22,14 @@ use Rattle.ccw_walk.specs.Acts.{Act, Block, End, Used_up}
 use Rattle.ccw_walk.specs.Blocks.{reads}
 use Rattle.ccw_walk.specs.Programs.{next, role_of}
 use Rattle.ccw_walk.specs.Advancing.{acts_from_next, advance_of_ccw, with_tic_target, acts_from_fetch, advance_acts, advance_of_acts}
-use Rattle.ccw_walk.specs.Places.{after_block, after_count_used_up, after_command_end, WalkPlace, walk_place, after_acts}
+use Rattle.ccw_walk.specs.Positions.{after_block, after_count_used_up, after_command_end, WalkPosition, walk_position, after_acts}
 use Rattle.data_move.specs.Accesses as access
 use Rattle.data_move.specs.Moving.{Moving, needs_word, residual, room}
 use Rattle.idaw.specs.declared.WordFault.{WordFault}
 use Rattle.idaw.specs.Lists.{word_fault}
 use Rattle.data_move.specs.declared.transfer.Transfer.{Transfer}
 use Rattle.data_move.specs.declared.transfer.CommandStart.{CommandStart}
-use Rattle.data_move.specs.declared.transfer.CommandStart.TheVariants as came
+use Rattle.data_move.specs.declared.transfer.CommandStart.TheVariants as outcome
 use Rattle.data_move.specs.Commands.{begun_with_room, brings, command_begins, goes_to, has_stopped, located_transfer, next_command, transfer_of, with_located, with_room}
 use Rattle.data_move.specs.FromDevice.{chunk_stored, after_store, bytes_brought_in, fitting_bytes}
 use Rattle.data_move.specs.DataChaining.{data_chained, chained_from, with_next_ccw, chains_data, after_bytes_moved, with_bytes_moved}
@@ -59,10 +59,10 @@ block-asks n (Transfers target) = refl
 block-asks n other = refl
 
 abbrev AsksTo : Orb → Sequence Act → Sequence Act → Type 0
-AsksTo orb before acts = asked orb (before ▸▸ acts) ≡ asked orb before + asks_of (advance_of_acts (walk_place orb before) acts)
+AsksTo orb before acts = asked orb (before ▸▸ acts) ≡ asked orb before + asks_of (advance_of_acts (walk_position orb before) acts)
 
 target-asks : (storage : Contents) (orb : Orb) (before : Sequence Act) (address : ℕ) (bytes : List ℕ) (r : Reading) → reads orb (role_of orb before) bytes ≡ r →
-    AsksTo orb before (with_tic_target storage (after_block (walk_place orb before) address bytes) r (Nothing ▸ Block address bytes))
+    AsksTo orb before (with_tic_target storage (after_block (walk_position orb before) address bytes) r (Nothing ▸ Block address bytes))
 target-asks storage orb before address bytes (Transfers target) e =
     let mid : Sequence Act = before ▸ Block address bytes in
     let none : asked orb mid ≡ asked orb before = ap (λ (r : Reading). asked orb before + asks_by r) e ∙ omega arith in
@@ -72,14 +72,14 @@ target-asks storage orb before address bytes (Transfers target) e =
     (λ check. none ∙ omega arith)
 target-asks storage orb before address bytes other e = block-asks (asked orb before) (reads orb (role_of orb before) bytes)
 
-at-asks : (storage : Contents) (orb : Orb) (before : Sequence Act) (n : Option ℕ) → AsksTo orb before (acts_from_next storage (walk_place orb before) n)
+at-asks : (storage : Contents) (orb : Orb) (before : Sequence Act) (n : Option ℕ) → AsksTo orb before (acts_from_next storage (walk_position orb before) n)
 at-asks storage orb before None = omega arith
 at-asks storage orb before (Some address) =
-    fetch_cases (λ act. AsksTo orb before (acts_from_fetch storage (walk_place orb before) act)) storage orb (role_of orb before) address
+    fetch_cases (λ act. AsksTo orb before (acts_from_fetch storage (walk_position orb before) act)) storage orb (role_of orb before) address
     (λ bytes. target-asks storage orb before address bytes (reads orb (role_of orb before) bytes) refl)
     (λ check. omega arith)
 
-advance-asks : (storage : Contents) (orb : Orb) (before : Sequence Act) → AsksTo orb before (advance_acts storage (walk_place orb before))
+advance-asks : (storage : Contents) (orb : Orb) (before : Sequence Act) → AsksTo orb before (advance_acts storage (walk_position orb before))
 advance-asks storage orb before = at-asks storage orb before (next orb before)
 
 -- a block that asked leaves it to this command: so many asked before, and so many now
@@ -139,9 +139,9 @@ given-pci storage t =
 
 -- a command begins
 abbrev pub BeginsAsking : Contents → ℕ → ℕ → CommandStart → Type 0
-BeginsAsking storage n m (came.Begins t) = IsAsking n m (begun_with_room storage t).transfer
-BeginsAsking storage n m came.Suspends = m ≡ n
-BeginsAsking storage n m (came.Stops check) = m ≡ n
+BeginsAsking storage n m (outcome.Begins t) = IsAsking n m (begun_with_room storage t).transfer
+BeginsAsking storage n m outcome.Suspends = m ≡ n
+BeginsAsking storage n m (outcome.Stops check) = m ≡ n
 
 room-asking : (storage : Contents) (orb : Orb) (n : ℕ) (acts : Sequence Act) (t : Transfer) (b : Bool) → IsAsking n (asked orb acts) t →
     IsAsking n (asked orb (acts ▸▸ (if b then located_acts storage t else Nothing))) (if b then with_room storage t else record { transfer = t; room = 0 }).transfer
@@ -149,7 +149,7 @@ room-asking storage orb n acts t true a =
     asking-same n (asked orb acts) (asked orb (acts ▸▸ located_acts storage t)) t (located_transfer storage t) (located-asked storage orb acts t) (located-pci storage t) a
 room-asking storage orb n acts t false a = a
 
-begins-asking : (storage : Contents) (orb : Orb) (n : ℕ) (acts : Sequence Act) (walk : WalkPlace) (i : ℕ) (a : Option Advance) → asked orb acts ≡ n + asks_of a →
+begins-asking : (storage : Contents) (orb : Orb) (n : ℕ) (acts : Sequence Act) (walk : WalkPosition) (i : ℕ) (a : Option Advance) → asked orb acts ≡ n + asks_of a →
     BeginsAsking storage n (asked orb (acts ▸▸ room_acts storage (command_begins walk i a))) (command_begins walk i a)
 begins-asking storage orb n acts walk i (Some (advance.Takes ccw)) e =
     let t : Transfer = transfer_of walk i ccw in
@@ -157,44 +157,44 @@ begins-asking storage orb n acts walk i (Some (advance.Takes ccw)) e =
 begins-asking storage orb n acts walk i other e = omega (arith, e)
 
 pub goes-asking : (storage : Contents) (orb : Orb) (before : Sequence Act) (i : ℕ) →
-    BeginsAsking storage (asked orb before) (asked orb (before ▸▸ goes_acts storage i (walk_place orb before))) (goes_to storage i (walk_place orb before)).came
+    BeginsAsking storage (asked orb before) (asked orb (before ▸▸ goes_acts storage i (walk_position orb before))) (goes_to storage i (walk_position orb before)).outcome
 goes-asking storage orb before i =
-    let old : WalkPlace = walk_place orb before in
+    let old : WalkPosition = walk_position orb before in
     let acts : Sequence Act = advance_acts storage old in
-    let c : CommandStart = (goes_to storage i old).came in
+    let c : CommandStart = (goes_to storage i old).outcome in
     subst (λ (xs : Sequence Act). BeginsAsking storage (asked orb before) (asked orb xs) c) (sym (joined-in-order before acts (room_acts storage c)))
     (begins-asking storage orb (asked orb before) (before ▸▸ acts) (after_acts old acts) i (advance_of_acts old acts) (advance-asks storage orb before))
 
 -- one is chained to
-pub next-asking : (storage : Contents) (orb : Orb) (before : Sequence Act) (t : Transfer) (modifier : Bool) → t.walk ≡ walk_place orb before →
-    BeginsAsking storage (asked orb before) (asked orb (before ▸▸ next_acts storage t modifier)) (next_command storage t modifier).came
+pub next-asking : (storage : Contents) (orb : Orb) (before : Sequence Act) (t : Transfer) (modifier : Bool) → t.walk ≡ walk_position orb before →
+    BeginsAsking storage (asked orb before) (asked orb (before ▸▸ next_acts storage t modifier)) (next_command storage t modifier).outcome
 next-asking storage orb before t modifier e =
     let ended : Ended = record { goes_on = true; modifier = modifier } in
     let i : ℕ = t.command + 1 in
-    let old : WalkPlace = walk_place orb (before ▸ End ended) in
+    let old : WalkPosition = walk_position orb (before ▸ End ended) in
     subst
-    (λ (w : WalkPlace). BeginsAsking storage (asked orb before) (asked orb (before ▸▸ (Nothing ▸ End ended ▸▸ goes_acts storage i (after_command_end w ended)))) (goes_to storage i (after_command_end w ended)).came)
+    (λ (w : WalkPosition). BeginsAsking storage (asked orb before) (asked orb (before ▸▸ (Nothing ▸ End ended ▸▸ goes_acts storage i (after_command_end w ended)))) (goes_to storage i (after_command_end w ended)).outcome)
     (sym e)
-    (subst (λ (xs : Sequence Act). BeginsAsking storage (asked orb before) (asked orb xs) (goes_to storage i old).came) (sym (joined-in-order before (Nothing ▸ End ended) (goes_acts storage i old)))
+    (subst (λ (xs : Sequence Act). BeginsAsking storage (asked orb before) (asked orb xs) (goes_to storage i old).outcome) (sym (joined-in-order before (Nothing ▸ End ended) (goes_acts storage i old)))
     (goes-asking storage orb (before ▸ End ended) i))
 
 -- data is chained
-chained-by-asking : (n m : ℕ) (t : Transfer) (walk : WalkPlace) (a : Option Advance) → m ≡ n + asks_of a → t.pci_pending ≡ false → IsAsking n m (with_next_ccw t walk a)
+chained-by-asking : (n m : ℕ) (t : Transfer) (walk : WalkPosition) (a : Option Advance) → m ≡ n + asks_of a → t.pci_pending ≡ false → IsAsking n m (with_next_ccw t walk a)
 chained-by-asking n m t walk (Some (advance.Takes ccw)) e f = taken-asking n m ccw.program_controlled e
 chained-by-asking n m t walk (Some advance.Suspends) e f = none-asking n m (with_next_ccw t walk (Some advance.Suspends)) (omega (arith, e)) f
 chained-by-asking n m t walk (Some (advance.Stops check)) e f = none-asking n m (with_next_ccw t walk (Some (advance.Stops check))) (omega (arith, e)) f
 chained-by-asking n m t walk None e f = none-asking n m t (omega (arith, e)) f
 
-chained-asking : (storage : Contents) (orb : Orb) (before : Sequence Act) (t : Transfer) → t.walk ≡ walk_place orb before → t.pci_pending ≡ false →
+chained-asking : (storage : Contents) (orb : Orb) (before : Sequence Act) (t : Transfer) → t.walk ≡ walk_position orb before → t.pci_pending ≡ false →
     IsAsking (asked orb before) (asked orb (before ▸▸ chained_acts storage t)) (data_chained storage t)
 chained-asking storage orb before t e f =
     let used : Sequence Act = before ▸ Used_up in
-    let old : WalkPlace = walk_place orb used in
+    let old : WalkPosition = walk_position orb used in
     let news : Sequence Act = advance_acts storage old in
     let by : IsAsking (asked orb before) (asked orb (used ▸▸ news)) (chained_from storage t old) =
     chained-by-asking (asked orb before) (asked orb (used ▸▸ news)) t (after_acts old news) (advance_of_acts old news) (advance-asks storage orb used) f in
     subst
-    (λ (w : WalkPlace). IsAsking (asked orb before) (asked orb (before ▸▸ (Nothing ▸ Used_up ▸▸ advance_acts storage (after_count_used_up w)))) (chained_from storage t (after_count_used_up w)))
+    (λ (w : WalkPosition). IsAsking (asked orb before) (asked orb (before ▸▸ (Nothing ▸ Used_up ▸▸ advance_acts storage (after_count_used_up w)))) (chained_from storage t (after_count_used_up w)))
     (sym e)
     (subst (λ (xs : Sequence Act). IsAsking (asked orb before) (asked orb xs) (chained_from storage t old)) (sym (joined-in-order before (Nothing ▸ Used_up) news)) by)
 
@@ -202,14 +202,14 @@ chained-asking storage orb before t e f =
 abbrev LeavesAsking : Orb → CommandTrace → CommandTrace → Transfer → Type 0
 LeavesAsking orb p q t = IsAsking (asked orb p.acts) (asked orb q.acts) t
 
-after_bytes_moved-asking : (storage : Contents) (orb : Orb) (p : CommandTrace) (t : Transfer) (n : ℕ) (b : Bool) → t.walk ≡ walk_place orb p.acts → t.pci_pending ≡ false →
+after_bytes_moved-asking : (storage : Contents) (orb : Orb) (p : CommandTrace) (t : Transfer) (n : ℕ) (b : Bool) → t.walk ≡ walk_position orb p.acts → t.pci_pending ≡ false →
     LeavesAsking orb p (if b then with_acts (with_places p t.moving n) (chained_acts storage (with_bytes_moved t n)) else with_places p t.moving n)
     (if b then data_chained storage (with_bytes_moved t n) else with_bytes_moved t n)
 after_bytes_moved-asking storage orb p t n true e f = chained-asking storage orb p.acts (with_bytes_moved t n) e f
 after_bytes_moved-asking storage orb p t n false e f = none-asking (asked orb p.acts) (asked orb p.acts) (with_bytes_moved t n) refl f
 
 -- a Data of a command that takes bytes to the device
-answered-asking : (storage : Contents) (orb : Orb) (p : CommandTrace) (t : Transfer) (s count : ℕ) (b : Bool) → t.walk ≡ walk_place orb p.acts → t.pci_pending ≡ false →
+answered-asking : (storage : Contents) (orb : Orb) (p : CommandTrace) (t : Transfer) (s count : ℕ) (b : Bool) → t.walk ≡ walk_position orb p.acts → t.pci_pending ≡ false →
     LeavesAsking orb p (if b then trace_moved_on storage (with_chunk_counted t s count) (min count (room t.moving)) p else p)
     (if b then after_bytes_moved storage (with_chunk_counted t s count) (min count (room t.moving)) else t)
 answered-asking storage orb p t s count true e f =
@@ -218,7 +218,7 @@ answered-asking storage orb p t s count true e f =
     after_bytes_moved-asking storage orb p u n (chains_data (with_bytes_moved u n) n) e f
 answered-asking storage orb p t s count false e f = none-asking (asked orb p.acts) (asked orb p.acts) t refl f
 
-pub gives-asking : (storage : Contents) (orb : Orb) (p : CommandTrace) (t : Transfer) (s count : ℕ) → t.walk ≡ walk_place orb p.acts → t.pci_pending ≡ false →
+pub gives-asking : (storage : Contents) (orb : Orb) (p : CommandTrace) (t : Transfer) (s count : ℕ) → t.walk ≡ walk_position orb p.acts → t.pci_pending ≡ false →
     LeavesAsking orb p (doing.gives storage t s count p) (next_chunk storage (chunk_absorbed storage t s count)).transfer
 gives-asking storage orb p t s count e f =
     let u : Transfer = chunk_absorbed storage t s count in
@@ -229,26 +229,26 @@ gives-asking storage orb p t s count e f =
     (answered-asking storage orb p t s count (s == t.sequence + 1) e f)
 
 -- a Data of a command that brings bytes in
-arrived-asking : (storage : Contents) (orb : Orb) (p : CommandTrace) (t : Transfer) (bytes : List ℕ) (r : Result Contents Check) → t.walk ≡ walk_place orb p.acts → t.pci_pending ≡ false →
+arrived-asking : (storage : Contents) (orb : Orb) (p : CommandTrace) (t : Transfer) (bytes : List ℕ) (r : Result Contents Check) → t.walk ≡ walk_position orb p.acts → t.pci_pending ≡ false →
     LeavesAsking orb p (with_arrival storage t bytes r p) (after_store storage t (length bytes) r).transfer
 arrived-asking storage orb p t bytes (Ok after) e f =
     let q : CommandTrace = record p { arrived = p.arrived ++ record { former = storage.bytes; chunk = doing.chunk_of after t.moving bytes } ∷ [] } in
     after_bytes_moved-asking after orb q t (length bytes) (chains_data (with_bytes_moved t (length bytes)) (length bytes)) e f
 arrived-asking storage orb p t bytes (Err check) e f = none-asking (asked orb p.acts) (asked orb p.acts) (record t { fault = Some check }) refl f
 
-stored-asking : (storage : Contents) (orb : Orb) (p : CommandTrace) (t : Transfer) (bytes : List ℕ) (r : Result Contents Check) (b : Bool) → t.walk ≡ walk_place orb p.acts → t.pci_pending ≡ false →
+stored-asking : (storage : Contents) (orb : Orb) (p : CommandTrace) (t : Transfer) (bytes : List ℕ) (r : Result Contents Check) (b : Bool) → t.walk ≡ walk_position orb p.acts → t.pci_pending ≡ false →
     LeavesAsking orb p (if b then p else with_arrival storage t bytes r p) (if b then record { transfer = t; storage = storage } else after_store storage t (length bytes) r).transfer
 stored-asking storage orb p t bytes r true e f = none-asking (asked orb p.acts) (asked orb p.acts) t refl f
 stored-asking storage orb p t bytes r false e f = arrived-asking storage orb p t bytes r e f
 
-brought-asking : (storage : Contents) (orb : Orb) (p : CommandTrace) (t : Transfer) (s : ℕ) (bytes : List ℕ) (b : Bool) → t.walk ≡ walk_place orb p.acts → t.pci_pending ≡ false →
+brought-asking : (storage : Contents) (orb : Orb) (p : CommandTrace) (t : Transfer) (s : ℕ) (bytes : List ℕ) (b : Bool) → t.walk ≡ walk_position orb p.acts → t.pci_pending ≡ false →
     LeavesAsking orb p (if b then storing storage (record t { sequence = s }) (fitting_bytes t bytes) p else p)
     (if b then bytes_brought_in storage (record t { sequence = s }) (fitting_bytes t bytes) else record { transfer = t; storage = storage }).transfer
 brought-asking storage orb p t s bytes true e f =
     stored-asking storage orb p (record t { sequence = s }) (fitting_bytes t bytes) (access.stored_or_skipped storage t.walk.orb.key t.moving (fitting_bytes t bytes)) (is_some t.fault) e f
 brought-asking storage orb p t s bytes false e f = none-asking (asked orb p.acts) (asked orb p.acts) t refl f
 
-pub takes_in-asking : (storage : Contents) (orb : Orb) (p : CommandTrace) (t : Transfer) (s : ℕ) (bytes : List ℕ) → t.walk ≡ walk_place orb p.acts → t.pci_pending ≡ false →
+pub takes_in-asking : (storage : Contents) (orb : Orb) (p : CommandTrace) (t : Transfer) (s : ℕ) (bytes : List ℕ) → t.walk ≡ walk_position orb p.acts → t.pci_pending ≡ false →
     LeavesAsking orb p (doing.takes_in storage t s bytes p) (located_transfer (chunk_stored storage t s bytes).storage (chunk_stored storage t s bytes).transfer)
 takes_in-asking storage orb p t s bytes e f =
     let x = chunk_stored storage t s bytes in

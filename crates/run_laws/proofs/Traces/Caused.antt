@@ -2,7 +2,7 @@
 use Rattle.std.proofs.Common.{◌≡◌, refl, ap, ◌∙◌, ℕ, Bool, true, false, Option, None, Some, inl, inr}
 use Rattle.std.specs.Prelude.{◌⊎◌, if◌then◌else◌}
 use Rattle.chan_model.specs.UnitReports.{is_last_end}
-use Rattle.ccw_walk.specs.Places.{WalkPlace}
+use Rattle.ccw_walk.specs.Positions.{WalkPosition}
 use Rattle.data_move.specs.Moving.{residual}
 use Rattle.subchannel_model.specs.declared.cause.StatusCause.{StatusCause}
 use Rattle.subchannel_model.specs.declared.cause.StatusCause.TheVariants as cause
@@ -98,7 +98,7 @@ pub record IsWorkless (s x : SubchannelState) : Type 0 where
   pub begun : x.begun ≡ None
   pub kept : IsHoldKept s x
 
-pub suspending-workless : (s : SubchannelState) (program : Program) (walk : WalkPlace) (count : ℕ) → IsWorkless s (program_suspended s program walk count)
+pub suspending-workless : (s : SubchannelState) (program : Program) (walk : WalkPosition) (count : ℕ) → IsWorkless s (program_suspended s program walk count)
 suspending-workless s program walk count = by program.orb.suppress_suspended
   where
     by : (c : Bool) → IsWorkless s (if c then record (with_suspended_program s program walk count) { scsw = suspended_alone s.scsw } else with_cause (with_suspended_program s program walk count) (cause.Suspension walk.tried count))

@@ -12,10 +12,10 @@ use Rattle.chan_model.specs.UnitReports.{has_device_end, has_unit_check, is_last
 use Rattle.ccw_walk.specs.Programs.{latest, next}
 use Rattle.ccw_walk.specs.Sequences.{Sequence, ◌▸◌, ◌▸▸◌}
 use Rattle.ccw_walk.specs.Acts.{Act, End}
-use Rattle.ccw_walk.specs.Places.{WalkPlace}
+use Rattle.ccw_walk.specs.Positions.{WalkPosition}
 use Rattle.data_move.specs.declared.transfer.Beginning.{Beginning}
 use Rattle.data_move.specs.declared.transfer.CommandStart.{CommandStart}
-use Rattle.data_move.specs.declared.transfer.CommandStart.TheVariants as came
+use Rattle.data_move.specs.declared.transfer.CommandStart.TheVariants as outcome
 use Rattle.data_move.specs.Commands.{next_command, begun_with_room}
 use Rattle.scsw_irb.specs.declared.serials.Serials.{Serials}
 use Rattle.subchannel_model.specs.declared.signals.EndSignal.{EndSignal}
@@ -58,11 +58,11 @@ use Rattle.run_laws.proofs.Statuses.StatusCounts.{none-counted}
 use Rattle.run_laws.proofs.Traces.Goings.{device_released-silent, chains-goes}
 
 -- the signal is taken
-chaining-taken : (storage : Contents) (s : SubchannelState) (b : ActiveProgram) (signal : EndSignal) (walk : WalkPlace) (c : CommandStart) →
-    (on_end.next_ccw_outcome storage s b signal walk c).came.taken ≡ true
-chaining-taken storage s b signal walk (came.Begins transfer) = refl
-chaining-taken storage s b signal walk came.Suspends = refl
-chaining-taken storage s b signal walk (came.Stops check) = refl
+chaining-taken : (storage : Contents) (s : SubchannelState) (b : ActiveProgram) (signal : EndSignal) (walk : WalkPosition) (c : CommandStart) →
+    (on_end.next_ccw_outcome storage s b signal walk c).outcome.taken ≡ true
+chaining-taken storage s b signal walk (outcome.Begins transfer) = refl
+chaining-taken storage s b signal walk outcome.Suspends = refl
+chaining-taken storage s b signal walk (outcome.Stops check) = refl
 
 -- status that is made is counted
 made-more : (enabled : Bool) (x : Serials) → enabled ≡ true → x.made < (serials_made enabled x).made
@@ -112,14 +112,14 @@ module _ (laws : AreLaws) (accesses : AreAccesses) where
   abbrev EndBy : Contents → SubchannelState → EndSignal → UpStep → ProgramTrace → ProgramTrace → Type 0
   EndBy storage s signal x k after =
       IsHeld x.state after →
-      Meets storage storage s x.state (up.End signal.number signal.command signal.status signal.more) x.came.taken x.came.sent k after
+      Meets storage storage s x.state (up.End signal.number signal.command signal.status signal.more) x.outcome.taken x.outcome.sent k after
 
   -- a next command
   chains-on : (storage : Contents) (s : SubchannelState) (b : ActiveProgram) (k : ProgramTrace) (signal : EndSignal) → chains_command s.scsw b signal.status signal.more ≡ true →
       has_device_end signal.status ≡ true → HasWork (Some b) k → signal.number ≡ k.number →
       let next : Beginning = next_command storage b.transfer (has_status_modifier signal.status) in
       let acts : Sequence Act = next_acts storage b.transfer (has_status_modifier signal.status) in
-      Chains storage signal.status (on_end.chains_with storage s (with_first_end b) signal next).came.sent k (stories.trace_goes_on storage next.came acts k)
+      Chains storage signal.status (on_end.chains_with storage s (with_first_end b) signal next).outcome.sent k (stories.trace_goes_on storage next.outcome acts k)
   chains-on storage s b k signal c d w m =
       let modifier : Bool = has_status_modifier signal.status in
       let f = chains-facts laws accesses s.scsw b signal.status signal.more c in
@@ -131,53 +131,53 @@ module _ (laws : AreLaws) (accesses : AreAccesses) where
         (
           k.now.acts ▸▸ acts,
           adds,
-          chains-goes laws storage s (with_first_end b) signal next.walk k next.came acts
+          chains-goes laws storage s (with_first_end b) signal next.walk k next.outcome acts
               (k.now.acts ▸ End (record { goes_on = true; modifier = modifier })) (b.transfer.command + 1)
               (next-went laws accesses k.earlier storage k.orb k.now b.transfer modifier w.0.tied f.0 f.1) refl m (ap (λ (n : ℕ). n + 1) w.1),
         ),
       )
 
   -- whose block may ask for an interruption
-  chains-asks : (storage : Contents) (s : SubchannelState) (b : ActiveProgram) (k : ProgramTrace) (signal : EndSignal) (walk : WalkPlace) (c : CommandStart) (acts : Sequence Act) →
+  chains-asks : (storage : Contents) (s : SubchannelState) (b : ActiveProgram) (k : ProgramTrace) (signal : EndSignal) (walk : WalkPosition) (c : CommandStart) (acts : Sequence Act) →
       BeginsAsking storage (asked k.orb k.now.acts) (asked k.orb (k.now.acts ▸▸ acts)) c →
       Interrupts s (on_end.next_ccw_outcome storage s b signal walk c).state k (stories.trace_goes_on storage c acts k)
-  chains-asks storage s b k signal walk (came.Begins transfer) acts a =
+  chains-asks storage s b k signal walk (outcome.Begins transfer) acts a =
       let u = (begun_with_room storage transfer).transfer in
       asked-interrupts (command_spec.with_transfer s b u) (record b { transfer = u }) (asked k.orb k.now.acts) (asked k.orb (k.now.acts ▸▸ acts)) u.pci_pending a.0
-  chains-asks storage s b k signal walk came.Suspends acts a = λ l on. absurd (omega (arith, a, l))
-  chains-asks storage s b k signal walk (came.Stops check) acts a = λ l on. absurd (omega (arith, a, l))
+  chains-asks storage s b k signal walk outcome.Suspends acts a = λ l on. absurd (omega (arith, a, l))
+  chains-asks storage s b k signal walk (outcome.Stops check) acts a = λ l on. absurd (omega (arith, a, l))
 
   next-asks : (storage : Contents) (s : SubchannelState) (b : ActiveProgram) (k : ProgramTrace) (signal : EndSignal) → HasWork (Some b) k →
       let next : Beginning = next_command storage b.transfer (has_status_modifier signal.status) in
       Interrupts s (on_end.chains_with storage s (with_first_end b) signal next).state k
-      (stories.trace_goes_on storage next.came (next_acts storage b.transfer (has_status_modifier signal.status)) k)
+      (stories.trace_goes_on storage next.outcome (next_acts storage b.transfer (has_status_modifier signal.status)) k)
   next-asks storage s b k signal w =
       let modifier : Bool = has_status_modifier signal.status in
       let next : Beginning = next_command storage b.transfer modifier in
-      chains-asks storage s (with_first_end b) k signal next.walk next.came (next_acts storage b.transfer modifier)
+      chains-asks storage s (with_first_end b) k signal next.walk next.outcome (next_acts storage b.transfer modifier)
       (next-asking storage k.orb k.now.acts b.transfer modifier w.0.tied.walk)
 
-  chains-only : (storage : Contents) (s : SubchannelState) (b : ActiveProgram) (k : ProgramTrace) (signal : EndSignal) (walk : WalkPlace) (c : CommandStart) (acts : Sequence Act) →
+  chains-only : (storage : Contents) (s : SubchannelState) (b : ActiveProgram) (k : ProgramTrace) (signal : EndSignal) (walk : WalkPosition) (c : CommandStart) (acts : Sequence Act) →
       BeginsAsking storage (asked k.orb k.now.acts) (asked k.orb (k.now.acts ▸▸ acts)) c →
-      is_some (command_sent (on_end.next_ccw_outcome storage s b signal walk c).came.sent) ≡ true →
+      is_some (command_sent (on_end.next_ccw_outcome storage s b signal walk c).outcome.sent) ≡ true →
       OnlyInterrupts s (on_end.next_ccw_outcome storage s b signal walk c).state k (stories.trace_goes_on storage c acts k)
-  chains-only storage s b k signal walk (came.Begins transfer) acts a e =
+  chains-only storage s b k signal walk (outcome.Begins transfer) acts a e =
       let u = (begun_with_room storage transfer).transfer in
       only-asked (command_spec.with_transfer s b u) (record b { transfer = u }) (asked k.orb k.now.acts) (asked k.orb (k.now.acts ▸▸ acts)) u.pci_pending a.1
-  chains-only storage s b k signal walk came.Suspends acts a e =
+  chains-only storage s b k signal walk outcome.Suspends acts a e =
       none-sent (device_released-silent (suspension.program_suspended (on_end.with_allegiance_after_end s signal) b.program walk (residual b.transfer.moving))) e
-  chains-only storage s b k signal walk (came.Stops check) acts a e =
+  chains-only storage s b k signal walk (outcome.Stops check) acts a e =
       none-sent (device_released-silent (with_cause (on_end.with_allegiance_after_end s signal) (cause.FetchFault walk.tried check (residual b.transfer.moving)))) e
 
   next-only : (storage : Contents) (s : SubchannelState) (b : ActiveProgram) (k : ProgramTrace) (signal : EndSignal) → HasWork (Some b) k →
       let next : Beginning = next_command storage b.transfer (has_status_modifier signal.status) in
       let x : UpStep = on_end.chains_with storage s (with_first_end b) signal next in
-      is_some (command_sent x.came.sent) ≡ true →
-      OnlyInterrupts s x.state k (stories.trace_goes_on storage next.came (next_acts storage b.transfer (has_status_modifier signal.status)) k)
+      is_some (command_sent x.outcome.sent) ≡ true →
+      OnlyInterrupts s x.state k (stories.trace_goes_on storage next.outcome (next_acts storage b.transfer (has_status_modifier signal.status)) k)
   next-only storage s b k signal w e =
       let modifier : Bool = has_status_modifier signal.status in
       let next : Beginning = next_command storage b.transfer modifier in
-      chains-only storage s (with_first_end b) k signal next.walk next.came (next_acts storage b.transfer modifier)
+      chains-only storage s (with_first_end b) k signal next.walk next.outcome (next_acts storage b.transfer modifier)
       (next-asking storage k.orb k.now.acts b.transfer modifier w.0.tied.walk) e
 
   -- none
@@ -186,7 +186,7 @@ module _ (laws : AreLaws) (accesses : AreAccesses) where
       let x : UpStep = if last then device_released (end-left laws accesses s b signal shown last) else outcomes.signal_taken (end-left laws accesses s b signal shown last) in
       let after : ProgramTrace = stories.ends_alone signal.status k in
       IsShownBy (is_none s.waiting || not (is_last_end signal.status)) s x.state after →
-      Meets storage storage s x.state (up.End signal.number signal.command signal.status signal.more) x.came.taken x.came.sent k after
+      Meets storage storage s x.state (up.End signal.number signal.command signal.status signal.more) x.outcome.taken x.outcome.sent k after
   stops-meets storage s b k signal shown true c m n r = (m, n, refl, inl (c, refl, device_released-silent (end-left laws accesses s b signal shown true), made-more s.pmcw.enabled s.serials, r))
   stops-meets storage s b k signal shown false c m n r = (m, n, refl, inl (c, refl, refl, made-more s.pmcw.enabled s.serials, r))
 
@@ -196,14 +196,14 @@ module _ (laws : AreLaws) (accesses : AreAccesses) where
       (if x then (if y then on_end.chains_with storage s (with_first_end b) signal (next_command storage (with_first_end b).transfer (has_status_modifier signal.status))
       else outcomes.signal_taken (record (on_end.with_allegiance_after_end s signal) { begun = Some (with_first_end b) }))
       else on_end.concludes s b signal) k
-      (if x then (if y then stories.trace_goes_on storage (next_command storage b.transfer (has_status_modifier signal.status)).came (next_acts storage b.transfer (has_status_modifier signal.status)) k else stories.with_ended k)
+      (if x then (if y then stories.trace_goes_on storage (next_command storage b.transfer (has_status_modifier signal.status)).outcome (next_acts storage b.transfer (has_status_modifier signal.status)) k else stories.with_ended k)
       else stories.ends_alone signal.status k)
   goes-meets storage s b k signal true true c d e w m n r =
       let next : Beginning = next_command storage b.transfer (has_status_modifier signal.status) in
       let x : UpStep = on_end.chains_with storage s (with_first_end b) signal next in
-      let after : ProgramTrace = stories.trace_goes_on storage next.came (next_acts storage b.transfer (has_status_modifier signal.status)) k in
-      subst (λ (t : Bool). Meets storage storage s x.state (up.End signal.number signal.command signal.status signal.more) t x.came.sent k after)
-      (sym (chaining-taken storage s (with_first_end b) signal next.walk next.came)) (
+      let after : ProgramTrace = stories.trace_goes_on storage next.outcome (next_acts storage b.transfer (has_status_modifier signal.status)) k in
+      subst (λ (t : Bool). Meets storage storage s x.state (up.End signal.number signal.command signal.status signal.more) t x.outcome.sent k after)
+      (sym (chaining-taken storage s (with_first_end b) signal next.walk next.outcome)) (
         m,
         n,
         refl,
@@ -248,5 +248,5 @@ module _ (laws : AreLaws) (accesses : AreAccesses) where
       let met : UpStep = if x then on_end.ends_at_work storage s s.begun signal else outcomes.signal_ignored s in
       let after : ProgramTrace = if x then stories.trace_ends storage s s.begun signal.command signal.status signal.more k else k in
       IsHeld met.state after →
-      Meets storage storage s met.state (up.End signal.number signal.command signal.status signal.more) met.came.taken met.came.sent k after
+      Meets storage storage s met.state (up.End signal.number signal.command signal.status signal.more) met.outcome.taken met.outcome.sent k after
   end-meets storage s k signal x e h g = end-by storage s k signal x e h g

@@ -60,7 +60,7 @@ use Rattle.subchannel_model.specs.Back as on_back
 use Rattle.subchannel_model.specs.Data as on_data
 use Rattle.subchannel_model.specs.End as on_end
 use Rattle.subchannel_model.specs.Cleared.{takes_cleared}
-use Rattle.machine_model.specs.Turns.{SubTurn, UpTurn, DownTurn}
+use Rattle.machine_model.specs.Results.{SubResult, UpResult, DownResult}
 use Rattle.subchannel_model.specs.Sending.{carried_by, finds_full}
 use Rattle.machine_model.specs.ChooseSteps.{choose_sub}
 use Rattle.machine_model.specs.UpSteps.{up_front, up_sub}
@@ -72,12 +72,12 @@ use Rattle.subchannel_model.specs.SystemReset.{state_reset}
 use Rattle.machine_model.specs.declared.state.Sweep.{Sweep}
 use Rattle.machine_model.specs.PathSteps.{swept}
 use Rattle.step_laws.specs.Walks.{IsFound, Suits}
-use Rattle.run_laws.proofs.Machine.TaleEvents.{reset-phase}
+use Rattle.run_laws.proofs.Machine.TraceEvents.{reset-phase}
 use Rattle.run_laws.specs.Traces as traced
 use Rattle.run_laws.specs.ProgramClaims.{IsCopied}
 use Rattle.run_laws.specs.Traces.{ProgramTrace, chosen_at, taken_at, absorbs, reported_at, offered_for, resumed_for, takes, reported}
 use Rattle.run_laws.proofs.Traces.MachineTraces.{met_with, met_at, trace, trace_after}
-use Rattle.run_laws.proofs.Traces.Turns.{PlaceStep, Stays, Starts_with_orb, Is_tested, Is_resumed, Is_halted, Is_cleared, Is_cancelled, Is_modified, Is_chosen, Meets, Sinks, Is_reported, Other_sinks, Other_reported, Unit_acts, Is_swept, step-happens}
+use Rattle.run_laws.proofs.Traces.Turns.{IndexStep, Stays, Starts_with_orb, Is_tested, Is_resumed, Is_halted, Is_cleared, Is_cancelled, Is_modified, Is_chosen, Meets, Sinks, Is_reported, Other_sinks, Other_reported, Unit_acts, Is_swept, step-happens}
 use Rattle.run_laws.proofs.Bytes.Accesses.{AreAccesses}
 use Rattle.run_laws.proofs.Traces.Ties.{AreLaws}
 use Rattle.run_laws.proofs.Traces.Holds.{IsPhase, IsDrawn, HasWork, IsStanding, IsHeld, IsUnheld, IsUntold, HeldBy, done-held, none-begun, none-stands, without-held, nothing-done, past-done}
@@ -87,7 +87,7 @@ use Rattle.run_laws.proofs.Units.RunSides.{run-one-sided}
 use Rattle.run_laws.proofs.Units.UnitActs.{if-ok}
 use Rattle.run_laws.proofs.Links.Vanishing.{send-ok}
 use Rattle.run_laws.proofs.Traces.Sweeps.{swept-kept}
-use Rattle.step_laws.proofs.Places.{map-get}
+use Rattle.step_laws.proofs.Indices.{map-get}
 
 -- what is kept of its program, and what was copied for it
 abbrev pub IsKept : SubchannelState → ProgramTrace → Type 0
@@ -214,10 +214,10 @@ choose-held sub k (Offers c path) o h =
     (down.Select (sub.state.drawn + 1)) (reply.Offered (sub.state.drawn + 1) path c.resumes)
     (found-held sub c.program path c.resumes k (none-begun sub.state k (kept-held sub.state k h) o.fits) o.found h)
 
-pub chosen-held : (sub : Subchannel) (k : Option ProgramTrace) (c : Chosen) (t : SubTurn) → Suits c sub.state → choose_sub sub c ≡ Ok t →
+pub chosen-held : (sub : Subchannel) (k : Option ProgramTrace) (c : Chosen) (t : SubResult) → Suits c sub.state → choose_sub sub c ≡ Ok t →
     KeptBy sub.state k → KeptBy t.sub.state (chosen_at (Some sub) t.reply k)
 chosen-held sub k c t f e h =
-    subst (λ (r : Result SubTurn Fault). IfOk r (λ t. KeptBy t.sub.state (chosen_at (Some sub) t.reply k))) e (choose-held sub k c f h)
+    subst (λ (r : Result SubResult Fault). IfOk r (λ t. KeptBy t.sub.state (chosen_at (Some sub) t.reply k))) e (choose-held sub k c f h)
 
 -- the unit's doings leave it
 untaken-held : (s : SubchannelState) (k : ProgramTrace) (taken : Sequence ℕ) (absorbed : List ℕ) → IsKept s k → IsKept s (record k { taken = taken; absorbed = absorbed })
@@ -242,7 +242,7 @@ takes-held : (s : SubchannelState) (d : Down) (k : ProgramTrace) → IsKept s k 
 takes-held s (down.Command t n code room) k h = takes-if s k code (t == k.number) h
 takes-held s d k h = h
 
-taken-held : (s : SubchannelState) (d : Down) (came : Bool) (sent : Option (OnPath Up)) (k : Option ProgramTrace) → KeptBy s k → KeptBy s (taken_at (reply.Down d came sent) k)
+taken-held : (s : SubchannelState) (d : Down) (outcome : Bool) (sent : Option (OnPath Up)) (k : Option ProgramTrace) → KeptBy s k → KeptBy s (taken_at (reply.Down d outcome sent) k)
 taken-held s d false sent k h = h
 taken-held s d true (Some x) k h = h
 taken-held s d true None None h = h
@@ -253,12 +253,12 @@ down_front-held : (may : Bool) → (sub : Subchannel) (path : ℕ) (u : UnitStat
 down_front-held may sub path u None k h = tt
 down_front-held may sub path u (Some d) k h =
     let step : Option UnitStep = unit_takes u sub.setup.side path d may in
-    if-ok (λ t. KeptBy t.sub.state (taken_at t.reply k)) (finds_full sub.wires.up (carried_by sub (unit_table.came_of step).sent)) (Err fault.WireFull) _ tt
-    (taken-held sub.state d (unit_table.came_of step).taken (unit_table.came_of step).sent k h)
+    if-ok (λ t. KeptBy t.sub.state (taken_at t.reply k)) (finds_full sub.wires.up (carried_by sub (unit_table.outcome_of step).sent)) (Err fault.WireFull) _ tt
+    (taken-held sub.state d (unit_table.outcome_of step).taken (unit_table.outcome_of step).sent k h)
 
-pub sunk-held : (may : Bool) → (sub : Subchannel) (path : ℕ) (u : UnitState) (t : DownTurn) (k : Option ProgramTrace) → down_sub may sub path u ≡ Ok t → KeptBy sub.state k → KeptBy t.sub.state (taken_at t.reply k)
+pub sunk-held : (may : Bool) → (sub : Subchannel) (path : ℕ) (u : UnitState) (t : DownResult) (k : Option ProgramTrace) → down_sub may sub path u ≡ Ok t → KeptBy sub.state k → KeptBy t.sub.state (taken_at t.reply k)
 sunk-held may sub path u t k e h =
-    subst (λ (r : Result DownTurn Fault). IfOk r (λ t. KeptBy t.sub.state (taken_at t.reply k))) e
+    subst (λ (r : Result DownResult Fault). IfOk r (λ t. KeptBy t.sub.state (taken_at t.reply k))) e
     (if-ok (λ t. KeptBy t.sub.state (taken_at t.reply k)) (nat_lt path (length sub.setup.paths)) (down_front may sub path u (slice_get (queue sub.wires.down path) 0)) (Err fault.NoSuchPath)
     (down_front-held may sub path u (slice_get (queue sub.wires.down path) 0) k h) tt)
 
@@ -275,7 +275,7 @@ report-if s count x k true h = absorbs-held s count x k h
 report-if s count x k false h = h
 
 reported-held : (s : SubchannelState) (u : UnitState) (report : Report) (a : DeviceAnswer) (k : ProgramTrace) → IsKept s k → IsKept s (reported u report a k)
-reported-held s u report (answer.Absorbed count) k h = report-if s count u.at_hand k (report.number == k.number) h
+reported-held s u report (answer.Absorbed count) k h = report-if s count u.current k (report.number == k.number) h
 reported-held s u report other k h = h
 
 reported_at-held : (s : SubchannelState) (u : UnitState) (report : Report) (k : Option ProgramTrace) → KeptBy s k → KeptBy s (reported_at (Some u) report k)
@@ -288,10 +288,10 @@ report_taken-held sub u report None k h = tt
 report_taken-held sub u report (Some step) k h =
     if-ok (λ t. KeptBy t.sub.state (reported_at (Some u) report k)) (finds_full sub.wires.up (carried_by sub step.sent)) (Err fault.WireFull) _ tt (reported_at-held sub.state u report k h)
 
-pub told-held : (sub : Subchannel) (u : UnitState) (report : Report) (t : DownTurn) (k : Option ProgramTrace) → report_sub sub u report ≡ Ok t → KeptBy sub.state k →
+pub told-held : (sub : Subchannel) (u : UnitState) (report : Report) (t : DownResult) (k : Option ProgramTrace) → report_sub sub u report ≡ Ok t → KeptBy sub.state k →
     KeptBy t.sub.state (reported_at (Some u) report k)
 told-held sub u report t k e h =
-    subst (λ (r : Result DownTurn Fault). IfOk r (λ t. KeptBy t.sub.state (reported_at (Some u) report k))) e (report_taken-held sub u report (unit_reports u report) k h)
+    subst (λ (r : Result DownResult Fault). IfOk r (λ t. KeptBy t.sub.state (reported_at (Some u) report k))) e (report_taken-held sub u report (unit_reports u report) k h)
 
 -- no signal tells of a program where none was offered
 reset-untold : (s : SubchannelState) (shows : Bool) → IsUntold s → IsUntold (reset_with s shows)
@@ -357,13 +357,13 @@ module _ (laws : AreLaws) (accesses : AreAccesses) where
       IfOk (up_front returns storage sub path front) (λ t. KeptBy t.sub.state (met_with storage sub.state path front k))
   up_front-held returns storage sub path None k h = tt
   up_front-held returns storage sub path (Some signal) k h =
-      if-ok (λ t. KeptBy t.sub.state (met_with storage sub.state path (Some signal) k)) (finds_full sub.wires.down (carried_by sub (takes_up returns storage sub.state path signal).step.came.sent)) (Err fault.WireFull) _ tt
+      if-ok (λ t. KeptBy t.sub.state (met_with storage sub.state path (Some signal) k)) (finds_full sub.wires.down (carried_by sub (takes_up returns storage sub.state path signal).step.outcome.sent)) (Err fault.WireFull) _ tt
       (any-met returns storage sub.state path signal k h)
 
-  pub met-held : (returns : Bool) → (storage : Contents) (sub : Subchannel) (path : ℕ) (t : UpTurn) (k : Option ProgramTrace) → up_sub returns storage sub path ≡ Ok t → KeptBy sub.state k →
+  pub met-held : (returns : Bool) → (storage : Contents) (sub : Subchannel) (path : ℕ) (t : UpResult) (k : Option ProgramTrace) → up_sub returns storage sub path ≡ Ok t → KeptBy sub.state k →
       KeptBy t.sub.state (met_at storage (Some sub) path k)
   met-held returns storage sub path t k e h =
-      subst (λ (r : Result UpTurn Fault). IfOk r (λ t. KeptBy t.sub.state (met_at storage (Some sub) path k))) e
+      subst (λ (r : Result UpResult Fault). IfOk r (λ t. KeptBy t.sub.state (met_at storage (Some sub) path k))) e
       (if-ok (λ t. KeptBy t.sub.state (met_at storage (Some sub) path k)) (nat_lt path (length sub.setup.paths)) (up_front returns storage sub path (slice_get (queue sub.wires.up path) 0)) (Err fault.NoSuchPath)
       (up_front-held returns storage sub path (slice_get (queue sub.wires.up path) 0) k h) tt)
 
@@ -419,7 +419,7 @@ module _ (laws : AreLaws) (accesses : AreAccesses) where
   abbrev state-of : Subchannel → SubchannelState
   state-of x = x.state
 
-  pub happens-held : (storage : Contents) (old new : Subchannel) (u v : Option UnitState) (f : Option ProgramTrace → Option ProgramTrace) → PlaceStep storage old new u v f → (k : Option ProgramTrace) →
+  pub happens-held : (storage : Contents) (old new : Subchannel) (u v : Option UnitState) (f : Option ProgramTrace → Option ProgramTrace) → IndexStep storage old new u v f → (k : Option ProgramTrace) →
       KeptBy old.state k → KeptBy new.state (f k)
   happens-held storage old new u v f (Stays e w g) k h = same-held old new f k e (g k) h
   happens-held storage old new u v f (Starts_with_orb orb e w g) k h = told new (started old.state orb) f k k (ap state-of e) (g k) (started-held old.state orb k h)
@@ -450,12 +450,12 @@ module _ (laws : AreLaws) (accesses : AreAccesses) where
   free-untold : (sub : Subchannel) (setup : SubchannelSetup) → opened setup ≡ sub → IsUntold sub.state
   free-untold sub setup e = subst (λ (x : Subchannel). IsUntold x.state) e (record { phase = tt; begun = refl; suspended = refl })
 
-  pub run-held : (setup : Setup) → IsLawful setup → (h : List Entry) (s : State) (run : Run (opening_of setup) h s) (place : ℕ) (sub : Subchannel) → slice_get s.subs place ≡ Some sub →
-      KeptBy sub.state (trace place (opening_of setup) h s run)
-  run-held setup lawful _ _ Opened place sub e =
-      let a : (s : SubchannelSetup) × (slice_get setup.subchannels place ≡ Some s) × (opened s ≡ sub) = map-get opened setup.subchannels place sub e in
+  pub run-held : (setup : Setup) → IsLawful setup → (h : List Entry) (s : State) (run : Run (opening_of setup) h s) (index : ℕ) (sub : Subchannel) → slice_get s.subs index ≡ Some sub →
+      KeptBy sub.state (trace index (opening_of setup) h s run)
+  run-held setup lawful _ _ Opened index sub e =
+      let a : (s : SubchannelSetup) × (slice_get setup.subchannels index ≡ Some s) × (opened s ≡ sub) = map-get opened setup.subchannels index sub e in
       free-untold sub a.0 a.2
-  run-held setup lawful _ _ (Stepped h old e r new run step) place sub at =
-      let a = step-happens old (run-one-sided laws.walks setup lawful h old run) place e r new (laws.walks old e r new step) sub at in
-      happens-held old.storage a.0 sub (slice_get old.units a.0.setup.«unit») (slice_get new.units a.0.setup.«unit») (trace_after place old e r) a.3
-      (trace place (opening_of setup) h old run) (run-held setup lawful h old run place a.0 a.1)
+  run-held setup lawful _ _ (Stepped h old e r new run step) index sub at =
+      let a = step-happens old (run-one-sided laws.walks setup lawful h old run) index e r new (laws.walks old e r new step) sub at in
+      happens-held old.storage a.0 sub (slice_get old.units a.0.setup.«unit») (slice_get new.units a.0.setup.«unit») (trace_after index old e r) a.3
+      (trace index (opening_of setup) h old run) (run-held setup lawful h old run index a.0 a.1)

@@ -10,7 +10,7 @@ use Rattle.chan_model.specs.Signals.{Load, load_bytes}
 use Rattle.chan_model.specs.declared.signal.Up.TheVariants as up
 use Rattle.chan_model.specs.Loads.{load_length}
 use Rattle.chan_model.specs.UnitReports.{is_outward}
-use Rattle.ccw_walk.specs.Places.{walk_place}
+use Rattle.ccw_walk.specs.Positions.{walk_position}
 use Rattle.data_move.specs.declared.transfer.NextChunk.{NextChunk}
 use Rattle.data_move.specs.declared.transfer.Transfer.{Transfer}
 use Rattle.data_move.specs.Commands.{located_transfer}
@@ -44,7 +44,7 @@ use Rattle.run_laws.proofs.Bytes.NextChunks.{gives-next, takes-next, gives-flags
 
 module _ (laws : AreLaws) (accesses : AreAccesses) where
   abbrev MovesOf : Contents → SignalOutcome → ℕ → Load → ProgramTrace → ProgramTrace → Type 0
-  MovesOf storage x seq load k after = Moves storage x.storage seq load x.step.came.sent k after
+  MovesOf storage x seq load k after = Moves storage x.storage seq load x.step.outcome.sent k after
 
   out-told : (storage : Contents) (s : SubchannelState) (b : ActiveProgram) (k : ProgramTrace) (signal : DataSignal) (load : Load) → IsAtWork k.earlier k.orb k.now b.transfer true → IsMarked k.now b.transfer →
       ((signal.sequence == b.transfer.sequence) || (signal.sequence == b.transfer.sequence + 1)) ≡ true →
@@ -96,7 +96,7 @@ module _ (laws : AreLaws) (accesses : AreAccesses) where
       )
 
   -- a block that data is chained to may ask for an interruption
-  out-asks : (storage : Contents) (s : SubchannelState) (b : ActiveProgram) (k : ProgramTrace) (signal : DataSignal) (load : Load) → b.transfer.walk ≡ walk_place k.orb k.now.acts → b.transfer.pci_pending ≡ false →
+  out-asks : (storage : Contents) (s : SubchannelState) (b : ActiveProgram) (k : ProgramTrace) (signal : DataSignal) (load : Load) → b.transfer.walk ≡ walk_position k.orb k.now.acts → b.transfer.pci_pending ≡ false →
       Interrupts s (on_data.gives_next_chunk storage s b signal (load_length load)).state k (record k { now = gives storage b.transfer signal.sequence (load_length load) k.now })
   out-asks storage s b k signal load e f =
       let count : ℕ = load_length load in
@@ -105,7 +105,7 @@ module _ (laws : AreLaws) (accesses : AreAccesses) where
       asked-interrupts (command_spec.with_transfer s b t) (record b { transfer = t }) (asked k.orb k.now.acts) (asked k.orb now.acts) t.pci_pending
       (gives-asking storage k.orb k.now b.transfer signal.sequence count e f).0
 
-  in-asks : (storage : Contents) (s : SubchannelState) (b : ActiveProgram) (k : ProgramTrace) (signal : DataSignal) (load : Load) → b.transfer.walk ≡ walk_place k.orb k.now.acts → b.transfer.pci_pending ≡ false →
+  in-asks : (storage : Contents) (s : SubchannelState) (b : ActiveProgram) (k : ProgramTrace) (signal : DataSignal) (load : Load) → b.transfer.walk ≡ walk_position k.orb k.now.acts → b.transfer.pci_pending ≡ false →
       Interrupts s (on_data.tells_room_after s b signal (chunk_stored storage b.transfer signal.sequence (load_bytes load))).step.state k
       (record k { now = takes_in storage b.transfer signal.sequence (load_bytes load) k.now })
   in-asks storage s b k signal load e f =
@@ -116,7 +116,7 @@ module _ (laws : AreLaws) (accesses : AreAccesses) where
       asked-interrupts (command_spec.with_transfer s b t) (record b { transfer = t }) (asked k.orb k.now.acts) (asked k.orb now.acts) t.pci_pending
       (takes_in-asking storage k.orb k.now b.transfer signal.sequence bytes e f).0
 
-  out-only : (storage : Contents) (s : SubchannelState) (b : ActiveProgram) (k : ProgramTrace) (signal : DataSignal) (load : Load) → b.transfer.walk ≡ walk_place k.orb k.now.acts → b.transfer.pci_pending ≡ false →
+  out-only : (storage : Contents) (s : SubchannelState) (b : ActiveProgram) (k : ProgramTrace) (signal : DataSignal) (load : Load) → b.transfer.walk ≡ walk_position k.orb k.now.acts → b.transfer.pci_pending ≡ false →
       OnlyInterrupts s (on_data.gives_next_chunk storage s b signal (load_length load)).state k (record k { now = gives storage b.transfer signal.sequence (load_length load) k.now })
   out-only storage s b k signal load e f =
       let count : ℕ = load_length load in
@@ -125,7 +125,7 @@ module _ (laws : AreLaws) (accesses : AreAccesses) where
       only-asked (command_spec.with_transfer s b t) (record b { transfer = t }) (asked k.orb k.now.acts) (asked k.orb now.acts) t.pci_pending
       (gives-asking storage k.orb k.now b.transfer signal.sequence count e f).1
 
-  in-only : (storage : Contents) (s : SubchannelState) (b : ActiveProgram) (k : ProgramTrace) (signal : DataSignal) (load : Load) → b.transfer.walk ≡ walk_place k.orb k.now.acts → b.transfer.pci_pending ≡ false →
+  in-only : (storage : Contents) (s : SubchannelState) (b : ActiveProgram) (k : ProgramTrace) (signal : DataSignal) (load : Load) → b.transfer.walk ≡ walk_position k.orb k.now.acts → b.transfer.pci_pending ≡ false →
       OnlyInterrupts s (on_data.tells_room_after s b signal (chunk_stored storage b.transfer signal.sequence (load_bytes load))).step.state k
       (record k { now = takes_in storage b.transfer signal.sequence (load_bytes load) k.now })
   in-only storage s b k signal load e f =
@@ -153,7 +153,7 @@ module _ (laws : AreLaws) (accesses : AreAccesses) where
   abbrev DataBy : Contents → SubchannelState → DataSignal → Load → SignalOutcome → ProgramTrace → ProgramTrace → Type 0
   DataBy storage s signal load x k after =
       ShowsRestOf s.serials.made x.step.state after →
-      Meets storage x.storage s x.step.state (up.Data load signal.number signal.connection signal.command signal.sequence) x.step.came.taken x.step.came.sent k after
+      Meets storage x.storage s x.step.state (up.Data load signal.number signal.connection signal.command signal.sequence) x.step.outcome.taken x.step.outcome.sent k after
 
   moves-meets : (storage : Contents) (s : SubchannelState) (b : ActiveProgram) (k : ProgramTrace) (signal : DataSignal) (load : Load) (x : Bool) → s.begun ≡ Some b → is_outward b.transfer.code ≡ x →
       b.transfer.pci_pending ≡ false →
@@ -206,7 +206,7 @@ module _ (laws : AreLaws) (accesses : AreAccesses) where
       let met : SignalOutcome = if x then on_data.moves_data storage s s.begun signal load else outcomes.with_storage storage (outcomes.signal_ignored s) in
       let after : ProgramTrace = if x then stories.answers storage s.begun signal.command signal.sequence load k else k in
       IsHeld met.step.state after →
-      Meets storage met.storage s met.step.state (up.Data load signal.number signal.connection signal.command signal.sequence) met.step.came.taken met.step.came.sent k after
+      Meets storage met.storage s met.step.state (up.Data load signal.number signal.connection signal.command signal.sequence) met.step.outcome.taken met.step.outcome.sent k after
   data-meets storage s k signal load x e h c g =
       data-by storage s k signal load x e h c
       (data-shows storage s signal load (if x then stories.answers storage s.begun signal.command signal.sequence load k else k) x g)

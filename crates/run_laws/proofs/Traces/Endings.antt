@@ -1,4 +1,4 @@
--- A command to which none is chained ends: what is kept of its program agrees with the longer story.
+-- A command to which none is chained ends: what is kept of its program agrees with the longer trace.
 use Rattle.std.proofs.Common.{◌≡◌, refl, ap, sym, ◌∙◌, ℕ, Bool, true, false, List, Option, Some, None}
 use Rattle.orb_block.specs.declared.Orb.{Orb}
 use Rattle.scsw_irb.specs.declared.status.DeviceStatus.{DeviceStatus}
@@ -6,7 +6,7 @@ use Rattle.ccw_walk.specs.declared.program.Latest.{Latest}
 use Rattle.ccw_walk.specs.Sequences.{Sequence, ◌▸◌}
 use Rattle.ccw_walk.specs.Acts.{Act, End}
 use Rattle.ccw_walk.specs.Programs.{role_of, latest, next_ended, tried}
-use Rattle.ccw_walk.specs.Places.{WalkPlace}
+use Rattle.ccw_walk.specs.Positions.{WalkPosition}
 use Rattle.data_move.specs.declared.transfer.Transfer.{Transfer}
 use Rattle.subchannel_model.specs.Ends.{has_status_modifier}
 use Rattle.run_laws.specs.Traces.{ProgramTrace}
@@ -24,7 +24,7 @@ ended-tied : (earlier : ℕ) (orb : Orb) (acts : Sequence Act) (ps : List (Optio
 ended-tied earlier orb acts ps t modifier k = record {
   walk =
       k.walk
-      ∙ ap (λ (x : Option ℕ). (let p : WalkPlace = record { orb = orb; role = role_of orb acts; latest = latest orb acts; next = x; tried = tried orb acts } in p))
+      ∙ ap (λ (x : Option ℕ). (let p : WalkPosition = record { orb = orb; role = role_of orb acts; latest = latest orb acts; next = x; tried = tried orb acts } in p))
       (k.stands ∙ sym (ended-next (latest orb acts) modifier));
   program = (k.stands, k.program);
   stands = ended-next (latest orb acts) modifier;

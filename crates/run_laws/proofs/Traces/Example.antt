@@ -58,32 +58,32 @@ offered_state = record opening_subchannel { drawn = 1; starts = 1; offered = 1; 
 abbrev sent_state : SubchannelState
 sent_state = (takes_up false storage offered_state 0 (up.Accept 1)).step.state
 
-abbrev sent_story : ProgramTrace
-sent_story = trace_meets storage offered_state 0 (up.Accept 1) (trace_offered 1 orb)
+abbrev sent_trace : ProgramTrace
+sent_trace = trace_meets storage offered_state 0 (up.Accept 1) (trace_offered 1 orb)
 
 -- the device asks for bytes, and absorbs them
 abbrev given_state : SubchannelState
 given_state = (takes_up false storage sent_state 0 (up.Data (load.Absorbed 0) 1 0 1 0)).step.state
 
-abbrev given_story : ProgramTrace
-given_story = trace_meets storage sent_state 0 (up.Data (load.Absorbed 0) 1 0 1 0) sent_story
+abbrev given_trace : ProgramTrace
+given_trace = trace_meets storage sent_state 0 (up.Data (load.Absorbed 0) 1 0 1 0) sent_trace
 
-abbrev moved_story : ProgramTrace
-moved_story = trace_meets storage given_state 0 (up.Data (load.Absorbed 2) 1 0 1 1) given_story
+abbrev moved_trace : ProgramTrace
+moved_trace = trace_meets storage given_state 0 (up.Data (load.Absorbed 2) 1 0 1 1) given_trace
 
-example_sent : sent_story.sent ≡ 1
+example_sent : sent_trace.sent ≡ 1
 unfolding storage
 example_sent = refl
 
-example_codes : codes_after moved_story.earlier moved_story.orb moved_story.now.acts ≡ 1 ∷ []
+example_codes : codes_after moved_trace.earlier moved_trace.orb moved_trace.now.acts ≡ 1 ∷ []
 unfolding storage
 example_codes = refl
 
-example_copied : map (λ c. c.bytes) given_story.now.copied ≡ (193 ∷ 194 ∷ []) ∷ []
+example_copied : map (λ c. c.bytes) given_trace.now.copied ≡ (193 ∷ 194 ∷ []) ∷ []
 unfolding storage
 example_copied = refl
 
-example_moved : moved_story.now.moved ≡ Some 16 ∷ Some 17 ∷ []
+example_moved : moved_trace.now.moved ≡ Some 16 ∷ Some 17 ∷ []
 unfolding storage
 example_moved = refl
 
@@ -111,8 +111,8 @@ waiting_state = record offered_state { waiting = Some (record program { orb = su
 abbrev working_state : SubchannelState
 working_state = (takes_up false marked waiting_state 0 (up.Accept 1)).step.state
 
-abbrev working_story : ProgramTrace
-working_story = trace_meets marked waiting_state 0 (up.Accept 1) (trace_offered 1 suspendable)
+abbrev working_trace : ProgramTrace
+working_trace = trace_meets marked waiting_state 0 (up.Accept 1) (trace_offered 1 suspendable)
 
 abbrev ended : DeviceStatus
 ended = record { 0 = 0x0C }
@@ -120,23 +120,23 @@ ended = record { 0 = 0x0C }
 abbrev suspended_state : SubchannelState
 suspended_state = (takes_up false marked working_state 0 (up.End 1 1 ended false)).step.state
 
-abbrev suspended_story : ProgramTrace
-suspended_story = trace_meets marked working_state 0 (up.End 1 1 ended false) working_story
+abbrev suspended_trace : ProgramTrace
+suspended_trace = trace_meets marked working_state 0 (up.End 1 1 ended false) working_trace
 
 abbrev resumed_state : SubchannelState
 resumed_state = record suspended_state { drawn = 2; hold = record free_hold { phase = hold.Offer 2 0 } }
 
-abbrev resumed_story : ProgramTrace
-resumed_story = trace_meets unmarked resumed_state 0 (up.Accept 2) (trace_resumed 2 suspended_story)
+abbrev resumed_trace : ProgramTrace
+resumed_trace = trace_meets unmarked resumed_state 0 (up.Accept 2) (trace_resumed 2 suspended_trace)
 
 example_suspended : is_some suspended_state.suspended ≡ true
 unfolding stored
 example_suspended = refl
 
-example_suspended_codes : codes_after 0 suspended_story.orb suspended_story.now.acts ≡ 1 ∷ []
+example_suspended_codes : codes_after 0 suspended_trace.orb suspended_trace.now.acts ≡ 1 ∷ []
 unfolding stored
 example_suspended_codes = refl
 
-example_resumed_codes : codes_after resumed_story.earlier resumed_story.orb resumed_story.now.acts ≡ 5 ∷ []
+example_resumed_codes : codes_after resumed_trace.earlier resumed_trace.orb resumed_trace.now.acts ≡ 5 ∷ []
 unfolding stored
 example_resumed_codes = refl

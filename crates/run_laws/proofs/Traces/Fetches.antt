@@ -17,7 +17,7 @@ use Rattle.ccw_walk.specs.Acts.{Act, Block, Unfetched, Used_up, End}
 use Rattle.ccw_walk.specs.Blocks.{reads}
 use Rattle.ccw_walk.specs.Programs.{IsProgram, role_of, next, commands}
 use Rattle.ccw_walk.specs.Advancing.{acts_from_next, with_tic_target, acts_from_fetch, advance_acts}
-use Rattle.ccw_walk.specs.Places.{after_block, after_count_used_up, after_command_end, WalkPlace, walk_place}
+use Rattle.ccw_walk.specs.Positions.{after_block, after_count_used_up, after_command_end, WalkPosition, walk_position}
 use Rattle.ccw_walk.specs.Fetching.{act_of_fetch, is_program_misplaced, fetch_act}
 use Rattle.idaw.specs.declared.ListKind.{ListKind}
 use Rattle.idaw.specs.Lists.{kind_of, width, address_of_word, word_fault}
@@ -28,7 +28,7 @@ use Rattle.data_move.specs.Accesses as access
 use Rattle.data_move.specs.Accesses.{checked, list_word_of}
 use Rattle.data_move.specs.declared.transfer.Transfer.{Transfer}
 use Rattle.data_move.specs.declared.transfer.CommandStart.{CommandStart}
-use Rattle.data_move.specs.declared.transfer.CommandStart.TheVariants as came
+use Rattle.data_move.specs.declared.transfer.CommandStart.TheVariants as outcome
 use Rattle.data_move.specs.Commands.{goes_to, located_transfer, has_stopped, brings}
 use Rattle.data_move.specs.DataChaining.{chains_data, with_bytes_moved}
 use Rattle.data_move.specs.ToDevice.{with_chunk_counted, chunk_absorbed}
@@ -76,37 +76,37 @@ fetch-fetched storage orb before address =
     fetch-by storage orb before address ((role_of orb before).first && is_program_misplaced orb address) (fetched storage orb.key address 8) refl refl
 
 target-fetched : (storage : Contents) (orb : Orb) (before : Sequence Act) (address : ℕ) (bytes : List ℕ) (r : Reading) → fetched storage orb.key address 8 ≡ Ok bytes →
-    AreFetched storage orb before (with_tic_target storage (after_block (walk_place orb before) address bytes) r (Nothing ▸ Block address bytes))
+    AreFetched storage orb before (with_tic_target storage (after_block (walk_position orb before) address bytes) r (Nothing ▸ Block address bytes))
 target-fetched storage orb before address bytes (Transfers target) e =
     (fetch-fetched storage orb (before ▸ Block address bytes) target, (e, tt))
 target-fetched storage orb before address bytes other e = (e, tt)
 
 from-by : (storage : Contents) (orb : Orb) (before : Sequence Act) (address : ℕ) (test : Bool) (answer : Result (List ℕ) StorageFault) →
     ((role_of orb before).first && is_program_misplaced orb address) ≡ test → fetched storage orb.key address 8 ≡ answer →
-    AreFetched storage orb before (acts_from_fetch storage (walk_place orb before) (if test then Unfetched address Program else act_of_fetch address answer))
+    AreFetched storage orb before (acts_from_fetch storage (walk_position orb before) (if test then Unfetched address Program else act_of_fetch address answer))
 from-by storage orb before address true answer d e = (inr (d, refl), tt)
 from-by storage orb before address false (Ok bytes) d e = target-fetched storage orb before address bytes (reads orb (role_of orb before) bytes) e
 from-by storage orb before address false (Err fault) d e = (inl (ap checked e), tt)
 
-at-fetched : (storage : Contents) (orb : Orb) (before : Sequence Act) (n : Option ℕ) → AreFetched storage orb before (acts_from_next storage (walk_place orb before) n)
+at-fetched : (storage : Contents) (orb : Orb) (before : Sequence Act) (n : Option ℕ) → AreFetched storage orb before (acts_from_next storage (walk_position orb before) n)
 at-fetched storage orb before None = tt
 at-fetched storage orb before (Some address) =
     from-by storage orb before address ((role_of orb before).first && is_program_misplaced orb address) (fetched storage orb.key address 8) refl refl
 
-advance-fetched : (storage : Contents) (orb : Orb) (before : Sequence Act) → AreFetched storage orb before (advance_acts storage (walk_place orb before))
+advance-fetched : (storage : Contents) (orb : Orb) (before : Sequence Act) → AreFetched storage orb before (advance_acts storage (walk_position orb before))
 advance-fetched storage orb before = at-fetched storage orb before (next orb before)
 
 -- data is chained
-chained-adds : (storage : Contents) (orb : Orb) (acts : Sequence Act) (t : Transfer) → t.walk ≡ walk_place orb acts →
+chained-adds : (storage : Contents) (orb : Orb) (acts : Sequence Act) (t : Transfer) → t.walk ≡ walk_position orb acts →
     AddsFetched storage orb (acts ▸ Used_up) (acts ▸▸ chained_acts storage t)
 chained-adds storage orb acts t e =
-    let more : WalkPlace → Sequence Act = λ w. advance_acts storage (after_count_used_up w) in (
+    let more : WalkPosition → Sequence Act = λ w. advance_acts storage (after_count_used_up w) in (
       more t.walk,
       joined-in-order acts (Nothing ▸ Used_up) (more t.walk),
-      subst (λ (w : WalkPlace). AreFetched storage orb (acts ▸ Used_up) (more w)) (sym e) (advance-fetched storage orb (acts ▸ Used_up)),
+      subst (λ (w : WalkPosition). AreFetched storage orb (acts ▸ Used_up) (more w)) (sym e) (advance-fetched storage orb (acts ▸ Used_up)),
     )
 
-after_bytes_moved-if : (storage : Contents) (orb : Orb) (p : CommandTrace) (t : Transfer) (n : ℕ) (b : Bool) → t.walk ≡ walk_place orb p.acts →
+after_bytes_moved-if : (storage : Contents) (orb : Orb) (p : CommandTrace) (t : Transfer) (n : ℕ) (b : Bool) → t.walk ≡ walk_position orb p.acts →
     AddsFetched storage orb (acts_used b p.acts) (if b then with_acts (with_places p t.moving n) (chained_acts storage (with_bytes_moved t n)) else with_places p t.moving n).acts
 after_bytes_moved-if storage orb p t n true e = chained-adds storage orb p.acts (with_bytes_moved t n) e
 after_bytes_moved-if storage orb p t n false e = adds-none storage orb p.acts
@@ -160,7 +160,7 @@ module _ (earlier : ℕ) where
       AreFetched storage orb acts (act_of_right f word)
   right-fetched storage orb acts ps t word None e f k =
       let same : access.word_fetched storage orb.key t.moving ≡ Ok word =
-      ap (λ (x : WalkPlace). access.word_fetched storage x.orb.key t.moving) (sym k.walk) ∙ e in
+      ap (λ (x : WalkPosition). access.word_fetched storage x.orb.key t.moving) (sym k.walk) ∙ e in
       (spot-word storage orb (data_areas orb acts) t ps word k.kind same f k.spot, tt)
   right-fetched storage orb acts ps t word (Some fault) e f k = tt
 
@@ -187,16 +187,16 @@ module _ (earlier : ℕ) where
 
     room-fetched : (storage : Contents) (orb : Orb) (before acts : Sequence Act) (n : ℕ) (c : CommandStart) → Begins earlier laws orb before acts n c →
         AreFetched storage orb acts (room_acts storage c)
-    room-fetched storage orb before acts n (came.Begins t) k = room-if storage orb acts t (brings (class_of t.code)) k.0
-    room-fetched storage orb before acts n came.Suspends k = tt
-    room-fetched storage orb before acts n (came.Stops check) k = tt
+    room-fetched storage orb before acts n (outcome.Begins t) k = room-if storage orb acts t (brings (class_of t.code)) k.0
+    room-fetched storage orb before acts n outcome.Suspends k = tt
+    room-fetched storage orb before acts n (outcome.Stops check) k = tt
 
     pub goes-fetched : (storage : Contents) (orb : Orb) (before : Sequence Act) (n : ℕ) → (role_of orb before).chained ≡ false → count (commands orb before) + 1 ≡ earlier + n →
-        IsProgram orb before → has_check orb before ≡ false → EndsAtCheck orb before → AreFetched storage orb before (goes_acts storage n (walk_place orb before))
+        IsProgram orb before → has_check orb before ≡ false → EndsAtCheck orb before → AreFetched storage orb before (goes_acts storage n (walk_position orb before))
     goes-fetched storage orb before n c l p hc en =
-        let old : WalkPlace = walk_place orb before in
-        fetched-append storage orb (room_acts storage (goes_to storage n old).came) (advance_acts storage old) before
-        (room-fetched storage orb before (before ▸▸ advance_acts storage old) n (goes_to storage n old).came (goes-begins earlier laws storage orb before n c l p hc en))
+        let old : WalkPosition = walk_position orb before in
+        fetched-append storage orb (room_acts storage (goes_to storage n old).outcome) (advance_acts storage old) before
+        (room-fetched storage orb before (before ▸▸ advance_acts storage old) n (goes_to storage n old).outcome (goes-begins earlier laws storage orb before n c l p hc en))
         (advance-fetched storage orb before)
 
     abbrev ending : Bool → Ended
@@ -207,10 +207,10 @@ module _ (earlier : ℕ) where
     next-adds storage orb acts ps t modifier d f k =
         let before : Sequence Act = acts ▸ End (ending modifier) in
         let m : count (commands orb before) ≡ earlier + t.command = k.number in
-        let more : WalkPlace → Sequence Act = λ w. goes_acts storage (t.command + 1) (after_command_end w (ending modifier)) in (
+        let more : WalkPosition → Sequence Act = λ w. goes_acts storage (t.command + 1) (after_command_end w (ending modifier)) in (
           more t.walk,
           joined-in-order acts (Nothing ▸ End (ending modifier)) (more t.walk),
-          subst (λ (w : WalkPlace). AreFetched storage orb before (more w)) (sym k.walk)
+          subst (λ (w : WalkPosition). AreFetched storage orb before (more w)) (sym k.walk)
               (goes-fetched storage orb before (t.command + 1) (k.chained f ∙ d) (omega (arith, m)) (k.stands, k.program) (k.checked f) k.ends),
         )
 

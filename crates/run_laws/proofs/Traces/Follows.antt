@@ -1,4 +1,4 @@
--- What is told of the program of a place goes on in each step by what is seen.
+-- What is told of the program of an index goes on in each step by what is seen.
 use Rattle.std.proofs.Common.{◌≡◌, refl, sym, ◌∙◌, ap, subst, ℕ, Bool, false, length, Option, Some, None, Result, Err}
 use Rattle.std.specs.Prelude.{if◌then◌else◌, nat_lt, slice_get, slice_set, IfOk}
 use Rattle.std.proofs.lemmas.Bool.{eqb-true, eqb-false}
@@ -22,15 +22,15 @@ use Rattle.subchannel_model.specs.Accept.{takes_device, takes_accept}
 use Rattle.subchannel_model.specs.Data.{moves_data}
 use Rattle.subchannel_model.specs.End.{ends_at_work}
 use Rattle.subchannel_model.specs.Taking.{takes_up}
-use Rattle.machine_model.specs.State.{State, place_of, with_sub}
+use Rattle.machine_model.specs.State.{State, index_of, with_sub}
 use Rattle.machine_model.specs.Steps.{Step}
-use Rattle.machine_model.specs.Turns.{Turn, UpTurn}
+use Rattle.machine_model.specs.Results.{StepResult, UpResult}
 use Rattle.machine_model.specs.UpSteps.{returns_at, up_front, up_sub}
-use Rattle.step_laws.proofs.Places.{get-set, get-other}
+use Rattle.step_laws.proofs.Indices.{get-set, get-other}
 use Rattle.run_laws.specs.Traces.{ProgramTrace}
 use Rattle.chan_model.specs.ResetCauses.{is_path}
 use Rattle.run_laws.specs.Shows.{IsStandingShown}
-use Rattle.run_laws.specs.Tells.{Meets, MeetsNone, OfBoth, ShowsBy, AtPlace, GoesBy}
+use Rattle.run_laws.specs.Tells.{Meets, MeetsNone, OfBoth, ShowsBy, AtIndex, GoesBy}
 use Rattle.run_laws.proofs.Traces.MachineTraces.{met_with, met_at, trace_meets, trace_after}
 use Rattle.run_laws.proofs.Bytes.Accesses.{AreAccesses}
 use Rattle.run_laws.proofs.Traces.Ties.{AreLaws}
@@ -47,13 +47,13 @@ use Rattle.run_laws.proofs.Statuses.StatusCounts.{none-counted, none-left, of-pr
 use Rattle.run_laws.proofs.Statuses.StepCounts.{walk-shows}
 use Rattle.run_laws.proofs.Units.UnitActs.{if-ok}
 use Rattle.interruptions.specs.Requests.{WaitingRequests}
-use Rattle.step_laws.proofs.Turns as turn
-use Rattle.step_laws.proofs.Turns.{TurnOf, HasTurn, step-turn}
+use Rattle.step_laws.proofs.Results as turn
+use Rattle.step_laws.proofs.Results.{ResultOf, HasResult, step-turn}
 
 module _ (laws : AreLaws) (accesses : AreAccesses) where
   -- a signal
   abbrev MeetsBy : Contents → SubchannelState → Up → SignalOutcome → ProgramTrace → ProgramTrace → Type 0
-  MeetsBy storage s signal x k after = Meets storage x.storage s x.step.state signal x.step.came.taken x.step.came.sent k after
+  MeetsBy storage s signal x k after = Meets storage x.storage s x.step.state signal x.step.outcome.taken x.step.outcome.sent k after
 
   signal-meets : (returns : Bool) (storage : Contents) (s : SubchannelState) (p : ℕ) (signal : Up) (k : ProgramTrace) → IsHeld s k → IsOffered s k × IsUnasked s.begun →
       MeetsBy storage s signal (takes_up returns storage s p signal) k (trace_meets storage s p signal k)
@@ -109,14 +109,14 @@ module _ (laws : AreLaws) (accesses : AreAccesses) where
   )
 
   -- of a program that there is, where its subchannel agrees with it
-  abbrev TurnMeets : Contents → Subchannel → UpTurn → Option ProgramTrace → Option ProgramTrace → Type 0
+  abbrev TurnMeets : Contents → Subchannel → UpResult → Option ProgramTrace → Option ProgramTrace → Type 0
   TurnMeets storage sub t k after =
       (signal : Up) × (taken : Bool) × (sent : Option (OnPath Down)) × (t.reply ≡ reply.Up signal taken sent)
       × (HeldBy sub.state k → OfferedBy sub.state k × IsUnasked sub.state.begun → OfBoth (MeetsNone storage t.storage sub.state t.sub.state signal) (Meets storage t.storage sub.state t.sub.state signal taken sent) k after)
 
   any-meets : (returns : Bool) (storage : Contents) (s : SubchannelState) (p : ℕ) (signal : Up) (k : Option ProgramTrace) → HeldBy s k → OfferedBy s k × IsUnasked s.begun →
       let x : SignalOutcome = takes_up returns storage s p signal in
-      OfBoth (MeetsNone storage x.storage s x.step.state signal) (Meets storage x.storage s x.step.state signal x.step.came.taken x.step.came.sent) k (met_with storage s p (Some signal) k)
+      OfBoth (MeetsNone storage x.storage s x.step.state signal) (Meets storage x.storage s x.step.state signal x.step.outcome.taken x.step.outcome.sent) k (met_with storage s p (Some signal) k)
   any-meets returns storage s p signal None h o = unoffered returns storage s p signal h
   any-meets returns storage s p signal (Some k) h o = signal-meets returns storage s p signal k h o
 
@@ -125,8 +125,8 @@ module _ (laws : AreLaws) (accesses : AreAccesses) where
   front-meets returns storage sub path None k = tt
   front-meets returns storage sub path (Some signal) k =
       let x : SignalOutcome = takes_up returns storage sub.state path signal in
-      if-ok (λ t. TurnMeets storage sub t k (met_with storage sub.state path (Some signal) k)) (finds_full sub.wires.down (carried_by sub x.step.came.sent)) (Err fault.WireFull) _ tt
-      (signal, x.step.came.taken, x.step.came.sent, refl, any-meets returns storage sub.state path signal k)
+      if-ok (λ t. TurnMeets storage sub t k (met_with storage sub.state path (Some signal) k)) (finds_full sub.wires.down (carried_by sub x.step.outcome.sent)) (Err fault.WireFull) _ tt
+      (signal, x.step.outcome.taken, x.step.outcome.sent, refl, any-meets returns storage sub.state path signal k)
 
   up-meets : (returns : Bool) (storage : Contents) (sub : Subchannel) (path : ℕ) (k : Option ProgramTrace) →
       IfOk (up_sub returns storage sub path) (λ t. TurnMeets storage sub t k (met_at storage (Some sub) path k))
@@ -135,25 +135,25 @@ module _ (laws : AreLaws) (accesses : AreAccesses) where
       (up_front returns storage sub path (slice_get (queue sub.wires.up path) 0)) (Err fault.NoSuchPath)
       (front-meets returns storage sub path (slice_get (queue sub.wires.up path) 0) k) tt
 
-  module _ (s : State) (place : ℕ) (k : Option ProgramTrace) (held : (sub : Subchannel) → slice_get s.subs place ≡ Some sub → HeldBy sub.state k)
-      (offers : (sub : Subchannel) → slice_get s.subs place ≡ Some sub → OfferedBy sub.state k × IsUnasked sub.state.begun) where
+  module _ (s : State) (index : ℕ) (k : Option ProgramTrace) (held : (sub : Subchannel) → slice_get s.subs index ≡ Some sub → HeldBy sub.state k)
+      (offers : (sub : Subchannel) → slice_get s.subs index ≡ Some sub → OfferedBy sub.state k × IsUnasked sub.state.begun) where
     abbrev Goes : Event → Reply → State → Type 0
-    Goes e r new = GoesBy place s e r new k (trace_after place s e r k)
+    Goes e r new = GoesBy index s e r new k (trace_after index s e r k)
 
-    -- at another place no status is made
-    elsewhere-made : (word at : ℕ) (sub after : Subchannel) → place_of s word ≡ Some at → is_path (place_of s word) place ≡ false → (x next : Subchannel) →
-        slice_get s.subs place ≡ Some x → slice_get (slice_set s.subs at after) place ≡ Some next → next.state.serials.made ≡ x.state.serials.made
+    -- at another index no status is made
+    elsewhere-made : (word at : ℕ) (sub after : Subchannel) → index_of s word ≡ Some at → is_path (index_of s word) index ≡ false → (x next : Subchannel) →
+        slice_get s.subs index ≡ Some x → slice_get (slice_set s.subs at after) index ≡ Some next → next.state.serials.made ≡ x.state.serials.made
     elsewhere-made word at sub after named e x next f g =
-        let apart : place ≡ at → ⊥ = λ i. eqb-false at place (sym (ap (λ (o : Option ℕ). is_path o place) named) ∙ e) (sym i) in
-        let same : x ≡ next = cc (sym f ∙ sym (get-other s.subs at after place apart) ∙ g) in
+        let apart : index ≡ at → ⊥ = λ i. eqb-false at index (sym (ap (λ (o : Option ℕ). is_path o index) named) ∙ e) (sym i) in
+        let same : x ≡ next = cc (sym f ∙ sym (get-other s.subs at after index apart) ∙ g) in
         ap (λ (y : Subchannel). y.state.serials.made) (sym same)
 
     -- where a signal comes up
-    abbrev UpGoes : ℕ → ℕ → Turn → Type 0
+    abbrev UpGoes : ℕ → ℕ → StepResult → Type 0
     UpGoes word path t =
         (signal : Up) × (taken : Bool) × (sent : Option (OnPath Down)) × (t.reply ≡ reply.Up signal taken sent) × Goes (event.Up word path) (reply.Up signal taken sent) t.state
 
-    turn-goes : (word path at : ℕ) (sub : Subchannel) (t : UpTurn) → place_of s word ≡ Some at → slice_get s.subs at ≡ Some sub →
+    turn-goes : (word path at : ℕ) (sub : Subchannel) (t : UpResult) → index_of s word ≡ Some at → slice_get s.subs at ≡ Some sub →
         TurnMeets s.storage sub t k (met_at s.storage (Some sub) path k) →
         UpGoes word path (record { reply = t.reply; state = with_sub (record s { storage = t.storage }) at t.sub })
     turn-goes word path at sub t named there m =
@@ -164,36 +164,36 @@ module _ (laws : AreLaws) (accesses : AreAccesses) where
           m.3,
           (
             (λ e. (
-              ap (λ (b : Bool). if b then met_at s.storage (slice_get s.subs place) path k else k) e,
+              ap (λ (b : Bool). if b then met_at s.storage (slice_get s.subs index) path k else k) e,
               elsewhere-made word at sub t.sub named e,
             )),
             (λ e x next f g.
-                let here : at ≡ place = eqb-true at place (sym (ap (λ (o : Option ℕ). is_path o place) named) ∙ e) in
-                let found : slice_get s.subs place ≡ Some sub = subst (λ (i : ℕ). slice_get s.subs i ≡ Some sub) here there in
+                let here : at ≡ index = eqb-true at index (sym (ap (λ (o : Option ℕ). is_path o index) named) ∙ e) in
+                let found : slice_get s.subs index ≡ Some sub = subst (λ (i : ℕ). slice_get s.subs i ≡ Some sub) here there in
                 let old : sub ≡ x = cc (sym found ∙ f) in
-                let left : slice_get (slice_set s.subs at t.sub) place ≡ Some t.sub =
+                let left : slice_get (slice_set s.subs at t.sub) index ≡ Some t.sub =
                 subst (λ (i : ℕ). slice_get (slice_set s.subs at t.sub) i ≡ Some t.sub) here (get-set s.subs at sub t.sub there) in
                 let new : t.sub ≡ next = cc (sym left ∙ g) in
-                let told : trace_after place s (event.Up word path) (reply.Up m.0 m.1 m.2) k ≡ met_at s.storage (Some sub) path k =
-                ap (λ (b : Bool). if b then met_at s.storage (slice_get s.subs place) path k else k) e ∙ ap (λ (o : Option Subchannel). met_at s.storage o path k) found in
+                let told : trace_after index s (event.Up word path) (reply.Up m.0 m.1 m.2) k ≡ met_at s.storage (Some sub) path k =
+                ap (λ (b : Bool). if b then met_at s.storage (slice_get s.subs index) path k else k) e ∙ ap (λ (o : Option Subchannel). met_at s.storage o path k) found in
                 subst (λ (z : Option ProgramTrace). P x next z) (sym told)
                 (subst (λ (y : Subchannel). P y next (met_at s.storage (Some sub) path k)) old
                 (subst (λ (y : Subchannel). P sub y (met_at s.storage (Some sub) path k)) new (m.4 (held sub found) (offers sub found))))),
           ),
         )
 
-    up-goes : (word path : ℕ) (r : Reply) (new : State) (waiting : WaitingRequests) → TurnOf s (event.Up word path) r new → Goes (event.Up word path) r (record new { requests = waiting })
+    up-goes : (word path : ℕ) (r : Reply) (new : State) (waiting : WaitingRequests) → ResultOf s (event.Up word path) r new → Goes (event.Up word path) r (record new { requests = waiting })
     up-goes _ _ _ _ waiting (turn.Meets word path at sub t named there ok) =
         let g : UpGoes word path (record { reply = t.reply; state = with_sub (record s { storage = t.storage }) at t.sub }) =
         turn-goes word path at sub t named there
-        (subst (λ (x : Result UpTurn Fault). IfOk x (λ t. TurnMeets s.storage sub t k (met_at s.storage (Some sub) path k))) ok (up-meets (returns_at s.subs sub path) s.storage sub path k)) in
+        (subst (λ (x : Result UpResult Fault). IfOk x (λ t. TurnMeets s.storage sub t k (met_at s.storage (Some sub) path k))) ok (up-meets (returns_at s.subs sub path) s.storage sub path k)) in
         subst (λ (x : Reply). Goes (event.Up word path) x (record (with_sub (record s { storage = t.storage }) at t.sub) { requests = waiting })) (sym g.3) g.4
 
-    other-goes : (e : Event) (r : Reply) (new : State) → Step s e r new → ((word path : ℕ) → e ≡ event.Up word path → ⊥) → AtPlace place s new (λ x y. ShowsBy e x y k)
-    other-goes e r new step n = walk-shows s place k held e r new (laws.walks s e r new step) n
+    other-goes : (e : Event) (r : Reply) (new : State) → Step s e r new → ((word path : ℕ) → e ≡ event.Up word path → ⊥) → AtIndex index s new (λ x y. ShowsBy e x y k)
+    other-goes e r new step n = walk-shows s index k held e r new (laws.walks s e r new step) n
 
     pub step-goes : (e : Event) (r : Reply) (new : State) → Step s e r new → Goes e r new
     step-goes (event.Up word path) r new step =
-        let is : HasTurn s (event.Up word path) r new = step-turn s (event.Up word path) r new step in
+        let is : HasResult s (event.Up word path) r new = step-turn s (event.Up word path) r new step in
         subst (Goes (event.Up word path) r) (sym is.settles) (up-goes word path r is.left _ is.turn)
     step-goes v r new step = (refl, other-goes v r new step (λ w p e. cc e))

@@ -7,15 +7,15 @@ use Rattle.chan_model.specs.declared.hold_state.HoldPhase.TheVariants as hold
 use Rattle.chan_model.specs.declared.hold_state.HoldState.{HoldState}
 use Rattle.chan_model.specs.Signals.{Down}
 use Rattle.chan_model.specs.declared.signal.OnPath.{OnPath}
-use Rattle.chan_model.specs.HoldTable.{came_of, letting_go}
+use Rattle.chan_model.specs.HoldTable.{outcome_of, letting_go}
 use Rattle.ccw_walk.specs.Sequences.{Sequence, ◌▸◌, ◌▸▸◌, count, each}
 use Rattle.ccw_walk.specs.Acts.{Act}
 use Rattle.ccw_walk.specs.Programs.{Command, commands, code}
-use Rattle.ccw_walk.specs.Places.{WalkPlace}
+use Rattle.ccw_walk.specs.Positions.{WalkPosition}
 use Rattle.data_move.specs.Moving.{residual}
 use Rattle.data_move.specs.declared.transfer.Transfer.{Transfer}
 use Rattle.data_move.specs.declared.transfer.CommandStart.{CommandStart}
-use Rattle.data_move.specs.declared.transfer.CommandStart.TheVariants as came
+use Rattle.data_move.specs.declared.transfer.CommandStart.TheVariants as outcome
 use Rattle.data_move.specs.Commands.{begun_with_room}
 use Rattle.subchannel_model.specs.declared.signals.EndSignal.{EndSignal}
 use Rattle.subchannel_model.specs.declared.state.ActiveProgram.{ActiveProgram}
@@ -38,11 +38,11 @@ use Rattle.run_laws.proofs.Commands.UnitGrowth.{Adds, acts-add}
 use Rattle.run_laws.proofs.Traces.Sequences.{count-each, backward, length-backward, same-backward}
 
 -- a device that is let go is sent no command
-phase-silent : (h : HoldState) (phase : HoldPhase) → command_sent (came_of (letting_go h phase)).sent ≡ None
+phase-silent : (h : HoldState) (phase : HoldPhase) → command_sent (outcome_of (letting_go h phase)).sent ≡ None
 phase-silent h hold.Free = refl
 phase-silent h other = refl
 
-pub device_released-silent : (s : SubchannelState) → command_sent (device_released s).came.sent ≡ None
+pub device_released-silent : (s : SubchannelState) → command_sent (device_released s).outcome.sent ≡ None
 device_released-silent s = phase-silent s.hold s.hold.phase
 
 -- as many commands are the same commands
@@ -69,10 +69,10 @@ unsent-goes storage sent acts before k e f g =
 
 module _ (laws : AreLaws) where
   -- the next is sent
-  sent-goes : (storage : Contents) (acts before : Sequence Act) (n t : ℕ) (walk : WalkPlace) (transfer : Transfer) (k : ProgramTrace) →
-      WentOn k.earlier laws storage k.orb before (k.now.acts ▸▸ acts) n walk (came.Begins transfer) → commands k.orb before ≡ commands k.orb k.now.acts → t ≡ k.number → n ≡ k.sent + 1 →
+  sent-goes : (storage : Contents) (acts before : Sequence Act) (n t : ℕ) (walk : WalkPosition) (transfer : Transfer) (k : ProgramTrace) →
+      WentOn k.earlier laws storage k.orb before (k.now.acts ▸▸ acts) n walk (outcome.Begins transfer) → commands k.orb before ≡ commands k.orb k.now.acts → t ≡ k.number → n ≡ k.sent + 1 →
       GoesTo storage (Some (record { number = t; command = (begun_with_room storage transfer).transfer.command; sent_code = (begun_with_room storage transfer).transfer.code; room = (begun_with_room storage transfer).room }))
-      (k.now.acts ▸▸ acts) k (stories.trace_goes_on storage (came.Begins transfer) acts k)
+      (k.now.acts ▸▸ acts) k (stories.trace_goes_on storage (outcome.Begins transfer) acts k)
   sent-goes storage acts before n t walk transfer k w e f g =
       let c : ℕ = (begun_with_room storage transfer).transfer.code in
       let same : code w.2.0 ≡ c = w.2.2 ∙ sym (room-same storage transfer).0 in (
@@ -86,25 +86,25 @@ module _ (laws : AreLaws) where
       )
 
   -- at an Accept
-  pub begins-goes : (storage : Contents) (s : SubchannelState) (p t : ℕ) (st : ProgramPosition) (walk : WalkPlace) (k : ProgramTrace) (c : CommandStart) (acts : Sequence Act) (n : ℕ) →
+  pub begins-goes : (storage : Contents) (s : SubchannelState) (p t : ℕ) (st : ProgramPosition) (walk : WalkPosition) (k : ProgramTrace) (c : CommandStart) (acts : Sequence Act) (n : ℕ) →
       WentOn k.earlier laws storage k.orb k.now.acts (k.now.acts ▸▸ acts) n walk c → t ≡ k.number → n ≡ k.sent + 1 →
-      GoesTo storage (command_sent (on_accept.first_ccw_outcome storage s p t st walk c).came.sent) (k.now.acts ▸▸ acts) k (stories.trace_goes_on storage c acts k)
-  begins-goes storage s p t st walk k (came.Begins transfer) acts n w f g = sent-goes storage acts k.now.acts n t walk transfer k w refl f g
-  begins-goes storage s p t st walk k came.Suspends acts n w f g =
+      GoesTo storage (command_sent (on_accept.first_ccw_outcome storage s p t st walk c).outcome.sent) (k.now.acts ▸▸ acts) k (stories.trace_goes_on storage c acts k)
+  begins-goes storage s p t st walk k (outcome.Begins transfer) acts n w f g = sent-goes storage acts k.now.acts n t walk transfer k w refl f g
+  begins-goes storage s p t st walk k outcome.Suspends acts n w f g =
       let x : SubchannelState = suspension.program_suspended s st.program walk st.count in
-      unsent-goes storage (device_released x).came.sent acts k.now.acts k (device_released-silent x) w.2 refl
-  begins-goes storage s p t st walk k (came.Stops check) acts n w f g =
+      unsent-goes storage (device_released x).outcome.sent acts k.now.acts k (device_released-silent x) w.2 refl
+  begins-goes storage s p t st walk k (outcome.Stops check) acts n w f g =
       let x : SubchannelState = with_cause s (cause.FetchFault walk.tried check st.count) in
-      unsent-goes storage (device_released x).came.sent acts k.now.acts k (device_released-silent x) w.2 refl
+      unsent-goes storage (device_released x).outcome.sent acts k.now.acts k (device_released-silent x) w.2 refl
 
   -- and at an End
-  pub chains-goes : (storage : Contents) (s : SubchannelState) (b : ActiveProgram) (signal : EndSignal) (walk : WalkPlace) (k : ProgramTrace) (c : CommandStart) (acts before : Sequence Act) (n : ℕ) →
+  pub chains-goes : (storage : Contents) (s : SubchannelState) (b : ActiveProgram) (signal : EndSignal) (walk : WalkPosition) (k : ProgramTrace) (c : CommandStart) (acts before : Sequence Act) (n : ℕ) →
       WentOn k.earlier laws storage k.orb before (k.now.acts ▸▸ acts) n walk c → commands k.orb before ≡ commands k.orb k.now.acts → signal.number ≡ k.number → n ≡ k.sent + 1 →
-      GoesTo storage (command_sent (on_end.next_ccw_outcome storage s b signal walk c).came.sent) (k.now.acts ▸▸ acts) k (stories.trace_goes_on storage c acts k)
-  chains-goes storage s b signal walk k (came.Begins transfer) acts before n w e f g = sent-goes storage acts before n signal.number walk transfer k w e f g
-  chains-goes storage s b signal walk k came.Suspends acts before n w e f g =
+      GoesTo storage (command_sent (on_end.next_ccw_outcome storage s b signal walk c).outcome.sent) (k.now.acts ▸▸ acts) k (stories.trace_goes_on storage c acts k)
+  chains-goes storage s b signal walk k (outcome.Begins transfer) acts before n w e f g = sent-goes storage acts before n signal.number walk transfer k w e f g
+  chains-goes storage s b signal walk k outcome.Suspends acts before n w e f g =
       let x : SubchannelState = suspension.program_suspended (on_end.with_allegiance_after_end s signal) b.program walk (residual b.transfer.moving) in
-      unsent-goes storage (device_released x).came.sent acts before k (device_released-silent x) w.2 e
-  chains-goes storage s b signal walk k (came.Stops check) acts before n w e f g =
+      unsent-goes storage (device_released x).outcome.sent acts before k (device_released-silent x) w.2 e
+  chains-goes storage s b signal walk k (outcome.Stops check) acts before n w e f g =
       let x : SubchannelState = with_cause (on_end.with_allegiance_after_end s signal) (cause.FetchFault walk.tried check (residual b.transfer.moving)) in
-      unsent-goes storage (device_released x).came.sent acts before k (device_released-silent x) w.2 e
+      unsent-goes storage (device_released x).outcome.sent acts before k (device_released-silent x) w.2 e

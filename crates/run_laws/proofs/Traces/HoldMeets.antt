@@ -1,4 +1,4 @@
--- What a subchannel does for its program with a signal keeps it in agreement with the story.
+-- What a subchannel does for its program with a signal keeps it in agreement with the trace.
 use Rattle.std.proofs.Common.{◌≡◌, refl, ap, sym, ◌∙◌, subst, ℕ, ◌+◌, ◌≤◌, Bool, true, false, List, Option, Some, None, inl, inr, arith}
 use Rattle.std.specs.Prelude.{if◌then◌else◌, ◌==◌, ◌&&◌, ◌||◌, not, nat_lt, is_some}
 use Rattle.std.proofs.lemmas.Bool.{and_parts}
@@ -12,7 +12,7 @@ use Rattle.chan_model.specs.declared.hold_state.HoldState.{HoldState}
 use Rattle.chan_model.specs.Signals.{Load, Up, load_bytes}
 use Rattle.chan_model.specs.declared.signal.Up.TheVariants as up
 use Rattle.chan_model.specs.HoldTable as hold_table
-use Rattle.chan_model.specs.HoldTable.{HoldStep, hold_takes, came_of, is_connected, is_on}
+use Rattle.chan_model.specs.HoldTable.{HoldStep, hold_takes, outcome_of, is_connected, is_on}
 use Rattle.chan_model.specs.Loads.{load_length}
 use Rattle.subchannel_model.specs.Notice as on_notice
 use Rattle.subchannel_model.specs.declared.status.Shown.{Shown}
@@ -22,14 +22,14 @@ use Rattle.ccw_walk.specs.declared.program.Ended.{Ended}
 use Rattle.ccw_walk.specs.Sequences.{Sequence, Nothing, ◌▸◌, ◌▸▸◌, count}
 use Rattle.ccw_walk.specs.Acts.{Act, End}
 use Rattle.ccw_walk.specs.Programs.{IsProgram, role_of, commands}
-use Rattle.ccw_walk.specs.Places.{WalkPlace, walk_place, after_command_end}
+use Rattle.ccw_walk.specs.Positions.{WalkPosition, walk_position, after_command_end}
 use Rattle.idaw.specs.Lists.{block, kind_of}
 use Rattle.run_laws.specs.DataAreas.{places_of_bytes, data_areas, counts}
 use Rattle.data_move.specs.Moving.{residual}
 use Rattle.data_move.specs.declared.transfer.Transfer.{Transfer}
 use Rattle.data_move.specs.declared.transfer.Beginning.{Beginning}
 use Rattle.data_move.specs.declared.transfer.CommandStart.{CommandStart}
-use Rattle.data_move.specs.declared.transfer.CommandStart.TheVariants as came
+use Rattle.data_move.specs.declared.transfer.CommandStart.TheVariants as outcome
 use Rattle.data_move.specs.Commands.{first_command, next_command, goes_to, begun_with_room, with_room}
 use Rattle.data_move.specs.ToDevice.{chunk_absorbed, next_chunk}
 use Rattle.data_move.specs.FromDevice.{chunk_stored}
@@ -113,8 +113,8 @@ module _ (laws : AreLaws) (accesses : AreAccesses) where
   interrupted-held s (Some b) k e h = interrupted-if s b k b.transfer.pci_pending e h
 
   -- the program is suspended, or over as a command can't begin
-  suspends-held : (s : SubchannelState) (program : Program) (walk : WalkPlace) (count : ℕ) (k : ProgramTrace) → k.number ≤ s.drawn →
-      IsHold s.drawn k.number s.begun k.sent s.hold.phase → IsDone k.orb k.now → walk ≡ walk_place k.orb k.now.acts → (role_of k.orb k.now.acts).chained ≡ false → IsRest count k →
+  suspends-held : (s : SubchannelState) (program : Program) (walk : WalkPosition) (count : ℕ) (k : ProgramTrace) → k.number ≤ s.drawn →
+      IsHold s.drawn k.number s.begun k.sent s.hold.phase → IsDone k.orb k.now → walk ≡ walk_position k.orb k.now.acts → (role_of k.orb k.now.acts).chained ≡ false → IsRest count k →
       IsSuspended k.orb k.now.acts → program.orb ≡ k.orb → IsHeld (device_released (program_suspended s program walk count)).state k
   suspends-held s program walk count k n p d w c r su o = by program.orb.suppress_suspended
     where
@@ -144,12 +144,12 @@ module _ (laws : AreLaws) (accesses : AreAccesses) where
   on-hold : (s : SubchannelState) (t p n sent : ℕ) → s.hold.phase ≡ hold.On t p 0 → t ≡ n → (b : Option ActiveProgram) → IsHold s.drawn n b sent s.hold.phase
   on-hold s t p n sent e f b = subst (λ (x : HoldPhase). IsHold s.drawn n b sent x) (sym e) (f, tt)
 
-  begins-held : (storage : Contents) (s : SubchannelState) (p t : ℕ) (st : ProgramPosition) (walk : WalkPlace) (k : ProgramTrace) (c : CommandStart) (acts : Sequence Act) →
+  begins-held : (storage : Contents) (s : SubchannelState) (p t : ℕ) (st : ProgramPosition) (walk : WalkPosition) (k : ProgramTrace) (c : CommandStart) (acts : Sequence Act) →
       WentOn k.earlier laws storage k.orb k.now.acts (k.now.acts ▸▸ acts) 1 walk c → k.number ≤ s.drawn → s.hold.phase ≡ hold.On t p 0 → t ≡ k.number →
       s.begun ≡ None → k.sent ≡ 0 → IsDone k.orb k.now → IsRest st.count k → st.program.orb ≡ k.orb → IsHeld (on_accept.first_ccw_outcome storage s p t st walk c).state (stories.trace_goes_on storage c acts k)
-  begins-held storage s p t st walk k (came.Begins transfer) acts w n on f z none d r o =
+  begins-held storage s p t st walk k (outcome.Begins transfer) acts w n on f z none d r o =
       let b : ActiveProgram = record { program = st.program; primary_shown = false; transfer = (begun_with_room storage transfer).transfer } in
-      let new : ProgramTrace = stories.trace_goes_on storage (came.Begins transfer) acts k in
+      let new : ProgramTrace = stories.trace_goes_on storage (outcome.Begins transfer) acts k in
       let next : SubchannelState = with_program_at_work s st.program (begun_with_room storage transfer).transfer in
       let x : IsHold s.drawn k.number (Some b) (k.sent + 1) s.hold.phase = on-hold s t p k.number (k.sent + 1) on f (Some b) in
       interrupted-held next (Some b) new refl
@@ -166,26 +166,26 @@ module _ (laws : AreLaws) (accesses : AreAccesses) where
         );
         standing = tt;
       })
-  begins-held storage s p t st walk k came.Suspends acts w n on f z none d r o =
+  begins-held storage s p t st walk k outcome.Suspends acts w n on f z none d r o =
       suspends-held s st.program walk st.count (record k { now = with_acts k.now acts }) n (on-hold s t p k.number k.sent on f s.begun)
       (over-done k.orb k.now.acts (k.now.acts ▸▸ acts) k.now w.0 w.1 refl (inr (inr w.5)) w.6 d) w.4 w.3 (ap counts w.1 ∙ r) w.5 o
-  begins-held storage s p t st walk k (came.Stops check) acts w n on f z none d r o =
+  begins-held storage s p t st walk k (outcome.Stops check) acts w n on f z none d r o =
       fault-held s walk.tried check st.count (record k { now = with_acts k.now acts }) n (on-hold s t p k.number k.sent on f s.begun)
       (over-done k.orb k.now.acts (k.now.acts ▸▸ acts) k.now w.0 w.1 refl (inr (inl w.3)) w.4 d) (λ c e. absurd (cc (sym z ∙ e)))
 
   -- where it was suspended
   again-held : (storage : Contents) (s : SubchannelState) (p t : ℕ) (k : ProgramTrace) (st : ProgramPosition) (x : Bool) → IsHeld s k → s.hold.phase ≡ hold.On t p 0 → t ≡ k.number → s.begun ≡ None →
-      k.sent ≡ 0 → st.walk ≡ walk_place k.orb k.now.acts → (role_of k.orb k.now.acts).chained ≡ false → IsRest st.count k → IsSuspended k.orb k.now.acts → st.program.orb ≡ k.orb →
+      k.sent ≡ 0 → st.walk ≡ walk_position k.orb k.now.acts → (role_of k.orb k.now.acts).chained ≡ false → IsRest st.count k → IsSuspended k.orb k.now.acts → st.program.orb ≡ k.orb →
       IsHeld (on_accept.begins_at storage s p t (if x then Some st else None)).state (if x then stories.begins_again storage st k else k)
   again-held storage s p t k st true h on f z none w c r su o =
       let past : ProgramTrace = record k { earlier = count (commands k.orb k.now.acts); now = past_part k.now } in
       let d : IsDone k.orb k.now = done-held s k h in
       subst
-      (λ (old : WalkPlace). IsHeld (on_accept.first_ccw_outcome storage s p t st (first_command storage old).walk (first_command storage old).came).state
-      (stories.trace_goes_on storage (first_command storage old).came (first_acts storage old) past))
+      (λ (old : WalkPosition). IsHeld (on_accept.first_ccw_outcome storage s p t st (first_command storage old).walk (first_command storage old).outcome).state
+      (stories.trace_goes_on storage (first_command storage old).outcome (first_acts storage old) past))
       (sym w)
-      (let old : WalkPlace = walk_place k.orb k.now.acts in
-      begins-held storage s p t st (first_command storage old).walk past (first_command storage old).came (first_acts storage old)
+      (let old : WalkPosition = walk_position k.orb k.now.acts in
+      begins-held storage s p t st (first_command storage old).walk past (first_command storage old).outcome (first_acts storage old)
       (goes-on past.earlier laws storage k.orb k.now.acts 1 c refl d.program (suspended-unchecked k.orb k.now.acts su d.ends) d.ends) h.number on f z none (past-done k.orb k.now d) r o)
   again-held storage s p t k st false h on f z none w c r su o = h
 
@@ -200,8 +200,8 @@ module _ (laws : AreLaws) (accesses : AreAccesses) where
       IsHeld (on_accept.begins_at storage s p t (if x then Some (position_at_start program) else suspended_position st start)).state
       (if x then stories.begins_anew storage program k else stories.again_as storage st start k)
   anew-held storage s p t k w b st start program true h on f z none x =
-      let old : WalkPlace = walk_place program.orb Nothing in
-      begins-held storage s p t (position_at_start program) (first_command storage old).walk (record k { orb = program.orb; earlier = 0; now = no_trace }) (first_command storage old).came
+      let old : WalkPosition = walk_position program.orb Nothing in
+      begins-held storage s p t (position_at_start program) (first_command storage old).walk (record k { orb = program.orb; earlier = 0; now = no_trace }) (first_command storage old).outcome
       (first_acts storage old) (goes-on 0 laws storage program.orb Nothing 1 refl refl tt refl tt) h.number on f z none (nothing-done program.orb) refl refl
   anew-held storage s p t k w b st start program false h on f z none x = suspended-held storage s p t k w b st start h on f z none x
 
@@ -321,47 +321,47 @@ module _ (laws : AreLaws) (accesses : AreAccesses) where
   pub next-went : (earlier : ℕ) (storage : Contents) (orb : Orb) (p : CommandTrace) (t : Transfer) (modifier : Bool) → Tied earlier orb p.acts p.moved t → t.moving.ccw.chain_data ≡ false →
       is_some t.fault ≡ false →
       WentOn earlier laws storage orb (p.acts ▸ End (ending modifier)) (p.acts ▸▸ next_acts storage t modifier) (t.command + 1) (next_command storage t modifier).walk
-      (next_command storage t modifier).came
+      (next_command storage t modifier).outcome
   next-went earlier storage orb p t modifier k d f =
       let before : Sequence Act = p.acts ▸ End (ending modifier) in
       let n : ℕ = t.command + 1 in
-      let old : WalkPlace = walk_place orb before in
+      let old : WalkPosition = walk_position orb before in
       let m : count (commands orb before) ≡ earlier + t.command = k.number in
-      let went : WentOn earlier laws storage orb before (before ▸▸ goes_acts storage n old) n (goes_to storage n old).walk (goes_to storage n old).came =
+      let went : WentOn earlier laws storage orb before (before ▸▸ goes_acts storage n old) n (goes_to storage n old).walk (goes_to storage n old).outcome =
       goes-on earlier laws storage orb before n (k.chained f ∙ d) (omega (arith, m)) (k.stands, k.program) (k.checked f) k.ends in
       subst
-      (λ (w : WalkPlace). WentOn earlier laws storage orb before (p.acts ▸▸ (Nothing ▸ End (ending modifier) ▸▸ goes_acts storage n (after_command_end w (ending modifier)))) n
-      (goes_to storage n (after_command_end w (ending modifier))).walk (goes_to storage n (after_command_end w (ending modifier))).came)
+      (λ (w : WalkPosition). WentOn earlier laws storage orb before (p.acts ▸▸ (Nothing ▸ End (ending modifier) ▸▸ goes_acts storage n (after_command_end w (ending modifier)))) n
+      (goes_to storage n (after_command_end w (ending modifier))).walk (goes_to storage n (after_command_end w (ending modifier))).outcome)
       (sym k.walk)
-      (subst (λ (xs : Sequence Act). WentOn earlier laws storage orb before xs n (goes_to storage n old).walk (goes_to storage n old).came)
+      (subst (λ (xs : Sequence Act). WentOn earlier laws storage orb before xs n (goes_to storage n old).walk (goes_to storage n old).outcome)
       (sym (joined-in-order p.acts (Nothing ▸ End (ending modifier)) (goes_acts storage n old))) went)
 
-  chains-held : (storage : Contents) (s : SubchannelState) (b : ActiveProgram) (k : ProgramTrace) (signal : EndSignal) (walk : WalkPlace) (c : CommandStart) (acts before : Sequence Act) (n : ℕ) →
+  chains-held : (storage : Contents) (s : SubchannelState) (b : ActiveProgram) (k : ProgramTrace) (signal : EndSignal) (walk : WalkPosition) (c : CommandStart) (acts before : Sequence Act) (n : ℕ) →
       s.begun ≡ Some b → IsHeld s k → IsDone k.orb k.now → WentOn k.earlier laws storage k.orb before (k.now.acts ▸▸ acts) n walk c →
       data_areas k.orb before ≡ data_areas k.orb k.now.acts → n ≡ k.sent + 1 → IsHeld (on_end.next_ccw_outcome storage s (with_first_end b) signal walk c).state (stories.trace_goes_on storage c acts k)
-  chains-held storage s b k signal walk (came.Begins transfer) acts before n e h d w r m =
+  chains-held storage s b k signal walk (outcome.Begins transfer) acts before n e h d w r m =
       let u : Transfer = (begun_with_room storage transfer).transfer in
       let next : ActiveProgram = record (with_first_end b) { transfer = u } in
-      interrupted-held (command_spec.with_transfer s (with_first_end b) u) (Some next) (stories.trace_goes_on storage (came.Begins transfer) acts k) refl
+      interrupted-held (command_spec.with_transfer s (with_first_end b) u) (Some next) (stories.trace_goes_on storage (outcome.Begins transfer) acts k) refl
       (record {
         number = h.number;
         phase = phase-some s.hold.phase k.number b next k.sent (k.sent + 1) (subst (λ (x : Option ActiveProgram). IsPhase s.hold.phase k.number x k.sent) e h.phase);
         drawn = h.drawn;
         work = (
-          record { tied = w.0; arrived = arrived-none (stories.trace_goes_on storage (came.Begins transfer) acts k).now u.fault u.sequence (is_outward u.code) refl refl w.2.3.0 },
+          record { tied = w.0; arrived = arrived-none (stories.trace_goes_on storage (outcome.Begins transfer) acts k).now u.fault u.sequence (is_outward u.code) refl refl w.2.3.0 },
           (room-same storage transfer).1 ∙ w.1 ∙ m,
           omega arith,
           fresh-marked u w.2.3,
           (subst (λ (x : Option ActiveProgram). HasWork x k) e h.work).4,
         );
-        standing = none-stands s.waiting (Some next) s.suspended (stories.trace_goes_on storage (came.Begins transfer) acts k) (standing-some s.waiting s.begun b s.suspended k e h.standing);
+        standing = none-stands s.waiting (Some next) s.suspended (stories.trace_goes_on storage (outcome.Begins transfer) acts k) (standing-some s.waiting s.begun b s.suspended k e h.standing);
       })
-  chains-held storage s b k signal walk came.Suspends acts before n e h d w r m =
+  chains-held storage s b k signal walk outcome.Suspends acts before n e h d w r m =
       let work : HasWork (Some b) k = subst (λ (x : Option ActiveProgram). HasWork x k) e h.work in
       suspends-held (on_end.with_allegiance_after_end s signal) b.program walk (residual b.transfer.moving) (record k { now = with_acts k.now acts }) h.number (h.phase, h.drawn)
       (over-done k.orb before (k.now.acts ▸▸ acts) k.now w.0 w.1 r (inr (inr w.5)) w.6 d) w.4 w.3
       (ap counts (w.1 ∙ r) ∙ spot-counts k.orb (data_areas k.orb k.now.acts) b.transfer k.now.moved work.0.tied.spot) w.5 work.4
-  chains-held storage s b k signal walk (came.Stops check) acts before n e h d w r m =
+  chains-held storage s b k signal walk (outcome.Stops check) acts before n e h d w r m =
       fault-held (on_end.with_allegiance_after_end s signal) walk.tried check (residual b.transfer.moving) (record k { now = with_acts k.now acts }) h.number (h.phase, h.drawn)
       (over-done k.orb before (k.now.acts ▸▸ acts) k.now w.0 w.1 r (inr (inl w.3)) w.4 d) (λ c f. standing-some s.waiting s.begun c s.suspended k f h.standing)
 
@@ -412,13 +412,13 @@ module _ (laws : AreLaws) (accesses : AreAccesses) where
       IsMarked k.now b.transfer → b.program.orb ≡ k.orb → IsHeld (if x then (if y then on_end.chains_with storage s (with_first_end b) signal (next_command storage (with_first_end b).transfer (has_status_modifier signal.status))
       else outcomes.signal_taken (record (on_end.with_allegiance_after_end s signal) { begun = Some (with_first_end b) }))
       else on_end.concludes s b signal).state
-      (if x then (if y then stories.trace_goes_on storage (next_command storage b.transfer (has_status_modifier signal.status)).came (next_acts storage b.transfer (has_status_modifier signal.status)) k else stories.with_ended k)
+      (if x then (if y then stories.trace_goes_on storage (next_command storage b.transfer (has_status_modifier signal.status)).outcome (next_acts storage b.transfer (has_status_modifier signal.status)) k else stories.with_ended k)
       else stories.ends_alone signal.status k)
   goes-held storage s b k signal true true c e h w m marks o =
       let f : (_ : b.transfer.moving.ccw.chain_data ≡ false) × (is_some b.transfer.fault ≡ false) = chains-facts s.scsw b signal.status signal.more c in
       let modifier : Bool = has_status_modifier signal.status in
       let next : Beginning = next_command storage b.transfer modifier in
-      chains-held storage s b k signal next.walk next.came (next_acts storage b.transfer modifier) (k.now.acts ▸ End (ending modifier)) (b.transfer.command + 1) e h
+      chains-held storage s b k signal next.walk next.outcome (next_acts storage b.transfer modifier) (k.now.acts ▸ End (ending modifier)) (b.transfer.command + 1) e h
       (done-of k.earlier k.orb k.now b.transfer (is_outward b.transfer.code) w) (next-went k.earlier storage k.orb k.now b.transfer modifier w.tied f.0 f.1) refl
       (ap (λ (n : ℕ). n + 1) m.0)
   goes-held storage s b k signal true false c e h w m marks o =
@@ -488,5 +488,5 @@ module _ (laws : AreLaws) (accesses : AreAccesses) where
       notice-held s k b (nat_lt s.hold.known b) h
   signal-held returns storage s p (up.Attn a status) k h =
       let step : Option HoldStep = hold_takes s.hold p (up.Attn a status) (on_attention.may_take_attention s) in
-      attention-held (outcomes.hold_outcome s step).state k ((came_of step).taken && not (status.0 == 0x20))
+      attention-held (outcomes.hold_outcome s step).state k ((outcome_of step).taken && not (status.0 == 0x20))
       (hold_outcome-held s k step h (attended-phase s.drawn k.number s.begun k.sent s.hold s.hold.phase p a (on_attention.may_take_attention s) refl (h.phase, h.drawn)))

@@ -1,4 +1,4 @@
--- What a subchannel keeps of its program agrees with the program's story, at each event.
+-- What a subchannel keeps of its program agrees with the program's trace, at each event.
 use Rattle.std.proofs.Common.{◌≡◌, refl, sym, ◌∙◌, subst, ℕ, ◌≤◌, ◌<◌, Bool, true, false, Option, Some, None, inl}
 use Rattle.std.specs.Prelude.{is_some, if◌then◌else◌, ◌==◌, ◌&&◌, nat_lt}
 use Rattle.std.proofs.lemmas.List.Elements.{All-nil}
@@ -11,7 +11,7 @@ use Rattle.chan_model.specs.HoldTable.{HoldStep, hold_after, letting_go}
 use Rattle.chan_model.specs.UnitReports.{is_outward}
 use Rattle.ccw_walk.specs.Sequences.{Nothing}
 use Rattle.ccw_walk.specs.Programs.{role_of}
-use Rattle.ccw_walk.specs.Places.{walk_place}
+use Rattle.ccw_walk.specs.Positions.{walk_position}
 use Rattle.data_move.specs.declared.transfer.Transfer.{Transfer}
 use Rattle.scsw_irb.specs.declared.scsw.Scsw.{Scsw}
 use Rattle.subchannel_model.specs.declared.state.ActiveProgram.{ActiveProgram}
@@ -68,12 +68,12 @@ HasWork None k = IsDone k.orb k.now
 HasWork (Some b) k = IsAtWork k.earlier k.orb k.now b.transfer (is_outward b.transfer.code) × (b.transfer.command ≡ k.sent) × (1 ≤ k.sent)
     × IsMarked k.now b.transfer × (b.program.orb ≡ k.orb)
 
--- one that is suspended stands where the story left it, where a command may begin, with the count that was left; no other waits or
+-- one that is suspended stands where the trace left it, where a command may begin, with the count that was left; no other waits or
 -- is at work
 abbrev pub IsStanding : Option Program → Option ActiveProgram → Option ProgramPosition → ProgramTrace → Type 0
 IsStanding waiting begun None k = Unit {0}
 IsStanding waiting begun (Some st) k =
-    (waiting ≡ None) × (begun ≡ None) × (st.walk ≡ walk_place k.orb k.now.acts) × ((role_of k.orb k.now.acts).chained ≡ false) × IsRest st.count k
+    (waiting ≡ None) × (begun ≡ None) × (st.walk ≡ walk_position k.orb k.now.acts) × ((role_of k.orb k.now.acts).chained ≡ false) × IsRest st.count k
     × IsSuspended k.orb k.now.acts × (st.program.orb ≡ k.orb)
 
 pub record IsHeld (s : SubchannelState) (k : ProgramTrace) : Type 0 where

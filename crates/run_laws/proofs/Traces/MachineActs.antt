@@ -7,7 +7,7 @@ use Rattle.ccw_walk.specs.declared.check.Check.{Check}
 use Rattle.ccw_walk.specs.declared.program.Ended.{Ended}
 use Rattle.ccw_walk.specs.Sequences.{Sequence, Nothing, ◌▸◌, ◌▸▸◌}
 use Rattle.ccw_walk.specs.Acts.{Act, PlacedBytes, Used_up, End, Word}
-use Rattle.ccw_walk.specs.Places.{WalkPlace, after_count_used_up, after_command_end}
+use Rattle.ccw_walk.specs.Positions.{WalkPosition, after_count_used_up, after_command_end}
 use Rattle.ccw_walk.specs.Advancing.{advance_acts}
 use Rattle.idaw.specs.declared.WordFault.{WordFault}
 use Rattle.idaw.specs.Lists.{word_fault}
@@ -44,10 +44,10 @@ room_acts storage (Begins t) = if brings (class_of t.code) then located_acts sto
 room_acts storage Suspends = Nothing
 room_acts storage (Stops check) = Nothing
 
-abbrev pub goes_acts : Contents → ℕ → WalkPlace → Sequence Act
-goes_acts storage n old = advance_acts storage old ▸▸ room_acts storage (goes_to storage n old).came
+abbrev pub goes_acts : Contents → ℕ → WalkPosition → Sequence Act
+goes_acts storage n old = advance_acts storage old ▸▸ room_acts storage (goes_to storage n old).outcome
 
-abbrev pub first_acts : Contents → WalkPlace → Sequence Act
+abbrev pub first_acts : Contents → WalkPosition → Sequence Act
 first_acts storage walk = goes_acts storage 1 walk
 
 abbrev pub next_acts : Contents → Transfer → Bool → Sequence Act

@@ -12,16 +12,16 @@ use Rattle.chan_events.specs.Events.{Event}
 use Rattle.chan_events.specs.declared.event.Event.TheVariants as event
 use Rattle.chan_events.specs.declared.reply.Entry.{Entry}
 use Rattle.chan_events.specs.Replies.{Reply}
-use Rattle.chan_model.specs.HoldTable.{HoldStep, hold_takes, hold_after, came_of, is_connected, is_on}
+use Rattle.chan_model.specs.HoldTable.{HoldStep, hold_takes, hold_after, outcome_of, is_connected, is_on}
 use Rattle.chan_model.specs.Loads.{load_length}
 use Rattle.chan_model.specs.UnitReports.{is_outward, has_device_end}
 use Rattle.ccw_walk.specs.Sequences.{Sequence, Nothing, ◌▸◌, ◌▸▸◌, count}
 use Rattle.ccw_walk.specs.Acts.{Act, End}
 use Rattle.ccw_walk.specs.Programs.{commands}
-use Rattle.ccw_walk.specs.Places.{WalkPlace, walk_place}
+use Rattle.ccw_walk.specs.Positions.{WalkPosition, walk_position}
 use Rattle.data_move.specs.declared.transfer.Transfer.{Transfer}
 use Rattle.data_move.specs.declared.transfer.CommandStart.{CommandStart}
-use Rattle.data_move.specs.declared.transfer.CommandStart.TheVariants as came
+use Rattle.data_move.specs.declared.transfer.CommandStart.TheVariants as outcome
 use Rattle.data_move.specs.Commands.{first_command, next_command, begun_with_room}
 use Rattle.data_move.specs.ChunkNumbers.{is_answered}
 use Rattle.wires.specs.Queues.{first_of}
@@ -30,8 +30,8 @@ use Rattle.subchannel_model.specs.declared.state.Program.{Program}
 use Rattle.subchannel_model.specs.declared.state.ProgramPosition.{ProgramPosition}
 use Rattle.subchannel_model.specs.declared.state.Subchannel.{Subchannel}
 use Rattle.subchannel_model.specs.declared.state.SubchannelState.{SubchannelState}
-use Rattle.machine_model.specs.State.{State, place_of}
-use Rattle.subchannel_model.specs.Places.{reached_in}
+use Rattle.machine_model.specs.State.{State, index_of}
+use Rattle.subchannel_model.specs.Indices.{reached_in}
 use Rattle.subchannel_model.specs.Ends.{has_status_modifier, chains_command}
 use Rattle.subchannel_model.specs.Accept.{takes_device}
 use Rattle.machine_model.specs.Steps.{Run, Opened, Stepped}
@@ -41,17 +41,17 @@ use Rattle.chan_model.specs.ResetCauses.{is_path}
 
 -- a command begins, or can't, or the program is suspended
 abbrev pub trace_goes_on : Contents → CommandStart → Sequence Act → ProgramTrace → ProgramTrace
-trace_goes_on storage (came.Begins t) acts k =
+trace_goes_on storage (outcome.Begins t) acts k =
     record k { sent = k.sent + 1; now = record no_trace { acts = k.now.acts ▸▸ acts; kept = is_some (begun_with_room storage t).transfer.fault }; before = k.now }
-trace_goes_on storage came.Suspends acts k = record k { now = with_acts k.now acts }
-trace_goes_on storage (came.Stops check) acts k = record k { now = with_acts k.now acts }
+trace_goes_on storage outcome.Suspends acts k = record k { now = with_acts k.now acts }
+trace_goes_on storage (outcome.Stops check) acts k = record k { now = with_acts k.now acts }
 
 -- Accept: the first of a program that waited, or of one that was suspended the next
-abbrev pub trace_begins : Contents → WalkPlace → ProgramTrace → ProgramTrace
-trace_begins storage walk k = trace_goes_on storage (first_command storage walk).came (first_acts storage walk) k
+abbrev pub trace_begins : Contents → WalkPosition → ProgramTrace → ProgramTrace
+trace_begins storage walk k = trace_goes_on storage (first_command storage walk).outcome (first_acts storage walk) k
 
 abbrev pub begins_anew : Contents → Program → ProgramTrace → ProgramTrace
-begins_anew storage program k = trace_begins storage (walk_place program.orb Nothing) (record k { orb = program.orb; earlier = 0; now = no_trace })
+begins_anew storage program k = trace_begins storage (walk_position program.orb Nothing) (record k { orb = program.orb; earlier = 0; now = no_trace })
 
 abbrev pub begins_again : Contents → ProgramPosition → ProgramTrace → ProgramTrace
 begins_again storage st k = trace_begins storage st.walk (record k { earlier = count (commands k.orb k.now.acts); now = past_part k.now })
@@ -70,7 +70,7 @@ accepted_at storage (hold.On t p c) s k = begins_as storage s.waiting s.suspende
 accepted_at storage phase s k = k
 
 abbrev pub trace_accepted : Contents → SubchannelState → Option HoldStep → ProgramTrace → ProgramTrace
-trace_accepted storage s step k = if (came_of step).taken then accepted_at storage (hold_after s.hold step).phase s k else k
+trace_accepted storage s step k = if (outcome_of step).taken then accepted_at storage (hold_after s.hold step).phase s k else k
 
 -- Data: bytes are moved
 abbrev pub moves : Contents → Transfer → ℕ → Load → ProgramTrace → ProgramTrace
@@ -96,7 +96,7 @@ abbrev pub chains : Contents → SubchannelState → ActiveProgram → DeviceSta
 chains storage s b status more k =
     if chains_command s.scsw b status more then
     (if has_device_end status
-    then trace_goes_on storage (next_command storage b.transfer (has_status_modifier status)).came (next_acts storage b.transfer (has_status_modifier status)) k
+    then trace_goes_on storage (next_command storage b.transfer (has_status_modifier status)).outcome (next_acts storage b.transfer (has_status_modifier status)) k
     else with_ended k)
     else ends_alone status k
 
@@ -121,21 +121,21 @@ met_at storage (Some sub) p k = met_with storage sub.state p (first_of sub.wires
 
 -- a signal that was taken, and not answered
 abbrev pub silent_by : Bool → Option (OnPath Up) → Bool
-silent_by came None = came
-silent_by came (Some x) = false
+silent_by outcome None = outcome
+silent_by outcome (Some x) = false
 
 abbrev pub silent : Taken Up → Bool
 silent c = silent_by c.taken c.sent
 
 abbrev pub trace_after : ℕ → State → Event → Reply → Option ProgramTrace → Option ProgramTrace
-trace_after walk_place s (event.Choose word) r k = if is_path (place_of s word) walk_place then chosen_at (slice_get s.subs walk_place) r k else k
-trace_after walk_place s (event.Up word path) r k = if is_path (place_of s word) walk_place then met_at s.storage (slice_get s.subs walk_place) path k else k
-trace_after walk_place s (event.Down word path) r k = if is_path (place_of s word) walk_place then taken_at r k else k
-trace_after walk_place s (event.Report u report) r k =
-    if is_path (reached_in u report.side s.subs) walk_place then reported_at (slice_get s.units u) report k else k
-trace_after walk_place s e r k = k
+trace_after walk_position s (event.Choose word) r k = if is_path (index_of s word) walk_position then chosen_at (slice_get s.subs walk_position) r k else k
+trace_after walk_position s (event.Up word path) r k = if is_path (index_of s word) walk_position then met_at s.storage (slice_get s.subs walk_position) path k else k
+trace_after walk_position s (event.Down word path) r k = if is_path (index_of s word) walk_position then taken_at r k else k
+trace_after walk_position s (event.Report u report) r k =
+    if is_path (reached_in u report.side s.subs) walk_position then reported_at (slice_get s.units u) report k else k
+trace_after walk_position s e r k = k
 
 -- the story of the subchannel at a place; none where nothing was offered
 abbrev pub trace : ℕ → (opening : State) (h : List Entry) (s : State) → Run opening h s → Option ProgramTrace
-trace walk_place opening _ _ Opened = None
-trace walk_place opening _ _ (Stepped h old e r new run step) = trace_after walk_place old e r (trace walk_place opening h old run)
+trace walk_position opening _ _ Opened = None
+trace walk_position opening _ _ (Stepped h old e r new run step) = trace_after walk_position old e r (trace walk_position opening h old run)

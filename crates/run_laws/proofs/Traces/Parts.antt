@@ -15,7 +15,7 @@ use Rattle.ccw_walk.specs.declared.program.Advance.TheVariants as advance
 use Rattle.ccw_walk.specs.Sequences.{Sequence, Nothing, ◌▸◌, ◌▸▸◌, count}
 use Rattle.ccw_walk.specs.Acts.{Act}
 use Rattle.ccw_walk.specs.Programs.{IsProgram, Command, role_of, next, commands, code}
-use Rattle.ccw_walk.specs.Places.{WalkPlace, walk_place, after_acts, after_count_used_up}
+use Rattle.ccw_walk.specs.Positions.{WalkPosition, walk_position, after_acts, after_count_used_up}
 use Rattle.ccw_walk.specs.Advancing.{advance_acts, advance_of_acts}
 use Rattle.idaw.specs.declared.WordFault.{WordFault}
 use Rattle.idaw.specs.Lists.{word_fault}
@@ -25,7 +25,7 @@ use Rattle.data_move.specs.Accesses as access
 use Rattle.data_move.specs.declared.transfer.Transfer.{Transfer}
 use Rattle.data_move.specs.declared.transfer.Beginning.{Beginning}
 use Rattle.data_move.specs.declared.transfer.CommandStart.{CommandStart}
-use Rattle.data_move.specs.declared.transfer.CommandStart.TheVariants as came
+use Rattle.data_move.specs.declared.transfer.CommandStart.TheVariants as outcome
 use Rattle.data_move.specs.Commands.{goes_to, located_transfer, with_located, begun_with_room, with_room, brings, has_stopped}
 use Rattle.data_move.specs.DataChaining.{chains_data, with_next_ccw, data_chained, with_bytes_moved, after_bytes_moved}
 use Rattle.data_move.specs.ToDevice.{with_chunk_counted, chunk_absorbed, with_bytes_offered, chunk_at_place, next_chunk, with_bytes_fetched}
@@ -50,13 +50,13 @@ IsSame t u = (u.code ≡ t.code) × (u.command ≡ t.command)
 same-trans : (t u v : Transfer) → IsSame t u → IsSame u v → IsSame t v
 same-trans t u v a b = (b.0 ∙ a.0, b.1 ∙ a.1)
 
-with_next_ccw-same : (t : Transfer) (walk : WalkPlace) (a : Option Advance) → IsSame t (with_next_ccw t walk a)
+with_next_ccw-same : (t : Transfer) (walk : WalkPosition) (a : Option Advance) → IsSame t (with_next_ccw t walk a)
 with_next_ccw-same t walk (Some (advance.Takes ccw)) = (refl, refl)
 with_next_ccw-same t walk other = (refl, refl)
 
 chained-same : (storage : Contents) (t : Transfer) → IsSame t (data_chained storage t)
 chained-same storage t =
-    let old : WalkPlace = after_count_used_up t.walk in
+    let old : WalkPosition = after_count_used_up t.walk in
     with_next_ccw-same t (after_acts old (advance_acts storage old)) (advance_of_acts old (advance_acts storage old))
 
 after_bytes_moved-if : (storage : Contents) (t : Transfer) (n : ℕ) (b : Bool) → IsSame t (if b then data_chained storage (with_bytes_moved t n) else with_bytes_moved t n)
@@ -128,7 +128,7 @@ brought-same storage t s bytes = brought-if storage t s bytes (s == t.sequence +
 abbrev pub IsThrough : Transfer → Transfer → Type 0
 IsThrough t u = (u.sequence ≡ t.sequence) × (u.fault ≡ None → t.fault ≡ None)
 
-with_next_ccw-through : (t : Transfer) (walk : WalkPlace) (a : Option Advance) → IsThrough t (with_next_ccw t walk a)
+with_next_ccw-through : (t : Transfer) (walk : WalkPosition) (a : Option Advance) → IsThrough t (with_next_ccw t walk a)
 with_next_ccw-through t walk (Some (advance.Takes ccw)) = (refl, λ e. e)
 with_next_ccw-through t walk (Some advance.Suspends) = (refl, λ e. absurd (cc e))
 with_next_ccw-through t walk (Some (advance.Stops check)) = (refl, λ e. absurd (cc e))
@@ -136,7 +136,7 @@ with_next_ccw-through t walk None = (refl, λ e. e)
 
 pub after_bytes_moved-through : (storage : Contents) (t : Transfer) (n : ℕ) (b : Bool) → IsThrough t (if b then data_chained storage (with_bytes_moved t n) else with_bytes_moved t n)
 after_bytes_moved-through storage t n true =
-    let old : WalkPlace = after_count_used_up t.walk in
+    let old : WalkPosition = after_count_used_up t.walk in
     with_next_ccw-through (with_bytes_moved t n) (after_acts old (advance_acts storage old)) (advance_of_acts old (advance_acts storage old))
 after_bytes_moved-through storage t n false = (refl, λ e. e)
 
@@ -363,15 +363,15 @@ module _ (earlier : ℕ) where
           record { tied = w.tied; arrived = w.arrived }
 
     -- a command begins from these acts, or can't, or the program is suspended
-    abbrev pub WentOn : Contents → Orb → Sequence Act → Sequence Act → ℕ → WalkPlace → CommandStart → Type 0
-    WentOn storage orb before acts n walk (came.Begins t) =
+    abbrev pub WentOn : Contents → Orb → Sequence Act → Sequence Act → ℕ → WalkPosition → CommandStart → Type 0
+    WentOn storage orb before acts n walk (outcome.Begins t) =
         Tied earlier orb acts [] (begun_with_room storage t).transfer × (t.command ≡ n) × ((c : Command) × (commands orb acts ≡ commands orb before ▸ c) × (code c ≡ t.code) × IsFresh (begun_with_room storage t).transfer)
         × BeginsData storage orb t.code (begun_with_room storage t).room (is_some (begun_with_room storage t).transfer.fault) acts
-    WentOn storage orb before acts n walk came.Suspends =
-        IsProgram orb acts × (data_areas orb acts ≡ data_areas orb before) × (commands orb acts ≡ commands orb before) × ((role_of orb acts).chained ≡ false) × (walk ≡ walk_place orb acts) × IsSuspended orb acts × EndsAtCheck orb acts
-    WentOn storage orb before acts n walk (came.Stops check) =
+    WentOn storage orb before acts n walk outcome.Suspends =
+        IsProgram orb acts × (data_areas orb acts ≡ data_areas orb before) × (commands orb acts ≡ commands orb before) × ((role_of orb acts).chained ≡ false) × (walk ≡ walk_position orb acts) × IsSuspended orb acts × EndsAtCheck orb acts
+    WentOn storage orb before acts n walk (outcome.Stops check) =
         IsProgram orb acts × (data_areas orb acts ≡ data_areas orb before) × (commands orb acts ≡ commands orb before) × (next orb acts ≡ None) × EndsAtCheck orb acts
-        × (walk ≡ walk_place orb acts)
+        × (walk ≡ walk_position orb acts)
 
     right-commands : (orb : Orb) (acts : Sequence Act) (word : ℕ) (f : Option WordFault) → commands orb (acts ▸▸ doing.act_of_right f word) ≡ commands orb acts
     right-commands orb acts word None = refl
@@ -417,19 +417,19 @@ module _ (earlier : ℕ) where
       λ x y. absurd (cc (sym e ∙ y)),
     )
 
-    went-by : (storage : Contents) (orb : Orb) (before acts : Sequence Act) (n : ℕ) (walk : WalkPlace) (c : CommandStart) → walk ≡ walk_place orb acts → Begins earlier laws orb before acts n c →
+    went-by : (storage : Contents) (orb : Orb) (before acts : Sequence Act) (n : ℕ) (walk : WalkPosition) (c : CommandStart) → walk ≡ walk_position orb acts → Begins earlier laws orb before acts n c →
         WentOn storage orb before (acts ▸▸ room_acts storage c) n walk c
-    went-by storage orb before acts n walk (came.Begins t) w k =
+    went-by storage orb before acts n walk (outcome.Begins t) w k =
         (room-tied earlier laws storage orb acts t k.0, k.1, (k.2.0, room-commands storage orb acts t (brings (class_of t.code)) ∙ k.2.1, k.2.2, room-fresh storage t k.2.3), begins-data storage orb acts t k.0 k.3 k.2.3 (brings (class_of t.code)) refl)
-    went-by storage orb before acts n walk came.Suspends w k = (k.0, k.1, k.2, k.3, w, k.4, k.5)
-    went-by storage orb before acts n walk (came.Stops check) w k = (k.0, k.1, k.2, k.3, k.4, w)
+    went-by storage orb before acts n walk outcome.Suspends w k = (k.0, k.1, k.2, k.3, w, k.4, k.5)
+    went-by storage orb before acts n walk (outcome.Stops check) w k = (k.0, k.1, k.2, k.3, k.4, w)
 
     pub goes-on : (storage : Contents) (orb : Orb) (before : Sequence Act) (n : ℕ) → (role_of orb before).chained ≡ false → count (commands orb before) + 1 ≡ earlier + n →
         IsProgram orb before → has_check orb before ≡ false → EndsAtCheck orb before →
-        WentOn storage orb before (before ▸▸ goes_acts storage n (walk_place orb before)) n (goes_to storage n (walk_place orb before)).walk (goes_to storage n (walk_place orb before)).came
+        WentOn storage orb before (before ▸▸ goes_acts storage n (walk_position orb before)) n (goes_to storage n (walk_position orb before)).walk (goes_to storage n (walk_position orb before)).outcome
     goes-on storage orb before n c l p hc en =
-        let old : WalkPlace = walk_place orb before in
+        let old : WalkPosition = walk_position orb before in
         let new : Beginning = goes_to storage n old in
-        subst (λ (xs : Sequence Act). WentOn storage orb before xs n new.walk new.came) (sym (joined-in-order before (advance_acts storage old) (room_acts storage new.came)))
-        (went-by storage orb before (before ▸▸ advance_acts storage old) n new.walk new.came (laws.leads orb before (advance_acts storage old))
+        subst (λ (xs : Sequence Act). WentOn storage orb before xs n new.walk new.outcome) (sym (joined-in-order before (advance_acts storage old) (room_acts storage new.outcome)))
+        (went-by storage orb before (before ▸▸ advance_acts storage old) n new.walk new.outcome (laws.leads orb before (advance_acts storage old))
         (goes-begins earlier laws storage orb before n c l p hc en))

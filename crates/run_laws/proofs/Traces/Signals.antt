@@ -7,14 +7,14 @@ use Rattle.chan_model.specs.declared.hold_state.HoldState.{HoldState}
 use Rattle.chan_model.specs.Signals.{Down, Load, Up, load_bytes}
 use Rattle.chan_model.specs.declared.signal.Taken.{Taken}
 use Rattle.chan_model.specs.declared.signal.Up.TheVariants as up
-use Rattle.chan_model.specs.HoldTable.{HoldStep, hold_takes, hold_after, came_of, is_connected, is_on}
+use Rattle.chan_model.specs.HoldTable.{HoldStep, hold_takes, hold_after, outcome_of, is_connected, is_on}
 use Rattle.chan_model.specs.Loads.{load_length}
 use Rattle.chan_model.specs.UnitReports.{is_last_end, is_outward, has_device_end}
-use Rattle.ccw_walk.specs.Places.{WalkPlace}
+use Rattle.ccw_walk.specs.Positions.{WalkPosition}
 use Rattle.data_move.specs.Moving.{residual}
 use Rattle.storage_keys.specs.Storage.{Contents}
 use Rattle.data_move.specs.declared.transfer.CommandStart.{CommandStart}
-use Rattle.data_move.specs.declared.transfer.CommandStart.TheVariants as came
+use Rattle.data_move.specs.declared.transfer.CommandStart.TheVariants as outcome
 use Rattle.data_move.specs.declared.transfer.Transfer.{Transfer}
 use Rattle.data_move.specs.Commands.{first_command, next_command, begun_with_room, with_room}
 use Rattle.data_move.specs.ToDevice.{chunk_absorbed, next_chunk}
@@ -49,8 +49,8 @@ use Rattle.subchannel_model.specs.Attention.{may_take_attention}
 module _ (Q : SubchannelState → Type 0) (same : (s x : SubchannelState) → x.waiting ≡ s.waiting → x.scsw ≡ s.scsw → x.pmcw.logical ≡ s.pmcw.logical → Q s → Q x)
     (cause-kept : (s : SubchannelState) (c : StatusCause) → Q s → Q (with_cause s c))
     (takes-kept : (s : SubchannelState) (program : Program) (transfer : Transfer) → Q s → Q (with_program_at_work s program transfer))
-    (still-kept : (s : SubchannelState) (program : Program) (walk : WalkPlace) (count : ℕ) → Q s → Q (with_suspended_program s program walk count))
-    (alone-kept : (s : SubchannelState) (program : Program) (walk : WalkPlace) (count : ℕ) → Q s → Q (record (with_suspended_program s program walk count) { scsw = suspended_alone s.scsw })) where
+    (still-kept : (s : SubchannelState) (program : Program) (walk : WalkPosition) (count : ℕ) → Q s → Q (with_suspended_program s program walk count))
+    (alone-kept : (s : SubchannelState) (program : Program) (walk : WalkPosition) (count : ℕ) → Q s → Q (record (with_suspended_program s program walk count) { scsw = suspended_alone s.scsw })) where
   if-kept : (b : Bool) (x y : SubchannelState) → Q x → Q y → Q (if b then x else y)
   if-kept true x y e f = e
   if-kept false x y e f = f
@@ -70,7 +70,7 @@ module _ (Q : SubchannelState → Type 0) (same : (s x : SubchannelState) → x.
       let c : StatusCause = cause.Pci b.transfer.walk.tried (residual b.transfer.moving) in
       if-kept b.transfer.pci_pending (with_cause x c) s (cause-kept x c (same s x refl refl refl k)) k
 
-  suspending-kept : (s : SubchannelState) (program : Program) (walk : WalkPlace) (count : ℕ) → Q s → Q (program_suspended s program walk count)
+  suspending-kept : (s : SubchannelState) (program : Program) (walk : WalkPosition) (count : ℕ) → Q s → Q (program_suspended s program walk count)
   suspending-kept s program walk count k =
       let x : SubchannelState = with_suspended_program s program walk count in
       let c : StatusCause = cause.Suspension walk.tried count in
@@ -87,17 +87,17 @@ module _ (Q : SubchannelState → Type 0) (same : (s x : SubchannelState) → x.
   clear_performed-kept s k = if-kept s.scsw.activity.clear_pending (with_cause s cause.ClearDone) s (cause-kept s cause.ClearDone k) k
 
   -- Accept
-  beginning-kept : (storage : Contents) (s : SubchannelState) (p t : ℕ) (st : ProgramPosition) (walk : WalkPlace) (c : CommandStart) → Q s → Q (first_ccw_outcome storage s p t st walk c).state
-  beginning-kept storage s p t st walk (came.Begins transfer) k =
+  beginning-kept : (storage : Contents) (s : SubchannelState) (p t : ℕ) (st : ProgramPosition) (walk : WalkPosition) (c : CommandStart) → Q s → Q (first_ccw_outcome storage s p t st walk c).state
+  beginning-kept storage s p t st walk (outcome.Begins transfer) k =
       let begun : Transfer = (begun_with_room storage transfer).transfer in
       let next : SubchannelState = with_program_at_work s st.program begun in interrupted-kept next next.begun (takes-kept s st.program begun k)
-  beginning-kept storage s p t st walk came.Suspends k = let x : SubchannelState = program_suspended s st.program walk st.count in device_released-kept x (suspending-kept s st.program walk st.count k)
-  beginning-kept storage s p t st walk (came.Stops check) k =
+  beginning-kept storage s p t st walk outcome.Suspends k = let x : SubchannelState = program_suspended s st.program walk st.count in device_released-kept x (suspending-kept s st.program walk st.count k)
+  beginning-kept storage s p t st walk (outcome.Stops check) k =
       let c : StatusCause = cause.FetchFault walk.tried check st.count in device_released-kept (with_cause s c) (cause-kept s c k)
 
   begin-kept : (storage : Contents) (s : SubchannelState) (p t : ℕ) (st : Option ProgramPosition) → Q s → Q (begins_at storage s p t st).state
   begin-kept storage s p t None k = k
-  begin-kept storage s p t (Some st) k = beginning-kept storage s p t st (first_command storage st.walk).walk (first_command storage st.walk).came k
+  begin-kept storage s p t (Some st) k = beginning-kept storage s p t st (first_command storage st.walk).walk (first_command storage st.walk).outcome k
 
   with_path-kept : (s : SubchannelState) (p : ℕ) → Q s → Q (record s { pmcw = with_path_used s.pmcw p })
   with_path-kept s p k = same s (record s { pmcw = with_path_used s.pmcw p }) refl refl refl k
@@ -113,8 +113,8 @@ module _ (Q : SubchannelState → Type 0) (same : (s x : SubchannelState) → x.
   accept-kept : (storage : Contents) (s : SubchannelState) (step : Option HoldStep) → Q s → Q (takes_accept storage s step).state
   accept-kept storage s step k =
       let x : SubchannelState = record s { hold = hold_after s.hold step } in
-      if-step (came_of step).taken (accepted_in_phase storage x x.hold.phase (came_of step)) (signal_ignored s)
-      (accepted-kept storage x x.hold.phase (came_of step) (with_hold-kept s x.hold k)) k
+      if-step (outcome_of step).taken (accepted_in_phase storage x x.hold.phase (outcome_of step)) (signal_ignored s)
+      (accepted-kept storage x x.hold.phase (outcome_of step) (with_hold-kept s x.hold k)) k
 
   -- Data
   transfer-kept : (s : SubchannelState) (b : ActiveProgram) (t : Transfer) → Q s → Q (with_transfer s b t)
@@ -138,12 +138,12 @@ module _ (Q : SubchannelState → Type 0) (same : (s x : SubchannelState) → x.
   ended-kept : (s : SubchannelState) (signal : EndSignal) → Q s → Q (with_allegiance_after_end s signal)
   ended-kept s signal k = same s (with_allegiance_after_end s signal) refl refl refl k
 
-  chaining-kept : (storage : Contents) (s : SubchannelState) (b : ActiveProgram) (signal : EndSignal) (walk : WalkPlace) (c : CommandStart) → Q s → Q (next_ccw_outcome storage s b signal walk c).state
-  chaining-kept storage s b signal walk (came.Begins transfer) k = moving-kept s b (begun_with_room storage transfer).transfer k
-  chaining-kept storage s b signal walk came.Suspends k =
+  chaining-kept : (storage : Contents) (s : SubchannelState) (b : ActiveProgram) (signal : EndSignal) (walk : WalkPosition) (c : CommandStart) → Q s → Q (next_ccw_outcome storage s b signal walk c).state
+  chaining-kept storage s b signal walk (outcome.Begins transfer) k = moving-kept s b (begun_with_room storage transfer).transfer k
+  chaining-kept storage s b signal walk outcome.Suspends k =
       let x : SubchannelState = with_allegiance_after_end s signal in
       device_released-kept (program_suspended x b.program walk (residual b.transfer.moving)) (suspending-kept x b.program walk (residual b.transfer.moving) (ended-kept s signal k))
-  chaining-kept storage s b signal walk (came.Stops check) k =
+  chaining-kept storage s b signal walk (outcome.Stops check) k =
       let x : SubchannelState = with_allegiance_after_end s signal in
       let c : StatusCause = cause.FetchFault walk.tried check (residual b.transfer.moving) in device_released-kept (with_cause x c) (cause-kept x c (ended-kept s signal k))
 
@@ -151,8 +151,8 @@ module _ (Q : SubchannelState → Type 0) (same : (s x : SubchannelState) → x.
   goes-kept storage s b signal k =
       let next = next_command storage b.transfer (has_status_modifier signal.status) in
       let x : SubchannelState = record (with_allegiance_after_end s signal) { begun = Some b } in
-      if-step (has_device_end signal.status) (next_ccw_outcome storage s b signal next.walk next.came) (signal_taken x)
-      (chaining-kept storage s b signal next.walk next.came k) (same s x refl refl refl k)
+      if-step (has_device_end signal.status) (next_ccw_outcome storage s b signal next.walk next.outcome) (signal_taken x)
+      (chaining-kept storage s b signal next.walk next.outcome k) (same s x refl refl refl k)
 
   stops-kept : (s : SubchannelState) (b : ActiveProgram) (signal : EndSignal) → Q s → Q (concludes s b signal).state
   stops-kept s b signal k =
@@ -196,5 +196,5 @@ module _ (Q : SubchannelState → Type 0) (same : (s x : SubchannelState) → x.
       let step : Option HoldStep = hold_takes s.hold p (up.Attn a status) (may_take_attention s) in
       let next : SubchannelState = record s { hold = hold_after s.hold step } in
       let held : Q next = with_hold-kept s next.hold k in
-      if-kept ((came_of step).taken && not (status.0 == 0x20)) (with_cause next cause.Attention) next (cause-kept next cause.Attention held) held
+      if-kept ((outcome_of step).taken && not (status.0 == 0x20)) (with_cause next cause.Attention) next (cause-kept next cause.Attention held) held
   signal-kept returns storage s p x k = same s (takes_up returns storage s p x).step.state refl refl refl k

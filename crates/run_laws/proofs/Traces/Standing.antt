@@ -16,7 +16,7 @@ use Rattle.ccw_walk.specs.Sequences.{Sequence, Nothing, ◌▸◌, ◌▸▸◌}
 use Rattle.ccw_walk.specs.Acts.{Act, Block, Unfetched, Used_up, End, Word}
 use Rattle.ccw_walk.specs.Blocks.{format_of, block_reads, transfer_reads, command_reads, reads}
 use Rattle.ccw_walk.specs.Programs.{next, next_after, role_of, role_after}
-use Rattle.ccw_walk.specs.Places.{WalkPlace, walk_place, after_acts}
+use Rattle.ccw_walk.specs.Positions.{WalkPosition, walk_position, after_acts}
 use Rattle.ccw_walk.specs.Advancing.{advance_of_acts, advance_of_ccw}
 use Rattle.run_laws.specs.ProgramClaims.{IsSuspended, shows_check, has_check, EndsAtCheck}
 
@@ -96,12 +96,12 @@ block-stands orb before address bytes a Shows e f =
     let same : advance.Stops Program ≡ a = cc f in
     subst (λ (x : Advance). Stands orb (before ▸ Block address bytes) x) same (ap (λ (r : Reading). next_after address r) e)
 
-pub acts-stand : (orb : Orb) (before acts : Sequence Act) (a : Advance) → ((xs : Sequence Act) → after_acts (walk_place orb before) xs ≡ walk_place orb (before ▸▸ xs)) →
-    advance_of_acts (walk_place orb before) acts ≡ Some a → Stands orb (before ▸▸ acts) a
+pub acts-stand : (orb : Orb) (before acts : Sequence Act) (a : Advance) → ((xs : Sequence Act) → after_acts (walk_position orb before) xs ≡ walk_position orb (before ▸▸ xs)) →
+    advance_of_acts (walk_position orb before) acts ≡ Some a → Stands orb (before ▸▸ acts) a
 acts-stand orb before Nothing a leads e = absurd (cc e)
 acts-stand orb before (acts ▸ Block address bytes) a leads e =
     block-stands orb (before ▸▸ acts) address bytes a (reads orb (role_of orb (before ▸▸ acts)) bytes) refl
-    (subst (λ (w : WalkPlace). advance_of_ccw (reads w.orb w.role bytes) ≡ Some a) (leads acts) e)
+    (subst (λ (w : WalkPosition). advance_of_ccw (reads w.orb w.role bytes) ≡ Some a) (leads acts) e)
 acts-stand orb before (acts ▸ Unfetched address check) a leads e =
     let same : advance.Stops check ≡ a = cc e in
     subst (λ (x : Advance). Stands orb (before ▸▸ acts ▸ Unfetched address check) x) same refl

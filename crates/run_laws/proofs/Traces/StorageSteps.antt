@@ -20,7 +20,7 @@ use Rattle.chan_events.specs.declared.reply.Reply.TheVariants as reply
 use Rattle.channel_reports.specs.Queue.{oldest}
 use Rattle.chan_events.specs.ReportWords.{report_word}
 use Rattle.subchannel_model.specs.declared.state.Subchannel.{Subchannel}
-use Rattle.subchannel_model.specs.Places.{Found}
+use Rattle.subchannel_model.specs.Indices.{Found}
 use Rattle.subchannel_model.specs.Store.{schib_of}
 use Rattle.subchannel_model.specs.Enable.{enabling_schib, enabling_word}
 use Rattle.subchannel_model.specs.Test.{irb_of}
@@ -32,8 +32,8 @@ use Rattle.chan_model.specs.declared.answer.Answer.{Answer}
 use Rattle.interruptions.specs.Requests.{answer}
 use Rattle.machine_model.specs.InstructionSteps.{stores_irb, with_irb}
 use Rattle.step_laws.proofs.Executed.{IsDone, IsStorageLeft, code_for}
-use Rattle.step_laws.proofs.Turns as turn
-use Rattle.step_laws.proofs.Turns.{TurnOf, HasTurn, step-turn}
+use Rattle.step_laws.proofs.Results as turn
+use Rattle.step_laws.proofs.Results.{ResultOf, HasResult, step-turn}
 
 -- how many bytes are stored
 length-words : (ws : List ℕ) → length (bytes_of_words ws) ≡ 4 * length ws
@@ -84,7 +84,7 @@ tpi-stores : (storage : Contents) (cpu address : ℕ) (found : Option IntCode) �
 tpi-stores storage cpu address None = inl refl
 tpi-stores storage cpu address (Some code) = inr (bytes_of_words (code_words address code), length-code address code (address == 0) refl, refl)
 
-turn-stores : (s : State) (e : Event) (r : Reply) (new : State) → TurnOf s e r new → StoresBy s.storage e r new.storage
+turn-stores : (s : State) (e : Event) (r : Reply) (new : State) → ResultOf s e r new → StoresBy s.storage e r new.storage
 turn-stores s _ _ _ (turn.Puts address bytes storage e) = e
 turn-stores s _ _ _ (turn.SetsKey address key storage e) = e
 turn-stores s _ _ _ (turn.SetsPrefix cpu address storage e) = e
@@ -98,4 +98,4 @@ turn-stores s _ _ _ t = refl
 
 pub step-stores : (s : State) (e : Event) (r : Reply) (new : State) → Step s e r new → StoresBy s.storage e r new.storage
 step-stores s e r new step =
-    let is : HasTurn s e r new = step-turn s e r new step in subst (λ (x : State). StoresBy s.storage e r x.storage) (sym is.settles) (turn-stores s e r is.left is.turn)
+    let is : HasResult s e r new = step-turn s e r new step in subst (λ (x : State). StoresBy s.storage e r x.storage) (sym is.settles) (turn-stores s e r is.left is.turn)

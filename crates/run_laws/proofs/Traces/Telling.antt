@@ -34,8 +34,8 @@ use Rattle.subchannel_model.specs.Taking.{takes_up}
 use Rattle.chan_model.specs.declared.hold_state.HoldPhase.{HoldPhase}
 use Rattle.chan_model.specs.declared.hold_state.HoldPhase.TheVariants as hold
 use Rattle.machine_model.specs.ChooseSteps.{choose_sub}
-use Rattle.machine_model.specs.State.{State, place_of}
-use Rattle.machine_model.specs.Turns.{SubTurn, UpTurn}
+use Rattle.machine_model.specs.State.{State, index_of}
+use Rattle.machine_model.specs.Results.{SubResult, UpResult}
 use Rattle.machine_model.specs.UpSteps.{up_front, up_sub}
 use Rattle.step_laws.specs.Walks as walked
 use Rattle.step_laws.specs.Walks.{Walked, IsFound, IsForProgram, Suits}
@@ -137,15 +137,15 @@ front-offers : (returns : Bool) (storage : Contents) (sub : Subchannel) (path : 
 front-offers returns storage sub path None = tt
 front-offers returns storage sub path (Some x) =
     let step = (takes_up returns storage sub.state path x).step in
-    if-ok (λ (t : UpTurn). AnswersOffer sub.state t.reply) (finds_full sub.wires.down (carried_by sub step.came.sent)) _ _ tt
+    if-ok (λ (t : UpResult). AnswersOffer sub.state t.reply) (finds_full sub.wires.down (carried_by sub step.outcome.sent)) _ _ tt
     (λ t sent e.
     let same : x ≡ up.Accept t = cc e in
-    let taken : step.came.taken ≡ true = cc e in
-    meets-phase path t x sub.state.hold.phase step.came.taken step.came.sent step.state.hold.phase same taken (takes-meets returns storage sub.state path x))
+    let taken : step.outcome.taken ≡ true = cc e in
+    meets-phase path t x sub.state.hold.phase step.outcome.taken step.outcome.sent step.state.hold.phase same taken (takes-meets returns storage sub.state path x))
 
 up-offers : (returns : Bool) (storage : Contents) (sub : Subchannel) (path : ℕ) → IfOk (up_sub returns storage sub path) (λ t. AnswersOffer sub.state t.reply)
 up-offers returns storage sub path =
-    if-ok (λ (t : UpTurn). AnswersOffer sub.state t.reply) (nat_lt path (length sub.setup.paths)) (up_front returns storage sub path (slice_get (queue sub.wires.up path) 0)) _
+    if-ok (λ (t : UpResult). AnswersOffer sub.state t.reply) (nat_lt path (length sub.setup.paths)) (up_front returns storage sub path (slice_get (queue sub.wires.up path) 0)) _
     (front-offers returns storage sub path (slice_get (queue sub.wires.up path) 0)) tt
 
 -- the reply to a signal that comes up
@@ -155,32 +155,32 @@ IsMetReply r = (signal : Up) × (taken : Bool) × (sent : Option (OnPath Down)) 
 front-replies : (returns : Bool) (storage : Contents) (sub : Subchannel) (path : ℕ) (front : Option Up) → IfOk (up_front returns storage sub path front) (λ t. IsMetReply t.reply)
 front-replies returns storage sub path None = tt
 front-replies returns storage sub path (Some x) =
-    let came = (takes_up returns storage sub.state path x).step.came in
-    if-ok (λ (t : UpTurn). IsMetReply t.reply) (finds_full sub.wires.down (carried_by sub came.sent)) _ _ tt
-    (x, came.taken, came.sent, refl, takes-right returns storage sub.state path x false (λ t q e o. absurd (cc o)))
+    let outcome = (takes_up returns storage sub.state path x).step.outcome in
+    if-ok (λ (t : UpResult). IsMetReply t.reply) (finds_full sub.wires.down (carried_by sub outcome.sent)) _ _ tt
+    (x, outcome.taken, outcome.sent, refl, takes-right returns storage sub.state path x false (λ t q e o. absurd (cc o)))
 
 up-replies : (returns : Bool) (storage : Contents) (sub : Subchannel) (path : ℕ) → IfOk (up_sub returns storage sub path) (λ t. IsMetReply t.reply)
 up-replies returns storage sub path =
-    if-ok (λ (t : UpTurn). IsMetReply t.reply) (nat_lt path (length sub.setup.paths)) (up_front returns storage sub path (slice_get (queue sub.wires.up path) 0)) _
+    if-ok (λ (t : UpResult). IsMetReply t.reply) (nat_lt path (length sub.setup.paths)) (up_front returns storage sub path (slice_get (queue sub.wires.up path) 0)) _
     (front-replies returns storage sub path (slice_get (queue sub.wires.up path) 0)) tt
 
 quiet-not : (e : Event) (r : Reply) (word path : ℕ) → walked.IsQuiet e r → e ≡ event.Up word path → ⊥
 quiet-not e r word path q h = subst (λ (x : Event). walked.IsQuiet x r) h q
 
-pub walk-answers : (s : State) (e : Event) (r : Reply) (new : State) → Walked s e r new → (word path place : ℕ) (sub : Subchannel) → e ≡ event.Up word path → place_of s word ≡ Some place →
-    slice_get s.subs place ≡ Some sub → AnswersOffer sub.state r
-walk-answers s _ _ _ (walked.Stays e r new q sets subs units up) word path place sub h n there = absurd (quiet-not e r word path q h)
-walk-answers s _ _ _ (walked.Tested e r at x c new q one address by answers) word path place sub h n there = absurd (quiet-not e r word path q h)
-walk-answers s _ _ _ (walked.Modified e r at x given c new q one) word path place sub h n there = absurd (quiet-not e r word path q h)
-walk-answers s _ _ _ (walked.Performed e r at x f c new q one by answers) word path place sub h n there = absurd (quiet-not e r word path q h)
-walk-answers s _ _ _ (walked.Met w p returns at x t new m ok one may) word path place sub h n there =
+pub walk-answers : (s : State) (e : Event) (r : Reply) (new : State) → Walked s e r new → (word path index : ℕ) (sub : Subchannel) → e ≡ event.Up word path → index_of s word ≡ Some index →
+    slice_get s.subs index ≡ Some sub → AnswersOffer sub.state r
+walk-answers s _ _ _ (walked.Stays e r new q sets subs units up) word path index sub h n there = absurd (quiet-not e r word path q h)
+walk-answers s _ _ _ (walked.Tested e r at x c new q one address by answers) word path index sub h n there = absurd (quiet-not e r word path q h)
+walk-answers s _ _ _ (walked.Modified e r at x given c new q one) word path index sub h n there = absurd (quiet-not e r word path q h)
+walk-answers s _ _ _ (walked.Performed e r at x f c new q one by answers) word path index sub h n there = absurd (quiet-not e r word path q h)
+walk-answers s _ _ _ (walked.Met w p returns at x t new m ok one may) word path index sub h n there =
     let same : w ≡ word = cc h in
-    let here : at ≡ place = cc (sym m ∙ ap (place_of s) same ∙ n) in
+    let here : at ≡ index = cc (sym m ∙ ap (index_of s) same ∙ n) in
     let mine : x ≡ sub = cc (sym one.there ∙ ap (slice_get s.subs) here ∙ there) in
     subst (λ (z : Subchannel). AnswersOffer z.state t.reply) mine
-    (subst (λ (o : Result UpTurn Fault). IfOk o (λ t. AnswersOffer x.state t.reply)) ok (up-offers returns s.storage x p))
-walk-answers s _ _ _ (walked.Swept e r what new q sets subs units by) word path place sub h n there = absurd (quiet-not e r word path q h)
-walk-answers s _ _ _ w word path place sub h n there = absurd (cc h)
+    (subst (λ (o : Result UpResult Fault). IfOk o (λ t. AnswersOffer x.state t.reply)) ok (up-offers returns s.storage x p))
+walk-answers s _ _ _ (walked.Swept e r what new q sets subs units by) word path index sub h n there = absurd (quiet-not e r word path q h)
+walk-answers s _ _ _ w word path index sub h n there = absurd (cc h)
 
 pub walk-replies : (s : State) (e : Event) (r : Reply) (new : State) → Walked s e r new → (word path : ℕ) → e ≡ event.Up word path → IsMetReply r
 walk-replies s _ _ _ (walked.Stays e r new q sets subs units up) word path h = absurd (quiet-not e r word path q h)
@@ -188,7 +188,7 @@ walk-replies s _ _ _ (walked.Tested e r at x c new q one address by answers) wor
 walk-replies s _ _ _ (walked.Modified e r at x given c new q one) word path h = absurd (quiet-not e r word path q h)
 walk-replies s _ _ _ (walked.Performed e r at x f c new q one by answers) word path h = absurd (quiet-not e r word path q h)
 walk-replies s _ _ _ (walked.Met w p returns at x t new n ok one may) word path h =
-    subst (λ (o : Result UpTurn Fault). IfOk o (λ t. IsMetReply t.reply)) ok (up-replies returns s.storage x p)
+    subst (λ (o : Result UpResult Fault). IfOk o (λ t. IsMetReply t.reply)) ok (up-replies returns s.storage x p)
 walk-replies s _ _ _ (walked.Swept e r what new q sets subs units by) word path h = absurd (quiet-not e r word path q h)
 walk-replies s _ _ _ w word path h = absurd (cc h)
 
@@ -209,28 +209,28 @@ choose-offers sub other f = λ t p e. absurd (cc e)
 quiet-choose : (e : Event) (r : Reply) (word : ℕ) → walked.IsQuiet e r → e ≡ event.Choose word → ⊥
 quiet-choose e r word q h = subst (λ (x : Event). walked.IsQuiet x r) h q
 
--- a choice for the subchannel of a place
+-- a choice for the subchannel of an index
 pub record IsChosen (s : State) (sub : Subchannel) (r : Reply) : Type 0 where
   pub choice : Option ℕ
-  pub turn : SubTurn
+  pub turn : SubResult
   pub right : IsChoice (paths_to_choose s.subs sub) choice
   pub suits : Suits (chosen sub choice) sub.state
   pub ok : choose_sub (marked_sub sub choice) (chosen sub choice) ≡ Ok turn
   pub replies : r ≡ turn.reply
 
-pub walk-chosen : (s : State) (e : Event) (r : Reply) (new : State) → Walked s e r new → (word place : ℕ) (sub : Subchannel) → e ≡ event.Choose word → place_of s word ≡ Some place →
-    slice_get s.subs place ≡ Some sub → IsChosen s sub r
-walk-chosen s _ _ _ (walked.Stays e r new q sets subs units up) word place sub h n there = absurd (quiet-choose e r word q h)
-walk-chosen s _ _ _ (walked.Tested e r at x c new q one address by answers) word place sub h n there = absurd (quiet-choose e r word q h)
-walk-chosen s _ _ _ (walked.Modified e r at x given c new q one) word place sub h n there = absurd (quiet-choose e r word q h)
-walk-chosen s _ _ _ (walked.Performed e r at x f c new q one by answers) word place sub h n there = absurd (quiet-choose e r word q h)
-walk-chosen s _ _ _ (walked.Chosen w at x choice t new m y suits ok one) word place sub h n there =
+pub walk-chosen : (s : State) (e : Event) (r : Reply) (new : State) → Walked s e r new → (word index : ℕ) (sub : Subchannel) → e ≡ event.Choose word → index_of s word ≡ Some index →
+    slice_get s.subs index ≡ Some sub → IsChosen s sub r
+walk-chosen s _ _ _ (walked.Stays e r new q sets subs units up) word index sub h n there = absurd (quiet-choose e r word q h)
+walk-chosen s _ _ _ (walked.Tested e r at x c new q one address by answers) word index sub h n there = absurd (quiet-choose e r word q h)
+walk-chosen s _ _ _ (walked.Modified e r at x given c new q one) word index sub h n there = absurd (quiet-choose e r word q h)
+walk-chosen s _ _ _ (walked.Performed e r at x f c new q one by answers) word index sub h n there = absurd (quiet-choose e r word q h)
+walk-chosen s _ _ _ (walked.Chosen w at x choice t new m y suits ok one) word index sub h n there =
     let same : w ≡ word = cc h in
-    let here : at ≡ place = cc (sym m ∙ ap (place_of s) same ∙ n) in
+    let here : at ≡ index = cc (sym m ∙ ap (index_of s) same ∙ n) in
     let mine : x ≡ sub = cc (sym one.there ∙ ap (slice_get s.subs) here ∙ there) in
     subst (λ (z : Subchannel). IsChosen s z t.reply) mine (record { choice = choice; turn = t; right = y; suits = suits; ok = ok; replies = refl })
-walk-chosen s _ _ _ (walked.Swept e r what new q sets subs units by) word place sub h n there = absurd (quiet-choose e r word q h)
-walk-chosen s _ _ _ w word place sub h n there = absurd (cc h)
+walk-chosen s _ _ _ (walked.Swept e r what new q sets subs units by) word index sub h n there = absurd (quiet-choose e r word q h)
+walk-chosen s _ _ _ w word index sub h n there = absurd (cc h)
 
 marked-found : (sub : Subchannel) (choice : Option ℕ) (c : Chosen) → IsForProgram c sub.state → IsForProgram c (marked_sub sub choice).state
 marked-found sub choice (Offers c path) f = f
@@ -241,7 +241,7 @@ offers-waiting s sub r k =
     let marked : Subchannel = marked_sub sub k.choice in
     let c : Chosen = chosen sub k.choice in
     subst (λ (y : Reply). OffersWaiting sub y) (sym k.replies)
-    (subst (λ (o : Result SubTurn Fault). IfOk o (λ t. OffersWaiting marked t.reply)) k.ok
+    (subst (λ (o : Result SubResult Fault). IfOk o (λ t. OffersWaiting marked t.reply)) k.ok
     (choose-offers marked c (record { fits = k.suits.fits; found = marked-found sub k.choice c k.suits.found })))
 
 -- it is offered by a path of the operation-request block of the start that was accepted last
@@ -273,7 +273,7 @@ absorbed-if true count x k = absorbed-by count x k
 absorbed-if false count x k = (k.absorbed, refl)
 
 reported-absorbed : (u : UnitState) (report : Report) (a : DeviceAnswer) (k : ProgramTrace) → (absorbed : List ℕ) × (reported u report a k ≡ record k { absorbed = absorbed })
-reported-absorbed u report (device.Absorbed count) k = absorbed-if (report.number == k.number) count u.at_hand k
+reported-absorbed u report (device.Absorbed count) k = absorbed-if (report.number == k.number) count u.current k
 reported-absorbed u report other k = (k.absorbed, refl)
 
 pub report-absorbed : (b : Bool) (u : Option UnitState) (report : Report) (k : Option ProgramTrace) → HasAbsorbed k (if b then reported_at u report k else k)

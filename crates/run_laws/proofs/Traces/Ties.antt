@@ -15,7 +15,7 @@ use Rattle.ccw_walk.specs.Sequences.{Sequence, Nothing, ◌▸◌, ◌▸▸◌,
 use Rattle.ccw_walk.specs.Acts.{Act}
 use Rattle.ccw_walk.specs.Programs.{IsProgram, Command, role_of, next, commands, commands_after, join_last, code}
 use Rattle.ccw_walk.specs.Advancing.{acts_from_next, advance_acts, advance_of_acts}
-use Rattle.ccw_walk.specs.Places.{WalkPlace, walk_place, after_acts}
+use Rattle.ccw_walk.specs.Positions.{WalkPosition, walk_position, after_acts}
 use Rattle.idaw.specs.declared.ListKind.{ListKind}
 use Rattle.idaw.specs.declared.WordFault.{WordFault}
 use Rattle.idaw.specs.declared.WordFault.TheVariants.{LeftmostBit, OffBlock, OutsideStorage}
@@ -27,7 +27,7 @@ use Rattle.data_move.specs.Moving.{Moving, moving_begun, with_piece, moved, next
 use Rattle.data_move.specs.Accesses as access
 use Rattle.data_move.specs.declared.transfer.Transfer.{Transfer}
 use Rattle.data_move.specs.declared.transfer.CommandStart.{CommandStart}
-use Rattle.data_move.specs.declared.transfer.CommandStart.TheVariants as came
+use Rattle.data_move.specs.declared.transfer.CommandStart.TheVariants as outcome
 use Rattle.data_move.specs.Commands.{is_skipped, transfer_of, command_begins, goes_to, with_located, located_transfer, begun_with_room, with_room, brings}
 use Rattle.ccw_codec.specs.Command.{class_of}
 use Rattle.data_move.specs.DataChaining.{with_bytes_moved}
@@ -56,9 +56,9 @@ pub record AreLaws : Type 0 where
   pub moved : (r : Reach) (m : Moving) (n : ℕ) → IsAt r m → n ≤ m.left → IsAt r (movement.moved m n)
   pub places : (r : Reach) (m : Moving) (n : ℕ) → IsAt r m → n ≤ m.left →
       each_below (place_of_byte (block m.kind) r) m.done ++ each_below (next_place m) n ≡ each_below (place_of_byte (block m.kind) r) (m.done + n)
-  pub leads : (orb : Orb) (before acts : Sequence Act) → after_acts (walk_place orb before) acts ≡ walk_place orb (before ▸▸ acts)
-  pub stands : (storage : Contents) (old : WalkPlace) → IsSome (advance_of_acts old (advance_acts storage old)) ↔ IsSome old.next
-  pub goes : (storage : Contents) (orb : Orb) (before : Sequence Act) → IsProgram orb before → IsProgram orb (before ▸▸ advance_acts storage (walk_place orb before))
+  pub leads : (orb : Orb) (before acts : Sequence Act) → after_acts (walk_position orb before) acts ≡ walk_position orb (before ▸▸ acts)
+  pub stands : (storage : Contents) (old : WalkPosition) → IsSome (advance_of_acts old (advance_acts storage old)) ↔ IsSome old.next
+  pub goes : (storage : Contents) (orb : Orb) (before : Sequence Act) → IsProgram orb before → IsProgram orb (before ▸▸ advance_acts storage (walk_position orb before))
 
 -- the command at work has this code
 abbrev pub HasCode : Sequence Command → ℕ → Type 0
@@ -144,7 +144,7 @@ IsFresh t = (t.sequence ≡ 0) × (t.offered ≡ 0) × (t.stopped ≡ false) × 
 -- so many commands were sent under earlier numbers
 module _ (earlier : ℕ) where
   pub record Tied (orb : Orb) (acts : Sequence Act) (ps : List (Option ℕ)) (t : Transfer) : Type 0 where
-    pub walk : t.walk ≡ walk_place orb acts
+    pub walk : t.walk ≡ walk_position orb acts
     pub program : IsProgram orb acts
     pub stands : next orb acts ≡ None
     pub chained : is_some t.fault ≡ false → (role_of orb acts).chained ≡ t.moving.ccw.chain_data
@@ -182,19 +182,19 @@ module _ (earlier : ℕ) where
   module _ (laws : AreLaws) where
     -- a command begins, or can't, or the program is suspended where one may begin
     abbrev pub Begins : Orb → Sequence Act → Sequence Act → ℕ → CommandStart → Type 0
-    Begins orb before acts n (came.Begins t) =
+    Begins orb before acts n (outcome.Begins t) =
         Tied orb acts [] t × (t.command ≡ n) × ((c : Command) × (commands orb acts ≡ commands orb before ▸ c) × (code c ≡ t.code) × IsFresh t)
         × (is_some t.fault ≡ false)
-    Begins orb before acts n came.Suspends =
+    Begins orb before acts n outcome.Suspends =
         IsProgram orb acts × (data_areas orb acts ≡ data_areas orb before) × (commands orb acts ≡ commands orb before) × ((role_of orb acts).chained ≡ false) × IsSuspended orb acts × EndsAtCheck orb acts
-    Begins orb before acts n (came.Stops check) =
+    Begins orb before acts n (outcome.Stops check) =
         IsProgram orb acts × (data_areas orb acts ≡ data_areas orb before) × (commands orb acts ≡ commands orb before) × (next orb acts ≡ None) × EndsAtCheck orb acts
 
-    taken-begins : (orb : Orb) (before acts : Sequence Act) (walk : WalkPlace) (n : ℕ) (ccw : Ccw) → walk ≡ walk_place orb acts →
+    taken-begins : (orb : Orb) (before acts : Sequence Act) (walk : WalkPosition) (n : ℕ) (ccw : Ccw) → walk ≡ walk_position orb acts →
         (role_of orb before).chained ≡ false → count (commands orb before) + 1 ≡ earlier + n → IsProgram orb acts →
         commands orb acts ≡ commands_after (role_of orb before).chained (commands orb before) (Takes ccw) →
         data_areas orb acts ≡ reaches_after (role_of orb before).chained (commands orb before) (data_areas orb before) (Takes ccw) → next orb acts ≡ None →
-        (role_of orb acts).chained ≡ ccw.chain_data → EndsAtCheck orb acts → has_check orb acts ≡ false → Begins orb before acts n (came.Begins (transfer_of walk n ccw))
+        (role_of orb acts).chained ≡ ccw.chain_data → EndsAtCheck orb acts → has_check orb acts ≡ false → Begins orb before acts n (outcome.Begins (transfer_of walk n ccw))
     taken-begins orb before acts walk n ccw w c l p f g h i en hc =
         let cs : Sequence Command = commands orb before in
         let commanded : commands orb acts ≡ cs ▸ record { first = ccw; more = Nothing } =
@@ -207,7 +207,7 @@ module _ (earlier : ℕ) where
             stands = h;
             chained = λ z. i;
             coded = subst (λ (xs : Sequence Command). HasCode xs ccw.command) (sym commanded) refl;
-            kind = ap (λ (x : WalkPlace). kind_of x.orb) w;
+            kind = ap (λ (x : WalkPosition). kind_of x.orb) w;
             spot =
                 subst (λ (rs : Sequence Reach). IsMovedTo orb rs (transfer_of walk n ccw) []) (sym reached)
                 (data-begins laws (kind_of walk.orb) ccw.command ccw, refl);
@@ -220,7 +220,7 @@ module _ (earlier : ℕ) where
           refl,
         )
 
-    advance-begins : (orb : Orb) (before acts : Sequence Act) (walk : WalkPlace) (n : ℕ) (a : Option Advance) → walk ≡ walk_place orb acts → (role_of orb before).chained ≡ false →
+    advance-begins : (orb : Orb) (before acts : Sequence Act) (walk : WalkPosition) (n : ℕ) (a : Option Advance) → walk ≡ walk_position orb acts → (role_of orb before).chained ≡ false →
         count (commands orb before) + 1 ≡ earlier + n → IsProgram orb acts →
         Went (role_of orb before).chained (commands orb before) (commands orb acts) (data_areas orb before) (data_areas orb acts) (next orb acts) (role_of orb acts) a →
         ((x : Advance) → a ≡ Some x → Stands orb acts x) → (a ≡ None → next orb acts ≡ None) → EndsAtCheck orb acts × UnlessStops a (has_check orb acts) →
@@ -231,12 +231,12 @@ module _ (earlier : ℕ) where
     advance-begins orb before acts walk n None w c l p k s z x = (p, k.1, k.0, z refl, x.0)
 
     -- where a program does not go on, no block was next
-    pub none-next : (storage : Contents) (orb : Orb) (before : Sequence Act) → let old : WalkPlace = walk_place orb before in
+    pub none-next : (storage : Contents) (orb : Orb) (before : Sequence Act) → let old : WalkPosition = walk_position orb before in
         advance_of_acts old (advance_acts storage old) ≡ None → next orb before ≡ None
     none-next storage orb before = by (next orb before) refl
       where
-        old : WalkPlace
-        old = walk_place orb before
+        old : WalkPosition
+        old = walk_position orb before
 
         by : (n : Option ℕ) → old.next ≡ n → advance_of_acts old (advance_acts storage old) ≡ None → n ≡ None
         by None e a = refl
@@ -246,9 +246,9 @@ module _ (earlier : ℕ) where
 
     pub goes-begins : (storage : Contents) (orb : Orb) (before : Sequence Act) (n : ℕ) → (role_of orb before).chained ≡ false → count (commands orb before) + 1 ≡ earlier + n →
         IsProgram orb before → has_check orb before ≡ false → EndsAtCheck orb before →
-        Begins orb before (before ▸▸ advance_acts storage (walk_place orb before)) n (goes_to storage n (walk_place orb before)).came
+        Begins orb before (before ▸▸ advance_acts storage (walk_position orb before)) n (goes_to storage n (walk_position orb before)).outcome
     goes-begins storage orb before n c l p hc en =
-        let old : WalkPlace = walk_place orb before in
+        let old : WalkPosition = walk_position orb before in
         advance-begins orb before (before ▸▸ advance_acts storage old) (after_acts old (advance_acts storage old)) n (advance_of_acts old (advance_acts storage old))
         (laws.leads orb before (advance_acts storage old)) c l (laws.goes storage orb before p) (advance-went storage orb before)
         (λ x. acts-stand orb before (advance_acts storage old) x (laws.leads orb before))
@@ -351,7 +351,7 @@ module _ (earlier : ℕ) where
     room-by storage orb acts t false k = k
 
     pub room-tied : (storage : Contents) (orb : Orb) (acts : Sequence Act) (t : Transfer) → Tied orb acts [] t →
-        Tied orb (acts ▸▸ room_acts storage (came.Begins t)) [] (begun_with_room storage t).transfer
+        Tied orb (acts ▸▸ room_acts storage (outcome.Begins t)) [] (begun_with_room storage t).transfer
     room-tied storage orb acts t k = room-by storage orb acts t (brings (class_of t.code)) k
 
     -- bytes are moved

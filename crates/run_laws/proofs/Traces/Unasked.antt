@@ -12,17 +12,17 @@ use Rattle.chan_model.specs.declared.signal.Down.TheVariants as down
 use Rattle.chan_model.specs.declared.signal.Taken.{Taken}
 use Rattle.chan_model.specs.declared.signal.Up.TheVariants as up
 use Rattle.chan_model.specs.declared.unit_state.UnitState.{UnitState}
-use Rattle.chan_model.specs.HoldTable.{HoldStep, came_of, hold_after, hold_takes, is_connected, is_on}
+use Rattle.chan_model.specs.HoldTable.{HoldStep, outcome_of, hold_after, hold_takes, is_connected, is_on}
 use Rattle.chan_model.specs.Loads.{load_length}
 use Rattle.chan_model.specs.UnitReports.{has_device_end, is_last_end, is_outward}
 use Rattle.channel_config.specs.Lawful.{IsLawful}
 use Rattle.channel_config.specs.Setup.{Setup}
 use Rattle.channel_config.specs.declared.parts.SubchannelSetup.{SubchannelSetup}
-use Rattle.ccw_walk.specs.Places.{WalkPlace}
+use Rattle.ccw_walk.specs.Positions.{WalkPosition}
 use Rattle.data_move.specs.Moving.{residual}
 use Rattle.storage_keys.specs.Storage.{Contents}
 use Rattle.data_move.specs.declared.transfer.CommandStart.{CommandStart}
-use Rattle.data_move.specs.declared.transfer.CommandStart.TheVariants as came
+use Rattle.data_move.specs.declared.transfer.CommandStart.TheVariants as outcome
 use Rattle.data_move.specs.declared.transfer.Transfer.{Transfer}
 use Rattle.data_move.specs.FromDevice.{chunk_stored}
 use Rattle.data_move.specs.ChunkNumbers.{is_answered}
@@ -62,17 +62,17 @@ use Rattle.machine_model.specs.declared.state.Sweep.{Sweep}
 use Rattle.machine_model.specs.PathSteps.{swept}
 use Rattle.machine_model.specs.State.{State, opening_of}
 use Rattle.machine_model.specs.Steps.{Run, Opened, Stepped}
-use Rattle.machine_model.specs.Turns.{SubTurn, UpTurn, DownTurn}
+use Rattle.machine_model.specs.Results.{SubResult, UpResult, DownResult}
 use Rattle.machine_model.specs.UpSteps.{up_front, up_sub}
 use Rattle.wires.specs.Queues.{queue}
 use Rattle.step_laws.specs.Walks.{AreWalks}
-use Rattle.step_laws.proofs.Places.{map-get}
+use Rattle.step_laws.proofs.Indices.{map-get}
 use Rattle.subchannel_model.specs.Opening.{opened}
 use Rattle.run_laws.specs.Traces.{ProgramTrace}
 use Rattle.run_laws.proofs.Traces.Caused.{attention-begun, clear-begun, fault-begun, halted-begun, path-begun, suspending-workless, tested-begun}
 use Rattle.run_laws.proofs.Units.RunSides.{run-one-sided}
 use Rattle.run_laws.proofs.Traces.Sweeps.{swept-kept}
-use Rattle.run_laws.proofs.Traces.Turns.{PlaceStep, Stays, Starts_with_orb, Is_tested, Is_resumed, Is_halted, Is_cleared, Is_cancelled, Is_modified, Is_chosen, Meets, Sinks, Is_reported, Other_sinks, Other_reported, Unit_acts, Is_swept, IsSameSub, down-same, report-same, step-happens}
+use Rattle.run_laws.proofs.Traces.Turns.{IndexStep, Stays, Starts_with_orb, Is_tested, Is_resumed, Is_halted, Is_cleared, Is_cancelled, Is_modified, Is_chosen, Meets, Sinks, Is_reported, Other_sinks, Other_reported, Unit_acts, Is_swept, IsSameSub, down-same, report-same, step-happens}
 use Rattle.run_laws.proofs.Units.UnitActs.{if-ok}
 use Rattle.run_laws.proofs.Links.Vanishing.{send-ok}
 
@@ -97,18 +97,18 @@ asked-made s b true p e = refl
 asked-made s b false p e = unasked-as (Some b) s.begun e p
 
 -- Accept
-begins-unasked : (storage : Contents) (s : SubchannelState) (p t : ℕ) (st : ProgramPosition) (walk : WalkPlace) (c : CommandStart) →
+begins-unasked : (storage : Contents) (s : SubchannelState) (p t : ℕ) (st : ProgramPosition) (walk : WalkPosition) (c : CommandStart) →
     IsUnasked (on_accept.first_ccw_outcome storage s p t st walk c).state.begun
-begins-unasked storage s p t st walk (came.Begins transfer) =
+begins-unasked storage s p t st walk (outcome.Begins transfer) =
     let u : Transfer = (begun_with_room storage transfer).transfer in
     asked-made (on_accept.with_program_at_work s st.program u) (record { program = st.program; primary_shown = false; transfer = u }) u.pci_pending refl refl
-begins-unasked storage s p t st walk came.Suspends = unasked-none (suspension.program_suspended s st.program walk st.count).begun (suspending-workless s st.program walk st.count).begun
-begins-unasked storage s p t st walk (came.Stops check) = unasked-none (without_begun s.begun s).begun (fault-begun s s.begun refl)
+begins-unasked storage s p t st walk outcome.Suspends = unasked-none (suspension.program_suspended s st.program walk st.count).begun (suspending-workless s st.program walk st.count).begun
+begins-unasked storage s p t st walk (outcome.Stops check) = unasked-none (without_begun s.begun s).begun (fault-begun s s.begun refl)
 
 standing-unasked : (storage : Contents) (s : SubchannelState) (p t : ℕ) (o : Option ProgramPosition) → IsUnasked s.begun →
     IsUnasked (on_accept.begins_at storage s p t o).state.begun
 standing-unasked storage s p t None u = u
-standing-unasked storage s p t (Some st) u = begins-unasked storage s p t st (first_command storage st.walk).walk (first_command storage st.walk).came
+standing-unasked storage s p t (Some st) u = begins-unasked storage s p t st (first_command storage st.walk).walk (first_command storage st.walk).outcome
 
 halt-unasked : (s : SubchannelState) → IsUnasked s.begun → IsUnasked (on_accept.halt_performed s).begun
 halt-unasked s u = by s.scsw.activity.halt_pending
@@ -124,11 +124,11 @@ phase-unasked storage s (hold.Letting t p) taken u = halt-unasked (record s { pm
 phase-unasked storage s other taken u = u
 
 accept-unasked : (storage : Contents) (s : SubchannelState) (step : Option HoldStep) → IsUnasked s.begun → IsUnasked (on_accept.takes_accept storage s step).state.begun
-accept-unasked storage s step u = by (came_of step).taken
+accept-unasked storage s step u = by (outcome_of step).taken
   where
     by : (x : Bool) →
-        IsUnasked (if x then on_accept.accepted_in_phase storage (record s { hold = hold_after s.hold step }) (hold_after s.hold step).phase (came_of step) else outcomes.signal_ignored s).state.begun
-    by true = phase-unasked storage (record s { hold = hold_after s.hold step }) (hold_after s.hold step).phase (came_of step) u
+        IsUnasked (if x then on_accept.accepted_in_phase storage (record s { hold = hold_after s.hold step }) (hold_after s.hold step).phase (outcome_of step) else outcomes.signal_ignored s).state.begun
+    by true = phase-unasked storage (record s { hold = hold_after s.hold step }) (hold_after s.hold step).phase (outcome_of step) u
     by false = u
 
 -- Data
@@ -159,15 +159,15 @@ data-unasked storage s signal load true u = begun-unasked storage s s.begun sign
 data-unasked storage s signal load false u = u
 
 -- End
-chaining-unasked : (storage : Contents) (s : SubchannelState) (b : ActiveProgram) (signal : EndSignal) (walk : WalkPlace) (c : CommandStart) →
+chaining-unasked : (storage : Contents) (s : SubchannelState) (b : ActiveProgram) (signal : EndSignal) (walk : WalkPosition) (c : CommandStart) →
     IsUnasked (on_end.next_ccw_outcome storage s b signal walk c).state.begun
-chaining-unasked storage s b signal walk (came.Begins transfer) =
+chaining-unasked storage s b signal walk (outcome.Begins transfer) =
     let t : Transfer = (begun_with_room storage transfer).transfer in
     asked-made (command_spec.with_transfer s b t) (record b { transfer = t }) t.pci_pending refl refl
-chaining-unasked storage s b signal walk came.Suspends =
+chaining-unasked storage s b signal walk outcome.Suspends =
     unasked-none (suspension.program_suspended (on_end.with_allegiance_after_end s signal) b.program walk (residual b.transfer.moving)).begun
     (suspending-workless (on_end.with_allegiance_after_end s signal) b.program walk (residual b.transfer.moving)).begun
-chaining-unasked storage s b signal walk (came.Stops check) =
+chaining-unasked storage s b signal walk (outcome.Stops check) =
     unasked-none (without_begun s.begun (on_end.with_allegiance_after_end s signal)).begun (fault-begun (on_end.with_allegiance_after_end s signal) s.begun refl)
 
 left-unasked : (s : SubchannelState) (b : ActiveProgram) (last : Bool) → IsUnasked (Some b) → IsUnasked (programs_after_end s b last).begun
@@ -186,7 +186,7 @@ goes-unasked : (storage : Contents) (s : SubchannelState) (b : ActiveProgram) (s
     else outcomes.signal_taken (record (on_end.with_allegiance_after_end s signal) { begun = Some (with_first_end b) })).state.begun
 goes-unasked storage s b signal true u =
     let next = next_command storage (with_first_end b).transfer (has_status_modifier signal.status) in
-    chaining-unasked storage s (with_first_end b) signal next.walk next.came
+    chaining-unasked storage s (with_first_end b) signal next.walk next.outcome
 goes-unasked storage s b signal false u = u
 
 command-unasked : (storage : Contents) (s : SubchannelState) (b : ActiveProgram) (signal : EndSignal) (x : Bool) → IsUnasked (Some b) →
@@ -236,14 +236,14 @@ takes-unasked returns storage s p (up.Cleared r) u = cleared-unasked s (hold_tak
 takes-unasked returns storage s p (up.Notice b) u = noticed-unasked s b (nat_lt s.hold.known b) u
 takes-unasked returns storage s p (up.Attn a status) u =
     let step : Option HoldStep = hold_takes s.hold p (up.Attn a status) (on_attention.may_take_attention s) in
-    unasked-as s.begun _ (attention-begun (record s { hold = hold_after s.hold step }) ((came_of step).taken && not (status.0 == 0x20))) u
+    unasked-as s.begun _ (attention-begun (record s { hold = hold_after s.hold step }) ((outcome_of step).taken && not (status.0 == 0x20))) u
 takes-unasked returns storage s p x u = u
 
 front-unasked : (returns : Bool) (storage : Contents) (sub : Subchannel) (path : ℕ) (front : Option Up) → IsUnasked sub.state.begun →
     IfOk (up_front returns storage sub path front) (λ t. IsUnasked t.sub.state.begun)
 front-unasked returns storage sub path None u = tt
 front-unasked returns storage sub path (Some x) u =
-    if-ok (λ t. IsUnasked t.sub.state.begun) (finds_full sub.wires.down (carried_by sub (takes_up returns storage sub.state path x).step.came.sent)) (Err fault.WireFull) _ tt
+    if-ok (λ t. IsUnasked t.sub.state.begun) (finds_full sub.wires.down (carried_by sub (takes_up returns storage sub.state path x).step.outcome.sent)) (Err fault.WireFull) _ tt
     (takes-unasked returns storage sub.state path x u)
 
 up-unasked : (returns : Bool) (storage : Contents) (sub : Subchannel) (path : ℕ) → IsUnasked sub.state.begun → IfOk (up_sub returns storage sub path) (λ t. IsUnasked t.sub.state.begun)
@@ -275,7 +275,7 @@ by-state new s e u = subst (λ (x : SubchannelState). IsUnasked x.begun) (sym e)
 abbrev state-of : Subchannel → SubchannelState
 state-of x = x.state
 
-happens-unasked : (storage : Contents) (old new : Subchannel) (u v : Option UnitState) (f : Option ProgramTrace → Option ProgramTrace) → PlaceStep storage old new u v f →
+happens-unasked : (storage : Contents) (old new : Subchannel) (u v : Option UnitState) (f : Option ProgramTrace → Option ProgramTrace) → IndexStep storage old new u v f →
     IsUnasked old.state.begun → IsUnasked new.state.begun
 happens-unasked storage old new u v f (Stays e w g) n = by-state new old.state (ap state-of e) n
 happens-unasked storage old new u v f (Starts_with_orb orb e w g) n = by-state new _ (ap state-of e) n
@@ -288,15 +288,15 @@ happens-unasked storage old new u v f (Is_cancelled e w g) n = by-state new _ (a
 happens-unasked storage old new u v f (Is_modified pmcw e w g) n = by-state new _ (ap state-of e) n
 happens-unasked storage old new u v f (Is_chosen choice t x c e w g) n =
     by-state new t.sub.state (ap state-of e)
-    (subst (λ (r : Result SubTurn Fault). IfOk r (λ t. IsUnasked t.sub.state.begun)) c (choose-unasked (marked_sub old choice) (chosen old choice) n))
+    (subst (λ (r : Result SubResult Fault). IfOk r (λ t. IsUnasked t.sub.state.begun)) c (choose-unasked (marked_sub old choice) (chosen old choice) n))
 happens-unasked storage old new u v f (Meets path returns t c e w g) n =
     by-state new t.sub.state (ap state-of e)
-    (subst (λ (r : Result UpTurn Fault). IfOk r (λ t. IsUnasked t.sub.state.begun)) c (up-unasked returns storage old path n))
+    (subst (λ (r : Result UpResult Fault). IfOk r (λ t. IsUnasked t.sub.state.begun)) c (up-unasked returns storage old path n))
 happens-unasked storage old new u v f (Sinks path may owed x t a c e w g) n =
-    let same : IsSameSub old t.sub = subst (λ (r : Result DownTurn Fault). IfOk r (λ t. IsSameSub old t.sub)) c (down-same may old path x) in
+    let same : IsSameSub old t.sub = subst (λ (r : Result DownResult Fault). IfOk r (λ t. IsSameSub old t.sub)) c (down-same may old path x) in
     by-state new old.state (ap state-of e ∙ same.1) n
 happens-unasked storage old new u v f (Is_reported report x t a b c e w g) n =
-    let same : IsSameSub old t.sub = subst (λ (r : Result DownTurn Fault). IfOk r (λ t. IsSameSub old t.sub)) c (report-same old x report) in
+    let same : IsSameSub old t.sub = subst (λ (r : Result DownResult Fault). IfOk r (λ t. IsSameSub old t.sub)) c (report-same old x report) in
     by-state new old.state (ap state-of e ∙ same.1) n
 happens-unasked storage old new u v f (Other_sinks other path may owed x t a b c e w g) n = by-state new old.state (ap state-of e) n
 happens-unasked storage old new u v f (Other_reported other report x t a b c d e w g) n = by-state new old.state (ap state-of e) n
@@ -307,12 +307,12 @@ happens-unasked storage old new u v f (Is_swept what e w g) n = by-state new _ (
 opened-unasked : (sub : Subchannel) (setup : SubchannelSetup) → opened setup ≡ sub → IsUnasked sub.state.begun
 opened-unasked sub setup e = subst (λ (x : Subchannel). IsUnasked x.state.begun) e tt
 
-pub run-unasked : AreWalks → (setup : Setup) → IsLawful setup → (h : List Entry) (s : State) → Run (opening_of setup) h s → (place : ℕ) (sub : Subchannel) →
-    slice_get s.subs place ≡ Some sub → IsUnasked sub.state.begun
-run-unasked walks setup lawful _ _ Opened place sub e =
-    let a : (s : SubchannelSetup) × (slice_get setup.subchannels place ≡ Some s) × (opened s ≡ sub) = map-get opened setup.subchannels place sub e in
+pub run-unasked : AreWalks → (setup : Setup) → IsLawful setup → (h : List Entry) (s : State) → Run (opening_of setup) h s → (index : ℕ) (sub : Subchannel) →
+    slice_get s.subs index ≡ Some sub → IsUnasked sub.state.begun
+run-unasked walks setup lawful _ _ Opened index sub e =
+    let a : (s : SubchannelSetup) × (slice_get setup.subchannels index ≡ Some s) × (opened s ≡ sub) = map-get opened setup.subchannels index sub e in
     opened-unasked sub a.0 a.2
-run-unasked walks setup lawful _ _ (Stepped h old e r new run step) place sub at =
-    let a = step-happens old (run-one-sided walks setup lawful h old run) place e r new (walks old e r new step) sub at in
+run-unasked walks setup lawful _ _ (Stepped h old e r new run step) index sub at =
+    let a = step-happens old (run-one-sided walks setup lawful h old run) index e r new (walks old e r new step) sub at in
     happens-unasked old.storage a.0 sub (slice_get old.units a.0.setup.«unit») (slice_get new.units a.0.setup.«unit») _ a.3
-    (run-unasked walks setup lawful h old run place a.0 a.1)
+    (run-unasked walks setup lawful h old run index a.0 a.1)

@@ -12,14 +12,14 @@ use Rattle.subchannel_model.specs.Opening.{opened}
 use Rattle.machine_model.specs.Steps.{Run, Opened, Stepped}
 use Rattle.step_laws.specs.Walks.{AreWalks}
 use Rattle.run_laws.proofs.Traces.Turns.{IsOneSided, step-happens}
-use Rattle.step_laws.proofs.Places.{map-get, one-place}
+use Rattle.step_laws.proofs.Indices.{map-get, one-index}
 
 -- at the opening, and after each step
 opens-one-sided : (setup : Setup) → IsLawful setup → IsOneSided (opening_of setup)
 opens-one-sided setup lawful i j x y e f u side =
     let a : (s : SubchannelSetup) × (slice_get setup.subchannels i ≡ Some s) × (opened s ≡ x) = map-get opened setup.subchannels i x e in
     let b : (s : SubchannelSetup) × (slice_get setup.subchannels j ≡ Some s) × (opened s ≡ y) = map-get opened setup.subchannels j y f in
-    one-place setup.subchannels i j a.0 b.0 lawful.shared a.1 b.1
+    one-index setup.subchannels i j a.0 b.0 lawful.shared a.1 b.1
     (ap (λ (z : Subchannel). z.setup.«unit») a.2 ∙ (u ∙ ap (λ (z : Subchannel). z.setup.«unit») (sym b.2)))
     (ap (λ (z : Subchannel). same_side z.setup.side b.0.side) a.2 ∙ (ap (λ (z : Subchannel). same_side x.setup.side z.setup.side) b.2 ∙ side))
 

@@ -19,20 +19,20 @@ use Rattle.chan_events.specs.declared.event.UnitAct.{UnitAct}
 use Rattle.chan_events.specs.declared.event.UnitAct.TheVariants as act
 use Rattle.subchannel_model.specs.declared.state.Subchannel.{Subchannel}
 use Rattle.subchannel_model.specs.Sending.{carried_by, finds_full}
-use Rattle.machine_model.specs.Turns.{DownTurn}
+use Rattle.machine_model.specs.Results.{DownResult}
 use Rattle.machine_model.specs.ReportSteps.{with_any_up, report_taken}
 use Rattle.machine_model.specs.ActSteps.{has_path_of_act, acts, act_sub}
 use Rattle.machine_model.specs.Sharing.{owing}
 use Rattle.run_laws.proofs.Units.UnitSides.{same-sides, same-own, same-program, IsStill, still}
 use Rattle.run_laws.proofs.Commands.UnitOrders.{IsNumbered, IsOrdered}
-use Rattle.run_laws.proofs.Units.UnitHands.{IsHeld, IsQuiet, IsQuietStep, if-quiet}
+use Rattle.run_laws.proofs.Units.UnitCurrents.{IsHeld, IsQuiet, IsQuietStep, if-quiet}
 
 -- a program of a side that holds the device held it before
 pub record StaysOwner (side : Side) (t : ℕ) (u v : UnitState) : Type 0 where
   pub owned : is_owner u.own side t ≡ true
   pub last : v.last_command ≡ u.last_command
   pub fresh : (side_of v side).fresh ≡ (side_of u side).fresh
-  pub hand : (v.at_hand ≡ u.at_hand) ⊎ (v.at_hand ≡ marked_again u.at_hand)
+  pub hand : (v.current ≡ u.current) ⊎ (v.current ≡ marked_again u.current)
 
 pub record IsGentle (side : Side) (u v : UnitState) : Type 0 where
   pub floor : (side_of v side).floor ≡ (side_of u side).floor
@@ -42,7 +42,7 @@ abbrev pub IsGentleStep : Side → UnitState → Option UnitStep → Type 0
 IsGentleStep side u step = IsGentle side u (unit_after u step)
 
 -- what leaves a side still is gentle
-of-still : (side : Side) (u v : UnitState) → IsStill side u v → (v.at_hand ≡ u.at_hand) ⊎ (v.at_hand ≡ marked_again u.at_hand) → IsGentle side u v
+of-still : (side : Side) (u v : UnitState) → IsStill side u v → (v.current ≡ u.current) ⊎ (v.current ≡ marked_again u.current) → IsGentle side u v
 of-still side u v s h = record {
   floor = ap (λ (x : SideState). x.floor) s.side_state;
   owner = λ t e. let o = s.owner t e in record { owned = o.0; last = o.1; fresh = ap (λ (x : SideState). x.fresh) s.side_state; hand = h };
@@ -51,13 +51,13 @@ of-still side u v s h = record {
 still-gentle : (side : Side) (u : UnitState) → IsGentle side u u
 still-gentle side u = of-still side u u (still side u) (inl refl)
 
-placed-gentle : (side k : Side) (n : ℕ) (place to : Connection) (u : UnitState) → u.own ≡ own.Owned k n place → IsGentle side u (record u { own = own.Owned k n to })
-placed-gentle side k n place to u o = of-still side u (record u { own = own.Owned k n to }) (same-program side k n place to u o) (inl refl)
+placed-gentle : (side k : Side) (n : ℕ) (connection to : Connection) (u : UnitState) → u.own ≡ own.Owned k n connection → IsGentle side u (record u { own = own.Owned k n to })
+placed-gentle side k n connection to u o = of-still side u (record u { own = own.Owned k n to }) (same-program side k n connection to u o) (inl refl)
 
 -- acts
-leaving_from-gentle : (side : Side) (u : UnitState) (k : Side) (n : ℕ) (place : Connection) → u.own ≡ own.Owned k n place → IsGentleStep side u (leaving_from u k n place)
+leaving_from-gentle : (side : Side) (u : UnitState) (k : Side) (n : ℕ) (connection : Connection) → u.own ≡ own.Owned k n connection → IsGentleStep side u (leaving_from u k n connection)
 leaving_from-gentle side u k n (On p c) o =
-    let v : UnitState = record u { own = own.Owned k n (Away c); at_hand = marked_again u.at_hand } in
+    let v : UnitState = record u { own = own.Owned k n (Away c); current = marked_again u.current } in
     of-still side u v
     (record { side_state = same-sides side u v refl refl; owner = λ t e. (ap (λ (x : Own). is_owner x side t) o ∙ e, refl) }) (inr refl)
 leaving_from-gentle side u k n (Ask p c) o = still-gentle side u
@@ -65,16 +65,16 @@ leaving_from-gentle side u k n (Away c) o = still-gentle side u
 
 leaving-gentle : (side : Side) (u : UnitState) (o : Own) → u.own ≡ o → IsGentleStep side u (leaving u o)
 leaving-gentle side u own.Idle e = still-gentle side u
-leaving-gentle side u (own.Owned k n place) e = leaving_from-gentle side u k n place e
+leaving-gentle side u (own.Owned k n connection) e = leaving_from-gentle side u k n connection e
 
-asking_from-gentle : (side : Side) (u : UnitState) (k : Side) (n : ℕ) (place : Connection) (p : ℕ) → u.own ≡ own.Owned k n place → IsGentleStep side u (asking_from u k n place p)
+asking_from-gentle : (side : Side) (u : UnitState) (k : Side) (n : ℕ) (connection : Connection) (p : ℕ) → u.own ≡ own.Owned k n connection → IsGentleStep side u (asking_from u k n connection p)
 asking_from-gentle side u k n (On q c) p o = still-gentle side u
 asking_from-gentle side u k n (Ask q c) p o = placed-gentle side k n (Ask q c) _ u o
 asking_from-gentle side u k n (Away c) p o = placed-gentle side k n (Away c) _ u o
 
 asking-gentle : (side : Side) (u : UnitState) (o : Own) (p : ℕ) → u.own ≡ o → IsGentleStep side u (asking u o p)
 asking-gentle side u own.Idle p e = still-gentle side u
-asking-gentle side u (own.Owned k n place) p e = asking_from-gentle side u k n place p e
+asking-gentle side u (own.Owned k n connection) p e = asking_from-gentle side u k n connection p e
 
 if-gentle : (side : Side) (u : UnitState) (b : Bool) (x y : Option UnitStep) → IsGentleStep side u x → IsGentleStep side u y → IsGentleStep side u (if b then x else y)
 if-gentle side u true x y e f = e
@@ -94,23 +94,23 @@ act-gentle side u at (act.Attention p named) = if-gentle side u (is_idle u.own &
 act-gentle side u at (act.Notice p named) = if-gentle side u (side_of u at).fresh _ None (still-gentle side u) (still-gentle side u)
 
 -- what an act sends tells nothing of a command
-leaving_from-quiet : (u : UnitState) (k : Side) (n : ℕ) (place : Connection) → IsQuietStep (leaving_from u k n place)
+leaving_from-quiet : (u : UnitState) (k : Side) (n : ℕ) (connection : Connection) → IsQuietStep (leaving_from u k n connection)
 leaving_from-quiet u k n (On p c) = tt
 leaving_from-quiet u k n (Ask p c) = tt
 leaving_from-quiet u k n (Away c) = tt
 
 leaving-quiet : (u : UnitState) (o : Own) → IsQuietStep (leaving u o)
 leaving-quiet u own.Idle = tt
-leaving-quiet u (own.Owned k n place) = leaving_from-quiet u k n place
+leaving-quiet u (own.Owned k n connection) = leaving_from-quiet u k n connection
 
-asking_from-quiet : (u : UnitState) (k : Side) (n : ℕ) (place : Connection) (p : ℕ) → IsQuietStep (asking_from u k n place p)
+asking_from-quiet : (u : UnitState) (k : Side) (n : ℕ) (connection : Connection) (p : ℕ) → IsQuietStep (asking_from u k n connection p)
 asking_from-quiet u k n (On q c) p = tt
 asking_from-quiet u k n (Ask q c) p = tt
 asking_from-quiet u k n (Away c) p = tt
 
 asking-quiet : (u : UnitState) (o : Own) (p : ℕ) → IsQuietStep (asking u o p)
 asking-quiet u own.Idle p = tt
-asking-quiet u (own.Owned k n place) p = asking_from-quiet u k n place p
+asking-quiet u (own.Owned k n connection) p = asking_from-quiet u k n connection p
 
 act-quiet : (u : UnitState) (at : Side) (what : UnitAct) → IsQuietStep (acts u at what)
 act-quiet u at act.Leave = leaving-quiet u u.own
@@ -119,7 +119,7 @@ act-quiet u at (act.Attention p named) = if-quiet (is_idle u.own && not (side_of
 act-quiet u at (act.Notice p named) = if-quiet (side_of u at).fresh _ None tt tt
 
 -- what it leaves of a subchannel that it is told to, and of the unit
-pub record IsActed (sub : Subchannel) (u : UnitState) (t : DownTurn) : Type 0 where
+pub record IsActed (sub : Subchannel) (u : UnitState) (t : DownResult) : Type 0 where
   pub sends : Option (OnPath Up)
   pub sub_is : t.sub ≡ with_any_up sub sends
   pub quiet : IfSome sends (λ x. IsQuiet x.signal)
@@ -177,5 +177,5 @@ gentle-held side number P u v g marked h e =
     let o : StaysOwner side number u v = g.owner number e in
     elim o.hand [
       | inl same ↦ subst P (sym same) (h o.owned)
-      | inr again ↦ subst P (sym again) (marked u.at_hand (h o.owned))
+      | inr again ↦ subst P (sym again) (marked u.current (h o.owned))
     ]

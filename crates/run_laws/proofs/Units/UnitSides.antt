@@ -19,7 +19,7 @@ use Rattle.chan_model.specs.declared.unit_state.Progress.TheVariants as progress
 use Rattle.chan_model.specs.declared.unit_state.SideState.{SideState}
 use Rattle.chan_model.specs.declared.unit_state.UnitState.{UnitState}
 use Rattle.chan_model.specs.Sides.{same_side}
-use Rattle.chan_model.specs.UnitTable.{UnitStep, at_hand_answered, with_given, side_of, with_side, owns, is_owner, freed, raised, unit_takes, unit_after, held, reset_side, without_side}
+use Rattle.chan_model.specs.UnitTable.{UnitStep, current_answered, with_given, side_of, with_side, owns, is_owner, freed, raised, unit_takes, unit_after, held, reset_side, without_side}
 use Rattle.chan_model.proofs.TakenSignals.{IsAt, Takes, Ignores, Notices, Accepts, Denies, Begins, Joins, Leaves, Parts, Answers, Gives, Halts, Frees, Resets, Forgets, takes-by}
 use Rattle.chan_model.specs.UnitReports.{is_outward, is_to_supply, most_of, may_end, shown_end, end_sent, command_begun, report_supplied, answer_taken, report_on, report_of, unit_reports, report_absorbed, sent_again}
 
@@ -46,9 +46,9 @@ pub same-sides : (side : Side) (u v : UnitState) → v.first ≡ u.first → v.s
 same-sides First u v e f = e
 same-sides Second u v e f = f
 
--- the place alone is another
-pub same-program : (side k : Side) (n : ℕ) (place to : Connection) (u : UnitState) → u.own ≡ own.Owned k n place → IsStill side u (record u { own = own.Owned k n to })
-same-program side k n place to u o = record {
+-- the connection alone is another
+pub same-program : (side k : Side) (n : ℕ) (connection to : Connection) (u : UnitState) → u.own ≡ own.Owned k n connection → IsStill side u (record u { own = own.Owned k n to })
+same-program side k n connection to u o = record {
   side_state = same-sides side u (record u { own = own.Owned k n to }) refl refl;
   owner = λ t e. (ap (λ (x : Own). is_owner x side t) o ∙ e, refl);
 }
@@ -58,8 +58,8 @@ no-owner : (side : Side) (u v : UnitState) → side_of v side ≡ side_of u side
 no-owner side u v s o = record { side_state = s; owner = λ t e. absurd (cc (sym (ap (λ (x : Own). is_owner x side t) o) ∙ e)) }
 
 -- with another command at hand
-with-hand : (side : Side) (u : UnitState) (x : Option CurrentCommand) → IsStill side u (record u { at_hand = x })
-with-hand side u x = same-own side u (record u { at_hand = x }) (same-sides side u (record u { at_hand = x }) refl refl) refl refl
+with-hand : (side : Side) (u : UnitState) (x : Option CurrentCommand) → IsStill side u (record u { current = x })
+with-hand side u x = same-own side u (record u { current = x }) (same-sides side u (record u { current = x }) refl refl) refl refl
 
 -- the other side is changed
 other-side : (side k : Side) (u : UnitState) (s : SideState) → same_side k side ≡ false → side_of (with_side u k s) side ≡ side_of u side
@@ -79,11 +79,11 @@ side-last Second u s = refl
 pub same-raised : (side k : Side) (u : UnitState) (s : SideState) → same_side k side ≡ false → IsStill side u (with_side u k s)
 same-raised side k u s e = same-own side u (with_side u k s) (other-side side k u s e) (side-own k u s) (side-last k u s)
 
-pub other-owner : (side k : Side) (n t : ℕ) (place : Connection) → same_side k side ≡ false → is_owner (own.Owned k n place) side t ≡ true → ⊥
-other-owner First First n t place e f = absurd (cc e)
-other-owner First Second n t place e f = absurd (cc f)
-other-owner Second First n t place e f = absurd (cc f)
-other-owner Second Second n t place e f = absurd (cc e)
+pub other-owner : (side k : Side) (n t : ℕ) (connection : Connection) → same_side k side ≡ false → is_owner (own.Owned k n connection) side t ≡ true → ⊥
+other-owner First First n t connection e f = absurd (cc e)
+other-owner First Second n t connection e f = absurd (cc f)
+other-owner Second First n t connection e f = absurd (cc f)
+other-owner Second Second n t connection e f = absurd (cc e)
 
 halted-still : (side : Side) (u : UnitState) → IsStill side u (record u { halted = true })
 halted-still side u = same-own side u (record u { halted = true }) (same-sides side u (record u { halted = true }) refl refl) refl refl
@@ -122,10 +122,10 @@ begun-other side k u t p e = record { side_state = held-side side k e; owner = �
     held-side Second First e = refl
     held-side Second Second e = absurd (cc e)
 
-commanded-other : (side k : Side) (u : UnitState) (t n : ℕ) (place : Connection) (x : Option CurrentCommand) → same_side k side ≡ false → IsAt u k t place → IsStill side u (record u { last_command = n; at_hand = x })
-commanded-other side k u t n place x e is = record {
-  side_state = same-sides side u (record u { last_command = n; at_hand = x }) refl refl;
-  owner = λ m f. absurd (other-owner side k t m place e (sym (ap (λ (o : Own). is_owner o side m) is) ∙ f));
+commanded-other : (side k : Side) (u : UnitState) (t n : ℕ) (connection : Connection) (x : Option CurrentCommand) → same_side k side ≡ false → IsAt u k t connection → IsStill side u (record u { last_command = n; current = x })
+commanded-other side k u t n connection x e is = record {
+  side_state = same-sides side u (record u { last_command = n; current = x }) refl refl;
+  owner = λ m f. absurd (other-owner side k t m connection e (sym (ap (λ (o : Own). is_owner o side m) is) ∙ f));
 }
 
 -- a mild signal, and every signal of the other side, leaves it
@@ -136,15 +136,15 @@ taken-still side u k p _ _ (inl m) (Accepts t above idle) = absurd m
 taken-still side u k p _ _ (inr e) (Accepts t above idle) = begun-other side k u t p e
 taken-still side u k p _ _ (inl m) (Denies t above) = absurd m
 taken-still side u k p _ _ (inr e) (Denies t above) = same-raised side k u _ e
-taken-still side u k p _ _ (inl m) (Begins t n code room place is next) = absurd m
-taken-still side u k p _ _ (inr e) (Begins t n code room place is next) = commanded-other side k u t n place _ e is
+taken-still side u k p _ _ (inl m) (Begins t n code room index is next) = absurd m
+taken-still side u k p _ _ (inr e) (Begins t n code room index is next) = commanded-other side k u t n index _ e is
 taken-still side u k p _ _ h (Joins t c q is) = same-program side k t (Ask q c) (On q c) u is
-taken-still side u k p _ _ h (Leaves t c place is) = still side u
+taken-still side u k p _ _ h (Leaves t c index is) = still side u
 taken-still side u k p _ _ h (Parts t c q is) = same-program side k t (Ask q c) (Away c) u is
-taken-still side u k p _ _ h (Answers t s room place x load is hand last loaded) = with-hand side u (Some (at_hand_answered x load room))
+taken-still side u k p _ _ h (Answers t s room index x load is hand last loaded) = with-hand side u (Some (current_answered x load room))
 taken-still side u k p _ _ h (Gives bytes t c s q x is hand next) = with-hand side u (Some (with_given x s bytes))
-taken-still side u k p _ _ h (Halts t place is first) = halted-still side u
-taken-still side u k p _ _ h (Frees t place is) = freed-still side u
+taken-still side u k p _ _ h (Halts t index is first) = halted-still side u
+taken-still side u k p _ _ h (Frees t index is) = freed-still side u
 taken-still side u k p _ _ (inl m) (Resets r b is) = absurd m
 taken-still side u k p _ _ (inr e) (Resets r b is) = reset-other side u k r e
 taken-still side u k p _ _ h (Forgets a) = same-own side u (record u { attention = None }) (same-sides side u (record u { attention = None }) refl refl) refl refl
@@ -192,7 +192,7 @@ answer-still side u p t c x progress.ChannelEnded answer.Again = still side u
 answer-still side u p t c x progress.Ended answer.Again = still side u
 answer-still side u p t c x other (answer.Ended status more) = ended-still side u p t x (may_end u.halted x other status more) (shown_end other status) more
 
-report_on-still : (side : Side) (u : UnitState) (t : ℕ) (place : Connection) (x : Option CurrentCommand) (r : Report) → IsStillStep side u (report_on u t place x r)
+report_on-still : (side : Side) (u : UnitState) (t : ℕ) (connection : Connection) (x : Option CurrentCommand) (r : Report) → IsStillStep side u (report_on u t connection x r)
 report_on-still side u t (On p c) (Some x) r = if-still side u (r.sequence == x.sequence) _ None (answer-still side u p t c x x.progress r.answer) (still side u)
 report_on-still side u t (On p c) None r = still side u
 report_on-still side u t (Ask p c) x r = still side u
@@ -200,8 +200,8 @@ report_on-still side u t (Away c) x r = still side u
 
 report_of-still : (side : Side) (u : UnitState) (o : Own) (r : Report) → IsStillStep side u (report_of u o r)
 report_of-still side u own.Idle r = still side u
-report_of-still side u (own.Owned k t place) r =
-    if-still side u (same_side k r.side && ((r.number == t) && (r.command == u.last_command))) _ None (report_on-still side u t place u.at_hand r) (still side u)
+report_of-still side u (own.Owned k t connection) r =
+    if-still side u (same_side k r.side && ((r.number == t) && (r.command == u.last_command))) _ None (report_on-still side u t connection u.current r) (still side u)
 
 pub report-still : (side : Side) (u : UnitState) (r : Report) → IsStillStep side u (unit_reports u r)
 report-still side u r = report_of-still side u u.own r

@@ -1,4 +1,4 @@
--- What a unit does with a report that it takes, and what the story of the program is told.
+-- What a unit does with a report that it takes, and what the trace of the program is told.
 use Rattle.std.proofs.Common.{◌≡◌, refl, sym, ◌∙◌, ap, subst, ℕ, ◌≤◌, Bool, true, false, ◌==◌, ◌&&◌, ◌||◌, not, nat_le, length, Option, None, Some, List}
 use Rattle.std.specs.Prelude.{if◌then◌else◌}
 use Rattle.std.proofs.lemmas.Bool.{eqb-true, leb-true, and_parts}
@@ -22,15 +22,15 @@ use Rattle.chan_model.specs.UnitTable.{UnitStep}
 use Rattle.chan_model.specs.UnitReports.{is_outward, is_over, is_settled, is_to_supply, most_of, may_end, shown_end, end_sent, with_absorbed, with_supplied, answer_taken, progress_after_end, report_on, report_of, unit_reports, report_absorbed, sent_again}
 
 -- with another command at hand, and a signal sent
-abbrev pub with_hand : UnitState → CurrentCommand → UnitState
-with_hand u x = record u { at_hand = Some x }
+abbrev pub with_current : UnitState → CurrentCommand → UnitState
+with_current u x = record u { current = Some x }
 
 abbrev pub telling_data : UnitState → ℕ → ℕ → ℕ → CurrentCommand → Load → UnitStep
-telling_data u p t c x l = record { state = with_hand u x; sent = Some (record { path = p; signal = up.Data l t c u.last_command x.sequence }) }
+telling_data u p t c x l = record { state = with_current u x; sent = Some (record { path = p; signal = up.Data l t c u.last_command x.sequence }) }
 
 pub data IsTold (u : UnitState) (p t c : ℕ) (x : CurrentCommand) : DeviceAnswer → UnitStep → Type 0 where
   Begins_out : x.progress ≡ progress.New → IsTold u p t c x answer.Begins (telling_data u p t c (with_absorbed x 0) (load.Absorbed 0))
-  Begins_in : is_outward x.code ≡ false → x.progress ≡ progress.New → IsTold u p t c x answer.Begins (record { state = with_hand u (record x { progress = progress.Working }); sent = None })
+  Begins_in : is_outward x.code ≡ false → x.progress ≡ progress.New → IsTold u p t c x answer.Begins (record { state = with_current u (record x { progress = progress.Working }); sent = None })
   Absorbs : (bytes : List ℕ) (count : ℕ) → x.progress ≡ progress.Working → x.given ≡ Some bytes → count ≤ length bytes →
       IsTold u p t c x (answer.Absorbed count) (telling_data u p t c (with_absorbed x count) (load.Absorbed count))
   Supplies : (bytes : List ℕ) → is_outward x.code ≡ false → x.progress ≡ progress.Working →
@@ -38,7 +38,7 @@ pub data IsTold (u : UnitState) (p t c : ℕ) (x : CurrentCommand) : DeviceAnswe
   Tells_again : (l : Load) → x.unanswered ≡ Some l → x.progress ≡ progress.Working → IsTold u p t c x answer.Again (telling_data u p t c (record x { again = false }) l)
   Ends : (given shown : DeviceStatus) (more : Bool) →
       IsTold u p t c x (answer.Ended given more)
-      (record { state = with_hand u (record x { progress = progress_after_end shown }); sent = Some (record { path = p; signal = up.End t u.last_command shown more }) })
+      (record { state = with_current u (record x { progress = progress_after_end shown }); sent = Some (record { path = p; signal = up.End t u.last_command shown more }) })
 
 abbrev AreTold : UnitState → ℕ → ℕ → ℕ → CurrentCommand → DeviceAnswer → Option UnitStep → Type 0
 AreTold u p t c x a step = (y : UnitStep) → step ≡ Some y → IsTold u p t c x a y
@@ -56,7 +56,7 @@ ended-told u p t c x given shown more false = none-told u p t c x (answer.Ended 
 
 begun-told : (u : UnitState) (p t c : ℕ) (x : CurrentCommand) (out : Bool) → is_outward x.code ≡ out → x.progress ≡ progress.New →
     AreTold u p t c x answer.Begins
-    (if out then Some (telling_data u p t c (with_absorbed x 0) (load.Absorbed 0)) else Some (record { state = with_hand u (record x { progress = progress.Working }); sent = None }))
+    (if out then Some (telling_data u p t c (with_absorbed x 0) (load.Absorbed 0)) else Some (record { state = with_current u (record x { progress = progress.Working }); sent = None }))
 begun-told u p t c x true o e = one-told u p t c x answer.Begins _ (Begins_out e)
 begun-told u p t c x false o e = one-told u p t c x answer.Begins _ (Begins_in o e)
 
@@ -116,11 +116,11 @@ pub record IsReportTaken (u : UnitState) (r : Report) (y : UnitStep) : Type 0 wh
   pub hand : CurrentCommand
   pub own : u.own ≡ own.Owned side r.number (On path connection)
   pub same : same_side side r.side ≡ true
-  pub at_hand : u.at_hand ≡ Some hand
+  pub current : u.current ≡ Some hand
   pub told : IsTold u path r.number connection hand r.answer y
 
-on-taken : (u : UnitState) (k : Side) (t : ℕ) (place : Connection) (x : Option CurrentCommand) (r : Report) (y : UnitStep) → u.own ≡ own.Owned k t place → same_side k r.side ≡ true → r.number ≡ t →
-    u.at_hand ≡ x → report_on u t place x r ≡ Some y → IsReportTaken u r y
+on-taken : (u : UnitState) (k : Side) (t : ℕ) (own_connection : Connection) (x : Option CurrentCommand) (r : Report) (y : UnitStep) → u.own ≡ own.Owned k t own_connection → same_side k r.side ≡ true → r.number ≡ t →
+    u.current ≡ x → report_on u t own_connection x r ≡ Some y → IsReportTaken u r y
 on-taken u k t (On p c) (Some x) r y o s n h e = by (r.sequence == x.sequence) e
   where
     by : (b : Bool) → (if b then answer_taken u p t c x x.progress r.answer else None) ≡ Some y → IsReportTaken u r y
@@ -131,7 +131,7 @@ on-taken u k t (On p c) (Some x) r y o s n h e = by (r.sequence == x.sequence) e
       hand = x;
       own = o ∙ ap (λ (i : ℕ). own.Owned k i (On p c)) (sym n);
       same = s;
-      at_hand = h;
+      current = h;
       told = subst (λ (i : ℕ). IsTold u p i c x r.answer y) (sym n) (answer-told u p t c x x.progress r.answer refl y f);
     }
     by false f = absurd (cc f)
@@ -141,10 +141,10 @@ on-taken u k t (Away c) x r y o s n h e = absurd (cc e)
 
 of-taken : (u : UnitState) (o : Own) (r : Report) (y : UnitStep) → u.own ≡ o → report_of u o r ≡ Some y → IsReportTaken u r y
 of-taken u own.Idle r y o e = absurd (cc e)
-of-taken u (own.Owned k t place) r y o e = by (same_side k r.side) (r.number == t) (r.command == u.last_command) refl refl e
+of-taken u (own.Owned k t connection) r y o e = by (same_side k r.side) (r.number == t) (r.command == u.last_command) refl refl e
   where
-    by : (a b c : Bool) → same_side k r.side ≡ a → (r.number == t) ≡ b → (if a && (b && c) then report_on u t place u.at_hand r else None) ≡ Some y → IsReportTaken u r y
-    by true true true s n f = on-taken u k t place u.at_hand r y o s (eqb-true r.number t n) refl f
+    by : (a b c : Bool) → same_side k r.side ≡ a → (r.number == t) ≡ b → (if a && (b && c) then report_on u t connection u.current r else None) ≡ Some y → IsReportTaken u r y
+    by true true true s n f = on-taken u k t connection u.current r y o s (eqb-true r.number t n) refl f
     by true true false s n f = absurd (cc f)
     by true false c s n f = absurd (cc f)
     by false b c s n f = absurd (cc f)

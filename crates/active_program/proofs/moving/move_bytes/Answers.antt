@@ -9,7 +9,7 @@ use Rattle.chan_model.specs.Signals.{load_bytes}
 use Rattle.storage_keys.specs.Storage.{Contents}
 use Rattle.chan_model.specs.Loads.{load_length}
 use Rattle.chan_model.specs.Signals.{Load}
-use Rattle.active_program.specs.Sent.{came_so}
+use Rattle.active_program.specs.Sent.{outcome_with}
 use Rattle.data_move.specs.FromDevice.{chunk_stored}
 use Rattle.active_program.specs.Stepping.{subchannel_stepped}
 use Rattle.chan_model.specs.Lent.{lent_up}
@@ -29,19 +29,19 @@ chosen-second false x y e = refl
 first-way : (begun : Option ActiveProgram) (out : Bool) (met : SignalOutcome) (first second : ActiveProgram → SignalOutcome) → out ≡ true →
     IfSome begun (λ b. out ≡ is_outward b.transfer.code) → IfSome begun (λ b. met ≡ first b) →
     IfSome begun (λ b. met ≡ (if is_outward b.transfer.code then first b else second b))
-first-way None out met first second t told came = tt
-first-way (Some b) out met first second t told came = came ∙ chosen-first (is_outward b.transfer.code) (first b) (second b) (sym told ∙ t)
+first-way None out met first second t told outcome = tt
+first-way (Some b) out met first second t told outcome = outcome ∙ chosen-first (is_outward b.transfer.code) (first b) (second b) (sym told ∙ t)
 
 second-way : (begun : Option ActiveProgram) (out : Bool) (met : SignalOutcome) (first second : ActiveProgram → SignalOutcome) → out ≡ false →
     IfSome begun (λ b. out ≡ is_outward b.transfer.code) → IfSome begun (λ b. met ≡ second b) →
     IfSome begun (λ b. met ≡ (if is_outward b.transfer.code then first b else second b))
-second-way None out met first second t told came = tt
-second-way (Some b) out met first second t told came = came ∙ chosen-second (is_outward b.transfer.code) (first b) (second b) (sym told ∙ t)
+second-way None out met first second t told outcome = tt
+second-way (Some b) out met first second t told outcome = outcome ∙ chosen-second (is_outward b.transfer.code) (first b) (second b) (sym told ∙ t)
 
 met-so : (begun : Option ActiveProgram) (storage : Contents) (step : UpStep) (after : ActiveProgram → UpStep) →
     IfSome begun (λ b. step ≡ after b) → IfSome begun (λ b. with_storage storage step ≡ with_storage storage (after b))
-met-so None storage step after came = tt
-met-so (Some b) storage step after came = ap (with_storage storage) came
+met-so None storage step after outcome = tt
+met-so (Some b) storage step after outcome = ap (with_storage storage) outcome
 
 pub returns-then-goes_out-clause-step : goal.returns-then-goes_out-clause-step
 returns-then-goes_out-clause-step c =
@@ -49,13 +49,13 @@ returns-then-goes_out-clause-step c =
     let s = c.args.state.now.state in
     let moved = c.args.moved.now in
     let load : Load = load_of (lent_up c.args.signal.now) in
-    let step : UpStep = subchannel_stepped c.give_bytes.new.state.state (came_so c.give_bytes.result c.give_bytes.new.sent) in
-    let came = subst (λ (n : ℕ). IfSome s.begun (λ b. step ≡ give_next storage s b moved n)) c.count_of.ensures c.give_bytes.ensures.step in
+    let step : UpStep = subchannel_stepped c.give_bytes.new.state.state (outcome_with c.give_bytes.result c.give_bytes.new.sent) in
+    let outcome = subst (λ (n : ℕ). IfSome s.begun (λ b. step ≡ give_next storage s b moved n)) c.count_of.ensures c.give_bytes.ensures.step in
     first-way s.begun c.goes_out.result (with_storage storage step)
     (λ b. with_storage storage (give_next storage s b moved (load_length load)))
     (λ b. tells_room_after s b moved (chunk_stored storage b.transfer moved.sequence (load_bytes load)))
     c.if-goes_out.true c.goes_out.ensures
-    (met-so s.begun storage step (λ b. give_next storage s b moved (load_length load)) came)
+    (met-so s.begun storage step (λ b. give_next storage s b moved (load_length load)) outcome)
 
 pub returns-else-goes_out-clause-step : goal.returns-else-goes_out-clause-step
 returns-else-goes_out-clause-step c =
@@ -63,7 +63,7 @@ returns-else-goes_out-clause-step c =
     let s = c.args.state.now.state in
     let moved = c.args.moved.now in
     let load : Load = load_of (lent_up c.args.signal.now) in
-    let met : SignalOutcome = with_storage c.take_bytes.new.storage (subchannel_stepped c.take_bytes.new.state.state (came_so c.take_bytes.result c.take_bytes.new.sent)) in
+    let met : SignalOutcome = with_storage c.take_bytes.new.storage (subchannel_stepped c.take_bytes.new.state.state (outcome_with c.take_bytes.result c.take_bytes.new.sent)) in
     second-way s.begun c.goes_out.result met
     (λ b. with_storage storage (give_next storage s b moved (load_length load)))
     (λ b. tells_room_after s b moved (chunk_stored storage b.transfer moved.sequence (load_bytes load)))

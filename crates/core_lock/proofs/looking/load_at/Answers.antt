@@ -10,7 +10,7 @@ pub load_beside-loaded-requires : goal.load_beside-loaded-requires
 load_beside-loaded-requires c =
     let readers = c.args.readers.now.items in
     let writers = c.args.writers.now.items in
-    let k = c.args.place in
+    let k = c.args.index in
     let r = c.index_mut-reader.result.now in
     let w = c.index_mut.result.now in
     record {
@@ -22,7 +22,7 @@ load_beside-loaded-requires c =
 pub returns-clause-found : goal.returns-clause-found
 returns-clause-found c =
     let writers = c.args.writers.now.items in
-    let k = c.args.place in
+    let k = c.args.index in
     let w = c.index_mut.result.now in
     let v = c.load_beside-loaded.ensures.value in
     shown_there writers k w (slice_get_read writers (length writers) k w refl c.requires.written c.index_mut.ensures.value)
@@ -32,7 +32,7 @@ pub returns-clause-readers : goal.returns-clause-readers
 returns-clause-readers c =
     let readers = c.args.readers.now.items in
     let writers = c.args.writers.now.items in
-    let k = c.args.place in
+    let k = c.args.index in
     let r = c.index_mut-reader.result.now in
     let w = c.index_mut.result.now in
     let v = c.load_beside-loaded.ensures.value in

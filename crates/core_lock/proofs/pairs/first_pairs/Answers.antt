@@ -4,13 +4,13 @@ use Rattle.std.proofs.lemmas.Option.{get_or_from_slice_get}
 use Rattle.subsystem.specs.Keeping.{all_serials}
 use Rattle.core_lock.proofs.pairs.first_pairs.Goals as goal
 
-pub loop-place-preserved : goal.loop-place-preserved
-loop-place-preserved g c =
+pub loop-index-preserved : goal.loop-index-preserved
+loop-index-preserved g c =
     let all = all_serials c.args.subsystem.now.state in
-    let k = c.loop-place.place in
+    let k = c.loop-index.index in
     let x = c.serials_at.result in
-    let before : c.loop-place.pairs.items ≡ take k all = c.loop-place.invariant.pairs in
+    let before : c.loop-index.pairs.items ≡ take k all = c.loop-index.invariant.pairs in
     record {
       pairs = c.in_ok-push.ensures.pushed ∙ ap (λ l. l ++ x ∷ []) before ∙ sym (take_more all k x (omega arith) ∙ ap (λ y. take k all ++ y ∷ []) (get_or_from_slice_get all k x x c.serials_at.ensures.value));
-      given = c.in_ok-push.ensures.given ∙ c.loop-place.invariant.given;
+      given = c.in_ok-push.ensures.given ∙ c.loop-index.invariant.given;
     }

@@ -4,5 +4,5 @@ use Rattle.core_lock.specs.Named.{cells_of, shown}
 use Rattle.core_lock.proofs.Rewriting.{mix}
 use Rattle.core_lock.proofs.pairs.publish_all.Given as goal
 
-abbrev pub invariant-loop-place : goal.invariant-loop-place
-invariant-loop-place g l = (shown l.writers.items ≡ mix l.place (all_serials l.subsystem.state) (shown l.fn.writers.items)) × (cells_of l.writers.items ≡ cells_of l.fn.writers.items) × (length l.writers.items ≡ length l.fn.writers.items)
+abbrev pub invariant-loop-index : goal.invariant-loop-index
+invariant-loop-index g l = (shown l.writers.items ≡ mix l.index (all_serials l.subsystem.state) (shown l.fn.writers.items)) × (cells_of l.writers.items ≡ cells_of l.fn.writers.items) × (length l.writers.items ≡ length l.fn.writers.items)

@@ -3,8 +3,8 @@ use Rattle.std.specs.Prelude.{replicate}
 use Rattle.core_lock.specs.Named.{serials, shown}
 use Rattle.core_lock.proofs.parts.writers_of.Given as goal
 
-abbrev pub invariant-loop-place : goal.invariant-loop-place
-invariant-loop-place g l = record {
-  shown : shown l.writers.items ≡ replicate l._place (serials 0 0);
+abbrev pub invariant-loop-index : goal.invariant-loop-index
+invariant-loop-index g l = record {
+  shown : shown l.writers.items ≡ replicate l._index (serials 0 0);
   given : g.S.Supply.refused l.supply ≡ g.S.Supply.refused l.fn.supply;
 }

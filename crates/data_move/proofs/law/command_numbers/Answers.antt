@@ -1,5 +1,5 @@
 use Rattle.std.specs.Prelude.{◌+◌, true}
-use Rattle.ccw_walk.specs.Places.{after_command_end}
+use Rattle.ccw_walk.specs.Positions.{after_command_end}
 use Rattle.data_move.proofs.Numbers.{goes_to-new, begun-same, located-same, given-same, absorbed-later, brought-later}
 use Rattle.data_move.proofs.law.command_numbers.Goals as goal
 

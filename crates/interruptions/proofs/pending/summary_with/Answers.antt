@@ -1,6 +1,6 @@
 use Rattle.std.proofs.Common.{◌∙◌, sym, ap, ◌==◌, Bool}
 use Rattle.std.specs.Prelude.{if◌then◌else◌}
-use Rattle.interruptions.specs.Places.{has_subclass}
+use Rattle.interruptions.specs.Indices.{has_subclass}
 use Rattle.interruptions.proofs.Bytes.{bit-cleared, bit-set}
 use Rattle.interruptions.proofs.pending.summary_with.Goals as goal
 

@@ -4,7 +4,7 @@ use Rattle.schib_block.specs.Reading.{pmcw_of_words}
 use Rattle.storage_keys.specs.Storage.{operand_at}
 use Rattle.chan_model.specs.declared.answer.Answer.TheVariants as answer
 use Rattle.chan_events.specs.declared.reply.Reply.TheVariants as reply
-use Rattle.machine_model.specs.Turns.{does}
+use Rattle.machine_model.specs.Results.{does}
 use Rattle.io_step.specs.Executing.{state_with_storage}
 use Rattle.io_step.proofs.Executions.{modifies, modifies-not}
 use Rattle.io_step.proofs.absent.modify.Goals as goal

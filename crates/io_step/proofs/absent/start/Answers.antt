@@ -2,7 +2,7 @@ use Rattle.std.proofs.Common.{refl, None}
 use Rattle.storage_keys.specs.Storage.{operand_at}
 use Rattle.chan_model.specs.declared.answer.Answer.TheVariants as answer
 use Rattle.chan_events.specs.declared.reply.Reply.TheVariants as reply
-use Rattle.machine_model.specs.Turns.{does}
+use Rattle.machine_model.specs.Results.{does}
 use Rattle.io_step.specs.Executing.{state_with_storage}
 use Rattle.io_step.proofs.Executions.{starts}
 use Rattle.io_step.proofs.absent.start.Goals as goal

@@ -7,5 +7,5 @@ use Rattle.io_step.proofs.others.engaged_byte.Given as goal
 -- what is in the set once the paths to come are set
 abbrev pub invariant-loop-path : goal.invariant-loop-path
 invariant-loop-path l =
-    let is_engaged = λ (p : ℕ). slice_index_or l.engaged (8 * l.place + p) false in
+    let is_engaged = λ (p : ℕ). slice_index_or l.engaged (8 * l.index + p) false in
     set_each is_engaged l.set l.path-iterator ≡ each_path is_engaged

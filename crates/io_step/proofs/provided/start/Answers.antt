@@ -1,14 +1,14 @@
 use Rattle.std.proofs.Common.{ap, sym, Some}
 use Rattle.storage_keys.specs.Storage.{operand_at}
 use Rattle.machine_model.specs.State.{with_sub}
-use Rattle.machine_model.specs.Turns.{does, at_place}
+use Rattle.machine_model.specs.Results.{does, at_index}
 use Rattle.io_step.specs.Executing.{state_with_storage}
 use Rattle.chan_events.specs.Replies.{reply_of}
 use Rattle.io_step.proofs.Executions.{starts}
 use Rattle.io_step.proofs.provided.start.Goals as goal
 
 pub returns-clause-done : goal.returns-clause-done
-returns-clause-done c = λ word s place there.
+returns-clause-done c = λ word s index there.
     let now = state_with_storage s c.args.storage.now in
-    starts now (Some (record { place = place; sub = c.args.sub.now })) (operand_at c.args.storage.now c.args.cpu c.args.address 12 4) c.in_ok-orb.orb
-    (does (reply_of c.start_sub.result) (with_sub now place c.start_sub.new.sub)) c.in_ok-orb.ensures (sym (ap (at_place now place) c.start_sub.ensures.left))
+    starts now (Some (record { index = index; sub = c.args.sub.now })) (operand_at c.args.storage.now c.args.cpu c.args.address 12 4) c.in_ok-orb.orb
+    (does (reply_of c.start_sub.result) (with_sub now index c.start_sub.new.sub)) c.in_ok-orb.ensures (sym (ap (at_index now index) c.start_sub.ensures.left))

@@ -5,14 +5,14 @@ use Rattle.chan_events.specs.Replies.{Reply}
 use Rattle.subchannel_model.specs.declared.state.Subchannel.{Subchannel}
 use Rattle.subchannel_model.specs.Store.{schib_of}
 use Rattle.machine_model.specs.State.{with_sub}
-use Rattle.machine_model.specs.Turns.{does}
+use Rattle.machine_model.specs.Results.{does}
 use Rattle.io_step.specs.Executing.{state_with_storage}
 use Rattle.io_step.proofs.Executions.{stores-sub}
 use Rattle.io_step.proofs.provided.store.Goals as goal
 
 pub returns : goal.returns
-returns c = λ word s place there.
-    ap (λ (r : Reply). does r (with_sub (state_with_storage s c.store_operand.new.self) place c.args.sub.now)) c.store_reply.ensures
-    ∙ stores-sub s c.args.storage.now c.store_operand.new.self c.args.cpu c.number.result c.args.address place c.args.sub.now c.schib-image.result
+returns c = λ word s index there.
+    ap (λ (r : Reply). does r (with_sub (state_with_storage s c.store_operand.new.self) index c.args.sub.now)) c.store_reply.ensures
+    ∙ stores-sub s c.args.storage.now c.store_operand.new.self c.args.cpu c.number.result c.args.address index c.args.sub.now c.schib-image.result
     c.in_ok-check_operand.field-0 there c.in_ok-check_operand.ensures.checked c.number.ensures.value
     (c.schib-image.ensures ∙ ap (λ (x : Subchannel). image_of (schib_tables (schib_of x))) c.sub.view_is) c.store_operand.ensures

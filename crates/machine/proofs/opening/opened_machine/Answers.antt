@@ -9,7 +9,7 @@ use Rattle.machine.proofs.opening.opened_machine.Goals as goal
 
 pub invariant_of-machine : goal.invariant_of-machine
 invariant_of-machine g c = (
-  subst (λ (subs : List Subchannel). Serves c.new-engines.result subs) (sym c.in_ok-places.ensures.subs)
+  subst (λ (subs : List Subchannel). Serves c.new-engines.result subs) (sym c.in_ok-indices.ensures.subs)
       (subst (λ (table : List (Option ℕ)). Serves table (map opened c.args.config.now.subchannels)) (sym c.new-engines.ensures) (idle-serves c.args.config.now.subchannels)),
-  omega (arith, ap length c.in_ok-places.ensures.units, length-map c.args.config.now.units idle_of, c.in_ok-places.ensures.lawful.units),
+  omega (arith, ap length c.in_ok-indices.ensures.units, length-map c.args.config.now.units idle_of, c.in_ok-indices.ensures.lawful.units),
 )

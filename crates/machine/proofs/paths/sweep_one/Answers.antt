@@ -12,5 +12,5 @@ post-requires c =
 
 pub returns-clause-served : goal.returns-clause-served
 returns-clause-served c =
-    c.change.ensures ∙ (ap (λ (o : Option ℕ). served_at c.args.place o c.engaged-after.result c.args.engines.now) c.engaged-before.ensures.value
-    ∙ ap (λ (o : Option ℕ). served_at c.args.place (engaged c.args.sub.now) o c.args.engines.now) c.engaged-after.ensures.value)
+    c.change.ensures ∙ (ap (λ (o : Option ℕ). served_at c.args.index o c.engaged-after.result c.args.engines.now) c.engaged-before.ensures.value
+    ∙ ap (λ (o : Option ℕ). served_at c.args.index (engaged c.args.sub.now) o c.args.engines.now) c.engaged-after.ensures.value)

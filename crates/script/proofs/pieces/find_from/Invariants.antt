@@ -2,7 +2,7 @@ use Rattle.std.proofs.Common.{◌≡◌, ◌≤◌, ◌<◌, ◌-◌, ℕ, lengt
 use Rattle.script.proofs.pieces.find_from.Given as goal
 
 abbrev pub invariant-loop-next : goal.invariant-loop-next
-invariant-loop-next l = (l.place ≤ l.next) × (l.next ≤ length l.bytes) × ((k : ℕ) → l.place ≤ k → k < l.next → get_or l.bytes k 0 ≡ l.byte → ⊥)
+invariant-loop-next l = (l.index ≤ l.next) × (l.next ≤ length l.bytes) × ((k : ℕ) → l.index ≤ k → k < l.next → get_or l.bytes k 0 ≡ l.byte → ⊥)
 
 abbrev pub decreases-loop-next : goal.decreases-loop-next
 decreases-loop-next l = length l.bytes - l.next

@@ -2,14 +2,14 @@ use Rattle.std.proofs.Common.{rules, ◌-◌, length, drop, arith}
 use Rattle.script.proofs.Parting.{ended, parted, next, last}
 use Rattle.script.proofs.pieces.short_pieces_to.Goals as goal
 
-pub loop-place-preserved : goal.loop-place-preserved
-loop-place-preserved g c =
+pub loop-index-preserved : goal.loop-index-preserved
+loop-index-preserved g c =
     let bytes = c.args.bytes.now in
-    let old = c.loop-place.invariant in
+    let old = c.loop-index.invariant in
     record {
       ordered = omega arith;
-      parts = parted (λ p. p.now) c.loop-place.found.items _ _ _ (c.loop-place.place - c.loop-place.start) (drop c.loop-place.start bytes) _ _ c.in_ok-add.ensures.added (search rules) old.parts
-          (next c.args.separator bytes c.loop-place.start c.loop-place.place old.ordered (search rules) old.before (search rules));
+      parts = parted (λ p. p.now) c.loop-index.found.items _ _ _ (c.loop-index.index - c.loop-index.start) (drop c.loop-index.start bytes) _ _ c.in_ok-add.ensures.added (search rules) old.parts
+          (next c.args.separator bytes c.loop-index.start c.loop-index.index old.ordered (search rules) old.before (search rules));
       before = λ k from to. absurd (omega arith);
       given = search rules;
     }
@@ -17,6 +17,6 @@ loop-place-preserved g c =
 pub returns-clause-parts : goal.returns-clause-parts
 returns-clause-parts g c =
     let bytes = c.args.bytes.now in
-    let old = c.loop-place.invariant in
-    ended (λ p. p.now) c.loop-place.found.items _ _ _ (length bytes - c.loop-place.start) (drop c.loop-place.start bytes) _ c.in_ok-add-2.ensures.added (search rules) old.parts
-    (last c.args.separator bytes c.loop-place.start (omega (arith, old.ordered)) (λ k from to. old.before k from (omega arith)))
+    let old = c.loop-index.invariant in
+    ended (λ p. p.now) c.loop-index.found.items _ _ _ (length bytes - c.loop-index.start) (drop c.loop-index.start bytes) _ c.in_ok-add-2.ensures.added (search rules) old.parts
+    (last c.args.separator bytes c.loop-index.start (omega (arith, old.ordered)) (λ k from to. old.before k from (omega arith)))

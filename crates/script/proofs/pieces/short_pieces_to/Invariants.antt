@@ -2,10 +2,10 @@ use Rattle.std.proofs.Common.{◌≡◌, ◌++◌, ◌≤◌, ◌<◌, ℕ, map,
 use Rattle.script.specs.Pieces as spec
 use Rattle.script.proofs.pieces.short_pieces_to.Given as goal
 
-abbrev pub invariant-loop-place : goal.invariant-loop-place
-invariant-loop-place g l = record {
-  ordered : l.start ≤ l.place;
+abbrev pub invariant-loop-index : goal.invariant-loop-index
+invariant-loop-index g l = record {
+  ordered : l.start ≤ l.index;
   parts : map (λ p. p.now) l.found.items ++ spec.pieces l.separator (drop l.start l.bytes) ≡ spec.pieces l.separator l.bytes;
-  before : (k : ℕ) → l.start ≤ k → k < l.place → get_or l.bytes k 0 ≡ l.separator → ⊥;
+  before : (k : ℕ) → l.start ≤ k → k < l.index → get_or l.bytes k 0 ≡ l.separator → ⊥;
   given : g.S.Supply.refused l.supply ≡ g.S.Supply.refused l.fn.supply;
 }

@@ -15,14 +15,14 @@ slice_bounds-result-end c =
 pub returns-clause-parts : goal.returns-clause-parts
 returns-clause-parts c =
     let line = c.args.line.now in
-    let place = count_trailing_zeros 64 c.args.blanks in
+    let index = count_trailing_zeros 64 c.args.blanks in
     let first = first_of line 32 c.args.blanks c.requires.few c.requires.marked c.requires.some in
-    cut 32 line place (get_or line place 0) (drop (place + 1) line) first.before (λ lt. first.found) (drop_more line place 0 first.within)
-    ∙ ap (λ (ys : List ℕ). take place line ∷ pieces 32 ys) (sym (left line (place + 1)))
+    cut 32 line index (get_or line index 0) (drop (index + 1) line) first.before (λ lt. first.found) (drop_more line index 0 first.within)
+    ∙ ap (λ (ys : List ℕ). take index line ∷ pieces 32 ys) (sym (left line (index + 1)))
 
 pub returns-clause-marked : goal.returns-clause-marked
 returns-clause-marked c =
     let line = c.args.line.now in
-    let place = count_trailing_zeros 64 c.args.blanks in
-    marks-behind line 32 (place + 1) c.args.blanks c.requires.marked
-    ∙ ap (λ (ys : List ℕ). mask_l (map (λ x. eqb x 32) ys)) (sym (left line (place + 1)))
+    let index = count_trailing_zeros 64 c.args.blanks in
+    marks-behind line 32 (index + 1) c.args.blanks c.requires.marked
+    ∙ ap (λ (ys : List ℕ). mask_l (map (λ x. eqb x 32) ys)) (sym (left line (index + 1)))

@@ -2,25 +2,25 @@ use Rattle.std.proofs.Common.{refl}
 use Rattle.script_runner.proofs.Growing.{none_refused_more, not_whole, performed_none, performed_to, stopped_at, whole_if}
 use Rattle.script_runner.proofs.performing.perform.Goals as goal
 
-pub loop-place-init : goal.loop-place-init
-loop-place-init g c = record { performed = performed_none _ _ _; given = λ e. refl }
+pub loop-index-init : goal.loop-index-init
+loop-index-init g c = record { performed = performed_none _ _ _; given = λ e. refl }
 
-pub loop-place-preserved : goal.loop-place-preserved
-loop-place-preserved g c =
-    let i = c.loop-place.invariant in
+pub loop-index-preserved : goal.loop-index-preserved
+loop-index-preserved g c =
+    let i = c.loop-index.invariant in
     let done = c.perform_one-written.ensures in
     record {
-      performed = performed_to _ _ _ _ _ c.args.lines.now c.loop-place.place _ _ _ _ _ _ c.in-Some.ensures.line i.performed done (whole_if _ c.if-not-written.false);
+      performed = performed_to _ _ _ _ _ c.args.lines.now c.loop-index.index _ _ _ _ _ _ c.in-Some.ensures.line i.performed done (whole_if _ c.if-not-written.false);
       given = none_refused_more _ _ _ _ _ _ _ _ _ _ i.given done;
     }
 
 pub returns-then-not-written-clause-performs : goal.returns-then-not-written-clause-performs
 returns-then-not-written-clause-performs g c =
-    let i = c.loop-place.invariant in
+    let i = c.loop-index.invariant in
     let done = c.perform_one-written.ensures in
-    stopped_at _ _ _ _ _ c.args.lines.now c.loop-place.place _ _ _ _ _ _ c.in-Some.ensures.line i.performed done (not_whole _ c.if-not-written.true)
+    stopped_at _ _ _ _ _ c.args.lines.now c.loop-index.index _ _ _ _ _ _ c.in-Some.ensures.line i.performed done (not_whole _ c.if-not-written.true)
 
 pub returns-then-not-written-clause-given : goal.returns-then-not-written-clause-given
 returns-then-not-written-clause-given g c =
-    let i = c.loop-place.invariant in
+    let i = c.loop-index.invariant in
     none_refused_more _ _ _ _ _ _ _ _ _ _ i.given c.perform_one-written.ensures

@@ -10,12 +10,12 @@ use Rattle.signal_step.proofs.turns.report_from.Goals as goal
 pub returns : goal.returns
 returns c =
     let u = c.args.unit.now in
-    let step = report_on u c.args.report.now.number c.args.place.now u.at_hand c.args.report.now in
+    let step = report_on u c.args.report.now.number c.args.connection.now u.current c.args.report.now in
     let path = c.path_from-path.ensures c.args.report.now.number in
     record {
       engaged = ap engaged c.send_any_up.ensures;
       state = ap (λ (s : Subchannel). s.state) c.send_any_up.ensures;
-      gives = report-done c.args.sub.now c.send_any_up.new.sub u c.report_from-reported.new.self step (map_taken lent_up c.lend-came.result)
+      gives = report-done c.args.sub.now c.send_any_up.new.sub u c.report_from-reported.new.self step (map_taken lent_up c.lend-outcome.result)
           (λ e. c.in_default.not-Refused (path ∙ e)) (c.if-report_finds_full.ensures step (sym path)).0
-          (c.lend-came.ensures ∙ c.report_from-reported.ensures.came) c.send_any_up.ensures c.report_from-reported.ensures.state;
+          (c.lend-outcome.ensures ∙ c.report_from-reported.ensures.outcome) c.send_any_up.ensures c.report_from-reported.ensures.state;
     }

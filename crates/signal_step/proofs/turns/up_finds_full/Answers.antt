@@ -24,13 +24,13 @@ returns-then-not-answers_may_find_full c =
 pub returns-in-Some : goal.returns-in-Some
 returns-in-Some c =
     let sub = c.args.sub.now in
-    let sends = λ (x : Subchannel). (takes_up c.args.returns c.args.storage.now x.state c.args.path (lent_up c.args.signal.now)).step.came.sent in
+    let sends = λ (x : Subchannel). (takes_up c.args.returns c.args.storage.now x.state c.args.path (lent_up c.args.signal.now)).step.outcome.sent in
     tells_some sub.state.pmcw.available sub.wires.down (sends sub) c.in-Some.at c.finds_down_full.result
     (ap (λ (x : Subchannel). sent_path (sends x)) (sym c.sub.view_is) ∙ c.in-Some.ensures) c.finds_down_full.ensures
 
 pub returns-in-None : goal.returns-in-None
 returns-in-None c =
     let sub = c.args.sub.now in
-    let sends = λ (x : Subchannel). (takes_up c.args.returns c.args.storage.now x.state c.args.path (lent_up c.args.signal.now)).step.came.sent in
+    let sends = λ (x : Subchannel). (takes_up c.args.returns c.args.storage.now x.state c.args.path (lent_up c.args.signal.now)).step.outcome.sent in
     tells_nothing sub.state.pmcw.available sub.wires.down (sends sub)
     (ap (λ (x : Subchannel). sent_path (sends x)) (sym c.sub.view_is) ∙ (c.answer_path.ensures ∙ c.in-None.is))

@@ -2,7 +2,7 @@ use Rattle.std.proofs.Common.{sym, ◌∙◌, ap, List, Option, Some}
 use Rattle.chan_model.specs.UnitReports.{unit_work}
 use Rattle.chan_model.specs.declared.names.Side.TheVariants.{First, Second}
 use Rattle.subchannel_model.specs.declared.state.Subchannel.{Subchannel}
-use Rattle.subchannel_model.specs.Places.{reached_sub}
+use Rattle.subchannel_model.specs.Indices.{reached_sub}
 use Rattle.machine_model.specs.State.{takes_from, turn_by_work, turn_or}
 use Rattle.machine_model.specs.UnitTurns.{UnitTurn}
 use Rattle.signal_step.proofs.unit_turns.turn_of_unit.Goals as goal

@@ -1,13 +1,13 @@
 use Rattle.std.proofs.Common.{◌≡◌, ◌+◌, ◌-◌, ◌≤◌, length, map, take}
 use Rattle.std.specs.Prelude.{slice_index}
-use Rattle.storage_keys.specs.Storage.{absolute_places}
+use Rattle.storage_keys.specs.Storage.{absolute_addresses}
 use Rattle.storage_keys.proofs.Storage.read_operand.Given as goal
 
 abbrev pub invariant-loop-done : goal.invariant-loop-done
 invariant-loop-done l = record {
   within : l.done ≤ length l.bytes;
   here : l.real ≡ l.fn.address + l.done;
-  read : take l.done l.bytes ≡ map (slice_index l.self.bytes) (absolute_places l.self l.cpu l.fn.address l.done);
+  read : take l.done l.bytes ≡ map (slice_index l.self.bytes) (absolute_addresses l.self l.cpu l.fn.address l.done);
 }
 
 abbrev pub decreases-loop-done : goal.decreases-loop-done

@@ -25,7 +25,7 @@ pub returns-in-Ok-clause-fits : goal.returns-in-Ok-clause-fits
 returns-in-Ok-clause-fits g c =
     let machine = c.args.machine.now in
     let next = c.perform.new.self in
-    fits-kept c.args.places.now machine.subs next.subs (c.setups.ensures.stay machine c.args.event.now c.perform.new.log.reply next c.in-Ok.ensures.performs) c.requires.fits
+    fits-kept c.args.indices.now machine.subs next.subs (c.setups.ensures.stay machine c.args.event.now c.perform.new.log.reply next c.in-Ok.ensures.performs) c.requires.fits
 
 pub returns-in-Ok-clause-answered : goal.returns-in-Ok-clause-answered
 returns-in-Ok-clause-answered g c =

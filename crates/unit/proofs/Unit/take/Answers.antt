@@ -11,7 +11,7 @@ use Rattle.unit.proofs.Unit.take.Goals as goal
 pub returns-clause-answered : goal.returns-clause-answered
 returns-clause-answered c =
     sym (is_some-map_sent plain_up c.takes.result.sent)
-    ∙ (ap (λ (t : Taken Up). is_some t.sent) c.takes.ensures.came
+    ∙ (ap (λ (t : Taken Up). is_some t.sent) c.takes.ensures.outcome
     ∙ (ap (λ (u : UnitState). sends_one (unit_takes u c.args.side c.args.path (lent_down c.args.signal.now) c.args.may)) c.self.view_is
     ∙ sends_one-unit_takes c.args.self.now c.args.side c.args.path (lent_down c.args.signal.now) c.args.may))
 

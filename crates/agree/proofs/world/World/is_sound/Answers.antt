@@ -1,7 +1,7 @@
 use Rattle.std.proofs.Common.{subst}
 use Rattle.agree.specs.Rooms.{WorldAndRoom}
 use Rattle.agree.specs.Promises.{AreSound, EachEnds}
-use Rattle.agree.specs.Turns.{worlds_after}
+use Rattle.agree.specs.Results.{worlds_after}
 use Rattle.agree.proofs.Aparting.{each-leaves}
 use Rattle.agree.proofs.Lasting.{list-well, list-ends, well-sound}
 use Rattle.agree.proofs.world.World.is_sound.Goals as goal

@@ -1,5 +1,5 @@
 use Rattle.std.proofs.Common.{◌≡◌, take}
-use Rattle.agree.specs.Turns.{worlds_after}
+use Rattle.agree.specs.Results.{worlds_after}
 use Rattle.agree.specs.Promises.{AreSound}
 use Rattle.agree.specs.Rooms.{Loses}
 use Rattle.agree.proofs.world.World.run_with.Given as goal

@@ -4,7 +4,7 @@ use Rattle.agree.specs.Bounds.{IsWell}
 use Rattle.agree.specs.Promises.{EndsByEvent, LeavesApart}
 use Rattle.agree.specs.Rooms.{WorldAndRoom, IsFullFor}
 use Rattle.agree.specs.State.{WorldState}
-use Rattle.agree.specs.Turns.{max_steps}
+use Rattle.agree.specs.Results.{max_steps}
 use Rattle.agree.proofs.Aparting.{given-leaves}
 use Rattle.agree.proofs.Lasting.{given-well, given-ends, well-sound}
 use Rattle.agree.proofs.Wanting.{given-spent, given-room}

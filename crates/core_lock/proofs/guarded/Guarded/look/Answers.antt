@@ -4,7 +4,7 @@ use Rattle.std.specs.Arc.{arc_value}
 use Rattle.std.proofs.lemmas.List.{length-set}
 use Rattle.std.proofs.lemmas.Option.{slice_get_read}
 use Rattle.subsystem.specs.Keeping.{IsOrdered}
-use Rattle.core_lock.specs.Directory.{Directory, place_named}
+use Rattle.core_lock.specs.Directory.{Directory, index_named}
 use Rattle.scsw_irb.specs.declared.serials.Serials.{Serials}
 use Rattle.core_lock.specs.Seats.{GuardedCore, HeldSeat, Seated}
 use Rattle.core_lock.specs.Entering.{Looks}
@@ -29,7 +29,7 @@ load_at-found-requires-clause-cells g c = c.seat.invariant.cells ∙ sym c.self.
 pub invariant_of-seat : goal.invariant_of-seat
 invariant_of-seat g c =
     let i = c.seat.invariant in
-    let k = c.in-Some.place in
+    let k = c.in-Some.index in
     let pairs = c.seat.inside.pairs.items in
     let readers = c.seat.inside.readers.items in
     let pair = c.index-pair.result.now in
@@ -55,7 +55,7 @@ pub returns-clause-found : goal.returns-clause-found
 returns-clause-found g c =
     let i = c.seat.invariant in
     let m = c.self.invariant in
-    let k = c.in-Some.place in
+    let k = c.in-Some.index in
     let word = c.args.subchannel in
     let inside = c.seat.inside in
     let state = c.self.inside.subsystem.state in
@@ -78,7 +78,7 @@ returns-clause-found g c =
       left = inside.left;
     } in
     let lt : k < length pairs = omega (arith, c.in-Some.ensures.bound, ap (λ (d : Directory). length d.setups) c.deref.ensures, i.names, i.beside) in
-    let named = ap (λ (d : Directory). place_named d word) (sym c.deref.ensures) ∙ sym c.in-Some.ensures.place in
+    let named = ap (λ (d : Directory). index_named d word) (sym c.deref.ensures) ∙ sym c.in-Some.ensures.index in
     let has = ap (λ (l : List Serials). slice_get l k) (sym m.shown) ∙ c.load_at-found.ensures.found in
     let saw = slice_get_read pairs (length pairs) k pair refl lt c.index-pair.ensures in
     let is = is_named g.J.Naming.setup state g.J.Naming.name.directory m.set_up m.named ∙ sym i.directory in
@@ -90,6 +90,6 @@ returns-clause-found g c =
 pub returns-in_default-clause-refused : goal.returns-in_default-clause-refused
 returns-in_default-clause-refused g c =
     let word = c.args.subchannel in
-    let named = ap (λ (h : HeldSeat). place_named h.value.directory word) (sym c.seat.view_is) ∙ ap (λ (d : Directory). place_named d word) (sym c.deref.ensures)
-    ∙ sym c.in_default.ensures.place in
+    let named = ap (λ (h : HeldSeat). index_named h.value.directory word) (sym c.seat.view_is) ∙ ap (λ (d : Directory). index_named d word) (sym c.deref.ensures)
+    ∙ sym c.in_default.ensures.index in
     (refl, lacks c.args.self.now.value.state c.args.seat.now.value.directory word c.stands.ensures.2 named)

@@ -4,7 +4,7 @@ use Rattle.std.proofs.lemmas.List.{length-set}
 use Rattle.std.proofs.lemmas.Option.{slice_get_read}
 use Rattle.std.proofs.Math.Seq.{map-set_same}
 use Rattle.subsystem.specs.Keeping.{IsOrdered}
-use Rattle.core_lock.specs.Directory.{Directory, place_named}
+use Rattle.core_lock.specs.Directory.{Directory, index_named}
 use Rattle.core_lock.specs.Named.{cell_of, serials}
 use Rattle.core_lock.specs.Seats.{HeldSeat, greater}
 use Rattle.core_lock.proofs.Raising.{set_ordered, greater_ordered}
@@ -13,7 +13,7 @@ use Rattle.core_lock.proofs.locked.Seat.glance.Goals as goal
 pub invariant_of-self : goal.invariant_of-self
 invariant_of-self g c =
     let i = c.self.invariant in
-    let k = c.in-Some.place in
+    let k = c.in-Some.index in
     let pairs = c.self.inside.pairs.items in
     let readers = c.self.inside.readers.items in
     let pair = c.index-pair.result.now in
@@ -36,7 +36,7 @@ invariant_of-self g c =
 pub returns-clause-found : goal.returns-clause-found
 returns-clause-found g c =
     let i = c.self.invariant in
-    let k = c.in-Some.place in
+    let k = c.in-Some.index in
     let pairs = c.self.inside.pairs.items in
     let readers = c.self.inside.readers.items in
     let pair = c.index-pair.result.now in
@@ -46,12 +46,12 @@ returns-clause-found g c =
     let lt : k < length pairs = omega (arith, c.in-Some.ensures.bound, ap (λ (d : Directory). length d.setups) c.deref.ensures, i.names, i.beside) in
     let is = c.self.view_is in
     record {
-      place = k;
+      index = k;
       pair = pair;
       words = w;
       load = record {
         before = was;
-        named = ap (λ (s : HeldSeat). place_named s.value.directory c.args.subchannel) (sym is) ∙ ap (λ (d : Directory). place_named d c.args.subchannel) (sym c.deref.ensures) ∙ sym c.in-Some.ensures.place;
+        named = ap (λ (s : HeldSeat). index_named s.value.directory c.args.subchannel) (sym is) ∙ ap (λ (d : Directory). index_named d c.args.subchannel) (sym c.deref.ensures) ∙ sym c.in-Some.ensures.index;
         saw = ap (λ (s : HeldSeat). slice_get s.value.pairs k) (sym is) ∙ slice_get_read pairs (length pairs) k pair refl lt c.index-pair.ensures;
         had = ap (λ (s : HeldSeat). slice_get s.value.loaded k) (sym is) ∙ slice_get_read readers (length readers) k was refl (omega (arith, lt, i.beside)) c.index_mut-reader.ensures.value;
         cell = c.load-loaded.ensures.cell;

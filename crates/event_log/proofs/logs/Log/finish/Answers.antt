@@ -17,8 +17,8 @@ invariant_of-self c =
     let long = length-take-le log.count log.entries.items is.some in
     let same : found ≡ before =
     c.index_mut.ensures.value ∙ ap (λ (l : List KeptEntry). slice_index_or l log.count found) c.settle.ensures.items ∙ get_or_push ks before found log.count long in
-    let k : KeptEntry = record { start = log.start; event = c.keep_in.new.place; reply = told } in
-    let pushed = ap₂ (λ (l : List KeptEntry) (x : KeptEntry). slice_set l log.count (record x { event = c.keep_in.new.place })) c.settle.ensures.items same ∙ set_at ks before [] k log.count long in
+    let k : KeptEntry = record { start = log.start; event = c.keep_in.new.slot; reply = told } in
+    let pushed = ap₂ (λ (l : List KeptEntry) (x : KeptEntry). slice_set l log.count (record x { event = c.keep_in.new.slot })) c.settle.ensures.items same ∙ set_at ks before [] k log.count long in
     let more = event_bytes c.args.event.now in
     ended-all log.bytes.items more c.add_bytes.new.arena.items log.entries.items _ k log.count c.len-self-inside.result
     (c.add_bytes.ensures.items ∙ ap (λ (xs : List ℕ). log.bytes.items ++ xs) c.bytes.ensures.value) pushed (search rules) is.some is.written c.keep_in.ensures.length
@@ -34,8 +34,8 @@ returns-clause-entries c =
     let long = length-take-le log.count log.entries.items is.some in
     let same : found ≡ before =
     c.index_mut.ensures.value ∙ ap (λ (l : List KeptEntry). slice_index_or l log.count found) c.settle.ensures.items ∙ get_or_push ks before found log.count long in
-    let k : KeptEntry = record { start = log.start; event = c.keep_in.new.place; reply = told } in
-    let pushed = ap₂ (λ (l : List KeptEntry) (x : KeptEntry). slice_set l log.count (record x { event = c.keep_in.new.place })) c.settle.ensures.items same ∙ set_at ks before [] k log.count long in
+    let k : KeptEntry = record { start = log.start; event = c.keep_in.new.slot; reply = told } in
+    let pushed = ap₂ (λ (l : List KeptEntry) (x : KeptEntry). slice_set l log.count (record x { event = c.keep_in.new.slot })) c.settle.ensures.items same ∙ set_at ks before [] k log.count long in
     let more = event_bytes c.args.event.now in
     ap₂ (λ (xs : List ℕ) (l : List KeptEntry). entries_at xs l) (c.add_bytes.ensures.items ∙ ap (λ (xs : List ℕ). log.bytes.items ++ xs) c.bytes.ensures.value) (all-taken log.entries.items _ k log.count pushed is.some)
     ∙ (ended log.bytes.items more ks k c.args.event.now is.written c.keep_in.ensures.kept c.keep_in.ensures.length

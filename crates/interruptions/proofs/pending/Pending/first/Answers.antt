@@ -1,6 +1,6 @@
 use Rattle.std.proofs.Common.{◌∙◌, ap}
 use Rattle.interruptions.specs.Requests.{WaitingRequests}
-use Rattle.interruptions.specs.Places.{first_of}
+use Rattle.interruptions.specs.Indices.{first_of}
 use Rattle.interruptions.proofs.Values.{queue-first}
 use Rattle.interruptions.proofs.pending.Pending.first.Goals as goal
 

@@ -16,9 +16,9 @@ use Rattle.machine.proofs.machine.Machine.choose.Goals as goal
 pub returns : goal.returns
 returns g c =
     let old = the_view c.self.inside in
-    let at = named_at old c.args.self.now c.args.word c.in-Some.place c.place_of.result c.self.view_is c.place_of.ensures.place c.in-Some.is in
-    let stands = at_seen old.subs c.args.self.now.subs c.in-Some.place c.index_mut-sub.result.now (ap (λ (s : State). s.subs) c.self.view_is) c.in-Some.ensures.bound c.index_mut-sub.ensures.value in
-    let both = chooses g.P.PathChoice.picks old c.args.self.now c.args.word c.in-Some.place c.index_mut-sub.result.now c.index.result.now c.choose_sub-answer.new.sub
+    let at = named_at old c.args.self.now c.args.word c.in-Some.index c.index_of.result c.self.view_is c.index_of.ensures.index c.in-Some.is in
+    let stands = at_seen old.subs c.args.self.now.subs c.in-Some.index c.index_mut-sub.result.now (ap (λ (s : State). s.subs) c.self.view_is) c.in-Some.ensures.bound c.index_mut-sub.ensures.value in
+    let both = chooses g.P.PathChoice.picks old c.args.self.now c.args.word c.in-Some.index c.index_mut-sub.result.now c.index.result.now c.choose_sub-answer.new.sub
     c.paths_to_choose-paths.result c.choose-path.result c.chosen-what.result (plain_outcome c.choose_sub-answer.result) c.post.new.pending c.self.view_is at stands c.index.ensures
     (c.paths_to_choose-paths.ensures ∙ ap (λ (subs : List Subchannel). paths_to_choose subs c.index.result.now) (c.of-served.ensures ∙ c.as_slice.ensures.value))
     c.choose-path.ensures.law (subst (λ (last : Option ℕ). g.P.PathChoice.picks c.paths_to_choose-paths.result last c.choose-path.result) c.last_path_of.ensures c.choose-path.ensures.rule)
@@ -27,28 +27,28 @@ returns g c =
 
 pub returns-in_default : goal.returns-in_default
 returns-in_default g c =
-    let both = chooses-none g.P.PathChoice.picks c.args.self.now c.args.word (sym c.place_of.ensures.place ∙ c.in_default.is) in
+    let both = chooses-none g.P.PathChoice.picks c.args.self.now c.args.word (sym c.index_of.ensures.index ∙ c.in_default.is) in
     record { performs = both.0; ruled = both.1 }
 
 pub invariant_of-self : goal.invariant_of-self
 invariant_of-self g c =
     let old = the_view c.self.inside in
-    let place = c.in-Some.place in
+    let index = c.in-Some.index in
     let sub = c.index_mut-sub.result.now in
     let after = c.choose_sub-answer.new.sub in
     let answer = plain_outcome c.choose_sub-answer.result in
-    let at = named_at old c.args.self.now c.args.word place c.place_of.result c.self.view_is c.place_of.ensures.place c.in-Some.is in
-    let stands = at_seen old.subs c.args.self.now.subs place sub (ap (λ (s : State). s.subs) c.self.view_is) c.in-Some.ensures.bound c.index_mut-sub.ensures.value in
-    let both = chooses g.P.PathChoice.picks old c.args.self.now c.args.word place sub c.index.result.now after
+    let at = named_at old c.args.self.now c.args.word index c.index_of.result c.self.view_is c.index_of.ensures.index c.in-Some.is in
+    let stands = at_seen old.subs c.args.self.now.subs index sub (ap (λ (s : State). s.subs) c.self.view_is) c.in-Some.ensures.bound c.index_mut-sub.ensures.value in
+    let both = chooses g.P.PathChoice.picks old c.args.self.now c.args.word index sub c.index.result.now after
     c.paths_to_choose-paths.result c.choose-path.result c.chosen-what.result answer c.post.new.pending c.self.view_is at stands c.index.ensures
     (c.paths_to_choose-paths.ensures ∙ ap (λ (subs : List Subchannel). paths_to_choose subs c.index.result.now) (c.of-served.ensures ∙ c.as_slice.ensures.value))
     c.choose-path.ensures.law (subst (λ (last : Option ℕ). g.P.PathChoice.picks c.paths_to_choose-paths.result last c.choose-path.result) c.last_path_of.ensures c.choose-path.ensures.rule)
     c.chosen-what.ensures.chosen c.choose_sub-answer.ensures.gives (c.post.ensures ∙ ap (λ (n : ℕ). posted_since n c.choose_sub-answer.new.sub old.requests) c.made_by-made.ensures) in (
-      subst (λ (s : State). Serves c.change.new.self (slice_set s.subs place after)) (sym c.self.view_is)
-          (served-performed c.engines.ensures.alone c.self.inside.engines c.change.new.self c.args.self.now _ (event.Choose c.args.word) answer place sub after
-          c.engaged-before.result c.engaged-after.result (ap (λ (s : State). slice_get s.subs place) (sym c.self.view_is) ∙ gets old.subs place sub stands)
+      subst (λ (s : State). Serves c.change.new.self (slice_set s.subs index after)) (sym c.self.view_is)
+          (served-performed c.engines.ensures.alone c.self.inside.engines c.change.new.self c.args.self.now _ (event.Choose c.args.word) answer index sub after
+          c.engaged-before.result c.engaged-after.result (ap (λ (s : State). slice_get s.subs index) (sym c.self.view_is) ∙ gets old.subs index sub stands)
           (subst (λ (s : State). Serves c.self.inside.engines s.subs) c.self.view_is c.self.invariant.0) both.0
-          (ap (λ (s : State). slice_set s.subs place after) c.self.view_is)
+          (ap (λ (s : State). slice_set s.subs index after) c.self.view_is)
           c.engaged-before.ensures.value c.engaged-after.ensures.value c.change.ensures),
       c.self.invariant.1,
     )
@@ -56,7 +56,7 @@ invariant_of-self g c =
 pub post-requires : goal.post-requires
 post-requires g c =
     let old = the_view c.self.inside in
-    let stands = at_seen old.subs c.args.self.now.subs c.in-Some.place c.index_mut-sub.result.now (ap (λ (s : State). s.subs) c.self.view_is) c.in-Some.ensures.bound c.index_mut-sub.ensures.value in
-    postable-at old.subs c.in-Some.place c.index_mut-sub.result.now c.choose_sub-answer.new.sub c.self.inside.pending.numbers stands
+    let stands = at_seen old.subs c.args.self.now.subs c.in-Some.index c.index_mut-sub.result.now (ap (λ (s : State). s.subs) c.self.view_is) c.in-Some.ensures.bound c.index_mut-sub.ensures.value in
+    postable-at old.subs c.in-Some.index c.index_mut-sub.result.now c.choose_sub-answer.new.sub c.self.inside.pending.numbers stands
     (subst (λ (s : State). All IsPostable s.subs) (sym c.self.view_is) c.requires.postable) c.choose_sub-answer.ensures.setup
     (ap (λ (s : State). s.requests.numbers) c.self.view_is ∙ c.requires.requests)
