@@ -29,7 +29,7 @@ abbrev pub acts_from_next : Contents → WalkPosition → Option ℕ → Sequenc
 acts_from_next storage old next =
     elim next [ None ↦ Nothing | Some address ↦ acts_from_fetch storage old (fetch_act storage old.orb old.role address) ]
 
--- the acts by which a program goes on from its place
+-- the acts by which a program goes on from its position
 abbrev pub advance_acts : Contents → WalkPosition → Sequence Act
 advance_acts storage old = acts_from_next storage old old.next
 

@@ -65,7 +65,7 @@ pub struct NotMade<P: PathChoice + Drop> {
     pub parts: Parts,
 }
 
-/// An index at a machine, with the log of what was entered from it, and what it saw of the serials of each subchannel.
+/// A seat at a machine, with the log of what was entered from it, and what it saw of the serials of each subchannel.
 #[derive(Drop)]
 pub struct Seat<J: Naming> {
     pub(crate) number: u16,

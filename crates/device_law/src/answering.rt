@@ -19,7 +19,7 @@ pub fn answer<D: Device>(device: &mut D, call: &Call) -> DeviceAnswer
     slot
 }
 
-/// Makes the call, as `answer` does; its bytes are lent, and the answer is written into its place.
+/// Makes the call, as `answer` does; its bytes are lent, and the answer is written into its slot.
 pub fn answer_to<D: Device>(device: &mut D, call: &LentCall<'_>, slot: &mut DeviceAnswer)
     ensures law { IsAnswer (lent_call call.now) slot.new }
     ensures answers { D.answers device.old (lent_call call.now) slot.new device.new }
@@ -36,7 +36,7 @@ pub fn answer_to<D: Device>(device: &mut D, call: &LentCall<'_>, slot: &mut Devi
     }
 }
 
-/// The answer that bytes of a write were absorbed, written into its place.
+/// The answer that bytes of a write were absorbed, written into its slot.
 #[inline(never)]
 fn absorb_to<D: Device>(device: &mut D, bytes: &[u8], slot: &mut DeviceAnswer)
     requires { length bytes.now ≤ 256 }
@@ -48,7 +48,7 @@ fn absorb_to<D: Device>(device: &mut D, bytes: &[u8], slot: &mut DeviceAnswer)
     *slot = DeviceAnswer::Absorbed(count);
 }
 
-/// The answer that has bytes, written into its place.
+/// The answer that has bytes, written into its slot.
 #[inline(never)]
 fn supply_to<D: Device>(device: &mut D, most: u16, slot: &mut DeviceAnswer)
     ensures law { IsAnswer (call_spec.Supply most) slot.new }
@@ -58,7 +58,7 @@ fn supply_to<D: Device>(device: &mut D, most: u16, slot: &mut DeviceAnswer)
     *slot = DeviceAnswer::Supplied(device.supply(usize::from(most)));
 }
 
-/// The answer to an initial status, written into its place: an empty one begins the command, any other ends it or its channel's part.
+/// The answer to an initial status, written into its slot: an empty one begins the command, any other ends it or its channel's part.
 fn initial_to<D: Device>(device: &mut D, code: u8, slot: &mut DeviceAnswer)
     ensures law { IsAnswer (call_spec.Initial code) slot.new }
     ensures answers { D.answers device.old (call_spec.Initial code) slot.new device.new }

@@ -96,7 +96,7 @@ index_of s word = index_of_id s.subs (subchannel_named s.sets word)
 abbrev pub sub_of : State → ℕ → Option Subchannel
 sub_of s word = sub_at s.subs (index_of s word)
 
--- the same with its place
+-- the same with its index
 abbrev pub found_of : State → ℕ → Option Found
 found_of s word = found_at s.subs (index_of s word)
 

@@ -39,7 +39,7 @@ impl EventBuffers {
     }
 }
 
-/// Writes to its place that a subchannel takes a signal.
+/// Writes to its slot that a subchannel takes a signal.
 pub(crate) fn write_up(slot: &mut Event, word: u32, index: u32)
     ensures { slot.new ≡ event_spec.Up word index }
 {
@@ -55,7 +55,7 @@ pub(crate) fn write_up(slot: &mut Event, word: u32, index: u32)
     }
 }
 
-/// Writes to its place that a unit takes a signal.
+/// Writes to its slot that a unit takes a signal.
 pub(crate) fn write_down(slot: &mut Event, word: u32, index: u32)
     ensures { slot.new ≡ event_spec.Down word index }
 {
@@ -71,7 +71,7 @@ pub(crate) fn write_down(slot: &mut Event, word: u32, index: u32)
     }
 }
 
-/// Writes to its place that a path is chosen for a subchannel.
+/// Writes to its slot that a path is chosen for a subchannel.
 pub(crate) fn write_choose(slot: &mut Event, word: u32)
     ensures { slot.new ≡ event_spec.Choose word }
 {
@@ -81,7 +81,7 @@ pub(crate) fn write_choose(slot: &mut Event, word: u32)
     }
 }
 
-/// Writes to its place that a CPU executes an instruction.
+/// Writes to its slot that a CPU executes an instruction.
 pub(crate) fn write_execute(slot: &mut Event, by: Cpu, given: Instruction)
     ensures { slot.new ≡ event_spec.Execute by given }
 {

@@ -156,7 +156,7 @@ impl<J: Naming> ScriptedMachine<J> {
         self.core.subsystem().last_reply()
     }
 
-    /// Performs the event that is kept so, whose bytes stand there, from its place.
+    /// Performs the event that is kept so, whose bytes stand there, from its slot.
     fn perform<M: Supply>(
         &mut self,
         supply: &mut M,

@@ -36,7 +36,7 @@ reached_in index side subs = first_index (reaches index side) subs
 abbrev pub reached_sub : ℕ → Side → List Subchannel → Option Subchannel
 reached_sub index side subs = sub_at subs (reached_in index side subs)
 
--- a subchannel, and its place among all
+-- a subchannel, and its index among all
 pub record Found : Type 0 where
   pub index : ℕ
   pub sub : Subchannel

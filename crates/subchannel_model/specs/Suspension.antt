@@ -8,7 +8,7 @@ use Rattle.subchannel_model.specs.declared.state.SubchannelState.{SubchannelStat
 use Rattle.subchannel_model.specs.declared.cause.StatusCause.TheVariants as cause
 use Rattle.subchannel_model.specs.Causes.{with_cause}
 
--- the program is kept, with its place and the residual count. No start waits behind a program that goes on
+-- the program is kept, with its position and the residual count. No start waits behind a program that goes on
 abbrev pub with_suspended_program : SubchannelState → Program → WalkPosition → ℕ → SubchannelState
 with_suspended_program s program walk count =
     record s { waiting = None; begun = None; suspended = Some (record { program = program; walk = walk; count = count }) }

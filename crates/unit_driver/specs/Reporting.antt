@@ -12,7 +12,7 @@ use Rattle.unit_driver.specs.declared.reporting.NextReport.{NextReport}
 use Rattle.unit_driver.specs.declared.reporting.NextReport.TheVariants.{Told, Asked, Nothing}
 use Rattle.unit_driver.specs.declared.turns.OwedCall.{OwedCall}
 
--- the report of what a device answered to a call that was owed, of the place of the call
+-- the report of what a device answered to a call that was owed, of the command and chunk of the call
 abbrev pub report_of : OwedCall → DeviceAnswer → WaitingReport
 report_of owed answer = record {
   «unit» = owed.«unit»;
@@ -24,7 +24,7 @@ report_of owed answer = record {
 abbrev pub IsMade : {D : Type 0} → (D → Call → DeviceAnswer → D → Type 0) → OwedCall → D → WaitingReport → D → Type 0
 IsMade answers owed old kept new = (answer : DeviceAnswer) × answers old owed.call answer new × (kept ≡ report_of owed answer)
 
--- a call of a unit's device that is asked for, with the place that it is of
+-- a call of a unit's device that is asked for, with the command and chunk that it is of
 pub record AskedCall : Type 0 where
   pub side : Side
   pub number : ℕ
@@ -50,7 +50,7 @@ next_of None (Works w) = next_by_work w
 next_of None (Away path) = Nothing
 next_of None Rests = Nothing
 
--- what a place for a report has of it: all, or the place of the call that is still to be answered
+-- what a slot for a report has of it: all, or the command and chunk of the call that is still to be answered
 abbrev pub call_in : Report → Call → AskedCall
 call_in report call = record { side = report.side; number = report.number; command = report.command; sequence = report.sequence; call = call }
 

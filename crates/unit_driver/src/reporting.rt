@@ -50,8 +50,8 @@ impl OwedCall {
     }
 }
 
-/// Writes the report that a unit hands in next into a place: the one that is kept for it, else that of its work. Where it is
-/// what the device answers to a call, the call is answered, and the place lacks the answer alone.
+/// Writes the report that a unit hands in next into a slot: the one that is kept for it, else that of its work. Where it is
+/// what the device answers to a call, the call is answered, and the slot lacks the answer alone.
 pub fn next_report<'a>(
     kept: &Option<WaitingReport>,
     turn: &UnitTurn<LentWork<'a>>,
@@ -91,7 +91,7 @@ pub fn reported<D: Device>(
     }
 }
 
-/// A report that no one made, as a place for one.
+/// A report that no one made, as a slot for one.
 pub fn no_report() -> Report {
     Report {
         side: Side::First,
@@ -102,7 +102,7 @@ pub fn no_report() -> Report {
     }
 }
 
-/// Writes the report of a work into a place, which lacks the answer to a call where there is one.
+/// Writes the report of a work into a slot, which lacks the answer to a call where there is one.
 fn next_by_work<'a>(work: &LentWork<'a>, report: &mut Report) -> NextReport<(), LentCall<'a>>
     ensures { spec.next_in result report.new ≡ spec.next_by_work (lent_work work.now) }
 {
@@ -127,7 +127,7 @@ fn next_by_work<'a>(work: &LentWork<'a>, report: &mut Report) -> NextReport<(), 
     }
 }
 
-/// Writes the same report into a place.
+/// Writes the same report into a slot.
 #[cold]
 #[inline(never)]
 fn copy_to(kept: &Report, report: &mut Report)

@@ -18,7 +18,7 @@ pub struct TakenCommand {
     pub command: u64,
 }
 
-/// A call of a unit's device that is owed, with the command and the place that it is of.
+/// A call of a unit's device that is owed, with the command and the chunk that it is of.
 #[derive(Drop)]
 pub struct OwedCall {
     pub unit: u32,
