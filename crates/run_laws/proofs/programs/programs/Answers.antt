@@ -13,7 +13,7 @@ returns c =
       stays = c.pieces.ensures.stays;
       moved = c.pieces.ensures.moved;
       places = c.pieces.ensures.places;
-      leads = c.places.ensures;
+      leads = c.positions.ensures;
       stands = c.advances.ensures.stands;
       goes = c.programs.ensures;
     } in
