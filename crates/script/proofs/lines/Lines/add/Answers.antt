@@ -10,7 +10,7 @@ pub returns-clause-added : goal.returns-clause-added
 returns-clause-added g c =
     let lines = c.self.inside in
     let bytes = c.bytes.result.now in
-    let kept : KeptLine = record { number = c.args.number; start = c.len-start.result; action = c.args.index.now.kept } in
+    let kept : KeptLine = record { number = c.args.number; start = c.len-start.result; action = c.args.slot.now.kept } in
     ap₂ lines_at c.in_ok-add_bytes.ensures.added
     (c.push.ensures ∙ ap (λ (ks : List KeptLine). ks ++ kept ∷ []) c.reserve.ensures.items)
     ∙ lines-added lines.bytes.items bytes lines.kept.items kept c.self.invariant (record { start = search rules; long = sym c.bytes.ensures.length })
