@@ -40,7 +40,7 @@ use subchannel_model::state::{ActiveProgram, Program, ProgramPosition};
 
 /// Where the program that was offered goes on: the number of its start, and the path that its device is reached by.
 #[derive(Clone, Copy)]
-struct Connection {
+struct AcceptedOffer {
     number: u64,
     path: Path,
 }
@@ -170,19 +170,19 @@ fn tell_first(storage: &Storage, begun: &mut ActiveProgram, number: u64) -> Plai
 fn send_first(
     storage: &Storage,
     state: &mut PackedState,
-    connection: Connection,
+    offer: AcceptedOffer,
     program: Program,
     first: Transfer,
     sent: &mut SentDown,
 ) -> Met
     requires { state.old.state.serials.made < 2 ^ 63 }
-    ensures step { subchannel_stepped state.new.state (outcome_with result sent.new) ≡ on_accept.sends_first_command state.old.state connection.path connection.number program (transfer_spec.begun_with_room storage.now first) }
+    ensures step { subchannel_stepped state.new.state (outcome_with result sent.new) ≡ on_accept.sends_first_command state.old.state offer.path offer.number program (transfer_spec.begun_with_room storage.now first) }
     ensures setup { state.new.setup ≡ state.old.setup }
 {
     take_over(state, program, first);
     if let Some(begun) = &mut state.rest_mut().begun {
-        let signal = tell_first(storage, begun, connection.number);
-        sent.put(connection.path, &signal.lend());
+        let signal = tell_first(storage, begun, offer.number);
+        sent.put(offer.path, &signal.lend());
     }
     interrupt(state);
     Met::Taken
@@ -234,14 +234,14 @@ fn check_first(
 fn begin_as(
     storage: &Storage,
     state: &mut PackedState,
-    connection: Connection,
+    offer: AcceptedOffer,
     standing: &ProgramPosition,
     first: FirstBlock,
     sent: &mut SentDown,
 ) -> Met
     requires { state.old.state.serials.made < 2 ^ 63 }
     ensures step { subchannel_stepped state.new.state (outcome_with result sent.new) ≡
-        on_accept.first_ccw_outcome storage.now state.old.state connection.path connection.number standing.now first.walk
+        on_accept.first_ccw_outcome storage.now state.old.state offer.path offer.number standing.now first.walk
         (transfer_spec.command_begins first.walk 1 first.advance) }
     ensures setup { state.new.setup ≡ state.old.setup }
 {
@@ -249,7 +249,7 @@ fn begin_as(
     match first.advance {
         Some(Advance::Takes(ccw)) => {
             let command = command_of(walk, 1, ccw);
-            send_first(storage, state, connection, standing.program, command, sent)
+            send_first(storage, state, offer, standing.program, command, sent)
         }
         Some(Advance::Suspends) => suspend_first(state, standing, walk, sent),
         Some(Advance::Stops(check)) => {
@@ -262,33 +262,33 @@ fn begin_as(
 fn begin_with(
     storage: &Storage,
     state: &mut PackedState,
-    connection: Connection,
+    offer: AcceptedOffer,
     standing: &ProgramPosition,
     sent: &mut SentDown,
 ) -> Met
     requires { state.old.state.serials.made < 2 ^ 63 }
-    ensures step { subchannel_stepped state.new.state (outcome_with result sent.new) ≡ on_accept.begins_with storage.now state.old.state connection.path connection.number standing.now (transfer_spec.first_command storage.now standing.now.walk) }
+    ensures step { subchannel_stepped state.new.state (outcome_with result sent.new) ≡ on_accept.begins_with storage.now state.old.state offer.path offer.number standing.now (transfer_spec.first_command storage.now standing.now.walk) }
     ensures setup { state.new.setup ≡ state.old.setup }
 {
     let mut walk = standing.walk;
     let advance = walk.advance(storage);
     let first = FirstBlock { walk, advance };
-    begin_as(storage, state, connection, standing, first, sent)
+    begin_as(storage, state, offer, standing, first, sent)
 }
 
 fn begin_standing(
     storage: &Storage,
     state: &mut PackedState,
-    connection: Connection,
+    offer: AcceptedOffer,
     sent: &mut SentDown,
 ) -> Met
     requires { state.old.state.serials.made < 2 ^ 63 }
-    ensures step { subchannel_stepped state.new.state (outcome_with result sent.new) ≡ on_accept.begins_at storage.now state.old.state connection.path connection.number (on_accept.offered_position state.old.state) }
+    ensures step { subchannel_stepped state.new.state (outcome_with result sent.new) ≡ on_accept.begins_at storage.now state.old.state offer.path offer.number (on_accept.offered_position state.old.state) }
     ensures setup { state.new.setup ≡ state.old.setup }
 {
     match standing(state) {
         None => quiet(sent),
-        Some(standing) => begin_with(storage, state, connection, &standing, sent),
+        Some(standing) => begin_with(storage, state, offer, &standing, sent),
     }
 }
 
@@ -312,7 +312,7 @@ fn accepted_by(storage: &Storage, state: &mut PackedState, met: Met, sent: &mut 
     match phase {
         HoldPhase::On { number, path, .. } => {
             state.use_path(path);
-            begin_standing(storage, state, Connection { number, path }, sent)
+            begin_standing(storage, state, AcceptedOffer { number, path }, sent)
         }
         HoldPhase::Letting { path, .. } => {
             state.use_path(path);

@@ -228,7 +228,7 @@ attn-agrees u side n h (hold.Away v) x a may comes = tt
 attn-agrees u side n h (hold.Letting v q) x a may comes = tt
 attn-agrees u side n h (hold.Reset r) x a may comes = tt
 
-notice-agrees : (u : UnitState) (side : Side) (n : ℕ) (h : HoldState) (p b : ℕ) (more taken : Bool) → Agreed (holding_of u) side (up_of p (up.Notice b)) taken (if more then reset_again n (record h { known = b }) else still n h).sent
+notice-agrees : (u : UnitState) (side : Side) (n : ℕ) (h : HoldState) (p b : ℕ) (more taken : Bool) → Agreed (holding_of u) side (up_of p (up.Notice b)) taken (if more then reset_again n (record h { known_restarts = b }) else still n h).sent
 notice-agrees u side n h p b true true = (tt, tt)
 notice-agrees u side n h p b true false = tt
 notice-agrees u side n h p b false true = (tt, tt)
@@ -251,7 +251,7 @@ takes-agrees u side n h p (up.End t m status more) may a =
     (λ e. held-agrees u side h.phase t (on-held h.phase t (and_parts (is_on h.phase t) may e).0) a)
 takes-agrees u side n h p (up.Released t) may a = released-agrees u side n h h.phase p t
 takes-agrees u side n h p (up.Cleared r) may a = cleared-agrees u side n h h.phase p r
-takes-agrees u side n h p (up.Notice b) may a = notice-agrees u side n h p b (nat_lt h.known b) _
+takes-agrees u side n h p (up.Notice b) may a = notice-agrees u side n h p b (nat_lt h.known_restarts b) _
 takes-agrees u side n h p (up.Attn x status) may a = attn-agrees u side n h h.phase (up_of p (up.Attn x status)) x may tt
 
 agreed-at : Means → (w : WorldState) (s : Side) → IsGood (links_of w) → IsAgreedAt (line_of w s).link.hold.phase w.«unit» s

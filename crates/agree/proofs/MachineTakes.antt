@@ -72,7 +72,7 @@ reset-taken : (s : SubchannelState) (step : Option HoldStep) → (takes_cleared 
 reset-taken s None e = e
 reset-taken s (Some step) e = e
 
-notice-taken : (h : HoldState) (b : ℕ) (more : Bool) → more ≡ true → (outcome_of (if more then Some (hold_quietly (record h { known = b })) else None)).taken ≡ true
+notice-taken : (h : HoldState) (b : ℕ) (more : Bool) → more ≡ true → (outcome_of (if more then Some (hold_quietly (record h { known_restarts = b })) else None)).taken ≡ true
 notice-taken h b true e = cc
 notice-taken h b false e = absurd (cc e)
 
@@ -88,7 +88,7 @@ machine-takes returns storage s p (up.End t n status more) e =
     with-true (is_on s.hold.phase t) (if-step (is_on s.hold.phase t) (ends_at_work storage s s.begun signal) (signal_ignored s) refl e)
 machine-takes returns storage s p (up.Cleared r) e = reset-taken s (reset_cleared s.hold s.hold.phase r) e
 machine-takes returns storage s p (up.Back t c) e = back-taken s.hold s.hold.phase p t c returns e
-machine-takes returns storage s p (up.Notice b) e = notice-taken s.hold b (nat_lt s.hold.known b) (if-step (nat_lt s.hold.known b) (signal_taken (reset_for (record s { hold = record s.hold { known = b } }))) (signal_ignored s) refl e)
+machine-takes returns storage s p (up.Notice b) e = notice-taken s.hold b (nat_lt s.hold.known_restarts b) (if-step (nat_lt s.hold.known_restarts b) (signal_taken (reset_for (record s { hold = record s.hold { known_restarts = b } }))) (signal_ignored s) refl e)
 machine-takes returns storage s p (up.Attn a status) e = attn-taken s.hold s.hold.phase p a (may_take_attention s) e
 machine-takes returns storage s p (up.Busy t) e = e
 machine-takes returns storage s p (up.Leave t c) e = e

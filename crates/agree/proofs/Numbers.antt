@@ -54,7 +54,7 @@ taken-drawn n h p (up.Data load t c m s) may = stepped-drawn n h (hold_takes h p
 taken-drawn n h p (up.End t m status more) may = stepped-drawn n h (hold_takes h p (up.End t m status more) may)
 taken-drawn n h p (up.Released t) may = stepped-drawn n h (hold_takes h p (up.Released t) may)
 taken-drawn n h p (up.Cleared r) may = stepped-drawn n h (hold_takes h p (up.Cleared r) may)
-taken-drawn n h p (up.Notice b) may = if-drawn n (nat_lt h.known b) (record h { known = b }) h
+taken-drawn n h p (up.Notice b) may = if-drawn n (nat_lt h.known_restarts b) (record h { known_restarts = b }) h
 taken-drawn n h p (up.Attn a status) may = stepped-drawn n h (hold_takes h p (up.Attn a status) may)
 
 acts-drawn : (n : ℕ) (h : HoldState) (act : HoldAct) → (hold_acts n h act).drawn ≤ n + 1

@@ -408,9 +408,9 @@ attn-heard side u l k x a may (hold.Reset r) h arrived comes same tie = ignored 
 
 -- Notice
 notice-heard : (side : Side) (u : UnitState) (l new : Link) (k : SeenPaths) (p b : ℕ) (more : Bool) → Tied side u l k →
-    LinkStep l (if more then reset_again l.drawn (record l.hold { known = b }) else still l.drawn l.hold) None new →
-    Heard side u new k (record { path = p; signal = up.Notice b }) (outcome_of (if more then Some (hold_quietly (record l.hold { known = b })) else None)).taken
-    (if more then reset_again l.drawn (record l.hold { known = b }) else still l.drawn l.hold).sent
+    LinkStep l (if more then reset_again l.drawn (record l.hold { known_restarts = b }) else still l.drawn l.hold) None new →
+    Heard side u new k (record { path = p; signal = up.Notice b }) (outcome_of (if more then Some (hold_quietly (record l.hold { known_restarts = b })) else None)).taken
+    (if more then reset_again l.drawn (record l.hold { known_restarts = b }) else still l.drawn l.hold).sent
 notice-heard side u l new k p b true tie s = record { right = (tt, tt, tt); tied = hold-turns side u l new k _ None None k.answered tt tie s tt tt tt tt }
 notice-heard side u l new k p b false tie s = record { right = (tt, refl); tied = hold-stays side u l new k (still l.drawn l.hold) tie s refl refl tt }
 
@@ -452,5 +452,5 @@ takes-heard side u l new k p (up.End t n status more) may h tie s =
     end-heard side u l new k (record { path = p; signal = up.End t n status more }) t may (is_on l.hold.phase t && may) refl tt (λ y. y) refl tie s
 takes-heard side u l new k p (up.Released t) may h tie s = released-heard side u l k p t l.hold.phase refl tie new s
 takes-heard side u l new k p (up.Cleared r) may h tie s = cleared-heard side u l k p r l.hold.phase tie new s
-takes-heard side u l new k p (up.Notice b) may h tie s = notice-heard side u l new k p b (nat_lt l.hold.known b) tie s
+takes-heard side u l new k p (up.Notice b) may h tie s = notice-heard side u l new k p b (nat_lt l.hold.known_restarts b) tie s
 takes-heard side u l new k p (up.Attn a status) may h tie s = attn-heard side u l k (record { path = p; signal = up.Attn a status }) a may l.hold.phase h tt tt refl tie new s

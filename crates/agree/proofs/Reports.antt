@@ -55,7 +55,7 @@ module _ (P : Option UnitStep → Type 0) (u : UnitState) (none : P None)
   at_answer p t c x progress.ChannelEnded Begins le = none
   at_answer p t c x progress.Ended Begins le = none
   at_answer p t c x progress.New (Absorbed count) le = none
-  at_answer p t c x progress.Working (Absorbed count) le = at_bytes p t c x x.given count le
+  at_answer p t c x progress.Working (Absorbed count) le = at_bytes p t c x x.unabsorbed count le
   at_answer p t c x progress.ChannelEnded (Absorbed count) le = none
   at_answer p t c x progress.Ended (Absorbed count) le = none
   at_answer p t c x progress.New (Supplied bytes) le = none

@@ -82,7 +82,7 @@ answer-acts side u p t c x progress.New (answer.Absorbed count) on = Idles
 answer-acts side u p t c x progress.New (answer.Supplied bytes) on = Idles
 answer-acts side u p t c x progress.New answer.Again on = Idles
 answer-acts side u p t c x progress.Working answer.Begins on = Idles
-answer-acts side u p t c x progress.Working (answer.Absorbed count) on = absorbed-acts side u p t c x x.given count on
+answer-acts side u p t c x progress.Working (answer.Absorbed count) on = absorbed-acts side u p t c x x.unabsorbed count on
 answer-acts side u p t c x progress.Working (answer.Supplied bytes) on =
     if-acts side u (is_to_supply x && nat_le (length bytes) (most_of x)) _ None (λ e. data-acts side u p t c _ _ _ _ on) Idles
 answer-acts side u p t c x progress.Working answer.Again on = again-acts side u p t c x x.unanswered on

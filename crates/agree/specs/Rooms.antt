@@ -104,4 +104,4 @@ pub record HasEnded (old : WorldAndRoom) (events : List WorldEvent) (new : World
   pub next : WorldEvent
   pub there : slice_get events done ≡ Some next
   pub world : new.world ≡ worlds_after old.world (take done events)
-  pub spent : IsWorldSpent new next
+  pub exhausted : IsWorldSpent new next

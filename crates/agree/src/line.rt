@@ -98,7 +98,7 @@ impl SideLine {
         ensures room { room_spec.LineLoses 0 self.old.room self.new.room }
         ensures made { OnOk result (1 ≤ self.new.room.downs) }
         ensures full { OnErr result (room_spec.IsFullDown self.new.room) }
-        ensures given { OnOk result (S.refused supply.new ≡ S.refused supply.old) }
+        ensures unrefused { OnOk result (S.refused supply.new ≡ S.refused supply.old) }
         ensures memory { OnErr result (S.refused supply.new ≡ true) }
     {
         ensure_room(supply, &mut self.downs, 1)
@@ -110,7 +110,7 @@ impl SideLine {
         ensures room { room_spec.LineLoses 0 self.old.room self.new.room }
         ensures made { OnOk result ((1 ≤ self.new.room.ups) × (1 ≤ self.new.room.accepted)) }
         ensures full { OnErr result (room_spec.IsFullUp self.new.room) }
-        ensures given { OnOk result (S.refused supply.new ≡ S.refused supply.old) }
+        ensures unrefused { OnOk result (S.refused supply.new ≡ S.refused supply.old) }
         ensures memory { OnErr result (S.refused supply.new ≡ true) }
     {
         ensure_room(supply, &mut self.ups, 1)?;

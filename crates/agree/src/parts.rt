@@ -91,7 +91,7 @@ impl Parts {
         ensures room { Loses 0 self.old.room self.new.room }
         ensures made { OnOk result (IsOwnerFull self.new.room self.old.world.unit.own → ⊥) }
         ensures full { OnErr result (IsOwnerFull self.new.room self.old.world.unit.own) }
-        ensures given { OnOk result (S.refused supply.new ≡ S.refused supply.old) }
+        ensures unrefused { OnOk result (S.refused supply.new ≡ S.refused supply.old) }
         ensures memory { OnErr result (S.refused supply.new ≡ true) }
     {
         match self.unit.own() {
@@ -112,7 +112,7 @@ impl Parts {
         ensures room { Loses 0 self.old.room self.new.room }
         ensures made { OnOk result (IsFullDown (line_room_of self.new.room side) → ⊥) }
         ensures full { OnErr result (IsFullDown (line_room_of self.new.room side)) }
-        ensures given { OnOk result (S.refused supply.new ≡ S.refused supply.old) }
+        ensures unrefused { OnOk result (S.refused supply.new ≡ S.refused supply.old) }
         ensures memory { OnErr result (S.refused supply.new ≡ true) }
     {
         match side {
@@ -126,7 +126,7 @@ impl Parts {
         ensures room { Loses 0 self.old.room self.new.room }
         ensures made { OnOk result (IsFullUp (line_room_of self.new.room side) → ⊥) }
         ensures full { OnErr result (IsFullUp (line_room_of self.new.room side)) }
-        ensures given { OnOk result (S.refused supply.new ≡ S.refused supply.old) }
+        ensures unrefused { OnOk result (S.refused supply.new ≡ S.refused supply.old) }
         ensures memory { OnErr result (S.refused supply.new ≡ true) }
     {
         match side {
@@ -145,7 +145,7 @@ impl Parts {
         ensures room { Loses 0 self.old.room self.new.room }
         ensures made { OnOk result (IsFullFor self.old.world self.new.room event.now → ⊥) }
         ensures full { OnErr result (IsFullFor self.old.world self.new.room event.now) }
-        ensures given { OnOk result (S.refused supply.new ≡ S.refused supply.old) }
+        ensures unrefused { OnOk result (S.refused supply.new ≡ S.refused supply.old) }
         ensures memory { OnErr result (S.refused supply.new ≡ true) }
     {
         match event {

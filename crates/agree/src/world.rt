@@ -21,7 +21,7 @@ use chan_model::fault::Fault;
 use chan_model::hold_state::HoldState;
 use chan_model::names::Side;
 use chan_model::unit_state::Own;
-use memory::{Given, Supply};
+use memory::{Allocator, Supply};
 use std::alloc::Global;
 use std::marker::Model;
 
@@ -98,12 +98,12 @@ impl World {
         ensures refused { OnErr result (IsWorldAsBefore self.old self.new) }
         ensures refusal { IfErr result (λ f. (f ≡ fault_spec.NoMemory) ⊎ (spec.refusal_of self.old.world event.now ≡ Some f)) }
         // No room after it, so none before it: the refused event takes none.
-        ensures spent { result ≡ Err fault_spec.NoMemory → IsWorldSpent self.new event.now }
+        ensures exhausted { result ≡ Err fault_spec.NoMemory → IsWorldSpent self.new event.now }
         ensures sound { AreSound self.new.world }
         ensures ends { OnOk result (EndsByEvent self.old.world event.now self.new.world) }
         ensures apart { OnOk result (LeavesApart self.old.world event.now self.new.world) }
     {
-        self.step_with(&mut Given { refused: false }, event)
+        self.step_with(&mut Allocator { refused: false }, event)
     }
 
     /// One event, with room for what it may send from a supply. It is refused `NoMemory` only where the supply refuses that
@@ -120,11 +120,11 @@ impl World {
         ensures refused { OnErr result (IsWorldAsBefore self.old self.new) }
         ensures refusal { IfErr result (λ f. (f ≡ fault_spec.NoMemory) ⊎ (spec.refusal_of self.old.world event.now ≡ Some f)) }
         // No room after it, so none before it: the refused event takes none.
-        ensures spent { result ≡ Err fault_spec.NoMemory → IsWorldSpent self.new event.now }
+        ensures exhausted { result ≡ Err fault_spec.NoMemory → IsWorldSpent self.new event.now }
         ensures sound { AreSound self.new.world }
         ensures ends { OnOk result (EndsByEvent self.old.world event.now self.new.world) }
         ensures apart { OnOk result (LeavesApart self.old.world event.now self.new.world) }
-        ensures given { result ≢ Err fault_spec.NoMemory → S.refused supply.new ≡ S.refused supply.old }
+        ensures unrefused { result ≢ Err fault_spec.NoMemory → S.refused supply.new ≡ S.refused supply.old }
         ensures memory { result ≡ Err fault_spec.NoMemory → (S.refused supply.new ≡ true) ⊎ (max_steps ≤ self.old.world.steps) }
     {
         agreement();
@@ -141,8 +141,8 @@ impl World {
         ensures room { TakesRoom result self.old.room self.new.room }
         ensures refused { OnErr result (IsWorldAsBefore self.old self.new) }
         ensures refusal { IfErr result (λ f. f ≡ fault_spec.NoMemory) }
-        ensures spent { OnErr result (IsWorldSpent self.new event.now) }
-        ensures given { OnOk result (S.refused supply.new ≡ S.refused supply.old) }
+        ensures exhausted { OnErr result (IsWorldSpent self.new event.now) }
+        ensures unrefused { OnOk result (S.refused supply.new ≡ S.refused supply.old) }
         ensures memory { OnErr result ((S.refused supply.new ≡ true) ⊎ (max_steps ≤ self.new.world.steps)) }
     {
         match self.step_with(supply, event) {
@@ -165,7 +165,7 @@ impl World {
         ensures apart { EachApart self.old.world events.now }
         ensures history { GoesOnSound self.old.world events.now }
     {
-        self.run_with(&mut Given { refused: false }, events)
+        self.run_with(&mut Allocator { refused: false }, events)
     }
 
     /// The events in order, as `run` has them, with room from a supply. A run ends only where the supply refuses room for an
@@ -185,7 +185,7 @@ impl World {
         ensures ends { EachEnds self.old.world events.now }
         ensures apart { EachApart self.old.world events.now }
         ensures history { GoesOnSound self.old.world events.now }
-        ensures given { OnOk result (S.refused supply.new ≡ S.refused supply.old) }
+        ensures unrefused { OnOk result (S.refused supply.new ≡ S.refused supply.old) }
         ensures memory { OnErr result ((S.refused supply.new ≡ true) ⊎ (max_steps ≤ self.new.world.steps)) }
     {
         by_its_path();

@@ -58,7 +58,7 @@ offered-kept : (n s k b f p : ℕ) (o : SideSeen) → AreEndsGood (ends_seen n h
     IsHoldKept (ends_seen n hold.Free s k b f o) (ends_seen (n + 1) (hold.Offer (n + 1) p) s k b f o) (on_path p (down.Select (n + 1)))
 offered-kept n s k b f p o g =
     record {
-      ends = record { floor = omega (arith, g.floor); number = omega arith; known = g.known; owned = g.owned; matched = offered-matched n s k b f p o g.matched };
+      ends = record { floor = omega (arith, g.floor); number = omega arith; known_restarts = g.known_restarts; owned = g.owned; matched = offered-matched n s k b f p o g.matched };
       downs = downs-by (ends_seen n hold.Free s k b f o) (ends_seen (n + 1) (hold.Offer (n + 1) p) s k b f o) (omega arith) (omega arith)
           (λ q t le h. inl h) (λ t le h. omega arith) (λ r c le lb h. elim h [ inl y ↦ inl y | inr y ↦ absurd y.1 ]) (λ t c le h. omega arith);
       ups = ups-by (ends_seen n hold.Free s k b f o) (ends_seen (n + 1) (hold.Offer (n + 1) p) s k b f o) None (omega arith) (omega arith) tt
@@ -76,7 +76,7 @@ resets-kept : (n : ℕ) (h : HoldPhase) (s k j b f : ℕ) (o : SideSeen) → k �
     IsHoldKept (ends_seen n h s k b f o) (ends_seen (n + 1) (hold.Reset (n + 1)) s j b f o) None
 resets-kept n h s k j b f o kj jb g =
     record {
-      ends = record { floor = omega (arith, g.floor); number = omega arith; known = jb; owned = g.owned; matched = reset-matched n s j b f o g.floor };
+      ends = record { floor = omega (arith, g.floor); number = omega arith; known_restarts = jb; owned = g.owned; matched = reset-matched n s j b f o g.floor };
       downs = downs-by (ends_seen n h s k b f o) (ends_seen (n + 1) (hold.Reset (n + 1)) s j b f o) (omega arith) (omega arith)
           (λ q t le y. inr (omega arith)) (λ t le y. tt) (λ r c le lb y. elim y [ inl z ↦ inl z | inr z ↦ inr (z.0, omega arith) ]) (λ t c le y. tt);
       ups = ups-by (ends_seen n h s k b f o) (ends_seen (n + 1) (hold.Reset (n + 1)) s j b f o) None (omega arith) (omega arith) tt
@@ -89,7 +89,7 @@ not-due : (n r s k b f : ℕ) (o : SideSeen) → AreEndsGood (ends_seen n (hold.
 not-due n r s k b f Idle g le = tt
 not-due n r s k b f Fresh g le = elim (cases_lt k b) [
   | inl y ↦ y
-  | inr y ↦ let less : f < r = g.matched (omega (arith, g.known)) in absurd (omega arith)
+  | inr y ↦ let less : f < r = g.matched (omega (arith, g.known_restarts)) in absurd (omega arith)
 ]
 not-due n r s k b f (Owns t connection) g le = tt
 
@@ -112,7 +112,7 @@ lets_go-kept : (n t p c s k b f : ℕ) (o : SideSeen) → AreEndsGood (ends_seen
     IsHoldKept (ends_seen n (hold.On t p c) s k b f o) (ends_seen n (hold.Letting t p) s k b f o) (on_path p (down.Release t))
 lets_go-kept n t p c s k b f o g =
     record {
-      ends = record { floor = g.floor; number = g.number; known = g.known; owned = g.owned; matched = letting-matched n t p c s k b f o g.matched };
+      ends = record { floor = g.floor; number = g.number; known_restarts = g.known_restarts; owned = g.owned; matched = letting-matched n t p c s k b f o g.matched };
       downs = downs-by (ends_seen n (hold.On t p c) s k b f o) (ends_seen n (hold.Letting t p) s k b f o) (omega arith) (omega arith)
           (λ q u le h. h) (λ u le h. tt) (λ r d le lb h. h) (λ u d le h. tt);
       ups = ups-by (ends_seen n (hold.On t p c) s k b f o) (ends_seen n (hold.Letting t p) s k b f o) None (omega arith) (omega arith) tt
@@ -130,7 +130,7 @@ chains_at_device_end-kept : (n t p s k b f : ℕ) (o : SideSeen) → t ≤ f →
     IsHoldKept (ends_seen n (hold.Offer t p) s k b f o) (ends_seen n (hold.On t p 0) 0 k b f o) None
 chains_at_device_end-kept n t p s k b f o tf a g =
     record {
-      ends = record { floor = g.floor; number = g.number; known = g.known; owned = g.owned; matched = on-matched n t p s k b f o a g.matched };
+      ends = record { floor = g.floor; number = g.number; known_restarts = g.known_restarts; owned = g.owned; matched = on-matched n t p s k b f o a g.matched };
       downs = downs-by (ends_seen n (hold.Offer t p) s k b f o) (ends_seen n (hold.On t p 0) 0 k b f o) (omega arith) (omega arith)
           (λ q u le h. elim h [ inl y ↦ y | inr y ↦ omega (arith, y.0) ]) (λ u le h. h) (λ r d le lb h. h) (λ u d le h. inl h);
       ups = ups-by (ends_seen n (hold.Offer t p) s k b f o) (ends_seen n (hold.On t p 0) 0 k b f o) None (omega arith) (omega arith) tt
@@ -147,7 +147,7 @@ is_over-kept : (n t p s k b f : ℕ) (o : SideSeen) → t ≤ f → AreEndsGood 
     IsHoldKept (ends_seen n (hold.Offer t p) s k b f o) (ends_seen n (hold.Letting t p) 0 k b f o) (on_path p (down.Release t))
 is_over-kept n t p s k b f o tf g =
     record {
-      ends = record { floor = g.floor; number = g.number; known = g.known; owned = g.owned; matched = over-matched n t p s k b f o g.matched };
+      ends = record { floor = g.floor; number = g.number; known_restarts = g.known_restarts; owned = g.owned; matched = over-matched n t p s k b f o g.matched };
       downs = downs-by (ends_seen n (hold.Offer t p) s k b f o) (ends_seen n (hold.Letting t p) 0 k b f o) (omega arith) (omega arith)
           (λ q u le h. elim h [ inl y ↦ y | inr y ↦ omega (arith, y.0) ]) (λ u le h. tt) (λ r d le lb h. h) (λ u d le h. tt);
       ups = ups-by (ends_seen n (hold.Offer t p) s k b f o) (ends_seen n (hold.Letting t p) 0 k b f o) None (omega arith) (omega arith) tt
@@ -165,7 +165,7 @@ is_busy-kept : (n t p s k b f : ℕ) (o : SideSeen) → t ≤ f → IsNotOwned o
     IsHoldKept (ends_seen n (hold.Offer t p) s k b f o) (ends_seen n hold.Free s k b f o) None
 is_busy-kept n t p s k b f o tf a g =
     record {
-      ends = record { floor = g.floor; number = tt; known = g.known; owned = g.owned; matched = busy-matched n t p s k b f o a g.matched };
+      ends = record { floor = g.floor; number = tt; known_restarts = g.known_restarts; owned = g.owned; matched = busy-matched n t p s k b f o a g.matched };
       downs = downs-by (ends_seen n (hold.Offer t p) s k b f o) (ends_seen n hold.Free s k b f o) (omega arith) (omega arith)
           (λ q u le h. elim h [ inl y ↦ y | inr y ↦ omega (arith, y.0) ]) (λ u le h. tt) (λ r d le lb h. h) (λ u d le h. tt);
       ups = ups-by (ends_seen n (hold.Offer t p) s k b f o) (ends_seen n hold.Free s k b f o) None (omega arith) (omega arith) tt
@@ -182,7 +182,7 @@ is_released-kept : (n t p s k b f : ℕ) (o : SideSeen) → IsNotOwned o t → A
     IsHoldKept (ends_seen n (hold.Letting t p) s k b f o) (ends_seen n hold.Free s k b f o) None
 is_released-kept n t p s k b f o a g =
     record {
-      ends = record { floor = g.floor; number = tt; known = g.known; owned = g.owned; matched = released-matched n t p s k b f o a g.matched };
+      ends = record { floor = g.floor; number = tt; known_restarts = g.known_restarts; owned = g.owned; matched = released-matched n t p s k b f o a g.matched };
       downs = downs-by (ends_seen n (hold.Letting t p) s k b f o) (ends_seen n hold.Free s k b f o) (omega arith) (omega arith)
           (λ q u le h. h) (λ u le h. tt) (λ r d le lb h. h) (λ u d le h. tt);
       ups = ups-by (ends_seen n (hold.Letting t p) s k b f o) (ends_seen n hold.Free s k b f o) None (omega arith) (omega arith) tt
@@ -199,7 +199,7 @@ is_cleared-kept : (n r s k b f : ℕ) (o : SideSeen) → r ≤ f → AreEndsGood
     IsHoldKept (ends_seen n (hold.Reset r) s k b f o) (ends_seen n hold.Free s k b f o) None
 is_cleared-kept n r s k b f o rf g =
     record {
-      ends = record { floor = g.floor; number = tt; known = g.known; owned = g.owned; matched = cleared-matched n r s k b f o rf g.matched };
+      ends = record { floor = g.floor; number = tt; known_restarts = g.known_restarts; owned = g.owned; matched = cleared-matched n r s k b f o rf g.matched };
       downs = downs-by (ends_seen n (hold.Reset r) s k b f o) (ends_seen n hold.Free s k b f o) (omega arith) (omega arith)
           (λ q u le h. elim h [ inl y ↦ y | inr y ↦ omega arith ]) (λ u le h. tt)
           (λ v d le lb h. elim h [ inl y ↦ inl y | inr y ↦ absurd (omega (arith, y.0, y.1)) ]) (λ u d le h. tt);
@@ -223,7 +223,7 @@ is_left-kept : (n t p c s k b f : ℕ) (o : SideSeen) → AreEndsGood (ends_seen
     IsHoldKept (ends_seen n (hold.On t p c) s k b f o) (ends_seen n (hold.Away t) s k b f o) None
 is_left-kept n t p c s k b f o g =
     record {
-      ends = record { floor = g.floor; number = g.number; known = g.known; owned = g.owned; matched = away-matched n t p c s k b f o g.matched };
+      ends = record { floor = g.floor; number = g.number; known_restarts = g.known_restarts; owned = g.owned; matched = away-matched n t p c s k b f o g.matched };
       downs = downs-by (ends_seen n (hold.On t p c) s k b f o) (ends_seen n (hold.Away t) s k b f o) (omega arith) (omega arith)
           (λ q u le h. h) (λ u le h. h) (λ r d le lb h. h) (λ u d le h. elim h [ inl y ↦ inl y | inr y ↦ inr (y.0, y.1) ]);
       ups = ups-by (ends_seen n (hold.On t p c) s k b f o) (ends_seen n (hold.Away t) s k b f o) None (omega arith) (omega arith) tt
@@ -265,7 +265,7 @@ grants-kept : (n t p c s k b f : ℕ) (o : SideSeen) → s < c → IsBackGood o 
     IsHoldKept (ends_seen n (hold.Away t) s k b f o) (ends_seen n (hold.On t p c) c k b f o) (on_path p (down.Grant t c))
 grants-kept n t p c s k b f o lt a g =
     record {
-      ends = record { floor = g.floor; number = g.number; known = g.known; owned = g.owned; matched = granted-matched n t p c s k b f o lt a g.matched };
+      ends = record { floor = g.floor; number = g.number; known_restarts = g.known_restarts; owned = g.owned; matched = granted-matched n t p c s k b f o lt a g.matched };
       downs = downs-by (ends_seen n (hold.Away t) s k b f o) (ends_seen n (hold.On t p c) c k b f o) (omega arith) (omega arith)
           (λ q u le h. h) (λ u le h. h) (λ r d le lb h. h)
           (λ u d le h. elim h [ inl y ↦ inl y | inr y ↦ inr (y.0, omega (arith, y.1), asked-later o p p c s t u d lt a y.0 y.1) ]);
@@ -284,7 +284,7 @@ refuses_on-kept : (n t q d p c s k b f : ℕ) (o : SideSeen) → s < c → IsBac
     IsHoldKept (ends_seen n (hold.On t q d) s k b f o) (ends_seen n (hold.On t q d) c k b f o) (on_path p (down.Refuse t c))
 refuses_on-kept n t q d p c s k b f o lt a g =
     record {
-      ends = record { floor = g.floor; number = g.number; known = g.known; owned = g.owned; matched = still_on-matched n t q d p c s k b f o lt a g.matched };
+      ends = record { floor = g.floor; number = g.number; known_restarts = g.known_restarts; owned = g.owned; matched = still_on-matched n t q d p c s k b f o lt a g.matched };
       downs = downs-by (ends_seen n (hold.On t q d) s k b f o) (ends_seen n (hold.On t q d) c k b f o) (omega arith) (omega arith)
           (λ x u le h. h) (λ u le h. h) (λ r y le lb h. h)
           (λ u x le h. elim h [ inl y ↦ inl y | inr y ↦ inr (y.0, omega (arith, y.1), y.2) ]);
@@ -302,7 +302,7 @@ refuses_away-kept : (n t p c s k b f : ℕ) (o : SideSeen) → s < c → IsBackG
     IsHoldKept (ends_seen n (hold.Away t) s k b f o) (ends_seen n (hold.Away t) c k b f o) (on_path p (down.Refuse t c))
 refuses_away-kept n t p c s k b f o lt a g =
     record {
-      ends = record { floor = g.floor; number = g.number; known = g.known; owned = g.owned; matched = still_away-matched n t p c s k b f o lt a g.matched };
+      ends = record { floor = g.floor; number = g.number; known_restarts = g.known_restarts; owned = g.owned; matched = still_away-matched n t p c s k b f o lt a g.matched };
       downs = downs-by (ends_seen n (hold.Away t) s k b f o) (ends_seen n (hold.Away t) c k b f o) (omega arith) (omega arith)
           (λ x u le h. h) (λ u le h. h) (λ r y le lb h. h)
           (λ u x le h. elim h [ inl y ↦ inl y | inr y ↦ inr (y.0, omega (arith, y.1)) ]);
@@ -319,7 +319,7 @@ pub hold-kept : (e x : Ends) (sent : Option (OnPath Down)) → AreEndsGood e →
 hold-kept _ _ _ g (Stays e sent plain) = stays-kept e sent g (plain-sent e sent plain)
 hold-kept _ _ _ g (Offered n s k b f o p) = offered-kept n s k b f p o g
 hold-kept _ _ _ g (Resets n h s k j b f o kj jb) = resets-kept n h s k j b f o kj jb g
-hold-kept _ _ _ g (Sends_reset n r s k b f o p) = stays-kept _ _ g (g.number, g.known, sent-reset n r s k b f o g)
+hold-kept _ _ _ g (Sends_reset n r s k b f o p) = stays-kept _ _ g (g.number, g.known_restarts, sent-reset n r s k b f o g)
 hold-kept _ _ _ g (Lets_go n t p c s k b f o) = lets_go-kept n t p c s k b f o g
 hold-kept _ _ _ g (Goes_on n t p s k b f o tf a) = chains_at_device_end-kept n t p s k b f o tf a g
 hold-kept _ _ _ g (Is_over n t p s k b f o tf) = is_over-kept n t p s k b f o tf g

@@ -142,7 +142,7 @@ given-good l e (Sends x) g s = s
 hold-moved : (side : Side) (u : UnitState) (l : Link) (act : HoldAct) → IsLinkGood (ends_of l.drawn l.hold u side) l → IsHoldGiven l act →
     HoldMoves (ends_of l.drawn l.hold u side) (ends_of (hold_acts l.drawn l.hold act).drawn (hold_acts l.drawn l.hold act).hold u side) (hold_acts l.drawn l.hold act).sent
 hold-moved side u l act g s =
-    act-moves l.drawn l.hold u.restarts (side_of u side).floor (seen_by (side_of u side).fresh u.own side) l.accepted act g.ends.known
+    act-moves l.drawn l.hold u.restarts (side_of u side).floor (seen_by (side_of u side).fresh u.own side) l.accepted act g.ends.known_restarts
     (given-good l (ends_of l.drawn l.hold u side) act g s)
 
 hold-kept-at : (side : Side) (u : UnitState) (l : Link) (act : HoldAct) → IsLinkGood (ends_of l.drawn l.hold u side) l → IsHoldGiven l act →

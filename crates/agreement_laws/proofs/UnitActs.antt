@@ -56,9 +56,9 @@ unseen side u v x P restarts first second o plain =
 
     same_ends : (n : ℕ) (h : HoldState) (k : Side) → ends_of n h v k ≡ ends_of n h u k
     same_ends n h k =
-        ap (λ b. ends_seen n h.phase h.seen h.known b (side_of v k).floor (seen_by (side_of v k).fresh v.own k)) restarts
-        ∙ (ap (λ (s : SideState). ends_seen n h.phase h.seen h.known u.restarts s.floor (seen_by s.fresh v.own k)) (same_side_of k)
-        ∙ ap (λ w. ends_seen n h.phase h.seen h.known u.restarts (side_of u k).floor (seen_by (side_of u k).fresh w k)) o)
+        ap (λ b. ends_seen n h.phase h.seen h.known_restarts b (side_of v k).floor (seen_by (side_of v k).fresh v.own k)) restarts
+        ∙ (ap (λ (s : SideState). ends_seen n h.phase h.seen h.known_restarts u.restarts s.floor (seen_by s.fresh v.own k)) (same_side_of k)
+        ∙ ap (λ w. ends_seen n h.phase h.seen h.known_restarts u.restarts (side_of u k).floor (seen_by (side_of u k).fresh w k)) o)
 
     free_as : (k : Side) → IsFreshFree u k → IsFreshFree v k
     free_as k f = λ e. ap (λ w. owns w k) o ∙ f (sym (ap (λ (s : SideState). s.fresh) (same_side_of k)) ∙ e)
@@ -88,14 +88,14 @@ selected-accepts : (side : Side) (u : UnitState) (f : ℕ) (y : SideState) (p t 
     (sent_by (selected (raised (at side u own.Idle (working f) y) side t) own.Idle side p t true)) (IsGiven p (down.Select t))
 selected-accepts First u f y p t lt =
     record {
-      here = λ n h g. Accepts n h.phase h.seen h.known u.restarts f p t lt g.0 g.1;
+      here = λ n h g. Accepts n h.phase h.seen h.known_restarts u.restarts f p t lt g.0 g.1;
       there = λ n h. refl;
       free_here = λ m e. cc;
       free_there = λ m e. refl;
     }
 selected-accepts Second u f y p t lt =
     record {
-      here = λ n h g. Accepts n h.phase h.seen h.known u.restarts f p t lt g.0 g.1;
+      here = λ n h g. Accepts n h.phase h.seen h.known_restarts u.restarts f p t lt g.0 g.1;
       there = λ n h. refl;
       free_here = λ m e. cc;
       free_there = λ m e. refl;
@@ -114,13 +114,13 @@ selected-busy : (side : Side) (u : UnitState) (o : Own) (f : ℕ) (y : SideState
     IsMove side (at side u o (working f) y) (raised (at side u o (working f) y) side t) (Some (record { path = p; signal = up.Busy t }))
     (IsGiven p (down.Select t))
 selected-busy First u o f y p t lt = record {
-  here = λ n h g. Is_busy n h.phase h.seen h.known u.restarts f p t (seen_own o First) (seen-plain o First) lt g.0 g.1;
+  here = λ n h g. Is_busy n h.phase h.seen h.known_restarts u.restarts f p t (seen_own o First) (seen-plain o First) lt g.0 g.1;
   there = λ n h. refl;
   free_here = λ m e. cc;
   free_there = λ m. m;
 }
 selected-busy Second u o f y p t lt = record {
-  here = λ n h g. Is_busy n h.phase h.seen h.known u.restarts f p t (seen_own o Second) (seen-plain o Second) lt g.0 g.1;
+  here = λ n h g. Is_busy n h.phase h.seen h.known_restarts u.restarts f p t (seen_own o Second) (seen-plain o Second) lt g.0 g.1;
   there = λ n h. refl;
   free_here = λ m e. cc;
   free_there = λ m. m;
@@ -164,8 +164,8 @@ late-steps side u v p c late P = step-if side u late _ P (unseen side u u _ P re
 
 -- where the program that holds the device is, is changed at its side alone
 connection-moves : (side : Side) (u : UnitState) (v : ℕ) (old new : Connection) (f : ℕ) (y : SideState) (P : Ends → Type 0) →
-    ((n : ℕ) (h : HoldState) → P (ends_seen n h.phase h.seen h.known u.restarts f (Owns v old)) →
-    UnitMoves (ends_seen n h.phase h.seen h.known u.restarts f (Owns v old)) (ends_seen n h.phase h.seen h.known u.restarts f (Owns v new)) None) →
+    ((n : ℕ) (h : HoldState) → P (ends_seen n h.phase h.seen h.known_restarts u.restarts f (Owns v old)) →
+    UnitMoves (ends_seen n h.phase h.seen h.known_restarts u.restarts f (Owns v old)) (ends_seen n h.phase h.seen h.known_restarts u.restarts f (Owns v new)) None) →
     IsMove side (at side u (own.Owned side v old) (working f) y) (at side u (own.Owned side v new) (working f) y) None P
 connection-moves First u v old new f y P moves = record { here = moves; there = λ n h. refl; free_here = λ m w. cc; free_there = λ m. m }
 connection-moves Second u v old new f y P moves = record { here = moves; there = λ n h. refl; free_here = λ m w. cc; free_there = λ m. m }
@@ -178,7 +178,7 @@ granted-ask : (side : Side) (u : UnitState) (v q d f : ℕ) (y : SideState) (p c
     (IsGiven p (down.Grant v c))
 granted-ask side u v q d f y p c true e =
     connection-moves side u v (Ask q d) (On q d) f y (IsGiven p (down.Grant v c)) (λ n h g.
-    Is_granted n h.phase h.seen h.known u.restarts f v q d (subst (λ (x : ℕ). IsGrantGood h.phase h.seen (Owns v (Ask q d)) v x) (eqb-true c d e) g.1))
+    Is_granted n h.phase h.seen h.known_restarts u.restarts f v q d (subst (λ (x : ℕ). IsGrantGood h.phase h.seen (Owns v (Ask q d)) v x) (eqb-true c d e) g.1))
 granted-ask side u v q d f y p c false e = late-steps side (at side u (own.Owned side v (Ask q d)) (working f) y) v p c (nat_lt c d) (IsGiven p (down.Grant v c))
 
 granted_at-steps : (side : Side) (u : UnitState) (v : ℕ) (connection : Connection) (f : ℕ) (y : SideState) (p c : ℕ) →
@@ -214,7 +214,7 @@ granted-steps side u (own.Owned k v connection) f y p t c =
 refused_ask-steps : (side : Side) (u : UnitState) (v q d f : ℕ) (y : SideState) (same : Bool) (P : Ends → Type 0) →
     IsStep side (at side u (own.Owned side v (Ask q d)) (working f) y) (if same then changes (at side u (own.Owned side v (Away d)) (working f) y) else None) P
 refused_ask-steps side u v q d f y true P =
-    connection-moves side u v (Ask q d) (Away d) f y P (λ n h g. Is_refused n h.phase h.seen h.known u.restarts f v q d)
+    connection-moves side u v (Ask q d) (Away d) f y P (λ n h g. Is_refused n h.phase h.seen h.known_restarts u.restarts f v q d)
 refused_ask-steps side u v q d f y false P = nothing side (at side u (own.Owned side v (Ask q d)) (working f) y) P
 
 refused_at-steps : (side : Side) (u : UnitState) (v : ℕ) (connection : Connection) (f : ℕ) (y : SideState) (c : ℕ) (P : Ends → Type 0) →
@@ -235,9 +235,9 @@ refused-steps side u (own.Owned k v connection) f y p t c =
 released-steps : (side : Side) (u : UnitState) (v : ℕ) (connection : Connection) (f : ℕ) (y : SideState) (p : ℕ) →
     IsStep side (at side u (own.Owned side v connection) (working f) y) (sends (freed (at side u (own.Owned side v connection) (working f) y)) p (up.Released v)) (IsGiven p (down.Release v))
 released-steps First u v connection f y p =
-    record { here = λ n h g. Releases n h.phase h.seen h.known u.restarts f p v connection g.1; there = λ n h. refl; free_here = λ m w. refl; free_there = λ m w. refl }
+    record { here = λ n h g. Releases n h.phase h.seen h.known_restarts u.restarts f p v connection g.1; there = λ n h. refl; free_here = λ m w. refl; free_there = λ m w. refl }
 released-steps Second u v connection f y p =
-    record { here = λ n h g. Releases n h.phase h.seen h.known u.restarts f p v connection g.1; there = λ n h. refl; free_here = λ m w. refl; free_there = λ m w. refl }
+    record { here = λ n h g. Releases n h.phase h.seen h.known_restarts u.restarts f p v connection g.1; there = λ n h. refl; free_here = λ m w. refl; free_there = λ m w. refl }
 
 owned-releases : (side : Side) (u : UnitState) (k : Side) (v : ℕ) (connection : Connection) (f : ℕ) (y : SideState) (p t : ℕ) (is : Bool) → (same_side k side && (t == v)) ≡ is →
     IsStep side (at side u (own.Owned k v connection) (working f) y) (if is then sends (freed (at side u (own.Owned k v connection) (working f) y)) p (up.Released t) else None) (IsGiven p (down.Release t))
@@ -259,7 +259,7 @@ releasing-steps side u (own.Owned k v connection) f y p t = owned-releases side 
 pub telling-steps : (side : Side) (u : UnitState) (p : ℕ) (P : Ends → Type 0) → IsStep side u (telling u p) P
 telling-steps side u p P =
     record {
-      here = λ n h g. Tells n h.phase h.seen h.known u.restarts (side_of u side).floor p (seen_by (side_of u side).fresh u.own side);
+      here = λ n h g. Tells n h.phase h.seen h.known_restarts u.restarts (side_of u side).floor p (seen_by (side_of u side).fresh u.own side);
       there = λ n h. refl;
       free_here = λ m. m;
       free_there = λ m. m;

@@ -115,7 +115,7 @@ accepts-kept : (n : ℕ) (h : HoldPhase) (s k b f p t : ℕ) → f < t → t ≤
     IsUnitKept (ends_seen n h s k b f Idle) (ends_seen n h s k b t (Owns t (On p 0))) (by_path p (up.Accept t))
 accepts-kept n h s k b f p t lt tn y g =
     record {
-      ends = record { floor = tn; number = g.number; known = g.known; owned = omega arith; matched = accepted-paired h s f p t lt y };
+      ends = record { floor = tn; number = g.number; known_restarts = g.known_restarts; owned = omega arith; matched = accepted-paired h s f p t lt y };
       downs = downs-by (ends_seen n h s k b f Idle) (ends_seen n h s k b t (Owns t (On p 0))) (omega arith) (omega arith)
           (λ q u le z. select-rises h f t q u (omega arith) z) (λ u le z. z)
           (λ r c le lb z. reset-rises n h s k b f t Idle (Owns t (On p 0)) (omega arith) (λ d. tt) r c z)
@@ -144,10 +144,10 @@ busy-not_owned (Owns v connection) f t n h s k b lt g = λ e. omega (arith, g.ow
 owned-below : (n : ℕ) (h : HoldPhase) (s k b f t : ℕ) (o : SideSeen) (p : ℕ) → IsNotFresh o → f < t → t ≤ n → IsSelectGood h f p t →
     AreEndsGood (ends_seen n h s k b f o) → AreEndsGood (ends_seen n h s k b t o)
 owned-below n h s k b f t Idle p i lt tn y g =
-    record { floor = tn; number = g.number; known = g.known; owned = tt; matched = g.matched }
+    record { floor = tn; number = g.number; known_restarts = g.known_restarts; owned = tt; matched = g.matched }
 owned-below n h s k b f t Fresh p i lt tn y g = absurd i
 owned-below n h s k b f t (Owns v connection) p i lt tn y g =
-    record { floor = tn; number = g.number; known = g.known; owned = omega (arith, g.owned); matched = busy-paired h s f p t v connection lt y g.matched }
+    record { floor = tn; number = g.number; known_restarts = g.known_restarts; owned = omega (arith, g.owned); matched = busy-paired h s f p t v connection lt y g.matched }
 
 is_busy-kept : (n : ℕ) (h : HoldPhase) (s k b f p t : ℕ) (o : SideSeen) → IsNotFresh o → f < t → t ≤ n → IsSelectGood h f p t → AreEndsGood (ends_seen n h s k b f o) →
     IsUnitKept (ends_seen n h s k b f o) (ends_seen n h s k b t o) (by_path p (up.Busy t))
@@ -183,7 +183,7 @@ is_granted-kept : (n : ℕ) (h : HoldPhase) (s k b f t q c : ℕ) → IsGrantGoo
     IsUnitKept (ends_seen n h s k b f (Owns t (Ask q c))) (ends_seen n h s k b f (Owns t (On q c))) None
 is_granted-kept n h s k b f t q c y g =
     record {
-      ends = record { floor = g.floor; number = g.number; known = g.known; owned = g.owned; matched = granted-paired h s f t q c y g.matched };
+      ends = record { floor = g.floor; number = g.number; known_restarts = g.known_restarts; owned = g.owned; matched = granted-paired h s f t q c y g.matched };
       downs = downs-by (ends_seen n h s k b f (Owns t (Ask q c))) (ends_seen n h s k b f (Owns t (On q c))) (omega arith) (omega arith)
           (λ p u le z. z) (λ u le z. z) (λ r d le lb z. z)
           (λ u d le z. grant-seen h s u d (Owns t (Ask q c)) (Owns t (On q c)) (λ p e. tt) z);
@@ -207,7 +207,7 @@ is_refused-kept : (n : ℕ) (h : HoldPhase) (s k b f t q c : ℕ) → AreEndsGoo
     IsUnitKept (ends_seen n h s k b f (Owns t (Ask q c))) (ends_seen n h s k b f (Owns t (Away c))) None
 is_refused-kept n h s k b f t q c g =
     record {
-      ends = record { floor = g.floor; number = g.number; known = g.known; owned = g.owned; matched = refused-paired h s f t q c g.matched };
+      ends = record { floor = g.floor; number = g.number; known_restarts = g.known_restarts; owned = g.owned; matched = refused-paired h s f t q c g.matched };
       downs = downs-by (ends_seen n h s k b f (Owns t (Ask q c))) (ends_seen n h s k b f (Owns t (Away c))) (omega arith) (omega arith)
           (λ p u le z. z) (λ u le z. z) (λ r d le lb z. z)
           (λ u d le z. grant-seen h s u d (Owns t (Ask q c)) (Owns t (Away c)) (λ p e. tt) z);
@@ -230,7 +230,7 @@ leaves-kept : (n : ℕ) (h : HoldPhase) (s k b f t q c p d : ℕ) → AreEndsGoo
     IsUnitKept (ends_seen n h s k b f (Owns t (On q c))) (ends_seen n h s k b f (Owns t (Away c))) (by_path p (up.Leave t d))
 leaves-kept n h s k b f t q c p d g =
     record {
-      ends = record { floor = g.floor; number = g.number; known = g.known; owned = g.owned; matched = left-paired h s f t q c g.matched };
+      ends = record { floor = g.floor; number = g.number; known_restarts = g.known_restarts; owned = g.owned; matched = left-paired h s f t q c g.matched };
       downs = downs-by (ends_seen n h s k b f (Owns t (On q c))) (ends_seen n h s k b f (Owns t (Away c))) (omega arith) (omega arith)
           (λ x u le z. z) (λ u le z. z) (λ r y le lb z. z)
           (λ u y le z. grant-seen h s u y (Owns t (On q c)) (Owns t (Away c)) (λ x e. tt) z);
@@ -262,7 +262,7 @@ releases-kept : (n : ℕ) (h : HoldPhase) (s k b f p t : ℕ) (connection : Conn
     IsUnitKept (ends_seen n h s k b f (Owns t connection)) (ends_seen n h s k b f Idle) (by_path p (up.Released t))
 releases-kept n h s k b f p t connection y g =
     record {
-      ends = record { floor = g.floor; number = g.number; known = g.known; owned = tt; matched = released-held h s f t connection y g.matched };
+      ends = record { floor = g.floor; number = g.number; known_restarts = g.known_restarts; owned = tt; matched = released-held h s f t connection y g.matched };
       downs = downs-by (ends_seen n h s k b f (Owns t connection)) (ends_seen n h s k b f Idle) (omega arith) (omega arith)
           (λ q u le z. z) (λ u le z. z) (λ r d le lb z. z)
           (λ u d le z. grant-seen h s u d (Owns t connection) Idle (λ q e. tt) z);
@@ -294,7 +294,7 @@ clears-kept : (n : ℕ) (h : HoldPhase) (s k b f p r : ℕ) (o : SideSeen) → f
     IsUnitKept (ends_seen n h s k b f o) (ends_seen n h s k b r Idle) (by_path p (up.Cleared r))
 clears-kept n h s k b f p r o lt rn y g =
     record {
-      ends = record { floor = rn; number = g.number; known = g.known; owned = tt; matched = cleared-held h r y };
+      ends = record { floor = rn; number = g.number; known_restarts = g.known_restarts; owned = tt; matched = cleared-held h r y };
       downs = downs-by (ends_seen n h s k b f o) (ends_seen n h s k b r Idle) (omega arith) (omega arith)
           (λ q u le z. select-rises h f r q u (omega arith) z) (λ u le z. z)
           (λ v c le lb z. reset-rises n h s k b f r o Idle (omega arith) (λ d. tt) v c z)
@@ -351,7 +351,7 @@ asks-kept : (n : ℕ) (h : HoldPhase) (s k b f t p c : ℕ) (connection : Connec
     IsUnitKept (ends_seen n h s k b f (Owns t connection)) (ends_seen n h s k b f (Owns t (Ask p (c + 1)))) (by_path p (up.Back t (c + 1)))
 asks-kept n h s k b f t p c connection i g =
     record {
-      ends = record { floor = g.floor; number = g.number; known = g.known; owned = g.owned; matched = asked-paired h s f t p c connection i g.matched };
+      ends = record { floor = g.floor; number = g.number; known_restarts = g.known_restarts; owned = g.owned; matched = asked-paired h s f t p c connection i g.matched };
       downs = downs-by (ends_seen n h s k b f (Owns t connection)) (ends_seen n h s k b f (Owns t (Ask p (c + 1)))) (omega arith) (omega arith)
           (λ q u le z. z) (λ u le z. z) (λ r d le lb z. z)
           (λ u d le z. asked-grant h s f t p c u d connection i g.matched z);
@@ -371,7 +371,7 @@ restarts-kept : (n : ℕ) (h : HoldPhase) (s k b f : ℕ) (o : SideSeen) → Are
     IsUnitKept (ends_seen n h s k b f o) (ends_seen n h s k (b + 1) f Fresh) None
 restarts-kept n h s k b f o g =
     record {
-      ends = record { floor = g.floor; number = g.number; known = omega (arith, g.known); owned = tt; matched = λ e. absurd (omega (arith, g.known)) };
+      ends = record { floor = g.floor; number = g.number; known_restarts = omega (arith, g.known_restarts); owned = tt; matched = λ e. absurd (omega (arith, g.known_restarts)) };
       downs = downs-by (ends_seen n h s k b f o) (ends_seen n h s k (b + 1) f Fresh) (omega arith) (omega arith)
           (λ q u le z. z) (λ u le z. z) (λ r c le lb z. restarted-resets n h s k b f o r c lb z)
           (λ u c le z. grant-seen h s u c o Fresh (λ q d. tt) z);

@@ -36,16 +36,16 @@ side_at f fresh = record { floor = f; fresh = fresh }
 
 -- Reset, with the unit's own restart count
 above-floor : (f r : ℕ) (fresh : Bool) (b : ℕ) (o : SideSeen) (k n s : ℕ) (h : HoldState) → (fresh || nat_lt f r) ≡ true →
-    IsResetGood (record { drawn = n; phase = h.phase; last = s; known = k; restarts = b; floor = f; seen = (if fresh then Fresh else o) }) r b → (f < r) × IsResetTo h.phase r
+    IsResetGood (record { drawn = n; phase = h.phase; last = s; known_restarts = k; restarts = b; floor = f; seen = (if fresh then Fresh else o) }) r b → (f < r) × IsResetTo h.phase r
 above-floor f r true b o k n s h e g = elim g [ inl y ↦ absurd (omega (arith, y.1)) | inr y ↦ y ]
 above-floor f r false b o k n s h e g = elim g [ inl y ↦ absurd (omega (arith, y.0, ltb-true f r e)) | inr y ↦ y ]
 
 resets-here : (n : ℕ) (h : HoldState) (b f : ℕ) (fresh : Bool) (o : SideSeen) (p r : ℕ) → (fresh || nat_lt f r) ≡ true → r ≤ n →
-    IsResetGood (ends_seen n h.phase h.seen h.known b f (if fresh then Fresh else o)) r b →
-    UnitMoves (ends_seen n h.phase h.seen h.known b f (if fresh then Fresh else o)) (ends_seen n h.phase h.seen h.known b r Idle) (by_path p (up.Cleared r))
+    IsResetGood (ends_seen n h.phase h.seen h.known_restarts b f (if fresh then Fresh else o)) r b →
+    UnitMoves (ends_seen n h.phase h.seen h.known_restarts b f (if fresh then Fresh else o)) (ends_seen n h.phase h.seen h.known_restarts b r Idle) (by_path p (up.Cleared r))
 resets-here n h b f fresh o p r e le g =
-    let to : (f < r) × IsResetTo h.phase r = above-floor f r fresh b o h.known n h.seen h e g in
-    Clears n h.phase h.seen h.known b f p r (if fresh then Fresh else o) to.0 le to.1
+    let to : (f < r) × IsResetTo h.phase r = above-floor f r fresh b o h.known_restarts n h.seen h e g in
+    Clears n h.phase h.seen h.known_restarts b f p r (if fresh then Fresh else o) to.0 le to.1
 
 reset-idle : (side : Side) (u : UnitState) (f : ℕ) (fresh : Bool) (y : SideState) (p r : ℕ) → (fresh || nat_lt f r) ≡ true →
     IsStep side (at side u own.Idle (side_at f fresh) y) (sends (reset_side (at side u own.Idle (side_at f fresh) y) side r) p (up.Cleared r)) (IsGiven p (down.Reset r u.restarts))
@@ -185,11 +185,11 @@ leaving-steps : (k : Side) (u : UnitState) (t : ℕ) (connection : Connection) (
 leaving-steps First u t (On p c) f true y =
     record { here = λ n h g. Stays _ _ _ refl tt; there = λ n h. refl; free_here = λ m. m; free_there = λ m. m }
 leaving-steps First u t (On p c) f false y =
-    record { here = λ n h g. keeps.Leaves n h.phase h.seen h.known u.restarts f t p c p c; there = λ n h. refl; free_here = λ m. m; free_there = λ m. m }
+    record { here = λ n h g. keeps.Leaves n h.phase h.seen h.known_restarts u.restarts f t p c p c; there = λ n h. refl; free_here = λ m. m; free_there = λ m. m }
 leaving-steps Second u t (On p c) f true y =
     record { here = λ n h g. Stays _ _ _ refl tt; there = λ n h. refl; free_here = λ m. m; free_there = λ m. m }
 leaving-steps Second u t (On p c) f false y =
-    record { here = λ n h g. keeps.Leaves n h.phase h.seen h.known u.restarts f t p c p c; there = λ n h. refl; free_here = λ m. m; free_there = λ m. m }
+    record { here = λ n h g. keeps.Leaves n h.phase h.seen h.known_restarts u.restarts f t p c p c; there = λ n h. refl; free_here = λ m. m; free_there = λ m. m }
 leaving-steps k u t (Ask p c) f fresh y = nothing k _ Always
 leaving-steps k u t (Away c) f fresh y = nothing k _ Always
 
@@ -198,14 +198,14 @@ asking-steps : (k : Side) (u : UnitState) (t : ℕ) (connection : Connection) (f
 asking-steps k u t (On q c) f fresh y p x = nothing k _ Always
 asking-steps k u t (Ask q c) f true y p x = absurd (not-both (x refl))
 asking-steps First u t (Ask q c) f false y p x =
-    record { here = λ n h g. keeps.Asks n h.phase h.seen h.known u.restarts f t p c (Ask q c) refl; there = λ n h. refl; free_here = λ m. m; free_there = λ m. m }
+    record { here = λ n h g. keeps.Asks n h.phase h.seen h.known_restarts u.restarts f t p c (Ask q c) refl; there = λ n h. refl; free_here = λ m. m; free_there = λ m. m }
 asking-steps Second u t (Ask q c) f false y p x =
-    record { here = λ n h g. keeps.Asks n h.phase h.seen h.known u.restarts f t p c (Ask q c) refl; there = λ n h. refl; free_here = λ m. m; free_there = λ m. m }
+    record { here = λ n h g. keeps.Asks n h.phase h.seen h.known_restarts u.restarts f t p c (Ask q c) refl; there = λ n h. refl; free_here = λ m. m; free_there = λ m. m }
 asking-steps k u t (Away c) f true y p x = absurd (not-both (x refl))
 asking-steps First u t (Away c) f false y p x =
-    record { here = λ n h g. keeps.Asks n h.phase h.seen h.known u.restarts f t p c (Away c) refl; there = λ n h. refl; free_here = λ m. m; free_there = λ m. m }
+    record { here = λ n h g. keeps.Asks n h.phase h.seen h.known_restarts u.restarts f t p c (Away c) refl; there = λ n h. refl; free_here = λ m. m; free_there = λ m. m }
 asking-steps Second u t (Away c) f false y p x =
-    record { here = λ n h g. keeps.Asks n h.phase h.seen h.known u.restarts f t p c (Away c) refl; there = λ n h. refl; free_here = λ m. m; free_there = λ m. m }
+    record { here = λ n h g. keeps.Asks n h.phase h.seen h.known_restarts u.restarts f t p c (Away c) refl; there = λ n h. refl; free_here = λ m. m; free_there = λ m. m }
 
 -- a report changes only the command at hand
 absorbed-steps : (k : Side) (u : UnitState) (p t c : ℕ) (x : CurrentCommand) (given : Option (List ℕ)) (count : ℕ) → IsStep k u (report_absorbed u p t c x given count) Always
@@ -227,7 +227,7 @@ end-steps k u p t c x progress.New (answer.Supplied bytes) = nothing k u Always
 end-steps k u p t c x progress.New answer.Again = nothing k u Always
 end-steps k u p t c x progress.New (answer.Ended status more) = step-if k u (may_end u.halted x progress.New status more) _ Always (unseen k u _ _ Always refl refl refl refl tt)
 end-steps k u p t c x progress.Working answer.Begins = nothing k u Always
-end-steps k u p t c x progress.Working (answer.Absorbed count) = absorbed-steps k u p t c x x.given count
+end-steps k u p t c x progress.Working (answer.Absorbed count) = absorbed-steps k u p t c x x.unabsorbed count
 end-steps k u p t c x progress.Working (answer.Supplied bytes) = step-if k u (is_to_supply x && nat_le (length bytes) (most_of x)) _ Always (unseen k u _ _ Always refl refl refl refl tt)
 end-steps k u p t c x progress.Working answer.Again = again-steps k u p t c x x.unanswered
 end-steps k u p t c x progress.Working (answer.Ended status more) = step-if k u (may_end u.halted x progress.Working status more) _ Always (unseen k u _ _ Always refl refl refl refl tt)
@@ -317,8 +317,8 @@ notices-steps : (k : Side) (u : UnitState) (p : ℕ) → IsStep k u (noticing u 
 notices-steps k u p = step-if k u (side_of u k).fresh _ Always (telling-steps k u p Always)
 
 restarts-moves : (side : Side) (u : UnitState) (n : ℕ) (h : HoldState) → UnitMoves (ends_of n h u side) (ends_of n h (restarted u) side) None
-restarts-moves First u n h = keeps.Restarts n h.phase h.seen h.known u.restarts u.first.floor (seen_by u.first.fresh u.own First)
-restarts-moves Second u n h = keeps.Restarts n h.phase h.seen h.known u.restarts u.second.floor (seen_by u.second.fresh u.own Second)
+restarts-moves First u n h = keeps.Restarts n h.phase h.seen h.known_restarts u.restarts u.first.floor (seen_by u.first.fresh u.own First)
+restarts-moves Second u n h = keeps.Restarts n h.phase h.seen h.known_restarts u.restarts u.second.floor (seen_by u.second.fresh u.own Second)
 
 pub unit-moves : (side : Side) (u : UnitState) (act : UnitAct) (n : ℕ) (h : HoldState) → IsFreshFree u First → IsFreshFree u Second → IsActGood u act side n h →
     UnitMoves (ends_of n h u side) (ends_of n h (unit_after u (unit_steps u act)) side) (up_sent u act side)

@@ -36,16 +36,16 @@ pub record Ends : Type 0 where
   pub drawn : ℕ
   pub phase : HoldPhase
   pub last : ℕ
-  pub known : ℕ
+  pub known_restarts : ℕ
   pub restarts : ℕ
   pub floor : ℕ
   pub seen : SideSeen
 
 abbrev pub ends_seen : ℕ → HoldPhase → ℕ → ℕ → ℕ → ℕ → SideSeen → Ends
-ends_seen n phase s k b f o = record { drawn = n; phase = phase; last = s; known = k; restarts = b; floor = f; seen = o }
+ends_seen n phase s k b f o = record { drawn = n; phase = phase; last = s; known_restarts = k; restarts = b; floor = f; seen = o }
 
 abbrev pub ends_of : ℕ → HoldState → UnitState → Side → Ends
-ends_of n h u side = ends_seen n h.phase h.seen h.known u.restarts (side_of u side).floor (seen_by (side_of u side).fresh u.own side)
+ends_of n h u side = ends_seen n h.phase h.seen h.known_restarts u.restarts (side_of u side).floor (seen_by (side_of u side).fresh u.own side)
 
 -- Numbers: the hold's is one that was drawn, and the unit's program is not above the floor.
 abbrev pub IsDrawn : HoldPhase → ℕ → Type 0
@@ -91,13 +91,13 @@ IsResetAbove phase f = Unit {0}
 
 abbrev pub IsMatched : Ends → SideSeen → Type 0
 IsMatched e Idle = IsNotHeld e.phase
-IsMatched e Fresh = e.known ≡ e.restarts → IsResetAbove e.phase e.floor
+IsMatched e Fresh = e.known_restarts ≡ e.restarts → IsResetAbove e.phase e.floor
 IsMatched e (Owns t connection) = IsPaired e.phase e.last e.floor t connection
 
 pub record AreEndsGood (e : Ends) : Type 0 where
   pub floor : e.floor ≤ e.drawn
   pub number : IsDrawn e.phase e.drawn
-  pub known : e.known ≤ e.restarts
+  pub known_restarts : e.known_restarts ≤ e.restarts
   pub owned : IsOwnedBelow e.seen e.floor
   pub matched : IsMatched e e.seen
 

@@ -55,7 +55,7 @@ reset_again n h = still (n + 1) (resetting h (n + 1))
 
 -- a Notice of more restarts than are known is a cause of a reset
 abbrev pub hold_taken : ℕ → HoldState → ℕ → Up → Bool → HoldActed
-hold_taken n h p (up.Notice b) may = if nat_lt h.known b then reset_again n (record h { known = b }) else still n h
+hold_taken n h p (up.Notice b) may = if nat_lt h.known_restarts b then reset_again n (record h { known_restarts = b }) else still n h
 hold_taken n h p signal may = hold_stepped n h (hold_takes h p signal may)
 
 abbrev pub hold_acts : ℕ → HoldState → HoldAct → HoldActed

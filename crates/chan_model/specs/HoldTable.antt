@@ -18,7 +18,7 @@ pub record HoldStep : Type 0 where
 
 -- a hold at the opening
 abbrev pub free_hold : HoldState
-free_hold = record { phase = Free; seen = 0; known = 0; reset_path = None; first_path = None; single_path = false }
+free_hold = record { phase = Free; seen = 0; known_restarts = 0; reset_path = None; first_path = None; single_path = false }
 
 abbrev pub hold_quietly : HoldState → HoldStep
 hold_quietly h = record { state = h; sent = None }
@@ -73,7 +73,7 @@ reset_cleared h phase u = None
 
 -- Notice: a restart count above the known one becomes known; it is a cause of a reset
 abbrev pub noticed : HoldState → ℕ → Option HoldStep
-noticed h b = if nat_lt h.known b then Some (hold_quietly (record h { known = b })) else None
+noticed h b = if nat_lt h.known_restarts b then Some (hold_quietly (record h { known_restarts = b })) else None
 
 -- Attn: where nothing holds the device; can_be_shown: no status is pending, and at most a start waits
 abbrev pub attended : HoldState → HoldPhase → ℕ → ℕ → Bool → Option HoldStep
@@ -118,7 +118,7 @@ resetting h r = record h { phase = Reset r; reset_path = None }
 
 -- The Reset is sent on p.
 abbrev pub sending_reset : HoldState → HoldPhase → ℕ → Option HoldStep
-sending_reset h (Reset r) p = Some (hold_sending (record h { reset_path = Some p }) p (down.Reset r h.known))
+sending_reset h (Reset r) p = Some (hold_sending (record h { reset_path = Some p }) p (down.Reset r h.known_restarts))
 sending_reset h phase p = None
 
 -- the state after a signal, and what came of it

@@ -58,7 +58,7 @@ is_over x = x.stopped || (not (is_outward x.code) && (x.room == 0))
 
 -- no bytes wait at the device, and no Data is unanswered
 abbrev pub is_settled : CurrentCommand → Bool
-is_settled x = is_none x.given && is_none x.unanswered
+is_settled x = is_none x.unabsorbed && is_none x.unanswered
 
 -- the device is to supply bytes of a read
 abbrev pub is_to_supply : CurrentCommand → Bool
@@ -88,7 +88,7 @@ work_on_bytes u side t x None = work_on_transfer u side t x
 
 abbrev pub work_on_data : UnitState → Side → ℕ → CurrentCommand → Option Load → Option Work
 work_on_data u side t x (Some load) = if x.again then reporting u side t x Again else None
-work_on_data u side t x None = work_on_bytes u side t x x.given
+work_on_data u side t x None = work_on_bytes u side t x x.unabsorbed
 
 abbrev pub work_at : UnitState → Side → ℕ → CurrentCommand → Progress → Option Work
 work_at u side t x progress.New = if u.halted then halted_report u side t x else calling u side t x (call.Initial x.code)
@@ -126,7 +126,7 @@ data_sent u p t c x load = sends (record u { current = Some x }) p (up.Data load
 
 -- the bytes that a write took, so many, to be answered with the next report
 abbrev pub with_absorbed : CurrentCommand → ℕ → CurrentCommand
-with_absorbed x count = record x { progress = progress.Working; given = None; unanswered = Some (load.Absorbed count) }
+with_absorbed x count = record x { progress = progress.Working; unabsorbed = None; unanswered = Some (load.Absorbed count) }
 
 -- the device absorbed so many of the bytes that were given, and no more than those
 abbrev pub report_absorbed : UnitState → ℕ → ℕ → ℕ → CurrentCommand → Option (List ℕ) → ℕ → Option UnitStep
@@ -167,7 +167,7 @@ end_sent u p t x status more =
 abbrev pub answer_taken : UnitState → ℕ → ℕ → ℕ → CurrentCommand → Progress → DeviceAnswer → Option UnitStep
 answer_taken u p t c x at (Ended status more) = if may_end u.halted x at status more then end_sent u p t x (shown_end at status) more else None
 answer_taken u p t c x progress.New Begins = command_begun u p t c x
-answer_taken u p t c x progress.Working (Absorbed count) = report_absorbed u p t c x x.given count
+answer_taken u p t c x progress.Working (Absorbed count) = report_absorbed u p t c x x.unabsorbed count
 answer_taken u p t c x progress.Working (Supplied bytes) = report_supplied u p t c x bytes
 answer_taken u p t c x progress.Working Again = sent_again u p t c x x.unanswered
 answer_taken u p t c x at answer = None

@@ -92,7 +92,7 @@ selected u (Owned k v connection) side p t may_serve = sends u p (up.Busy t)
 
 -- Command: the next of the program that holds the device
 abbrev pub new_command : ℕ → ℕ → CurrentCommand
-new_command code room = record { code = code; room = room; progress = New; sequence = 0; unanswered = None; asked = 0; again = false; given = None; stopped = false }
+new_command code room = record { code = code; room = room; progress = New; sequence = 0; unanswered = None; asked = 0; again = false; unabsorbed = None; stopped = false }
 
 abbrev pub commanded : UnitState → Side → ℕ → ℕ → ℕ → ℕ → Option UnitStep
 commanded u side t n code room =
@@ -106,7 +106,7 @@ kept_bytes bytes = elim bytes [ [] ↦ None | b ∷ bs ↦ Some (b ∷ bs) ]
 
 abbrev pub with_given : CurrentCommand → ℕ → List ℕ → CurrentCommand
 with_given x s bytes =
-    record x { sequence = s; unanswered = None; again = false; given = kept_bytes bytes; stopped = x.stopped || (length bytes == 0) }
+    record x { sequence = s; unanswered = None; again = false; unabsorbed = kept_bytes bytes; stopped = x.stopped || (length bytes == 0) }
 
 abbrev pub given_next : UnitState → Option CurrentCommand → ℕ → List ℕ → Option UnitStep
 given_next u None s bytes = None

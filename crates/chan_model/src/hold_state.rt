@@ -40,7 +40,7 @@ pub struct HoldState {
     /// The last connection number seen since the Accept.
     pub seen: u64,
     /// The restart count of the unit that is known.
-    pub known: u64,
+    pub known_restarts: u64,
     /// The path that the Reset was sent on, where it was sent.
     pub reset_path: Option<Path>,
     /// The path of the last Accept.

@@ -67,7 +67,7 @@ pub struct CurrentCommand {
     /// What is not answered is to be sent again.
     pub again: bool,
     /// The bytes of a write that the device has not absorbed.
-    pub given: Option<Chunk>,
+    pub unabsorbed: Option<Chunk>,
     /// No more bytes will be moved.
     pub stopped: bool,
 }
@@ -112,7 +112,7 @@ impl CurrentCommand {
             unanswered: copy_load(&self.unanswered),
             asked: self.asked,
             again: self.again,
-            given: copy_chunk(&self.given),
+            unabsorbed: copy_chunk(&self.unabsorbed),
             stopped: self.stopped,
         }
     }

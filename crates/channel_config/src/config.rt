@@ -10,7 +10,7 @@ ghost use Rattle.channel_config.specs.declared.config.ConfigFault.TheVariants as
 use crate::names::{SubchannelId, subchannel_named};
 use crate::parts::{ChpidList, SubchannelSetup, UnitKind};
 use chan_model::names::Side;
-use memory::{Given, Supply, make_room, push};
+use memory::{Allocator, Supply, make_room, push};
 use std::alloc::{AllocError, Global};
 use std::marker::Model;
 
@@ -126,13 +126,13 @@ impl Config {
     pub fn path(&mut self, chpid: u32) -> Result<(), ConfigFault>
         ensures { Configures self.old self.new result (spec.with_path self.old chpid) }
     {
-        self.path_with(&mut Given { refused: false }, chpid)
+        self.path_with(&mut Allocator { refused: false }, chpid)
     }
 
     /// One channel path more, by its identifier. `ChannelPath` is broken: it is given twice, or is above FF (hexadecimal).
     pub fn path_with<S: Supply>(&mut self, supply: &mut S, chpid: u32) -> Result<(), ConfigFault>
         ensures does { Configures self.old self.new result (spec.with_path self.old chpid) }
-        ensures given { OnOk result (S.refused supply.new ≡ S.refused supply.old) }
+        ensures unrefused { OnOk result (S.refused supply.new ≡ S.refused supply.old) }
         ensures memory { result ≡ Err config_fault.NoMemory → S.refused supply.new ≡ true }
     {
         if chpid > 0xFF || has_chpid(&self.paths, chpid) {
@@ -146,7 +146,7 @@ impl Config {
     pub fn unit(&mut self, number: u32, kind: UnitKind) -> Result<(), ConfigFault>
         ensures { Configures self.old self.new result (spec.with_unit self.old number kind) }
     {
-        self.unit_with(&mut Given { refused: false }, number, kind)
+        self.unit_with(&mut Allocator { refused: false }, number, kind)
     }
 
     /// One unit more. `UnitNumber` is broken: its number is not the next, or is above 3FF (hexadecimal).
@@ -157,7 +157,7 @@ impl Config {
         kind: UnitKind,
     ) -> Result<(), ConfigFault>
         ensures does { Configures self.old self.new result (spec.with_unit self.old number kind) }
-        ensures given { OnOk result (S.refused supply.new ≡ S.refused supply.old) }
+        ensures unrefused { OnOk result (S.refused supply.new ≡ S.refused supply.old) }
         ensures memory { result ≡ Err config_fault.NoMemory → S.refused supply.new ≡ true }
     {
         if number as usize != self.units.len() || number > 0x3FF {
@@ -193,7 +193,7 @@ impl Config {
     ) -> Result<(), ConfigFault>
         ensures { Configures self.old self.new result (spec.with_subchannel self.old word device unit paths.now) }
     {
-        self.subchannel_with(&mut Given { refused: false }, word, device, unit, paths)
+        self.subchannel_with(&mut Allocator { refused: false }, word, device, unit, paths)
     }
 
     /// One subchannel more, with its device number, its unit and its channel paths by path index. `word` is the
@@ -212,7 +212,7 @@ impl Config {
         paths: &[u32],
     ) -> Result<(), ConfigFault>
         ensures does { Configures self.old self.new result (spec.with_subchannel self.old word device unit paths.now) }
-        ensures given { OnOk result (S.refused supply.new ≡ S.refused supply.old) }
+        ensures unrefused { OnOk result (S.refused supply.new ≡ S.refused supply.old) }
         ensures memory { result ≡ Err config_fault.NoMemory → S.refused supply.new ≡ true }
     {
         if device > 0xFFFF {
@@ -308,7 +308,7 @@ impl Config {
         supply: &mut S,
     ) -> Result<Vec<u16>, AllocError>
         ensures groups { IfOk result (λ groups. groups.items ≡ spec.groups_of self.now) }
-        ensures given { OnOk result (S.refused supply.new ≡ S.refused supply.old) }
+        ensures unrefused { OnOk result (S.refused supply.new ≡ S.refused supply.old) }
         ensures memory { OnErr result (S.refused supply.new ≡ true) }
     {
         groups_from(alloc, supply, self.shared.as_slice())
@@ -456,7 +456,7 @@ fn groups_from<S: Supply>(
 ) -> Result<Vec<u16>, AllocError>
     requires { length shared.now ≤ 0x400 }
     ensures groups { IfOk result (λ groups. groups.items ≡ spec.groups_from 0 shared.now) }
-    ensures given { OnOk result (S.refused supply.new ≡ S.refused supply.old) }
+    ensures unrefused { OnOk result (S.refused supply.new ≡ S.refused supply.old) }
     ensures memory { OnErr result (S.refused supply.new ≡ true) }
 {
     let mut groups = Vec::new(alloc);

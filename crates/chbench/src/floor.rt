@@ -5,7 +5,7 @@ use chan_events::reply::Reply;
 use chan_model::chunk::CHUNK_BYTES;
 use core_lock::guarded::Guarded;
 use core_lock::locked::Seat;
-use core_lock::naming::Naming;
+use core_lock::naming::MachineBrand;
 use core_lock::stock::SeatStock;
 use device_law::answering::answer_to;
 use device_models::any_device::AnyDevice;
@@ -206,14 +206,14 @@ impl Floor for Performing {
 
 /// What a lock would guard, the seats that can still be made, and one that was made: what is entered stays with the benchmark.
 #[derive(Drop)]
-pub struct Seated<J: Naming> {
+pub struct Seated<J: MachineBrand> {
     pub guarded: Guarded<J, Rotating>,
     pub stock: SeatStock<J>,
     pub seat: Seat<J>,
     pub report: ReportSlot,
 }
 
-impl<J: Naming> Floor for Seated<J> {
+impl<J: MachineBrand> Floor for Seated<J> {
     fn accepts(&mut self, event: &Event) -> bool {
         match &self.guarded.enter(&mut self.seat, event) {
             Ok(reply) => is_whole(reply),

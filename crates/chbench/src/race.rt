@@ -7,7 +7,7 @@ use chan_events::event::Instruction;
 use chan_model::names::Cpu;
 use core_lock::executing::CpuInstruction;
 use core_lock::locked::{Core, Seat, audit};
-use core_lock::naming::Naming;
+use core_lock::naming::MachineBrand;
 use machine_lock::locked_machine::Machine;
 use path_select::Rotating;
 use std::alloc::{AllocError, Global};
@@ -46,13 +46,13 @@ enum Task {
 
 /// A seat, what it is for, and how much was answered to it.
 #[derive(Drop)]
-struct Runner<J: Naming> {
+struct Runner<J: MachineBrand> {
     seat: Seat<J>,
     task: Task,
     answered: u64,
 }
 
-impl<J: Naming> Runner<J> {
+impl<J: MachineBrand> Runner<J> {
     /// Does so many times what it is for.
     fn run<R: Wait>(&mut self, rt: &R, machine: &Machine<J, Rotating>, times: u64) {
         self.answered = match &self.task {
@@ -63,7 +63,7 @@ impl<J: Naming> Runner<J> {
 }
 
 /// A CPU executes TEST SUBCHANNEL so many times: how many were answered.
-fn tests<J: Naming, R: Wait>(
+fn tests<J: MachineBrand, R: Wait>(
     rt: &R,
     machine: &Machine<J, Rotating>,
     seat: &mut Seat<J>,
@@ -84,7 +84,7 @@ fn tests<J: Naming, R: Wait>(
 }
 
 /// So many looks at the serials of the subchannel: how many were answered.
-fn looks<J: Naming>(seat: &mut Seat<J>, times: u64) -> u64 {
+fn looks<J: MachineBrand>(seat: &mut Seat<J>, times: u64) -> u64 {
     let mut answered = 0u64;
     for _ in 0..times {
         if seat.glance(word_of(0)).is_ok() {
@@ -95,7 +95,7 @@ fn looks<J: Naming>(seat: &mut Seat<J>, times: u64) -> u64 {
 }
 
 /// One more runner; false where there is no seat or no memory.
-fn add<J: Naming>(core: &mut Core<J, Rotating>, runners: &mut Vec<Runner<J>>, task: Task) -> bool {
+fn add<J: MachineBrand>(core: &mut Core<J, Rotating>, runners: &mut Vec<Runner<J>>, task: Task) -> bool {
     let Ok(seat) = core.seat() else {
         return false;
     };
@@ -109,7 +109,7 @@ fn add<J: Naming>(core: &mut Core<J, Rotating>, runners: &mut Vec<Runner<J>>, ta
 }
 
 /// The CPUs, and then the lookers.
-fn runners_of<J: Naming>(
+fn runners_of<J: MachineBrand>(
     alloc: Global,
     core: &mut Core<J, Rotating>,
     race: Race,
@@ -130,7 +130,7 @@ fn runners_of<J: Naming>(
 }
 
 /// The seats of these runners behind the first one, and how many instructions and looks were answered to them.
-fn gathered<J: Naming>(
+fn gathered<J: MachineBrand>(
     alloc: Global,
     first: Seat<J>,
     runners: Vec<Runner<J>>,
@@ -155,7 +155,7 @@ fn gathered<J: Naming>(
 }
 
 /// The runners run: what came of it, with all seats; None where there are no runners, or no memory.
-fn ran<J: Naming + Send + Sync, R: Threads + Wait + Sync>(
+fn ran<J: MachineBrand + Send + Sync, R: Threads + Wait + Sync>(
     rt: &R,
     alloc: Global,
     machine: &Machine<J, Rotating>,
@@ -174,7 +174,7 @@ fn ran<J: Naming + Send + Sync, R: Threads + Wait + Sync>(
 }
 
 /// What all seats did, and whether the audit found all of it in the history.
-fn counted<J: Naming>(
+fn counted<J: MachineBrand>(
     core: Core<J, Rotating>,
     seats: Vec<Seat<J>>,
     instructions: u64,
@@ -191,7 +191,7 @@ fn counted<J: Naming>(
 }
 
 /// All runners run at this core, once the seat has made it ready.
-fn race_from<J: Naming + Send + Sync, R: Threads + Wait + Sync>(
+fn race_from<J: MachineBrand + Send + Sync, R: Threads + Wait + Sync>(
     rt: &R,
     alloc: Global,
     core: Core<J, Rotating>,
@@ -208,7 +208,7 @@ fn race_from<J: Naming + Send + Sync, R: Threads + Wait + Sync>(
 }
 
 /// All run at one locked core; None where there are not so many CPUs or seats, or no memory.
-pub fn run_race<J: Naming + Send + Sync, R: Threads + Wait + Sync>(
+pub fn run_race<J: MachineBrand + Send + Sync, R: Threads + Wait + Sync>(
     rt: &R,
     alloc: Global,
     seated: Seated<J>,

@@ -11,7 +11,7 @@ use crate::floor::{ReportSlot, Seated};
 use crate::race::{Race, RaceCount, run_race};
 use channel_config::config::Config;
 use core_lock::locked::Core;
-use core_lock::naming::Naming;
+use core_lock::naming::MachineBrand;
 use core_lock::parts::Parts;
 use path_select::Rotating;
 use std::alloc::Global;
@@ -57,7 +57,7 @@ impl Task {
 }
 
 /// A core with its first seat.
-fn with_seat<J: Naming>(core: Core<J, Rotating>) -> Option<Seated<J>> {
+fn with_seat<J: MachineBrand>(core: Core<J, Rotating>) -> Option<Seated<J>> {
     let mut core = core;
     let seat = core.seat().ok()?;
     let (guarded, stock) = core.split();
@@ -70,7 +70,7 @@ fn with_seat<J: Naming>(core: Core<J, Rotating>) -> Option<Seated<J>> {
 }
 
 /// A core of this name, with its first seat.
-fn seated<J: Naming>(alloc: Global, config: Config, parts: Parts) -> Option<Seated<J>>
+fn seated<J: MachineBrand>(alloc: Global, config: Config, parts: Parts) -> Option<Seated<J>>
     requires named { parts.name ≡ J.name }
     requires set_up { J.setup ≡ config }
     requires directory { parts.name.directory ≡ directory_of (opening_of config) }
@@ -84,7 +84,7 @@ fn seated<J: Naming>(alloc: Global, config: Config, parts: Parts) -> Option<Seat
 }
 
 /// Cycles at a core, by its first seat.
-fn cycled<J: Naming>(
+fn cycled<J: MachineBrand>(
     alloc: Global,
     seated: Seated<J>,
     kind: Kind,
@@ -96,7 +96,7 @@ fn cycled<J: Naming>(
 }
 
 /// Performs a task at a core of this name.
-fn performed<J: Naming + Send + Sync, R: Threads + Wait + Sync>(
+fn performed<J: MachineBrand + Send + Sync, R: Threads + Wait + Sync>(
     rt: &R,
     alloc: Global,
     config: Config,

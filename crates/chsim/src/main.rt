@@ -15,7 +15,7 @@ mod tests;
 use crate::outcome::Outcome;
 use command_words::{Refused, TextSupply, Wanted, command_of};
 use core_lock::supplies::CoreSupply;
-use memory::Given;
+use memory::Allocator;
 use script_runner::{check_script_with, race_script_with, serve_script_with};
 use std::alloc::Global;
 use std::io::ErrorKind;
@@ -120,7 +120,7 @@ pub fn code_of(outcome: Outcome) -> ExitCode
 }
 
 fn main(rt: HostRuntime) -> ExitCode {
-    let mut supply = Given { refused: false };
+    let mut supply = Allocator { refused: false };
     let outcome = match run(&rt, &rt, &mut supply) {
         Ok(outcome) | Err(outcome) => outcome,
     };

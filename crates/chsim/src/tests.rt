@@ -20,7 +20,7 @@ use crate::outcome::Outcome;
 use crate::serve;
 use crate::tests::scenes::Scene;
 use crate::tests::want_of_memory::{Short, Slow};
-use memory::{FailingMemory, Given};
+use memory::{FailingMemory, Allocator};
 use script_runner::Ending;
 use std::sync::Wait;
 use std::thread::Threads;
@@ -34,7 +34,7 @@ pub fn served<R: Threads + Wait + Sync + AllocGlobal>(
 ) -> (Vec<u8>, u8) {
     let mut reader = CheckedReader::new(text);
     let mut sink = CheckedWriter::new(Vec::new(rt.alloc()));
-    let mut supply = Given { refused: false };
+    let mut supply = Allocator { refused: false };
     let outcome = serve(
         rt,
         rt.alloc(),
@@ -101,7 +101,7 @@ fn a_text_that_is_not_read_is_not_served(rt: HostRuntime) {
             fails_at,
         });
         let mut sink = CheckedWriter::new(Vec::new(rt.alloc()));
-        let mut supply = Given { refused: false };
+        let mut supply = Allocator { refused: false };
         let outcome = serve(
             &rt,
             rt.alloc(),
@@ -132,7 +132,7 @@ fn nothing_is_performed_after_a_write_fails(rt: HostRuntime) {
             calls: 0,
             fails_at,
         });
-        let mut supply = Given { refused: false };
+        let mut supply = Allocator { refused: false };
         let outcome = serve(
             &rt,
             rt.alloc(),
@@ -267,7 +267,7 @@ fn other_words_show_a_text(rt: HostRuntime) {
     for (words, begins) in rows {
         let mut reader = CheckedReader::new(GOOD);
         let mut sink = CheckedWriter::new(Vec::new(rt.alloc()));
-        let mut supply = Given { refused: false };
+        let mut supply = Allocator { refused: false };
         let outcome = serve(&rt, rt.alloc(), &mut supply, words, &mut reader, &mut sink);
         let out = sink.writer;
         assert!(rt; out.as_slice().starts_with(begins.as_bytes()), "{begins}");
@@ -291,7 +291,7 @@ fn what_is_not_written_is_told(rt: HostRuntime) {
             calls: 0,
             fails_at: 1,
         });
-        let mut supply = Given { refused: false };
+        let mut supply = Allocator { refused: false };
         let outcome = serve(&rt, rt.alloc(), &mut supply, words, &mut reader, &mut sink);
         assert!(rt; sink.writer.text.len() == 0 && ends(outcome, status, Some(UNWRITTEN)));
     }

@@ -10,7 +10,7 @@ ghost use Rattle.command_words.specs.declared.Wanted.{Wanted};
 
 use clap::Command;
 use clap::error::{Error, ErrorKind};
-use memory::{FailingMemory, Given, Supply};
+use memory::{FailingMemory, Allocator, Supply};
 use std::alloc::{AllocError, Global};
 
 /// What the words ask for.
@@ -44,11 +44,11 @@ pub trait TextSupply: Supply {
     /// The text about these words. There is none only where memory for it was refused.
     fn text<'a>(&mut self, alloc: Global, words: &'a [&'a str]) -> Result<String, AllocError>
         ensures told { IfOk result (λ text. tells (map (λ word. word.now) words.now) (string_bytes text)) }
-        ensures given { OnOk result (Self.refused self.new ≡ Self.refused self.old) }
+        ensures unrefused { OnOk result (Self.refused self.new ≡ Self.refused self.old) }
         ensures taken { OnErr result (Self.refused self.new ≡ true) };
 }
 
-impl TextSupply for Given {
+impl TextSupply for Allocator {
     ghost use Rattle.command_words.specs.Texts.{SaysAnything};
 
     ghost tells = { SaysAnything };

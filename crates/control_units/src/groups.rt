@@ -22,7 +22,7 @@ pub fn idle_groups<S: Supply>(
     count: usize,
 ) -> Result<Vec<Group>, AllocError>
     ensures idle { IfOk result (λ groups. groups.items ≡ replicate count spec.idle_group) }
-    ensures given { OnOk result (S.refused supply.new ≡ S.refused supply.old) }
+    ensures unrefused { OnOk result (S.refused supply.new ≡ S.refused supply.old) }
     ensures memory { OnErr result (S.refused supply.new ≡ true) }
 {
     let idle = Group {

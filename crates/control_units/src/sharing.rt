@@ -7,7 +7,7 @@ ghost use Rattle.control_units.specs.Units as spec;
 
 use crate::groups::{Group, change_begun, idle_groups, set_refused};
 use crate::{ControlUnit, Member};
-use memory::{Given, Supply, push};
+use memory::{Allocator, Supply, push};
 use std::alloc::{AllocError, Global};
 use std::marker::Model;
 
@@ -36,7 +36,7 @@ impl Sharing {
     pub fn new(alloc: Global, groups: &[u16]) -> Result<Sharing, AllocError>
         ensures { IfOk result (λ sharing. sharing ≡ map spec.idle_member groups.now) }
     {
-        Sharing::new_with(alloc, &mut Given { refused: false }, groups)
+        Sharing::new_with(alloc, &mut Allocator { refused: false }, groups)
     }
 
     /// Units of these groups, by their numbers, in what room a supply has; none is begun. Where the supply refuses a
@@ -47,7 +47,7 @@ impl Sharing {
         groups: &[u16],
     ) -> Result<Sharing, AllocError>
         ensures made { IfOk result (λ sharing. sharing ≡ map spec.idle_member groups.now) }
-        ensures given { OnOk result (S.refused supply.new ≡ S.refused supply.old) }
+        ensures unrefused { OnOk result (S.refused supply.new ≡ S.refused supply.old) }
         ensures memory { OnErr result (S.refused supply.new ≡ true) }
     {
         Ok(Sharing {
@@ -253,7 +253,7 @@ fn idle_members<S: Supply>(
     groups: &[u16],
 ) -> Result<Vec<Member>, AllocError>
     ensures idle { IfOk result (λ members. members.items ≡ map spec.idle_member groups.now) }
-    ensures given { OnOk result (S.refused supply.new ≡ S.refused supply.old) }
+    ensures unrefused { OnOk result (S.refused supply.new ≡ S.refused supply.old) }
     ensures memory { OnErr result (S.refused supply.new ≡ true) }
 {
     let mut members = Vec::new(alloc);

@@ -42,7 +42,7 @@ module _ (picks : Rule) (core : GuardedCore) (seat : HeldSeat) (e : Event) where
 pub executes : (picks : Rule) (core new : GuardedCore) (seat after : HeldSeat) (e : Event) (r : Result Reply Fault) → IsEntered picks core seat e r new after → Executes picks core seat e r new.value after.value
 executes picks core new seat after e (Ok r) c = ((c.step, c.history, c.by, c.logged), c.ruled (not_failed r))
 executes picks core new seat after e (Err f) c =
-    (refused_so picks core seat e f c.refusal c.spent (λ other. subst (λ (l : Guarded). GoesByRule picks core.value.state e (Err f) l.state) c.core (c.ruled other)), c.core, c.seat)
+    (refused_so picks core seat e f c.refusal c.exhausted (λ other. subst (λ (l : Guarded). GoesByRule picks core.value.state e (Err f) l.state) c.core (c.ruled other)), c.core, c.seat)
 
 pub tries_ok : (picks : Rule) (core new : GuardedCore) (seat after : HeldSeat) (e : Event) (r : Reply) → IsEntered picks core seat e (Ok r) new after → Tries picks core seat seat.value e (Ok true) new.value after.value
 tries_ok picks core new seat after e r c = (r, executes picks core new seat after e (Ok r) c)

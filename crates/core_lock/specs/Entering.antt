@@ -73,7 +73,7 @@ pub record IsEntered (picks : Rule) (old : GuardedCore) (held : HeldSeat) (e : E
   -- a refusal is the machine's, or for want of memory
   pub refusal : IfErr answer (λ f. MayRefuse old.value.state e f)
   -- memory is wanting only where there is no room, or no number is left
-  pub spent : answer ≡ Err fault.NoMemory → IsExhausted old held
+  pub exhausted : answer ≡ Err fault.NoMemory → IsExhausted old held
   -- a refusal leaves what the lock guards as it was
   pub core : OnErr answer (new.value ≡ old.value)
   -- a refusal leaves the seat as it was

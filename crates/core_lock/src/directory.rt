@@ -34,7 +34,7 @@ impl Directory {
         config: &Config,
     ) -> Result<Directory, AllocError>
         ensures made { IfOk result (λ d. d ≡ directory_by config.now) }
-        ensures given { OnOk result (S.refused supply.new ≡ S.refused supply.old) }
+        ensures unrefused { OnOk result (S.refused supply.new ≡ S.refused supply.old) }
         ensures memory { OnErr result (S.refused supply.new ≡ true) }
     {
         Ok(Directory {
@@ -74,7 +74,7 @@ fn copies_of<S: Supply>(
     setups: &[SubchannelSetup],
 ) -> Result<Vec<SubchannelSetup>, AllocError>
     ensures copies { IfOk result (λ copies. copies.items ≡ setups.now) }
-    ensures given { OnOk result (S.refused supply.new ≡ S.refused supply.old) }
+    ensures unrefused { OnOk result (S.refused supply.new ≡ S.refused supply.old) }
     ensures memory { OnErr result (S.refused supply.new ≡ true) }
 {
     let mut copies = Vec::new(alloc);

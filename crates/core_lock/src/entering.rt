@@ -8,7 +8,7 @@ ghost use Rattle.core_lock.specs.Entering.{IsEntered, core_of, starved_after};
 ghost use Rattle.core_lock.specs.Named.{cells_of, shown};
 
 use crate::locked::Seat;
-use crate::naming::{Entries, Naming};
+use crate::naming::{Entries, MachineBrand};
 use crate::pairs::{publish, raise};
 use crate::touching::{touched_by, touches};
 use chan_events::event::Event;
@@ -22,7 +22,7 @@ use subsystem::subsystem::Subsystem;
 
 /// By which seat each entry of a history was entered, and the ledger of how many each seat entered.
 #[derive(Drop)]
-pub(crate) struct EntrySeats<J: Naming> {
+pub(crate) struct EntrySeats<J: MachineBrand> {
     pub by: Vec<u16>,
     pub entries: Book<Entries<J>>,
 }
@@ -31,14 +31,14 @@ pub(crate) struct EntrySeats<J: Naming> {
 #[inline(always)]
 fn make_room<S: Supply>(supply: &mut S, by: &mut Vec<u16>, log: &mut Log) -> Result<(), Fault>
     ensures refusal { IfErr result (λ f. f ≡ fault_spec.NoMemory) }
-    ensures spent { OnErr result (min (vec_capacity by.old - vec_len by.old) log.old.room ≡ 0) }
+    ensures exhausted { OnErr result (min (vec_capacity by.old - vec_len by.old) log.old.room ≡ 0) }
     ensures made { OnOk result ((vec_len by.new < vec_capacity by.new) × (1 ≤ log.new.room)) }
     ensures items { by.new.items ≡ by.old.items }
     ensures len { vec_len by.new ≡ vec_len by.old }
     ensures capacity { vec_capacity by.old ≤ vec_capacity by.new }
     ensures log { IsKept log.old log.new }
     ensures reply { log.new.reply ≡ log.old.reply }
-    ensures given { OnOk result (S.refused supply.new ≡ S.refused supply.old) }
+    ensures unrefused { OnOk result (S.refused supply.new ≡ S.refused supply.old) }
     ensures memory { OnErr result (S.refused supply.new ≡ true) }
 {
     if ensure_room(supply, by, 1).is_err() || log.make_room_with(supply).is_err() {
@@ -62,7 +62,7 @@ fn counted(answer: Result<(), Fault>, starved: &mut u64) -> Result<(), Fault>
 /// One step at a subsystem, entered from a seat: its entry in the history with the number of its seat beside it, and in the
 /// seat's log, and the serials that it changed in the glance cells.
 #[inline(always)]
-pub(crate) fn keep_entry<S: Supply, J: Naming, P: PathChoice + Drop>(
+pub(crate) fn keep_entry<S: Supply, J: MachineBrand, P: PathChoice + Drop>(
     subsystem: &mut Subsystem<P>,
     entry_seats: &mut EntrySeats<J>,
     writers: &mut Vec<Writer>,
@@ -80,7 +80,7 @@ pub(crate) fn keep_entry<S: Supply, J: Naming, P: PathChoice + Drop>(
     ensures set_up { StaysSetUp subsystem.old.state subsystem.new.state }
     ensures entered { IsEntered P.picks (core_of subsystem.old entry_seats.old.by) seat.old event.now (answer_of result subsystem.new.history)
         (core_of subsystem.new entry_seats.new.by) seat.new }
-    ensures given { result ≢ Err fault_spec.NoMemory → S.refused supply.new ≡ S.refused supply.old }
+    ensures unrefused { result ≢ Err fault_spec.NoMemory → S.refused supply.new ≡ S.refused supply.old }
     ensures memory { result ≡ Err fault_spec.NoMemory →
         (S.refused supply.new ≡ true) ⊎ (2 ^ 62 ≤ length subsystem.old.history + 1) }
 {

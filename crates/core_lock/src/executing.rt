@@ -9,12 +9,12 @@ ghost use Rattle.core_lock.specs.Turns.{Executes, MayStand};
 
 use crate::guarded::Guarded;
 use crate::locked::Seat;
-use crate::naming::Naming;
+use crate::naming::MachineBrand;
 use chan_events::event::{Event, Instruction, OtherInstruction};
 use chan_events::reply::Reply;
 use chan_model::fault::Fault;
 use chan_model::names::Cpu;
-use memory::Given;
+use memory::Allocator;
 use path_select::PathChoice;
 
 /// An I/O instruction of a CPU.
@@ -26,7 +26,7 @@ pub enum CpuInstruction {
     OfSubsystem(OtherInstruction),
 }
 
-impl<J: Naming, P: PathChoice + Drop> Guarded<J, P> {
+impl<J: MachineBrand, P: PathChoice + Drop> Guarded<J, P> {
     /// One event is entered from the seat. Where it is refused all is as before; it is refused `NoMemory` only where there is no
     /// room for the entry, and otherwise as the machine refuses it.
     pub fn enter(&mut self, seat: &mut Seat<J>, event: &Event) -> Result<Reply, Fault>
@@ -37,7 +37,7 @@ impl<J: Naming, P: PathChoice + Drop> Guarded<J, P> {
         ensures refusal { IfErr result (λ f. (s : State) × MayStand seat.old.value.setup s × spec.MayRefuse s event.now f) }
     {
         self.stands(seat);
-        self.enter_with(&mut Given { refused: false }, seat, event)
+        self.enter_with(&mut Allocator { refused: false }, seat, event)
     }
 
     /// A CPU executes an instruction: its event is entered from the seat, as `enter` has it.

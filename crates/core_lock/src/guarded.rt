@@ -20,7 +20,7 @@ ghost use Rattle.core_lock.specs.Turns as turn_spec;
 use crate::directory::Directory;
 use crate::entering::{EntrySeats, keep_entry};
 use crate::locked::Seat;
-use crate::naming::{Entries, Naming, Turns};
+use crate::naming::{Entries, MachineBrand, Turns};
 use crate::pairs::{first_pairs, watch};
 use crate::parts::Parts;
 use crate::same_log::is_log;
@@ -30,7 +30,7 @@ use chan_events::event::Event;
 use chan_events::reply::Reply;
 use chan_model::fault::Fault;
 use glance_cell::cell::{Reader, Writer};
-use memory::{Given, Supply};
+use memory::{Allocator, Supply};
 use path_select::PathChoice;
 use scsw_irb::serials::Serials;
 use std::alloc::{AllocError, Global};
@@ -42,7 +42,7 @@ use subsystem::subsystem::Subsystem;
 /// What the lock of a machine guards: its subsystem, the seat of each entry of its history, and the glance cells of its
 /// subchannels.
 #[derive(Drop)]
-pub struct Guarded<J: Naming, P: PathChoice + Drop> {
+pub struct Guarded<J: MachineBrand, P: PathChoice + Drop> {
     pub(crate) subsystem: Subsystem<P>,
     entry_seats: EntrySeats<J>,
     pub(crate) writers: Vec<Writer>,
@@ -50,7 +50,7 @@ pub struct Guarded<J: Naming, P: PathChoice + Drop> {
     pub(crate) turns: Book<Turns<J>>,
 }
 
-impl<J: Naming, P: PathChoice + Drop> Model for Guarded<J, P> {
+impl<J: MachineBrand, P: PathChoice + Drop> Model for Guarded<J, P> {
     ghost use Rattle.std.specs.Arc.{arc_value};
     ghost use Rattle.core_lock.specs.Seats.{GuardedCore};
     ghost use Rattle.core_lock.specs.Entering.{core_of};
@@ -73,7 +73,7 @@ pub(crate) struct FirstLook {
 
 /// A subsystem to which nothing happened yet, with the parts of its configuration and an empty list: what the lock of its
 /// machine will guard, and the seats of the machine.
-pub(crate) fn open<J: Naming, P: PathChoice + Drop>(
+pub(crate) fn open<J: MachineBrand, P: PathChoice + Drop>(
     alloc: Global,
     subsystem: Subsystem<P>,
     by: Vec<u16>,
@@ -107,7 +107,7 @@ pub(crate) fn open<J: Naming, P: PathChoice + Drop>(
     (guarded, SeatStock::new(alloc, rest, turns_left))
 }
 
-impl<J: Naming, P: PathChoice + Drop> Guarded<J, P> {
+impl<J: MachineBrand, P: PathChoice + Drop> Guarded<J, P> {
     /// The subsystem, to look at. Whoever holds the core, under its lock or not, has what every run of a subsystem keeps.
     pub fn subsystem(&self) -> &Subsystem<P>
         ensures state { result.now.state ≡ self.now.value.state }
@@ -137,7 +137,7 @@ impl<J: Naming, P: PathChoice + Drop> Guarded<J, P> {
         ensures pairs { IfOk result (λ look. look.pairs.items ≡ all_serials self.old.value.state) }
         ensures ordered { IfOk result (λ look. All IsOrdered look.pairs.items) }
         ensures same { self.new ≡ self.old }
-        ensures given { OnOk result (S.refused supply.new ≡ S.refused supply.old) }
+        ensures unrefused { OnOk result (S.refused supply.new ≡ S.refused supply.old) }
         ensures memory { OnErr result (S.refused supply.new ≡ true) }
     {
         let directory = supply.share_again(&self.directory)?;
@@ -189,7 +189,7 @@ impl<J: Naming, P: PathChoice + Drop> Guarded<J, P> {
         event: &Event,
     ) -> Result<(), Fault>
         ensures entered { IsEntered P.picks self.old seat.old event.now (answer_of result self.new.value.history) self.new seat.new }
-        ensures given { result ≢ Err fault_spec.NoMemory → S.refused supply.new ≡ S.refused supply.old }
+        ensures unrefused { result ≢ Err fault_spec.NoMemory → S.refused supply.new ≡ S.refused supply.old }
         ensures memory { result ≡ Err fault_spec.NoMemory →
             (S.refused supply.new ≡ true) ⊎ (2 ^ 62 ≤ length self.old.value.history + 1) }
     {
@@ -212,7 +212,7 @@ impl<J: Naming, P: PathChoice + Drop> Guarded<J, P> {
         event: &Event,
     ) -> Result<Reply, Fault>
         ensures entered { IsEntered P.picks self.old seat.old event.now result self.new seat.new }
-        ensures given { result ≢ Err fault_spec.NoMemory → S.refused supply.new ≡ S.refused supply.old }
+        ensures unrefused { result ≢ Err fault_spec.NoMemory → S.refused supply.new ≡ S.refused supply.old }
         ensures memory { result ≡ Err fault_spec.NoMemory →
             (S.refused supply.new ≡ true) ⊎ (2 ^ 62 ≤ length self.old.value.history + 1) }
     {
@@ -227,7 +227,7 @@ impl<J: Naming, P: PathChoice + Drop> Guarded<J, P> {
     pub(crate) fn try_enter(&mut self, seat: &mut Seat<J>, event: &Event) -> Result<bool, Fault>
         ensures { turn_spec.Tries P.picks self.old seat.old seat.old.value event.now result self.new.value seat.new.value }
     {
-        self.perform_with(&mut Given { refused: false }, seat, event)?;
+        self.perform_with(&mut Allocator { refused: false }, seat, event)?;
         Ok(true)
     }
 }

@@ -19,14 +19,14 @@ ghost use Rattle.core_lock.specs.Seats.{entries_by};
 
 use crate::directory::Directory;
 use crate::guarded::{FirstLook, Guarded, open};
-use crate::naming::{Entries, Naming, Turns};
+use crate::naming::{Entries, MachineBrand, Turns};
 use crate::parts::Parts;
 use crate::stock::SeatStock;
 use crate::supplies::CoreSupply;
 use chan_model::fault::Fault;
 use event_log::logs::Log;
 use glance_cell::cell::Reader;
-use memory::Given;
+use memory::Allocator;
 use path_select::PathChoice;
 use scsw_irb::serials::Serials;
 use std::alloc::Global;
@@ -42,12 +42,12 @@ pub const MOST_SEATS: u16 = 1024;
 
 /// A subsystem that is to be locked: what its lock will guard, and the seats that can still be made.
 #[derive(Drop)]
-pub struct Core<J: Naming, P: PathChoice + Drop> {
+pub struct Core<J: MachineBrand, P: PathChoice + Drop> {
     pub(crate) guarded: Guarded<J, P>,
     stock: SeatStock<J>,
 }
 
-impl<J: Naming, P: PathChoice + Drop> Model for Core<J, P> {
+impl<J: MachineBrand, P: PathChoice + Drop> Model for Core<J, P> {
     ghost use Rattle.core_lock.specs.Seats.{LockedCore};
 
     ghost Value = { LockedCore };
@@ -67,7 +67,7 @@ pub struct NotMade<P: PathChoice + Drop> {
 
 /// A seat at a machine, with the log of what was entered from it, and what it saw of the serials of each subchannel.
 #[derive(Drop)]
-pub struct Seat<J: Naming> {
+pub struct Seat<J: MachineBrand> {
     pub(crate) number: u16,
     pub(crate) log: Log,
     pub(crate) directory: Arc<Directory>,
@@ -83,7 +83,7 @@ pub struct Seat<J: Naming> {
     pub(crate) left: Option<TakenCommand>,
 }
 
-impl<J: Naming> Model for Seat<J> {
+impl<J: MachineBrand> Model for Seat<J> {
     ghost use Rattle.std.specs.Arc.{arc_value};
     ghost use Rattle.core_lock.specs.Seats.{HeldSeat};
     ghost use Rattle.core_lock.specs.Keeping.{IsSeat};
@@ -111,7 +111,7 @@ impl<J: Naming> Model for Seat<J> {
     ghost invariant = { λ s. IsSeat (record { parts = s.share.parts; amount = s.share.amount }) s.turns.parts s.log s.pairs.items s.readers.items (arc_value s.directory) J.name };
 }
 
-impl<J: Naming, P: PathChoice + Drop> Core<J, P> {
+impl<J: MachineBrand, P: PathChoice + Drop> Core<J, P> {
     /// A subsystem to which nothing happened yet, with the parts of its configuration. Where no memory is left, both are
     /// handed back.
     pub fn new(alloc: Global, subsystem: Subsystem<P>, parts: Parts) -> Result<Self, NotMade<P>>
@@ -124,7 +124,7 @@ impl<J: Naming, P: PathChoice + Drop> Core<J, P> {
         ensures subsystem { IfErr result (λ given. given.subsystem ≡ subsystem) }
         ensures parts { IfErr result (λ given. given.parts ≡ parts) }
     {
-        Core::new_with(alloc, &mut Given { refused: false }, subsystem, parts)
+        Core::new_with(alloc, &mut Allocator { refused: false }, subsystem, parts)
     }
 
     /// A subsystem to which nothing happened yet, with the parts of its configuration, in what room a supply has.
@@ -143,7 +143,7 @@ impl<J: Naming, P: PathChoice + Drop> Core<J, P> {
         ensures made { IfOk result (λ core. core.value ≡ record { state = subsystem.state; history = []; by = []; seats = 0 }) }
         ensures subsystem { IfErr result (λ given. given.subsystem ≡ subsystem) }
         ensures parts { IfErr result (λ given. given.parts ≡ parts) }
-        ensures given { OnOk result (S.refused supply.new ≡ S.refused supply.old) }
+        ensures unrefused { OnOk result (S.refused supply.new ≡ S.refused supply.old) }
         ensures memory { OnErr result (S.refused supply.new ≡ true) }
     {
         let mut by = Vec::new(alloc);
@@ -195,7 +195,7 @@ impl<J: Naming, P: PathChoice + Drop> Core<J, P> {
         ensures refused { IfErr result (λ f. (f ≡ fault_spec.NoMemory) ⊎ ((f ≡ fault_spec.NotNow) × (self.old.value.seats ≡ 1024))) }
         ensures err { OnErr result (self.new ≡ self.old) }
     {
-        self.seat_with(&mut Given { refused: false })
+        self.seat_with(&mut Allocator { refused: false })
     }
 
     /// One more seat, in what memory a supply has. It is refused NotNow where 1,024 were made, and otherwise only where the
@@ -224,7 +224,7 @@ impl<J: Naming, P: PathChoice + Drop> Core<J, P> {
         ensures core { IfOk result (λ _. self.new ≡ record self.old { value = record self.old.value { seats = self.old.value.seats + 1 } }) }
         ensures refused { IfErr result (λ f. (f ≡ fault_spec.NoMemory) ⊎ ((f ≡ fault_spec.NotNow) × (self.old.value.seats ≡ 1024))) }
         ensures err { OnErr result (self.new ≡ self.old) }
-        ensures given { OnOk result (S.refused supply.new ≡ S.refused supply.old) }
+        ensures unrefused { OnOk result (S.refused supply.new ≡ S.refused supply.old) }
         ensures memory { result ≡ Err fault_spec.NoMemory → S.refused supply.new ≡ true }
     {
         let number = self.stock.made();
@@ -294,7 +294,7 @@ impl<J: Naming, P: PathChoice + Drop> Core<J, P> {
     }
 }
 
-impl<J: Naming> Seat<J> {
+impl<J: MachineBrand> Seat<J> {
     /// What the ledger has of it.
     fn into_share(self) -> Share<Entries<J>>
         ensures { (result.parts ≡ 1) × (result.amount ≡ length self.value.log) }
@@ -318,7 +318,7 @@ impl<J: Naming> Seat<J> {
 }
 
 /// The shares of these seats are put together with the rest: with all parts they have what the ledger counts.
-fn settle<J: Naming>(
+fn settle<J: MachineBrand>(
     entries: &mut Book<Entries<J>>,
     mut rest: Share<Entries<J>>,
     mut seats: Vec<Seat<J>>,
@@ -333,7 +333,7 @@ fn settle<J: Naming>(
 }
 
 /// Whether the log of each seat is what the history has of it, in order.
-pub fn audit<J: Naming, P: PathChoice + Drop>(core: &Core<J, P>, seats: &[Seat<J>]) -> bool
+pub fn audit<J: MachineBrand, P: PathChoice + Drop>(core: &Core<J, P>, seats: &[Seat<J>]) -> bool
     ensures { IsTrue result ↔ All (λ s. entries_by s.value.number core.now.value.by core.now.value.history ≡ s.value.log) seats.now }
 {
     for seat in seats {

@@ -11,7 +11,7 @@ ghost use Rattle.core_lock.specs.Turns as turn_spec;
 use crate::gate::{Gate, Gated};
 use crate::guarded::Guarded;
 use crate::locked::{Core, Seat};
-use crate::naming::Naming;
+use crate::naming::MachineBrand;
 use crate::pairs::greater;
 use chan_model::fault::Fault;
 use glance_cell::cell::{Reader, Writer};
@@ -19,7 +19,7 @@ use glance_cell::words::Glance;
 use path_select::PathChoice;
 use scsw_irb::serials::Serials;
 
-impl<J: Naming> Seat<J> {
+impl<J: MachineBrand> Seat<J> {
     /// Whether a call of a device is owed.
     pub fn owes(&self) -> bool
         ensures { result ≡ is_some self.now.value.owed }
@@ -72,7 +72,7 @@ impl<J: Naming> Seat<J> {
     }
 }
 
-impl<J: Naming, P: PathChoice + Drop> Core<J, P> {
+impl<J: MachineBrand, P: PathChoice + Drop> Core<J, P> {
     /// The serials of a subchannel, which the seat's reader loads while nothing changes them: they are what the machine has. It
     /// takes no memory, and is refused only where the subchannel is not configured.
     pub fn look(&mut self, seat: &mut Seat<J>, subchannel: u32) -> Result<Serials, Fault>
@@ -86,7 +86,7 @@ impl<J: Naming, P: PathChoice + Drop> Core<J, P> {
     }
 }
 
-impl<J: Naming, P: PathChoice + Drop> Guarded<J, P> {
+impl<J: MachineBrand, P: PathChoice + Drop> Guarded<J, P> {
     /// A look, as `Core::look` has it.
     fn look(&mut self, seat: &mut Seat<J>, subchannel: u32) -> Result<Serials, Fault>
         ensures found { IfOk result (λ found. Looks self.old.value.state seat.old.value subchannel found seat.new.value) }

@@ -7,7 +7,7 @@ use std::marker::{Brand, PhantomData};
 use std::sync::ledger::Ledger;
 
 /// Names one machine.
-pub trait Naming {
+pub trait MachineBrand {
     ghost use Rattle.channel_config.specs.Setup.{Setup};
     ghost use Rattle.core_lock.specs.Named.{MachineName};
 
@@ -18,7 +18,7 @@ pub trait Naming {
     ghost setup: { Setup };
 }
 
-impl Naming for Brand {
+impl MachineBrand for Brand {
     ghost use Rattle.std.specs.Prelude.{[]};
     ghost use Rattle.channel_config.specs.Setup.{no_setup};
 
@@ -28,18 +28,18 @@ impl Naming for Brand {
 }
 
 /// The ledger of the entries of a machine: a part for each of 1,024 seats, and one that the machine keeps.
-pub struct Entries<J: Naming>(PhantomData<J>);
+pub struct Entries<J: MachineBrand>(PhantomData<J>);
 
-impl<J: Naming> Ledger for Entries<J> {
+impl<J: MachineBrand> Ledger for Entries<J> {
     ghost name = { J.name.entries };
 
     ghost parts = { 1025 };
 }
 
 /// The ledger of the turns of its workers, which contracts alone see.
-pub struct Turns<J: Naming>(PhantomData<J>);
+pub struct Turns<J: MachineBrand>(PhantomData<J>);
 
-impl<J: Naming> Ledger for Turns<J> {
+impl<J: MachineBrand> Ledger for Turns<J> {
     ghost name = { J.name.turns };
 
     ghost parts = { 1025 };

@@ -86,7 +86,7 @@ pub fn watch<S: CellSupply>(
 ) -> Result<Vec<Reader>, AllocError>
     ensures same { writers.new.items ≡ writers.old.items }
     ensures seen { IfOk result (λ readers. readers.items ≡ writers.old.items) }
-    ensures given { OnOk result (S.refused supply.new ≡ S.refused supply.old) }
+    ensures unrefused { OnOk result (S.refused supply.new ≡ S.refused supply.old) }
     ensures memory { OnErr result (S.refused supply.new ≡ true) }
 {
     let mut readers = Vec::new(alloc);
@@ -105,7 +105,7 @@ pub fn first_pairs<S: Supply, P: PathChoice + Drop>(
 ) -> Result<Vec<Serials>, AllocError>
     ensures value { IfOk result (λ pairs. pairs.items ≡ all_serials subsystem.now.state) }
     ensures ordered { IfOk result (λ pairs. All IsOrdered pairs.items) }
-    ensures given { OnOk result (S.refused supply.new ≡ S.refused supply.old) }
+    ensures unrefused { OnOk result (S.refused supply.new ≡ S.refused supply.old) }
     ensures memory { OnErr result (S.refused supply.new ≡ true) }
 {
     let _first = subsystem.serials_at(0);

@@ -11,7 +11,7 @@ use crate::supplies::CoreSupply;
 use channel_config::config::Config;
 use glance_cell::cell::Writer;
 use glance_cell::supplies::CellSupply;
-use memory::{Given, push};
+use memory::{Allocator, push};
 use std::alloc::{AllocError, Global};
 use std::marker::Model;
 use std::sync::Arc;
@@ -47,7 +47,7 @@ impl Parts {
         ensures directory { IfOk result (λ p. p.name.directory ≡ directory_of (opening_of config.now)) }
         ensures serials { IfOk result (λ p. p.serials ≡ all_serials (opening_of config.now)) }
     {
-        Parts::new_with(alloc, &mut Given { refused: false }, config)
+        Parts::new_with(alloc, &mut Allocator { refused: false }, config)
     }
 
     /// The parts of a machine of this configuration, in what memory a supply has. Where the supply refuses some, and only
@@ -59,7 +59,7 @@ impl Parts {
     ) -> Result<Parts, AllocError>
         ensures directory { IfOk result (λ p. p.name.directory ≡ directory_of (opening_of config.now)) }
         ensures serials { IfOk result (λ p. p.serials ≡ all_serials (opening_of config.now)) }
-        ensures given { OnOk result (S.refused supply.new ≡ S.refused supply.old) }
+        ensures unrefused { OnOk result (S.refused supply.new ≡ S.refused supply.old) }
         ensures memory { OnErr result (S.refused supply.new ≡ true) }
     {
         let directory = Directory::new_with(alloc, supply, config)?;
@@ -80,7 +80,7 @@ fn writers_of<S: CellSupply>(
     count: usize,
 ) -> Result<Vec<Writer>, AllocError>
     ensures shown { IfOk result (λ writers. shown writers.items ≡ replicate count (serials 0 0)) }
-    ensures given { OnOk result (S.refused supply.new ≡ S.refused supply.old) }
+    ensures unrefused { OnOk result (S.refused supply.new ≡ S.refused supply.old) }
     ensures memory { OnErr result (S.refused supply.new ≡ true) }
 {
     let mut writers = Vec::new(alloc);

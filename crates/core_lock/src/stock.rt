@@ -2,21 +2,21 @@
 
 ghost use Rattle.std.specs.Prelude.{◌≡◌, ◌+◌, ◌<◌, ◌≤◌};
 
-use crate::naming::{Entries, Naming, Turns};
+use crate::naming::{Entries, MachineBrand, Turns};
 use std::alloc::Global;
 use std::marker::Model;
 use std::sync::ledger::Share;
 
 /// The seats that can still be made at a machine. Contracts see how many were made.
 #[derive(Drop)]
-pub struct SeatStock<J: Naming> {
+pub struct SeatStock<J: MachineBrand> {
     alloc: Global,
     made: u16,
     entries: Share<Entries<J>>,
     turns: Share<Turns<J>>,
 }
 
-impl<J: Naming> Model for SeatStock<J> {
+impl<J: MachineBrand> Model for SeatStock<J> {
     ghost use Rattle.std.specs.Prelude.{ℕ};
     ghost use Rattle.core_lock.specs.Keeping.{IsStock};
 
@@ -27,7 +27,7 @@ impl<J: Naming> Model for SeatStock<J> {
     ghost invariant = { λ s. IsStock s.made (record { parts = s.entries.parts; amount = s.entries.amount }) (record { parts = s.turns.parts; amount = s.turns.amount }) };
 }
 
-impl<J: Naming> SeatStock<J> {
+impl<J: MachineBrand> SeatStock<J> {
     /// All seats: none was made.
     pub(crate) fn new(alloc: Global, entries: Share<Entries<J>>, turns: Share<Turns<J>>) -> Self
         requires entries { (entries.parts ≡ 1025) × (entries.amount ≡ 0) }

@@ -5,7 +5,7 @@ ghost use Rattle.std.specs.Arc.{arc_value};
 
 use crate::directory::Directory;
 use glance_cell::supplies::CellSupply;
-use memory::{FailingMemory, Given};
+use memory::{FailingMemory, Allocator};
 use std::alloc::{AllocError, Global};
 use std::sync::Arc;
 
@@ -15,17 +15,17 @@ pub trait CoreSupply: CellSupply {
     /// A directory that is shared.
     fn share(&mut self, alloc: Global, directory: Directory) -> Result<Arc<Directory>, AllocError>
         ensures shared { IfOk result (λ arc. arc_value arc ≡ directory) }
-        ensures given { OnOk result (Self.refused self.new ≡ Self.refused self.old) }
+        ensures unrefused { OnOk result (Self.refused self.new ≡ Self.refused self.old) }
         ensures taken { OnErr result (Self.refused self.new ≡ true) };
 
     /// A directory shared once more.
     fn share_again(&mut self, directory: &Arc<Directory>) -> Result<Arc<Directory>, AllocError>
         ensures same { IfOk result (λ arc. arc_value arc ≡ arc_value directory.now) }
-        ensures given { OnOk result (Self.refused self.new ≡ Self.refused self.old) }
+        ensures unrefused { OnOk result (Self.refused self.new ≡ Self.refused self.old) }
         ensures taken { OnErr result (Self.refused self.new ≡ true) };
 }
 
-impl CoreSupply for Given {
+impl CoreSupply for Allocator {
     fn share(&mut self, alloc: Global, directory: Directory) -> Result<Arc<Directory>, AllocError> {
         let Ok(shared) = Arc::new(alloc, directory) else {
             self.refused = true;
@@ -46,7 +46,7 @@ impl CoreSupply for Given {
 impl CoreSupply for FailingMemory {
     fn share(&mut self, alloc: Global, directory: Directory) -> Result<Arc<Directory>, AllocError>
         ensures shared { IfOk result (λ arc. arc_value arc ≡ directory) }
-        ensures given { OnOk result (self.new.refused ≡ self.old.refused) }
+        ensures unrefused { OnOk result (self.new.refused ≡ self.old.refused) }
         ensures taken { OnErr result (self.new.refused ≡ true) }
         ensures counts { OnOk result (self.old.left ≡ self.new.left + 1) }
     {
@@ -64,7 +64,7 @@ impl CoreSupply for FailingMemory {
 
     fn share_again(&mut self, directory: &Arc<Directory>) -> Result<Arc<Directory>, AllocError>
         ensures same { IfOk result (λ arc. arc_value arc ≡ arc_value directory.now) }
-        ensures given { OnOk result (self.new.refused ≡ self.old.refused) }
+        ensures unrefused { OnOk result (self.new.refused ≡ self.old.refused) }
         ensures taken { OnErr result (self.new.refused ≡ true) }
         ensures counts { OnOk result (self.old.left ≡ self.new.left + 1) }
     {

@@ -8,7 +8,7 @@ ghost use Rattle.unit_driver.specs.Waiting as waiting_spec;
 
 use crate::guarded::Guarded;
 use crate::locked::Seat;
-use crate::naming::Naming;
+use crate::naming::MachineBrand;
 use crate::path_turns::path_turn_of;
 use chan_events::event::{Event, UnitAct};
 use chan_model::fault::Fault;
@@ -16,7 +16,7 @@ use path_select::PathChoice;
 use unit_driver::turns::{TakenCommand, Turn, turn_by};
 use unit_driver::waiting::{WaitingReport, keep_refused, refusal_of};
 
-impl<J: Naming, P: PathChoice + Drop> Guarded<J, P> {
+impl<J: MachineBrand, P: PathChoice + Drop> Guarded<J, P> {
     /// One turn of the worker of a channel path: the first event that there is for a subchannel of that path is entered. False
     /// where there is none. Refused, all but the number of turns is as before.
     pub fn path_step(&mut self, seat: &mut Seat<J>, chpid: u8) -> Result<bool, Fault>
@@ -141,7 +141,7 @@ impl<J: Naming, P: PathChoice + Drop> Guarded<J, P> {
     }
 }
 
-impl<J: Naming> Seat<J> {
+impl<J: MachineBrand> Seat<J> {
     /// Keeps the report of an event that was refused, where it is to be kept. A stale one is no refusal.
     fn keep(&mut self, event: &Event, fault: Fault) -> Result<bool, Fault>
         ensures result { result ≡ waiting_spec.refusal_of fault }

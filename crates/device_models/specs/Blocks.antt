@@ -15,7 +15,7 @@ pub record Blocks : Type 0 where
   pub blocks : List (List ℕ)
   pub current : ℕ
   pub sense : ℕ
-  pub at_hand : Option BlockCommand
+  pub command : Option BlockCommand
   pub moved : ℕ
   pub number : List ℕ
 
@@ -26,7 +26,7 @@ opening =
       blocks = replicate 32 (replicate 64 0);
       current = 0;
       sense = 0;
-      at_hand = None;
+      command = None;
       moved = 0;
       number = replicate 2 0;
     }
@@ -36,11 +36,11 @@ current_block store = slice_index_or store.blocks store.current []
 
 -- A command is begun: it is at hand.
 abbrev pub begins : Blocks → BlockCommand → ℕ → InitialStatus Blocks
-begins store command status = record { status = status; state = record store { at_hand = Some command; moved = 0 } }
+begins store command status = record { status = status; state = record store { command = Some command; moved = 0 } }
 
 -- a code without a command: unit check, and the sense byte says command reject
 abbrev pub rejected : Blocks → InitialStatus Blocks
-rejected store = record { status = 0x02; state = record store { sense = 0x80; at_hand = None; moved = 0 } }
+rejected store = record { status = 0x02; state = record store { sense = 0x80; command = None; moved = 0 } }
 
 abbrev pub begun : Blocks → Option BlockCommand → InitialStatus Blocks
 begun store (Some Write) = begins store Write 0
@@ -59,14 +59,14 @@ given_by (Some Sense) store most = part (store.sense ∷ []) store.moved most
 given_by command store most = []
 
 abbrev pub given_of : Blocks → ℕ → List ℕ
-given_of store most = given_by store.at_hand store most
+given_of store most = given_by store.command store most
 
 abbrev pub sense_after : Option BlockCommand → ℕ → List ℕ → ℕ
 sense_after (Some Sense) sense bytes = sense_left sense bytes
 sense_after command sense bytes = sense
 
 abbrev pub supplied : Blocks → List ℕ → Blocks
-supplied store bytes = record store { sense = sense_after store.at_hand store.sense bytes; moved = store.moved + length bytes }
+supplied store bytes = record store { sense = sense_after store.command store.sense bytes; moved = store.moved + length bytes }
 
 -- How many bytes a command takes yet: of the current block, or of a block number.
 abbrev pub room_of : Option BlockCommand → ℕ → ℕ
@@ -76,7 +76,7 @@ room_of (Some SearchEqual) moved = 2 - moved
 room_of command moved = 0
 
 abbrev pub taken_of : Blocks → List ℕ → ℕ
-taken_of store bytes = min (room_of store.at_hand store.moved) (length bytes)
+taken_of store bytes = min (room_of store.command store.moved) (length bytes)
 
 -- bytes laid over others from an index on; the rest is kept
 abbrev pub laid : List ℕ → ℕ → List ℕ → List ℕ
@@ -90,11 +90,11 @@ laid_by command store bytes = store
 
 abbrev pub absorbed : Blocks → List ℕ → Blocks
 absorbed store bytes =
-    record (laid_by store.at_hand store (take (taken_of store bytes) bytes)) { moved = store.moved + taken_of store bytes }
+    record (laid_by store.command store (take (taken_of store bytes) bytes)) { moved = store.moved + taken_of store bytes }
 
 -- A command is ended: none is at hand.
 abbrev pub ends : Blocks → ℕ → Bool → EndingStatus Blocks
-ends store status more = record { status = status; more = more; state = record store { at_hand = None; moved = 0 } }
+ends store status more = record { status = status; more = more; state = record store { command = None; moved = 0 } }
 
 -- the block number that a command brought, whole
 abbrev pub number_of : Blocks → ℕ
@@ -122,7 +122,7 @@ ended_by (Some SearchEqual) store = searched store
 ended_by None store = ends store 0x0C false
 
 abbrev pub ended : Blocks → EndingStatus Blocks
-ended store = ended_by store.at_hand store
+ended store = ended_by store.command store
 
 -- Each call of a store: its answer, and the store after it.
 abbrev pub answer_of : Blocks → Call → DeviceAnswer

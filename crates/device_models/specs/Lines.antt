@@ -13,7 +13,7 @@ use Rattle.device_models.specs.Shapes.{InitialStatus, EndingStatus, answer_of_be
 pub record Lines : Type 0 where
   pub line : List ℕ
   pub sense : ℕ
-  pub at_hand : Option ConsoleCommand
+  pub command : Option ConsoleCommand
   pub given : ℕ
 
 -- how many bytes a command has to give
@@ -26,15 +26,15 @@ size_of None line = 0
 
 -- at first the line is empty
 abbrev pub opening : Lines
-opening = record { line = []; sense = 0; at_hand = None; given = 0 }
+opening = record { line = []; sense = 0; command = None; given = 0 }
 
 -- A command is begun: it is at hand. A write begins an empty line.
 abbrev pub begins : Lines → ConsoleCommand → ℕ → InitialStatus Lines
-begins console command status = record { status = status; state = record console { at_hand = Some command; given = 0 } }
+begins console command status = record { status = status; state = record console { command = Some command; given = 0 } }
 
 -- a code without a command: unit check, and the sense byte says command reject
 abbrev pub rejected : Lines → InitialStatus Lines
-rejected console = record { status = 0x02; state = record console { sense = 0x80; at_hand = None; given = 0 } }
+rejected console = record { status = 0x02; state = record console { sense = 0x80; command = None; given = 0 } }
 
 abbrev pub begun : Lines → Option ConsoleCommand → InitialStatus Lines
 begun console (Some Write) = begins (record console { line = [] }) Write 0
@@ -50,7 +50,7 @@ given_by (Some Sense) console most = part (console.sense ∷ []) console.given m
 given_by command console most = []
 
 abbrev pub given_of : Lines → ℕ → List ℕ
-given_of console most = given_by console.at_hand console most
+given_of console most = given_by console.command console most
 
 abbrev pub sense_after : Option ConsoleCommand → ℕ → List ℕ → ℕ
 sense_after (Some Sense) sense bytes = sense_left sense bytes
@@ -58,7 +58,7 @@ sense_after command sense bytes = sense
 
 abbrev pub supplied : Lines → List ℕ → Lines
 supplied console bytes =
-    record console { sense = sense_after console.at_hand console.sense bytes; given = console.given + length bytes }
+    record console { sense = sense_after console.command console.sense bytes; given = console.given + length bytes }
 
 -- How many bytes a command takes yet: what is left of 126 in the line.
 abbrev pub room_of : Option ConsoleCommand → List ℕ → ℕ
@@ -66,14 +66,14 @@ room_of (Some Write) line = 126 - length line
 room_of command line = 0
 
 abbrev pub taken_of : Lines → List ℕ → ℕ
-taken_of console bytes = min (room_of console.at_hand console.line) (length bytes)
+taken_of console bytes = min (room_of console.command console.line) (length bytes)
 
 abbrev pub absorbed : Lines → List ℕ → Lines
 absorbed console bytes = record console { line = console.line ++ take (taken_of console bytes) bytes }
 
 -- A command is ended: none is at hand.
 abbrev pub ends : Lines → ℕ → Bool → EndingStatus Lines
-ends console status more = record { status = status; more = more; state = record console { at_hand = None; given = 0 } }
+ends console status more = record { status = status; more = more; state = record console { command = None; given = 0 } }
 
 abbrev pub ended_by : Option ConsoleCommand → Lines → EndingStatus Lines
 ended_by (Some Write) console = ends console 0x0C false
@@ -83,7 +83,7 @@ ended_by (Some Sense) console = ends console 0x0C false
 ended_by None console = ends console 0x0C false
 
 abbrev pub ended : Lines → EndingStatus Lines
-ended console = ended_by console.at_hand console
+ended console = ended_by console.command console
 
 -- Each call of a console: its answer, and the console after it.
 abbrev pub answer_of : Lines → Call → DeviceAnswer

@@ -32,7 +32,7 @@ pub struct BlockStore {
     blocks: [[u8; 64]; 32],
     current: u8,
     sense: u8,
-    at_hand: Option<BlockCommand>,
+    command: Option<BlockCommand>,
     /// How many bytes the command at hand has moved.
     moved: u8,
     /// The block number that a command brings, its left byte first.
@@ -50,12 +50,12 @@ impl Model for BlockStore {
       blocks = d.blocks;
       current = d.current;
       sense = d.sense;
-      at_hand = d.at_hand;
+      command = d.command;
       moved = d.moved;
       number = d.number;
     } };
 
-    ghost invariant = { λ d. (d.current < 32) × (d.moved ≤ block_size_of d.at_hand) };
+    ghost invariant = { λ d. (d.current < 32) × (d.moved ≤ block_size_of d.command) };
 }
 
 impl BlockStore {
@@ -67,7 +67,7 @@ impl BlockStore {
             blocks: [[0; 64]; 32],
             current: 0,
             sense: 0,
-            at_hand: None,
+            command: None,
             moved: 0,
             number: [0; 2],
         }
@@ -77,10 +77,10 @@ impl BlockStore {
     fn given(&self, most: usize) -> Chunk
         ensures bytes { result ≡ spec.given_of self.now most }
         ensures bound { length result ≤ most }
-        ensures left { self.now.moved + length result ≤ block_size_of self.now.at_hand }
+        ensures left { self.now.moved + length result ≤ block_size_of self.now.command }
     {
         let index = usize::from(self.moved);
-        match self.at_hand {
+        match self.command {
             Some(BlockCommand::Read) => part(&self.blocks[usize::from(self.current)], index, most),
             Some(BlockCommand::Sense) => part(&[self.sense], index, most),
             _ => Chunk::new(),
@@ -89,10 +89,10 @@ impl BlockStore {
 
     /// How many bytes the command at hand takes yet.
     fn room(&self) -> usize
-        ensures room { result ≡ spec.room_of self.now.at_hand self.now.moved }
-        ensures left { self.now.moved + result ≤ block_size_of self.now.at_hand }
+        ensures room { result ≡ spec.room_of self.now.command self.now.moved }
+        ensures left { self.now.moved + result ≤ block_size_of self.now.command }
     {
-        let size = match self.at_hand {
+        let size = match self.command {
             Some(BlockCommand::Write) => BLOCK_BYTES,
             Some(BlockCommand::Seek | BlockCommand::SearchEqual) => NUMBER_BYTES,
             _ => return 0,
@@ -113,7 +113,7 @@ impl BlockStore {
         ensures more { result.more ≡ more }
         ensures state { self.new ≡ (spec.ends self.old status.0 more).state }
     {
-        self.at_hand = None;
+        self.command = None;
         self.moved = 0;
         Finish { status, more }
     }
@@ -153,9 +153,9 @@ impl Device for BlockStore {
     /// Codes 01 (write), 02 (read), 03 (no operation), 04 (sense), 07 (seek), 0B (recalibrate) and 31 (search
     /// equal) are begun. Any other is rejected: the sense byte is 80 then.
     fn initial(&mut self, code: u8) -> DeviceStatus {
-        self.at_hand = BlockCommand::of_code(code);
+        self.command = BlockCommand::of_code(code);
         self.moved = 0;
-        match self.at_hand {
+        match self.command {
             Some(BlockCommand::NoOperation) => DeviceStatus::CHANNEL_END,
             Some(BlockCommand::Recalibrate) => {
                 self.current = 0;
@@ -172,7 +172,7 @@ impl Device for BlockStore {
     /// Gives what is left of the current block (02), or the sense byte (04).
     fn supply(&mut self, most: usize) -> Chunk {
         let bytes = self.given(most);
-        if self.at_hand == Some(BlockCommand::Sense) && bytes.len() > 0 {
+        if self.command == Some(BlockCommand::Sense) && bytes.len() > 0 {
             self.sense = 0;
         }
         self.moved += bytes.len() as u8;
@@ -184,7 +184,7 @@ impl Device for BlockStore {
         let count = bytes.len().min(self.room());
         let taken = &bytes[..count];
         let index = usize::from(self.moved);
-        match self.at_hand {
+        match self.command {
             Some(BlockCommand::Write) => lay(
                 &mut self.blocks[usize::from(self.current)],
                 index,
@@ -204,7 +204,7 @@ impl Device for BlockStore {
     /// Ends with channel end and device end; with device end alone after channel end (03 and 0B), with unit
     /// check for a number that is no block's (07), and with status modifier for the current one's (31).
     fn finish(&mut self) -> Finish {
-        match self.at_hand {
+        match self.command {
             Some(BlockCommand::Read) => {
                 let more = self.moved < BLOCK_BYTES;
                 self.end(DeviceStatus::end(), more)

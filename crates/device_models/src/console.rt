@@ -25,7 +25,7 @@ const LINE_BYTES: usize = 126;
 pub struct Console {
     line: ArrayVec<u8, 126>,
     sense: u8,
-    at_hand: Option<ConsoleCommand>,
+    command: Option<ConsoleCommand>,
     /// How many bytes the command at hand has given.
     given: u8,
 }
@@ -36,9 +36,9 @@ impl Model for Console {
 
     ghost Value = { Lines };
 
-    ghost view = { λ c. record { line = c.line.items; sense = c.sense; at_hand = c.at_hand; given = c.given } };
+    ghost view = { λ c. record { line = c.line.items; sense = c.sense; command = c.command; given = c.given } };
 
-    ghost invariant = { λ c. (length c.line.items ≤ 126) × (c.given ≤ size_of c.at_hand c.line.items) };
+    ghost invariant = { λ c. (length c.line.items ≤ 126) × (c.given ≤ size_of c.command c.line.items) };
 }
 
 impl Console {
@@ -49,7 +49,7 @@ impl Console {
         Console {
             line: ArrayVec::new(),
             sense: 0,
-            at_hand: None,
+            command: None,
             given: 0,
         }
     }
@@ -58,10 +58,10 @@ impl Console {
     fn next_bytes(&self, most: usize) -> Chunk
         ensures bytes { result ≡ spec.given_of self.now most }
         ensures bound { length result ≤ most }
-        ensures left { self.now.given + length result ≤ spec.size_of self.now.at_hand self.now.line }
+        ensures left { self.now.given + length result ≤ spec.size_of self.now.command self.now.line }
     {
         let index = usize::from(self.given);
-        match self.at_hand {
+        match self.command {
             Some(ConsoleCommand::Read) => part(self.line.as_slice(), index, most),
             Some(ConsoleCommand::Sense) => part(&[self.sense], index, most),
             _ => Chunk::new(),
@@ -70,10 +70,10 @@ impl Console {
 
     /// How many bytes the command at hand takes yet.
     fn room(&self) -> usize
-        ensures room { result ≡ spec.room_of self.now.at_hand self.now.line }
+        ensures room { result ≡ spec.room_of self.now.command self.now.line }
         ensures left { length self.now.line + result ≤ 126 }
     {
-        match self.at_hand {
+        match self.command {
             Some(ConsoleCommand::Write) => LINE_BYTES - self.line.len(),
             _ => 0,
         }
@@ -85,7 +85,7 @@ impl Console {
         ensures more { result.more ≡ more }
         ensures state { self.new ≡ (spec.ends self.old status.0 more).state }
     {
-        self.at_hand = None;
+        self.command = None;
         self.given = 0;
         Finish { status, more }
     }
@@ -99,9 +99,9 @@ impl Device for Console {
     /// Codes 01 (write), 0A (read), 03 (no operation) and 04 (sense) are begun. A write begins an empty line. Any other
     /// code is rejected: the sense byte is 80 then.
     fn initial(&mut self, code: u8) -> DeviceStatus {
-        self.at_hand = ConsoleCommand::of_code(code);
+        self.command = ConsoleCommand::of_code(code);
         self.given = 0;
-        match self.at_hand {
+        match self.command {
             Some(ConsoleCommand::Write) => {
                 self.line = ArrayVec::new();
                 DeviceStatus::empty()
@@ -118,7 +118,7 @@ impl Device for Console {
     /// Gives what is left of the line (0A), or the sense byte (04).
     fn supply(&mut self, most: usize) -> Chunk {
         let bytes = self.next_bytes(most);
-        if self.at_hand == Some(ConsoleCommand::Sense) && bytes.len() > 0 {
+        if self.command == Some(ConsoleCommand::Sense) && bytes.len() > 0 {
             self.sense = 0;
         }
         self.given += bytes.len() as u8;
@@ -134,7 +134,7 @@ impl Device for Console {
 
     /// Ends with channel end and device end; with device end alone after channel end (03).
     fn finish(&mut self) -> Finish {
-        match self.at_hand {
+        match self.command {
             Some(ConsoleCommand::Read) => {
                 let more = usize::from(self.given) < self.line.len();
                 self.end(DeviceStatus::end(), more)

@@ -17,7 +17,7 @@ use chan_model::chunk::ChunkLength;
 use chan_model::fault::Fault;
 use chan_model::lent::{LentDown, LentUp};
 use chan_model::signal::OnPath;
-use memory::{Given, Supply, ensure_room};
+use memory::{Allocator, Supply, ensure_room};
 use std::alloc::{AllocError, Global};
 use std::marker::Model;
 
@@ -79,9 +79,9 @@ impl Log {
         ensures reply { self.new.reply ≡ self.old.reply }
         ensures made { OnOk result (1 ≤ self.new.room) }
         ensures refused { OnErr result (self.new ≡ self.old) }
-        ensures spent { OnErr result (self.old.room ≡ 0) }
+        ensures exhausted { OnErr result (self.old.room ≡ 0) }
     {
-        self.make_room_with(&mut Given { refused: false })
+        self.make_room_with(&mut Allocator { refused: false })
     }
 
     /// Makes room for one entry, which is asked of a supply where there is none. It is refused only where the supply refuses
@@ -92,8 +92,8 @@ impl Log {
         ensures reply { self.new.reply ≡ self.old.reply }
         ensures made { OnOk result (1 ≤ self.new.room) }
         ensures refused { OnErr result (self.new ≡ self.old) }
-        ensures spent { OnErr result (self.old.room ≡ 0) }
-        ensures given { OnOk result (S.refused supply.new ≡ S.refused supply.old) }
+        ensures exhausted { OnErr result (self.old.room ≡ 0) }
+        ensures unrefused { OnOk result (S.refused supply.new ≡ S.refused supply.old) }
         ensures memory { OnErr result (S.refused supply.new ≡ true) }
     {
         if self.has_room() {
@@ -118,8 +118,8 @@ impl Log {
         ensures reply { self.new.reply ≡ self.old.reply }
         ensures made { OnOk result (1 ≤ self.new.room) }
         ensures refused { OnErr result (self.new ≡ self.old) }
-        ensures spent { OnErr result (self.old.room ≡ 0) }
-        ensures given { OnOk result (S.refused supply.new ≡ S.refused supply.old) }
+        ensures exhausted { OnErr result (self.old.room ≡ 0) }
+        ensures unrefused { OnOk result (S.refused supply.new ≡ S.refused supply.old) }
         ensures memory { OnErr result (S.refused supply.new ≡ true) }
     {
         ensure_slot(supply, &mut self.entries, self.count)?;
@@ -278,8 +278,8 @@ fn ensure_slot<S: Supply>(
     ensures capacity { vec_capacity entries.old ≤ vec_capacity entries.new }
     ensures made { OnOk result (count < vec_capacity entries.new) }
     ensures refused { OnErr result (vec_capacity entries.new ≡ vec_capacity entries.old) }
-    ensures spent { OnErr result (vec_capacity entries.old ≤ count) }
-    ensures given { OnOk result (S.refused supply.new ≡ S.refused supply.old) }
+    ensures exhausted { OnErr result (vec_capacity entries.old ≤ count) }
+    ensures unrefused { OnOk result (S.refused supply.new ≡ S.refused supply.old) }
     ensures memory { OnErr result (S.refused supply.new ≡ true) }
 {
     if entries.len() > count {

@@ -7,7 +7,7 @@
 //! prints something else.
 #![tactic(auto)]
 
-use memory::Given;
+use memory::Allocator;
 use script_runner::{check_script_with, race_script_with, serve_script_with};
 use std::alloc::{AllocError, Global};
 use std::rt::Files;
@@ -41,7 +41,7 @@ impl Served {
     fn by_run<R: Threads + Wait + Sync>(rt: &R, alloc: Global, script: &[u8]) -> Served {
         let mut reader = CheckedReader::new(script);
         let mut sink = CheckedWriter::new(Vec::new(alloc));
-        let mut supply = Given { refused: false };
+        let mut supply = Allocator { refused: false };
         let ending = if races(script) {
             race_script_with(rt, alloc, &mut supply, &mut reader, &mut sink)
         } else {
@@ -57,7 +57,7 @@ impl Served {
     fn by_check(alloc: Global, script: &[u8]) -> Served {
         let mut reader = CheckedReader::new(script);
         let mut sink = CheckedWriter::new(Vec::new(alloc));
-        let mut supply = Given { refused: false };
+        let mut supply = Allocator { refused: false };
         let status = check_script_with(alloc, &mut supply, &mut reader, &mut sink).status();
         Served {
             printed: sink.writer,

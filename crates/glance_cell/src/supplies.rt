@@ -3,7 +3,7 @@
 ghost use Rattle.std.specs.Prelude.{◌≡◌, ◌+◌, Bool, true, IfOk, OnOk, OnErr};
 
 use crate::cell::{Reader, Writer};
-use memory::{FailingMemory, Given, Supply};
+use memory::{FailingMemory, Allocator, Supply};
 use std::alloc::{AllocError, Global};
 
 /// Memory for lists, and for cells and their readers. That it refused something can be seen from then on.
@@ -11,18 +11,18 @@ pub trait CellSupply: Supply {
     /// A cell whose words are 0, by its writer.
     fn cell(&mut self, alloc: Global) -> Result<Writer, AllocError>
         ensures zero { IfOk result (λ w. (w.made ≡ 0) × (w.cleared ≡ 0)) }
-        ensures given { OnOk result (Self.refused self.new ≡ Self.refused self.old) }
+        ensures unrefused { OnOk result (Self.refused self.new ≡ Self.refused self.old) }
         ensures taken { OnErr result (Self.refused self.new ≡ true) };
 
     /// One more reader, which has seen the words as they are. Where it is refused all is as before.
     fn reader(&mut self, writer: &mut Writer) -> Result<Reader, AllocError>
         ensures same { writer.new ≡ writer.old }
         ensures seen { IfOk result (λ r. r ≡ writer.old) }
-        ensures given { OnOk result (Self.refused self.new ≡ Self.refused self.old) }
+        ensures unrefused { OnOk result (Self.refused self.new ≡ Self.refused self.old) }
         ensures taken { OnErr result (Self.refused self.new ≡ true) };
 }
 
-impl CellSupply for Given {
+impl CellSupply for Allocator {
     fn cell(&mut self, alloc: Global) -> Result<Writer, AllocError> {
         let result = Writer::new(alloc);
         if result.is_err() {
@@ -43,7 +43,7 @@ impl CellSupply for Given {
 impl CellSupply for FailingMemory {
     fn cell(&mut self, alloc: Global) -> Result<Writer, AllocError>
         ensures zero { IfOk result (λ w. (w.made ≡ 0) × (w.cleared ≡ 0)) }
-        ensures given { OnOk result (self.new.refused ≡ self.old.refused) }
+        ensures unrefused { OnOk result (self.new.refused ≡ self.old.refused) }
         ensures taken { OnErr result (self.new.refused ≡ true) }
         ensures counts { OnOk result (self.old.left ≡ self.new.left + 1) }
     {
@@ -62,7 +62,7 @@ impl CellSupply for FailingMemory {
     fn reader(&mut self, writer: &mut Writer) -> Result<Reader, AllocError>
         ensures same { writer.new ≡ writer.old }
         ensures seen { IfOk result (λ r. r ≡ writer.old) }
-        ensures given { OnOk result (self.new.refused ≡ self.old.refused) }
+        ensures unrefused { OnOk result (self.new.refused ≡ self.old.refused) }
         ensures taken { OnErr result (self.new.refused ≡ true) }
         ensures counts { OnOk result (self.old.left ≡ self.new.left + 1) }
     {

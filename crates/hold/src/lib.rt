@@ -41,7 +41,7 @@ impl Hold {
             state: HoldState {
                 phase: HoldPhase::Free,
                 seen: 0,
-                known: 0,
+                known_restarts: 0,
                 reset_path: None,
                 first_path: None,
                 single_path: false,
@@ -149,7 +149,7 @@ impl Hold {
             path,
             signal: PlainDown::of(Down::Reset {
                 number,
-                restarts: self.state.known,
+                restarts: self.state.known_restarts,
             }),
         })
     }

@@ -185,8 +185,8 @@ fn noticed(hold: &mut HoldState, restarts: u64) -> Outcome
     ensures state { hold.new ≡ table.hold_after hold.old (table.noticed hold.old restarts) }
     ensures outcome { map_taken plain_down result ≡ table.outcome_of (table.noticed hold.old restarts) }
 {
-    if hold.known < restarts {
-        hold.known = restarts;
+    if hold.known_restarts < restarts {
+        hold.known_restarts = restarts;
         Taken::quietly()
     } else {
         Taken::ignored()

@@ -35,7 +35,7 @@ impl Links {
         count: u32,
     ) -> Result<Self, AllocError>
         ensures alone { IfOk result (λ links. spec.AreAlone count links) }
-        ensures given { OnOk result (S.refused supply.new ≡ S.refused supply.old) }
+        ensures unrefused { OnOk result (S.refused supply.new ≡ S.refused supply.old) }
         ensures memory { OnErr result (S.refused supply.new ≡ true) }
     {
         let next = numbers_below(alloc, supply, count)?;
@@ -88,7 +88,7 @@ fn numbers_below<S: Supply>(
     count: u32,
 ) -> Result<Vec<u32>, AllocError>
     ensures numbers { IfOk result (λ numbers. numbers.items ≡ range_with_len 0 count) }
-    ensures given { OnOk result (S.refused supply.new ≡ S.refused supply.old) }
+    ensures unrefused { OnOk result (S.refused supply.new ≡ S.refused supply.old) }
     ensures memory { OnErr result (S.refused supply.new ≡ true) }
 {
     let mut numbers = Vec::new(alloc);

@@ -43,7 +43,7 @@ fn empty_table<S: Supply>(
     entries: usize,
 ) -> Result<Vec<Option<usize>>, AllocError>
     ensures entries { IfOk result (λ table. table.items ≡ replicate entries None) }
-    ensures given { OnOk result (S.refused supply.new ≡ S.refused supply.old) }
+    ensures unrefused { OnOk result (S.refused supply.new ≡ S.refused supply.old) }
     ensures memory { OnErr result (S.refused supply.new ≡ true) }
 {
     let mut table = Vec::new(alloc);
@@ -64,7 +64,7 @@ fn add_empty<S: Supply>(
 ) -> Result<(), AllocError>
     requires modest { IsModest more }
     ensures added { OnOk result (table.new.items ≡ table.old.items ++ replicate more None) }
-    ensures given { OnOk result (S.refused supply.new ≡ S.refused supply.old) }
+    ensures unrefused { OnOk result (S.refused supply.new ≡ S.refused supply.old) }
     ensures memory { OnErr result (S.refused supply.new ≡ true) }
 {
     supply.reserve(table, more)?;
@@ -128,7 +128,7 @@ impl SubchannelIndex {
     ) -> Result<Self, AllocError>
         ensures fits { IfOk result (λ indices. spec.Fits indices subs.now) }
         ensures size { IfOk result (λ indices. spec.HasSize indices sets units) }
-        ensures given { OnOk result (S.refused supply.new ≡ S.refused supply.old) }
+        ensures unrefused { OnOk result (S.refused supply.new ≡ S.refused supply.old) }
         ensures memory { OnErr result (S.refused supply.new ≡ true) }
     {
         let mut indices = SubchannelIndex {

@@ -117,7 +117,7 @@ sends-busy sub state path signal r busy =
 replies-busy : (sub : Subchannel) (what : Chosen) → is_idle what ≡ false → IfOk (choose_sub sub what) (λ t. t.reply ≢ reply.Idle)
 replies-busy sub Idle e = absurd (cc e)
 replies-busy sub (Resets r path) e =
-    sends-busy sub (reset_sent sub.state path) path (down.Reset r sub.state.hold.known) (reply.ResetSent r path) (λ g. cc g)
+    sends-busy sub (reset_sent sub.state path) path (down.Reset r sub.state.hold.known_restarts) (reply.ResetSent r path) (λ g. cc g)
 replies-busy sub PerformsClear e = λ g. cc g
 replies-busy sub (Halts t path) e = sends-busy sub (halt_sent sub.state) path (down.Halt t) (reply.HaltSent t path) (λ g. cc g)
 replies-busy sub PerformsHalt e = λ g. cc g

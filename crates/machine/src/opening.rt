@@ -38,7 +38,7 @@ fn opened<S: Supply>(
     setup: &SubchannelSetup,
 ) -> Result<Subchannel, AllocError>
     ensures opened { IfOk result (λ sub. sub ≡ opening_spec.opened setup.now) }
-    ensures given { OnOk result (S.refused supply.new ≡ S.refused supply.old) }
+    ensures unrefused { OnOk result (S.refused supply.new ≡ S.refused supply.old) }
     ensures memory { OnErr result (S.refused supply.new ≡ true) }
 {
     Ok(Subchannel {
@@ -53,7 +53,7 @@ fn opened_all<S: Supply>(
     setups: &[SubchannelSetup],
 ) -> Result<Vec<Subchannel>, AllocError>
     ensures opened { IfOk result (λ subs. subs.items ≡ map opening_spec.opened setups.now) }
-    ensures given { OnOk result (S.refused supply.new ≡ S.refused supply.old) }
+    ensures unrefused { OnOk result (S.refused supply.new ≡ S.refused supply.old) }
     ensures memory { OnErr result (S.refused supply.new ≡ true) }
 {
     let mut subs = Vec::new(alloc);
@@ -79,7 +79,7 @@ fn idle_units<S: Supply>(
     kinds: &[UnitKind],
 ) -> Result<Vec<Unit>, AllocError>
     ensures idle { IfOk result (λ units. units.items ≡ map state_spec.idle_of kinds.now) }
-    ensures given { OnOk result (S.refused supply.new ≡ S.refused supply.old) }
+    ensures unrefused { OnOk result (S.refused supply.new ≡ S.refused supply.old) }
     ensures memory { OnErr result (S.refused supply.new ≡ true) }
 {
     let mut units = Vec::new(alloc);
@@ -92,7 +92,7 @@ fn idle_units<S: Supply>(
 /// The identifiers of the channel paths.
 fn copied<S: Supply>(alloc: Global, supply: &mut S, chpids: &[u8]) -> Result<Vec<u8>, AllocError>
     ensures copied { IfOk result (λ copy. copy.items ≡ chpids.now) }
-    ensures given { OnOk result (S.refused supply.new ≡ S.refused supply.old) }
+    ensures unrefused { OnOk result (S.refused supply.new ≡ S.refused supply.old) }
     ensures memory { OnErr result (S.refused supply.new ≡ true) }
 {
     let mut copy = Vec::new(alloc);
@@ -105,7 +105,7 @@ fn copied<S: Supply>(alloc: Global, supply: &mut S, chpids: &[u8]) -> Result<Vec
 /// What control units keep of the units of a configuration.
 fn shared<S: Supply>(alloc: Global, supply: &mut S, config: &Config) -> Result<Sharing, AllocError>
     ensures shared { IfOk result (λ sharing. sharing ≡ map members_spec.idle_member (setup_spec.groups_of config.now)) }
-    ensures given { OnOk result (S.refused supply.new ≡ S.refused supply.old) }
+    ensures unrefused { OnOk result (S.refused supply.new ≡ S.refused supply.old) }
     ensures memory { OnErr result (S.refused supply.new ≡ true) }
 {
     let groups = config.groups_with(alloc, supply)?;
@@ -122,7 +122,7 @@ fn opened_sides<S: Supply>(
     ensures units { IfOk result (λ sides. sides.1.items ≡ map state_spec.idle_of config.now.units) }
     ensures subs { IfOk result (λ sides. sides.2.items ≡ map opening_spec.opened config.now.subchannels) }
     ensures lawful { OnOk result (IsLawful config.now) }
-    ensures given { OnOk result (S.refused supply.new ≡ S.refused supply.old) }
+    ensures unrefused { OnOk result (S.refused supply.new ≡ S.refused supply.old) }
     ensures memory { OnErr result (S.refused supply.new ≡ true) }
 {
     let units = idle_units(alloc, supply, config.units())?;
@@ -148,7 +148,7 @@ fn opened_rest<S: Supply>(
     ensures chpids { IfOk result (λ rest. rest.1.items ≡ config.now.paths) }
     ensures sharing { IfOk result (λ rest. rest.2 ≡ map members_spec.idle_member (setup_spec.groups_of config.now)) }
     ensures pending { IfOk result (λ rest. rest.3 ≡ no_requests_wait 0x100) }
-    ensures given { OnOk result (S.refused supply.new ≡ S.refused supply.old) }
+    ensures unrefused { OnOk result (S.refused supply.new ≡ S.refused supply.old) }
     ensures memory { OnErr result (S.refused supply.new ≡ true) }
 {
     let blocks = match config.blocks() {
@@ -172,7 +172,7 @@ pub fn opened_machine<S: Supply>(
     ensures opened { IfOk result (λ m. m.1 ≡ state_spec.opening_of config.now) }
     ensures fits { IfOk result (λ m. Fits m.0 m.1.subs) }
     ensures lawful { OnOk result (IsLawful config.now) }
-    ensures given { OnOk result (S.refused supply.new ≡ S.refused supply.old) }
+    ensures unrefused { OnOk result (S.refused supply.new ≡ S.refused supply.old) }
     ensures memory { OnErr result (S.refused supply.new ≡ true) }
 {
     let (indices, units, subs) = opened_sides(alloc, supply, config)?;

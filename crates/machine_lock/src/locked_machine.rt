@@ -18,18 +18,18 @@ use chan_model::names::Cpu;
 use core_lock::executing::CpuInstruction;
 use core_lock::guarded::Guarded;
 use core_lock::locked::{Core, Seat};
-use core_lock::naming::Naming;
+use core_lock::naming::MachineBrand;
 use core_lock::stock::SeatStock;
 use path_select::PathChoice;
 use std::sync::{Mutex, Wait};
 
 /// A machine under its lock.
 #[derive(Drop)]
-pub struct Machine<J: Naming, P: PathChoice + Drop> {
+pub struct Machine<J: MachineBrand, P: PathChoice + Drop> {
     lock: Mutex<Guarded<J, P>>,
 }
 
-impl<J: Naming, P: PathChoice + Drop> Machine<J, P> {
+impl<J: MachineBrand, P: PathChoice + Drop> Machine<J, P> {
     /// Puts a core under its lock. The seats that can still be made stay outside.
     pub fn new(core: Core<J, P>) -> (Machine<J, P>, SeatStock<J>)
         ensures { result.1 ≡ core.value.seats }

@@ -9,7 +9,7 @@ use crate::locked_machine::Machine;
 use chan_model::fault::Fault;
 use core_lock::gate::{Gate, Gated};
 use core_lock::locked::Seat;
-use core_lock::naming::Naming;
+use core_lock::naming::MachineBrand;
 use path_select::PathChoice;
 use std::sync::Wait;
 
@@ -20,7 +20,7 @@ struct UnitWorker {
     roam: bool,
 }
 
-impl<J: Naming, P: PathChoice + Drop> Machine<J, P> {
+impl<J: MachineBrand, P: PathChoice + Drop> Machine<J, P> {
     /// So many turns of the worker of a channel path, each under the lock. How many entries they added.
     pub fn path_worker<R: Wait>(&self, rt: &R, seat: &mut Seat<J>, chpid: u8, turns: u64) -> u64
         requires { seat.old.value.owed ≡ None }
@@ -101,7 +101,7 @@ fn count_of(entered: Result<bool, Fault>) -> u64
 }
 
 /// The call of a device that is owed, if any.
-fn call_owed<J: Naming, D: Gated, G: Gate>(seat: &mut Seat<J>, device: &mut D, gate: &G)
+fn call_owed<J: MachineBrand, D: Gated, G: Gate>(seat: &mut Seat<J>, device: &mut D, gate: &G)
     ensures called { IsCalled seat.old.value seat.new.value }
     ensures makes { MakesOwed (G.passes gate.now) D.answers seat.old.value device.old seat.new.value device.new }
 {

@@ -28,18 +28,18 @@ pub trait Supply {
         ensures kept { vec_capacity list.old ≤ vec_capacity list.new }
         ensures stays { OnErr result (vec_capacity list.new ≡ vec_capacity list.old) }
         ensures room { OnOk result (vec_len list.new + more ≤ vec_capacity list.new) }
-        ensures given { OnOk result (refused self.new ≡ refused self.old) }
+        ensures unrefused { OnOk result (refused self.new ≡ refused self.old) }
         ensures taken { OnErr result (refused self.new ≡ true) };
 }
 
 /// What the allocator has.
 #[derive(Drop)]
-pub struct Given {
+pub struct Allocator {
     /// The allocator refused a growth.
     pub refused: bool,
 }
 
-impl Supply for Given {
+impl Supply for Allocator {
     ghost refused = { λ g. g.refused };
 
     fn reserve<T>(&mut self, list: &mut Vec<T>, more: usize) -> Result<(), AllocError> {
@@ -70,7 +70,7 @@ impl Supply for FailingMemory {
         ensures kept { vec_capacity list.old ≤ vec_capacity list.new }
         ensures stays { OnErr result (vec_capacity list.new ≡ vec_capacity list.old) }
         ensures room { OnOk result (vec_len list.new + more ≤ vec_capacity list.new) }
-        ensures given { OnOk result (self.new.refused ≡ self.old.refused) }
+        ensures unrefused { OnOk result (self.new.refused ≡ self.old.refused) }
         ensures taken { OnErr result (self.new.refused ≡ true) }
         ensures counts { OnOk result (self.old.left ≡ self.new.left + 1) }
     {
@@ -94,7 +94,7 @@ pub fn make_room<S: Supply, T: Drop>(
     ensures kept { vec_capacity list.old ≤ vec_capacity list.new }
     ensures room { OnOk result (vec_len list.new + count ≤ vec_capacity list.new) }
     ensures asked { OnErr result (0 < count) }
-    ensures given { OnOk result (S.refused supply.new ≡ S.refused supply.old) }
+    ensures unrefused { OnOk result (S.refused supply.new ≡ S.refused supply.old) }
     ensures taken { OnErr result (S.refused supply.new ≡ true) }
 {
     let mut room = 0;
@@ -120,7 +120,7 @@ pub fn ensure_room<S: Supply, T: Drop>(
     ensures stays { OnErr result (vec_capacity list.new ≡ vec_capacity list.old) }
     ensures room { OnOk result (vec_len list.new + more ≤ vec_capacity list.new) }
     ensures full { OnErr result (vec_capacity list.old < vec_len list.old + more) }
-    ensures given { OnOk result (S.refused supply.new ≡ S.refused supply.old) }
+    ensures unrefused { OnOk result (S.refused supply.new ≡ S.refused supply.old) }
     ensures taken { OnErr result (S.refused supply.new ≡ true) }
 {
     if more <= list.capacity() - list.len() {
@@ -137,7 +137,7 @@ pub fn push<S: Supply, T: Drop>(
 ) -> Result<(), AllocError>
     ensures pushed { OnOk result (list.new.items ≡ list.old.items ++ item ∷ []) }
     ensures kept { OnErr result (list.new.items ≡ list.old.items) }
-    ensures given { OnOk result (S.refused supply.new ≡ S.refused supply.old) }
+    ensures unrefused { OnOk result (S.refused supply.new ≡ S.refused supply.old) }
     ensures taken { OnErr result (S.refused supply.new ≡ true) }
 {
     supply.reserve(list, 1)?;
@@ -158,7 +158,7 @@ pub fn extend<S: Supply>(supply: &mut S, list: &mut Vec<u8>, bytes: &[u8]) -> Re
     requires modest { IsModest (length bytes.now) }
     ensures extended { OnOk result (list.new.items ≡ list.old.items ++ bytes.now) }
     ensures kept { OnErr result (list.new.items ≡ list.old.items) }
-    ensures given { OnOk result (S.refused supply.new ≡ S.refused supply.old) }
+    ensures unrefused { OnOk result (S.refused supply.new ≡ S.refused supply.old) }
     ensures taken { OnErr result (S.refused supply.new ≡ true) }
 {
     supply.reserve(list, bytes.len())?;

@@ -20,7 +20,7 @@ RestsOn sub chpid = (p : ℕ) × (slice_get sub.setup.paths p ≡ Some chpid) ×
 -- the hold rests, and a reset of the subsystem
 abbrev pub IsResetCause : State → Event → Reply → ℕ → Subchannel → Type 0
 IsResetCause s (event.Execute cpu (instruction.Csch word)) (reply.Code (answer.Zero serials)) index sub = index_of s word ≡ Some index
-IsResetCause s (event.Up word path) (reply.Up (up.Notice b) true sent) index sub = (index_of s word ≡ Some index) × (sub.state.hold.known < b)
+IsResetCause s (event.Up word path) (reply.Up (up.Notice b) true sent) index sub = (index_of s word ≡ Some index) × (sub.state.hold.known_restarts < b)
 IsResetCause s (event.PathDown chpid) r index sub = RestsOn sub chpid
 IsResetCause s (event.PathReset chpid) r index sub = RestsOn sub chpid
 IsResetCause s event.SystemReset r index sub = Unit {0}

@@ -106,7 +106,7 @@ taken_at r k = k
 -- the device absorbs bytes that it was given
 abbrev pub absorbs : ℕ → Option CurrentCommand → ProgramTrace → ProgramTrace
 absorbs count None k = k
-absorbs count (Some x) k = elim x.given [ None ↦ k | Some bytes ↦ record k { absorbed = k.absorbed ++ take count bytes } ]
+absorbs count (Some x) k = elim x.unabsorbed [ None ↦ k | Some bytes ↦ record k { absorbed = k.absorbed ++ take count bytes } ]
 
 abbrev pub reported : UnitState → Report → DeviceAnswer → ProgramTrace → ProgramTrace
 reported u report told k =

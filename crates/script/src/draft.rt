@@ -78,7 +78,7 @@ fn set<S: Supply>(
     ensures ok { OnOk result ((number : ℕ) (may : Bool) → (spec.broken_by (context draft.old) may (Ok (Sets setting.now)) ≡ None) ×
         Hears draft.old number (Ok (Sets setting.now)) draft.new) }
     ensures err { IfErr result (λ f. (may : Bool) → BreaksRule f (spec.broken_by (context draft.old) may (Ok (Sets setting.now)))) }
-    ensures given { OnOk result (S.refused supply.new ≡ S.refused supply.old) }
+    ensures unrefused { OnOk result (S.refused supply.new ≡ S.refused supply.old) }
     ensures memory { result ≡ Err LineFault.NoMemory → S.refused supply.new ≡ true }
 {
     if draft.acted {
@@ -136,7 +136,7 @@ fn act<S: Supply>(
     ensures ok { OnOk result ((may : Bool) → (spec.broken_by (context draft.old) may (action_said (Some (row_at said (action_at slot.now)))) ≡ None) ×
         Hears draft.old number (action_said (Some (row_at said (action_at slot.now)))) draft.new) }
     ensures err { IfErr result (λ f. (may : Bool) → BreaksRule f (spec.broken_by (context draft.old) may (action_said (Some (row_at said (action_at slot.now)))))) }
-    ensures given { OnOk result (S.refused supply.new ≡ S.refused supply.old) }
+    ensures unrefused { OnOk result (S.refused supply.new ≡ S.refused supply.old) }
     ensures memory { result ≡ Err LineFault.NoMemory → S.refused supply.new ≡ true }
 {
     match said {
@@ -161,7 +161,7 @@ fn drive<S: Supply>(
     ensures ok { OnOk result ((may : Bool) → (spec.broken_by (context draft.old) may (action_said (action_row word.now (map (λ w. w.now) words.now))) ≡ None) ×
         Hears draft.old number (action_said (action_row word.now (map (λ w. w.now) words.now))) draft.new) }
     ensures err { IfErr result (λ f. (may : Bool) → BreaksRule f (spec.broken_by (context draft.old) may (action_said (action_row word.now (map (λ w. w.now) words.now))))) }
-    ensures given { OnOk result (S.refused supply.new ≡ S.refused supply.old) }
+    ensures unrefused { OnOk result (S.refused supply.new ≡ S.refused supply.old) }
     ensures memory { result ≡ Err LineFault.NoMemory → S.refused supply.new ≡ true }
 {
     match action_row(slot, word, words) {
@@ -184,7 +184,7 @@ fn hear_other<S: Supply>(
     ensures ok { OnOk result ((spec.broken_by (context draft.old) (spec.may_race given.now.races given.now.line.later) (words_say (said.now.first.now ∷ map (λ w. w.now) said.now.others.now)) ≡ None) ×
         Hears draft.old given.now.number (words_say (said.now.first.now ∷ map (λ w. w.now) said.now.others.now)) draft.new) }
     ensures err { IfErr result (λ f. BreaksRule f (spec.broken_by (context draft.old) (spec.may_race given.now.races given.now.line.later) (words_say (said.now.first.now ∷ map (λ w. w.now) said.now.others.now)))) }
-    ensures given { OnOk result (S.refused supply.new ≡ S.refused supply.old) }
+    ensures unrefused { OnOk result (S.refused supply.new ≡ S.refused supply.old) }
     ensures memory { result ≡ Err LineFault.NoMemory → S.refused supply.new ≡ true }
 {
     match setting_row(alloc, supply, said.first, said.others) {
@@ -210,7 +210,7 @@ fn hear<S: Supply>(
     ensures ok { OnOk result ((spec.broken_by (context draft.old) (spec.may_race given.now.races given.now.line.later) (words_say (map (λ w. w.now) words.now)) ≡ None) ×
         Hears draft.old given.now.number (words_say (map (λ w. w.now) words.now)) draft.new) }
     ensures err { IfErr result (λ f. BreaksRule f (spec.broken_by (context draft.old) (spec.may_race given.now.races given.now.line.later) (words_say (map (λ w. w.now) words.now)))) }
-    ensures given { OnOk result (S.refused supply.new ≡ S.refused supply.old) }
+    ensures unrefused { OnOk result (S.refused supply.new ≡ S.refused supply.old) }
     ensures memory { result ≡ Err LineFault.NoMemory → S.refused supply.new ≡ true }
 {
     let [first, others @ ..] = words else {
@@ -242,7 +242,7 @@ fn take_words<'a, S: Supply>(
     ensures ok { OnOk result ((spec.fault (context draft.old) (spec.may_race given.now.races given.now.line.later) given.now.line.line ≡ None) ×
         IsNext draft.old given.now.number given.now.line.line draft.new) }
     ensures err { IfErr result (λ f. BreaksRule f (spec.fault (context draft.old) (spec.may_race given.now.races given.now.line.later) given.now.line.line)) }
-    ensures given { OnOk result (S.refused supply.new ≡ S.refused supply.old) }
+    ensures unrefused { OnOk result (S.refused supply.new ≡ S.refused supply.old) }
     ensures memory { result ≡ Err LineFault.NoMemory → S.refused supply.new ≡ true }
 {
     if !draft.begun && !begins(given.line.bytes()) {
@@ -276,7 +276,7 @@ fn take_line<'a, S: Supply>(
     ensures ok { OnOk result ((spec.fault (context draft.old) (spec.may_race given.now.races given.now.line.later) given.now.line.line ≡ None) ×
         IsNext draft.old given.now.number given.now.line.line draft.new) }
     ensures err { IfErr result (λ f. BreaksRule f (spec.fault (context draft.old) (spec.may_race given.now.races given.now.line.later) given.now.line.line)) }
-    ensures given { OnOk result (S.refused supply.new ≡ S.refused supply.old) }
+    ensures unrefused { OnOk result (S.refused supply.new ≡ S.refused supply.old) }
     ensures memory { result ≡ Err LineFault.NoMemory → S.refused supply.new ≡ true }
 {
     if has_words(given.line.bytes()) {
@@ -307,7 +307,7 @@ fn opening<S: Supply>(
     text: &[u8],
 ) -> Result<ScriptBuilder, AllocError>
     ensures made { IfOk result (λ d. (races : Bool) (lines : List (List ℕ)) → IsDraftOf races lines 0 d) }
-    ensures given { OnOk result (S.refused supply.new ≡ S.refused supply.old) }
+    ensures unrefused { OnOk result (S.refused supply.new ≡ S.refused supply.old) }
     ensures memory { OnErr result (S.refused supply.new ≡ true) }
 {
     let lines = Lines::with_room(alloc, supply, text.len() / COMMON + 1)?;
@@ -331,7 +331,7 @@ pub fn draft_of<S: Supply>(
     requires { plain ≡ true → is_ascii text.now ≡ true }
     ensures good { IfOk result (λ d. IsDraftOf races (lines_of text.now) (length (lines_of text.now)) d) }
     ensures bad { IfErr result (λ b. BadIn b races (lines_of text.now)) }
-    ensures given { OnOk result (S.refused supply.new ≡ S.refused supply.old) }
+    ensures unrefused { OnOk result (S.refused supply.new ≡ S.refused supply.old) }
     ensures memory { result ≡ Err ScriptBad.NoMemory → S.refused supply.new ≡ true }
 {
     let Ok(draft) = opening(alloc, supply, text) else {

@@ -18,7 +18,7 @@ use crate::lines::Lines;
 use crate::said::is_plain;
 use crate::text::some_have_words;
 use channel_config::config::Config;
-use memory::{Given, Supply};
+use memory::{Allocator, Supply};
 use script_rows::Action;
 use script_rows::race::Race;
 use script_rows::words::LineRule;
@@ -70,7 +70,7 @@ impl Script {
         ensures good { IfOk result (λ s. IsScript races (lines_of text.now) s) }
         ensures bad { IfErr result (λ b. BadAt b races (lines_of text.now)) }
     {
-        Script::read_with(alloc, &mut Given { refused: false }, races, text)
+        Script::read_with(alloc, &mut Allocator { refused: false }, races, text)
     }
 
     /// The script that a text is, else the first line that breaks a rule and the first rule that it breaks. There is no
@@ -87,7 +87,7 @@ impl Script {
     ) -> Result<Script, ScriptBad>
         ensures good { IfOk result (λ s. IsScript races (lines_of text.now) s) }
         ensures bad { IfErr result (λ b. BadAt b races (lines_of text.now)) }
-        ensures given { OnOk result (S.refused supply.new ≡ S.refused supply.old) }
+        ensures unrefused { OnOk result (S.refused supply.new ≡ S.refused supply.old) }
         ensures memory { result ≡ Err ScriptBad.NoMemory → S.refused supply.new ≡ true }
     {
         if !some_have_words(text) {

@@ -42,7 +42,7 @@ fn add_bytes<S: Supply>(supply: &mut S, list: &mut Vec<u8>, bytes: &[u8]) -> Res
     requires { length bytes.now ≤ 256 }
     ensures added { OnOk result (list.new.items ≡ list.old.items ++ bytes.now) }
     ensures kept { OnErr result (list.new.items ≡ list.old.items) }
-    ensures given { OnOk result (S.refused supply.new ≡ S.refused supply.old) }
+    ensures unrefused { OnOk result (S.refused supply.new ≡ S.refused supply.old) }
     ensures memory { OnErr result (S.refused supply.new ≡ true) }
 {
     match bytes {
@@ -59,7 +59,7 @@ fn indices<S: Supply>(
 ) -> Result<Vec<KeptLine>, AllocError>
     ensures none { IfOk result (λ kept. kept.items ≡ []) }
     ensures room { IfOk result (λ kept. count ≤ vec_capacity kept) }
-    ensures given { OnOk result (S.refused supply.new ≡ S.refused supply.old) }
+    ensures unrefused { OnOk result (S.refused supply.new ≡ S.refused supply.old) }
     ensures memory { OnErr result (S.refused supply.new ≡ true) }
 {
     let mut kept = Vec::new(alloc);
@@ -75,7 +75,7 @@ impl Lines {
         count: usize,
     ) -> Result<Self, AllocError>
         ensures made { IfOk result (λ l. l ≡ []) }
-        ensures given { OnOk result (S.refused supply.new ≡ S.refused supply.old) }
+        ensures unrefused { OnOk result (S.refused supply.new ≡ S.refused supply.old) }
         ensures memory { OnErr result (S.refused supply.new ≡ true) }
     {
         Ok(Lines {
@@ -128,7 +128,7 @@ impl Lines {
     ) -> Result<(), AllocError>
         ensures added { OnOk result (self.new ≡ self.old ++ record { number = number; action = action_at slot.now } ∷ []) }
         ensures kept { OnErr result (self.new ≡ self.old) }
-        ensures given { OnOk result (S.refused supply.new ≡ S.refused supply.old) }
+        ensures unrefused { OnOk result (S.refused supply.new ≡ S.refused supply.old) }
         ensures memory { OnErr result (S.refused supply.new ≡ true) }
     {
         supply.reserve(&mut self.kept, 1)?;

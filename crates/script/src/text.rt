@@ -74,7 +74,7 @@ impl<'a> TextLine<'a> {
         found: &mut Vec<&'a [u8]>,
     ) -> Result<(), AllocError>
         ensures parts { OnOk result (map (λ p. p.now) found.new.items ≡ words_between_blanks self.now.line) }
-        ensures given { OnOk result (S.refused supply.new ≡ S.refused supply.old) }
+        ensures unrefused { OnOk result (S.refused supply.new ≡ S.refused supply.old) }
         ensures memory { OnErr result (S.refused supply.new ≡ true) }
     {
         if STEP <= self.length || self.text.len() < STEP {

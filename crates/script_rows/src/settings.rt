@@ -94,7 +94,7 @@ fn share_row<S: Supply>(
 ) -> Result<Setting, LineFault>
     ensures says { MatchResult result (λ s. spec.share_row (map (λ w. w.now) words.now) ≡ Ok s)
         (λ f. FaultOf f (spec.share_row (map (λ w. w.now) words.now))) }
-    ensures given { OnOk result (S.refused supply.new ≡ S.refused supply.old) }
+    ensures unrefused { OnOk result (S.refused supply.new ≡ S.refused supply.old) }
     ensures memory { result ≡ Err LineFault.NoMemory → S.refused supply.new ≡ true }
 {
     match words {
@@ -110,7 +110,7 @@ fn share_row<S: Supply>(
 fn sub_row<S: Supply>(alloc: Global, supply: &mut S, words: &[&[u8]]) -> Result<Setting, LineFault>
     ensures says { MatchResult result (λ s. spec.sub_row (map (λ w. w.now) words.now) ≡ Ok s)
         (λ f. FaultOf f (spec.sub_row (map (λ w. w.now) words.now))) }
-    ensures given { OnOk result (S.refused supply.new ≡ S.refused supply.old) }
+    ensures unrefused { OnOk result (S.refused supply.new ≡ S.refused supply.old) }
     ensures memory { result ≡ Err LineFault.NoMemory → S.refused supply.new ≡ true }
 {
     match words {
@@ -152,7 +152,7 @@ pub fn setting_row<S: Supply>(
 ) -> Option<Result<Setting, LineFault>>
     ensures says { MatchOption result (spec.setting_row word.now (map (λ w. w.now) words.now) ≡ None)
         (λ s. Says s (spec.setting_row word.now (map (λ w. w.now) words.now))) }
-    ensures given { MatchOption result (S.refused supply.new ≡ S.refused supply.old)
+    ensures unrefused { MatchOption result (S.refused supply.new ≡ S.refused supply.old)
         (λ s. OnOk s (S.refused supply.new ≡ S.refused supply.old)) }
     ensures memory { IfSome result (λ s. s ≡ Err LineFault.NoMemory → S.refused supply.new ≡ true) }
 {
@@ -184,7 +184,7 @@ pub fn configure<S: Supply>(
     setting: &Setting,
 ) -> Result<(), ConfigFault>
     ensures does { Configures config.old config.new result (spec.configured config.old setting.now) }
-    ensures given { OnOk result (S.refused supply.new ≡ S.refused supply.old) }
+    ensures unrefused { OnOk result (S.refused supply.new ≡ S.refused supply.old) }
     ensures memory { result ≡ Err ConfigFault.NoMemory → S.refused supply.new ≡ true }
 {
     match setting {

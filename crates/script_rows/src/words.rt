@@ -94,7 +94,7 @@ impl Numbers {
     pub fn push<S: Supply>(&mut self, supply: &mut S, number: u32) -> Result<(), LineFault>
         ensures ok { OnOk result (self.new ≡ self.old ++ number ∷ []) }
         ensures err { IfErr result (λ f. (f ≡ LineFault.NoMemory) × (self.new ≡ self.old)) }
-        ensures given { OnOk result (S.refused supply.new ≡ S.refused supply.old) }
+        ensures unrefused { OnOk result (S.refused supply.new ≡ S.refused supply.old) }
         ensures memory { result ≡ Err LineFault.NoMemory → S.refused supply.new ≡ true }
     {
         push(supply, &mut self.numbers, number)?;
@@ -249,7 +249,7 @@ pub(crate) fn numbers_of<S: Supply>(
 ) -> Result<Numbers, LineFault>
     ensures says { MatchResult result (λ ns. spec.numbers_of (map (λ w. w.now) words.now) ≡ Some ns)
         (λ f. FaultOf f (spec.or_bad_word (spec.numbers_of (map (λ w. w.now) words.now)))) }
-    ensures given { OnOk result (S.refused supply.new ≡ S.refused supply.old) }
+    ensures unrefused { OnOk result (S.refused supply.new ≡ S.refused supply.old) }
     ensures memory { result ≡ Err LineFault.NoMemory → S.refused supply.new ≡ true }
 {
     let mut found = Numbers::new(alloc);

@@ -33,7 +33,7 @@ told c n s t e f other way came = (refused c.value.state e f other came.refusal,
 
 pub enters : (c n : LockedCore) (s t : HeldSeat) (e : Event) (r : Result Reply Fault) → IsEntered TakesNext (guarded_in c) s e r (guarded_in n) t → Enters (past_of c s) e r (past_of n t)
 enters c n s t e (Ok x) came = (came.step, came.ruled (λ x. absurd (cc)), came.history, omega (arith, came.room, came.seat_room))
-enters c n s t e (Err fault.NoMemory) came = (as_before c n s t came.core came.kept, came.spent refl)
+enters c n s t e (Err fault.NoMemory) came = (as_before c n s t came.core came.kept, came.exhausted refl)
 enters c n s t e (Err fault.WireFull) came = told c n s t e fault.WireFull (λ x. absurd (cc)) (λ x. absurd (cc)) came
 enters c n s t e (Err fault.NotSent) came = told c n s t e fault.NotSent (λ x. absurd (cc)) (λ x. absurd (cc)) came
 enters c n s t e (Err fault.NoSuchSubchannel) came = told c n s t e fault.NoSuchSubchannel (λ x. absurd (cc)) (λ x. absurd (cc)) came

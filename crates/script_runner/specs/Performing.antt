@@ -21,7 +21,7 @@ pub record IsDone (was short : Bool) (old : Installed) (line : Line) (held now :
   pub acts : PerformsAction old line.action outcome new
   pub refused : written.refused ≡ is_err outcome
   pub prints : Puts held (event_line line.number outcome) now written.whole
-  pub given : is_starved outcome ≡ false → short ≡ was
+  pub unrefused : is_starved outcome ≡ false → short ≡ was
   pub memory : is_starved outcome ≡ true → (short ≡ true) ⊎ IsUsedUp old.past
 
 -- the actions of these lines came to these outcomes, and all that they print is written. Where one was refused for want of memory, the

@@ -13,7 +13,7 @@ use crate::racers::{Racers, one_seat};
 use channel_config::config::Config;
 use channel_config::parts::UnitKind;
 use core_lock::locked::{Core, Seat};
-use core_lock::naming::Naming;
+use core_lock::naming::MachineBrand;
 use core_lock::parts::Parts;
 use core_lock::supplies::CoreSupply;
 use device_models::any_device::AnyDevice;
@@ -24,7 +24,7 @@ use subsystem::subsystem::Subsystem;
 use unit_driver::waiting::WaitingReport;
 
 /// A core at the opening of a configuration, of which no seat was made.
-fn opening_core<J: Naming, S: CoreSupply>(
+fn opening_core<J: MachineBrand, S: CoreSupply>(
     alloc: Global,
     supply: &mut S,
     config: Config,
@@ -35,7 +35,7 @@ fn opening_core<J: Naming, S: CoreSupply>(
     requires directory { parts.name.directory ≡ directory_of (opening_of config) }
     requires serials { parts.serials ≡ all_serials (opening_of config) }
     ensures made { IfOk result (λ core. core.value ≡ record { state = opening_of config; history = []; by = []; seats = 0 }) }
-    ensures given { OnOk result (S.refused supply.new ≡ S.refused supply.old) }
+    ensures unrefused { OnOk result (S.refused supply.new ≡ S.refused supply.old) }
     ensures memory { OnErr result (S.refused supply.new ≡ true) }
 {
     let Ok(subsystem) = Subsystem::new_with(alloc, supply, config, Rotating) else {
@@ -48,7 +48,7 @@ fn opening_core<J: Naming, S: CoreSupply>(
 }
 
 /// A core at its opening, with its first seat, and as many CPUs more that are to race.
-pub(crate) fn opening_seats<J: Naming, S: CoreSupply>(
+pub(crate) fn opening_seats<J: MachineBrand, S: CoreSupply>(
     alloc: Global,
     supply: &mut S,
     config: Config,
@@ -63,7 +63,7 @@ pub(crate) fn opening_seats<J: Naming, S: CoreSupply>(
     ensures books { IfOk result (λ all. books_of all.0 all.1 ≡ spec.opening_books all.1.value) }
     ensures seat { IfOk result (λ all. IsOpeningSeat config all.1.value) }
     ensures racers { IfOk result (λ all. AreMade cpus all.2) }
-    ensures given { OnOk result (S.refused supply.new ≡ S.refused supply.old) }
+    ensures unrefused { OnOk result (S.refused supply.new ≡ S.refused supply.old) }
     ensures memory { OnErr result (S.refused supply.new ≡ true) }
 {
     let mut core = opening_core(alloc, supply, config, parts)?;
@@ -74,7 +74,7 @@ pub(crate) fn opening_seats<J: Naming, S: CoreSupply>(
 }
 
 /// The first seat of a core, and as many CPUs more that are to race.
-fn first_seats<J: Naming, S: CoreSupply>(
+fn first_seats<J: MachineBrand, S: CoreSupply>(
     alloc: Global,
     supply: &mut S,
     core: &mut Core<J, Rotating>,
@@ -85,7 +85,7 @@ fn first_seats<J: Naming, S: CoreSupply>(
     ensures room { IfOk result (λ both. both.0.room ≡ 0) }
     ensures racers { IfOk result (λ both. AreMade cpus both.1) }
     ensures core { IfOk result (λ _. IsSeatedIn core.old.value core.new.value) }
-    ensures given { OnOk result (S.refused supply.new ≡ S.refused supply.old) }
+    ensures unrefused { OnOk result (S.refused supply.new ≡ S.refused supply.old) }
     ensures memory { OnErr result (S.refused supply.new ≡ true) }
 {
     let seat = one_seat(supply, core)?;
@@ -100,7 +100,7 @@ fn no_reports<S: Supply>(
     count: usize,
 ) -> Result<Vec<Option<WaitingReport>>, AllocError>
     ensures none { IfOk result (λ kept. kept.items ≡ replicate count None) }
-    ensures given { OnOk result (S.refused supply.new ≡ S.refused supply.old) }
+    ensures unrefused { OnOk result (S.refused supply.new ≡ S.refused supply.old) }
     ensures memory { OnErr result (S.refused supply.new ≡ true) }
 {
     let mut kept = Vec::new(alloc);
@@ -118,7 +118,7 @@ pub(crate) fn opening_units<S: Supply>(
 ) -> Result<(Vec<AnyDevice>, Vec<Option<WaitingReport>>), AllocError>
     ensures devices { IfOk result (λ both. both.0.items ≡ map device_of kinds.now) }
     ensures kept { IfOk result (λ both. both.1.items ≡ replicate (length kinds.now) None) }
-    ensures given { OnOk result (S.refused supply.new ≡ S.refused supply.old) }
+    ensures unrefused { OnOk result (S.refused supply.new ≡ S.refused supply.old) }
     ensures memory { OnErr result (S.refused supply.new ≡ true) }
 {
     let devices = opening_devices(alloc, supply, kinds)?;
@@ -133,7 +133,7 @@ fn opening_devices<S: Supply>(
     kinds: &[UnitKind],
 ) -> Result<Vec<AnyDevice>, AllocError>
     ensures opened { IfOk result (λ devices. devices.items ≡ map device_of kinds.now) }
-    ensures given { OnOk result (S.refused supply.new ≡ S.refused supply.old) }
+    ensures unrefused { OnOk result (S.refused supply.new ≡ S.refused supply.old) }
     ensures memory { OnErr result (S.refused supply.new ≡ true) }
 {
     let mut devices = Vec::new(alloc);

@@ -13,7 +13,7 @@ use crate::buffers::EventBuffers;
 use crate::scripted_machine::{Acted, ScriptedMachine};
 use chan_events::reply::Reply;
 use chan_model::fault::Fault;
-use core_lock::naming::Naming;
+use core_lock::naming::MachineBrand;
 use memory::Supply;
 use script::lines::{LentLine, Lines};
 use script_text::held::Held;
@@ -58,7 +58,7 @@ fn write_outcome<S: Sink>(
 }
 
 /// Writes what an event came to that was accepted, through a slot of its own: its reply is that of the last entry.
-fn write_reply<J: Naming, S: Sink>(
+fn write_reply<J: MachineBrand, S: Sink>(
     installation: &ScriptedMachine<J>,
     number: u64,
     held: &mut Held,
@@ -77,7 +77,7 @@ fn write_reply<J: Naming, S: Sink>(
 }
 
 /// Writes what an action came to, through a slot of its own.
-fn write<J: Naming, S: Sink>(
+fn write<J: MachineBrand, S: Sink>(
     installation: &ScriptedMachine<J>,
     acted: Result<Acted, Fault>,
     number: u64,
@@ -97,7 +97,7 @@ fn write<J: Naming, S: Sink>(
 }
 
 /// Performs one line and writes what it prints, through buffers of its own.
-fn perform_one<J: Naming, M: Supply, S: Sink>(
+fn perform_one<J: MachineBrand, M: Supply, S: Sink>(
     installation: &mut ScriptedMachine<J>,
     supply: &mut M,
     line: &LentLine<'_>,
@@ -114,14 +114,14 @@ fn perform_one<J: Naming, M: Supply, S: Sink>(
 
 /// Performs the lines in order, up to the first whose print is not written whole. Room for what is entered is from a supply: a line
 /// is refused NoMemory only where the supply refused it, or no number is left, and those after it are performed all the same.
-pub fn perform<J: Naming, M: Supply, S: Sink>(
+pub fn perform<J: MachineBrand, M: Supply, S: Sink>(
     installation: &mut ScriptedMachine<J>,
     supply: &mut M,
     lines: &Lines,
     sink: &mut S,
 ) -> PerformedLines
     ensures performs { PerformsLines (M.refused supply.new) installation.old lines.now (S.seen sink.old) (S.seen sink.new) result installation.new }
-    ensures given { result.refused ≡ false → M.refused supply.new ≡ M.refused supply.old }
+    ensures unrefused { result.refused ≡ false → M.refused supply.new ≡ M.refused supply.old }
 {
     let mut buffers = EventBuffers::new();
     let mut refused = false;

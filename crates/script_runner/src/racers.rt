@@ -9,7 +9,7 @@ use chan_events::event::Instruction;
 use chan_model::names::Cpu;
 use core_lock::executing::CpuInstruction;
 use core_lock::locked::{Core, Seat};
-use core_lock::naming::Naming;
+use core_lock::naming::MachineBrand;
 use core_lock::supplies::CoreSupply;
 use machine_lock::locked_machine::Machine;
 use memory::{make_room, push};
@@ -22,13 +22,13 @@ use std::thread::{Threads, for_each_mut};
 
 /// A CPU with a seat of its own, and what came of its instructions.
 #[derive(Drop)]
-pub struct Racer<J: Naming> {
+pub struct Racer<J: MachineBrand> {
     cpu: Cpu,
     seat: Seat<J>,
     tally: Tally,
 }
 
-impl<J: Naming> Model for Racer<J> {
+impl<J: MachineBrand> Model for Racer<J> {
     ghost use Rattle.std.specs.Prelude.{◌^◌};
     ghost use Rattle.script_runner.specs.Race.{IsBelow, Runner};
 
@@ -39,7 +39,7 @@ impl<J: Naming> Model for Racer<J> {
     ghost invariant = { λ r. IsBelow (2 ^ 32) r.tally };
 }
 
-impl<J: Naming> Racer<J> {
+impl<J: MachineBrand> Racer<J> {
     /// A CPU that did nothing yet.
     fn new(cpu: Cpu, seat: Seat<J>) -> Racer<J>
         ensures { result ≡ record { cpu = cpu; seat = seat; tally = spec.no_tally } }
@@ -68,7 +68,7 @@ impl<J: Naming> Racer<J> {
 }
 
 /// What came of the instructions that a CPU executed, as often as the race says, from this seat.
-fn tally_of<J: Naming, R: Wait>(
+fn tally_of<J: MachineBrand, R: Wait>(
     rt: &R,
     machine: &Machine<J, Rotating>,
     race: Race,
@@ -88,12 +88,12 @@ fn tally_of<J: Naming, R: Wait>(
 
 /// CPUs that are to race, and room for their seats and one more.
 #[derive(Drop)]
-pub struct Racers<J: Naming> {
+pub struct Racers<J: MachineBrand> {
     cpus: Vec<Racer<J>>,
     seats: Vec<Seat<J>>,
 }
 
-impl<J: Naming> Model for Racers<J> {
+impl<J: MachineBrand> Model for Racers<J> {
     ghost use Rattle.std.specs.Prelude.{◌≡◌, ◌+◌, ◌≤◌, List, [], vec_len, vec_capacity};
     ghost use Rattle.script_runner.specs.Race.{Runner};
 
@@ -104,7 +104,7 @@ impl<J: Naming> Model for Racers<J> {
     ghost invariant = { λ r. (r.seats.items ≡ []) × (vec_len r.cpus ≤ 16) × (vec_len r.cpus + 1 ≤ vec_capacity r.seats) };
 }
 
-impl<J: Naming> Racers<J> {
+impl<J: MachineBrand> Racers<J> {
     /// As many CPUs by their numbers, but no more than there can be, each with a new seat. They are not made only where the
     /// supply refused a growth.
     pub fn new<S: CoreSupply>(
@@ -116,7 +116,7 @@ impl<J: Naming> Racers<J> {
         requires { core.old.value.seats ≤ 1 }
         ensures made { IfOk result (λ racers. AreMade count racers) }
         ensures core { IfOk result (λ _. IsSeatedIn core.old.value core.new.value) }
-        ensures given { OnOk result (S.refused supply.new ≡ S.refused supply.old) }
+        ensures unrefused { OnOk result (S.refused supply.new ≡ S.refused supply.old) }
         ensures memory { OnErr result (S.refused supply.new ≡ true) }
     {
         let mut cpus = Vec::new(alloc);
@@ -135,7 +135,7 @@ impl<J: Naming> Racers<J> {
     ) -> Result<Racers<J>, AllocError>
         requires { vec_len cpus ≤ 16 }
         ensures same { IfOk result (λ racers. racers ≡ cpus.items) }
-        ensures given { OnOk result (S.refused supply.new ≡ S.refused supply.old) }
+        ensures unrefused { OnOk result (S.refused supply.new ≡ S.refused supply.old) }
         ensures memory { OnErr result (S.refused supply.new ≡ true) }
     {
         let mut seats = Vec::new(alloc);
@@ -169,7 +169,7 @@ impl<J: Naming> Racers<J> {
 }
 
 /// A CPU of this number with a new seat.
-fn seated<J: Naming, S: CoreSupply>(
+fn seated<J: MachineBrand, S: CoreSupply>(
     supply: &mut S,
     core: &mut Core<J, Rotating>,
     number: u32,
@@ -179,7 +179,7 @@ fn seated<J: Naming, S: CoreSupply>(
     ensures cpu { IfOk result (λ racer. racer.cpu ≡ number) }
     ensures log { IfOk result (λ racer. racer.seat.value.log ≡ []) }
     ensures core { IfOk result (λ _. core.new.value ≡ record core.old.value { seats = core.old.value.seats + 1 }) }
-    ensures given { OnOk result (S.refused supply.new ≡ S.refused supply.old) }
+    ensures unrefused { OnOk result (S.refused supply.new ≡ S.refused supply.old) }
     ensures memory { OnErr result (S.refused supply.new ≡ true) }
 {
     let Some(cpu) = Cpu::new(number) else {
@@ -189,7 +189,7 @@ fn seated<J: Naming, S: CoreSupply>(
 }
 
 /// One more seat, where there are few.
-pub fn one_seat<J: Naming, S: CoreSupply>(
+pub fn one_seat<J: MachineBrand, S: CoreSupply>(
     supply: &mut S,
     core: &mut Core<J, Rotating>,
 ) -> Result<Seat<J>, AllocError>
@@ -198,7 +198,7 @@ pub fn one_seat<J: Naming, S: CoreSupply>(
     ensures log { IfOk result (λ seat. seat.value.log ≡ []) }
     ensures room { IfOk result (λ seat. seat.room ≡ 0) }
     ensures core { IfOk result (λ _. core.new.value ≡ record core.old.value { seats = core.old.value.seats + 1 }) }
-    ensures given { OnOk result (S.refused supply.new ≡ S.refused supply.old) }
+    ensures unrefused { OnOk result (S.refused supply.new ≡ S.refused supply.old) }
     ensures memory { OnErr result (S.refused supply.new ≡ true) }
 {
     match core.seat_with(supply) {
@@ -225,7 +225,7 @@ fn test_of(race: Race, cpu: Cpu) -> CpuInstruction
 }
 
 /// Each CPU on a thread of its own.
-fn run_all<J: Naming + Send + Sync, R: Threads + Wait + Sync>(
+fn run_all<J: MachineBrand + Send + Sync, R: Threads + Wait + Sync>(
     rt: &R,
     machine: &Machine<J, Rotating>,
     race: Race,
@@ -242,7 +242,7 @@ fn run_all<J: Naming + Send + Sync, R: Threads + Wait + Sync>(
 }
 
 /// These seats and those of the CPUs, and what came of all instructions.
-fn gather<J: Naming>(seats: Vec<Seat<J>>, racers: Vec<Racer<J>>) -> (Vec<Seat<J>>, Tally)
+fn gather<J: MachineBrand>(seats: Vec<Seat<J>>, racers: Vec<Racer<J>>) -> (Vec<Seat<J>>, Tally)
     requires few { vec_len racers ≤ 16 }
     requires room { vec_len seats + vec_len racers ≤ vec_capacity seats }
     ensures seats { result.0.items ≡ seats.items ++ spec.seats_of racers.items }

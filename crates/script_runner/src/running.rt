@@ -14,7 +14,7 @@ use crate::racers::Racers;
 use crate::scripted_machine::ScriptedMachine;
 use crate::{Ending, no_memory};
 use channel_config::config::Config;
-use core_lock::naming::Naming;
+use core_lock::naming::MachineBrand;
 use core_lock::parts::Parts;
 use core_lock::supplies::CoreSupply;
 use script::lines::Lines;
@@ -90,7 +90,7 @@ pub fn race_script<T: Threads + Wait + Sync, M: CoreSupply, S: Sink>(
 
 /// Performs lines at a machine of this name.
 #[tactic(auto, using(crate::proofs::Endings::runs_from))]
-fn run_named<J: Naming, M: CoreSupply, S: Sink>(
+fn run_named<J: MachineBrand, M: CoreSupply, S: Sink>(
     alloc: Global,
     supply: &mut M,
     set_up: SetUp,
@@ -112,7 +112,7 @@ fn run_named<J: Naming, M: CoreSupply, S: Sink>(
 
 /// Performs lines at a machine of this name, and then a race.
 #[tactic(auto, using(crate::proofs::Endings::races_from))]
-fn race_named<J: Naming + Send + Sync, T: Threads + Wait + Sync, M: CoreSupply, S: Sink>(
+fn race_named<J: MachineBrand + Send + Sync, T: Threads + Wait + Sync, M: CoreSupply, S: Sink>(
     rt: &T,
     alloc: Global,
     supply: &mut M,
@@ -137,7 +137,7 @@ fn race_named<J: Naming + Send + Sync, T: Threads + Wait + Sync, M: CoreSupply, 
 }
 
 /// Performs lines, with room for what is entered from a supply, and audits.
-fn perform_all<J: Naming, M: CoreSupply, S: Sink>(
+fn perform_all<J: MachineBrand, M: CoreSupply, S: Sink>(
     installation: ScriptedMachine<J>,
     supply: &mut M,
     lines: &Lines,
@@ -151,7 +151,7 @@ fn perform_all<J: Naming, M: CoreSupply, S: Sink>(
 }
 
 /// Performs lines, with room for what is entered from a supply, and then a race, which asks the allocator; audits.
-fn perform_race<J: Naming + Send + Sync, T: Threads + Wait + Sync, M: CoreSupply, S: Sink>(
+fn perform_race<J: MachineBrand + Send + Sync, T: Threads + Wait + Sync, M: CoreSupply, S: Sink>(
     rt: &T,
     installation: ScriptedMachine<J>,
     supply: &mut M,

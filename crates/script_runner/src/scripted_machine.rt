@@ -30,7 +30,7 @@ use chan_model::fault::Fault;
 use chan_model::report::Report;
 use channel_config::config::Config;
 use core_lock::locked::{Core, Seat, audit};
-use core_lock::naming::Naming;
+use core_lock::naming::MachineBrand;
 use core_lock::parts::Parts;
 use core_lock::supplies::CoreSupply;
 use device_law::Device;
@@ -53,7 +53,7 @@ use unit_driver::waiting::{WaitingReport, forget, keep_refused};
 /// A channel subsystem that no lock guards, with the seat from which its events are entered, a device for each unit, and by
 /// unit the report that is still to be handed in: one for which there was no memory or no room on a wire.
 #[derive(Drop)]
-pub struct ScriptedMachine<J: Naming> {
+pub struct ScriptedMachine<J: MachineBrand> {
     core: Core<J, Rotating>,
     seat: Seat<J>,
     devices: Vec<AnyDevice>,
@@ -69,7 +69,7 @@ pub enum Acted {
     Looked(Serials),
 }
 
-impl<J: Naming> Model for ScriptedMachine<J> {
+impl<J: MachineBrand> Model for ScriptedMachine<J> {
     ghost use Rattle.script_runner.specs.Acting.{Installed, books_of, past_of};
 
     ghost Value = { Installed };
@@ -82,7 +82,7 @@ impl<J: Naming> Model for ScriptedMachine<J> {
     } };
 }
 
-impl<J: Naming> ScriptedMachine<J> {
+impl<J: MachineBrand> ScriptedMachine<J> {
     /// An installation at its opening, with as many CPUs beside it that are to race. It is not made only where the supply
     /// refused a growth.
     pub fn new<S: CoreSupply>(
@@ -98,7 +98,7 @@ impl<J: Naming> ScriptedMachine<J> {
         requires serials { parts.serials ≡ all_serials (opening_of config) }
         ensures made { IfOk result (λ both. IsOpening config both.0) }
         ensures racers { IfOk result (λ both. AreMade cpus both.1) }
-        ensures given { OnOk result (S.refused supply.new ≡ S.refused supply.old) }
+        ensures unrefused { OnOk result (S.refused supply.new ≡ S.refused supply.old) }
         ensures memory { OnErr result (S.refused supply.new ≡ true) }
     {
         let (devices, kept) = opening_units(alloc, supply, config.units())?;
@@ -129,7 +129,7 @@ impl<J: Naming> ScriptedMachine<J> {
     ) -> Result<Acted, Fault>
         requires { action_length action.now ≤ length bytes.now }
         ensures performs { PerformsAction self.old (action_in action.now bytes.now) (outcome_of result self.new.past.history) self.new }
-        ensures given { result ≢ Err fault_spec.NoMemory → M.refused supply.new ≡ M.refused supply.old }
+        ensures unrefused { result ≢ Err fault_spec.NoMemory → M.refused supply.new ≡ M.refused supply.old }
         ensures memory { result ≡ Err fault_spec.NoMemory → (M.refused supply.new ≡ true) ⊎ spec.IsUsedUp self.old.past }
     {
         match action {
@@ -166,7 +166,7 @@ impl<J: Naming> ScriptedMachine<J> {
     ) -> Result<(), Fault>
         requires { event_length event.now ≤ length bytes.now }
         ensures happens { Happens self.old (event_in event.now bytes.now) (answer_of result self.new.past.history) self.new }
-        ensures given { result ≢ Err fault_spec.NoMemory → M.refused supply.new ≡ M.refused supply.old }
+        ensures unrefused { result ≢ Err fault_spec.NoMemory → M.refused supply.new ≡ M.refused supply.old }
         ensures memory { result ≡ Err fault_spec.NoMemory → (M.refused supply.new ≡ true) ⊎ spec.IsUsedUp self.old.past }
     {
         match event {
@@ -202,7 +202,7 @@ impl<J: Naming> ScriptedMachine<J> {
     ) -> Result<(), Fault>
         requires { event_length event.now ≤ length bytes.now }
         ensures happens { Happens self.old (event_in event.now bytes.now) (answer_of result self.new.past.history) self.new }
-        ensures given { result ≢ Err fault_spec.NoMemory → M.refused supply.new ≡ M.refused supply.old }
+        ensures unrefused { result ≢ Err fault_spec.NoMemory → M.refused supply.new ≡ M.refused supply.old }
         ensures memory { result ≡ Err fault_spec.NoMemory → (M.refused supply.new ≡ true) ⊎ spec.IsUsedUp self.old.past }
     {
         buffers.event = event.own(bytes);
@@ -252,7 +252,7 @@ impl<J: Naming> ScriptedMachine<J> {
     /// Performs an event.
     fn enter<M: Supply>(&mut self, supply: &mut M, event: &Event) -> Result<(), Fault>
         ensures happens { Happens self.old event.now (answer_of result self.new.past.history) self.new }
-        ensures given { result ≢ Err fault_spec.NoMemory → M.refused supply.new ≡ M.refused supply.old }
+        ensures unrefused { result ≢ Err fault_spec.NoMemory → M.refused supply.new ≡ M.refused supply.old }
         ensures memory { result ≡ Err fault_spec.NoMemory → (M.refused supply.new ≡ true) ⊎ spec.IsUsedUp self.old.past }
     {
         enter_from(&mut self.core, &mut self.seat, supply, event)?;
@@ -266,7 +266,7 @@ impl<J: Naming> ScriptedMachine<J> {
     fn enter_plain<M: Supply>(&mut self, supply: &mut M, event: &Event) -> Result<(), Fault>
         requires { (devices : List AnyDevice) → spec.devices_restarted devices event.now ≡ devices }
         ensures happens { Happens self.old event.now (answer_of result self.new.past.history) self.new }
-        ensures given { result ≢ Err fault_spec.NoMemory → M.refused supply.new ≡ M.refused supply.old }
+        ensures unrefused { result ≢ Err fault_spec.NoMemory → M.refused supply.new ≡ M.refused supply.old }
         ensures memory { result ≡ Err fault_spec.NoMemory → (M.refused supply.new ≡ true) ⊎ spec.IsUsedUp self.old.past }
     {
         enter_from(&mut self.core, &mut self.seat, supply, event)
@@ -290,7 +290,7 @@ impl<J: Naming> ScriptedMachine<J> {
         event: &mut Event,
     ) -> Result<(), Fault>
         ensures turn { TakesTurn self.old «unit» (answer_of result self.new.past.history) self.new }
-        ensures given { result ≢ Err fault_spec.NoMemory → M.refused supply.new ≡ M.refused supply.old }
+        ensures unrefused { result ≢ Err fault_spec.NoMemory → M.refused supply.new ≡ M.refused supply.old }
         ensures memory { result ≡ Err fault_spec.NoMemory → (M.refused supply.new ≡ true) ⊎ spec.IsUsedUp self.old.past }
     {
         self.write_report(unit, event)?;
@@ -341,7 +341,7 @@ impl<J: Naming> ScriptedMachine<J> {
     ) -> Result<(), Fault>
         ensures handed { (report : report_spec.Report) → event.now ≡ event_spec.Report «unit» report →
             EntersReport self.old «unit» report (answer_of result self.new.past.history) self.new }
-        ensures given { result ≢ Err fault_spec.NoMemory → M.refused supply.new ≡ M.refused supply.old }
+        ensures unrefused { result ≢ Err fault_spec.NoMemory → M.refused supply.new ≡ M.refused supply.old }
         ensures memory { result ≡ Err fault_spec.NoMemory → (M.refused supply.new ≡ true) ⊎ spec.IsUsedUp self.old.past }
     {
         let answer = enter_from(&mut self.core, &mut self.seat, supply, event);
@@ -356,7 +356,7 @@ impl<J: Naming> ScriptedMachine<J> {
 }
 
 /// The report that is kept among these for a unit, else the one of its next work, written into a slot.
-fn report_among<J: Naming>(
+fn report_among<J: MachineBrand>(
     core: &Core<J, Rotating>,
     devices: &mut Vec<AnyDevice>,
     kept: &[Option<WaitingReport>],
@@ -377,7 +377,7 @@ fn report_among<J: Naming>(
 }
 
 /// Whether the log of a machine's one seat is what the history has of it.
-fn has_its_log<J: Naming>(core: &Core<J, Rotating>, seat: Seat<J>) -> bool
+fn has_its_log<J: MachineBrand>(core: &Core<J, Rotating>, seat: Seat<J>) -> bool
     ensures { IsTrue result ↔ (entries_by seat.value.number core.now.value.by core.now.value.history ≡ seat.value.log) }
 {
     let seats = [seat];
@@ -386,7 +386,7 @@ fn has_its_log<J: Naming>(core: &Core<J, Rotating>, seat: Seat<J>) -> bool
 
 /// An event is entered from a seat, with room for its entries from a supply.
 #[inline(always)]
-fn enter_from<J: Naming, M: Supply>(
+fn enter_from<J: MachineBrand, M: Supply>(
     core: &mut Core<J, Rotating>,
     seat: &mut Seat<J>,
     supply: &mut M,
@@ -394,14 +394,14 @@ fn enter_from<J: Naming, M: Supply>(
 ) -> Result<(), Fault>
     ensures past { spec.Enters (past_of core.old seat.old) event.now (answer_of result core.new.value.history) (past_of core.new seat.new) }
     ensures books { books_of core.new seat.new ≡ spec.booked (books_of core.old seat.old) event.now (answer_of result core.new.value.history) }
-    ensures given { result ≢ Err fault_spec.NoMemory → M.refused supply.new ≡ M.refused supply.old }
+    ensures unrefused { result ≢ Err fault_spec.NoMemory → M.refused supply.new ≡ M.refused supply.old }
     ensures memory { result ≡ Err fault_spec.NoMemory → (M.refused supply.new ≡ true) ⊎ spec.IsUsedUp (past_of core.old seat.old) }
 {
     core.perform_with(supply, seat, event)
 }
 
 /// What a core has, whoever was at work on it.
-fn has_run<J: Naming>(core: &Core<J, Rotating>)
+fn has_run<J: MachineBrand>(core: &Core<J, Rotating>)
     ensures set_up { IsSetUp J.setup core.now.value.state }
     ensures replays { HasRun core.now.value.history core.now.value.state }
     ensures held { HasHeld core.now.value.history core.now.value.state }
@@ -411,7 +411,7 @@ fn has_run<J: Naming>(core: &Core<J, Rotating>)
 }
 
 /// Whether the history has the log of each seat, all seats are given, and the history grew by so many entries.
-fn is_settled<J: Naming>(
+fn is_settled<J: MachineBrand>(
     core: Core<J, Rotating>,
     seats: Vec<Seat<J>>,
     before: u64,

@@ -64,7 +64,7 @@ TellsFull queues sends full = (full ≡ finds_full queues sends) × HasRoomFor q
 -- the signal that is sent where this was chosen
 abbrev pub signal_of_chosen : SubchannelState → Chosen → Option (OnPath Down)
 signal_of_chosen s chosen.Idle = None
-signal_of_chosen s (chosen.Resets r path) = Some (record { path = path; signal = down.Reset r s.hold.known })
+signal_of_chosen s (chosen.Resets r path) = Some (record { path = path; signal = down.Reset r s.hold.known_restarts })
 signal_of_chosen s chosen.PerformsClear = None
 signal_of_chosen s (chosen.Halts t path) = Some (record { path = path; signal = down.Halt t })
 signal_of_chosen s chosen.PerformsHalt = None

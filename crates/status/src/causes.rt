@@ -20,13 +20,13 @@ use scsw_irb::status::{DeviceStatus, SubchannelStatus};
 use scsw_irb::words::ScswWords;
 use subchannel_model::cause::StatusCause;
 use subchannel_model::state::{ActiveProgram, Program};
-use subchannel_model::status::Shown;
+use subchannel_model::status::StatusRow;
 
 /// Status is pending, and nothing else is shown.
-fn plain_shown(command_address: u32, count: u16) -> Shown
+fn plain_shown(command_address: u32, count: u16) -> StatusRow
     ensures { result ≡ spec.plain_shown command_address count }
 {
-    Shown {
+    StatusRow {
         conditions: StatusControl::none(),
         activity: ActivityControl::none(),
         device: DeviceStatus::empty(),
@@ -68,7 +68,7 @@ fn count_shown(state: &PackedState) -> u16
 }
 
 /// Nothing but the address and the count of the program of which a status speaks is shown.
-fn program_shown(state: &PackedState) -> Shown
+fn program_shown(state: &PackedState) -> StatusRow
     ensures { result ≡ spec.program_shown state.now.state }
 {
     plain_shown(address_shown(state), count_shown(state))
@@ -85,10 +85,10 @@ fn was_shown(rest: &Rest) -> bool
 }
 
 /// A command could not be fetched, or may not take control.
-fn fetch_fault_shown(tried: u32, check: Check, count: u16) -> Shown
+fn fetch_fault_shown(tried: u32, check: Check, count: u16) -> StatusRow
     ensures { result ≡ spec.fetch_fault_shown tried check count }
 {
-    Shown {
+    StatusRow {
         conditions: conditions(true, true, true),
         subchannel: check_status(Some(check)),
         ..plain_shown(tried, count)
@@ -104,11 +104,11 @@ fn attention_deferred(waiting: Option<Program>) -> Option<DeferredCode>
     }
 }
 
-fn attention_shown(state: &PackedState) -> Shown
+fn attention_shown(state: &PackedState) -> StatusRow
     ensures { result ≡ spec.attention_shown state.now.state }
 {
     let before = state.scsw().scsw();
-    Shown {
+    StatusRow {
         conditions: conditions(true, false, false),
         device: DeviceStatus::ATTENTION,
         deferred: attention_deferred(state.rest().waiting),
@@ -117,21 +117,21 @@ fn attention_shown(state: &PackedState) -> Shown
 }
 
 /// A program that is to be offered found no path.
-fn no_path_shown(state: &PackedState) -> Shown
+fn no_path_shown(state: &PackedState) -> StatusRow
     ensures { result ≡ spec.no_path_shown state.now.state }
 {
-    Shown {
+    StatusRow {
         conditions: conditions(true, true, true),
         deferred: Some(DeferredCode::Three),
         ..program_shown(state)
     }
 }
 
-fn interface_shown(state: &PackedState) -> Shown
+fn interface_shown(state: &PackedState) -> StatusRow
     ensures { result ≡ spec.interface_shown state.now.state }
 {
     let primary = shows_primary(state.scsw(), was_shown(state.rest()));
-    Shown {
+    StatusRow {
         conditions: conditions(true, primary, true),
         subchannel: SubchannelStatus::INTERFACE_CONTROL_CHECK,
         ..program_shown(state)
@@ -147,10 +147,10 @@ fn intermediate() -> StatusControl
     }
 }
 
-fn pci_shown(state: &PackedState, tried: u32, count: u16) -> Shown
+fn pci_shown(state: &PackedState, tried: u32, count: u16) -> StatusRow
     ensures { result ≡ spec.pci_shown state.now.state tried count }
 {
-    Shown {
+    StatusRow {
         conditions: intermediate(),
         activity: state.scsw().scsw().activity,
         subchannel: SubchannelStatus::PROGRAM_CONTROLLED,
@@ -158,10 +158,10 @@ fn pci_shown(state: &PackedState, tried: u32, count: u16) -> Shown
     }
 }
 
-fn suspension_shown(tried: u32, count: u16) -> Shown
+fn suspension_shown(tried: u32, count: u16) -> StatusRow
     ensures { result ≡ spec.suspension_shown tried count }
 {
-    Shown {
+    StatusRow {
         conditions: intermediate(),
         activity: ActivityControl {
             suspended: true,
@@ -172,7 +172,7 @@ fn suspension_shown(tried: u32, count: u16) -> Shown
 }
 
 /// What a cause shows.
-pub fn shown_of(state: &PackedState, cause: &StatusCause) -> Shown
+pub fn shown_of(state: &PackedState, cause: &StatusCause) -> StatusRow
     ensures { result ≡ (spec.row_of state.now.state cause.now).shown }
 {
     match cause {
@@ -299,7 +299,7 @@ fn leave_ended(rest: &mut Rest, last: bool)
 }
 
 /// What an End of the program at work shows.
-fn shown_at_end(state: &PackedState, status: DeviceStatus, more: bool) -> Shown
+fn shown_at_end(state: &PackedState, status: DeviceStatus, more: bool) -> StatusRow
     ensures { IfSome state.now.state.begun (λ b. result ≡ (spec.row_of state.now.state (cause_spec.End b status more)).shown) }
 {
     match &state.rest().begun {

@@ -11,7 +11,7 @@ use scsw_irb::scsw::{ActivityControl, DeferredCode};
 use scsw_irb::status::{DeviceStatus, SubchannelStatus};
 use scsw_irb::words::ScswWords;
 use subchannel_model::state::{ActiveProgram, Program};
-use subchannel_model::status::Shown;
+use subchannel_model::status::StatusRow;
 
 /// Whether an End is the last of its program: it has device end or unit check, or no channel end.
 pub fn is_last_end(status: DeviceStatus) -> bool
@@ -119,10 +119,10 @@ fn channel_end_shown(
     begun: &ActiveProgram,
     status: DeviceStatus,
     more: bool,
-) -> Shown
+) -> StatusRow
     ensures { result ≡ spec.channel_end_shown scsw.now begun.now status more }
 {
-    Shown {
+    StatusRow {
         conditions: conditions(
             is_alert(begun, status),
             shows_primary(scsw, begun.primary_shown),
@@ -146,10 +146,10 @@ fn last_end_shown(
     begun: &ActiveProgram,
     status: DeviceStatus,
     more: bool,
-) -> Shown
+) -> StatusRow
     ensures { result ≡ spec.last_end_shown scsw.now begun.now status more }
 {
-    Shown {
+    StatusRow {
         conditions: conditions(
             is_alert(begun, status),
             shows_primary(scsw, begun.primary_shown),
@@ -170,11 +170,11 @@ fn earlier_end_shown(
     begun: &ActiveProgram,
     status: DeviceStatus,
     more: bool,
-) -> Shown
+) -> StatusRow
     ensures { result ≡ spec.earlier_end_shown scsw.now begun.now status more }
 {
     let before = scsw.scsw();
-    Shown {
+    StatusRow {
         conditions: conditions(true, false, false),
         activity: ActivityControl::none(),
         device: status,
@@ -192,7 +192,7 @@ fn last_shown(
     waiting: Option<Program>,
     status: DeviceStatus,
     more: bool,
-) -> Shown
+) -> StatusRow
     ensures { result ≡ spec.last_shown scsw.now begun.now waiting status more }
 {
     match waiting {
@@ -207,7 +207,7 @@ pub(crate) fn end_shown(
     begun: &ActiveProgram,
     status: DeviceStatus,
     more: bool,
-) -> Shown
+) -> StatusRow
     ensures { result ≡ spec.end_shown state.now.state begun.now status more }
 {
     if is_last_end(status) {

@@ -11,10 +11,10 @@ use scsw_irb::bits::{CLEAR_FUNCTION, START_FUNCTION};
 use scsw_irb::scsw::{Scsw, StatusControl};
 use scsw_irb::status::{DeviceStatus, SubchannelStatus};
 use scsw_irb::words::ScswWords;
-use subchannel_model::status::Shown;
+use subchannel_model::status::StatusRow;
 
 /// A status is made pending. A subchannel that is not enabled gets none, but its activity changes.
-pub(crate) fn add_status(state: &mut PackedState, shown: &Shown)
+pub(crate) fn add_status(state: &mut PackedState, shown: &StatusRow)
     requires { state.old.state.serials.made < 2 ^ 63 }
     ensures { state.new ≡ with_state state.old (cause_spec.with_status state.old.state shown.now) }
 {
@@ -26,7 +26,7 @@ pub(crate) fn add_status(state: &mut PackedState, shown: &Shown)
 }
 
 /// The status word is read and written whole.
-fn make_scsw(enabled: bool, scsw: &mut ScswWords, shown: &Shown)
+fn make_scsw(enabled: bool, scsw: &mut ScswWords, shown: &StatusRow)
     ensures { scsw.new ≡ spec.scsw_made enabled scsw.old shown.now }
 {
     let mut word = scsw.scsw();
@@ -34,7 +34,7 @@ fn make_scsw(enabled: bool, scsw: &mut ScswWords, shown: &Shown)
     *scsw = ScswWords::of(word);
 }
 
-fn make_word(enabled: bool, scsw: &mut Scsw, shown: &Shown)
+fn make_word(enabled: bool, scsw: &mut Scsw, shown: &StatusRow)
     ensures { scsw.new ≡ spec.scsw_made enabled scsw.old shown.now }
 {
     if !enabled {
@@ -62,7 +62,7 @@ fn join_scsw(
     conditions: StatusControl,
     device: DeviceStatus,
     subchannel: SubchannelStatus,
-    shown: &Shown,
+    shown: &StatusRow,
 )
     ensures { scsw.new ≡ spec.with_joined scsw.old conditions device subchannel shown.now }
 {

@@ -9,7 +9,7 @@ pub mod key;
 pub mod law;
 
 use key::Key;
-use memory::{Given, Supply};
+use memory::{Allocator, Supply};
 use std::alloc::{AllocError, Global};
 use std::marker::Model;
 
@@ -56,7 +56,7 @@ impl Storage {
         requires greatest { blocks ≤ 4096 }
         ensures { IfOk result (λ storage. storage ≡ spec.cleared_storage blocks) }
     {
-        Storage::new_with(alloc, &mut Given { refused: false }, blocks)
+        Storage::new_with(alloc, &mut Allocator { refused: false }, blocks)
     }
 
     /// Storage of so many blocks of 4,096 bytes: all bytes, keys and prefixes zero. Two requests for room; it is refused only
@@ -69,7 +69,7 @@ impl Storage {
         requires least { 16 ≤ blocks }
         requires greatest { blocks ≤ 4096 }
         ensures cleared { IfOk result (λ storage. storage ≡ spec.cleared_storage blocks) }
-        ensures given { OnOk result (S.refused supply.new ≡ S.refused supply.old) }
+        ensures unrefused { OnOk result (S.refused supply.new ≡ S.refused supply.old) }
         ensures memory { OnErr result (S.refused supply.new ≡ true) }
     {
         let blocks = blocks as usize;
@@ -405,7 +405,7 @@ fn filled<S: Supply, T: Copy>(
 ) -> Result<Vec<T>, AllocError>
     requires modest { IsModest count }
     ensures items { IfOk result (λ list. list.items ≡ replicate count item) }
-    ensures given { OnOk result (S.refused supply.new ≡ S.refused supply.old) }
+    ensures unrefused { OnOk result (S.refused supply.new ≡ S.refused supply.old) }
     ensures memory { OnErr result (S.refused supply.new ≡ true) }
 {
     let mut list = Vec::new(alloc);

@@ -7,7 +7,7 @@ ghost use Rattle.streams.specs.declared.NoText.TheVariants as no_text;
 ghost use Rattle.std.specs.Prelude.{Err, true, ◌≡◌, ◌≤◌, ◌++◌, false, take, length, IfOk, OnOk, IfSome, IfNone};
 ghost use Rattle.std.specs.Io.KnownBytes.{Appends, IsAtEnd, Keeps};
 
-use memory::{Given, Supply, extend};
+use memory::{Allocator, Supply, extend};
 use std::alloc::Global;
 use std::io::{ErrorKind, Read, Write};
 
@@ -25,7 +25,7 @@ pub fn read_all<R: Read>(alloc: Global, reader: &mut R) -> Result<Vec<u8>, NoTex
     ensures whole { IfOk result (λ text. IfSome (R.remaining reader.old) (λ bytes. text.items ≡ bytes)) }
     ensures end { OnOk result (IsAtEnd (R.remaining reader.new)) }
 {
-    read_all_with(alloc, &mut Given { refused: false }, reader)
+    read_all_with(alloc, &mut Allocator { refused: false }, reader)
 }
 
 /// All that the reader has left. An interrupted read is tried again; what was read before a
@@ -37,7 +37,7 @@ pub fn read_all_with<R: Read, S: Supply>(
 ) -> Result<Vec<u8>, NoText>
     ensures whole { IfOk result (λ text. IfSome (R.remaining reader.old) (λ bytes. text.items ≡ bytes)) }
     ensures end { OnOk result (IsAtEnd (R.remaining reader.new)) }
-    ensures given { OnOk result (S.refused supply.new ≡ S.refused supply.old) }
+    ensures unrefused { OnOk result (S.refused supply.new ≡ S.refused supply.old) }
     ensures memory { result ≡ Err no_text.OutOfMemory → S.refused supply.new ≡ true }
 {
     let mut text = Vec::new(alloc);
@@ -209,7 +209,7 @@ pub trait Source {
         ensures whole { IfOk result (λ text. IfSome (left self.old) (λ bytes. text.items ≡ bytes)) }
         ensures kept { OnOk result (broken self.new ≡ broken self.old) }
         ensures failed { result ≡ Err no_text.ReadFailed → broken self.new ≡ true }
-        ensures given { OnOk result (S.refused supply.new ≡ S.refused supply.old) }
+        ensures unrefused { OnOk result (S.refused supply.new ≡ S.refused supply.old) }
         ensures memory { result ≡ Err no_text.OutOfMemory → S.refused supply.new ≡ true };
 }
 
@@ -240,7 +240,7 @@ impl<R: Read + Drop> Source for CheckedReader<R> {
     ghost broken = { λ h. h.broken };
 
     fn all(&mut self, alloc: Global) -> Result<Vec<u8>, NoText> {
-        self.all_with(alloc, &mut Given { refused: false })
+        self.all_with(alloc, &mut Allocator { refused: false })
     }
 
     fn all_with<S: Supply>(&mut self, alloc: Global, supply: &mut S) -> Result<Vec<u8>, NoText> {

@@ -227,5 +227,5 @@ answer_goes returns storage s p (up.End t n status more) =
 answer_goes returns storage s p (up.Released t) = released-goes s.hold s.hold.phase p t
 answer_goes returns storage s p (up.Cleared r) = cleared-goes s s.hold.phase p r
 answer_goes returns storage s p (up.Notice b) =
-    if-goes (nat_lt s.hold.known b) s.hold.phase p (signal_taken (reset_for (record s { hold = record s.hold { known = b } }))) (signal_ignored s) tt tt
+    if-goes (nat_lt s.hold.known_restarts b) s.hold.phase p (signal_taken (reset_for (record s { hold = record s.hold { known_restarts = b } }))) (signal_ignored s) tt tt
 answer_goes returns storage s p (up.Attn a status) = attended-goes s.hold s.hold.phase p a (may_take_attention s)

@@ -65,10 +65,10 @@ fn notice(state: &mut PackedState, restarts: u64, sent: &mut SentDown) -> Met
     ensures step { subchannel_stepped state.new.state (outcome_with result sent.new) ≡ on_notice.takes_notice state.old.state restarts }
     ensures setup { state.new.setup ≡ state.old.setup }
 {
-    if restarts <= state.rest().hold.known {
+    if restarts <= state.rest().hold.known_restarts {
         return ignored(sent);
     }
-    state.rest_mut().hold.known = restarts;
+    state.rest_mut().hold.known_restarts = restarts;
     reset_for(state);
     quiet(sent)
 }

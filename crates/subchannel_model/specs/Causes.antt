@@ -7,7 +7,7 @@ use Rattle.scsw_irb.specs.declared.scsw.DeferredCode.TheVariants as deferred
 use Rattle.scsw_irb.specs.declared.scsw.Scsw.{Scsw}
 use Rattle.scsw_irb.specs.declared.scsw.StatusControl.{StatusControl}
 use Rattle.scsw_irb.specs.Empty.{no_functions, no_activity, no_status, zero_scsw}
-use Rattle.subchannel_model.specs.declared.status.Shown.{Shown}
+use Rattle.subchannel_model.specs.declared.status.StatusRow.{StatusRow}
 use Rattle.subchannel_model.specs.Status.{check_bits, conditions, no_device_status, no_subchannel_status, scsw_made, serials_made, shows_primary}
 use Rattle.chan_model.specs.UnitReports.{is_last_end}
 use Rattle.ccw_walk.specs.declared.check.Check.{Check}
@@ -22,7 +22,7 @@ use Rattle.subchannel_model.specs.Ends.{end_shown, has_shown}
 use Rattle.subchannel_model.specs.Programs.{without_programs}
 
 -- status is pending, and nothing else is shown
-abbrev pub plain_shown : ℕ → ℕ → Shown
+abbrev pub plain_shown : ℕ → ℕ → StatusRow
 plain_shown address count = record {
   conditions = no_status;
   activity = no_activity;
@@ -50,7 +50,7 @@ abbrev pub count_shown : SubchannelState → ℕ
 count_shown s = program_count s.scsw.count s.waiting s.begun s.suspended
 
 -- nothing but the address and the count of the program of which a status speaks is shown
-abbrev pub program_shown : SubchannelState → Shown
+abbrev pub program_shown : SubchannelState → StatusRow
 program_shown s = plain_shown (address_shown s) (count_shown s)
 
 -- whether the program of which a status speaks showed its primary status; one that waits or is suspended did not
@@ -59,7 +59,7 @@ was_shown None (Some b) = b.primary_shown
 was_shown waiting begun = false
 
 -- a command could not be fetched, or may not take control; the count is that of the command before, where there is one
-abbrev pub fetch_fault_shown : ℕ → Check → ℕ → Shown
+abbrev pub fetch_fault_shown : ℕ → Check → ℕ → StatusRow
 fetch_fault_shown tried check count = record (plain_shown tried count) {
   conditions = conditions true true true;
   subchannel = record { 0 = check_bits (Some check) };
@@ -69,7 +69,7 @@ fetch_fault_shown tried check count = record (plain_shown tried count) {
 abbrev pub attention_deferred : Option Program → Option DeferredCode
 attention_deferred waiting = option_map (λ program. deferred.One) waiting
 
-abbrev pub attention_shown : SubchannelState → Shown
+abbrev pub attention_shown : SubchannelState → StatusRow
 attention_shown s = record (plain_shown s.scsw.command_address s.scsw.count) {
   conditions = conditions true false false;
   device = record { 0 = bit.attention };
@@ -77,11 +77,11 @@ attention_shown s = record (plain_shown s.scsw.command_address s.scsw.count) {
 }
 
 -- a program that is to be offered found no path: deferred condition code 3
-abbrev pub no_path_shown : SubchannelState → Shown
+abbrev pub no_path_shown : SubchannelState → StatusRow
 no_path_shown s = record (program_shown s) { conditions = conditions true true true; deferred = Some deferred.Three }
 
 -- interface-control check: primary status too where its program has not shown it, as where a start waits
-abbrev pub interface_shown : SubchannelState → Shown
+abbrev pub interface_shown : SubchannelState → StatusRow
 interface_shown s = record (program_shown s) {
   conditions = conditions true (shows_primary s.scsw.functions (was_shown s.waiting s.begun)) true;
   subchannel = record { 0 = bit.interface_control_check };
@@ -91,11 +91,11 @@ abbrev pub intermediate : StatusControl
 intermediate = record no_status { intermediate = true }
 
 -- an interruption by the program: the activity is as before
-abbrev pub pci_shown : SubchannelState → ℕ → ℕ → Shown
+abbrev pub pci_shown : SubchannelState → ℕ → ℕ → StatusRow
 pci_shown s tried count = record (plain_shown tried count) { conditions = intermediate; activity = s.scsw.activity; subchannel = record { 0 = bit.program_controlled } }
 
 -- a program is suspended: no activity but that is left
-abbrev pub suspension_shown : ℕ → ℕ → Shown
+abbrev pub suspension_shown : ℕ → ℕ → StatusRow
 suspension_shown tried count = record (plain_shown tried count) { conditions = intermediate; activity = record no_activity { suspended = true } }
 
 -- after the last End of a program all programs are over; after channel end alone the program works on
@@ -114,7 +114,7 @@ without_waiting (Some program) s = record s { waiting = None }
 
 -- a row of the table: what the status shows, and the subchannel without the programs that are over
 pub record CauseRow : Type 0 where
-  pub shown : Shown
+  pub shown : StatusRow
   pub left : SubchannelState
 
 -- the table
@@ -143,7 +143,7 @@ scsw_before scsw cause.HaltDone = without_intermediate scsw
 scsw_before scsw c = scsw
 
 -- a status is made pending, and counted
-abbrev pub with_status : SubchannelState → Shown → SubchannelState
+abbrev pub with_status : SubchannelState → StatusRow → SubchannelState
 with_status s shown = record s { scsw = scsw_made s.pmcw.enabled s.scsw shown; serials = serials_made s.pmcw.enabled s.serials }
 
 -- a subchannel that is not enabled joins no status to its status word, which stays

@@ -6,7 +6,7 @@ use Rattle.scsw_irb.specs.declared.scsw.Scsw.{Scsw}
 use Rattle.scsw_irb.specs.declared.status.DeviceStatus.{DeviceStatus}
 use Rattle.scsw_irb.specs.declared.status.SubchannelStatus.{SubchannelStatus}
 use Rattle.scsw_irb.specs.Empty.{no_activity}
-use Rattle.subchannel_model.specs.declared.status.Shown.{Shown}
+use Rattle.subchannel_model.specs.declared.status.StatusRow.{StatusRow}
 use Rattle.subchannel_model.specs.Status.{check_bits, conditions, shows_primary}
 use Rattle.scsw_irb.specs.Status as bit
 use Rattle.scsw_irb.specs.Status.{has}
@@ -72,7 +72,7 @@ abbrev pub end_bits : Scsw → ActiveProgram → DeviceStatus → Bool → Subch
 end_bits scsw b status more = record { 0 = bit_or (length_bits (shows_length scsw b status more)) (check_bits b.transfer.fault) }
 
 -- an End of the program at work, the last one or channel end alone: with that it is primary status, and the device works on
-abbrev pub work_shown : Scsw → ActiveProgram → DeviceStatus → Bool → Bool → Shown
+abbrev pub work_shown : Scsw → ActiveProgram → DeviceStatus → Bool → Bool → StatusRow
 work_shown scsw b status more last = record {
   conditions = conditions (is_alert b status) (shows_primary scsw.functions b.primary_shown) last;
   activity = record no_activity { device_active = not last };
@@ -84,14 +84,14 @@ work_shown scsw b status more last = record {
 }
 
 -- channel end alone, and the last End of a program
-abbrev pub channel_end_shown : Scsw → ActiveProgram → DeviceStatus → Bool → Shown
+abbrev pub channel_end_shown : Scsw → ActiveProgram → DeviceStatus → Bool → StatusRow
 channel_end_shown scsw b status more = work_shown scsw b status more false
 
-abbrev pub last_end_shown : Scsw → ActiveProgram → DeviceStatus → Bool → Shown
+abbrev pub last_end_shown : Scsw → ActiveProgram → DeviceStatus → Bool → StatusRow
 last_end_shown scsw b status more = work_shown scsw b status more true
 
 -- the last End of an earlier program while a start waits brings deferred condition code 1, and the start is over (own)
-abbrev pub earlier_end_shown : Scsw → ActiveProgram → DeviceStatus → Bool → Shown
+abbrev pub earlier_end_shown : Scsw → ActiveProgram → DeviceStatus → Bool → StatusRow
 earlier_end_shown scsw b status more = record (last_end_shown scsw b status more) {
   conditions = conditions true false false;
   deferred = Some deferred.One;
@@ -99,12 +99,12 @@ earlier_end_shown scsw b status more = record (last_end_shown scsw b status more
   count = scsw.count;
 }
 
-abbrev pub last_shown : Scsw → ActiveProgram → Option Program → DeviceStatus → Bool → Shown
+abbrev pub last_shown : Scsw → ActiveProgram → Option Program → DeviceStatus → Bool → StatusRow
 last_shown scsw b None status more = last_end_shown scsw b status more
 last_shown scsw b (Some waiting) status more = earlier_end_shown scsw b status more
 
 -- an End of a program where a start may wait: channel end alone, or the last End of the program
-abbrev pub end_shown : SubchannelState → ActiveProgram → DeviceStatus → Bool → Shown
+abbrev pub end_shown : SubchannelState → ActiveProgram → DeviceStatus → Bool → StatusRow
 end_shown s b status more =
     if is_last_end status then last_shown s.scsw b s.waiting status more else channel_end_shown s.scsw b status more
 

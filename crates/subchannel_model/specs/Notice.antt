@@ -6,9 +6,9 @@ use Rattle.subchannel_model.specs.Losing.{reset_for}
 use Rattle.subchannel_model.specs.Outcomes.{signal_ignored, signal_taken}
 
 abbrev pub with_known : SubchannelState → ℕ → SubchannelState
-with_known s restarts = record s { hold = record s.hold { known = restarts } }
+with_known s restarts = record s { hold = record s.hold { known_restarts = restarts } }
 
 -- Notice: that count becomes known
 abbrev pub takes_notice : SubchannelState → ℕ → UpStep
 takes_notice s restarts =
-    if nat_lt s.hold.known restarts then signal_taken (reset_for (with_known s restarts)) else signal_ignored s
+    if nat_lt s.hold.known_restarts restarts then signal_taken (reset_for (with_known s restarts)) else signal_ignored s

@@ -10,7 +10,7 @@ use Rattle.scsw_irb.specs.declared.status.DeviceStatus.{DeviceStatus}
 use Rattle.scsw_irb.specs.declared.status.SubchannelStatus.{SubchannelStatus}
 use Rattle.ccw_walk.specs.declared.check.Check.{Check}
 use Rattle.ccw_walk.specs.declared.check.Check.TheVariants.{Program, Protection}
-use Rattle.subchannel_model.specs.declared.status.Shown.{Shown}
+use Rattle.subchannel_model.specs.declared.status.StatusRow.{StatusRow}
 
 abbrev pub no_device_status : DeviceStatus
 no_device_status = record { 0 = 0 }
@@ -34,7 +34,7 @@ joined_conditions old new = record {
   pending = true;
 }
 
-abbrev pub with_joined : Scsw → StatusControl → DeviceStatus → SubchannelStatus → Shown → Scsw
+abbrev pub with_joined : Scsw → StatusControl → DeviceStatus → SubchannelStatus → StatusRow → Scsw
 with_joined scsw conditions device subchannel shown = record scsw {
   activity = shown.activity;
   status = joined_conditions conditions shown.conditions;
@@ -45,14 +45,14 @@ with_joined scsw conditions device subchannel shown = record scsw {
   count = shown.count;
 }
 
-abbrev pub scsw_with_status : Scsw → Shown → Scsw
+abbrev pub scsw_with_status : Scsw → StatusRow → Scsw
 scsw_with_status scsw shown =
     if scsw.status.pending
     then with_joined scsw scsw.status scsw.device_status scsw.subchannel_status shown
     else with_joined scsw no_status no_device_status no_subchannel_status shown
 
 -- a subchannel that is not enabled gets no status, but its activity changes as if it did (own)
-abbrev pub scsw_made : Bool → Scsw → Shown → Scsw
+abbrev pub scsw_made : Bool → Scsw → StatusRow → Scsw
 scsw_made enabled scsw shown = if enabled then scsw_with_status scsw shown else record scsw { activity = shown.activity }
 
 -- each status made pending is counted

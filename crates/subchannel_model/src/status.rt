@@ -19,7 +19,7 @@ pub struct Condition {
 
 /// What one cause of status shows.
 #[derive(Clone, Copy)]
-pub struct Shown {
+pub struct StatusRow {
     /// Status control, beside that status is pending.
     pub conditions: StatusControl,
     /// The activity that is left.

@@ -25,7 +25,7 @@ accepted picks old new e r step ruled more room set_up rises ordered =
       ruled = λ _. ruled;
       refused = tt;
       refusal = tt;
-      spent = λ is. absurd (cc is);
+      exhausted = λ is. absurd (cc is);
       room = room;
       set_up = set_up;
       rises = rises;
@@ -41,7 +41,7 @@ declined picks old new e f refused ruled other same room set_up rises = record {
   ruled = λ _. ruled;
   refused = record { state = refused.1; history = same; room = room };
   refusal = inr refused.0;
-  spent = λ is. absurd (other (cc is));
+  exhausted = λ is. absurd (other (cc is));
   room = omega (arith, room);
   set_up = set_up;
   rises = rises;
@@ -58,7 +58,7 @@ starved picks old new e same spent =
       ruled = λ other. absurd (other refl);
       refused = record { state = refl; history = refl; room = omega arith };
       refusal = inl refl;
-      spent = λ _. (refl, spent);
+      exhausted = λ _. (refl, spent);
       room = omega arith;
       set_up = λ setup k. k;
       rises = same-rises (all_serials old.state);

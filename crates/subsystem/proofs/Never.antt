@@ -166,7 +166,7 @@ sends sub state path signal r =
 
 chooses_sub : (sub : Subchannel) (what : Chosen) → Sound (choose_spec.choose_sub sub what)
 chooses_sub sub Idle = tt
-chooses_sub sub (Resets r path) = sends sub (reset_sent sub.state path) path (down.Reset r sub.state.hold.known) (reply.ResetSent r path)
+chooses_sub sub (Resets r path) = sends sub (reset_sent sub.state path) path (down.Reset r sub.state.hold.known_restarts) (reply.ResetSent r path)
 chooses_sub sub PerformsClear = tt
 chooses_sub sub (Halts t path) = sends sub (halt_sent sub.state) path (down.Halt t) (reply.HaltSent t path)
 chooses_sub sub PerformsHalt = tt

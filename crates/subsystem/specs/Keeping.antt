@@ -70,7 +70,7 @@ pub record IsStep (picks : Rule) (old : Past) (e : Event) (answer : Result Reply
   -- a refusal changes nothing, and is as the machine's; or there is no room for the entry, or no number
   pub refused : OnErr answer (IsAsBefore old new)
   pub refusal : IfErr answer (λ f. (f ≡ fault.NoMemory) ⊎ IsRefused old.state e f)
-  pub spent : answer ≡ Err fault.NoMemory → IsExhausted old new
+  pub exhausted : answer ≡ Err fault.NoMemory → IsExhausted old new
   pub room : old.room ≤ new.room + 1
   -- whatever the outcome, the subsystem stays set up, no subchannel comes or goes, and no serial falls
   pub set_up : StaysSetUp old.state new.state

@@ -35,7 +35,7 @@ pub fn keep_step<S: Supply, P: PathChoice + Drop>(
     ensures fits { Fits indices.now machine.new.subs }
     ensures fresh { history.new.reply ≡ reply_spec.Done }
     ensures answered { IsStep P.picks (past_of machine.old history.old) event.now (answer_of result history.new.entries) (past_of machine.new history.new) }
-    ensures given { result ≢ Err fault_spec.NoMemory → S.refused supply.new ≡ S.refused supply.old }
+    ensures unrefused { result ≢ Err fault_spec.NoMemory → S.refused supply.new ≡ S.refused supply.old }
     ensures memory { result ≡ Err fault_spec.NoMemory →
         (S.refused supply.new ≡ true) ⊎ (2 ^ 62 ≤ length history.old.entries + 1) }
 {

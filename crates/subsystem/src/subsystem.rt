@@ -32,7 +32,7 @@ use lookup::tables::SubchannelIndex;
 use machine::machine::Machine;
 use machine::opening::opened_machine;
 use machine_model::state::UnitTurn;
-use memory::{Given, Supply, make_room};
+use memory::{Allocator, Supply, make_room};
 use path_select::PathChoice;
 use run_laws::answers::codes;
 use run_laws::beginnings::beginnings;
@@ -85,7 +85,7 @@ impl<P: PathChoice + Drop> Subsystem<P> {
         ensures config { IfErr result (λ n. n.config ≡ config) }
         ensures choice { IfErr result (λ n. n.choice ≡ choice) }
     {
-        Subsystem::new_with(alloc, &mut Given { refused: false }, config, choice)
+        Subsystem::new_with(alloc, &mut Allocator { refused: false }, config, choice)
     }
 
     /// The subsystem that is set up so, in what room a supply has. Where the supply refuses a growth, and only there,
@@ -100,7 +100,7 @@ impl<P: PathChoice + Drop> Subsystem<P> {
         ensures set_up { IfOk result (λ s. IsSetUp config s.state) }
         ensures config { IfErr result (λ n. n.config ≡ config) }
         ensures choice { IfErr result (λ n. n.choice ≡ choice) }
-        ensures given { OnOk result (S.refused supply.new ≡ S.refused supply.old) }
+        ensures unrefused { OnOk result (S.refused supply.new ≡ S.refused supply.old) }
         ensures memory { OnErr result (S.refused supply.new ≡ true) }
     {
         match opened_machine(alloc, supply, &config) {
@@ -120,7 +120,7 @@ impl<P: PathChoice + Drop> Subsystem<P> {
     pub fn step(&mut self, event: &Event) -> Result<Reply, Fault>
         ensures { IsStep P.picks self.old event.now result self.new }
     {
-        self.step_with(&mut Given { refused: false }, event)
+        self.step_with(&mut Allocator { refused: false }, event)
     }
 
     /// One event, as `step` has it, with room for its entry from a supply. It is refused `NoMemory` only where the history has
@@ -128,7 +128,7 @@ impl<P: PathChoice + Drop> Subsystem<P> {
     #[inline]
     pub fn step_with<S: Supply>(&mut self, supply: &mut S, event: &Event) -> Result<Reply, Fault>
         ensures answered { IsStep P.picks self.old event.now result self.new }
-        ensures given { result ≢ Err fault_spec.NoMemory → S.refused supply.new ≡ S.refused supply.old }
+        ensures unrefused { result ≢ Err fault_spec.NoMemory → S.refused supply.new ≡ S.refused supply.old }
         ensures memory { result ≡ Err fault_spec.NoMemory →
             (S.refused supply.new ≡ true) ⊎ (2 ^ 62 ≤ length self.old.history + 1) }
     {
@@ -145,14 +145,14 @@ impl<P: PathChoice + Drop> Subsystem<P> {
     pub fn perform(&mut self, event: &Event) -> Result<(), Fault>
         ensures { IsStep P.picks self.old event.now (answer_of result self.new.history) self.new }
     {
-        self.perform_with(&mut Given { refused: false }, event)
+        self.perform_with(&mut Allocator { refused: false }, event)
     }
 
     /// One event, as `perform` has it, with room for its entry from a supply, as `step_with` says.
     #[inline]
     pub fn perform_with<S: Supply>(&mut self, supply: &mut S, event: &Event) -> Result<(), Fault>
         ensures answered { IsStep P.picks self.old event.now (answer_of result self.new.history) self.new }
-        ensures given { result ≢ Err fault_spec.NoMemory → S.refused supply.new ≡ S.refused supply.old }
+        ensures unrefused { result ≢ Err fault_spec.NoMemory → S.refused supply.new ≡ S.refused supply.old }
         ensures memory { result ≡ Err fault_spec.NoMemory →
             (S.refused supply.new ≡ true) ⊎ (2 ^ 62 ≤ length self.old.history + 1) }
     {
@@ -213,7 +213,7 @@ impl<P: PathChoice + Drop> Subsystem<P> {
         // of programs.
         ensures headline { HasHeld self.new.history self.new.state }
     {
-        self.run_with(alloc, &mut Given { refused: false }, events)
+        self.run_with(alloc, &mut Allocator { refused: false }, events)
     }
 
     /// The events in order, as `run` has them, with room for the answers and for each entry from a supply. It ends before its
@@ -230,7 +230,7 @@ impl<P: PathChoice + Drop> Subsystem<P> {
         ensures begun { OnErr result (HasBegun P.picks (S.refused supply.new) self.old events.now self.new) }
         ensures room { self.old.room ≤ self.new.room + length events.now }
         ensures set_up { StaysSetUp self.old.state self.new.state }
-        ensures given { OnOk result (S.refused supply.new ≡ S.refused supply.old) }
+        ensures unrefused { OnOk result (S.refused supply.new ≡ S.refused supply.old) }
         ensures memory { OnErr result ((S.refused supply.new ≡ true) ⊎ (2 ^ 62 ≤ length self.new.history + 1)) }
         // What `run` says of the history and the state.
         ensures replays { HasRun self.new.history self.new.state }

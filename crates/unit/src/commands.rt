@@ -46,7 +46,7 @@ fn new_command(code: u8, room: u16) -> CurrentCommand
         unanswered: None,
         asked: 0,
         again: false,
-        given: None,
+        unabsorbed: None,
         stopped: false,
     }
 }
@@ -97,7 +97,7 @@ fn give(command: &mut CurrentCommand, sequence: u64, bytes: &[u8])
         command.unanswered = None;
     }
     command.again = false;
-    keep(&mut command.given, bytes);
+    keep(&mut command.unabsorbed, bytes);
     command.stopped = command.stopped || bytes.len() == 0;
 }
 

@@ -73,7 +73,7 @@ pub fn is_over(command: &CurrentCommand) -> bool
 fn is_settled(command: &CurrentCommand) -> bool
     ensures { result ≡ reports.is_settled command.now }
 {
-    command.given.is_none() && command.unanswered.is_none()
+    command.unabsorbed.is_none() && command.unanswered.is_none()
 }
 
 /// Whether the device is to supply bytes of a read.
@@ -135,7 +135,7 @@ fn is_answer_allowed(unit: &UnitState, command: &CurrentCommand, answer: &Device
     match (command.progress, answer) {
         (_, DeviceAnswer::Ended { status, more }) => may_end(unit.halted, command, *status, *more),
         (Progress::New, DeviceAnswer::Begins) => true,
-        (Progress::Working, DeviceAnswer::Absorbed(count)) => match &command.given {
+        (Progress::Working, DeviceAnswer::Absorbed(count)) => match &command.unabsorbed {
             None => false,
             Some(bytes) => usize::from(*count) <= bytes.len(),
         },
@@ -266,7 +266,7 @@ fn absorb(command: &mut CurrentCommand, count: u16)
     ensures { command.new ≡ reports.with_absorbed command.old count }
 {
     command.progress = Progress::Working;
-    forget(&mut command.given);
+    forget(&mut command.unabsorbed);
     command.unanswered = Some(Load::Absorbed(count));
 }
 

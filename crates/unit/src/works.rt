@@ -84,9 +84,9 @@ fn work_on_bytes<'a>(
     number: u64,
     command: &'a CurrentCommand,
 ) -> Option<LentWork<'a>>
-    ensures { lent_works result ≡ reports.work_on_bytes unit.now side number command.now command.now.given }
+    ensures { lent_works result ≡ reports.work_on_bytes unit.now side number command.now command.now.unabsorbed }
 {
-    match &command.given {
+    match &command.unabsorbed {
         Some(bytes) => Some(calling(
             unit,
             side,

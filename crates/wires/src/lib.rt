@@ -21,7 +21,7 @@ use crate::downs::Downs;
 use crate::ups::Ups;
 use chan_model::lent::{LentDown, LentUp};
 use chan_model::names::Path;
-use memory::{Given, Supply};
+use memory::{Allocator, Supply};
 use std::alloc::{AllocError, Global};
 use std::marker::Model;
 
@@ -48,13 +48,13 @@ impl Wires {
     pub fn new(alloc: Global) -> Result<Self, AllocError>
         ensures { IfOk result (λ wires. wires ≡ no_queues) }
     {
-        Wires::new_with(alloc, &mut Given { refused: false })
+        Wires::new_with(alloc, &mut Allocator { refused: false })
     }
 
     /// No signal waits, in what room a supply has. It is refused only where the supply refuses a growth.
     pub fn new_with<S: Supply>(alloc: Global, supply: &mut S) -> Result<Self, AllocError>
         ensures made { IfOk result (λ wires. wires ≡ no_queues) }
-        ensures given { OnOk result (S.refused supply.new ≡ S.refused supply.old) }
+        ensures unrefused { OnOk result (S.refused supply.new ≡ S.refused supply.old) }
         ensures memory { OnErr result (S.refused supply.new ≡ true) }
     {
         Ok(Wires {

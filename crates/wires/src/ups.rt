@@ -56,7 +56,7 @@ impl Ups {
     /// refuses a growth.
     pub fn on_each_path<S: Supply>(alloc: Global, supply: &mut S) -> Result<Vec<Ups>, AllocError>
         ensures made { IfOk result (λ rings. rings.items ≡ replicate 8 []) }
-        ensures given { OnOk result (S.refused supply.new ≡ S.refused supply.old) }
+        ensures unrefused { OnOk result (S.refused supply.new ≡ S.refused supply.old) }
         ensures memory { OnErr result (S.refused supply.new ≡ true) }
     {
         let mut rings = Vec::new(alloc);

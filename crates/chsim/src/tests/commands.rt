@@ -5,7 +5,7 @@ use crate::serve;
 use crate::tests::scenes::Scene;
 use crate::tests::want_of_memory::{Short, Slow};
 use crate::tests::{UNWRITTEN, ends};
-use memory::Given;
+use memory::Allocator;
 use script_runner::Ending;
 use std::sync::Wait;
 use std::thread::Threads;
@@ -67,7 +67,7 @@ pub fn command<'a, R: Threads + Wait + Sync + AllocGlobal>(
 ) -> Left<'a> {
     let mut reader = CheckedReader::new(reader);
     let mut sink = CheckedWriter::new(writer);
-    let mut supply = Given { refused: false };
+    let mut supply = Allocator { refused: false };
     let outcome = serve(
         rt,
         rt.alloc(),

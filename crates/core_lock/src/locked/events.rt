@@ -6,14 +6,14 @@ ghost use Rattle.subsystem.specs.Keeping.{answer_of};
 ghost use Rattle.core_lock.specs.Entering.{IsEntered, guarded_in};
 
 use super::{Core, Seat};
-use crate::naming::Naming;
+use crate::naming::MachineBrand;
 use chan_events::event::Event;
 use chan_events::reply::Reply;
 use chan_model::fault::Fault;
-use memory::{Given, Supply};
+use memory::{Allocator, Supply};
 use path_select::PathChoice;
 
-impl<J: Naming, P: PathChoice + Drop> Core<J, P> {
+impl<J: MachineBrand, P: PathChoice + Drop> Core<J, P> {
     /// One step, entered from a seat: its reply, with the entry in the history and in the seat's log. Where it is refused all
     /// is as before; it is refused `NoMemory` only where the history, the seats beside it or the log can't grow, or the steps
     /// are used up.
@@ -22,7 +22,7 @@ impl<J: Naming, P: PathChoice + Drop> Core<J, P> {
         ensures entered { IsEntered P.picks (guarded_in self.old) seat.old event result (guarded_in self.new) seat.new }
         ensures seats { self.new.value.seats ≡ self.old.value.seats }
     {
-        self.enter_with(&mut Given { refused: false }, seat, event)
+        self.enter_with(&mut Allocator { refused: false }, seat, event)
     }
 
     /// One step, entered from a seat, as `enter` has it, with room for its entries from a supply. It is refused `NoMemory` only
@@ -36,7 +36,7 @@ impl<J: Naming, P: PathChoice + Drop> Core<J, P> {
     ) -> Result<Reply, Fault>
         ensures entered { IsEntered P.picks (guarded_in self.old) seat.old event result (guarded_in self.new) seat.new }
         ensures seats { self.new.value.seats ≡ self.old.value.seats }
-        ensures given { result ≢ Err fault_spec.NoMemory → S.refused supply.new ≡ S.refused supply.old }
+        ensures unrefused { result ≢ Err fault_spec.NoMemory → S.refused supply.new ≡ S.refused supply.old }
         ensures memory { result ≡ Err fault_spec.NoMemory →
             (S.refused supply.new ≡ true) ⊎ (2 ^ 62 ≤ length self.old.value.history + 1) }
     {
@@ -50,7 +50,7 @@ impl<J: Naming, P: PathChoice + Drop> Core<J, P> {
         ensures entered { IsEntered P.picks (guarded_in self.old) seat.old event.now (answer_of result self.new.value.history) (guarded_in self.new) seat.new }
         ensures seats { self.new.value.seats ≡ self.old.value.seats }
     {
-        self.perform_with(&mut Given { refused: false }, seat, event)
+        self.perform_with(&mut Allocator { refused: false }, seat, event)
     }
 
     /// One step, as `perform` has it, with room for its entries from a supply, as `enter_with` says.
@@ -63,7 +63,7 @@ impl<J: Naming, P: PathChoice + Drop> Core<J, P> {
     ) -> Result<(), Fault>
         ensures entered { IsEntered P.picks (guarded_in self.old) seat.old event.now (answer_of result self.new.value.history) (guarded_in self.new) seat.new }
         ensures seats { self.new.value.seats ≡ self.old.value.seats }
-        ensures given { result ≢ Err fault_spec.NoMemory → S.refused supply.new ≡ S.refused supply.old }
+        ensures unrefused { result ≢ Err fault_spec.NoMemory → S.refused supply.new ≡ S.refused supply.old }
         ensures memory { result ≡ Err fault_spec.NoMemory →
             (S.refused supply.new ≡ true) ⊎ (2 ^ 62 ≤ length self.old.value.history + 1) }
     {

@@ -11,7 +11,7 @@ use chan_model::fault::Fault;
 use chan_model::names::Cpu;
 use core_lock::gate::Open;
 use core_lock::locked::{Core, Seat};
-use core_lock::naming::Naming;
+use core_lock::naming::MachineBrand;
 use crossbeam_utils::Backoff;
 use event_log::history::History;
 use machine_lock::locked_machine::Machine;
@@ -80,7 +80,7 @@ fn count_of(answer: &Result<Reply, Fault>) -> u64 {
     }
 }
 
-impl<J: Naming> Racer<J> {
+impl<J: MachineBrand> Racer<J> {
     /// What a CPU does in a round: an instruction, and then a glance at its subchannel. How many entries were answered, and whether
     /// the glance is in order.
     fn instructs<R: Wait>(
@@ -162,7 +162,7 @@ impl<J: Naming> Racer<J> {
 }
 
 /// The racers of all CPUs, of the workers of all channel paths and of all units, and of the operator.
-fn add_all<J: Naming>(
+fn add_all<J: MachineBrand>(
     alloc: Global,
     core: &mut Core<J, Rotating>,
     racers: &mut Vec<Racer<J>>,
@@ -189,7 +189,7 @@ fn add_all<J: Naming>(
 }
 
 /// A program lies in storage, and all subchannels are enabled.
-fn begins<J: Naming>(core: &mut Core<J, Rotating>, seat: &mut Seat<J>) -> bool {
+fn begins<J: MachineBrand>(core: &mut Core<J, Rotating>, seat: &mut Seat<J>) -> bool {
     let Some(cpu) = Cpu::new(0) else {
         return false;
     };
@@ -205,7 +205,7 @@ fn begins<J: Naming>(core: &mut Core<J, Rotating>, seat: &mut Seat<J>) -> bool {
 }
 
 /// That is entered, and there are all racers.
-pub fn begins_crowd<J: Naming>(
+pub fn begins_crowd<J: MachineBrand>(
     alloc: Global,
     core: &mut Core<J, Rotating>,
     first: &mut Seat<J>,
@@ -215,7 +215,7 @@ pub fn begins_crowd<J: Naming>(
 }
 
 /// How many entries were answered to these racers.
-pub fn answered<J: Naming>(racers: &[Racer<J>]) -> u64 {
+pub fn answered<J: MachineBrand>(racers: &[Racer<J>]) -> u64 {
     let mut sum = 0u64;
     for racer in racers {
         sum = sum.saturating_add(racer.answered);
@@ -230,7 +230,7 @@ pub fn are_enough(answered: u64, entries: Option<u64>) -> bool {
 }
 
 /// Whether each racer has an entry, and all glances were in order.
-fn have_all<J: Naming>(racers: &[Racer<J>]) -> bool {
+fn have_all<J: MachineBrand>(racers: &[Racer<J>]) -> bool {
     for racer in racers {
         if racer.answered == 0 || !racer.well {
             return false;
@@ -267,7 +267,7 @@ pub fn has_been_disturbed(history: &History<'_>) -> bool {
 
 /// All racers work, each on a thread of its own, until there are entries enough, and each of them has one. Then each log is what the
 /// history has of it, all entries are counted, none is lost, and a fresh subsystem answers them in the same way.
-pub fn crowds<J: Naming + Send + Sync, R: Threads + Wait + Sync>(
+pub fn crowds<J: MachineBrand + Send + Sync, R: Threads + Wait + Sync>(
     rt: &R,
     machine: &Machine<J, Rotating>,
     racers: Vec<Racer<J>>,

@@ -7,7 +7,7 @@ use chan_events::event::{Event, Instruction, OtherInstruction, UnitAct};
 use chan_model::names::{Cpu, Side};
 use core_lock::executing::CpuInstruction;
 use core_lock::locked::Seat;
-use core_lock::naming::Naming;
+use core_lock::naming::MachineBrand;
 
 /// How many subchannels a CPU has.
 pub const EACH: u32 = 4;
@@ -87,7 +87,7 @@ pub fn kind_of(event: &Event) -> Option<usize> {
 
 /// Whether a glance at the subchannel of a CPU is in order: of what was seen before nothing falls, and no status is seen cleared
 /// that is not seen made.
-pub fn glances_in_order<J: Naming>(
+pub fn glances_in_order<J: MachineBrand>(
     seat: &mut Seat<J>,
     cpu: Cpu,
     round: u64,

@@ -7,7 +7,7 @@ use chan_events::event::Event;
 use chan_model::names::Cpu;
 use core_lock::gate::Gate;
 use core_lock::locked::{Core, Seat};
-use core_lock::naming::Naming;
+use core_lock::naming::MachineBrand;
 use crossbeam_utils::Backoff;
 use machine_lock::locked_machine::Machine;
 use path_select::Rotating;
@@ -59,7 +59,7 @@ impl Gate for Meeting {
 }
 
 /// A program is begun at a subchannel, until its unit has a command to take.
-pub fn begins<J: Naming>(
+pub fn begins<J: MachineBrand>(
     core: &mut Core<J, Rotating>,
     seat: &mut Seat<J>,
     subchannel: u32,
@@ -82,7 +82,7 @@ pub fn begins<J: Naming>(
 }
 
 /// Programs are begun at both subchannels, and both units have a worker.
-pub fn begins_both<J: Naming>(
+pub fn begins_both<J: MachineBrand>(
     alloc: Global,
     core: &mut Core<J, Rotating>,
     program: &mut Seat<J>,
@@ -96,7 +96,7 @@ pub fn begins_both<J: Naming>(
 }
 
 /// Two units have a command to take, and the first calls of their workers meet at the gate.
-pub fn meets<J: Naming + Send + Sync, R: Threads + Wait + Sync>(
+pub fn meets<J: MachineBrand + Send + Sync, R: Threads + Wait + Sync>(
     rt: &R,
     machine: &Machine<J, Rotating>,
     racers: Vec<Racer<J>>,

@@ -9,7 +9,7 @@ use chan_events::event::{Event, Instruction};
 use chan_model::fault::Fault;
 use chan_model::names::Cpu;
 use core_lock::locked::{Core, Seat};
-use core_lock::naming::Naming;
+use core_lock::naming::MachineBrand;
 use core_lock::parts::Parts;
 use memory::FailingMemory;
 use path_select::Rotating;
@@ -27,7 +27,7 @@ pub fn granting(left: u64) -> FailingMemory {
 }
 
 /// A seat that is refused each request in turn, and then made: it, and how many requests it makes.
-fn seat_in_turn<J: Naming>(core: &mut Core<J, Rotating>) -> Option<(Seat<J>, u64)>
+fn seat_in_turn<J: MachineBrand>(core: &mut Core<J, Rotating>) -> Option<(Seat<J>, u64)>
     ensures { IfSome result (λ made. made.0.value.owed ≡ None) }
 {
     for left in 0..MANY {
@@ -49,7 +49,7 @@ fn seat_in_turn<J: Naming>(core: &mut Core<J, Rotating>) -> Option<(Seat<J>, u64
 }
 
 /// What is seen of a core: how many entries there are, and how many statuses were made and cleared, by the machine and by a seat.
-fn sight<J: Naming>(core: &Core<J, Rotating>, seat: &mut Seat<J>) -> Option<[u64; 5]> {
+fn sight<J: MachineBrand>(core: &Core<J, Rotating>, seat: &mut Seat<J>) -> Option<[u64; 5]> {
     let subsystem = core.subsystem();
     let serials = subsystem.serials(WORD)?;
     let glance = seat.glance(WORD).ok()?;
@@ -64,7 +64,7 @@ fn sight<J: Naming>(core: &Core<J, Rotating>, seat: &mut Seat<J>) -> Option<[u64
 
 /// How many requests an event makes that is entered: it is refused each in turn, after which all is seen as before, and then
 /// accepted. A list keeps the room that it was given before another was refused it.
-fn requests_of<J: Naming>(
+fn requests_of<J: MachineBrand>(
     core: &mut Core<J, Rotating>,
     seat: &mut Seat<J>,
     event: &Event,
@@ -94,7 +94,7 @@ pub const STARVED: u64 = 2 + 3 * STATUSES;
 
 /// All these events are refused each of their requests in turn, and then accepted: of the entries and the bytes of the history and of
 /// the seat's log, and of the list of seats, each asks once or more.
-pub fn starves<J: Naming>(core: &mut Core<J, Rotating>, seat: &mut Seat<J>) -> bool {
+pub fn starves<J: MachineBrand>(core: &mut Core<J, Rotating>, seat: &mut Seat<J>) -> bool {
     match starved(core, seat) {
         Some(requests) => {
             requests >= 5
@@ -105,7 +105,7 @@ pub fn starves<J: Naming>(core: &mut Core<J, Rotating>, seat: &mut Seat<J>) -> b
 }
 
 /// How many requests all of them make.
-fn starved<J: Naming>(core: &mut Core<J, Rotating>, seat: &mut Seat<J>) -> Option<u64> {
+fn starved<J: MachineBrand>(core: &mut Core<J, Rotating>, seat: &mut Seat<J>) -> Option<u64> {
     let cpu = Cpu::new(0)?;
     let instruction = enable(WORD, false);
     let mut requests = requests_of(core, seat, &Event::Execute { cpu, instruction })?;
@@ -133,7 +133,7 @@ fn starved<J: Naming>(core: &mut Core<J, Rotating>, seat: &mut Seat<J>) -> Optio
 /// A seat makes a request for the directory, one for each list of it, and one for the reader of its subchannel's cell. A refused
 /// one is no seat of the core. The first event asks for entries of the seat's log and of the history and for the bytes of both,
 /// at its fourth attempt for the bytes of the history alone; the second for nothing.
-pub fn grows<J: Naming>(
+pub fn grows<J: MachineBrand>(
     core: &mut Core<J, Rotating>,
     first: &mut Seat<J>,
     racers: &mut Vec<Racer<J>>,

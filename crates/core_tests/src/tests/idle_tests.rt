@@ -9,7 +9,7 @@ use chan_model::names::Cpu;
 use core_lock::executing::CpuInstruction;
 use core_lock::gate::Open;
 use core_lock::locked::{Core, Seat};
-use core_lock::naming::Naming;
+use core_lock::naming::MachineBrand;
 use crossbeam_utils::Backoff;
 use machine_lock::locked_machine::Machine;
 use path_select::Rotating;
@@ -53,7 +53,7 @@ impl Work {
 }
 
 /// A CPU, and a worker of the one channel path, which has nothing to do.
-pub fn begins_idle<J: Naming>(core: &mut Core<J, Rotating>, racers: &mut Vec<Racer<J>>) -> bool {
+pub fn begins_idle<J: MachineBrand>(core: &mut Core<J, Rotating>, racers: &mut Vec<Racer<J>>) -> bool {
     let Some(cpu) = Cpu::new(0) else {
         return false;
     };
@@ -61,7 +61,7 @@ pub fn begins_idle<J: Naming>(core: &mut Core<J, Rotating>, racers: &mut Vec<Rac
 }
 
 /// Whether an instruction of a CPU is answered.
-fn tests<J: Naming, R: Wait>(
+fn tests<J: MachineBrand, R: Wait>(
     rt: &R,
     machine: &Machine<J, Rotating>,
     seat: &mut Seat<J>,
@@ -74,7 +74,7 @@ fn tests<J: Naming, R: Wait>(
     machine.instruct(rt, seat, cpu, test).is_ok()
 }
 
-impl<J: Naming> Racer<J> {
+impl<J: MachineBrand> Racer<J> {
     /// How many instructions of a CPU are answered while the worker is at work.
     fn answered_beside<R: Wait>(
         &mut self,
@@ -109,7 +109,7 @@ impl<J: Naming> Racer<J> {
 }
 
 /// Both at once, each on a thread of its own: they, where each instruction was answered beside the turns, which added nothing.
-pub fn idles<J: Naming + Send + Sync, R: Threads + Wait + Sync>(
+pub fn idles<J: MachineBrand + Send + Sync, R: Threads + Wait + Sync>(
     rt: &R,
     machine: &Machine<J, Rotating>,
     racers: Vec<Racer<J>>,

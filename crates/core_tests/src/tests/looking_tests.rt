@@ -12,7 +12,7 @@ use chan_model::answer::Answer;
 use chan_model::names::Cpu;
 use core_lock::executing::CpuInstruction;
 use core_lock::locked::{Core, Seat};
-use core_lock::naming::Naming;
+use core_lock::naming::MachineBrand;
 use machine_lock::locked_machine::Machine;
 use path_select::Rotating;
 use std::alloc::Global;
@@ -30,7 +30,7 @@ const LOOKS: u64 = 10_000;
 const PATIENCE: u64 = 1_000_000_000;
 
 /// Makes a status by CLEAR SUBCHANNEL, of which no path tells the unit, and clears it.
-fn makes<J: Naming, R: Wait>(
+fn makes<J: MachineBrand, R: Wait>(
     rt: &R,
     machine: &Machine<J, Rotating>,
     seat: &mut Seat<J>,
@@ -55,7 +55,7 @@ fn makes<J: Naming, R: Wait>(
 }
 
 /// Makes and clears all statuses.
-fn makes_all<J: Naming, R: Wait>(
+fn makes_all<J: MachineBrand, R: Wait>(
     rt: &R,
     machine: &Machine<J, Rotating>,
     racer: &mut Racer<J>,
@@ -72,7 +72,7 @@ fn makes_all<J: Naming, R: Wait>(
 }
 
 /// Whether nothing falls between one look and the next, and no status is seen cleared that is not seen made.
-fn never_falls<J: Naming>(racer: &mut Racer<J>) -> bool {
+fn never_falls<J: MachineBrand>(racer: &mut Racer<J>) -> bool {
     let mut last = (0, 0);
     for look in 0..PATIENCE {
         let Some(now) = seen(&mut racer.seat) else {
@@ -90,7 +90,7 @@ fn never_falls<J: Naming>(racer: &mut Racer<J>) -> bool {
 }
 
 /// Whether all that a racer does comes out as it must: one looks, and the other makes and clears.
-fn goes_well<J: Naming, R: Wait>(
+fn goes_well<J: MachineBrand, R: Wait>(
     rt: &R,
     machine: &Machine<J, Rotating>,
     racer: &mut Racer<J>,
@@ -103,7 +103,7 @@ fn goes_well<J: Naming, R: Wait>(
 }
 
 /// The subchannel is enabled, and its path goes down.
-fn begins<J: Naming>(core: &mut Core<J, Rotating>, seat: &mut Seat<J>) -> bool {
+fn begins<J: MachineBrand>(core: &mut Core<J, Rotating>, seat: &mut Seat<J>) -> bool {
     let Some(cpu) = Cpu::new(0) else {
         return false;
     };
@@ -112,7 +112,7 @@ fn begins<J: Naming>(core: &mut Core<J, Rotating>, seat: &mut Seat<J>) -> bool {
 }
 
 /// That is entered, and there are a racer that makes statuses and one that looks.
-pub fn begins_looks<J: Naming>(
+pub fn begins_looks<J: MachineBrand>(
     core: &mut Core<J, Rotating>,
     first: &mut Seat<J>,
     racers: &mut Vec<Racer<J>>,
@@ -123,7 +123,7 @@ pub fn begins_looks<J: Naming>(
 }
 
 /// Whether all went well with a racer, and it sees all statuses made and cleared.
-fn has_seen<J: Naming>(racer: Option<&mut Racer<J>>) -> bool {
+fn has_seen<J: MachineBrand>(racer: Option<&mut Racer<J>>) -> bool {
     match racer {
         Some(racer) => racer.well && seen(&mut racer.seat) == Some((STATUSES, STATUSES)),
         None => false,
@@ -131,7 +131,7 @@ fn has_seen<J: Naming>(racer: Option<&mut Racer<J>>) -> bool {
 }
 
 /// One thread makes and clears statuses, and another looks: they, where both went well and see all statuses in the end.
-pub fn looks<J: Naming + Send + Sync, R: Threads + Wait + Sync>(
+pub fn looks<J: MachineBrand + Send + Sync, R: Threads + Wait + Sync>(
     rt: &R,
     machine: &Machine<J, Rotating>,
     racers: Vec<Racer<J>>,

@@ -6,7 +6,7 @@ use chan_model::names::Cpu;
 use channel_config::config::Config;
 use channel_config::parts::UnitKind;
 use core_lock::locked::{Core, Seat};
-use core_lock::naming::Naming;
+use core_lock::naming::MachineBrand;
 use path_select::Rotating;
 use std::alloc::Global;
 
@@ -98,7 +98,7 @@ pub fn tsch(subchannel: u32) -> Instruction {
 }
 
 /// Whether all these instructions of a CPU are accepted, one after another.
-pub fn accepts<J: Naming>(
+pub fn accepts<J: MachineBrand>(
     core: &mut Core<J, Rotating>,
     seat: &mut Seat<J>,
     cpu: Cpu,
@@ -117,7 +117,7 @@ pub fn accepts<J: Naming>(
 }
 
 /// Whether all these events are accepted, one after another.
-pub fn accepts_all<J: Naming>(
+pub fn accepts_all<J: MachineBrand>(
     core: &mut Core<J, Rotating>,
     seat: &mut Seat<J>,
     events: &[Event],

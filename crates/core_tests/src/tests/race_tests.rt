@@ -9,10 +9,10 @@ use crate::tests::machines::{WORD, config_of};
 use chan_events::event::Event;
 use channel_config::config::Config;
 use core_lock::locked::Core;
-use core_lock::naming::Naming;
+use core_lock::naming::MachineBrand;
 use core_lock::parts::Parts;
 use event_log::history::History;
-use memory::Given;
+use memory::Allocator;
 use path_select::Rotating;
 use script_rows::race::Race;
 use script_runner::racers::{Racers, one_seat};
@@ -63,7 +63,7 @@ fn changes(history: &History<'_>) -> u64 {
 }
 
 /// How often entries change hands in a race at a core.
-fn changes_on<J: Naming + Send + Sync, R: Threads + Wait + Sync>(
+fn changes_on<J: MachineBrand + Send + Sync, R: Threads + Wait + Sync>(
     rt: &R,
     alloc: Global,
     core: Core<J, Rotating>,
@@ -71,7 +71,7 @@ fn changes_on<J: Naming + Send + Sync, R: Threads + Wait + Sync>(
     requires { core.value.seats ≡ 0 }
 {
     let mut core = core;
-    let mut supply = Given { refused: false };
+    let mut supply = Allocator { refused: false };
     let own = one_seat(&mut supply, &mut core).ok()?;
     let racers = Racers::new(alloc, &mut supply, &mut core, RACE.cpus).ok()?;
     let (core, _, _) = racers.race(rt, core, own, RACE);
@@ -80,7 +80,7 @@ fn changes_on<J: Naming + Send + Sync, R: Threads + Wait + Sync>(
 }
 
 /// The same, at a core of this configuration that is made with these parts.
-fn changes_in<J: Naming + Send + Sync, R: Threads + Wait + Sync>(
+fn changes_in<J: MachineBrand + Send + Sync, R: Threads + Wait + Sync>(
     rt: &R,
     alloc: Global,
     config: Config,

@@ -6,7 +6,7 @@ use chan_model::names::Cpu;
 use channel_config::parts::UnitKind;
 use core_lock::gate::Gate;
 use core_lock::locked::{Core, Seat};
-use core_lock::naming::Naming;
+use core_lock::naming::MachineBrand;
 use device_models::any_device::AnyDevice;
 use machine_lock::locked_machine::Machine;
 use path_select::Rotating;
@@ -30,7 +30,7 @@ pub enum Task {
 
 /// A seat that owes no call, and what it is for.
 #[derive(Drop)]
-pub struct Racer<J: Naming> {
+pub struct Racer<J: MachineBrand> {
     pub seat: Seat<J>,
     pub task: Task,
     /// How many entries were answered to it.
@@ -50,7 +50,7 @@ fn stores(alloc: Global, count: usize) -> Result<Vec<AnyDevice>, AllocError> {
 }
 
 /// One racer more, with this seat.
-pub fn hold<J: Naming>(racers: &mut Vec<Racer<J>>, seat: Seat<J>, task: Task) -> bool
+pub fn hold<J: MachineBrand>(racers: &mut Vec<Racer<J>>, seat: Seat<J>, task: Task) -> bool
     requires { seat.value.owed ≡ None }
 {
     let racer = Racer {
@@ -63,7 +63,7 @@ pub fn hold<J: Naming>(racers: &mut Vec<Racer<J>>, seat: Seat<J>, task: Task) ->
 }
 
 /// One racer more, with a seat of its own.
-pub fn add_racer<J: Naming>(
+pub fn add_racer<J: MachineBrand>(
     core: &mut Core<J, Rotating>,
     racers: &mut Vec<Racer<J>>,
     task: Task,
@@ -75,7 +75,7 @@ pub fn add_racer<J: Naming>(
 }
 
 /// The worker of so many units, from this one on, with a seat of its own.
-pub fn add_worker<J: Naming>(
+pub fn add_worker<J: MachineBrand>(
     alloc: Global,
     core: &mut Core<J, Rotating>,
     racers: &mut Vec<Racer<J>>,
@@ -96,7 +96,7 @@ struct Shift {
     turns: u64,
 }
 
-impl<J: Naming> Racer<J> {
+impl<J: MachineBrand> Racer<J> {
     /// Its seat.
     fn into_seat(self) -> Seat<J> {
         let Racer {
@@ -133,7 +133,7 @@ impl<J: Naming> Racer<J> {
 }
 
 /// So many turns of the worker of each of these units.
-fn unit_turns<J: Naming, G: Gate, R: Wait>(
+fn unit_turns<J: MachineBrand, G: Gate, R: Wait>(
     rt: &R,
     machine: &Machine<J, Rotating>,
     seat: &mut Seat<J>,
@@ -156,7 +156,7 @@ fn unit_turns<J: Naming, G: Gate, R: Wait>(
 }
 
 /// This seat, and those of these racers.
-pub fn seats_of<J: Naming>(
+pub fn seats_of<J: MachineBrand>(
     alloc: Global,
     first: Seat<J>,
     racers: Vec<Racer<J>>,

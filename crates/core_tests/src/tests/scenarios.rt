@@ -21,7 +21,7 @@ use crate::tests::storm_tests::{are_all, has_stormed, storms};
 use crate::tests::workers_tests::{begins_work, has_roamed, roams};
 use channel_config::config::Config;
 use core_lock::locked::{Core, NotMade, Seat, audit};
-use core_lock::naming::Naming;
+use core_lock::naming::MachineBrand;
 use core_lock::parts::Parts;
 use machine_lock::locked_machine::Machine;
 use path_select::Rotating;
@@ -83,21 +83,21 @@ pub fn setting(alloc: Global, scenario: Scenario) -> Config {
 
 /// Who takes part: the first seat, and racers with seats of their own.
 #[derive(Drop)]
-struct Cast<J: Naming> {
+struct Cast<J: MachineBrand> {
     first: Seat<J>,
     racers: Vec<Racer<J>>,
 }
 
 /// What came of a scenario: whether it went as it is told, all seats, and how many entries were answered to racers.
 #[derive(Drop)]
-struct Acted<J: Naming> {
+struct Acted<J: MachineBrand> {
     well: bool,
     seats: Vec<Seat<J>>,
     answered: u64,
 }
 
 /// What is entered at the beginning, from the first seat, and the racers that take part.
-fn enters<J: Naming>(
+fn enters<J: MachineBrand>(
     alloc: Global,
     core: &mut Core<J, Rotating>,
     cast: &mut Cast<J>,
@@ -123,7 +123,7 @@ fn enters<J: Naming>(
 }
 
 /// Who takes part, where the beginning goes as it is told.
-fn begins<J: Naming>(
+fn begins<J: MachineBrand>(
     alloc: Global,
     core: &mut Core<J, Rotating>,
     scenario: Scenario,
@@ -140,7 +140,7 @@ fn begins<J: Naming>(
 }
 
 /// What the racers do at once: they, where it goes as it is told.
-fn plays<J: Naming + Send + Sync, R: Threads + Wait + Sync>(
+fn plays<J: MachineBrand + Send + Sync, R: Threads + Wait + Sync>(
     rt: &R,
     machine: &Machine<J, Rotating>,
     first: &mut Seat<J>,
@@ -159,7 +159,7 @@ fn plays<J: Naming + Send + Sync, R: Threads + Wait + Sync>(
 }
 
 /// All seats after it, and how many entries were answered to racers; None where it does not go as it is told.
-fn seats_after<J: Naming + Send + Sync, R: Threads + Wait + Sync>(
+fn seats_after<J: MachineBrand + Send + Sync, R: Threads + Wait + Sync>(
     rt: &R,
     alloc: Global,
     machine: &Machine<J, Rotating>,
@@ -174,7 +174,7 @@ fn seats_after<J: Naming + Send + Sync, R: Threads + Wait + Sync>(
 }
 
 /// The same, with no seat where it does not go as it is told.
-fn acts<J: Naming + Send + Sync, R: Threads + Wait + Sync>(
+fn acts<J: MachineBrand + Send + Sync, R: Threads + Wait + Sync>(
     rt: &R,
     alloc: Global,
     machine: &Machine<J, Rotating>,
@@ -196,7 +196,7 @@ fn acts<J: Naming + Send + Sync, R: Threads + Wait + Sync>(
 }
 
 /// Whether the history has the log of each seat, and shows what it must.
-fn is_shown<J: Naming>(
+fn is_shown<J: MachineBrand>(
     alloc: Global,
     core: &Core<J, Rotating>,
     seats: &[Seat<J>],
@@ -236,7 +236,7 @@ fn are_due(scenario: Scenario, answered: u64, entries: Option<u64>) -> bool {
 }
 
 /// Whether what is entered in the end, from the first seat, is answered as it must be.
-fn enters_last<J: Naming>(
+fn enters_last<J: MachineBrand>(
     core: &mut Core<J, Rotating>,
     seats: &mut Vec<Seat<J>>,
     scenario: Scenario,
@@ -248,7 +248,7 @@ fn enters_last<J: Naming>(
 }
 
 /// Whether it went as it is told in the end, when core and seats are given up.
-fn ends<J: Naming>(
+fn ends<J: MachineBrand>(
     alloc: Global,
     core: Core<J, Rotating>,
     acted: Acted<J>,
@@ -267,7 +267,7 @@ fn ends<J: Naming>(
 }
 
 /// Whether a scenario goes as it is told, on this core.
-fn tell<J: Naming + Send + Sync, R: Threads + Wait + Sync>(
+fn tell<J: MachineBrand + Send + Sync, R: Threads + Wait + Sync>(
     rt: &R,
     alloc: Global,
     core: Core<J, Rotating>,
@@ -281,7 +281,7 @@ fn tell<J: Naming + Send + Sync, R: Threads + Wait + Sync>(
 }
 
 /// The same, on a core that is made of what was handed back, where one request is granted.
-fn make_and_tell<J: Naming + Send + Sync, R: Threads + Wait + Sync>(
+fn make_and_tell<J: MachineBrand + Send + Sync, R: Threads + Wait + Sync>(
     rt: &R,
     alloc: Global,
     given: NotMade<Rotating>,
@@ -302,7 +302,7 @@ fn make_and_tell<J: Naming + Send + Sync, R: Threads + Wait + Sync>(
 }
 
 /// The one request of a core is refused first, which hands back what it was to be made of.
-fn refuse_and_tell<J: Naming + Send + Sync, R: Threads + Wait + Sync>(
+fn refuse_and_tell<J: MachineBrand + Send + Sync, R: Threads + Wait + Sync>(
     rt: &R,
     alloc: Global,
     config: Config,

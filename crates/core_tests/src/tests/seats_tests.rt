@@ -11,11 +11,11 @@ use chan_model::answer::Answer;
 use chan_model::fault::Fault;
 use chan_model::names::Cpu;
 use core_lock::locked::{Core, MOST_SEATS, Seat};
-use core_lock::naming::Naming;
+use core_lock::naming::MachineBrand;
 use path_select::Rotating;
 
 /// Makes a status and clears it from one seat.
-fn makes_and_clears<J: Naming>(core: &mut Core<J, Rotating>, seat: &mut Seat<J>) -> bool {
+fn makes_and_clears<J: MachineBrand>(core: &mut Core<J, Rotating>, seat: &mut Seat<J>) -> bool {
     let Some(cpu) = Cpu::new(0) else {
         return false;
     };
@@ -28,7 +28,7 @@ fn makes_and_clears<J: Naming>(core: &mut Core<J, Rotating>, seat: &mut Seat<J>)
 }
 
 /// What a seat sees of the subchannel.
-pub fn seen<J: Naming>(seat: &mut Seat<J>) -> Option<(u64, u64)>
+pub fn seen<J: MachineBrand>(seat: &mut Seat<J>) -> Option<(u64, u64)>
     requires { seat.old.value.owed ≡ None }
     ensures { seat.new.value.owed ≡ None }
 {
@@ -37,7 +37,7 @@ pub fn seen<J: Naming>(seat: &mut Seat<J>) -> Option<(u64, u64)>
 }
 
 /// Whether a seat sees what another makes and clears, and no subchannel that is not there.
-fn sees_other<J: Naming>(
+fn sees_other<J: MachineBrand>(
     core: &mut Core<J, Rotating>,
     maker: &mut Seat<J>,
     looker: &mut Racer<J>,
@@ -53,7 +53,7 @@ fn sees_other<J: Naming>(
 }
 
 /// A seat sees what another made and cleared.
-pub fn sees<J: Naming>(
+pub fn sees<J: MachineBrand>(
     core: &mut Core<J, Rotating>,
     maker: &mut Seat<J>,
     racers: &mut Vec<Racer<J>>,
@@ -68,7 +68,7 @@ pub fn sees<J: Naming>(
 }
 
 /// Whether the reply that is lent is condition code 3.
-fn has_code_three<J: Naming>(core: &Core<J, Rotating>) -> bool {
+fn has_code_three<J: MachineBrand>(core: &Core<J, Rotating>) -> bool {
     match core.subsystem().last_reply() {
         Some(reply) => matches!(reply.own(), Reply::Code(Answer::Three)),
         None => false,
@@ -76,7 +76,7 @@ fn has_code_three<J: Naming>(core: &Core<J, Rotating>) -> bool {
 }
 
 /// The reply of an event that is accepted is lent from then on, also where another is refused.
-pub fn answers<J: Naming>(core: &mut Core<J, Rotating>, seat: &mut Seat<J>) -> bool {
+pub fn answers<J: MachineBrand>(core: &mut Core<J, Rotating>, seat: &mut Seat<J>) -> bool {
     let Some(cpu) = Cpu::new(0) else {
         return false;
     };
@@ -90,12 +90,12 @@ pub fn answers<J: Naming>(core: &mut Core<J, Rotating>, seat: &mut Seat<J>) -> b
 }
 
 /// One seat more is made, and given up.
-pub fn leaves_out<J: Naming>(core: &mut Core<J, Rotating>) -> bool {
+pub fn leaves_out<J: MachineBrand>(core: &mut Core<J, Rotating>) -> bool {
     core.seat().is_ok()
 }
 
 /// As many seats are made as there can be, and one more is refused.
-pub fn fills<J: Naming>(core: &mut Core<J, Rotating>, racers: &mut Vec<Racer<J>>) -> bool {
+pub fn fills<J: MachineBrand>(core: &mut Core<J, Rotating>, racers: &mut Vec<Racer<J>>) -> bool {
     for _ in 1..MOST_SEATS {
         if !add_racer(core, racers, Task::Looks) {
             return false;

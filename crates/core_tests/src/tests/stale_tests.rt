@@ -15,7 +15,7 @@ use channel_config::parts::UnitKind;
 use core_lock::executing::CpuInstruction;
 use core_lock::gate::{Gate, Open};
 use core_lock::locked::{Core, Seat};
-use core_lock::naming::Naming;
+use core_lock::naming::MachineBrand;
 use crossbeam_utils::Backoff;
 use device_models::any_device::AnyDevice;
 use event_log::history::History;
@@ -92,7 +92,7 @@ fn late_report() -> Report {
 }
 
 /// Whether the device is to be called, and its answer is of the command and the index of that report.
-fn is_due<J: Naming>(core: &Core<J, Rotating>) -> bool {
+fn is_due<J: MachineBrand>(core: &Core<J, Rotating>) -> bool {
     let late = late_report();
     match core.subsystem().unit_turn(0) {
         Some(
@@ -116,7 +116,7 @@ fn is_due<J: Naming>(core: &Core<J, Rotating>) -> bool {
 }
 
 /// A program is begun, and its unit takes a command. There are a racer that resets, and the unit's worker.
-pub fn begins_late<J: Naming>(
+pub fn begins_late<J: MachineBrand>(
     alloc: Global,
     core: &mut Core<J, Rotating>,
     program: &mut Seat<J>,
@@ -136,7 +136,7 @@ pub fn begins_late<J: Naming>(
 
 /// CLEAR SUBCHANNEL, and the Reset that it asks for: it is sent, the unit takes it, and the subchannel takes the answer. The
 /// device is not called.
-fn resets<J: Naming, R: Wait>(rt: &R, machine: &Machine<J, Rotating>, seat: &mut Seat<J>) -> bool
+fn resets<J: MachineBrand, R: Wait>(rt: &R, machine: &Machine<J, Rotating>, seat: &mut Seat<J>) -> bool
     requires { seat.old.value.owed ≡ None }
     ensures { seat.new.value.owed ≡ None }
 {
@@ -152,7 +152,7 @@ fn resets<J: Naming, R: Wait>(rt: &R, machine: &Machine<J, Rotating>, seat: &mut
     asked.is_ok() && sent == 1 && taken == 1 && answered == 1
 }
 
-impl<J: Naming> Racer<J> {
+impl<J: MachineBrand> Racer<J> {
     /// What it does: one resets while the call of the other waits, whose report then adds nothing. Whether that comes out so.
     fn goes_late<R: Wait>(
         &mut self,
@@ -171,7 +171,7 @@ impl<J: Naming> Racer<J> {
 }
 
 /// Whether all went well with these racers.
-fn are_well<J: Naming>(racers: &[Racer<J>]) -> bool {
+fn are_well<J: MachineBrand>(racers: &[Racer<J>]) -> bool {
     for racer in racers {
         if !racer.well {
             return false;
@@ -181,7 +181,7 @@ fn are_well<J: Naming>(racers: &[Racer<J>]) -> bool {
 }
 
 /// Whether the status of the clear function is there, and a program is started again.
-fn starts_again<J: Naming, R: Wait>(
+fn starts_again<J: MachineBrand, R: Wait>(
     rt: &R,
     machine: &Machine<J, Rotating>,
     program: &mut Seat<J>,
@@ -197,7 +197,7 @@ fn starts_again<J: Naming, R: Wait>(
 
 /// One thread resets while the call of a device waits at the gate on another; its report is handed in after it, and adds
 /// nothing. Then the subchannel is as after any clear, and a program that is started there goes through to its end.
-pub fn comes_late<J: Naming + Send + Sync, R: Threads + Wait + Sync>(
+pub fn comes_late<J: MachineBrand + Send + Sync, R: Threads + Wait + Sync>(
     rt: &R,
     machine: &Machine<J, Rotating>,
     program: &mut Seat<J>,
@@ -252,7 +252,7 @@ pub fn has_dropped(history: &History<'_>) -> bool {
 
 /// Whether that report, which is entered once more, is refused `NotNow`, which is 7, and adds nothing. A worker does not tell why
 /// its report was refused.
-pub fn is_refused<J: Naming>(core: &mut Core<J, Rotating>, seat: &mut Seat<J>) -> bool {
+pub fn is_refused<J: MachineBrand>(core: &mut Core<J, Rotating>, seat: &mut Seat<J>) -> bool {
     let before = core.subsystem().history().len();
     let report = late_report();
     let refusal = core.enter(seat, Event::Report { unit: 0, report });

@@ -9,7 +9,7 @@ use chan_events::reply::{Entry, Reply};
 use chan_model::answer::Answer;
 use chan_model::names::Cpu;
 use core_lock::locked::{Core, Seat};
-use core_lock::naming::Naming;
+use core_lock::naming::MachineBrand;
 use device_models::any_device::AnyDevice;
 use event_log::history::History;
 use path_select::Rotating;
@@ -42,7 +42,7 @@ fn devices() -> Devices {
 }
 
 /// The next event of a unit, if there is one.
-fn at_unit<J: Naming>(core: &Core<J, Rotating>, devices: &mut Devices, unit: u32) -> Option<Event> {
+fn at_unit<J: MachineBrand>(core: &Core<J, Rotating>, devices: &mut Devices, unit: u32) -> Option<Event> {
     let device = devices.get_mut(unit as usize)?;
     match turn_by(false, None, unit, core.subsystem().unit_turn(unit)) {
         Turn::Enters(event) => Some(event),
@@ -52,7 +52,7 @@ fn at_unit<J: Naming>(core: &Core<J, Rotating>, devices: &mut Devices, unit: u32
 }
 
 /// An event that is drawn: mostly what is due on a channel path or at a unit.
-fn drawn<J: Naming>(
+fn drawn<J: MachineBrand>(
     core: &Core<J, Rotating>,
     devices: &mut Devices,
     draws: &mut Draws,
@@ -68,7 +68,7 @@ fn drawn<J: Naming>(
 }
 
 /// Whether an event that is drawn is accepted. A unit that is restarted has a device as at the opening.
-fn is_accepted<J: Naming>(
+fn is_accepted<J: MachineBrand>(
     core: &mut Core<J, Rotating>,
     seat: &mut Seat<J>,
     devices: &mut Devices,
@@ -93,7 +93,7 @@ fn is_accepted<J: Naming>(
 }
 
 /// So many events are drawn and accepted, and then each subchannel is tested.
-pub fn storms<J: Naming>(core: &mut Core<J, Rotating>, seat: &mut Seat<J>) -> bool {
+pub fn storms<J: MachineBrand>(core: &mut Core<J, Rotating>, seat: &mut Seat<J>) -> bool {
     let mut accepted = 0u64;
     for event in programs() {
         if core.enter(seat, event).is_err() {
@@ -115,7 +115,7 @@ pub fn storms<J: Naming>(core: &mut Core<J, Rotating>, seat: &mut Seat<J>) -> bo
 }
 
 /// Whether no status of a subchannel that is tested is left: all that were made are cleared, and some were.
-fn is_cleared<J: Naming>(
+fn is_cleared<J: MachineBrand>(
     core: &mut Core<J, Rotating>,
     seat: &mut Seat<J>,
     cpu: Cpu,
@@ -143,7 +143,7 @@ fn is_cleared<J: Naming>(
 }
 
 /// The same of all.
-fn all_are_cleared<J: Naming>(core: &mut Core<J, Rotating>, seat: &mut Seat<J>) -> bool {
+fn all_are_cleared<J: MachineBrand>(core: &mut Core<J, Rotating>, seat: &mut Seat<J>) -> bool {
     let Some(cpu) = Cpu::new(0) else {
         return false;
     };

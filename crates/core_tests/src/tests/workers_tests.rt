@@ -10,7 +10,7 @@ use chan_model::names::Cpu;
 use core_lock::executing::CpuInstruction;
 use core_lock::gate::Open;
 use core_lock::locked::{Core, Seat};
-use core_lock::naming::Naming;
+use core_lock::naming::MachineBrand;
 use event_log::history::History;
 use machine_lock::locked_machine::Machine;
 use path_select::Rotating;
@@ -30,7 +30,7 @@ const ROUNDS: u64 = 1_000;
 const STATUS: [u32; 3] = [0x0080_4007, 0x0000_1008, 0x0C00_0000];
 
 /// A write command of four bytes is started, in multipath mode.
-fn starts<J: Naming>(core: &mut Core<J, Rotating>, seat: &mut Seat<J>) -> bool {
+fn starts<J: MachineBrand>(core: &mut Core<J, Rotating>, seat: &mut Seat<J>) -> bool {
     let Some(cpu) = Cpu::new(0) else {
         return false;
     };
@@ -38,7 +38,7 @@ fn starts<J: Naming>(core: &mut Core<J, Rotating>, seat: &mut Seat<J>) -> bool {
 }
 
 /// That is entered, and there are workers of the eight paths and of the unit.
-pub fn begins_work<J: Naming>(
+pub fn begins_work<J: MachineBrand>(
     alloc: Global,
     core: &mut Core<J, Rotating>,
     program: &mut Seat<J>,
@@ -62,7 +62,7 @@ fn is_due(scsw: &Scsw, due: &[u32; 3]) -> bool {
 }
 
 /// Whether the status that TEST SUBCHANNEL clears is the one that is due; None where it answers another code.
-pub fn cleared<J: Naming, R: Wait>(
+pub fn cleared<J: MachineBrand, R: Wait>(
     rt: &R,
     machine: &Machine<J, Rotating>,
     program: &mut Seat<J>,
@@ -82,7 +82,7 @@ pub fn cleared<J: Naming, R: Wait>(
 }
 
 /// A round of all racers, each on a thread of its own.
-fn round<J: Naming + Send + Sync, R: Threads + Wait + Sync>(
+fn round<J: MachineBrand + Send + Sync, R: Threads + Wait + Sync>(
     rt: &R,
     machine: &Machine<J, Rotating>,
     racers: Vec<Racer<J>>,
@@ -100,7 +100,7 @@ fn round<J: Naming + Send + Sync, R: Threads + Wait + Sync>(
 }
 
 /// Rounds until the program has ended, with the status that is due.
-pub fn roams<J: Naming + Send + Sync, R: Threads + Wait + Sync>(
+pub fn roams<J: MachineBrand + Send + Sync, R: Threads + Wait + Sync>(
     rt: &R,
     machine: &Machine<J, Rotating>,
     program: &mut Seat<J>,

@@ -1,11 +1,11 @@
 //! Words that a user may give, with what `clap` is known to say of them.
 
 use command_words::{Refused, Wanted, command_of};
-use memory::{FailingMemory, Given};
+use memory::{FailingMemory, Allocator};
 use std::alloc::Global;
 
 fn text_has<'a>(alloc: Global, words: &'a [&'a str], part: &str) -> bool {
-    match command_of(alloc, &mut Given { refused: false }, words) {
+    match command_of(alloc, &mut Allocator { refused: false }, words) {
         Err(Refused::Text(text)) => text.contains(part),
         _ => false,
     }
@@ -13,7 +13,7 @@ fn text_has<'a>(alloc: Global, words: &'a [&'a str], part: &str) -> bool {
 
 #[test]
 fn a_command_is_named(rt: HostRuntime) {
-    let mut supply = Given { refused: false };
+    let mut supply = Allocator { refused: false };
     let run = command_of(rt.alloc(), &mut supply, &["chsim", "run"]);
     assert!(rt; matches!(run, Ok(Wanted::Run)));
     let check = command_of(rt.alloc(), &mut supply, &["chsim", "check"]);

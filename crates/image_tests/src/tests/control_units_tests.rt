@@ -2,7 +2,7 @@
 
 use control_units::ControlUnit;
 use control_units::sharing::Sharing;
-use memory::{FailingMemory, Given, Supply};
+use memory::{FailingMemory, Allocator, Supply};
 use std::alloc::Global;
 
 /// The groups of five units.
@@ -69,7 +69,7 @@ fn each_request_for_room_is_refused_in_turn(rt: HostRuntime) {
         };
         let is_refused = Sharing::new_with(rt.alloc(), &mut supply, &GROUPS).is_err();
         assert!(rt; is_refused == (left < REQUESTS) && supply.refused == (left < REQUESTS));
-        let mut supply = Given { refused: false };
+        let mut supply = Allocator { refused: false };
         assert!(rt; is_made(rt.alloc(), &mut supply), "the allocator has room");
         assert!(rt; !supply.refused);
     }

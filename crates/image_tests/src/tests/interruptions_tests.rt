@@ -1,7 +1,7 @@
 //! Requests that wait, and those that are answered.
 
 use interruptions::Pending;
-use memory::{FailingMemory, Given};
+use memory::{FailingMemory, Allocator};
 use scsw_irb::code::IntCode;
 use std::alloc::{AllocError, Global};
 
@@ -113,7 +113,7 @@ fn each_of_the_five_requests_for_room_is_refused_in_turn(
 
 #[test]
 fn room_that_is_given_is_used(rt: HostRuntime) -> Result<(), AllocError> {
-    let mut supply = Given { refused: false };
+    let mut supply = Allocator { refused: false };
     let mut pending = Pending::new_with(rt.alloc(), &mut supply, 2)?;
     post(&mut pending, 1, 7);
     let answered = answered(&mut pending, 0x01);

@@ -1,6 +1,6 @@
 //! Accesses whose answers the manual gives (SA22-7832, chapter 3).
 
-use memory::{FailingMemory, Given, Supply};
+use memory::{FailingMemory, Allocator, Supply};
 use std::alloc::Global;
 use storage_keys::key::Key;
 use storage_keys::{Storage, StorageFault};
@@ -39,7 +39,7 @@ fn each_request_for_room_is_refused_in_turn(rt: HostRuntime) {
         };
         assert!(rt; is_made(rt.alloc(), &mut supply) == (left >= 2), "{left}");
         assert!(rt; supply.refused == (left < 2), "{left}");
-        let mut supply = Given { refused: false };
+        let mut supply = Allocator { refused: false };
         assert!(rt; is_made(rt.alloc(), &mut supply), "{left}");
         assert!(rt; !supply.refused, "{left}");
     }

@@ -1,6 +1,6 @@
 //! Readers and writers that give and take a few bytes a call, and fail at one.
 
-use memory::{FailingMemory, Given};
+use memory::{FailingMemory, Allocator};
 use std::io;
 use std::io::{ErrorKind, Read, Write};
 use streams::{
@@ -129,7 +129,7 @@ fn each_growth_is_refused_in_turn(rt: HostRuntime) {
             Err(why) => assert!(rt; left < 2 && why == NoText::OutOfMemory),
         }
         assert!(rt; supply.refused == (left < 2));
-        let mut supply = Given { refused: false };
+        let mut supply = Allocator { refused: false };
         let mut memory = TEXT;
         assert!(rt; read_all_with(rt.alloc(), &mut supply, &mut memory).is_ok());
     }

@@ -1,6 +1,6 @@
 //! Each request refused in turn.
 
-use memory::{FailingMemory, Given, Supply, extend, make_room, push};
+use memory::{FailingMemory, Allocator, Supply, extend, make_room, push};
 use std::alloc::{AllocError, Global};
 
 /// Three requests: two bytes one by one, and two together.
@@ -22,7 +22,7 @@ fn each_request_is_refused_in_turn(rt: HostRuntime) {
         assert!(rt;
             fill(rt.alloc(), &mut supply).is_err() == (left < 3) && supply.refused == (left < 3)
         );
-        let mut supply = Given { refused: false };
+        let mut supply = Allocator { refused: false };
         match fill(rt.alloc(), &mut supply) {
             Ok(list) => assert!(rt; list.as_slice() == [1, 2, 3, 4].as_slice()),
             Err(_) => assert!(rt; false, "the allocator has room"),
@@ -53,13 +53,13 @@ const THREE_PORTIONS: usize = 0x200_0001;
 fn each_portion_of_room_is_refused_in_turn(rt: HostRuntime) {
     for left in 0..5 {
         let mut list = Vec::new(rt.alloc());
-        let pushed = push(&mut Given { refused: false }, &mut list, 7);
+        let pushed = push(&mut Allocator { refused: false }, &mut list, 7);
         let mut refusing = FailingMemory {
             left,
             refused: false,
         };
         let made = make_room(&mut refusing, &mut list, THREE_PORTIONS);
-        let mut given = Given { refused: false };
+        let mut given = Allocator { refused: false };
         let made_again = make_room(&mut given, &mut list, THREE_PORTIONS);
         let has_room = list.capacity() > THREE_PORTIONS;
         let is_kept = list.as_slice() == [7u8].as_slice();

@@ -8,7 +8,7 @@ use channel_config::parts::{ChpidList, SubchannelSetup};
 use functions::{PackedState, Subchannel};
 use lookup::engines::engaged;
 use lookup::tables::SubchannelIndex;
-use memory::{FailingMemory, Given, Supply};
+use memory::{FailingMemory, Allocator, Supply};
 use std::alloc::{AllocError, Global};
 use subchannel_model::state::SubchannelState;
 use wires::Wires;
@@ -89,7 +89,7 @@ fn four(alloc: Global) -> Result<Vec<Subchannel>, AllocError> {
 #[test]
 fn the_first_subchannel_of_a_name_is_found(rt: HostRuntime) -> Result<(), AllocError> {
     let subs = four(rt.alloc())?;
-    let indices = SubchannelIndex::of(rt.alloc(), &mut Given { refused: false }, 2, 3, &subs)?;
+    let indices = SubchannelIndex::of(rt.alloc(), &mut Allocator { refused: false }, 2, 3, &subs)?;
     for (set, number, index) in [
         (0, 5, Some(0)),
         (1, 0, Some(1)),
@@ -108,7 +108,7 @@ fn the_first_subchannel_of_a_name_is_found(rt: HostRuntime) -> Result<(), AllocE
 #[test]
 fn a_name_beyond_the_tables_is_found(rt: HostRuntime) -> Result<(), AllocError> {
     let subs = four(rt.alloc())?;
-    let indices = SubchannelIndex::of(rt.alloc(), &mut Given { refused: false }, 1, 0, &subs)?;
+    let indices = SubchannelIndex::of(rt.alloc(), &mut Allocator { refused: false }, 1, 0, &subs)?;
     let id = SubchannelId { set: 1, number: 0 };
     assert!(rt;
         indices.index_in(id, &subs) == Some(1)
@@ -120,7 +120,7 @@ fn a_name_beyond_the_tables_is_found(rt: HostRuntime) -> Result<(), AllocError> 
 #[test]
 fn the_subchannel_of_a_side_is_found(rt: HostRuntime) -> Result<(), AllocError> {
     let subs = four(rt.alloc())?;
-    let indices = SubchannelIndex::of(rt.alloc(), &mut Given { refused: false }, 2, 3, &subs)?;
+    let indices = SubchannelIndex::of(rt.alloc(), &mut Allocator { refused: false }, 2, 3, &subs)?;
     for (unit, first, second) in [
         (0, Some(1), Some(2)),
         (1, None, None),
@@ -184,7 +184,7 @@ fn refusing(alloc: Global, left: u64, units: usize) -> Result<(bool, bool), Allo
 
 /// Whether the indices are made where each request is granted, and whether one was refused.
 fn granting(alloc: Global, units: usize) -> Result<(bool, bool), AllocError> {
-    let mut supply = Given { refused: false };
+    let mut supply = Allocator { refused: false };
     let made = are_made_of_four(alloc, &mut supply, units)?;
     Ok((made, supply.refused))
 }

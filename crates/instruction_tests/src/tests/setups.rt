@@ -43,7 +43,7 @@ pub(crate) fn idle_state() -> SubchannelState {
         hold: HoldState {
             phase: HoldPhase::Free,
             seen: 0,
-            known: 0,
+            known_restarts: 0,
             reset_path: None,
             first_path: None,
             single_path: true,

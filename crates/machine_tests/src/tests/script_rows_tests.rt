@@ -3,7 +3,7 @@
 use chan_events::event::{Event, Instruction, OtherInstruction, UnitAct};
 use chan_model::names::Side;
 use channel_config::config::Config;
-use memory::Given;
+use memory::Allocator;
 use script_rows::Action;
 use script_rows::actions::action_row;
 use script_rows::settings::{Setting, configure, setting_row};
@@ -139,14 +139,14 @@ fn read(alloc: Global, line: &[u8]) -> Option<Result<Setting, LineFault>> {
     let words = words_of(alloc, line).ok()?;
     match words.as_slice() {
         [] => None,
-        [first, others @ ..] => setting_row(alloc, &mut Given { refused: false }, first, others),
+        [first, others @ ..] => setting_row(alloc, &mut Allocator { refused: false }, first, others),
     }
 }
 
 /// Whether a line is read and configures the machine.
 fn configures(alloc: Global, config: &mut Config, line: &[u8]) -> bool {
     match read(alloc, line) {
-        Some(Ok(setting)) => configure(&mut Given { refused: false }, config, &setting).is_ok(),
+        Some(Ok(setting)) => configure(&mut Allocator { refused: false }, config, &setting).is_ok(),
         _ => false,
     }
 }
@@ -164,7 +164,7 @@ fn all_configure(alloc: Global, config: &mut Config) -> bool {
 /// Whether units 1 and 2 share a control unit, unit 0 has its own.
 fn shares(alloc: Global, config: &Config) -> Option<bool> {
     let groups = config
-        .groups_with(alloc, &mut Given { refused: false })
+        .groups_with(alloc, &mut Allocator { refused: false })
         .ok()?;
     Some(groups.as_slice() == [0, 2, 2].as_slice())
 }

@@ -2,7 +2,7 @@
 
 use crate::tests::script_lines::text_of;
 use channel_config::config::Config;
-use memory::Given;
+use memory::Allocator;
 use script::lines::Lines;
 use script::{Script, ScriptBad};
 use script_rows::Action;
@@ -106,7 +106,7 @@ fn configured(config: &Config) -> (Option<u32>, bool, usize) {
 /// Whether both units share a control unit; None where there is no memory to tell.
 fn shares(alloc: Global, config: &Config) -> Option<bool> {
     let groups = config
-        .groups_with(alloc, &mut Given { refused: false })
+        .groups_with(alloc, &mut Allocator { refused: false })
         .ok()?;
     Some(groups.as_slice() == [1, 1].as_slice())
 }

@@ -1,7 +1,7 @@
 //! Scripts with a bad line: its number, and the first rule that it breaks.
 
 use crate::tests::script_lines::text_of;
-use memory::{FailingMemory, Given, Supply};
+use memory::{FailingMemory, Allocator, Supply};
 use script::{Script, ScriptBad};
 use script_rows::words::LineRule;
 use std::alloc::{AllocError, Global};
@@ -194,7 +194,7 @@ fn read_short(alloc: Global, text: &[u8], left: u64) -> (Option<ScriptBad>, bool
 
 /// Whether the text is read where no growth is refused, and asks for two actions.
 fn is_read(alloc: Global, text: &[u8]) -> bool {
-    match Script::read_with(alloc, &mut Given { refused: false }, false, text) {
+    match Script::read_with(alloc, &mut Allocator { refused: false }, false, text) {
         Ok(script) => script.lines().len() == 2,
         Err(_) => false,
     }

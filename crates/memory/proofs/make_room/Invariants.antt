@@ -9,7 +9,7 @@ invariant-loop-room g l = record {
   kept : vec_capacity l.fn.list ≤ vec_capacity l.list;
   wanted : l.room ≤ l.count;
   made : vec_len l.list + l.room ≤ vec_capacity l.list;
-  given : g.S.Supply.refused l.supply ≡ g.S.Supply.refused l.fn.supply;
+  unrefused : g.S.Supply.refused l.supply ≡ g.S.Supply.refused l.fn.supply;
 }
 
 abbrev pub decreases-loop-room : goal.decreases-loop-room

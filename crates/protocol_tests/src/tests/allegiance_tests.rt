@@ -10,7 +10,7 @@ fn held(phase: HoldPhase, single_path: bool) -> HoldState {
     HoldState {
         phase,
         seen: 2,
-        known: 0,
+        known_restarts: 0,
         reset_path: None,
         first_path: Path::new(1),
         single_path,

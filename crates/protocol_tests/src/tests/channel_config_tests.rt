@@ -4,7 +4,7 @@ use chan_model::names::Side;
 use channel_config::config::{Config, ConfigFault, ConfigRule};
 use channel_config::names::{SubchannelId, subchannel_named};
 use channel_config::parts::UnitKind;
-use memory::{FailingMemory, Given, Supply};
+use memory::{FailingMemory, Allocator, Supply};
 use std::alloc::Global;
 
 #[test]
@@ -123,7 +123,7 @@ fn shares(config: &mut Config) -> bool {
 
 /// Whether the units are in the groups that they share in; None where there is no memory.
 fn are_grouped(alloc: Global, config: &Config) -> Option<bool> {
-    match config.groups_with(alloc, &mut Given { refused: false }) {
+    match config.groups_with(alloc, &mut Allocator { refused: false }) {
         Ok(groups) => Some(groups.as_slice() == [0, 4, 2, 2, 4, 5].as_slice()),
         Err(_) => None,
     }
@@ -292,7 +292,7 @@ fn fills_as_granted(alloc: Global, left: u64) -> bool {
 /// Whether a configuration is filled where no request is refused.
 fn fills(alloc: Global) -> bool {
     let mut config = Config::new(alloc);
-    fill(&mut config, &mut Given { refused: false }) == Ok(())
+    fill(&mut config, &mut Allocator { refused: false }) == Ok(())
 }
 
 #[test]

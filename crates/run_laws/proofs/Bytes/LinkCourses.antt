@@ -145,9 +145,9 @@ course-down may side drawn k downs ups u path o begun d last q i (Cut e b w m) =
 -- Report
 absorbs-work : (b : ActiveProgram) (k : ProgramTrace) (count : ℕ) (x : Option CurrentCommand) → HasWork (Some b) k → HasWork (Some b) (absorbs count x k)
 absorbs-work b k count None w = w
-absorbs-work b k count (Some x) w = by x.given
+absorbs-work b k count (Some x) w = by x.unabsorbed
   where
-    by : (g : Option (List ℕ)) → HasWork (Some b) (absorbs count (Some (record x { given = g })) k)
+    by : (g : Option (List ℕ)) → HasWork (Some b) (absorbs count (Some (record x { unabsorbed = g })) k)
     by None = w
     by (Some bytes) = w
 

@@ -140,8 +140,8 @@ pub choose-flows : (sub : Subchannel) (c : Chosen) (k : Option ProgramTrace) (u 
 choose-flows sub Idle k u w h l a = λ x. a
 choose-flows sub (Resets r path) k u w h l a =
     send-ok (λ t. HeldBy t.sub.state (chosen_at (Some sub) t.reply k) → AtSub sub.setup.side t.sub (chosen_at (Some sub) t.reply k) u) sub
-    (choosing.reset_sent sub.state path) path (down.Reset r sub.state.hold.known) (reply.ResetSent r path)
-    (λ x. sends-flows sub.setup.side sub.state.begun k sub.wires.down sub.wires.up u sub.state.pmcw.available path (down.Reset r sub.state.hold.known) (λ n m Q. tt) a)
+    (choosing.reset_sent sub.state path) path (down.Reset r sub.state.hold.known_restarts) (reply.ResetSent r path)
+    (λ x. sends-flows sub.setup.side sub.state.begun k sub.wires.down sub.wires.up u sub.state.pmcw.available path (down.Reset r sub.state.hold.known_restarts) (λ n m Q. tt) a)
 choose-flows sub PerformsClear k u w h l a = λ x. a
 choose-flows sub (Halts t path) k u w h l a =
     send-ok (λ t. HeldBy t.sub.state (chosen_at (Some sub) t.reply k) → AtSub sub.setup.side t.sub (chosen_at (Some sub) t.reply k) u) sub
@@ -197,7 +197,7 @@ module _ (laws : AreLaws) (accesses : AreAccesses) where
       slice_get (queue ups path) 0 ≡ Some x → IsHeld s k → Course side s.begun k downs ups u →
       Course side (takes_up returns storage s path x).step.state.begun (trace_meets storage s path x k) (with_any_sent downs (takes_up returns storage s path x).step.outcome.sent) (taken ups path) u
   course-meets returns storage side s k downs ups u path (up.Notice b) e h (Follows m) =
-      notice-course s b (nat_lt s.hold.known b) side k downs (taken ups path) u h (Follows (quiet laws accesses storage side s k downs ups u path h m s.begun None refl tt))
+      notice-course s b (nat_lt s.hold.known_restarts b) side k downs (taken ups path) u h (Follows (quiet laws accesses storage side s k downs ups u path h m s.begun None refl tt))
   course-meets returns storage side s k downs ups u path x e h (Cut z b w m) = cut-meets returns storage side s k downs ups u path x b h z w m
   course-meets returns storage side s k downs ups u path x e h (Follows m) =
       Follows (mode-meets laws accesses storage side s k downs ups u path h m returns x (λ P Q R w. first-tells side k.number (length (backward k.taken)) P Q R downs ups u path x e w) tt)

@@ -45,7 +45,7 @@ AnyData s l = Unit {0}
 -- a command that brings bytes in is given none
 abbrev pub CurrentPlain : Option CurrentCommand → Type 0
 CurrentPlain None = Unit {0}
-CurrentPlain (Some x) = x.given ≡ None
+CurrentPlain (Some x) = x.unabsorbed ≡ None
 
 -- a command that takes bytes to the device is moved so far
 abbrev pub CurrentFlow : ℕ → View → Option ℕ → Option CurrentCommand → Type 0
@@ -112,24 +112,24 @@ pub absorbs-none : (orb : Orb) (p : CommandTrace) (absorbed : List ℕ) → abso
 absorbs-none orb p absorbed e = ([], All-nil (IsFirstOf p.copied), sym e, (_, refl))
 
 -- Down: where the device took all that was sent, it takes no Command
-story-same : (d : Down) (outcome : Bool) (sent : Option (OnPath Up)) (k : ProgramTrace) → IsNoNext k.number d (silent_by outcome sent) → taken_at (reply.Down d outcome sent) (Some k) ≡ Some k
-story-same d true (Some x) k n = refl
-story-same d false (Some x) k n = refl
-story-same d false None k n = refl
-story-same (down.Select t) true None k n = refl
-story-same (down.Command t c code room) true None k n = by (t == k.number) refl
+trace-same : (d : Down) (outcome : Bool) (sent : Option (OnPath Up)) (k : ProgramTrace) → IsNoNext k.number d (silent_by outcome sent) → taken_at (reply.Down d outcome sent) (Some k) ≡ Some k
+trace-same d true (Some x) k n = refl
+trace-same d false (Some x) k n = refl
+trace-same d false None k n = refl
+trace-same (down.Select t) true None k n = refl
+trace-same (down.Command t c code room) true None k n = by (t == k.number) refl
   where
     by : (b : Bool) → (t == k.number) ≡ b → Some (if b then record k { taken = k.taken ▸ code; absorbed = [] } else k) ≡ Some k
     by true e = absurd (cc (n (eqb-true t k.number e)))
     by false e = refl
-story-same (down.Grant t c) true None k n = refl
-story-same (down.Refuse t c) true None k n = refl
-story-same (down.Took t c s room) true None k n = refl
-story-same (down.Give bytes t c e s) true None k n = refl
-story-same (down.Halt t) true None k n = refl
-story-same (down.Release t) true None k n = refl
-story-same (down.Reset r b) true None k n = refl
-story-same (down.Got a) true None k n = refl
+trace-same (down.Grant t c) true None k n = refl
+trace-same (down.Refuse t c) true None k n = refl
+trace-same (down.Took t c s room) true None k n = refl
+trace-same (down.Give bytes t c e s) true None k n = refl
+trace-same (down.Halt t) true None k n = refl
+trace-same (down.Release t) true None k n = refl
+trace-same (down.Reset r b) true None k n = refl
+trace-same (down.Got a) true None k n = refl
 
 abbrev command_step : UnitState → ℕ → ℕ → ℕ → ℕ → Bool → Bool → Bool → Option UnitStep
 command_step u p n code room fresh owner next =
@@ -154,7 +154,7 @@ module _ (side : Side) (drawn : ℕ) (k : ProgramTrace) (downs : List (List Down
   carried-down may begun d e i n m =
       subst
       (λ (x : Option ProgramTrace). ModeOf side begun x (taken downs path) (with_any_sent ups (outcome_of (unit_takes u side path d may)).sent) (unit_after u (unit_takes u side path d may)))
-      (sym (story-same d (outcome_of (unit_takes u side path d may)).taken (outcome_of (unit_takes u side path d may)).sent k n))
+      (sym (trace-same d (outcome_of (unit_takes u side path d may)).taken (outcome_of (unit_takes u side path d may)).sent k n))
       (mode-carried side begun k downs (taken downs path) ups (with_any_sent ups (outcome_of (unit_takes u side path d may)).sent) u (unit_after u (unit_takes u side path d may))
       (λ P Q R f w. wired-takes may side drawn k.number (length (backward k.taken)) k.sent (codes_of k) P Q R downs ups u path d e i f.none f.answered f.gives o.kept.last n w) m)
 

@@ -56,9 +56,9 @@ IsStarted other = Unit {0}
 
 -- the command at hand
 pub data Hand (v : View) (lead : Option ℕ) (x : CurrentCommand) : Type 0 where
-  Level : x.sequence ≡ v.seq → x.given ≡ None → lead ≡ None → Hand v lead x
-  Pending : x.sequence ≡ v.seq + 1 → x.unanswered ≡ None → lead ≡ None → ((bytes : List ℕ) → x.given ≡ Some bytes → IsGood v bytes) → Hand v lead x
-  Ahead : x.sequence ≡ v.seq + 1 → x.given ≡ None → (j : ℕ) → lead ≡ Some j → ((l : Load) → x.unanswered ≡ Some l → load_length l ≡ j) → IsStarted x.progress → Hand v lead x
+  Level : x.sequence ≡ v.seq → x.unabsorbed ≡ None → lead ≡ None → Hand v lead x
+  Pending : x.sequence ≡ v.seq + 1 → x.unanswered ≡ None → lead ≡ None → ((bytes : List ℕ) → x.unabsorbed ≡ Some bytes → IsGood v bytes) → Hand v lead x
+  Ahead : x.sequence ≡ v.seq + 1 → x.unabsorbed ≡ None → (j : ℕ) → lead ≡ Some j → ((l : Load) → x.unanswered ≡ Some l → load_length l ≡ j) → IsStarted x.progress → Hand v lead x
 
 -- what was absorbed is the first bytes of chunks that were copied, from the places that were moved, and those ahead
 pub record Flow (v : View) (absorbed : List ℕ) (lead : Option ℕ) : Type 0 where

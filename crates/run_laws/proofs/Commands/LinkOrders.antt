@@ -165,10 +165,10 @@ pub choose-linked : (sub : Subchannel) (c : Chosen) (k : Option ProgramTrace) (u
     IfOk (choose_sub sub c) (λ t. IsLinked sub.setup.side t.sub.state.drawn t.sub.wires.down (chosen_at (Some sub) t.reply k) u)
 choose-linked sub (Resets r path) k u w n l =
     send-ok (λ t. IsLinked sub.setup.side t.sub.state.drawn t.sub.wires.down (chosen_at (Some sub) t.reply k) u) sub (reset_sent sub.state path) path
-    (down.Reset r sub.state.hold.known) (reply.ResetSent r path)
+    (down.Reset r sub.state.hold.known_restarts) (reply.ResetSent r path)
     (carried-linked sub.setup.side sub.state.drawn sub.wires.down sub.state.pmcw.available
-    (Some (record { path = path; signal = down.Reset r sub.state.hold.known })) k u
-    (same-linked sub.setup.side sub.state.drawn path (down.Reset r sub.state.hold.known) sub.wires.down k u (reset-needs k sub.state r w.fits n) l))
+    (Some (record { path = path; signal = down.Reset r sub.state.hold.known_restarts })) k u
+    (same-linked sub.setup.side sub.state.drawn path (down.Reset r sub.state.hold.known_restarts) sub.wires.down k u (reset-needs k sub.state r w.fits n) l))
 choose-linked sub (Halts t path) k u w n l =
     send-ok (λ t. IsLinked sub.setup.side t.sub.state.drawn t.sub.wires.down (chosen_at (Some sub) t.reply k) u) sub (halt_sent sub.state) path
     (down.Halt t) (reply.HaltSent t path)
@@ -243,40 +243,40 @@ up-linked returns storage sub path k u n l =
     (up_front-linked returns storage sub path (slice_get (queue sub.wires.up path) 0) k u n l) tt
 
 -- Down
-took-story : (side : Side) (drawn : ℕ) (wires : List (List Down)) (v : UnitState) (d : Down) (outcome : Bool) (sent : Option (OnPath Up)) (k : Option ProgramTrace) →
+took-trace : (side : Side) (drawn : ℕ) (wires : List (List Down)) (v : UnitState) (d : Down) (outcome : Bool) (sent : Option (OnPath Up)) (k : Option ProgramTrace) →
     IsOrdered side drawn (number_of k) (sent_of k) (all_codes k) (took_after (number_of k) (silent_by outcome sent) d (took_of k)) wires v → IsLinked side drawn wires (taken_at (reply.Down d outcome sent) k) v
-took-story side drawn wires v d true (Some x) k o = o
-took-story side drawn wires v d false (Some x) k o = o
-took-story side drawn wires v d false None k o = o
-took-story side drawn wires v (down.Select t) true None None o = o
-took-story side drawn wires v (down.Command t n code room) true None None o = none (t == 0) o
+took-trace side drawn wires v d true (Some x) k o = o
+took-trace side drawn wires v d false (Some x) k o = o
+took-trace side drawn wires v d false None k o = o
+took-trace side drawn wires v (down.Select t) true None None o = o
+took-trace side drawn wires v (down.Command t n code room) true None None o = none (t == 0) o
   where
     none : (b : Bool) → IsOrdered side drawn 0 0 [] (if b then code ∷ [] else []) wires v → IsOrdered side drawn 0 0 [] [] wires v
     none true o = absurd (let z : length (code ∷ []) ≤ 0 = o.most in omega (arith, z))
     none false o = o
-took-story side drawn wires v (down.Grant t c) true None None o = o
-took-story side drawn wires v (down.Refuse t c) true None None o = o
-took-story side drawn wires v (down.Took t n s room) true None None o = o
-took-story side drawn wires v (down.Give bytes t c n s) true None None o = o
-took-story side drawn wires v (down.Halt t) true None None o = o
-took-story side drawn wires v (down.Release t) true None None o = o
-took-story side drawn wires v (down.Reset r b) true None None o = o
-took-story side drawn wires v (down.Got a) true None None o = o
-took-story side drawn wires v (down.Select t) true None (Some k) o = o
-took-story side drawn wires v (down.Command t n code room) true None (Some k) o = some (t == k.number) o
+took-trace side drawn wires v (down.Grant t c) true None None o = o
+took-trace side drawn wires v (down.Refuse t c) true None None o = o
+took-trace side drawn wires v (down.Took t n s room) true None None o = o
+took-trace side drawn wires v (down.Give bytes t c n s) true None None o = o
+took-trace side drawn wires v (down.Halt t) true None None o = o
+took-trace side drawn wires v (down.Release t) true None None o = o
+took-trace side drawn wires v (down.Reset r b) true None None o = o
+took-trace side drawn wires v (down.Got a) true None None o = o
+took-trace side drawn wires v (down.Select t) true None (Some k) o = o
+took-trace side drawn wires v (down.Command t n code room) true None (Some k) o = some (t == k.number) o
   where
     some : (b : Bool) → IsOrdered side drawn k.number k.sent (codes_of k) (if b then code ∷ backward k.taken else backward k.taken) wires v →
         IsLinked side drawn wires (Some (if b then record k { taken = k.taken ▸ code; absorbed = [] } else k)) v
     some true o = o
     some false o = o
-took-story side drawn wires v (down.Grant t c) true None (Some k) o = o
-took-story side drawn wires v (down.Refuse t c) true None (Some k) o = o
-took-story side drawn wires v (down.Took t n s room) true None (Some k) o = o
-took-story side drawn wires v (down.Give bytes t c n s) true None (Some k) o = o
-took-story side drawn wires v (down.Halt t) true None (Some k) o = o
-took-story side drawn wires v (down.Release t) true None (Some k) o = o
-took-story side drawn wires v (down.Reset r b) true None (Some k) o = o
-took-story side drawn wires v (down.Got a) true None (Some k) o = o
+took-trace side drawn wires v (down.Grant t c) true None (Some k) o = o
+took-trace side drawn wires v (down.Refuse t c) true None (Some k) o = o
+took-trace side drawn wires v (down.Took t n s room) true None (Some k) o = o
+took-trace side drawn wires v (down.Give bytes t c n s) true None (Some k) o = o
+took-trace side drawn wires v (down.Halt t) true None (Some k) o = o
+took-trace side drawn wires v (down.Release t) true None (Some k) o = o
+took-trace side drawn wires v (down.Reset r b) true None (Some k) o = o
+took-trace side drawn wires v (down.Got a) true None (Some k) o = o
 
 -- each first Reset that waits for the unit, where it is taken, is above the floor
 abbrev pub AreAbove : Subchannel → UnitState → Type 0
@@ -292,7 +292,7 @@ down_front-linked may sub path u None k e a n l = tt
 down_front-linked may sub path u (Some d) k e a n l =
     let step : Option UnitStep = unit_takes u sub.setup.side path d may in
     if-ok (λ t. IsLinked sub.setup.side t.sub.state.drawn t.sub.wires.down (taken_at t.reply k) t.«unit») (finds_full sub.wires.up (carried_by sub (unit_table.outcome_of step).sent)) (Err fault.WireFull) _ tt
-    (took-story sub.setup.side sub.state.drawn (taken sub.wires.down path) (unit_after u step) d (unit_table.outcome_of step).taken (unit_table.outcome_of step).sent k
+    (took-trace sub.setup.side sub.state.drawn (taken sub.wires.down path) (unit_after u step) d (unit_table.outcome_of step).taken (unit_table.outcome_of step).sent k
     (with-wires sub.setup.side sub.state.drawn (number_of k) (sent_of k) (all_codes k) _ sub.wires.down (taken sub.wires.down path) (unit_after u step)
     (on-taken (IsDown sub.state.drawn (number_of k) (sent_of k) (all_codes k)) sub.wires.down path l.downs)
     (unit-takes may sub.setup.side sub.state.drawn (number_of k) (sent_of k) (all_codes k) (took_of k) sub.wires.down u path d (number-drawn k sub.state n)
@@ -318,9 +318,9 @@ gentle-linked side drawn wires k u v g l = ordered-gentle side drawn (number_of 
 absorbs-same : (side : Side) (drawn : ℕ) (wires : List (List Down)) (v : UnitState) (k : ProgramTrace) (count : ℕ) (x : Option CurrentCommand) → IsLinked side drawn wires (Some k) v →
     IsLinked side drawn wires (Some (absorbs count x k)) v
 absorbs-same side drawn wires v k count None l = l
-absorbs-same side drawn wires v k count (Some x) l = by x.given
+absorbs-same side drawn wires v k count (Some x) l = by x.unabsorbed
   where
-    by : (g : Option (List ℕ)) → IsLinked side drawn wires (Some (absorbs count (Some (record x { given = g })) k)) v
+    by : (g : Option (List ℕ)) → IsLinked side drawn wires (Some (absorbs count (Some (record x { unabsorbed = g })) k)) v
     by None = l
     by (Some bytes) = l
 

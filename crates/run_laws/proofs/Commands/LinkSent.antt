@@ -251,7 +251,7 @@ up-sends returns storage s p (up.Back t c) =
     muttered (on_back.takes_back s p step).state (outcome_of step).sent (back-mutters s.hold s.hold.phase p t c returns)
 up-sends returns storage s p (up.Released t) = hold_outcome-sends s (released s.hold s.hold.phase t) (released-mutters s.hold s.hold.phase t)
 up-sends returns storage s p (up.Cleared r) = reset-sends s (reset_cleared s.hold s.hold.phase r) (cleared-mutters s.hold s.hold.phase r)
-up-sends returns storage s p (up.Notice b) = notice-sends s b (nat_lt s.hold.known b)
+up-sends returns storage s p (up.Notice b) = notice-sends s b (nat_lt s.hold.known_restarts b)
 up-sends returns storage s p (up.Attn a status) =
     let step : Option HoldStep = attended s.hold s.hold.phase p a (on_attention.may_take_attention s) in
     muttered (on_attention.takes_attention s status step).state (outcome_of step).sent (attended-mutters s.hold s.hold.phase p a (on_attention.may_take_attention s))

@@ -125,7 +125,7 @@ module _ (storage : Contents) where
   up-drawn returns s p (up.Data load t c n q) = no-less s.drawn _ (if-met s (is_connected s.hold.phase p t c) _ _ (moves_data-same s s.begun (record { path = p; number = t; connection = c; command = n; sequence = q }) load) refl)
   up-drawn returns s p (up.End t n status more) = no-less s.drawn _ (if-same s (is_on s.hold.phase t) _ _ (ends_at_work-same s s.begun (record { path = p; number = t; command = n; status = status; more = more })) refl)
   up-drawn returns s p (up.Cleared r) = no-less s.drawn _ (reset-same s (hold_takes s.hold p (up.Cleared r) false))
-  up-drawn returns s p (up.Notice b) = notice-less s b (nat_lt s.hold.known b)
+  up-drawn returns s p (up.Notice b) = notice-less s b (nat_lt s.hold.known_restarts b)
   up-drawn returns s p (up.Attn a status) =
       let step : Option HoldStep = hold_takes s.hold p (up.Attn a status) (on_attention.may_take_attention s) in
       no-less s.drawn _ (attention-drawn (record s { hold = hold_after s.hold step }) ((outcome_of step).taken && not (status.0 == 0x20)))

@@ -93,6 +93,6 @@ module _ (storage : Contents) (s : SubchannelState) (none : s.begun ≡ None) wh
   idle-meets returns n p (up.Back t c) = back-idle p (asked_back s.hold s.hold.phase p t c returns) (back-mutters s.hold s.hold.phase p t c returns)
   idle-meets returns n p (up.Released t) = hold_outcome-idle (released s.hold s.hold.phase t) (released-mutters s.hold s.hold.phase t)
   idle-meets returns n p (up.Cleared r) = reset-idle (reset_cleared s.hold s.hold.phase r) (cleared-mutters s.hold s.hold.phase r)
-  idle-meets returns n p (up.Notice b) = notice-idle b (nat_lt s.hold.known b)
+  idle-meets returns n p (up.Notice b) = notice-idle b (nat_lt s.hold.known_restarts b)
   idle-meets returns n p (up.Attn a status) =
       attend-idle status (attended s.hold s.hold.phase p a (on_attention.may_take_attention s)) (attended-mutters s.hold s.hold.phase p a (on_attention.may_take_attention s))

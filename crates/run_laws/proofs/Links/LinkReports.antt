@@ -79,11 +79,11 @@ reported-other : (u : UnitState) (report : Report) (a : DeviceAnswer) (k : Progr
 reported-other u report (answer.Absorbed count) k e = ap (λ (b : Bool). if b then absorbs count u.current k else k) e
 reported-other u report other k e = refl
 
-absorbed-here : (u : UnitState) (report : Report) (count : ℕ) (k : ProgramTrace) (x : CurrentCommand) (bytes : List ℕ) → (report.number == k.number) ≡ true → u.current ≡ Some x → x.given ≡ Some bytes →
+absorbed-here : (u : UnitState) (report : Report) (count : ℕ) (k : ProgramTrace) (x : CurrentCommand) (bytes : List ℕ) → (report.number == k.number) ≡ true → u.current ≡ Some x → x.unabsorbed ≡ Some bytes →
     reported u report (answer.Absorbed count) k ≡ record k { absorbed = k.absorbed ++ take count bytes }
 absorbed-here u report count k x bytes e h g =
     ap (λ (b : Bool). if b then absorbs count u.current k else k) e ∙ ap (λ (z : Option CurrentCommand). absorbs count z k) h
-    ∙ ap (λ (z : Option (List ℕ)). absorbs count (Some (record x { given = z })) k) g
+    ∙ ap (λ (z : Option (List ℕ)). absorbs count (Some (record x { unabsorbed = z })) k) g
 
 some-none : (o : Option (List ℕ)) (bytes : List ℕ) → o ≡ Some bytes → o ≡ None → ⊥
 some-none o bytes e f = absurd (cc (sym e ∙ f))
@@ -121,11 +121,11 @@ module _ (side : Side) (begun : Option ActiveProgram) (k : ProgramTrace) (downs 
       (closed-told a y (IsClosed side k.number y.state) t ended (λ o. told-closed u p report.number c x a y t ended)).0 w
 
   -- it reads
-  plain-told : (a : DeviceAnswer) (y : UnitStep) → IsTold u p report.number c x a y → x.given ≡ None →
+  plain-told : (a : DeviceAnswer) (y : UnitStep) → IsTold u p report.number c x a y → x.unabsorbed ≡ None →
       CurrentPlain y.state.current × IfSome y.sent (λ z. IsTelling k.number m AnyData (IsClosed side k.number y.state) z.signal) × (reported u report a k ≡ k)
   plain-told _ _ (Begins_out n) g = (refl, of-it (Unit {0}) tt, refl)
   plain-told _ _ (Begins_in o n) g = (g, tt, refl)
-  plain-told _ _ (Absorbs bytes count w h l) g = absurd (some-none x.given bytes h g)
+  plain-told _ _ (Absorbs bytes count w h l) g = absurd (some-none x.unabsorbed bytes h g)
   plain-told _ _ (Supplies bytes o w) g = (g, of-it (Unit {0}) tt, refl)
   plain-told _ _ (Tells_again l e w) g = (g, of-it (Unit {0}) tt, refl)
   plain-told _ y (Ends given shown more) g = (g, of-it (IsClosed side k.number y.state) (λ o. ended-after shown), refl)
@@ -162,12 +162,12 @@ module _ (side : Side) (begun : Option ActiveProgram) (k : ProgramTrace) (downs 
         (of-it (IsData v (Some 0) x.sequence (load.Absorbed 0)) (omega (arith, q), λ i. refl)) w
     begins-told lead z (Ahead q g j l a s) new f w = absurd (subst IsStarted new s)
 
-    absorbs-told : (lead : Option ℕ) (bytes : List ℕ) (count : ℕ) → x.code ≡ b.transfer.code → Hand v lead x → x.progress ≡ progress.Working → x.given ≡ Some bytes → count ≤ length bytes →
+    absorbs-told : (lead : Option ℕ) (bytes : List ℕ) (count : ℕ) → x.code ≡ b.transfer.code → Hand v lead x → x.progress ≡ progress.Working → x.unabsorbed ≡ Some bytes → count ≤ length bytes →
         Flow v k.absorbed lead → IsWired side k.number m (CurrentFlow b.transfer.code v lead) (IsGive v) (IsData v lead) downs ups u →
         IsWrite (record k { absorbed = k.absorbed ++ take count bytes })
         (record { state = with_current u (with_absorbed x count); sent = Some (record { path = p; signal = up.Data (load.Absorbed count) report.number c u.last_command x.sequence }) })
-    absorbs-told lead bytes count z (Level q g l) w h i f s = absurd (some-none x.given bytes h g)
-    absorbs-told lead bytes count z (Ahead q g j l a y) w h i f s = absurd (some-none x.given bytes h g)
+    absorbs-told lead bytes count z (Level q g l) w h i f s = absurd (some-none x.unabsorbed bytes h g)
+    absorbs-told lead bytes count z (Ahead q g j l a y) w h i f s = absurd (some-none x.unabsorbed bytes h g)
     absorbs-told lead bytes count z (Pending q a l g) w h i f s =
         let y : UnitStep = record { state = with_current u (with_absorbed x count); sent = Some (record { path = p; signal = up.Data (load.Absorbed count) report.number c u.last_command x.sequence }) } in
         Writes b e n out (Some count) (absorbs-flow v k.absorbed bytes count (g bytes h) i (subst (Flow v k.absorbed) l f))

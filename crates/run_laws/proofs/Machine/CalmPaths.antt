@@ -149,24 +149,24 @@ pub record IsReset (s x : SubchannelState) : Type 0 where
   pub hold : IsCalmHold s.hold x.hold
   pub disengaged : (q : ℕ) → engaged_path x.hold.phase ≡ Some q → ⊥
 
-pub reset-hold : (h : HoldState) (r known : ℕ) → IsCalmHold h (record h { phase = hold.Reset r; reset_path = None; known = known })
+pub reset-hold : (h : HoldState) (r known : ℕ) → IsCalmHold h (record h { phase = hold.Reset r; reset_path = None; known_restarts = known })
 reset-hold h r known = record { engaged = λ q e. absurd (cc e); offered = λ v q e. absurd (cc e); remembers = λ accepted m. tt }
 
 reset-with : (s : SubchannelState) (shows : Bool) → IsReset s (reset_with s shows)
-reset-with s false = record { drawn = omega arith; available = refl; hold = reset-hold s.hold (s.drawn + 1) s.hold.known; disengaged = λ q e. absurd (cc e) }
+reset-with s false = record { drawn = omega arith; available = refl; hold = reset-hold s.hold (s.drawn + 1) s.hold.known_restarts; disengaged = λ q e. absurd (cc e) }
 reset-with s true =
     let same : IsSame (reset_drawn s) (with_cause (reset_drawn s) cause.InterfaceControlCheck) = cause-same (reset_drawn s) cause.InterfaceControlCheck in
     record {
       drawn = let n : (with_cause (reset_drawn s) cause.InterfaceControlCheck).drawn ≡ s.drawn + 1 = same.drawn in omega (arith, n);
       available = same.available;
-      hold = subst (λ (h : HoldState). IsCalmHold s.hold h) (sym same.hold) (reset-hold s.hold (s.drawn + 1) s.hold.known);
+      hold = subst (λ (h : HoldState). IsCalmHold s.hold h) (sym same.hold) (reset-hold s.hold (s.drawn + 1) s.hold.known_restarts);
       disengaged = λ q e. absurd (cc (sym (ap (λ (h : HoldState). engaged_path h.phase) same.hold) ∙ e));
     }
 
 pub reset-is : (s : SubchannelState) → IsReset s (reset_with s (is_offered_or_held s.hold.phase && has_any s.waiting s.begun s.suspended))
 reset-is s = reset-with s (is_offered_or_held s.hold.phase && has_any s.waiting s.begun s.suspended)
 
-known-hold : (h x : HoldState) (b : ℕ) → IsCalmHold (record h { known = b }) x → IsCalmHold h x
+known-hold : (h x : HoldState) (b : ℕ) → IsCalmHold (record h { known_restarts = b }) x → IsCalmHold h x
 known-hold h x b k = record { engaged = λ q e. k.engaged q e; offered = λ t q e. k.offered t q e; remembers = λ accepted m. k.remembers accepted m }
 
 notice-by : (s : SubchannelState) (b : ℕ) (more : Bool) →
@@ -177,4 +177,4 @@ notice-by s b true =
     record { drawn = k.drawn; available = k.available; hold = known-hold s.hold _ b k.hold; sent = tt }
 
 pub notice-calm : (s : SubchannelState) (b : ℕ) → IsCalm s (takes_notice s b)
-notice-calm s b = notice-by s b (nat_lt s.hold.known b)
+notice-calm s b = notice-by s b (nat_lt s.hold.known_restarts b)

@@ -150,7 +150,7 @@ choose-calm : (sub : Subchannel) (c : Chosen) → IsFitFor c sub.state.hold → 
 choose-calm sub chosen_is.Idle fit = calm-same sub.state sub.state refl refl refl refl
 choose-calm sub (chosen_is.Resets r path) fit =
     if-ok (λ t. IsCalm sub.state t.sub.state)
-    (finds_full sub.wires.down (carried_by sub (Some (record { path = path; signal = down.Reset r sub.state.hold.known })))) _ _ tt
+    (finds_full sub.wires.down (carried_by sub (Some (record { path = path; signal = down.Reset r sub.state.hold.known_restarts })))) _ _ tt
     (record { cleared = refl; reset = sending-as sub.state.hold sub.state.hold.phase path refl; counts = counts-same sub.state (reset_sent sub.state path) refl refl })
 choose-calm sub chosen_is.PerformsClear fit = cause-calm sub.state cause.ClearDone
 choose-calm sub (chosen_is.Halts t path) fit =
@@ -279,13 +279,13 @@ module _ (s : State) where
       same-follows (event.Up word path) (reply.Up (up.Cleared r) false None) index sub sub.state refl
 
   notice-follows : (word path index : ℕ) (sub : Subchannel) (b : ℕ) (more : Bool) → index_of s word ≡ Some index →
-      nat_lt sub.state.hold.known b ≡ more →
+      nat_lt sub.state.hold.known_restarts b ≡ more →
       FollowsUp word path index sub (up.Notice b) (if more then signal_taken (reset_for (with_known sub.state b)) else signal_ignored sub.state)
   notice-follows word path index sub b true at e =
       let shows : Bool = is_offered_or_held sub.state.hold.phase && has_any sub.state.waiting sub.state.begun sub.state.suspended in
       record {
         clears = inl (reset-cleared (with_known sub.state b) shows);
-        change = Resets (at, ltb-true sub.state.hold.known b e) (reset-phase (with_known sub.state b) shows);
+        change = Resets (at, ltb-true sub.state.hold.known_restarts b e) (reset-phase (with_known sub.state b) shows);
         counts = reset-counts (with_known sub.state b) shows;
       }
   notice-follows word path index sub b false at e = same-follows (event.Up word path) (reply.Up (up.Notice b) false None) index sub sub.state refl
@@ -293,7 +293,7 @@ module _ (s : State) where
   takes-follow : (returns : Bool) (word path index : ℕ) (sub : Subchannel) (x : Up) → index_of s word ≡ Some index →
       FollowsUp word path index sub x (takes_up returns s.storage sub.state path x).step
   takes-follow returns word path index sub (up.Cleared r) at = cleared-follows word path index sub sub.state.hold.phase r at refl
-  takes-follow returns word path index sub (up.Notice b) at = notice-follows word path index sub b (nat_lt sub.state.hold.known b) at refl
+  takes-follow returns word path index sub (up.Notice b) at = notice-follows word path index sub b (nat_lt sub.state.hold.known_restarts b) at refl
   takes-follow returns word path index sub (up.Accept t) at =
       calm-follows (event.Up word path) _ index sub _ (takes-calm returns s.storage sub.state path (up.Accept t) tt)
   takes-follow returns word path index sub (up.Busy t) at =

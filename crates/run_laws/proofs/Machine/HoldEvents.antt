@@ -138,11 +138,11 @@ module _ (keeps : Keeps) where
       acts keeps l s.drawn s.hold (Takes (record { path = p; signal = x }) returns) _ c at (e ∙ stepped-is s.drawn s.hold (hold_takes s.hold p x returns))
 
   -- Notice
-  notice-leaves : (l : Link) (s : SubchannelState) (p b : ℕ) (more : Bool) → Contains l.ups (record { path = p; signal = up.Notice b }) → IsOf l s → nat_lt s.hold.known b ≡ more →
+  notice-leaves : (l : Link) (s : SubchannelState) (p b : ℕ) (more : Bool) → Contains l.ups (record { path = p; signal = up.Notice b }) → IsOf l s → nat_lt s.hold.known_restarts b ≡ more →
       Leaves l (if more then signal_taken (reset_for (with_known s b)) else signal_ignored s)
   notice-leaves l s p b true c at e =
       acts keeps l s.drawn s.hold (Takes (record { path = p; signal = up.Notice b }) false) _ c at
-      (ap (λ (m : Bool). if m then reset_again s.drawn (record s.hold { known = b }) else still s.drawn s.hold) e
+      (ap (λ (m : Bool). if m then reset_again s.drawn (record s.hold { known_restarts = b }) else still s.drawn s.hold) e
       ∙ reset-acted (with_known s b) (is_offered_or_held s.hold.phase && has_any s.waiting s.begun s.suspended))
   notice-leaves l s p b false c at e = ignored l s at
 
@@ -256,7 +256,7 @@ module _ (keeps : Keeps) where
       if-leaves l (is_on s.hold.phase t) _ (signal_ignored s) (ends_at_work-leaves storage l s s.begun (record { path = p; number = t; command = n; status = status; more = more }) at) (ignored l s at)
   takes-leaves returns storage l s p (up.Released t) c at = hold_outcome-leaves false l s p (up.Released t) c at refl
   takes-leaves returns storage l s p (up.Cleared r) c at = reset-leaves l s (hold_takes s.hold p (up.Cleared r) false) (hold_outcome-leaves false l s p (up.Cleared r) c at refl)
-  takes-leaves returns storage l s p (up.Notice b) c at = notice-leaves l s p b (nat_lt s.hold.known b) c at refl
+  takes-leaves returns storage l s p (up.Notice b) c at = notice-leaves l s p b (nat_lt s.hold.known_restarts b) c at refl
   takes-leaves returns storage l s p (up.Attn a status) c at =
       let step : Option HoldStep = hold_takes s.hold p (up.Attn a status) (may_take_attention s) in
       let shows : Bool = (outcome_of step).taken && not (status.0 == 0x20) in
@@ -285,11 +285,11 @@ module _ (keeps : Keeps) where
   pub choose-turns : (sub : Subchannel) (c : Chosen) → IsFitFor c sub.state.hold → IsSubResult sub (choose_sub sub c)
   choose-turns sub chosen.Idle fit = kept-turns sub sub.state refl refl
   choose-turns sub (chosen.Resets r path) fit =
-      if-turns (λ t. IsOfHold sub t.sub) (finds_full sub.wires.down (carried_by sub (Some (record { path = path; signal = down.Reset r sub.state.hold.known })))) _ _ tt
+      if-turns (λ t. IsOfHold sub t.sub) (finds_full sub.wires.down (carried_by sub (Some (record { path = path; signal = down.Reset r sub.state.hold.known_restarts })))) _ _ tt
       (record {
         setup = refl;
         reaches = λ l k.
-            reached sub l (reset_sent sub.state path) (Some (record { path = path; signal = down.Reset r sub.state.hold.known })) sub.wires.up k
+            reached sub l (reset_sent sub.state path) (Some (record { path = path; signal = down.Reset r sub.state.hold.known_restarts })) sub.wires.up k
             (acts keeps l sub.state.drawn sub.state.hold (Sends_reset path) _ tt (record { drawn = k.drawn; hold = k.hold })
             (stepped-is sub.state.drawn sub.state.hold (sending_reset sub.state.hold sub.state.hold.phase path)
             ∙ ap (λ (phase : HoldPhase). record { drawn = sub.state.drawn; hold = (reset_sent sub.state path).hold; sent = (outcome_of (sending_reset sub.state.hold phase path)).sent }) fit))

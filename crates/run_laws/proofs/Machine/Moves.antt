@@ -134,7 +134,7 @@ module _ (R : SubchannelState → SubchannelState → Type 0) (k : IsKept R) whe
   choose-kept : (sub : Subchannel) (c : Chosen) → OkSub sub (choose_sub sub c)
   choose-kept sub chosen_is.Idle = unchanged sub
   choose-kept sub (chosen_is.Resets r path) =
-      if-ok (λ t. Changed R sub t.sub) (finds_full sub.wires.down (carried_by sub (Some (record { path = path; signal = down.Reset r sub.state.hold.known })))) _ _ tt (record { setup = refl; state = k.resets sub.state path })
+      if-ok (λ t. Changed R sub t.sub) (finds_full sub.wires.down (carried_by sub (Some (record { path = path; signal = down.Reset r sub.state.hold.known_restarts })))) _ _ tt (record { setup = refl; state = k.resets sub.state path })
   choose-kept sub chosen_is.PerformsClear = record { setup = refl; state = k.clears sub.state }
   choose-kept sub (chosen_is.Halts t path) =
       if-ok (λ t. Changed R sub t.sub) (finds_full sub.wires.down (carried_by sub (Some (record { path = path; signal = down.Halt t })))) _ _ tt (record { setup = refl; state = k.halts sub.state })

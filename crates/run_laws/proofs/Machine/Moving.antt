@@ -180,8 +180,8 @@ offer-moved subs sub s path free n available e = record {
 choose-moved : (subs : List Subchannel) (sub : Subchannel) (c : Chosen) → IsOpen subs sub c → IfOk (choose_sub sub c) (IsChooseMoved subs sub)
 choose-moved subs sub Idle free = unmoved subs sub
 choose-moved subs sub (Resets r path) free =
-    if-ok (IsChooseMoved subs sub) (finds_full sub.wires.down (carried_by sub (Some (record { path = path; signal = down.Reset r sub.state.hold.known })))) _ _ tt
-    (sent-moved subs sub (reset_sent sub.state path) path (down.Reset r sub.state.hold.known) (omega arith) refl
+    if-ok (IsChooseMoved subs sub) (finds_full sub.wires.down (carried_by sub (Some (record { path = path; signal = down.Reset r sub.state.hold.known_restarts })))) _ _ tt
+    (sent-moved subs sub (reset_sent sub.state path) path (down.Reset r sub.state.hold.known_restarts) (omega arith) refl
     (reset-sent-hold sub.state.hold sub.state.hold.phase path) tt)
 choose-moved subs sub PerformsClear free = cause-moved subs sub cause.ClearDone
 choose-moved subs sub (Halts t path) free =

@@ -129,7 +129,7 @@ choose-dedicated : (s : State) (word : ℕ) (sub : Subchannel) (choice : Option 
     IsChoice (paths_to_choose s.subs sub) choice → Suits c sub.state → IsOffer choice c → OkOffer s word (choose_sub (marked_sub sub choice) c)
 choose-dedicated s word sub choice (Resets r path) at x f o =
     if-ok (λ (t : SubResult). OffersOnDedicated s (event.Choose word) t.reply)
-    (finds_full sub.wires.down (carried_by sub (Some (record { path = path; signal = down.Reset r sub.state.hold.known })))) _ _ tt tt
+    (finds_full sub.wires.down (carried_by sub (Some (record { path = path; signal = down.Reset r sub.state.hold.known_restarts })))) _ _ tt tt
 choose-dedicated s word sub choice (Halts t path) at x f o =
     if-ok (λ (t : SubResult). OffersOnDedicated s (event.Choose word) t.reply)
     (finds_full sub.wires.down (carried_by sub (Some (record { path = path; signal = down.Halt t })))) _ _ tt tt

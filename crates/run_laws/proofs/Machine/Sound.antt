@@ -14,7 +14,7 @@ use Rattle.chan_model.specs.declared.hold_state.HoldState.{HoldState}
 use Rattle.chan_model.specs.Signals.{Down, Load, Up, load_bytes}
 use Rattle.chan_model.specs.declared.signal.Taken.{Taken}
 use Rattle.chan_model.specs.declared.signal.Up.TheVariants as up
-use Rattle.subchannel_model.specs.declared.status.Shown.{Shown}
+use Rattle.subchannel_model.specs.declared.status.StatusRow.{StatusRow}
 use Rattle.chan_model.specs.HoldTable.{HoldStep, hold_takes, hold_after, outcome_of, is_connected, is_on}
 use Rattle.chan_model.specs.Loads.{load_length}
 use Rattle.subchannel_model.specs.Status.{scsw_made, serials_made, serials_cleared, is_uncleared, without_status}
@@ -86,7 +86,7 @@ joined-pending : (b : Bool) (x y : Scsw) → x.status.pending ≡ true → y.sta
 joined-pending true x y e f = e
 joined-pending false x y e f = f
 
-made-pending : (e : Bool) (scsw joins : Scsw) (x : Serials) (shown : Shown) → scsw.status.pending ≡ is_uncleared x → x.cleared ≤ x.made →
+made-pending : (e : Bool) (scsw joins : Scsw) (x : Serials) (shown : StatusRow) → scsw.status.pending ≡ is_uncleared x → x.cleared ≤ x.made →
     (scsw_made e (scsw_joined e scsw joins) shown).status.pending ≡ is_uncleared (serials_made e x)
 made-pending true scsw joins x shown p o = joined-pending joins.status.pending _ _ refl refl ∙ sym (lt-ltb x.cleared (x.made + 1) (omega (arith, o)))
 made-pending false scsw joins x shown p o = p
@@ -113,7 +113,7 @@ to-ready floor n s k = (omega (arith, k.0), omega (arith, k.1), k.2, moved-later
 ready-sound : (floor : Serials) (n : ℕ) (s : SubchannelState) → Ready floor n s → Sound floor (n + 1) s
 ready-sound floor n s k = (k.0, k.1, omega (arith, k.2), k.3, k.4, k.5, k.6, k.7)
 
-left-sound : (floor : Serials) (n : ℕ) (s : SubchannelState) (w : Option Program) (b : Option ActiveProgram) (st : Option ProgramPosition) (joins : Scsw) (shown : Shown) →
+left-sound : (floor : Serials) (n : ℕ) (s : SubchannelState) (w : Option Program) (b : Option ActiveProgram) (st : Option ProgramPosition) (joins : Scsw) (shown : StatusRow) →
     IsMovedWithin (n + 1) b → Ready floor n s →
     Sound floor (n + 1) (with_status (record s { waiting = w; begun = b; suspended = st; scsw = scsw_joined s.pmcw.enabled s.scsw joins }) shown)
 left-sound floor n s w b st joins shown m k =
@@ -128,17 +128,17 @@ left-sound floor n s w b st joins shown m k =
       above.1,
     )
 
-after_end-sound : (floor : Serials) (n : ℕ) (s : SubchannelState) (b : ActiveProgram) (last : Bool) (joins : Scsw) (shown : Shown) → IsMovedWithin (n + 1) (Some b) → Ready floor n s →
+after_end-sound : (floor : Serials) (n : ℕ) (s : SubchannelState) (b : ActiveProgram) (last : Bool) (joins : Scsw) (shown : StatusRow) → IsMovedWithin (n + 1) (Some b) → Ready floor n s →
     Sound floor (n + 1) (with_status (record (programs_after_end s b last) { scsw = scsw_joined s.pmcw.enabled s.scsw joins }) shown)
 after_end-sound floor n s b true joins shown m k = left-sound floor n s None None None joins shown tt k
 after_end-sound floor n s b false joins shown m k = left-sound floor n s s.waiting (Some (has_shown b)) s.suspended joins shown m k
 
-without_begun-sound : (floor : Serials) (n : ℕ) (s : SubchannelState) (b : Option ActiveProgram) (joins : Scsw) (shown : Shown) → Ready floor n s →
+without_begun-sound : (floor : Serials) (n : ℕ) (s : SubchannelState) (b : Option ActiveProgram) (joins : Scsw) (shown : StatusRow) → Ready floor n s →
     Sound floor (n + 1) (with_status (record (without_begun b s) { scsw = scsw_joined s.pmcw.enabled s.scsw joins }) shown)
 without_begun-sound floor n s None joins shown k = left-sound floor n s None s.begun None joins shown k.3 k
 without_begun-sound floor n s (Some b) joins shown k = left-sound floor n s s.waiting None s.suspended joins shown tt k
 
-without_waiting-sound : (floor : Serials) (n : ℕ) (s : SubchannelState) (w : Option Program) (joins : Scsw) (shown : Shown) → Ready floor n s →
+without_waiting-sound : (floor : Serials) (n : ℕ) (s : SubchannelState) (w : Option Program) (joins : Scsw) (shown : StatusRow) → Ready floor n s →
     Sound floor (n + 1) (with_status (record (without_waiting w s) { scsw = scsw_joined s.pmcw.enabled s.scsw joins }) shown)
 without_waiting-sound floor n s None joins shown k = left-sound floor n s s.waiting s.begun None joins shown k.3 k
 without_waiting-sound floor n s (Some w) joins shown k = left-sound floor n s None s.begun s.suspended joins shown k.3 k
@@ -417,7 +417,7 @@ module _ (numbered : AreNumbered) where
   up-sound returns floor n storage s p (up.Released t) k = later floor n s k
   up-sound returns floor n storage s p (up.Cleared r) k = reset-sound floor n s (hold_takes s.hold p (up.Cleared r) false) k
   up-sound returns floor n storage s p (up.Notice b) k =
-      pick floor (n + 1) (nat_lt s.hold.known b) (signal_taken (reset_for (with_known s b))) (signal_ignored s)
+      pick floor (n + 1) (nat_lt s.hold.known_restarts b) (signal_taken (reset_for (with_known s b))) (signal_ignored s)
       (reset_with-sound floor n (with_known s b) (is_offered_or_held s.hold.phase && has_any s.waiting s.begun s.suspended) k) (later floor n s k)
   up-sound returns floor n storage s p (up.Attn a st) k =
       let step : Option HoldStep = hold_takes s.hold p (up.Attn a st) (may_take_attention s) in

@@ -128,7 +128,7 @@ up-swept sub (Some p) = record {
 system-swept : (sub : Subchannel) → IsSwept sub (reset_by_system sub)
 system-swept sub =
     let s : SubchannelState = sub.state in
-    let k : IsCalmHold s.hold (state_reset s).hold = reset-hold s.hold (s.drawn + 1) s.hold.known in
+    let k : IsCalmHold s.hold (state_reset s).hold = reset-hold s.hold (s.drawn + 1) s.hold.known_restarts in
     let later : IsLater s.drawn (s.drawn + 1) s.hold.phase (state_reset s).hold.phase = calm-later s (state_reset s) (omega arith) k in
     record {
       setup = refl;

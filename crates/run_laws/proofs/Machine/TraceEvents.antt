@@ -239,7 +239,7 @@ pub choose-tells : (sub : Subchannel) (c : Chosen) (k : StartCounts) → IsFitFo
     IfOk (choose_sub sub c) (λ t. Tells sub t.sub.state k (with_offer t.reply k))
 choose-tells sub chosen_is.Idle k fit of = tells-same sub k
 choose-tells sub (chosen_is.Resets r path) k fit of =
-    if-ok (λ t. Tells sub t.sub.state k (with_offer t.reply k)) (finds_full sub.wires.down (carried_by sub (Some (record { path = path; signal = down.Reset r sub.state.hold.known })))) _ _ tt (reset-tells sub path k)
+    if-ok (λ t. Tells sub t.sub.state k (with_offer t.reply k)) (finds_full sub.wires.down (carried_by sub (Some (record { path = path; signal = down.Reset r sub.state.hold.known_restarts })))) _ _ tt (reset-tells sub path k)
 choose-tells sub chosen_is.PerformsClear k fit of =
     calm-tells sub (with_cause sub.state cause.ClearDone) k (cause-calm sub.state cause.ClearDone) (inr refl)
 choose-tells sub (chosen_is.Halts t path) k fit of =

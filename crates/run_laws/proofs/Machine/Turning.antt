@@ -74,7 +74,7 @@ resumed-available pmcw false = refl
 effect-moved : (subs : List Subchannel) (sub : Subchannel) (f : Function) → IsMoved subs Same sub (with_state sub (effect_of f sub.state))
 effect-moved subs sub Resumes = same-moved subs sub (resumed sub.state) (is-same sub.state (resumed sub.state) refl refl (resumed-available sub.state.pmcw sub.state.scsw.activity.suspended))
 effect-moved subs sub Halts = same-moved subs sub (halted sub.state) (halted-same sub.state)
-effect-moved subs sub Clears = state-moved subs sub (cleared sub.state) (omega arith) refl (reset-hold sub.state.hold (sub.state.drawn + 1) sub.state.hold.known)
+effect-moved subs sub Clears = state-moved subs sub (cleared sub.state) (omega arith) refl (reset-hold sub.state.hold (sub.state.drawn + 1) sub.state.hold.known_restarts)
 effect-moved subs sub Cancels = same-moved subs sub (cancelled sub.state) (is-same sub.state (cancelled sub.state) refl refl refl)
 
 function-moved : (subs : List Subchannel) (sub : Subchannel) (f : Function) (c : ConditionCode) → IsMoved subs Same sub (function_sub sub c (effect_of f sub.state)).sub

@@ -389,7 +389,7 @@ module _ (A : Type 0) (B : ℕ → Type 0) where
   takes-turned returns storage s p (up.Released t) f k = still-turned s (released s.hold s.hold.phase t) (released-still s.hold s.hold.phase t refl) k
   takes-turned returns storage s p (up.Cleared r) f k =
       reset-turned s (reset_cleared s.hold s.hold.phase r) (still-turned s (reset_cleared s.hold s.hold.phase r) (cleared-still s.hold s.hold.phase r refl) k)
-  takes-turned returns storage s p (up.Notice b) f k = notice-turned A B s b (nat_lt s.hold.known b) k
+  takes-turned returns storage s p (up.Notice b) f k = notice-turned A B s b (nat_lt s.hold.known_restarts b) k
   takes-turned returns storage s p (up.Attn a status) f k =
       let step : Option HoldStep = attended s.hold s.hold.phase p a (may_take_attention s) in
       attention-turned s (hold_outcome s step).state ((outcome_of step).taken && not (status.0 == 0x20))

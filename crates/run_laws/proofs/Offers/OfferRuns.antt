@@ -217,7 +217,7 @@ choose-offers : (sub : Subchannel) (k : Option ProgramTrace) (c : Chosen) → Su
     IfOk (choose_sub sub c) (λ t. OffersBy t.sub.state (chosen_at (Some sub) t.reply k))
 choose-offers sub k Idle f n h o = o
 choose-offers sub k (Resets r path) f n h o =
-    send-ok (λ t. OffersBy t.sub.state (chosen_at (Some sub) t.reply k)) sub (reset_sent sub.state path) path (down.Reset r sub.state.hold.known) (reply.ResetSent r path)
+    send-ok (λ t. OffersBy t.sub.state (chosen_at (Some sub) t.reply k)) sub (reset_sent sub.state path) path (down.Reset r sub.state.hold.known_restarts) (reply.ResetSent r path)
     (o.0, less-offered sub.state (reset_sent sub.state path) k (reset-phase sub.state.hold sub.state.hold.phase path) refl (inl refl) (inl refl) o.1)
 choose-offers sub k PerformsClear f n h o =
     (cause-within sub.state cause.ClearDone tt o.0, less-offered sub.state (with_cause sub.state cause.ClearDone) k refl refl (inl refl) (inl refl) o.1)
@@ -296,9 +296,9 @@ sunk-offers may sub path u t k e o =
 
 absorbs-offers : (s : SubchannelState) (count : ℕ) (x : Option CurrentCommand) (k : ProgramTrace) → OffersBy s (Some k) → OffersBy s (Some (absorbs count x k))
 absorbs-offers s count None k o = o
-absorbs-offers s count (Some x) k o = by x.given
+absorbs-offers s count (Some x) k o = by x.unabsorbed
   where
-    by : (bytes : Option (List ℕ)) → OffersBy s (Some (absorbs count (Some (record x { given = bytes })) k))
+    by : (bytes : Option (List ℕ)) → OffersBy s (Some (absorbs count (Some (record x { unabsorbed = bytes })) k))
     by None = o
     by (Some bytes) = untaken-offers s k k.taken (k.absorbed ++ take count bytes) o
 

@@ -137,7 +137,7 @@ OffersPath sub r = (t path : ℕ) (resumes : Bool) → r ≡ reply.Offered t pat
 choose-path : (subs : List Subchannel) (sub marked : Subchannel) (choice : Option ℕ) (c : Chosen) → IsChoice (paths_to_choose subs sub) choice → Suits c sub.state → IsOffer choice c → IsAhead sub.state c →
     IfOk (choose_sub marked c) (λ t. OffersPath sub t.reply)
 choose-path subs sub marked choice (Resets r path) i f o h =
-    send-ok (λ t. OffersPath sub t.reply) marked _ path (down.Reset r marked.state.hold.known) (reply.ResetSent r path) (λ t p z e. absurd (cc e))
+    send-ok (λ t. OffersPath sub t.reply) marked _ path (down.Reset r marked.state.hold.known_restarts) (reply.ResetSent r path) (λ t p z e. absurd (cc e))
 choose-path subs sub marked choice (Halts u path) i f o h =
     send-ok (λ t. OffersPath sub t.reply) marked _ path (down.Halt u) (reply.HaltSent u path) (λ t p z e. absurd (cc e))
 choose-path subs sub marked choice (Offers c path) i f o h =

@@ -229,7 +229,7 @@ choose-owned : (over : Bool) (sub : Subchannel) (c : Chosen) → IsChosenBy sub.
     IfOk (choose_sub sub c) (IsTurn over)
 choose-owned over sub Idle m a n k = k
 choose-owned over sub (Resets r path) m a n k =
-    send-ok (IsTurn over) sub (reset_sent sub.state path) path (down.Reset r sub.state.hold.known) (reply.ResetSent r path)
+    send-ok (IsTurn over) sub (reset_sent sub.state path) path (down.Reset r sub.state.hold.known_restarts) (reply.ResetSent r path)
     (k.0, not-offered over sub.state (reset_sent sub.state path) n (reset-phase sub.state.hold sub.state.hold.phase path))
 choose-owned over sub PerformsClear m a n k = (cause-within sub.state cause.ClearDone tt k.0, not-offered over sub.state (with_cause sub.state cause.ClearDone) n refl)
 choose-owned over sub (Halts t path) m a n k =

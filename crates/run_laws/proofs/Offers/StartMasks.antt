@@ -33,7 +33,7 @@ use Rattle.subchannel_model.specs.Programs.{without_programs}
 use Rattle.subchannel_model.specs.Resume.{resumed, rsch_code}
 use Rattle.subchannel_model.specs.declared.state.Subchannel.{Subchannel}
 use Rattle.subchannel_model.specs.declared.state.PmcwState.{PmcwState}
-use Rattle.subchannel_model.specs.declared.status.Shown.{Shown}
+use Rattle.subchannel_model.specs.declared.status.StatusRow.{StatusRow}
 use Rattle.subchannel_model.specs.Status.{scsw_made, with_joined, no_device_status, no_subchannel_status, intermediate_alone, without_status}
 use Rattle.subchannel_model.specs.Test.{ended_scsw, suspended_scsw, tested, tested_wholly, ends_suspended}
 use Rattle.subchannel_model.specs.Accept.{with_program_at_work, working_activity}
@@ -108,7 +108,7 @@ module _ (started : Option Orb) where
   joined-masked true logical x y e f = e
   joined-masked false logical x y e f = f
 
-  made-masked : (enabled : Bool) (logical : List Bool) (scsw : Scsw) (shown : Shown) → Masks started logical scsw.functions shown.activity →
+  made-masked : (enabled : Bool) (logical : List Bool) (scsw : Scsw) (shown : StatusRow) → Masks started logical scsw.functions shown.activity →
       Masks started logical (scsw_made enabled scsw shown).functions (scsw_made enabled scsw shown).activity
   made-masked true logical scsw shown k =
       joined-masked scsw.status.pending logical (with_joined scsw scsw.status scsw.device_status scsw.subchannel_status shown)

@@ -69,7 +69,7 @@ module _ (P : Option Program → Type 0) (none : P None) where
   -- Choose
   choose-stays : (sub : Subchannel) (c : Chosen) → IfOk (choose_sub sub c) (λ t. Stays sub t.sub)
   choose-stays sub Idle = λ k. k
-  choose-stays sub (Resets r path) = send-ok (λ t. Stays sub t.sub) sub _ path (down.Reset r sub.state.hold.known) _ (λ k. k)
+  choose-stays sub (Resets r path) = send-ok (λ t. Stays sub t.sub) sub _ path (down.Reset r sub.state.hold.known_restarts) _ (λ k. k)
   choose-stays sub PerformsClear = λ k. cause-waits P none sub.state cause.ClearDone k
   choose-stays sub (Halts t path) = send-ok (λ t. Stays sub t.sub) sub _ path (down.Halt t) _ (λ k. k)
   choose-stays sub PerformsHalt = λ k. cause-waits P none sub.state cause.HaltDone k

@@ -268,9 +268,9 @@ met-behind returns storage s p (up.End t n status more) behind k j =
 met-behind returns storage s p (up.Released t) behind k j = j
 met-behind returns storage s p (up.Cleared r) behind k j = kept behind s (takes_up returns storage s p (up.Cleared r)).step.state (takes_cleared-keeps s (hold_takes s.hold p (up.Cleared r) false)) j
 met-behind returns storage s p (up.Notice b) behind k j =
-    let x : SubchannelState = record s { hold = record s.hold { known = b } } in
+    let x : SubchannelState = record s { hold = record s.hold { known_restarts = b } } in
     kept behind s (takes_up returns storage s p (up.Notice b)).step.state
-    (if-step s (nat_lt s.hold.known b) (signal_taken (reset_for x)) (signal_ignored s)
+    (if-step s (nat_lt s.hold.known_restarts b) (signal_taken (reset_for x)) (signal_ignored s)
     (reset-keeps s x (is_offered_or_held s.hold.phase && has_any s.waiting s.begun s.suspended) refl refl) (same s)) j
 met-behind returns storage s p (up.Attn a status) behind k j = kept behind s (takes_up returns storage s p (up.Attn a status)).step.state (attn-keeps s storage p a status k.stands) j
 

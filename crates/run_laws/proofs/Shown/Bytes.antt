@@ -38,7 +38,7 @@ use Rattle.subchannel_model.specs.declared.state.ProgramPosition.{ProgramPositio
 use Rattle.subchannel_model.specs.declared.state.Subchannel.{Subchannel}
 use Rattle.subchannel_model.specs.declared.state.SubchannelState.{SubchannelState}
 use Rattle.subchannel_model.specs.declared.state.UpStep.{UpStep}
-use Rattle.subchannel_model.specs.declared.status.Shown.{Shown}
+use Rattle.subchannel_model.specs.declared.status.StatusRow.{StatusRow}
 use Rattle.subchannel_model.specs.Causes.{row_of, scsw_before, with_cause, scsw_joined}
 use Rattle.subchannel_model.specs.Ends.{has_status_modifier, chains_command, shows_length, last_shown, work_shown}
 use Rattle.subchannel_model.specs.Losing.{is_offered_or_held, reset_drawn, reset_with, reset_for, loses_at}
@@ -83,13 +83,13 @@ if-met P s true y z k l = k
 if-met P s false y z k l = l
 
 -- a cause
-joined-brings : (joins : Scsw) (shown : Shown) (pending : Bool) →
+joined-brings : (joins : Scsw) (shown : StatusRow) (pending : Bool) →
     let x : Scsw = if pending then with_joined joins joins.status joins.device_status joins.subchannel_status shown else with_joined joins no_status no_device_status no_subchannel_status shown in
     (x.device_status.0 ≡ joined_byte pending joins.device_status.0 shown.device.0) × (x.subchannel_status.0 ≡ joined_byte pending joins.subchannel_status.0 shown.subchannel.0)
 joined-brings joins shown true = (refl, refl)
 joined-brings joins shown false = (refl, refl)
 
-status-brings : (e f : Bool) (x : Serials) (scsw joins : Scsw) (shown : Shown) → e ≡ f →
+status-brings : (e f : Bool) (x : Serials) (scsw joins : Scsw) (shown : StatusRow) → e ≡ f →
     ((serials_made e x).made ≡ x.made) ⊎ Brings joins (scsw_made e (scsw_joined f scsw joins) shown) shown.device.0 shown.subchannel.0
 status-brings true true x scsw joins shown e =
     inr (joined-brings joins shown joins.status.pending)
@@ -239,7 +239,7 @@ goes-brought storage s b x =
 
 -- what an End after which nothing is chained shows
 end-bytes : (scsw : Scsw) (b : ActiveProgram) (w : Option Program) (status : DeviceStatus) (more last : Bool) →
-    let shown : Shown = if last then last_shown scsw b w status more else work_shown scsw b status more false in
+    let shown : StatusRow = if last then last_shown scsw b w status more else work_shown scsw b status more false in
     (shown.device.0 ≡ status.0) × (shown.subchannel.0 ≡ bit_or (if shows_length scsw b status more then 0x40 else 0) (check_bits b.transfer.fault))
 end-bytes scsw b None status more true = (refl, refl)
 end-bytes scsw b (Some w) status more true = (refl, refl)
@@ -325,7 +325,7 @@ takes-brought returns storage s p (up.End t n status more) =
     if-step (Ended s status) s (is_on s.hold.phase t) (ends_at_work storage s s.begun x) (signal_ignored s) (end-brought storage s s.begun x) (inl refl)
 takes-brought returns storage s p (up.Released t) = inl refl
 takes-brought returns storage s p (up.Cleared r) = cleared-brought s (hold_takes s.hold p (up.Cleared r) false)
-takes-brought returns storage s p (up.Notice b) = notice-brought s b (nat_lt s.hold.known b)
+takes-brought returns storage s p (up.Notice b) = notice-brought s b (nat_lt s.hold.known_restarts b)
 takes-brought returns storage s p (up.Attn a status) =
     let step : Option HoldStep = hold_takes s.hold p (up.Attn a status) (may_take_attention s) in
     attention-brought (hold_outcome s step).state ((outcome_of step).taken && not (status.0 == 0x20))

@@ -37,7 +37,7 @@ use Rattle.subchannel_model.specs.declared.state.ProgramPosition.{ProgramPositio
 use Rattle.subchannel_model.specs.declared.state.Subchannel.{Subchannel}
 use Rattle.subchannel_model.specs.declared.state.SubchannelState.{SubchannelState}
 use Rattle.subchannel_model.specs.declared.state.UpStep.{UpStep}
-use Rattle.subchannel_model.specs.declared.status.Shown.{Shown}
+use Rattle.subchannel_model.specs.declared.status.StatusRow.{StatusRow}
 use Rattle.subchannel_model.specs.Causes.{row_of, scsw_before, with_cause, scsw_joined}
 use Rattle.subchannel_model.specs.Ends.{has_status_modifier, chains_command, last_shown, work_shown}
 use Rattle.subchannel_model.specs.Losing.{is_offered_or_held, reset_drawn, reset_with, reset_for, loses_at}
@@ -79,7 +79,7 @@ either-code : (b : Bool) (x y : Scsw) (d : DeferredCode) → x.deferred ≡ d �
 either-code true x y d e f = e
 either-code false x y d e f = f
 
-status-coded : (e f : Bool) (x : Serials) (scsw joins : Scsw) (shown : Shown) → e ≡ f →
+status-coded : (e f : Bool) (x : Serials) (scsw joins : Scsw) (shown : StatusRow) → e ≡ f →
     (((serials_made e x).made ≡ x.made) × ((scsw_made e (scsw_joined f scsw joins) shown).deferred ≡ scsw.deferred))
     ⊎ (((serials_made e x).made ≡ x.made + 1) × ((scsw_made e (scsw_joined f scsw joins) shown).deferred ≡ unwrap_or shown.deferred joins.deferred))
 status-coded true true x scsw joins shown e =
@@ -299,7 +299,7 @@ takes-coded returns storage s p (up.End t n status more) fits stands =
     if-step (IsEndCode (is_last_end status) s.scsw) s (is_on s.hold.phase t) (ends_at_work storage s s.begun x) (signal_ignored s) (end-coded storage s s.begun x refl fits stands) (inl (refl, refl))
 takes-coded returns storage s p (up.Released t) fits stands = inl (refl, refl)
 takes-coded returns storage s p (up.Cleared r) fits stands = cleared-coded s (hold_takes s.hold p (up.Cleared r) false)
-takes-coded returns storage s p (up.Notice b) fits stands = notice-stays s b (nat_lt s.hold.known b)
+takes-coded returns storage s p (up.Notice b) fits stands = notice-stays s b (nat_lt s.hold.known_restarts b)
 takes-coded returns storage s p (up.Attn a status) fits stands =
     let step : Option HoldStep = hold_takes s.hold p (up.Attn a status) (may_take_attention s) in
     let shows : Bool = (outcome_of step).taken && not (status.0 == 0x20) in

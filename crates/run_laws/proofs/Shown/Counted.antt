@@ -9,7 +9,7 @@ use Rattle.subchannel_model.specs.declared.cause.StatusCause.TheVariants as caus
 use Rattle.subchannel_model.specs.declared.state.ActiveProgram.{ActiveProgram}
 use Rattle.subchannel_model.specs.declared.state.Program.{Program}
 use Rattle.subchannel_model.specs.declared.state.SubchannelState.{SubchannelState}
-use Rattle.subchannel_model.specs.declared.status.Shown.{Shown}
+use Rattle.subchannel_model.specs.declared.status.StatusRow.{StatusRow}
 use Rattle.subchannel_model.specs.Causes.{row_of, scsw_before, without_begun, without_waiting, programs_after_end, with_cause, scsw_joined}
 use Rattle.subchannel_model.specs.Status.{scsw_made, serials_made}
 use Rattle.run_laws.specs.Serials.{beside}
@@ -56,7 +56,7 @@ cause-kept s (cause.FetchFault tried check count) = begun-kept s s.begun
 cause-kept s cause.NoPath = waiting-kept s s.waiting
 cause-kept s other = (refl, refl)
 
-status-counted : (e f : Bool) (x : Serials) (scsw before : Scsw) (shown : Shown) → e ≡ f →
+status-counted : (e f : Bool) (x : Serials) (scsw before : Scsw) (shown : StatusRow) → e ≡ f →
     ((serials_made e x).made ≡ made_by f 1 x.made)
     × ((serials_made e x).cleared ≡ x.cleared)
     × ((serials_made e x).made ≡ x.made → beside (scsw_made e (scsw_joined f scsw before) shown) ≡ beside scsw)

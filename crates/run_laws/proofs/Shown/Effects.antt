@@ -15,7 +15,7 @@ use Rattle.subchannel_model.specs.declared.state.ActiveProgram.{ActiveProgram}
 use Rattle.subchannel_model.specs.declared.state.Program.{Program}
 use Rattle.subchannel_model.specs.declared.state.ProgramPosition.{ProgramPosition}
 use Rattle.subchannel_model.specs.declared.state.SubchannelState.{SubchannelState}
-use Rattle.subchannel_model.specs.declared.status.Shown.{Shown}
+use Rattle.subchannel_model.specs.declared.status.StatusRow.{StatusRow}
 use Rattle.subchannel_model.specs.Causes.{row_of, with_status, without_begun, without_waiting, programs_after_end, with_cause, scsw_joined}
 use Rattle.subchannel_model.specs.Choosing.{halt_sent}
 use Rattle.subchannel_model.specs.Ends.{end_shown}
@@ -98,18 +98,18 @@ pub data Effect (H : Type 0) (k : Seen) : ℕ → Seen → Type 0 where
   SendsHalt : Effect H k 0 (seen (halt_sent (of_seen k)))
 
 -- a cause does to a subchannel what it does to what is seen of it
-end-seen : (s : SubchannelState) (b : ActiveProgram) (last : Bool) (scsw : Scsw) (shown : Shown) →
+end-seen : (s : SubchannelState) (b : ActiveProgram) (last : Bool) (scsw : Scsw) (shown : StatusRow) →
     seen (with_status (record (programs_after_end s b last) { scsw = scsw }) shown)
     ≡ seen (with_status (record (programs_after_end (of_seen (seen s)) b last) { scsw = scsw }) shown)
 end-seen s b true scsw shown = refl
 end-seen s b false scsw shown = refl
 
-begun-seen : (s : SubchannelState) (b : Option ActiveProgram) (scsw : Scsw) (shown : Shown) →
+begun-seen : (s : SubchannelState) (b : Option ActiveProgram) (scsw : Scsw) (shown : StatusRow) →
     seen (with_status (record (without_begun b s) { scsw = scsw }) shown) ≡ seen (with_status (record (without_begun b (of_seen (seen s))) { scsw = scsw }) shown)
 begun-seen s None scsw shown = refl
 begun-seen s (Some b) scsw shown = refl
 
-waiting-seen : (s : SubchannelState) (w : Option Program) (scsw : Scsw) (shown : Shown) →
+waiting-seen : (s : SubchannelState) (w : Option Program) (scsw : Scsw) (shown : StatusRow) →
     seen (with_status (record (without_waiting w s) { scsw = scsw }) shown) ≡ seen (with_status (record (without_waiting w (of_seen (seen s))) { scsw = scsw }) shown)
 waiting-seen s None scsw shown = refl
 waiting-seen s (Some w) scsw shown = refl
@@ -137,11 +137,11 @@ with_status-functions : (b : Bool) (x y : Scsw) (a : FunctionControl) → x.func
 with_status-functions true x y a e f = e
 with_status-functions false x y a e f = f
 
-pub made-activity : (enabled : Bool) (scsw : Scsw) (shown : Shown) → (scsw_made enabled scsw shown).activity ≡ shown.activity
+pub made-activity : (enabled : Bool) (scsw : Scsw) (shown : StatusRow) → (scsw_made enabled scsw shown).activity ≡ shown.activity
 made-activity true scsw shown = with_status-activity scsw.status.pending _ _ shown.activity refl refl
 made-activity false scsw shown = refl
 
-pub made-functions : (enabled : Bool) (scsw : Scsw) (shown : Shown) → (scsw_made enabled scsw shown).functions ≡ scsw.functions
+pub made-functions : (enabled : Bool) (scsw : Scsw) (shown : StatusRow) → (scsw_made enabled scsw shown).functions ≡ scsw.functions
 made-functions true scsw shown = with_status-functions scsw.status.pending _ _ scsw.functions refl refl
 made-functions false scsw shown = refl
 

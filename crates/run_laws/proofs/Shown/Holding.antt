@@ -339,8 +339,8 @@ takes-held returns storage s p (up.End t n status more) h =
 takes-held returns storage s p (up.Released t) h = released-held s s.hold s.hold.phase p t h
 takes-held returns storage s p (up.Cleared r) h = cleared-held s s.hold s.hold.phase p r h
 takes-held returns storage s p (up.Notice b) h =
-    let x : SubchannelState = record s { hold = record s.hold { known = b } } in
-    if-step (nat_lt s.hold.known b) (signal_taken (reset_for x)) (signal_ignored s) (λ i. reset_for-held x h) h
+    let x : SubchannelState = record s { hold = record s.hold { known_restarts = b } } in
+    if-step (nat_lt s.hold.known_restarts b) (signal_taken (reset_for x)) (signal_ignored s) (λ i. reset_for-held x h) h
 takes-held returns storage s p (up.Attn a status) h = attend-held s s.hold s.hold.phase p a status (may_take_attention s) h
 
 -- instructions

@@ -53,7 +53,7 @@ module _ (is_up : ℕ → Bool) (known : Option Bool) (sub : Subchannel) (is : I
 
   notice-right : (word path b : ℕ) (returns : Bool) (storage : Contents) →
       IsLossBy known (status_of sub.state) (event.Up word path) (reply_met (up.Notice b) (met returns storage sub path (up.Notice b))) (status_of (met returns storage sub path (up.Notice b)).step.state) k
-  notice-right word path b returns storage = by (nat_lt sub.state.hold.known b)
+  notice-right word path b returns storage = by (nat_lt sub.state.hold.known_restarts b)
     where
       loss : (more : Bool) → IsLoss k (more && not k.doubt) more known (status_of sub.state) (status_of (noticed sub.state b more))
       loss more = record {

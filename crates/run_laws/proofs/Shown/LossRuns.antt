@@ -77,7 +77,7 @@ met-shown word path returns storage sub (up.End t n status more) known may = tt
 met-shown word path returns storage sub (up.Released t) known may = tt
 met-shown word path returns storage sub (up.Cleared r) known may = tt
 met-shown word path returns storage sub (up.Notice b) known may =
-    silent-shown known sub.state (met returns storage sub path (up.Notice b)).step.state may (notice-silent sub.state b (nat_lt sub.state.hold.known b))
+    silent-shown known sub.state (met returns storage sub path (up.Notice b)).step.state may (notice-silent sub.state b (nat_lt sub.state.hold.known_restarts b))
 met-shown word path returns storage sub (up.Attn a status) known may = tt
 
 swept-shown : (what : Sweep) (r : Reply) (sub : Subchannel) (known : Option Bool) → MayBe known sub.state.pmcw.enabled →

@@ -343,6 +343,6 @@ takes-comes returns storage s p (up.End t n status more) =
 takes-comes returns storage s p (up.Released t) = held-comes (Held s) s (up.Released t) (hold_takes s.hold p (up.Released t) false) (λ sent y. refl)
 takes-comes returns storage s p (up.Cleared r) = reset_cleared-comes (Held s) s s.hold s.hold.phase p r
 takes-comes returns storage s p (up.Notice b) =
-    notice-comes (Held s) s (record s { hold = record s.hold { known = b } }) b (nat_lt s.hold.known b) (is_offered_or_held s.hold.phase && has_any s.waiting s.begun s.suspended) refl
+    notice-comes (Held s) s (record s { hold = record s.hold { known_restarts = b } }) b (nat_lt s.hold.known_restarts b) (is_offered_or_held s.hold.phase && has_any s.waiting s.begun s.suspended) refl
     (λ e. (and_parts (is_offered_or_held s.hold.phase) (has_any s.waiting s.begun s.suspended) e).1)
 takes-comes returns storage s p (up.Attn a status) = attend-comes (Held s) s s.hold s.hold.phase p a status (may_take_attention s) refl

@@ -15,7 +15,7 @@ use Rattle.subchannel_model.specs.declared.state.ActiveProgram.{ActiveProgram}
 use Rattle.subchannel_model.specs.declared.state.Program.{Program}
 use Rattle.subchannel_model.specs.declared.state.ProgramPosition.{ProgramPosition}
 use Rattle.subchannel_model.specs.declared.state.SubchannelState.{SubchannelState}
-use Rattle.subchannel_model.specs.declared.status.Shown.{Shown}
+use Rattle.subchannel_model.specs.declared.status.StatusRow.{StatusRow}
 use Rattle.subchannel_model.specs.Causes.{intermediate, row_of, with_status, without_begun, without_waiting, programs_after_end, with_cause, scsw_joined}
 use Rattle.subchannel_model.specs.Ends.{end_shown, last_shown, work_shown}
 use Rattle.subchannel_model.specs.Halt.{shows_end}
@@ -77,7 +77,7 @@ keeps-stands k y p t =
     }
 
 -- an intermediate status shows no end
-joined-end : (scsw : Scsw) (shown : Shown) (p i a pr s : Bool) → (p && (not i || (a || (pr || s)))) ≡ false →
+joined-end : (scsw : Scsw) (shown : StatusRow) (p i a pr s : Bool) → (p && (not i || (a || (pr || s)))) ≡ false →
     shows_end (scsw_with_status (record scsw { status = record { alert = a; intermediate = i; primary = pr; secondary = s; pending = p } }) (record shown { conditions = intermediate })).status ≡ false
 joined-end scsw shown false i a pr s e = refl
 joined-end scsw shown true false a pr s e = absurd (cc e)
@@ -86,7 +86,7 @@ joined-end scsw shown true true false true s e = absurd (cc e)
 joined-end scsw shown true true false false true e = absurd (cc e)
 joined-end scsw shown true true false false false e = refl
 
-made-end : (enabled : Bool) (scsw : Scsw) (shown : Shown) → shows_end scsw.status ≡ false →
+made-end : (enabled : Bool) (scsw : Scsw) (shown : StatusRow) → shows_end scsw.status ≡ false →
     shows_end (scsw_made enabled (scsw_joined enabled scsw scsw) (record shown { conditions = intermediate })).status ≡ false
 made-end true scsw shown e =
     let st : StatusControl = scsw.status in joined-end scsw shown st.pending st.intermediate st.alert st.primary st.secondary e
@@ -142,7 +142,7 @@ end-active : (scsw : Scsw) (b : ActiveProgram) (w : Option Program) (status : De
 end-active scsw b w status more false e = (refl, refl)
 end-active scsw b w status more true e = absurd (cc e)
 
-after_end-stands : (s : SubchannelState) (b : ActiveProgram) (scsw : Scsw) (shown : Shown) (last : Bool) → Stands (seen s) → s.begun ≡ Some b →
+after_end-stands : (s : SubchannelState) (b : ActiveProgram) (scsw : Scsw) (shown : StatusRow) (last : Bool) → Stands (seen s) → s.begun ≡ Some b →
     (last ≡ false → ((with_status (record (programs_after_end s b last) { scsw = scsw }) shown).scsw.activity.device_active ≡ true)
     × ((with_status (record (programs_after_end s b last) { scsw = scsw }) shown).scsw.activity.clear_pending ≡ false)) →
     Stands (seen (with_status (record (programs_after_end s b last) { scsw = scsw }) shown))
@@ -159,7 +159,7 @@ after_end-stands s b scsw shown false t e f = record {
     chained : (x : ActiveProgram) → Some (Rattle.subchannel_model.specs.Ends.has_shown b) ≡ Some x → x.transfer.unchained ≡ false → ⊥
     chained x i u = let same : Rattle.subchannel_model.specs.Ends.has_shown b ≡ x = cc i in cc (sym u ∙ ap (λ (y : ActiveProgram). y.transfer.unchained) (sym same))
 
-begun-stands : (H : Type 0) (s : SubchannelState) (scsw : Scsw) (shown : Shown) (o : Option ActiveProgram) → H → Stands (seen s) → s.begun ≡ o → IsGoing H (seen s) →
+begun-stands : (H : Type 0) (s : SubchannelState) (scsw : Scsw) (shown : StatusRow) (o : Option ActiveProgram) → H → Stands (seen s) → s.begun ≡ o → IsGoing H (seen s) →
     Stands (seen (with_status (record (without_begun o s) { scsw = scsw }) shown))
 begun-stands H s scsw shown None h t e g = empty-stands _ refl e refl
 begun-stands H s scsw shown (Some b) h t e g = empty-stands _ (alone g) refl (t.begun b e).1
@@ -171,7 +171,7 @@ begun-stands H s scsw shown (Some b) h t e g = empty-stands _ (alone g) refl (t.
           | inr p ↦ (t.chains p.0 p.1 p.2).1
         ]
 
-waiting-stands : (s : SubchannelState) (scsw : Scsw) (shown : Shown) (w : Option Program) → Stands (seen s) → s.waiting ≡ w → s.begun ≡ None →
+waiting-stands : (s : SubchannelState) (scsw : Scsw) (shown : StatusRow) (w : Option Program) → Stands (seen s) → s.waiting ≡ w → s.begun ≡ None →
     Stands (seen (with_status (record (without_waiting w s) { scsw = scsw }) shown))
 waiting-stands s scsw shown None t e none = empty-stands _ e none refl
 waiting-stands s scsw shown (Some w) t e none = empty-stands _ refl none (t.alone (ap (λ (x : Option Program). is_some x) e))

@@ -244,7 +244,7 @@ takes-uses returns storage s p (up.End t n status more) =
     if-uses (end_up x) s (is_on s.hold.phase t) (ends_at_work storage s s.begun x) (signal_ignored s) (end-uses storage s s.begun x) refl
 takes-uses returns storage s p (up.Released t) = refl
 takes-uses returns storage s p (up.Cleared r) = reset-uses s (hold_takes s.hold p (up.Cleared r) false)
-takes-uses returns storage s p (up.Notice b) = notice-same s b (nat_lt s.hold.known b)
+takes-uses returns storage s p (up.Notice b) = notice-same s b (nat_lt s.hold.known_restarts b)
 takes-uses returns storage s p (up.Attn a status) =
     let step : Option HoldStep = hold_takes s.hold p (up.Attn a status) (may_take_attention s) in
     attention-same (hold_outcome s step).state ((outcome_of step).taken && not (status.0 == 0x20))

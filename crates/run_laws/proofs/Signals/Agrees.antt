@@ -172,7 +172,7 @@ up-agrees u returns storage sub path =
     (front-agrees u returns storage sub path (slice_get (queue sub.wires.up path) 0)) tt
 
 -- what is chosen
-held-agrees : (phase : HoldPhase) (t : ℕ) (u : UnitState) (side : Side) → IsFitFor (Halts t 0) (record { phase = phase; seen = 0; known = 0; reset_path = None; first_path = None; single_path = false }) →
+held-agrees : (phase : HoldPhase) (t : ℕ) (u : UnitState) (side : Side) → IsFitFor (Halts t 0) (record { phase = phase; seen = 0; known_restarts = 0; reset_path = None; first_path = None; single_path = false }) →
     AgreeAt phase u side → IsHolderOr (holding_of u) side t
 held-agrees (hold.On v q c) t u side fit a = subst (λ (n : ℕ). IsHolderOr (holding_of u) side n) (sym fit) (on-holder v q c u side a)
 held-agrees (hold.Away v) t u side fit a = subst (λ (n : ℕ). IsHolderOr (holding_of u) side n) (sym fit) (away-holder v u side a)
@@ -183,7 +183,7 @@ IsChosenAgreed u side t = AgreesIn side t.reply (holding_of u)
 
 choose-agrees : (u : UnitState) (sub : Subchannel) (c : Chosen) → IsFitFor c sub.state.hold → AgreeAt sub.state.hold.phase u sub.setup.side → IfOk (choose_sub sub c) (IsChosenAgreed u sub.setup.side)
 choose-agrees u sub (Resets r path) fit a =
-    if-ok (IsChosenAgreed u sub.setup.side) (finds_full sub.wires.down (carried_by sub (Some (record { path = path; signal = down.Reset r sub.state.hold.known })))) _ _ tt tt
+    if-ok (IsChosenAgreed u sub.setup.side) (finds_full sub.wires.down (carried_by sub (Some (record { path = path; signal = down.Reset r sub.state.hold.known_restarts })))) _ _ tt tt
 choose-agrees u sub (Halts t path) fit a =
     if-ok (IsChosenAgreed u sub.setup.side) (finds_full sub.wires.down (carried_by sub (Some (record { path = path; signal = down.Halt t })))) _ _ tt
     (held-agrees sub.state.hold.phase t u sub.setup.side fit a)

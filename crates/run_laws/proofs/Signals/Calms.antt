@@ -116,11 +116,11 @@ choose-calm : (sub : Subchannel) (c : Chosen) → IfOk (choose_sub sub c) (IsCal
 choose-calm sub Idle = still sub
 choose-calm sub (Resets r path) =
     let stays : Stays sub.state.hold.phase (reset_sent sub.state path).hold.phase = inl (reset-stays sub.state.hold sub.state.hold.phase path) in
-    if-ok (IsCalmResult sub) (finds_full sub.wires.down (carried_by sub (Some (record { path = path; signal = down.Reset r sub.state.hold.known })))) _ _ tt
+    if-ok (IsCalmResult sub) (finds_full sub.wires.down (carried_by sub (Some (record { path = path; signal = down.Reset r sub.state.hold.known_restarts })))) _ _ tt
     (record {
       setup = refl;
       bound = λ f o l b. bound-quiet sub.state.hold.phase (reset_sent sub.state path).hold.phase sub.wires.up sub.wires.down f o sub.state.pmcw.available
-          (Some (record { path = path; signal = down.Reset r sub.state.hold.known })) tt stays b;
+          (Some (record { path = path; signal = down.Reset r sub.state.hold.known_restarts })) tt stays b;
       ties = λ k t. stays-ties sub.state.hold.phase (reset_sent sub.state path).hold.phase k stays t;
     })
 choose-calm sub PerformsClear = same-calm sub (with_cause sub.state cause.ClearDone) (cause-same sub.state cause.ClearDone)
@@ -157,7 +157,7 @@ halt-right other t p k h e = absurd h
 
 choose-halts : (sub : Subchannel) (c : Chosen) (k : SeenPaths) → IsHaltAt sub.state.hold.phase c → Ties sub.state.hold.phase k → IfOk (choose_sub sub c) (λ t. IsHaltRight t.reply k)
 choose-halts sub (Resets r path) k h e =
-    if-ok (λ (t : SubResult). IsHaltRight t.reply k) (finds_full sub.wires.down (carried_by sub (Some (record { path = path; signal = down.Reset r sub.state.hold.known })))) _ _ tt tt
+    if-ok (λ (t : SubResult). IsHaltRight t.reply k) (finds_full sub.wires.down (carried_by sub (Some (record { path = path; signal = down.Reset r sub.state.hold.known_restarts })))) _ _ tt tt
 choose-halts sub (Halts t path) k h e =
     if-ok (λ (t : SubResult). IsHaltRight t.reply k) (finds_full sub.wires.down (carried_by sub (Some (record { path = path; signal = down.Halt t })))) _ _ tt
     (halt-right sub.state.hold.phase t path k h e)

@@ -110,7 +110,7 @@ if-ok P false x y e f = f
 pub choose-still : (sub : Subchannel) (c : Chosen) → IfOk (choose_sub sub c) (λ t. IsStill sub.state t.sub.state)
 choose-still sub Idle = refl
 choose-still sub (Resets r path) =
-    if-ok (λ (t : SubResult). IsStill sub.state t.sub.state) (finds_full sub.wires.down (carried_by sub (Some (record { path = path; signal = down.Reset r sub.state.hold.known })))) _ _ tt refl
+    if-ok (λ (t : SubResult). IsStill sub.state t.sub.state) (finds_full sub.wires.down (carried_by sub (Some (record { path = path; signal = down.Reset r sub.state.hold.known_restarts })))) _ _ tt refl
 choose-still sub PerformsClear = cause-still sub.state cause.ClearDone
 choose-still sub (Halts t path) =
     if-ok (λ (t : SubResult). IsStill sub.state t.sub.state) (finds_full sub.wires.down (carried_by sub (Some (record { path = path; signal = down.Halt t })))) _ _ tt refl
@@ -255,7 +255,7 @@ takes-left returns storage s p (up.End t n status more) =
     if-left p (end_up x) s (is_on s.hold.phase t) (ends_at_work storage s s.begun x) (signal_ignored s) (λ e. end-left storage s s.begun x) refl
 takes-left returns storage s p (up.Released t) = refl
 takes-left returns storage s p (up.Cleared r) = reset-left s (hold_takes s.hold p (up.Cleared r) false)
-takes-left returns storage s p (up.Notice b) = notice-left s b (nat_lt s.hold.known b)
+takes-left returns storage s p (up.Notice b) = notice-left s b (nat_lt s.hold.known_restarts b)
 takes-left returns storage s p (up.Attn a status) =
     let step : Option HoldStep = hold_takes s.hold p (up.Attn a status) (may_take_attention s) in
     attention-still (hold_outcome s step).state ((outcome_of step).taken && not (status.0 == 0x20))

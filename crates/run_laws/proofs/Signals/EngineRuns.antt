@@ -154,7 +154,7 @@ if-ok P false x y e f = f
 offer-idle : (k : Seen) (s : State) (j : SubSeen) (sub : Subchannel) (choice : Option ℕ) (c : Chosen) → IsChoice (paths_to_choose s.subs sub) choice → IsFitFor c sub.state.hold → IsOffer choice c →
     AreSeen k s → IsTied k.up j sub → IfOk (choose_sub (marked_sub sub choice) c) (λ t. IsOfferRight k t.reply j)
 offer-idle k s j sub choice (Resets r path) x fits o tied tie =
-    if-ok (λ (t : SubResult). IsOfferRight k t.reply j) (finds_full sub.wires.down (carried_by sub (Some (record { path = path; signal = down.Reset r sub.state.hold.known })))) _ _ tt tt
+    if-ok (λ (t : SubResult). IsOfferRight k t.reply j) (finds_full sub.wires.down (carried_by sub (Some (record { path = path; signal = down.Reset r sub.state.hold.known_restarts })))) _ _ tt tt
 offer-idle k s j sub choice (Halts t path) x fits o tied tie =
     if-ok (λ (t : SubResult). IsOfferRight k t.reply j) (finds_full sub.wires.down (carried_by sub (Some (record { path = path; signal = down.Halt t })))) _ _ tt tt
 offer-idle k s j sub choice (Offers c path) x fits o tied tie =

@@ -80,7 +80,7 @@ answer-hands u p t c x progress.New (answer.Absorbed count) e = tt
 answer-hands u p t c x progress.New (answer.Supplied bytes) e = tt
 answer-hands u p t c x progress.New answer.Again e = tt
 answer-hands u p t c x progress.Working answer.Begins e = tt
-answer-hands u p t c x progress.Working (answer.Absorbed count) e = absorbed-hands u p t c x x.given count e
+answer-hands u p t c x progress.Working (answer.Absorbed count) e = absorbed-hands u p t c x x.unabsorbed count e
 answer-hands u p t c x progress.Working (answer.Supplied bytes) e =
     if-hands u (answer.Supplied bytes) (is_to_supply x && nat_le (length bytes) (most_of x)) _ None (hand-next u x (with_supplied x bytes) (reported (answer.Supplied bytes)) e refl) tt
 answer-hands u p t c x progress.Working answer.Again e = again-hands u p t c x x.unanswered e

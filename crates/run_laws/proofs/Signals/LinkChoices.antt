@@ -207,7 +207,7 @@ settled-tied is_up k sub n tie = record {
     ];
     asked = tie.held.asked;
     first = tie.held.first;
-    known = tie.held.known;
+    known_restarts = tie.held.known_restarts;
     drawn = tie.held.drawn;
     due = tie.held.due;
     single = tie.held.single;
@@ -297,7 +297,7 @@ reset-held k h n r path e l tie =
       stands = inl (sym (ap (λ (y : HoldPhase). link_at y (Some path)) e));
       asked = tie.asked;
       first = tie.first;
-      known = tie.known;
+      known_restarts = tie.known_restarts;
       drawn = l;
       due = subst (λ (y : HoldPhase). IsDue r n y (Some path)) (sym e) tt;
       single = subst (λ (y : HoldPhase). IsByFirst y h.single_path h.first_path) (sym e) tt;
@@ -324,7 +324,7 @@ choose-tied is_up k sub choice (Resets r path) g tie =
     let parts = unsent-parts sub.state.hold.phase sub.state.hold.reset_path r g.chosen.0 in
     let above = due-number k.drawn sub.state.drawn r sub.state.hold.phase sub.state.hold.reset_path parts.0 parts.1 tie.held.due in
     let rises : k.drawn < r = above.0 in
-    if-ok (IsChoiceTied is_up k) (finds_full sub.wires.down (carried_by sub (Some (record { path = path; signal = down.Reset r sub.state.hold.known })))) _ _ tt
+    if-ok (IsChoiceTied is_up k) (finds_full sub.wires.down (carried_by sub (Some (record { path = path; signal = down.Reset r sub.state.hold.known_restarts })))) _ _ tt
     (record {
       right = (
         (
@@ -334,7 +334,7 @@ choose-tied is_up k sub choice (Resets r path) g tie =
         ),
         λ link has. tt,
       );
-      tied = sent-tied is_up k (record k { link = Reset_sent r path; doubt = false; drawn = r }) sub (reset_sent sub.state path) path (down.Reset r sub.state.hold.known) refl (omega (arith, rises)) refl
+      tied = sent-tied is_up k (record k { link = Reset_sent r path; doubt = false; drawn = r }) sub (reset_sent sub.state path) path (down.Reset r sub.state.hold.known_restarts) refl (omega (arith, rises)) refl
           (reset-held k sub.state.hold sub.state.drawn r path parts.0 above.1 tie.held) (omega arith) tie;
     })
 choose-tied is_up k sub choice PerformsClear g tie = record { right = (tt, not-due is_up k sub g.due tie); tied = cause-tied is_up k sub cause.ClearDone g.due tie }
@@ -365,5 +365,5 @@ choose-tied is_up k sub choice (Offers c path) g tie =
       right = ((nowhere, omega (arith, below), is-up is_up k sub path tie (g.available path g.chosen)), λ link has. absurd (cc (sym nowhere ∙ link)));
       tied = sent-tied is_up k (record k { link = Offered (sub.state.drawn + 1) path; doubt = false; drawn = sub.state.drawn + 1 }) sub x path (down.Select (sub.state.drawn + 1)) refl
           (omega (arith, below)) refl
-          (record { stands = inl refl; asked = tie.held.asked; first = tie.held.first; known = tie.held.known; drawn = omega arith; due = tt; single = tt }) tt tie;
+          (record { stands = inl refl; asked = tie.held.asked; first = tie.held.first; known_restarts = tie.held.known_restarts; drawn = omega arith; due = tt; single = tt }) tt tie;
     })

@@ -54,7 +54,7 @@ pub record IsHeldAs (k : SubSeen) (h : HoldState) (n : ℕ) : Type 0 where
   pub stands : Stands k h.phase h.reset_path
   pub asked : k.asked ≡ h.seen
   pub first : k.first ≡ h.first_path
-  pub known : k.restarts ≡ h.known
+  pub known_restarts : k.restarts ≡ h.known_restarts
   pub drawn : k.drawn ≤ n
   pub due : IsDue k.drawn n h.phase h.reset_path
   pub single : IsByFirst h.phase h.single_path h.first_path
@@ -132,7 +132,7 @@ freed p x k h n link phase tie e due single = record {
   stands = inl e;
   asked = tie.asked;
   first = tie.first;
-  known = tie.known;
+  known_restarts = tie.known_restarts;
   drawn = tie.drawn;
   due = due;
   single = single;
@@ -230,7 +230,7 @@ reset-turned p k h n r u (Some path) below tie =
     (λ e. record {
       taken = sym (sent-link k r u path tie.stands ∙ e);
       sent = tt;
-      after = record { stands = inl refl; asked = tie.asked; first = tie.first; known = tie.known; drawn = tie.drawn; due = tt; single = tt };
+      after = record { stands = inl refl; asked = tie.asked; first = tie.first; known_restarts = tie.known_restarts; drawn = tie.drawn; due = tt; single = tt };
     })
     (λ e. sym (sent-link k r u path tie.stands ∙ e)) tie
 
@@ -273,7 +273,7 @@ back-away p k h n t u c true single e tie =
     record {
       taken = back-taken k p (hold.Away t) h.reset_path h.seen u c true tie.stands tie.asked (sym e);
       sent = (ap (λ (m : ℕ). up.Back m c) same, certain k (hold.Away t) h.reset_path (λ r f. absurd (cc f)) tie.stands, above-asked k h.seen c tie.asked both.1, refl);
-      after = record { stands = inl refl; asked = refl; first = tie.first; known = tie.known; drawn = tie.drawn; due = tt; single = single refl };
+      after = record { stands = inl refl; asked = refl; first = tie.first; known_restarts = tie.known_restarts; drawn = tie.drawn; due = tt; single = single refl };
     }
 back-away p k h n t u c false single e tie =
     let both = and_parts (u == t) (nat_lt h.seen c) e in
@@ -285,7 +285,7 @@ back-away p k h n t u c false single e tie =
         stands = inl (certain k (hold.Away t) h.reset_path (λ r f. absurd (cc f)) tie.stands);
         asked = refl;
         first = tie.first;
-        known = tie.known;
+        known_restarts = tie.known_restarts;
         drawn = tie.drawn;
         due = tt;
         single = tt;
@@ -310,7 +310,7 @@ back-turned p k h n (hold.On t q d) u c may single tie =
         stands = inl (certain k (hold.On t q d) h.reset_path (λ r f. absurd (cc f)) tie.stands);
         asked = refl;
         first = tie.first;
-        known = tie.known;
+        known_restarts = tie.known_restarts;
         drawn = tie.drawn;
         due = tt;
         single = tie.single;

@@ -131,7 +131,7 @@ opened-tied sets units known setup placed =
       shown = λ p chpid at.
           let within : p < length paths = slice_get_within paths p chpid at in
           get_or-replicate 8 p true false (omega (arith, within, most)) ∙ sym (all-at (has_number known) paths p chpid all.0 at);
-      held = record { stands = inl refl; asked = refl; first = refl; known = refl; drawn = omega arith; due = tt; single = tt };
+      held = record { stands = inl refl; asked = refl; first = refl; known_restarts = refl; drawn = omega arith; due = tt; single = tt };
       downs = none-wait (λ p d. IsSeenDown 0 d) 8;
       ups = none-wait (λ p x. IsSeenUp 0 x) 8;
     }

@@ -13,7 +13,7 @@ use Rattle.run_laws.proofs.Signals.LinkHolds.{Stands, link_at, IsHeldAs, phased}
 pub reset-held : (k : SubSeen) (h : HoldState) (n : ℕ) → IsHeldAs k h n → IsHeldAs (sub_reset k) (resetting h (n + 1)) (n + 1)
 reset-held k h n tie =
     let l : k.drawn ≤ n = tie.drawn in
-    record { stands = inl refl; asked = tie.asked; first = tie.first; known = tie.known; drawn = omega (arith, l); due = (omega (arith, l), omega arith); single = tt }
+    record { stands = inl refl; asked = tie.asked; first = tie.first; known_restarts = tie.known_restarts; drawn = omega (arith, l); due = (omega (arith, l), omega arith); single = tt }
 
 -- the hold as it was
 abbrev with_doubt : SubSeen → Bool → SubSeen
@@ -27,7 +27,7 @@ kept-held k h n b f tie = record {
   ];
   asked = tie.asked;
   first = tie.first;
-  known = tie.known;
+  known_restarts = tie.known_restarts;
   drawn = tie.drawn;
   due = tie.due;
   single = tie.single;
@@ -41,7 +41,7 @@ doubtful-held k h n t b now e tie =
       stands = inr (record { doubt = now; number = t; apart = e; reset = n + 1; is_reset = refl; unsent = refl });
       asked = tie.asked;
       first = tie.first;
-      known = tie.known;
+      known_restarts = tie.known_restarts;
       drawn = omega (arith, l);
       due = (omega (arith, l), omega arith);
       single = tt;

@@ -309,7 +309,7 @@ goes-on-after k h n t q c link tie e = record {
   stands = inl (e ∙ certain k (hold.On t q c) h.reset_path (λ r f. absurd (cc f)) tie.stands);
   asked = tie.asked;
   first = tie.first;
-  known = tie.known;
+  known_restarts = tie.known_restarts;
   drawn = tie.drawn;
   due = tt;
   single = tie.single;
@@ -325,18 +325,18 @@ meets-after p _ _ _ _ _ k h n (Begins t q sent commands) steady tie =
       stands = inl (commands-link t q sent _ commands ∙ ap (λ (l : Link). accepted l) was);
       asked = refl;
       first = ap engaged_by was;
-      known = tie.known;
+      known_restarts = tie.known_restarts;
       drawn = tie.drawn;
       due = tt;
       single = λ e. refl;
     }
 meets-after p _ _ _ _ _ k h n (Declines t q) steady tie =
     let was : k.link ≡ Offered t q = certain k (hold.Offer t q) h.reset_path (λ r f. absurd (cc f)) tie.stands in
-    record { stands = inl refl; asked = refl; first = ap engaged_by was; known = tie.known; drawn = tie.drawn; due = tt; single = tt }
+    record { stands = inl refl; asked = refl; first = ap engaged_by was; known_restarts = tie.known_restarts; drawn = tie.drawn; due = tt; single = tt }
 meets-after p _ _ _ _ _ k h n (Moves t c m s load sent answers) steady tie = goes-on-after k h n t p c (link_sent sent k.link) tie (data-links t p c sent k.link answers)
 meets-after p _ _ _ _ _ k h n (Ends x t q c sent commands) steady tie = goes-on-after k h n t q c (link_sent sent k.link) tie (commands-link t p sent k.link commands)
 meets-after p _ _ _ _ _ k h n (Ends_last x t q c) steady tie =
-    record { stands = inl refl; asked = tie.asked; first = tie.first; known = tie.known; drawn = tie.drawn; due = tt; single = tt }
+    record { stands = inl refl; asked = tie.asked; first = tie.first; known_restarts = tie.known_restarts; drawn = tie.drawn; due = tt; single = tt }
 meets-after p _ _ _ _ _ k h n (Leaves t q c) steady tie = absurd steady
 meets-after p _ _ _ _ _ k h n (Grants t c) steady tie = absurd steady
 
@@ -369,19 +369,19 @@ notice-after : (k : SubSeen) (s : SubchannelState) (b : ℕ) (shows : Bool) → 
     IsHeldAs (sub_met (reply.Up (up.Notice b) true None) k) (reset_with (with_known s b) shows).hold (reset_with (with_known s b) shows).drawn
 notice-after k s b true tie =
     let l : k.drawn ≤ s.drawn = tie.drawn in
-    record { stands = inl refl; asked = tie.asked; first = tie.first; known = refl; drawn = omega (arith, l); due = (omega (arith, l), omega arith); single = tt }
+    record { stands = inl refl; asked = tie.asked; first = tie.first; known_restarts = refl; drawn = omega (arith, l); due = (omega (arith, l), omega arith); single = tt }
 notice-after k s b false tie =
     let l : k.drawn ≤ s.drawn = tie.drawn in
-    record { stands = inl refl; asked = tie.asked; first = tie.first; known = refl; drawn = omega (arith, l); due = (omega (arith, l), omega arith); single = tt }
+    record { stands = inl refl; asked = tie.asked; first = tie.first; known_restarts = refl; drawn = omega (arith, l); due = (omega (arith, l), omega arith); single = tt }
 
-notice-turned : (p : ℕ) (k : SubSeen) (s : SubchannelState) (b : ℕ) (more : Bool) → nat_lt s.hold.known b ≡ more → IsHeldAs k s.hold s.drawn →
+notice-turned : (p : ℕ) (k : SubSeen) (s : SubchannelState) (b : ℕ) (more : Bool) → nat_lt s.hold.known_restarts b ≡ more → IsHeldAs k s.hold s.drawn →
     IsTurn p (up.Notice b) k (if more then signal_taken (reset_for (with_known s b)) else signal_ignored s)
 notice-turned p k s b true e tie = record {
-  taken = sym (ap (λ (m : ℕ). nat_lt m b) tie.known ∙ e);
+  taken = sym (ap (λ (m : ℕ). nat_lt m b) tie.known_restarts ∙ e);
   sent = tt;
   after = notice-after k s b (is_offered_or_held s.hold.phase && has_any s.waiting s.begun s.suspended) tie;
 }
-notice-turned p k s b false e tie = ignored p (up.Notice b) k s.hold s.drawn (sym (ap (λ (m : ℕ). nat_lt m b) tie.known ∙ e)) tie
+notice-turned p k s b false e tie = ignored p (up.Notice b) k s.hold s.drawn (sym (ap (λ (m : ℕ). nat_lt m b) tie.known_restarts ∙ e)) tie
 
 -- the number of a Cleared is one that was seen to be sent
 abbrev pub IsSeenUp : ℕ → Up → Type 0
@@ -412,7 +412,7 @@ takes-turned returns storage s p (up.End t n status more) k single seen tie =
 takes-turned returns storage s p (up.Released t) k single seen tie = released-turned p k s.hold s.drawn s.hold.phase t tie
 takes-turned returns storage s p (up.Cleared r) k single seen tie =
     cleared-step p (up.Cleared r) k s (hold_takes s.hold p (up.Cleared r) false) (cleared-turned p k s.hold s.drawn s.hold.phase r seen tie)
-takes-turned returns storage s p (up.Notice b) k single seen tie = notice-turned p k s b (nat_lt s.hold.known b) refl tie
+takes-turned returns storage s p (up.Notice b) k single seen tie = notice-turned p k s b (nat_lt s.hold.known_restarts b) refl tie
 takes-turned returns storage s p (up.Attn a status) k single seen tie =
     let step : Option HoldStep = hold_takes s.hold p (up.Attn a status) (may_take_attention s) in
     let shows : Bool = (outcome_of step).taken && not (status.0 == 0x20) in

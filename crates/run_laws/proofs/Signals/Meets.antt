@@ -355,7 +355,7 @@ reset-gone s false = tt
 
 notice-met : (p b : ℕ) (s : SubchannelState) → IsMet p (up.Notice b) s (takes_notice s b)
 notice-met p b s =
-    if-met p (up.Notice b) s (nat_lt s.hold.known b) (signal_taken (reset_for (with_known s b))) (signal_ignored s)
+    if-met p (up.Notice b) s (nat_lt s.hold.known_restarts b) (signal_taken (reset_for (with_known s b))) (signal_ignored s)
     (λ e. Turns (up.Notice b) s.hold.phase _ None tt
     (inr (reset-gone (with_known s b) (is_offered_or_held s.hold.phase && has_any s.waiting s.begun s.suspended))) tt)
     (ignored p (up.Notice b) s)

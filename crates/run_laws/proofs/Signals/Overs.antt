@@ -313,7 +313,7 @@ same-at returns storage s h t q p (up.Released u) = inl refl
 same-at returns storage s h t q p (up.Cleared r) = inl refl
 same-at returns storage s h t q p (up.Notice b) =
     let x : SubchannelState = with_hold s h (hold.Offer t q) in
-    if-same x (nat_lt h.known b) (signal_taken (reset_for (with_known x b))) (signal_ignored x)
+    if-same x (nat_lt h.known_restarts b) (signal_taken (reset_for (with_known x b))) (signal_ignored x)
     (inr (λ v w e. gone-offer (reset_for (with_known x b)).hold.phase v w (reset-gone (with_known x b) (true && has_any s.waiting s.begun s.suspended)) e)) (inl refl)
 same-at returns storage s h t q p (up.Attn a status) = inl refl
 

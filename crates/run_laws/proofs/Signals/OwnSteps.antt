@@ -148,7 +148,7 @@ choose-owned : (over : Bool) (sub : Subchannel) (c : Chosen) → IsChosenBy sub.
     IfOk (choose_sub sub c) (IsTurn over sub)
 choose-owned over sub Idle m n k = record { setup = refl; owned = k }
 choose-owned over sub (Resets r path) m n k =
-    if-ok (IsTurn over sub) (finds_full sub.wires.down (carried_by sub (Some (record { path = path; signal = down.Reset r sub.state.hold.known })))) _ _ tt
+    if-ok (IsTurn over sub) (finds_full sub.wires.down (carried_by sub (Some (record { path = path; signal = down.Reset r sub.state.hold.known_restarts })))) _ _ tt
     (record {
       setup = refl;
       owned = record { within = k.within; tied = not-offered over sub.state (reset_sent sub.state path) n (reset-stays sub.state.hold sub.state.hold.phase path) };
@@ -183,7 +183,7 @@ choose-owned over sub (Offers c path) m n k =
 
 pub choose-setup : (sub : Subchannel) (c : Chosen) → IfOk (choose_sub sub c) (λ t. t.sub.setup ≡ sub.setup)
 choose-setup sub (Resets r path) =
-    if-ok (λ (t : SubResult). t.sub.setup ≡ sub.setup) (finds_full sub.wires.down (carried_by sub (Some (record { path = path; signal = down.Reset r sub.state.hold.known })))) _ _ tt refl
+    if-ok (λ (t : SubResult). t.sub.setup ≡ sub.setup) (finds_full sub.wires.down (carried_by sub (Some (record { path = path; signal = down.Reset r sub.state.hold.known_restarts })))) _ _ tt refl
 choose-setup sub (Halts t path) = if-ok (λ (t : SubResult). t.sub.setup ≡ sub.setup) (finds_full sub.wires.down (carried_by sub (Some (record { path = path; signal = down.Halt t })))) _ _ tt refl
 choose-setup sub (Offers c path) =
     if-ok (λ (t : SubResult). t.sub.setup ≡ sub.setup) (finds_full sub.wires.down (carried_by sub (Some (record { path = path; signal = down.Select (sub.state.drawn + 1) })))) _ _ tt refl

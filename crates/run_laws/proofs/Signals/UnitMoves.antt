@@ -167,7 +167,7 @@ answer-others u side p t c x progress.New (answer.Absorbed count) = stays u side
 answer-others u side p t c x progress.New (answer.Supplied bytes) = stays u side
 answer-others u side p t c x progress.New answer.Again = stays u side
 answer-others u side p t c x progress.Working answer.Begins = stays u side
-answer-others u side p t c x progress.Working (answer.Absorbed count) = absorbed-others u side p t c x x.given count
+answer-others u side p t c x progress.Working (answer.Absorbed count) = absorbed-others u side p t c x x.unabsorbed count
 answer-others u side p t c x progress.Working (answer.Supplied bytes) =
     if-others u side (is_to_supply x && nat_le (length bytes) (most_of x)) _ None (λ e. data-others u side _) (stays u side)
 answer-others u side p t c x progress.Working answer.Again = again-others u side p t c x x.unanswered

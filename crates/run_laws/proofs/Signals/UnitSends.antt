@@ -178,7 +178,7 @@ answer-acts side u p t c x progress.New (answer.Absorbed count) on = idles side 
 answer-acts side u p t c x progress.New (answer.Supplied bytes) on = idles side u
 answer-acts side u p t c x progress.New answer.Again on = idles side u
 answer-acts side u p t c x progress.Working answer.Begins on = idles side u
-answer-acts side u p t c x progress.Working (answer.Absorbed count) on = absorbed-acts side u p t c x x.given count on
+answer-acts side u p t c x progress.Working (answer.Absorbed count) on = absorbed-acts side u p t c x x.unabsorbed count on
 answer-acts side u p t c x progress.Working (answer.Supplied bytes) on =
     if-acts side u (is_to_supply x && nat_le (length bytes) (most_of x)) _ None (λ e. data-sends side u p t c _ _ _ _ on) (idles side u)
 answer-acts side u p t c x progress.Working answer.Again on = again-acts side u p t c x x.unanswered on

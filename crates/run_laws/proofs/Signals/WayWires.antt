@@ -87,8 +87,8 @@ IsCarried sub t = Carries sub t.sub
 choose-plain : (sub : Subchannel) (c : Chosen) → IfOk (choose_sub sub c) (IsCarried sub)
 choose-plain sub Idle = Keeps sub refl refl
 choose-plain sub (Resets r path) =
-    if-ok (IsCarried sub) (finds_full sub.wires.down (carried_by sub (Some (record { path = path; signal = down.Reset r sub.state.hold.known })))) _ _ tt
-    (Sends _ sub.state.pmcw.available (Some (record { path = path; signal = down.Reset r sub.state.hold.known })) refl (meets.Resets r sub.state.hold.known) refl refl)
+    if-ok (IsCarried sub) (finds_full sub.wires.down (carried_by sub (Some (record { path = path; signal = down.Reset r sub.state.hold.known_restarts })))) _ _ tt
+    (Sends _ sub.state.pmcw.available (Some (record { path = path; signal = down.Reset r sub.state.hold.known_restarts })) refl (meets.Resets r sub.state.hold.known_restarts) refl refl)
 choose-plain sub (Halts t path) =
     if-ok (IsCarried sub) (finds_full sub.wires.down (carried_by sub (Some (record { path = path; signal = down.Halt t })))) _ _ tt
     (Sends _ sub.state.pmcw.available (Some (record { path = path; signal = down.Halt t })) refl (meets.Halts t) refl refl)

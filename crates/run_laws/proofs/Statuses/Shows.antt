@@ -27,7 +27,7 @@ use Rattle.subchannel_model.specs.declared.signals.EndSignal.{EndSignal}
 use Rattle.subchannel_model.specs.declared.state.ActiveProgram.{ActiveProgram}
 use Rattle.subchannel_model.specs.declared.state.Program.{Program}
 use Rattle.subchannel_model.specs.declared.state.SubchannelState.{SubchannelState}
-use Rattle.subchannel_model.specs.declared.status.Shown.{Shown}
+use Rattle.subchannel_model.specs.declared.status.StatusRow.{StatusRow}
 use Rattle.subchannel_model.specs.declared.cause.StatusCause.TheVariants as cause
 use Rattle.subchannel_model.specs.Status.{no_device_status, no_subchannel_status, with_joined, scsw_made, serials_made}
 use Rattle.subchannel_model.specs.Ends.{has_status_modifier, chains_command, last_shown, end_shown, channel_end_shown}
@@ -55,7 +55,7 @@ use Rattle.run_laws.proofs.Traces.HoldMeets.{chains-facts, ending, next-went, en
 abbrev pub HasPosition : Scsw → ℕ → ℕ → Type 0
 HasPosition scsw address count = (scsw.command_address ≡ address) × (scsw.count ≡ count)
 
-joined-count : (b : Bool) (scsw : Scsw) (shown : Shown) →
+joined-count : (b : Bool) (scsw : Scsw) (shown : StatusRow) →
     HasPosition
     (if b then with_joined scsw scsw.status scsw.device_status scsw.subchannel_status shown
     else with_joined scsw no_status no_device_status no_subchannel_status shown)
@@ -63,7 +63,7 @@ joined-count : (b : Bool) (scsw : Scsw) (shown : Shown) →
 joined-count true scsw shown = (refl, refl)
 joined-count false scsw shown = (refl, refl)
 
-pub status-count : (enabled : Bool) (scsw : Scsw) (x : Serials) (shown : Shown) → x.made < (serials_made enabled x).made →
+pub status-count : (enabled : Bool) (scsw : Scsw) (x : Serials) (shown : StatusRow) → x.made < (serials_made enabled x).made →
     HasPosition (scsw_made enabled scsw shown) shown.command_address shown.count
 status-count true scsw x shown l = joined-count scsw.status.pending scsw shown
 status-count false scsw x shown l = absurd (omega (arith, l))
@@ -148,7 +148,7 @@ fault-shows s (Some b) tried check count k r =
 
 -- an End after which nothing is chained
 last-count : (s next : SubchannelState) (b : ActiveProgram) (k : ProgramTrace) (status : DeviceStatus) (more last : Bool) (w : Option Program) →
-    (let shown : Shown = if last then last_shown s.scsw b w status more else channel_end_shown s.scsw b status more in
+    (let shown : StatusRow = if last then last_shown s.scsw b w status more else channel_end_shown s.scsw b status more in
     s.serials.made < next.serials.made → HasPosition next.scsw shown.command_address shown.count) →
     IsRestAt b.transfer.walk.tried (residual b.transfer.moving) k → IsShownBy (is_none w || not last) s next k
 last-count s next b k status more true None f r = λ l. counted next.scsw b.transfer.walk.tried (residual b.transfer.moving) k (f l) r
@@ -157,7 +157,7 @@ last-count s next b k status more false None f r = λ l. counted next.scsw b.tra
 last-count s next b k status more false (Some program) f r = λ l. counted next.scsw b.transfer.walk.tried (residual b.transfer.moving) k (f l) r
 
 module _ (laws : AreLaws) (accesses : AreAccesses) where
-  stops-count : (s : SubchannelState) (b : ActiveProgram) (signal : EndSignal) (shown : Shown) (last : Bool) →
+  stops-count : (s : SubchannelState) (b : ActiveProgram) (signal : EndSignal) (shown : StatusRow) (last : Bool) →
       let after : SubchannelState = (if last then device_released (end-left laws accesses s b signal shown last) else outcomes.signal_taken (end-left laws accesses s b signal shown last)).state in
       s.serials.made < after.serials.made → HasPosition after.scsw shown.command_address shown.count
   stops-count s b signal shown true l = status-count s.pmcw.enabled (scsw_joined s.pmcw.enabled s.scsw s.scsw) s.serials shown l

@@ -233,7 +233,7 @@ path-shows s (Some program) = λ l. status-count s.pmcw.enabled (scsw_joined s.p
 choose-shows : (clear : Option Chosen) (sub : Subchannel) (c : Chosen) → IfClear clear c → IfOk (choose_sub sub c) (λ t. ChooseShows clear sub.state t.sub.state)
 choose-shows clear sub Idle i = quiet-shows clear sub.state sub.state refl
 choose-shows clear sub (Resets r path) i =
-    send-ok (λ t. ChooseShows clear sub.state t.sub.state) sub (reset_sent sub.state path) path (down.Reset r sub.state.hold.known) (reply.ResetSent r path)
+    send-ok (λ t. ChooseShows clear sub.state t.sub.state) sub (reset_sent sub.state path) path (down.Reset r sub.state.hold.known_restarts) (reply.ResetSent r path)
     (quiet-shows clear sub.state (reset_sent sub.state path) refl)
 choose-shows clear sub PerformsClear i = zero-shows clear sub.state (with_cause sub.state cause.ClearDone) i (clear-count sub.state)
 choose-shows clear sub (Halts t path) i =

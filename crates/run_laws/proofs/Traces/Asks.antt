@@ -36,7 +36,7 @@ use Rattle.data_move.specs.DataChaining.{data_chained, chained_from, with_next_c
 use Rattle.data_move.specs.ToDevice.{with_bytes_offered, next_chunk, chunk_absorbed, with_chunk_counted, with_bytes_fetched}
 use Rattle.subchannel_model.specs.declared.state.ActiveProgram.{ActiveProgram}
 use Rattle.subchannel_model.specs.declared.state.SubchannelState.{SubchannelState}
-use Rattle.subchannel_model.specs.declared.status.Shown.{Shown}
+use Rattle.subchannel_model.specs.declared.status.StatusRow.{StatusRow}
 use Rattle.subchannel_model.specs.declared.cause.StatusCause.TheVariants as cause
 use Rattle.subchannel_model.specs.Status.{no_device_status, no_subchannel_status, scsw_made, serials_made, with_joined}
 use Rattle.subchannel_model.specs.Causes.{pci_shown, with_cause, scsw_joined}
@@ -269,7 +269,7 @@ or-true false = refl
 abbrev pub IsIntermediate : Scsw → Type 0
 IsIntermediate scsw = (scsw.status.intermediate ≡ true) × (has scsw.subchannel_status.0 0x80 ≡ true)
 
-joined-asked : (b : Bool) (scsw : Scsw) (shown : Shown) → shown.conditions.intermediate ≡ true → shown.subchannel.0 ≡ 0x80 →
+joined-asked : (b : Bool) (scsw : Scsw) (shown : StatusRow) → shown.conditions.intermediate ≡ true → shown.subchannel.0 ≡ 0x80 →
     IsIntermediate
     (if b then with_joined scsw scsw.status scsw.device_status scsw.subchannel_status shown
     else with_joined scsw no_status no_device_status no_subchannel_status shown)
@@ -281,7 +281,7 @@ joined-asked true scsw shown e f = (
 joined-asked false scsw shown e f =
     (e, ap (λ (bits : ℕ). has (bit_or 0 bits) 0x80) f ∙ eq-eqb (bit_and (bit_or 0 0x80) 0x80) 0x80 (and_or_self 0x80 0))
 
-pci-made : (enabled : Bool) (scsw : Scsw) (x : Serials) (shown : Shown) → enabled ≡ true → shown.conditions.intermediate ≡ true → shown.subchannel.0 ≡ 0x80 →
+pci-made : (enabled : Bool) (scsw : Scsw) (x : Serials) (shown : StatusRow) → enabled ≡ true → shown.conditions.intermediate ≡ true → shown.subchannel.0 ≡ 0x80 →
     (x.made < (serials_made enabled x).made) × IsIntermediate (scsw_made enabled scsw shown)
 pci-made true scsw x shown on e f = (omega arith, joined-asked scsw.status.pending scsw shown e f)
 pci-made false scsw x shown on e f = absurd (cc on)

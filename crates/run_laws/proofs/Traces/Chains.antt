@@ -22,7 +22,7 @@ use Rattle.subchannel_model.specs.declared.signals.EndSignal.{EndSignal}
 use Rattle.subchannel_model.specs.declared.state.ActiveProgram.{ActiveProgram}
 use Rattle.subchannel_model.specs.declared.state.SubchannelState.{SubchannelState}
 use Rattle.subchannel_model.specs.declared.state.UpStep.{UpStep}
-use Rattle.subchannel_model.specs.declared.status.Shown.{Shown}
+use Rattle.subchannel_model.specs.declared.status.StatusRow.{StatusRow}
 use Rattle.subchannel_model.specs.Ends.{has_status_modifier, has_unit_exception, is_unit_check_alone, is_channel_end_alone, shows_length, breaks_chain, chains_command, end_shown}
 use Rattle.scsw_irb.specs.declared.scsw.Scsw.{Scsw}
 use Rattle.orb_block.specs.declared.Orb.{Orb}
@@ -181,7 +181,7 @@ module _ (laws : AreLaws) (accesses : AreAccesses) where
       (next-asking storage k.orb k.now.acts b.transfer modifier w.0.tied.walk) e
 
   -- none
-  stops-meets : (storage : Contents) (s : SubchannelState) (b : ActiveProgram) (k : ProgramTrace) (signal : EndSignal) (shown : Shown) (last : Bool) →
+  stops-meets : (storage : Contents) (s : SubchannelState) (b : ActiveProgram) (k : ProgramTrace) (signal : EndSignal) (shown : StatusRow) (last : Bool) →
       IsChained false s.scsw.functions.halt signal.status signal.more k → signal.number ≡ k.number → signal.command ≡ k.sent →
       let x : UpStep = if last then device_released (end-left laws accesses s b signal shown last) else outcomes.signal_taken (end-left laws accesses s b signal shown last) in
       let after : ProgramTrace = stories.ends_alone signal.status k in

@@ -199,7 +199,7 @@ choose-held : (sub : Subchannel) (k : Option ProgramTrace) (c : Chosen) → Suit
 choose-held sub k Idle o h = h
 choose-held sub k (Resets r path) o h =
     send-ok (λ t. KeptBy t.sub.state (chosen_at (Some sub) t.reply k)) sub (reset_sent sub.state path) path
-    (down.Reset r sub.state.hold.known) (reply.ResetSent r path)
+    (down.Reset r sub.state.hold.known_restarts) (reply.ResetSent r path)
     (same-kept sub.state (reset_sent sub.state path) k (reset-phase sub.state.hold sub.state.hold.phase path) refl refl refl refl h)
 choose-held sub k PerformsClear o h = same-kept sub.state (with_cause sub.state cause.ClearDone) k refl refl refl refl refl h
 choose-held sub k (Halts t path) o h =
@@ -264,9 +264,9 @@ sunk-held may sub path u t k e h =
 
 absorbs-held : (s : SubchannelState) (count : ℕ) (x : Option CurrentCommand) (k : ProgramTrace) → IsKept s k → IsKept s (absorbs count x k)
 absorbs-held s count None k h = h
-absorbs-held s count (Some x) k h = by x.given
+absorbs-held s count (Some x) k h = by x.unabsorbed
   where
-    by : (bytes : Option (List ℕ)) → IsKept s (absorbs count (Some (record x { given = bytes })) k)
+    by : (bytes : Option (List ℕ)) → IsKept s (absorbs count (Some (record x { unabsorbed = bytes })) k)
     by None = h
     by (Some bytes) = untaken-held s k k.taken (k.absorbed ++ take count bytes) h
 
@@ -344,7 +344,7 @@ module _ (laws : AreLaws) (accesses : AreAccesses) where
       unmet s (λ x. (if is_on x t then on_end.ends_at_work storage s s.begun (record { path = p; number = t; command = n; status = status; more = more }) else outcomes.signal_ignored s).state) u u (λ r. u)
   untold-met returns storage s p (up.Released t) u = unmet s (λ x. (hold_outcome s (hold_table.released s.hold x t)).state) u u (λ r. u)
   untold-met returns storage s p (up.Cleared r) u = unmet s (λ x. (takes_cleared s (hold_table.reset_cleared s.hold x r)).state) u u (λ q. cleared-if s (r == q) u)
-  untold-met returns storage s p (up.Notice b) u = noticed-untold s b (nat_lt s.hold.known b) u
+  untold-met returns storage s p (up.Notice b) u = noticed-untold s b (nat_lt s.hold.known_restarts b) u
   untold-met returns storage s p (up.Attn a status) u =
       unmet s (λ x. (on_attention.takes_attention s status (hold_table.attended s.hold x p a (on_attention.may_take_attention s))).state) u
       (attended-untold s p a status (on_attention.may_take_attention s) u) (λ r. u)

@@ -67,7 +67,7 @@ module _ (laws : AreLaws) (accesses : AreAccesses) where
       (signal-held laws accesses returns storage s p (up.End t n status more) k h)
   signal-meets returns storage s p (up.Cleared r) k h o = (refl, refl, cleared-zero s s.hold.phase r)
   signal-meets returns storage s p (up.Notice b) k h o =
-      (refl, refl, of-program s (takes_up returns storage s p (up.Notice b)).step.state (Some k) h (noticed-shows s b (nat_lt s.hold.known b)))
+      (refl, refl, of-program s (takes_up returns storage s p (up.Notice b)).step.state (Some k) h (noticed-shows s b (nat_lt s.hold.known_restarts b)))
   signal-meets returns storage s p (up.Attn a status) k h o = (refl, refl, attended-left s p a status)
   signal-meets returns storage s p x k h o = (refl, refl, none-counted s (takes_up returns storage s p x).step.state k refl)
 
@@ -97,7 +97,7 @@ module _ (laws : AreLaws) (accesses : AreAccesses) where
   )
   unoffered returns storage s p (up.Notice b) u = (
     refl,
-    of-program s (takes_up returns storage s p (up.Notice b)).step.state None u (noticed-shows s b (nat_lt s.hold.known b)),
+    of-program s (takes_up returns storage s p (up.Notice b)).step.state None u (noticed-shows s b (nat_lt s.hold.known_restarts b)),
   )
   unoffered returns storage s p (up.Attn a status) u = (
     refl,

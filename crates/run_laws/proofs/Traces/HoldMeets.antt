@@ -15,7 +15,7 @@ use Rattle.chan_model.specs.HoldTable as hold_table
 use Rattle.chan_model.specs.HoldTable.{HoldStep, hold_takes, outcome_of, is_connected, is_on}
 use Rattle.chan_model.specs.Loads.{load_length}
 use Rattle.subchannel_model.specs.Notice as on_notice
-use Rattle.subchannel_model.specs.declared.status.Shown.{Shown}
+use Rattle.subchannel_model.specs.declared.status.StatusRow.{StatusRow}
 use Rattle.chan_model.specs.UnitReports.{is_outward, is_last_end, has_device_end, has_unit_check}
 use Rattle.ccw_walk.specs.declared.check.Check.{Check}
 use Rattle.ccw_walk.specs.declared.program.Ended.{Ended}
@@ -392,13 +392,13 @@ module _ (laws : AreLaws) (accesses : AreAccesses) where
         standing = none-stands u.waiting u.begun u.suspended (record k { now = now }) (v ∙ standing-some s.waiting s.begun b s.suspended k e h.standing);
       }
 
-  abbrev pub end-left : SubchannelState → ActiveProgram → EndSignal → Shown → Bool → SubchannelState
+  abbrev pub end-left : SubchannelState → ActiveProgram → EndSignal → StatusRow → Bool → SubchannelState
   end-left s b signal shown last =
       record (with_row s (record { shown = shown; left = causes.programs_after_end s b last }) s.scsw) {
         dedicated = on_end.dedicated_after_end s.dedicated signal;
       }
 
-  stops-held : (s : SubchannelState) (b : ActiveProgram) (k : ProgramTrace) (now : CommandTrace) (signal : EndSignal) (shown : Shown) (last : Bool) → s.begun ≡ Some b → IsHeld s k →
+  stops-held : (s : SubchannelState) (b : ActiveProgram) (k : ProgramTrace) (now : CommandTrace) (signal : EndSignal) (shown : StatusRow) (last : Bool) → s.begun ≡ Some b → IsHeld s k →
       IsAtWork k.earlier k.orb now b.transfer (is_outward b.transfer.code) → (b.transfer.command ≡ k.sent) × (1 ≤ k.sent) → IsMarked now (has_shown b).transfer → b.program.orb ≡ k.orb →
       IsHeld (if last then device_released (end-left s b signal shown last) else outcomes.signal_taken (end-left s b signal shown last)).state (record k { now = now })
   stops-held s b k now signal shown true e h w m marks o =
@@ -485,7 +485,7 @@ module _ (laws : AreLaws) (accesses : AreAccesses) where
       hold_outcome-held s k (hold_takes s.hold p (up.Released t) false) h (released-phase s.drawn k.number s.begun k.sent s.hold s.hold.phase t refl (h.phase, h.drawn))
   signal-held returns storage s p (up.Cleared r) k h = takes_cleared-held s k r s.hold.phase refl h
   signal-held returns storage s p (up.Notice b) k h =
-      notice-held s k b (nat_lt s.hold.known b) h
+      notice-held s k b (nat_lt s.hold.known_restarts b) h
   signal-held returns storage s p (up.Attn a status) k h =
       let step : Option HoldStep = hold_takes s.hold p (up.Attn a status) (on_attention.may_take_attention s) in
       attention-held (outcomes.hold_outcome s step).state k ((outcome_of step).taken && not (status.0 == 0x20))

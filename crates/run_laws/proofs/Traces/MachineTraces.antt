@@ -135,7 +135,7 @@ trace_after walk_position s (event.Report u report) r k =
     if is_path (reached_in u report.side s.subs) walk_position then reported_at (slice_get s.units u) report k else k
 trace_after walk_position s e r k = k
 
--- the story of the subchannel at a place; none where nothing was offered
+-- the trace of the subchannel at a place; none where nothing was offered
 abbrev pub trace : ℕ → (opening : State) (h : List Entry) (s : State) → Run opening h s → Option ProgramTrace
 trace walk_position opening _ _ Opened = None
 trace walk_position opening _ _ (Stepped h old e r new run step) = trace_after walk_position old e r (trace walk_position opening h old run)

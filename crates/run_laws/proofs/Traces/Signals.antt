@@ -189,8 +189,8 @@ module _ (Q : SubchannelState → Type 0) (same : (s x : SubchannelState) → x.
       if-step (is_on s.hold.phase t) (ends_at_work storage s s.begun signal) (signal_ignored s) (ends_at_work-kept storage s s.begun signal k) k
   signal-kept returns storage s p (up.Cleared r) k = takes_cleared-kept s (hold_takes s.hold p (up.Cleared r) false) k
   signal-kept returns storage s p (up.Notice b) k =
-      let x : SubchannelState = record s { hold = record s.hold { known = b } } in
-      if-step (nat_lt s.hold.known b) (signal_taken (reset_for x)) (signal_ignored s)
+      let x : SubchannelState = record s { hold = record s.hold { known_restarts = b } } in
+      if-step (nat_lt s.hold.known_restarts b) (signal_taken (reset_for x)) (signal_ignored s)
       (reset-kept x (is_offered_or_held s.hold.phase && has_any s.waiting s.begun s.suspended) (with_hold-kept s x.hold k)) k
   signal-kept returns storage s p (up.Attn a status) k =
       let step : Option HoldStep = hold_takes s.hold p (up.Attn a status) (may_take_attention s) in

@@ -197,7 +197,7 @@ abbrev OffersWaiting : Subchannel → Reply → Type 0
 OffersWaiting sub r = (t p : ℕ) → r ≡ reply.Offered t p false → (program : Program) × (sub.state.waiting ≡ Some program)
 
 choose-offers : (sub : Subchannel) (c : Chosen) → Suits c sub.state → IfOk (choose_sub sub c) (λ t. OffersWaiting sub t.reply)
-choose-offers sub (Resets r path) f = send-ok (λ t. OffersWaiting sub t.reply) sub _ path (down.Reset r sub.state.hold.known) (reply.ResetSent r path) (λ t p e. absurd (cc e))
+choose-offers sub (Resets r path) f = send-ok (λ t. OffersWaiting sub t.reply) sub _ path (down.Reset r sub.state.hold.known_restarts) (reply.ResetSent r path) (λ t p e. absurd (cc e))
 choose-offers sub (Halts u path) f = send-ok (λ t. OffersWaiting sub t.reply) sub _ path (down.Halt u) (reply.HaltSent u path) (λ t p e. absurd (cc e))
 choose-offers sub (Offers c path) f =
     send-ok (λ t. OffersWaiting sub t.reply) sub _ path (down.Select (sub.state.drawn + 1)) (reply.Offered (sub.state.drawn + 1) path c.resumes)
@@ -262,9 +262,9 @@ offers-by old r a k after e i o by = ap (told a) e
 -- a report
 absorbed-by : (count : ℕ) (x : Option CurrentCommand) (k : ProgramTrace) → (absorbed : List ℕ) × (absorbs count x k ≡ record k { absorbed = absorbed })
 absorbed-by count None k = (k.absorbed, refl)
-absorbed-by count (Some x) k = by x.given
+absorbed-by count (Some x) k = by x.unabsorbed
   where
-    by : (bytes : Option (List ℕ)) → (absorbed : List ℕ) × (absorbs count (Some (record x { given = bytes })) k ≡ record k { absorbed = absorbed })
+    by : (bytes : Option (List ℕ)) → (absorbed : List ℕ) × (absorbs count (Some (record x { unabsorbed = bytes })) k ≡ record k { absorbed = absorbed })
     by None = (k.absorbed, refl)
     by (Some bytes) = (_, refl)
 

@@ -109,7 +109,7 @@ send-setup : (sub : Subchannel) (state : SubchannelState) (path : ℕ) (signal :
 send-setup sub state path signal r = send-ok (λ t. t.sub.setup ≡ sub.setup) sub state path signal r refl
 
 choose-setup : (sub : Subchannel) (c : Chosen) → IfOk (choose_sub sub c) (λ t. t.sub.setup ≡ sub.setup)
-choose-setup sub (Resets r path) = send-setup sub _ path (down.Reset r sub.state.hold.known) (reply.ResetSent r path)
+choose-setup sub (Resets r path) = send-setup sub _ path (down.Reset r sub.state.hold.known_restarts) (reply.ResetSent r path)
 choose-setup sub (Halts t path) = send-setup sub _ path (down.Halt t) (reply.HaltSent t path)
 choose-setup sub (Offers c path) = send-setup sub _ path (down.Select (sub.state.drawn + 1)) (reply.Offered (sub.state.drawn + 1) path c.resumes)
 choose-setup sub other = refl
@@ -142,12 +142,12 @@ pub report-same : (sub : Subchannel) (u : UnitState) (report : Report) → IfOk 
 report-same sub u report = report_taken-same sub (unit_reports u report)
 
 -- an event that tells nothing
-quiet-story : (index : ℕ) (s : State) (e : Event) (r : Reply) → IsQuiet e r → (k : Option ProgramTrace) → trace_after index s e r k ≡ k
-quiet-story index s (event.Choose word) r q k = absurd q
-quiet-story index s (event.Up word path) r q k = absurd q
-quiet-story index s (event.Down word path) r q k = absurd q
-quiet-story index s (event.Report at report) r q k = absurd q
-quiet-story index s e r q k = refl
+quiet-trace : (index : ℕ) (s : State) (e : Event) (r : Reply) → IsQuiet e r → (k : Option ProgramTrace) → trace_after index s e r k ≡ k
+quiet-trace index s (event.Choose word) r q k = absurd q
+quiet-trace index s (event.Up word path) r q k = absurd q
+quiet-trace index s (event.Down word path) r q k = absurd q
+quiet-trace index s (event.Report at report) r q k = absurd q
+quiet-trace index s e r q k = refl
 
 module _ (s : State) (one : IsOneSided s) (index : ℕ) where
   -- what there is at the index after a step, and what was before
@@ -191,7 +191,7 @@ module _ (s : State) (one : IsOneSided s) (index : ℕ) where
 
   quiet-turns : (new : State) (e : Event) (r : Reply) (at : ℕ) (sub after : Subchannel) → OneSub s new at sub after → after.setup ≡ sub.setup → IsQuiet e r →
       IndexStep s.storage sub after (slice_get s.units sub.setup.«unit») (slice_get s.units sub.setup.«unit») (trace_after index s e r) → At new (trace_after index s e r)
-  quiet-turns new e r at sub after o kept q mine = sub-turns new at sub after (trace_after index s e r) o kept (λ there w. mine) (λ w. quiet-story index s e r q)
+  quiet-turns new e r at sub after o kept q mine = sub-turns new at sub after (trace_after index s e r) o kept (λ there w. mine) (λ w. quiet-trace index s e r q)
 
   -- another subchannel of the same unit is on its other side
   other-side : (at : ℕ) (sub x : Subchannel) → slice_get s.subs at ≡ Some sub → slice_get s.subs index ≡ Some x → at ≢ index → sub.setup.«unit» ≡ x.setup.«unit» →
@@ -277,13 +277,13 @@ module _ (s : State) (one : IsOneSided s) (index : ℕ) where
   start-turns e r new at sub orb c q o = sub-turns new at sub _ _ o refl (λ there w. Stays refl refl q) (λ w. q)
 
   test-turns : (e : Event) (r : Reply) (new : State) (at : ℕ) (sub : Subchannel) (c : ConditionCode) → IsQuiet e r → OneSub s new at sub (test_with sub c).sub → At new (trace_after index s e r)
-  test-turns e r new at sub code.Zero q o = quiet-turns new e r at sub _ o refl q (Is_tested refl refl (quiet-story index s e r q))
-  test-turns e r new at sub c q o = quiet-turns new e r at sub _ o refl q (Stays refl refl (quiet-story index s e r q))
+  test-turns e r new at sub code.Zero q o = quiet-turns new e r at sub _ o refl q (Is_tested refl refl (quiet-trace index s e r q))
+  test-turns e r new at sub c q o = quiet-turns new e r at sub _ o refl q (Stays refl refl (quiet-trace index s e r q))
 
   modify-turns : (e : Event) (r : Reply) (new : State) (at : ℕ) (sub : Subchannel) (given : block.Pmcw) (c : ConditionCode) → IsQuiet e r → OneSub s new at sub (function_sub sub c (modified_state sub given)).sub →
       At new (trace_after index s e r)
-  modify-turns e r new at sub given code.Zero q o = quiet-turns new e r at sub _ o refl q (Is_modified _ refl refl (quiet-story index s e r q))
-  modify-turns e r new at sub given c q o = quiet-turns new e r at sub _ o refl q (Stays refl refl (quiet-story index s e r q))
+  modify-turns e r new at sub given code.Zero q o = quiet-turns new e r at sub _ o refl q (Is_modified _ refl refl (quiet-trace index s e r q))
+  modify-turns e r new at sub given c q o = quiet-turns new e r at sub _ o refl q (Stays refl refl (quiet-trace index s e r q))
 
   effect : (f : Function) (sub : Subchannel) (g : Option ProgramTrace → Option ProgramTrace) → ((k : Option ProgramTrace) → g k ≡ k) →
       IndexStep s.storage sub (with_state sub (effect_of f sub.state)) (slice_get s.units sub.setup.«unit») (slice_get s.units sub.setup.«unit») g
@@ -294,11 +294,11 @@ module _ (s : State) (one : IsOneSided s) (index : ℕ) where
 
   perform-turns : (e : Event) (r : Reply) (new : State) (at : ℕ) (sub : Subchannel) (f : Function) (c : ConditionCode) → IsQuiet e r →
       OneSub s new at sub (function_sub sub c (effect_of f sub.state)).sub → At new (trace_after index s e r)
-  perform-turns e r new at sub f code.Zero q o = quiet-turns new e r at sub _ o refl q (effect f sub (trace_after index s e r) (quiet-story index s e r q))
-  perform-turns e r new at sub f c q o = quiet-turns new e r at sub _ o refl q (Stays refl refl (quiet-story index s e r q))
+  perform-turns e r new at sub f code.Zero q o = quiet-turns new e r at sub _ o refl q (effect f sub (trace_after index s e r) (quiet-trace index s e r q))
+  perform-turns e r new at sub f c q o = quiet-turns new e r at sub _ o refl q (Stays refl refl (quiet-trace index s e r q))
 
   step-turns : (e : Event) (r : Reply) (new : State) → Walked s e r new → At new (trace_after index s e r)
-  step-turns _ _ _ (walked.Stays e r new q sets subs units up) = stays new (trace_after index s e r) subs units (quiet-story index s e r q)
+  step-turns _ _ _ (walked.Stays e r new q sets subs units up) = stays new (trace_after index s e r) subs units (quiet-trace index s e r q)
   step-turns _ _ _ (walked.Started cpu word address at sub orb c new n o) = start-turns (event.Execute cpu (instruction.Ssch word address)) (function_sub sub c (started sub.state orb)).reply new at sub orb c (λ k. refl) o
   step-turns _ _ _ (walked.Tested e r at sub c new q o address by answers) = test-turns e r new at sub c q o
   step-turns _ _ _ (walked.Modified e r at sub given c new q o) = modify-turns e r new at sub given c q o
@@ -337,7 +337,7 @@ module _ (s : State) (one : IsOneSided s) (index : ℕ) where
       (λ w k. refl)
   step-turns _ _ _ (walked.Restarted i owed u r new found sets subs units up) =
       alone-turns new i u (owing owed (restarted u)) _ found subs units (λ side. restart-gentle side owed u) (λ k. refl)
-  step-turns _ _ _ (walked.Swept e r what new q sets subs units by) = sweep-turns new what _ subs units (quiet-story index s e r q)
+  step-turns _ _ _ (walked.Swept e r what new q sets subs units by) = sweep-turns new what _ subs units (quiet-trace index s e r q)
 
   pub step-happens : (e : Event) (r : Reply) (new : State) → Walked s e r new → (x : Subchannel) → slice_get new.subs index ≡ Some x →
       (sub : Subchannel) × (slice_get s.subs index ≡ Some sub) × (x.setup ≡ sub.setup)

@@ -233,7 +233,7 @@ takes-unasked returns storage s p (up.Data load t c n q) u =
 takes-unasked returns storage s p (up.End t n status more) u =
     end-unasked storage s (record { path = p; number = t; command = n; status = status; more = more }) (is_on s.hold.phase t) u
 takes-unasked returns storage s p (up.Cleared r) u = cleared-unasked s (hold_takes s.hold p (up.Cleared r) false) u
-takes-unasked returns storage s p (up.Notice b) u = noticed-unasked s b (nat_lt s.hold.known b) u
+takes-unasked returns storage s p (up.Notice b) u = noticed-unasked s b (nat_lt s.hold.known_restarts b) u
 takes-unasked returns storage s p (up.Attn a status) u =
     let step : Option HoldStep = hold_takes s.hold p (up.Attn a status) (on_attention.may_take_attention s) in
     unasked-as s.begun _ (attention-begun (record s { hold = hold_after s.hold step }) ((outcome_of step).taken && not (status.0 == 0x20))) u
@@ -255,7 +255,7 @@ up-unasked returns storage sub path u =
 choose-unasked : (sub : Subchannel) (c : Chosen) → IsUnasked sub.state.begun → IfOk (choose_sub sub c) (λ t. IsUnasked t.sub.state.begun)
 choose-unasked sub Idle u = u
 choose-unasked sub (Resets r path) u =
-    send-ok (λ t. IsUnasked t.sub.state.begun) sub (reset_sent sub.state path) path (down.Reset r sub.state.hold.known) (reply.ResetSent r path) u
+    send-ok (λ t. IsUnasked t.sub.state.begun) sub (reset_sent sub.state path) path (down.Reset r sub.state.hold.known_restarts) (reply.ResetSent r path) u
 choose-unasked sub PerformsClear u = u
 choose-unasked sub (Halts t path) u = send-ok (λ t. IsUnasked t.sub.state.begun) sub (halt_sent sub.state) path (down.Halt t) (reply.HaltSent t path) u
 choose-unasked sub PerformsHalt u = tt

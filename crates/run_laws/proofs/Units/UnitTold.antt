@@ -31,7 +31,7 @@ telling_data u p t c x l = record { state = with_current u x; sent = Some (recor
 pub data IsTold (u : UnitState) (p t c : ℕ) (x : CurrentCommand) : DeviceAnswer → UnitStep → Type 0 where
   Begins_out : x.progress ≡ progress.New → IsTold u p t c x answer.Begins (telling_data u p t c (with_absorbed x 0) (load.Absorbed 0))
   Begins_in : is_outward x.code ≡ false → x.progress ≡ progress.New → IsTold u p t c x answer.Begins (record { state = with_current u (record x { progress = progress.Working }); sent = None })
-  Absorbs : (bytes : List ℕ) (count : ℕ) → x.progress ≡ progress.Working → x.given ≡ Some bytes → count ≤ length bytes →
+  Absorbs : (bytes : List ℕ) (count : ℕ) → x.progress ≡ progress.Working → x.unabsorbed ≡ Some bytes → count ≤ length bytes →
       IsTold u p t c x (answer.Absorbed count) (telling_data u p t c (with_absorbed x count) (load.Absorbed count))
   Supplies : (bytes : List ℕ) → is_outward x.code ≡ false → x.progress ≡ progress.Working →
       IsTold u p t c x (answer.Supplied bytes) (telling_data u p t c (with_supplied x bytes) (load.Bytes bytes))
@@ -60,7 +60,7 @@ begun-told : (u : UnitState) (p t c : ℕ) (x : CurrentCommand) (out : Bool) →
 begun-told u p t c x true o e = one-told u p t c x answer.Begins _ (Begins_out e)
 begun-told u p t c x false o e = one-told u p t c x answer.Begins _ (Begins_in o e)
 
-absorbed-told : (u : UnitState) (p t c : ℕ) (x : CurrentCommand) (given : Option (List ℕ)) (count : ℕ) → x.given ≡ given → x.progress ≡ progress.Working →
+absorbed-told : (u : UnitState) (p t c : ℕ) (x : CurrentCommand) (given : Option (List ℕ)) (count : ℕ) → x.unabsorbed ≡ given → x.progress ≡ progress.Working →
     AreTold u p t c x (answer.Absorbed count) (report_absorbed u p t c x given count)
 absorbed-told u p t c x None count g e = none-told u p t c x (answer.Absorbed count)
 absorbed-told u p t c x (Some bytes) count g e = by (nat_le count (length bytes)) refl
@@ -95,7 +95,7 @@ answer-told u p t c x progress.Working answer.Begins e = none-told u p t c x ans
 answer-told u p t c x progress.ChannelEnded answer.Begins e = none-told u p t c x answer.Begins
 answer-told u p t c x progress.Ended answer.Begins e = none-told u p t c x answer.Begins
 answer-told u p t c x progress.New (answer.Absorbed count) e = none-told u p t c x (answer.Absorbed count)
-answer-told u p t c x progress.Working (answer.Absorbed count) e = absorbed-told u p t c x x.given count refl e
+answer-told u p t c x progress.Working (answer.Absorbed count) e = absorbed-told u p t c x x.unabsorbed count refl e
 answer-told u p t c x progress.ChannelEnded (answer.Absorbed count) e = none-told u p t c x (answer.Absorbed count)
 answer-told u p t c x progress.Ended (answer.Absorbed count) e = none-told u p t c x (answer.Absorbed count)
 answer-told u p t c x progress.New (answer.Supplied bytes) e = none-told u p t c x (answer.Supplied bytes)

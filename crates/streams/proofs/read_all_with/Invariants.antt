@@ -5,5 +5,5 @@ use Rattle.streams.proofs.read_all_with.Given as goal
 abbrev pub invariant-loop : goal.invariant-loop
 invariant-loop g l = record {
   read : Consumes (g.R.Read.remaining l.fn.reader) (g.R.Read.remaining l.reader) l.text.items;
-  given : g.S.Supply.refused l.supply ≡ g.S.Supply.refused l.fn.supply;
+  unrefused : g.S.Supply.refused l.supply ≡ g.S.Supply.refused l.fn.supply;
 }

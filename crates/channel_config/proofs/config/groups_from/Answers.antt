@@ -12,10 +12,10 @@ loop-group-preserved g c =
     let chosen = c.unwrap_or.ensures in
     let pushed = c.in_ok-push.ensures.pushed in
     let next = groups-next c.args.shared.now c.loop-group.group-index None c.loop-group-test.true in
-    let given = c.loop-group.invariant.given in
-    let granted = c.in_ok-push.ensures.given in
+    let unrefused = c.loop-group.invariant.unrefused in
+    let granted = c.in_ok-push.ensures.unrefused in
     record {
       groups = cc;
       count = ap length pushed ∙ length_push c.loop-group.groups.items c.unwrap_or.result ∙ omega arith;
-      given = cc;
+      unrefused = cc;
     }

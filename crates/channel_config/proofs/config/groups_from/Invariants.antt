@@ -7,5 +7,5 @@ abbrev pub invariant-loop-group : goal.invariant-loop-group
 invariant-loop-group g l = record {
   groups : l.groups.items ≡ groups_from 0 (take l.group-index l.shared);
   count : length l.groups.items ≡ l.group-index;
-  given : g.S.Supply.refused l.supply ≡ g.S.Supply.refused l.fn.supply;
+  unrefused : g.S.Supply.refused l.supply ≡ g.S.Supply.refused l.fn.supply;
 }

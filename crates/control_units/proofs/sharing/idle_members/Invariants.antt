@@ -6,5 +6,5 @@ use Rattle.control_units.proofs.sharing.idle_members.Given as goal
 abbrev pub invariant-loop-group : goal.invariant-loop-group
 invariant-loop-group g l = record {
   idle : l.members.items ≡ map idle_member (take l.group-index l.groups);
-  given : g.S.Supply.refused l.supply ≡ g.S.Supply.refused l.fn.supply;
+  unrefused : g.S.Supply.refused l.supply ≡ g.S.Supply.refused l.fn.supply;
 }

@@ -16,5 +16,5 @@ invariant_of-guarded g c =
       cells = ap (λ (p : MachineParts). p.name.cells) is ∙ ap (λ (n : MachineName). n.cells) named;
       directory = ap (λ (p : MachineParts). p.name.directory) is ∙ ap (λ (n : MachineName). n.directory) named;
       set_up = c.requires.set_up;
-      named = sym (directory_is g.J.Naming.setup past.state c.requires.set_up) ∙ sym c.requires.directory ∙ ap (λ (n : MachineName). n.directory) named;
+      named = sym (directory_is g.J.MachineBrand.setup past.state c.requires.set_up) ∙ sym c.requires.directory ∙ ap (λ (n : MachineName). n.directory) named;
     }

@@ -12,5 +12,5 @@ loop-index-preserved g c =
     let before : c.loop-index.pairs.items ≡ take k all = c.loop-index.invariant.pairs in
     record {
       pairs = c.in_ok-push.ensures.pushed ∙ ap (λ l. l ++ x ∷ []) before ∙ sym (take_more all k x (omega arith) ∙ ap (λ y. take k all ++ y ∷ []) (get_or_from_slice_get all k x x c.serials_at.ensures.value));
-      given = c.in_ok-push.ensures.given ∙ c.loop-index.invariant.given;
+      unrefused = c.in_ok-push.ensures.unrefused ∙ c.loop-index.invariant.unrefused;
     }

@@ -5,5 +5,5 @@ use Rattle.core_lock.proofs.pairs.first_pairs.Given as goal
 abbrev pub invariant-loop-index : goal.invariant-loop-index
 invariant-loop-index g l = record {
   pairs : l.pairs.items ≡ take l.index (all_serials l.subsystem.state);
-  given : g.S.Supply.refused l.supply ≡ g.S.Supply.refused l.fn.supply;
+  unrefused : g.S.Supply.refused l.supply ≡ g.S.Supply.refused l.fn.supply;
 }

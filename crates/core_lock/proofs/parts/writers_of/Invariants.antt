@@ -6,5 +6,5 @@ use Rattle.core_lock.proofs.parts.writers_of.Given as goal
 abbrev pub invariant-loop-index : goal.invariant-loop-index
 invariant-loop-index g l = record {
   shown : shown l.writers.items ≡ replicate l._index (serials 0 0);
-  given : g.S.Supply.refused l.supply ≡ g.S.Supply.refused l.fn.supply;
+  unrefused : g.S.Supply.refused l.supply ≡ g.S.Supply.refused l.fn.supply;
 }

@@ -22,5 +22,5 @@ loop-number-preserved g c =
     record {
       items = items ∙ ap (λ (xs : List ℕ). xs ++ n ∷ []) c.loop-number.invariant.items ∙ sym (more n);
       room = omega (arith, c.loop-number-test.true, ap length items ∙ length-append old (n ∷ []), c.loop-number.invariant.room, c.push.ensures.capacity, c.push.new.self.ok.0, c.loop-number.numbers.ok.0);
-      given = c.loop-number.invariant.given;
+      unrefused = c.loop-number.invariant.unrefused;
     }

@@ -7,5 +7,5 @@ loop-left-preserved g c =
     let within : c.min-more.result ≤ c.loop-left.left = omega (arith, c.min-more.ensures) in
     record {
       entries = portion-added c.args.entries c.loop-left.left c.min-more.result c.loop-left.table.items c.add_empty.new.table.items within c.in_ok-add_empty.ensures.added c.loop-left.invariant.entries;
-      given = c.in_ok-add_empty.ensures.given ∙ c.loop-left.invariant.given;
+      unrefused = c.in_ok-add_empty.ensures.unrefused ∙ c.loop-left.invariant.unrefused;
     }

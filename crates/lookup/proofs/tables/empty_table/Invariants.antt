@@ -5,7 +5,7 @@ use Rattle.lookup.proofs.tables.empty_table.Given as goal
 abbrev pub invariant-loop-left : goal.invariant-loop-left
 invariant-loop-left g l = record {
   entries : l.table.items ++ replicate l.left None ≡ replicate l.fn.entries None;
-  given : g.S.Supply.refused l.supply ≡ g.S.Supply.refused l.fn.supply;
+  unrefused : g.S.Supply.refused l.supply ≡ g.S.Supply.refused l.fn.supply;
 }
 
 abbrev pub decreases-loop-left : goal.decreases-loop-left

@@ -5,5 +5,5 @@ use Rattle.machine.proofs.opening.copied.Given as goal
 abbrev pub invariant-loop-chpid : goal.invariant-loop-chpid
 invariant-loop-chpid g l = record {
   made : l.copy.items ≡ take l.chpid-index l.chpids;
-  given : g.S.Supply.refused l.supply ≡ g.S.Supply.refused l.fn.supply;
+  unrefused : g.S.Supply.refused l.supply ≡ g.S.Supply.refused l.fn.supply;
 }

@@ -18,5 +18,5 @@ loop-kind-preserved g c =
           ∙ (ap (λ (us : List UnitState). us ++ idle_unit ∷ []) c.loop-kind.invariant.made
           ∙ (sym (map-append idle_of (take k kinds) (slice_index_or kinds k Block ∷ []))
           ∙ ap (λ (ks : List UnitKind). map idle_of ks) (sym (take_more kinds k Block c.loop-kind-test.true)))));
-      given = c.in_ok-push.ensures.given ∙ c.loop-kind.invariant.given;
+      unrefused = c.in_ok-push.ensures.unrefused ∙ c.loop-kind.invariant.unrefused;
     }

@@ -6,5 +6,5 @@ use Rattle.machine.proofs.opening.idle_units.Given as goal
 abbrev pub invariant-loop-kind : goal.invariant-loop-kind
 invariant-loop-kind g l = record {
   made : l.units.items ≡ map idle_of (take l.kind-index l.kinds);
-  given : g.S.Supply.refused l.supply ≡ g.S.Supply.refused l.fn.supply;
+  unrefused : g.S.Supply.refused l.supply ≡ g.S.Supply.refused l.fn.supply;
 }

@@ -6,5 +6,5 @@ use Rattle.machine.proofs.opening.opened_all.Given as goal
 abbrev pub invariant-loop-setup : goal.invariant-loop-setup
 invariant-loop-setup g l = record {
   made : l.subs.items ≡ map opened (take l.setup-index l.setups);
-  given : g.S.Supply.refused l.supply ≡ g.S.Supply.refused l.fn.supply;
+  unrefused : g.S.Supply.refused l.supply ≡ g.S.Supply.refused l.fn.supply;
 }

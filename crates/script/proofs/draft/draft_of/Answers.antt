@@ -14,7 +14,7 @@ pub lines-init : goal.lines-init
 lines-init g c = record {
   draft = c.in-Ok.ensures.made c.args.races (lines_of c.args.text.now);
   rest = refl;
-  given = c.in-Ok.ensures.given;
+  unrefused = c.in-Ok.ensures.unrefused;
 }
 
 pub overflow_add-number : goal.overflow_add-number
@@ -52,5 +52,5 @@ lines-preserved g c =
     record {
       draft = drafted c.args.races lines c.lines.number _ c.lines.draft _ _ _ next.within refl next.here next.after c.lines.invariant.draft done.0 done.1;
       rest = sym next.after ∙ c.in-Some.ensures;
-      given = c.in-Ok-take_line.ensures.given ∙ c.lines.invariant.given;
+      unrefused = c.in-Ok-take_line.ensures.unrefused ∙ c.lines.invariant.unrefused;
     }

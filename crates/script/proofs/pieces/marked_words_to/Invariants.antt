@@ -9,7 +9,7 @@ invariant-loop-blanks g l = record {
   few : length l.rest < 16;
   room : vec_len l.found + length l.rest < vec_capacity l.found;
   parts : map (λ p. p.now) l.found.items ++ spec.words_between_blanks l.rest ≡ spec.words_between_blanks l.line;
-  given : g.S.Supply.refused l.supply ≡ g.S.Supply.refused l.fn.supply;
+  unrefused : g.S.Supply.refused l.supply ≡ g.S.Supply.refused l.fn.supply;
 }
 
 abbrev pub decreases-loop-blanks : goal.decreases-loop-blanks

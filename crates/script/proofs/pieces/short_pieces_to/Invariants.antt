@@ -7,5 +7,5 @@ invariant-loop-index g l = record {
   ordered : l.start ≤ l.index;
   parts : map (λ p. p.now) l.found.items ++ spec.pieces l.separator (drop l.start l.bytes) ≡ spec.pieces l.separator l.bytes;
   before : (k : ℕ) → l.start ≤ k → k < l.index → get_or l.bytes k 0 ≡ l.separator → ⊥;
-  given : g.S.Supply.refused l.supply ≡ g.S.Supply.refused l.fn.supply;
+  unrefused : g.S.Supply.refused l.supply ≡ g.S.Supply.refused l.fn.supply;
 }

@@ -5,5 +5,5 @@ use Rattle.script_runner.proofs.opening.no_reports.Given as goal
 abbrev pub invariant-loop : goal.invariant-loop
 invariant-loop g l = record {
   none : l.kept.items ≡ replicate l.counter None;
-  given : g.S.Supply.refused l.supply ≡ g.S.Supply.refused l.fn.supply;
+  unrefused : g.S.Supply.refused l.supply ≡ g.S.Supply.refused l.fn.supply;
 }

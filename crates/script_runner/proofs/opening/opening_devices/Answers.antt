@@ -18,5 +18,5 @@ loop-kind-preserved g c =
           ∙ (ap (λ (ds : List AnyDevice). ds ++ device_of kind ∷ []) c.loop-kind.invariant.made
           ∙ (sym (map-append device_of (take k kinds) (kind ∷ []))
           ∙ ap (λ (ks : List UnitKind). map device_of ks) (sym (take_more kinds k Block c.loop-kind-test.true)))));
-      given = c.in_ok-push.ensures.given ∙ c.loop-kind.invariant.given;
+      unrefused = c.in_ok-push.ensures.unrefused ∙ c.loop-kind.invariant.unrefused;
     }

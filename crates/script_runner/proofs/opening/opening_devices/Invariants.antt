@@ -6,5 +6,5 @@ use Rattle.script_runner.proofs.opening.opening_devices.Given as goal
 abbrev pub invariant-loop-kind : goal.invariant-loop-kind
 invariant-loop-kind g l = record {
   made : l.devices.items ≡ map device_of (take l.kind-index l.kinds);
-  given : g.S.Supply.refused l.supply ≡ g.S.Supply.refused l.fn.supply;
+  unrefused : g.S.Supply.refused l.supply ≡ g.S.Supply.refused l.fn.supply;
 }

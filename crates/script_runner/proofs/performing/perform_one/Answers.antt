@@ -11,6 +11,6 @@ returns g c =
       acts = c.act-acted.ensures.performs;
       refused = c.write.ensures.refused;
       prints = c.write.ensures.prints;
-      given = λ is. c.act-acted.ensures.given (unstarved_by acted history is);
+      unrefused = λ is. c.act-acted.ensures.unrefused (unstarved_by acted history is);
       memory = λ is. c.act-acted.ensures.memory (starved_by acted history is);
     }

@@ -3,7 +3,7 @@ use Rattle.std.specs.Prelude.{if◌then◌else◌}
 use Rattle.std.proofs.lemmas.Bool.{lt-ltb}
 use Rattle.scsw_irb.specs.declared.scsw.Scsw.{Scsw}
 use Rattle.scsw_irb.specs.declared.serials.Serials.{Serials}
-use Rattle.subchannel_model.specs.declared.status.Shown.{Shown}
+use Rattle.subchannel_model.specs.declared.status.StatusRow.{StatusRow}
 use Rattle.subchannel_model.specs.Status.{scsw_made, serials_made, is_uncleared}
 use Rattle.subchannel_model.specs.Test.{ends_suspended, tested}
 use Rattle.chan_model.specs.UnitReports.{is_last_end}
@@ -54,7 +54,7 @@ joined-pending : (b : Bool) (x y : Scsw) → x.status.pending ≡ true → y.sta
 joined-pending true x y e f = e
 joined-pending false x y e f = f
 
-made : (e : Bool) (scsw joins : Scsw) (x : Serials) (shown : Shown) → Counted scsw x →
+made : (e : Bool) (scsw joins : Scsw) (x : Serials) (shown : StatusRow) → Counted scsw x →
     Counted (scsw_made e (scsw_joined e scsw joins) shown) (serials_made e x)
 made true scsw joins x shown k =
     let o : x.cleared ≤ x.made = k.0 in (
@@ -63,7 +63,7 @@ made true scsw joins x shown k =
     )
 made false scsw joins x shown k = k
 
-made-after : (s : SubchannelState) (joins : Scsw) (shown : Shown) (e : Bool) (x : Serials) → s.pmcw.enabled ≡ e → s.serials ≡ x →
+made-after : (s : SubchannelState) (joins : Scsw) (shown : StatusRow) (e : Bool) (x : Serials) → s.pmcw.enabled ≡ e → s.serials ≡ x →
     IsCounted s → Counted (scsw_made e (scsw_joined s.pmcw.enabled s.scsw joins) shown) (serials_made e x)
 made-after s joins shown e x f g k =
     subst (λ v. Counted (scsw_made v (scsw_joined s.pmcw.enabled s.scsw joins) shown) (serials_made v x)) f

@@ -12,5 +12,5 @@ loop-event-preserved g c = record {
       taken-more c.loop-event.event-index c.args.self.now.room c.loop-event.self.room c.pass.new.self.room c.pass.result
       c.loop-event.invariant.room c.pass.ensures.room;
   sound = c.is_sound-in-loop-event.ensures.now;
-  given = c.in_ok-pass.ensures.given ∙ c.loop-event.invariant.given;
+  unrefused = c.in_ok-pass.ensures.unrefused ∙ c.loop-event.invariant.unrefused;
 }

@@ -9,5 +9,5 @@ invariant-loop-event g l = record {
   done : l.self.world ≡ worlds_after l.fn.self.world (take l.event-index l.events);
   room : Loses l.event-index l.fn.self.room l.self.room;
   sound : AreSound l.self.world;
-  given : g.S.Supply.refused l.supply ≡ g.S.Supply.refused l.fn.supply;
+  unrefused : g.S.Supply.refused l.supply ≡ g.S.Supply.refused l.fn.supply;
 }

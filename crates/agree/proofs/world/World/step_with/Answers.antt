@@ -21,8 +21,8 @@ invariant_of-self-2 g c =
 pub returns-clause-sound : goal.returns-clause-sound
 returns-clause-sound g c = well-sound c.agreement.ensures.means c.step_parts.new.parts.world (invariant_of-self-2 g c)
 
-pub returns-clause-spent : goal.returns-clause-spent
-returns-clause-spent g c =
+pub returns-clause-exhausted : goal.returns-clause-exhausted
+returns-clause-exhausted g c =
     given-spent c.make_room.new.self.world c.step_parts.new.parts.room c.args.event.now c.step_parts.new.parts.world c.step_parts.result
     c.step_parts.ensures.gives
 

@@ -8,4 +8,4 @@ pub returns-clause-directory : goal.returns-clause-directory
 returns-clause-directory g c =
     let i = c.self.invariant in
     let state = c.self.inside.subsystem.state in
-    c.in_ok-directory.ensures.same ∙ i.directory ∙ sym (is_named g.J.Naming.setup state g.J.Naming.name.directory i.set_up i.named) ∙ ap (λ (l : GuardedCore). directory_of l.value.state) c.self.view_is
+    c.in_ok-directory.ensures.same ∙ i.directory ∙ sym (is_named g.J.MachineBrand.setup state g.J.MachineBrand.name.directory i.set_up i.named) ∙ ap (λ (l : GuardedCore). directory_of l.value.state) c.self.view_is

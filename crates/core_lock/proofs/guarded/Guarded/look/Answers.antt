@@ -67,7 +67,7 @@ returns-clause-found g c =
     let seat : Seated = record {
       number = inside.number;
       log = inside.log.entries;
-      setup = g.J.Naming.setup;
+      setup = g.J.MachineBrand.setup;
       directory = directory;
       pairs = pairs;
       loaded = inside.readers.items;
@@ -81,7 +81,7 @@ returns-clause-found g c =
     let named = ap (λ (d : Directory). index_named d word) (sym c.deref.ensures) ∙ sym c.in-Some.ensures.index in
     let has = ap (λ (l : List Serials). slice_get l k) (sym m.shown) ∙ c.load_at-found.ensures.found in
     let saw = slice_get_read pairs (length pairs) k pair refl lt c.index-pair.ensures in
-    let is = is_named g.J.Naming.setup state g.J.Naming.name.directory m.set_up m.named ∙ sym i.directory in
+    let is = is_named g.J.MachineBrand.setup state g.J.MachineBrand.name.directory m.set_up m.named ∙ sym i.directory in
     let base = looks state seat directory word k pair found loaded is refl named has saw c.load_at-found.ensures.readers in
     subst (λ (l : GuardedCore). Looks l.value.state c.args.seat.now.value word found (record seat { pairs = set pairs k c.greater-raised.result; loaded = loaded })) c.self.view_is
     (subst (λ (h : HeldSeat). Looks state h.value word found (record seat { pairs = set pairs k c.greater-raised.result; loaded = loaded })) c.seat.view_is

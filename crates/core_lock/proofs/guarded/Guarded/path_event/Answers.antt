@@ -9,5 +9,5 @@ pub returns : goal.returns
 returns g c =
     let i = c.self.invariant in
     let state = c.self.inside.subsystem.state in
-    let directory = c.deref.ensures ∙ i.directory ∙ sym (is_named g.J.Naming.setup state g.J.Naming.name.directory i.set_up i.named) in
+    let directory = c.deref.ensures ∙ i.directory ∙ sym (is_named g.J.MachineBrand.setup state g.J.MachineBrand.name.directory i.set_up i.named) in
     c.path_turn_of.ensures ∙ ap (λ (d : Directory). path_turn_among state c.args.chpid d.setups) directory ∙ ap (λ (l : GuardedCore). path_turn_among l.value.state c.args.chpid (directory_of l.value.state).setups) c.self.view_is

@@ -6,7 +6,7 @@ use Rattle.core_lock.specs.Seats.{LockedCore}
 use Rattle.core_lock.proofs.locked.Core.subsystem.Goals as goal
 
 pub returns-clause-set_up : goal.returns-clause-set_up
-returns-clause-set_up g c = subst (λ (l : LockedCore). IsSetUp g.J.Naming.setup l.value.state) c.self.view_is c.subsystem.ensures.set_up
+returns-clause-set_up g c = subst (λ (l : LockedCore). IsSetUp g.J.MachineBrand.setup l.value.state) c.self.view_is c.subsystem.ensures.set_up
 
 pub returns-clause-agree : goal.returns-clause-agree
 returns-clause-agree g c = subst (λ (l : LockedCore). AllAgree l.value.state) c.self.view_is c.subsystem.ensures.agree

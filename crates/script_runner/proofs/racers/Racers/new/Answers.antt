@@ -12,5 +12,5 @@ loop-number-preserved g c =
       count = ap length p.pushed ∙ length-append l.cpus.items (r.racer ∷ []) ∙ ap (λ (n : ℕ). n + 1) i.count;
       ready = ready_next l.cpus.items c.push.new.list.items r.racer l.number i.ready i.count r.ensures.cpu r.ensures.log p.pushed;
       core = seated_more c.args.core.now.value l.core.value c.seated.new.core.value l.number i.core r.ensures.core;
-      given = p.given ∙ r.ensures.given ∙ i.given;
+      unrefused = p.unrefused ∙ r.ensures.unrefused ∙ i.unrefused;
     }

@@ -7,5 +7,5 @@ invariant-loop-number g l = record {
   count : length l.cpus.items ≡ l.number;
   ready : AreReady 0 l.cpus.items;
   core : l.core.value ≡ record l.fn.core.value { seats = l.fn.core.value.seats + l.number };
-  given : g.S.Supply.refused l.supply ≡ g.S.Supply.refused l.fn.supply;
+  unrefused : g.S.Supply.refused l.supply ≡ g.S.Supply.refused l.fn.supply;
 }

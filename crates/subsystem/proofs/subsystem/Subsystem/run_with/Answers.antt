@@ -16,5 +16,5 @@ loop-event-preserved g c = record {
   begun_once = c.recalls-in-loop-event.ensures.begun_once;
   agree = c.recalls-in-loop-event.ensures.agree;
   headline = c.recalls-in-loop-event.ensures.headline;
-  given = c.step_with-answer.ensures.given c.if-ends.ensures.other ∙ c.loop-event.invariant.given;
+  unrefused = c.step_with-answer.ensures.unrefused c.if-ends.ensures.other ∙ c.loop-event.invariant.unrefused;
 }

@@ -19,5 +19,5 @@ invariant-loop-event g l = record {
   begun_once : IsBegunOnce l.self.state.sets l.self.history;
   agree : AllAgree l.self.state;
   headline : HasHeld l.self.history l.self.state;
-  given : g.S.Supply.refused l.supply ≡ g.S.Supply.refused l.fn.supply;
+  unrefused : g.S.Supply.refused l.supply ≡ g.S.Supply.refused l.fn.supply;
 }

@@ -6,5 +6,5 @@ use Rattle.wires.proofs.downs.Downs.on_each_path.Given as goal
 abbrev pub invariant-loop-path : goal.invariant-loop-path
 invariant-loop-path g l = record {
   made : l.rings.items ≡ replicate l._path [];
-  given : g.S.Supply.refused l.supply ≡ g.S.Supply.refused l.fn.supply;
+  unrefused : g.S.Supply.refused l.supply ≡ g.S.Supply.refused l.fn.supply;
 }
