@@ -54,19 +54,12 @@ LineResult = Result LineState Fault
 abbrev pub line_chosen : LineState → HoldPhase → ℕ → Bool → LineResult
 line_chosen l Free p single = Ok (acts l (Offers p single))
 line_chosen l (Reset r) p single = Ok (acts l (Sends_reset p))
-line_chosen l (Offer t q) p single = Err NotNow
-line_chosen l (On t q c) p single = Err NotNow
-line_chosen l (Away t) p single = Err NotNow
-line_chosen l (Letting t q) p single = Err NotNow
+line_chosen l phase p single = Err NotNow
 
 -- the device is let go where a program is connected
 abbrev pub line_let_go : LineState → HoldPhase → LineResult
 line_let_go l (On t q c) = Ok (acts l Lets_go)
-line_let_go l Free = Err NotNow
-line_let_go l (Offer t q) = Err NotNow
-line_let_go l (Away t) = Err NotNow
-line_let_go l (Letting t q) = Err NotNow
-line_let_go l (Reset r) = Err NotNow
+line_let_go l phase = Err NotNow
 
 -- the hold sends a signal of its program on a path
 abbrev pub line_sends : LineState → ℕ → Down → LineResult

@@ -78,21 +78,14 @@ abbrev pub IsFullFor : WorldState → WorldRoom → WorldEvent → Type 0
 IsFullFor w room (event.Choose side p single) = IsFullDown (line_room_of room side)
 IsFullFor w room (event.Down side index keep may) = IsFullUp (line_room_of room side)
 IsFullFor w room (event.Up side index keep may) = IsFullDown (line_room_of room side)
-IsFullFor w room (event.LoseDown side index) = ⊥
-IsFullFor w room (event.LoseUp side index) = ⊥
-IsFullFor w room (event.PathDown side p) = ⊥
-IsFullFor w room (event.PathUp side p) = ⊥
-IsFullFor w room (event.PathReset side p) = ⊥
 IsFullFor w room (event.LetGo side) = IsFullDown (line_room_of room side)
 IsFullFor w room (event.Send side p signal) = IsFullDown (line_room_of room side)
-IsFullFor w room (event.Clear side) = ⊥
-IsFullFor w room event.SubsystemReset = ⊥
 IsFullFor w room event.Leave = IsOwnerFull room w.«unit».own
 IsFullFor w room (event.Ask p) = IsOwnerFull room w.«unit».own
 IsFullFor w room (event.Attention side p) = IsFullUp (line_room_of room side)
 IsFullFor w room (event.Notice side p) = IsFullUp (line_room_of room side)
-IsFullFor w room event.Restart = ⊥
 IsFullFor w room (event.Report report) = IsOwnerFull room w.«unit».own
+IsFullFor w room e = ⊥
 
 -- the steps are used up, or there is no room for the event
 abbrev pub IsWorldSpent : WorldAndRoom → WorldEvent → Type 0

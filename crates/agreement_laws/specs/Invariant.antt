@@ -142,12 +142,7 @@ IsDownGood e p (down.Select t) = (t ≤ e.drawn) × IsSelectGood e.phase e.floor
 IsDownGood e p (down.Release t) = (t ≤ e.drawn) × IsReleaseGood e.phase t
 IsDownGood e p (down.Reset r b) = (r ≤ e.drawn) × (b ≤ e.restarts) × IsResetGood e r b
 IsDownGood e p (down.Grant t c) = (t ≤ e.drawn) × IsGrantGood e.phase e.last e.seen t c
-IsDownGood e p (down.Command t n code room) = Unit {0}
-IsDownGood e p (down.Refuse t c) = Unit {0}
-IsDownGood e p (down.Took t n s room) = Unit {0}
-IsDownGood e p (down.Give bytes t c n s) = Unit {0}
-IsDownGood e p (down.Halt t) = Unit {0}
-IsDownGood e p (down.Got a) = Unit {0}
+IsDownGood e p signal = Unit {0}
 
 -- Signals from the unit. Accept: where it is that of the offer, the unit is not idle
 abbrev pub IsAcceptGood : HoldPhase → SideSeen → ℕ → Type 0

@@ -15,25 +15,11 @@ IsInitial status = (status.0 ≡ 0) ⊎ IsTrue (is_initial status)
 abbrev pub IsFinal : DeviceStatus → Type 0
 IsFinal status = IsTrue (has_device_end status)
 
--- the answers that a call may bring: never a Data that is sent again, which needs no call
+-- the answers that a call may bring, and no others: never a Data that is sent again, which needs no call
 abbrev pub IsAnswer : Call → DeviceAnswer → Type 0
 IsAnswer (Initial code) Begins = Unit {0}
-IsAnswer (Initial code) (Absorbed count) = ⊥
-IsAnswer (Initial code) (Supplied bytes) = ⊥
-IsAnswer (Initial code) Again = ⊥
 IsAnswer (Initial code) (Ended status more) = IsTrue (is_initial status) × (more ≡ false)
-IsAnswer (Absorb bytes) Begins = ⊥
 IsAnswer (Absorb bytes) (Absorbed count) = count ≤ length bytes
-IsAnswer (Absorb bytes) (Supplied supplied) = ⊥
-IsAnswer (Absorb bytes) Again = ⊥
-IsAnswer (Absorb bytes) (Ended status more) = ⊥
-IsAnswer (Supply most) Begins = ⊥
-IsAnswer (Supply most) (Absorbed count) = ⊥
 IsAnswer (Supply most) (Supplied bytes) = length bytes ≤ most
-IsAnswer (Supply most) Again = ⊥
-IsAnswer (Supply most) (Ended status more) = ⊥
-IsAnswer Finish Begins = ⊥
-IsAnswer Finish (Absorbed count) = ⊥
-IsAnswer Finish (Supplied bytes) = ⊥
-IsAnswer Finish Again = ⊥
 IsAnswer Finish (Ended status more) = IsFinal status
+IsAnswer call answer = ⊥

@@ -42,14 +42,7 @@ one-bit (suc (suc n)) h = absurd (omega (arith, h))
 
 pub seven-items : (xs : List ℕ) → length xs ≡ 7 → xs ≡ slice_index xs 0 ∷ slice_index xs 1 ∷ slice_index xs 2 ∷ slice_index xs 3 ∷ slice_index xs 4 ∷ slice_index xs 5 ∷ slice_index xs 6 ∷ []
 seven-items (a ∷ b ∷ c ∷ d ∷ e ∷ f ∷ g ∷ []) h = refl
-seven-items (a ∷ b ∷ c ∷ d ∷ e ∷ f ∷ g ∷ x ∷ xs) h = absurd (omega (arith, h))
-seven-items [] h = absurd (omega (arith, h))
-seven-items (a ∷ []) h = absurd (omega (arith, h))
-seven-items (a ∷ b ∷ []) h = absurd (omega (arith, h))
-seven-items (a ∷ b ∷ c ∷ []) h = absurd (omega (arith, h))
-seven-items (a ∷ b ∷ c ∷ d ∷ []) h = absurd (omega (arith, h))
-seven-items (a ∷ b ∷ c ∷ d ∷ e ∷ []) h = absurd (omega (arith, h))
-seven-items (a ∷ b ∷ c ∷ d ∷ e ∷ f ∷ []) h = absurd (omega (arith, h))
+seven-items xs h = absurd (omega (arith, h))
 
 -- words show the table of the word that they are
 shown : (a b c d e f g : ℕ) → a < 2 ^ 32 → field_of b 0 1 ≡ 0 → field_of b 5 7 ≡ 0 → field_of g 0 30 ≡ 0

@@ -20,12 +20,7 @@ lowest_path paths = cyclic_path paths 8 0
 
 abbrev pub is_idle : Chosen → Bool
 is_idle Idle = true
-is_idle (Resets r path) = false
-is_idle PerformsClear = false
-is_idle (Halts t path) = false
-is_idle PerformsHalt = false
-is_idle FindsNoPath = false
-is_idle (Offers c path) = false
+is_idle other = false
 
 -- the subsystem has something to do for the subchannel of itself. Whether it has any depends on whether there is a path to choose,
 -- and not on which is chosen: the lowest stands for all
