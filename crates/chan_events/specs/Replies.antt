@@ -1,8 +1,10 @@
 -- Replies over lists of bytes, replies whose bytes stand elsewhere, and replies without signals and without bytes (own).
-use Rattle.std.specs.Prelude.{ℕ, ◌+◌, Bool, List, [], ◌++◌, None, Some, Result, Ok, Err, take, drop}
+use Rattle.std.specs.Prelude.{ℕ, ◌+◌, Bool, List, [], ◌++◌, Option, None, Some, Result, Ok, Err, take, drop}
 use Rattle.std.specs.declared.convert.Infallible.{Infallible}
 use Rattle.chan_events.specs.declared.reply.Reply as declared_reply
 use Rattle.chan_events.specs.declared.reply.Reply.TheVariants as reply
+use Rattle.chan_model.specs.ConditionCodes.{code_of, tpi_code, stcrw_code}
+use Rattle.chan_model.specs.declared.answer.ConditionCode.{ConditionCode}
 use Rattle.chan_model.specs.Signals.{Down, KeptDown, KeptUp, Up, down_in, down_length, down_bytes, map_sent, up_in, up_length, up_bytes}
 use Rattle.chan_model.specs.declared.fault.Fault.{Fault}
 
@@ -92,3 +94,12 @@ reply_bytes (reply.Up signal taken (Some sent)) = up_bytes signal ++ down_bytes 
 reply_bytes (reply.Down signal taken None) = down_bytes signal
 reply_bytes (reply.Down signal taken (Some sent)) = down_bytes signal ++ up_bytes sent.signal
 reply_bytes r = []
+
+-- the condition code that an instruction with this reply set (SA22-7832, chapter 14); STORE CHANNEL PATH STATUS sets none
+abbrev pub reply_code : Reply → Option ConditionCode
+reply_code (reply.Code answer) = Some (code_of answer)
+reply_code (reply.Status answer scsw) = Some (code_of answer)
+reply_code (reply.Interruption found) = Some (tpi_code found)
+reply_code (reply.PathReset code) = Some code
+reply_code (reply.ChannelReport report) = Some (stcrw_code report)
+reply_code other = None

@@ -217,6 +217,31 @@ impl PlainReply {
             Reply::Down { signal, .. } => match *signal {},
         }
     }
+
+    /// The condition code that an instruction with this reply set; None where it sets none, and for the replies of other
+    /// events.
+    pub fn code(&self) -> Option<ConditionCode>
+        ensures { result ≡ spec.reply_code (spec.reply_of self.now) }
+    {
+        match self {
+            Reply::Code(answer) | Reply::Status { answer, .. } => Some(answer.code()),
+            Reply::Interruption(None) => Some(ConditionCode::Zero),
+            Reply::Interruption(Some(_)) => Some(ConditionCode::One),
+            Reply::PathReset(code) => Some(*code),
+            Reply::ChannelReport(None) => Some(ConditionCode::One),
+            Reply::ChannelReport(Some(_)) => Some(ConditionCode::Zero),
+            Reply::Shown { .. }
+            | Reply::Up { .. }
+            | Reply::Down { .. }
+            | Reply::Paths { .. }
+            | Reply::Done
+            | Reply::Offered { .. }
+            | Reply::ResetSent { .. }
+            | Reply::HaltSent { .. }
+            | Reply::Pending
+            | Reply::Idle => None,
+        }
+    }
 }
 
 impl KeptReply {

@@ -35,7 +35,7 @@ use Rattle.chan_events.specs.declared.reply.Reply.TheVariants as reply
 use Rattle.machine_model.specs.ActSteps.{act_sub, has_path_of_act, acts}
 use Rattle.machine_model.specs.declared.state.Sweep.{Sweep}
 use Rattle.machine_model.specs.declared.state.Sweep.TheVariants as sweep
-use Rattle.step_laws.specs.Walks.{Function, Resumes, Halts, Clears, Cancels, OneSub, Walked, Stays, Started, Tested, Modified, Performed, Chosen, Met, Sunk, Reported, Acted, Restarted, Swept, instruction_of, sweep_event}
+use Rattle.step_laws.specs.Walks.{Function, Resumes, OneSub, Walked, Stays, Started, Tested, Modified, Performed, Chosen, Met, Sunk, Reported, Acted, Restarted, Swept, instruction_of, sweep_event}
 use Rattle.subsystem.specs.Keeping.{all_serials}
 use Rattle.core_lock.specs.declared.touching.ChangedSerials.{ChangedSerials}
 use Rattle.core_lock.specs.declared.touching.ChangedSerials.TheVariants.{Nothing, Place, All}
@@ -123,9 +123,7 @@ act_same sub u what =
 -- the event of a kind of step
 function_word : (f : Function) (word : ℕ) → subchannel_word (instruction_of f word) ≡ word
 function_word Resumes word = refl
-function_word Halts word = refl
-function_word Clears word = refl
-function_word Cancels word = refl
+function_word f word = refl
 
 swept : (s : State) (what : Sweep) (old new : List Serials) → Changes (touched s (sweep_event what)) old new
 swept s (sweep.GoesDown chpid) old new = tt

@@ -35,32 +35,11 @@ by_ordered pairs index (Some s) all one = at_ordered pairs index s all one
 
 instruction_ordered : (pairs : List Serials) (d : Directory) (cpu : ℕ) (i : Instruction) (r : Reply) → All IsOrdered pairs → IfSome (serials_brought (answer_in r)) IsOrdered → All IsOrdered (raised_among pairs d (event.Execute cpu i) r)
 instruction_ordered pairs d cpu (instruction.Tsch word address) r all one = by_ordered pairs (index_named d word) (serials_brought (answer_in r)) all one
-instruction_ordered pairs d cpu (instruction.Ssch word address) r all one = all
-instruction_ordered pairs d cpu (instruction.Stsch word address) r all one = all
-instruction_ordered pairs d cpu (instruction.Msch word address) r all one = all
-instruction_ordered pairs d cpu (instruction.Rsch word) r all one = all
-instruction_ordered pairs d cpu (instruction.Hsch word) r all one = all
-instruction_ordered pairs d cpu (instruction.Csch word) r all one = all
-instruction_ordered pairs d cpu (instruction.Xsch word) r all one = all
-instruction_ordered pairs d cpu (instruction.Enable word subclass multipath) r all one = all
+instruction_ordered pairs d cpu i r all one = all
 
 pub raised_ordered : (pairs : List Serials) (d : Directory) (e : Event) (r : Reply) → BringsOrdered e r → All IsOrdered pairs → All IsOrdered (raised_among pairs d e r)
 raised_ordered pairs d (event.Execute cpu i) r one all = instruction_ordered pairs d cpu i r all one
-raised_ordered pairs d (event.Put address bytes) r one all = all
-raised_ordered pairs d (event.SetKey address key) r one all = all
-raised_ordered pairs d (event.SetPrefix cpu address) r one all = all
-raised_ordered pairs d (event.Show address count) r one all = all
-raised_ordered pairs d (event.ExecuteOther cpu i) r one all = all
-raised_ordered pairs d (event.Choose word) r one all = all
-raised_ordered pairs d (event.Up word path) r one all = all
-raised_ordered pairs d (event.Down word path) r one all = all
-raised_ordered pairs d (event.Report at report) r one all = all
-raised_ordered pairs d (event.Act at act) r one all = all
-raised_ordered pairs d (event.Restart at) r one all = all
-raised_ordered pairs d (event.PathDown chpid) r one all = all
-raised_ordered pairs d (event.PathUp chpid) r one all = all
-raised_ordered pairs d (event.PathReset chpid) r one all = all
-raised_ordered pairs d event.SystemReset r one all = all
+raised_ordered pairs d e r one all = all
 
 at_length : (pairs : List Serials) (index : Option ℕ) (s : Serials) → length (raised_at pairs index s) ≡ length pairs
 at_length pairs None s = refl
@@ -72,29 +51,8 @@ by_length pairs index (Some s) = at_length pairs index s
 
 instruction_length : (pairs : List Serials) (d : Directory) (cpu : ℕ) (i : Instruction) (r : Reply) → length (raised_among pairs d (event.Execute cpu i) r) ≡ length pairs
 instruction_length pairs d cpu (instruction.Tsch word address) r = by_length pairs (index_named d word) (serials_brought (answer_in r))
-instruction_length pairs d cpu (instruction.Ssch word address) r = refl
-instruction_length pairs d cpu (instruction.Stsch word address) r = refl
-instruction_length pairs d cpu (instruction.Msch word address) r = refl
-instruction_length pairs d cpu (instruction.Rsch word) r = refl
-instruction_length pairs d cpu (instruction.Hsch word) r = refl
-instruction_length pairs d cpu (instruction.Csch word) r = refl
-instruction_length pairs d cpu (instruction.Xsch word) r = refl
-instruction_length pairs d cpu (instruction.Enable word subclass multipath) r = refl
+instruction_length pairs d cpu i r = refl
 
 pub raised_length : (pairs : List Serials) (d : Directory) (e : Event) (r : Reply) → length (raised_among pairs d e r) ≡ length pairs
 raised_length pairs d (event.Execute cpu i) r = instruction_length pairs d cpu i r
-raised_length pairs d (event.Put address bytes) r = refl
-raised_length pairs d (event.SetKey address key) r = refl
-raised_length pairs d (event.SetPrefix cpu address) r = refl
-raised_length pairs d (event.Show address count) r = refl
-raised_length pairs d (event.ExecuteOther cpu i) r = refl
-raised_length pairs d (event.Choose word) r = refl
-raised_length pairs d (event.Up word path) r = refl
-raised_length pairs d (event.Down word path) r = refl
-raised_length pairs d (event.Report at report) r = refl
-raised_length pairs d (event.Act at act) r = refl
-raised_length pairs d (event.Restart at) r = refl
-raised_length pairs d (event.PathDown chpid) r = refl
-raised_length pairs d (event.PathUp chpid) r = refl
-raised_length pairs d (event.PathReset chpid) r = refl
-raised_length pairs d event.SystemReset r = refl
+raised_length pairs d e r = refl

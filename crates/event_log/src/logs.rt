@@ -6,14 +6,13 @@ ghost use Rattle.chan_model.specs.Lent.{lent_down, lent_up};
 ghost use Rattle.chan_model.specs.Signals.{map_sent};
 ghost use Rattle.event_log.specs.Logs.{IsKept, IsPacked, IsPending, answer_in, unfinished, written_reply};
 ghost use Rattle.event_log.specs.Entries.{entry_in, entry_length};
-ghost use Rattle.chan_events.specs.Replies.{plain_outcome};
+ghost use Rattle.chan_events.specs.Replies.{plain_outcome, reply_in, reply_length};
 
 use crate::arena::add_bytes;
 use crate::entries::KeptEntry;
 use crate::history::History;
 use chan_events::event::Event;
 use chan_events::reply::{KeptReply, PlainReply, Reply};
-use chan_model::chunk::ChunkLength;
 use chan_model::fault::Fault;
 use chan_model::lent::{LentDown, LentUp};
 use chan_model::signal::OnPath;
@@ -145,18 +144,16 @@ impl Log {
         }
     }
 
-    /// It shows bytes of storage.
-    pub fn show(&mut self, bytes: &[u8])
+    /// The reply of the entry that is being written is kept so, with these bytes.
+    pub fn tell_kept(&mut self, kept: KeptReply, bytes: &[u8])
         requires room { 1 ≤ self.old.room }
         requires fresh { self.old.reply ≡ reply_spec.Done }
-        requires bound { length bytes.now ≤ 256 }
-        ensures reply { self.new.reply ≡ reply_spec.Shown bytes.now }
+        requires whole { reply_length kept ≡ length bytes.now }
+        requires bound { length bytes.now ≤ 512 }
+        ensures reply { self.new.reply ≡ reply_in kept bytes.now }
         ensures kept { IsKept self.old self.new }
     {
-        let reply = Reply::Shown {
-            bytes: ChunkLength::of(bytes),
-        };
-        write(&mut self.entries, self.count, self.start, reply);
+        write(&mut self.entries, self.count, self.start, kept);
         add_bytes(&mut self.bytes, bytes);
     }
 

@@ -11,7 +11,7 @@ use Rattle.subchannel_model.specs.declared.state.Subchannel.{Subchannel}
 use Rattle.interruptions.specs.Requests as requests
 use Rattle.machine_model.specs.OtherSteps.{LentWhole, OtherResult, other_result}
 use Rattle.machine_model.specs.Requests.{requests_after}
-use Rattle.io_step.specs.declared.instruction.ChannelPaths.{ChannelPaths}
+use Rattle.io_step.specs.declared.others.ChannelPaths.{ChannelPaths}
 use Rattle.io_step.specs.Executing.{Executed, Executed_absent}
 
 -- what an instruction on a subchannel is lent; the subchannel where it is provided

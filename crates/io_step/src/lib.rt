@@ -14,14 +14,12 @@
 mod absent;
 mod effects;
 mod enabling;
-mod instruction;
 mod operands;
 mod others;
 mod performing;
 mod provided;
 
 pub use absent::execute_absent;
-pub use instruction::{ChannelPaths, reply_code};
-pub use others::{PathTable, rchp, stcps, stcrw, tpi};
+pub use others::{ChannelPaths, PathTable, rchp, stcps, stcrw, tpi};
 pub use performing::{perform, perform_other, perform_provided};
 pub use provided::execute;

@@ -38,6 +38,15 @@ const PATH_STATUS_BOUNDARY: u32 = 32;
 /// For each channel-path identifier, whether the channel path is in the set.
 pub type PathTable = [bool; 256];
 
+/// What is known of the channel paths, by identifier.
+#[derive(Clone, Copy)]
+pub struct ChannelPaths {
+    /// It is configured and not down.
+    pub up: PathTable,
+    /// It is engaged in a transfer: its bit that STORE CHANNEL PATH STATUS stores is one.
+    pub engaged: PathTable,
+}
+
 /// Whether the interruption code may be stored at an address.
 fn check_code(storage: &Storage, cpu: Cpu, address: u32) -> Result<(), Fault>
     ensures checked { result ≡ from_storage (spec.code_check storage.now cpu address) }

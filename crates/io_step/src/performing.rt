@@ -8,8 +8,7 @@ ghost use Rattle.machine_model.specs.OtherSteps.{lent_whole};
 ghost use Rattle.machine_model.specs.Requests as requests_spec;
 
 use crate::absent::execute_absent;
-use crate::instruction::{ChannelPaths, reply_code};
-use crate::others::{rchp, stcps, stcrw, tpi};
+use crate::others::{ChannelPaths, rchp, stcps, stcrw, tpi};
 use crate::provided::execute;
 use chan_events::event::{Instruction, OtherInstruction};
 use chan_events::reply::{PlainReply, Reply};
@@ -56,7 +55,7 @@ pub fn perform_provided(
 {
     let id = sub.state.setup().id;
     let reply = execute(storage, sub, cpu, instruction)?;
-    if drops(instruction, reply_code(&reply)) {
+    if drops(instruction, reply.code()) {
         pending.drop_request(id.set, id.number);
     }
     Ok(reply)

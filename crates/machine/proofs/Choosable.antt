@@ -1,37 +1,29 @@
 -- Whether a Choose is answered Idle depends on whether there is a path to choose, and not on which is chosen.
 use Rattle.std.proofs.Common.{◌≡◌, refl, sym, ◌∙◌, ap, subst, ℕ, zero, suc, ◌+◌, ◌<◌, ◌%◌, Bool, true, false, not, arith, Option, None, Some, is_some, Result, Ok, Err, List, [], ◌∷◌, if◌then◌else◌}
-use Rattle.std.specs.Prelude.{◌≢◌, IfOk, slice_get}
+use Rattle.std.specs.Prelude.{◌≢◌, IfOk, MatchResult, slice_get}
 use Rattle.std.proofs.Math.Nat.{mod-eq_of_lt}
-use Rattle.std.proofs.lemmas.Bool.{cond_both}
 use Rattle.std.proofs.lemmas.Option.{get_or_from_slice_get, same_Some}
-use Rattle.allegiance.specs.PathUse.{reachable_paths}
-use Rattle.chan_model.specs.PathSets.{is_any, is_member}
+use Rattle.chan_model.specs.PathSets.{is_member}
 use Rattle.path_select.specs.Choice.{IsChoice, IsUsable}
 use Rattle.chan_model.specs.declared.fault.Fault.{Fault}
 use Rattle.chan_model.specs.declared.fault.Fault.TheVariants.{WireFull}
-use Rattle.chan_model.specs.declared.hold_state.HoldPhase.{HoldPhase}
-use Rattle.chan_model.specs.declared.hold_state.HoldPhase.TheVariants as hold
-use Rattle.chan_model.specs.Signals.{Down}
-use Rattle.chan_model.specs.declared.signal.Down.TheVariants as down
-use Rattle.chan_events.specs.Events.{Event}
 use Rattle.chan_events.specs.declared.event.Event.TheVariants as event
 use Rattle.chan_events.specs.Replies.{Reply}
 use Rattle.chan_events.specs.declared.reply.Reply.TheVariants as reply
-use Rattle.subchannel_model.specs.declared.state.Candidate.{Candidate}
 use Rattle.subchannel_model.specs.declared.state.Chosen.{Chosen}
-use Rattle.subchannel_model.specs.declared.state.Chosen.TheVariants.{Idle, Resets, PerformsClear, Halts, PerformsHalt, FindsNoPath, Offers}
+use Rattle.subchannel_model.specs.declared.state.Chosen.TheVariants.{Idle}
 use Rattle.subchannel_model.specs.declared.state.Subchannel.{Subchannel}
-use Rattle.subchannel_model.specs.declared.state.SubchannelState.{SubchannelState}
-use Rattle.subchannel_model.specs.Choosing.{candidate, chosen, clear_chosen, halt_sent, marked_sub, offered, path_use, paths_to_choose, reset_chosen, reset_sent, unsent_reset, halt_chosen, offer_chosen, chosen_of}
-use Rattle.subchannel_model.specs.Indices.{Found, found_at, sub_at, found_with}
-use Rattle.subchannel_model.specs.Sending.{carried_by, finds_full, with_any_sent}
+use Rattle.subchannel_model.specs.Choosing.{chosen, marked_sub, paths_to_choose}
+use Rattle.subchannel_model.specs.Indices.{sub_at}
 use Rattle.subchannel_model.specs.Losing.{path_index}
-use Rattle.machine_model.specs.ChooseSteps.{choose_sub, send_sub}
-use Rattle.machine_model.specs.Requests.{settled}
+use Rattle.machine_model.specs.ChooseSteps.{choose_sub}
 use Rattle.chan_model.specs.PathSets.{cyclic_path}
-use Rattle.machine_model.specs.State.{State, index_of, sub_of}
+use Rattle.machine_model.specs.State.{State, sub_of}
 use Rattle.machine_model.specs.Steps.{Step}
-use Rattle.machine_model.specs.Results.{Outcome, SubResult, at_sub, leaves}
+use Rattle.machine_model.specs.Results.{SubResult}
+use Rattle.step_laws.proofs.Choices.{IsToldBy, choice-told, idle-whichever}
+use Rattle.step_laws.proofs.Results as turn
+use Rattle.step_laws.proofs.Results.{HasResult, ResultOf, step-turn}
 use Rattle.signal_step.specs.PathTurns.{has_to_choose, is_idle, lowest_path, path_turn_of, turn_at, turn_by, turn_on, waits_up}
 
 -- the first path of a set, in cyclic order, is a path of it, and there is one where the set has any
@@ -71,96 +63,35 @@ usable-found paths p u =
     let same : (0 + p) % 8 ≡ p = ap (λ (k : ℕ). k % 8) (omega arith) ∙ mod-eq_of_lt u.0 in
     member-found paths 8 0 p u.0 (ap (is_member paths) same ∙ get_or_from_slice_get paths p true false u.1)
 
--- which path is chosen makes no difference to whether there is anything to do
-abbrev picks : Option ℕ → Bool → Bool → HoldPhase → Option Candidate → Bool → Option ℕ → Chosen
-picks unsent clear halt phase c reachable choice =
-    chosen_of (reset_chosen unsent choice ∷ clear_chosen unsent clear ∷ halt_chosen halt phase choice ∷ offer_chosen phase c reachable choice ∷ [])
+-- the lowest path may be chosen, where there is one; and whichever is, it is found whether there is anything to do
+lowest-choice : (paths : List Bool) (low : Option ℕ) → lowest_path paths ≡ low → IsChoice paths low
+lowest-choice paths None e = λ p usable. absurd (cc (sym (usable-found paths p usable) ∙ ap is_some e))
+lowest-choice paths (Some q) e = let found = found-member paths 8 0 q e in (found.1, member-get paths q found.0)
 
-same-kind : (unsent : Option ℕ) (clear halt : Bool) (phase : HoldPhase) (c : Option Candidate) (reachable : Bool) (a b : ℕ) →
-    is_idle (picks unsent clear halt phase c reachable (Some a)) ≡ is_idle (picks unsent clear halt phase c reachable (Some b))
-same-kind (Some r) clear halt phase c reachable a b = refl
-same-kind None clear true hold.Free c reachable a b = refl
-same-kind None clear true (hold.Offer t p) None reachable a b = refl
-same-kind None clear true (hold.Offer t p) (Some c) reachable a b = refl
-same-kind None clear true (hold.On t p n) c reachable a b = refl
-same-kind None clear true (hold.Away t) c reachable a b = refl
-same-kind None clear true (hold.Letting t p) c reachable a b = refl
-same-kind None clear true (hold.Reset r) c reachable a b = refl
-same-kind None clear false phase None reachable a b = refl
-same-kind None clear false hold.Free (Some c) reachable a b = refl
-same-kind None clear false (hold.Offer t p) (Some c) reachable a b = refl
-same-kind None clear false (hold.On t p n) (Some c) reachable a b = refl
-same-kind None clear false (hold.Away t) (Some c) reachable a b = refl
-same-kind None clear false (hold.Letting t p) (Some c) reachable a b = refl
-same-kind None clear false (hold.Reset r) (Some c) reachable a b = refl
+idle-is : (what : Chosen) → is_idle what ≡ true → what ≡ Idle
+idle-is Idle e = refl
+idle-is what e = absurd (cc e)
 
-kind-of : (sub : Subchannel) (paths : List Bool) (choice low : Option ℕ) → IsChoice paths choice → lowest_path paths ≡ low →
-    is_idle (chosen sub choice) ≡ is_idle (chosen sub low)
-kind-of sub paths None None x e = refl
-kind-of sub paths None (Some q) x e =
-    let found = found-member paths 8 0 q e in
-    absurd (x q (found.1, member-get paths q found.0))
-kind-of sub paths (Some p) None x e = absurd (cc (sym (usable-found paths p x) ∙ ap is_some e))
-kind-of sub paths (Some p) (Some q) x e =
-    same-kind (unsent_reset sub.state.hold) sub.state.scsw.activity.clear_pending sub.state.scsw.activity.halt_pending sub.state.hold.phase
-    (candidate sub.state) (is_any (reachable_paths (path_use sub))) p q
-
--- the reply is Idle where nothing was chosen, and there alone
-sends-busy : (sub : Subchannel) (state : SubchannelState) (path : ℕ) (signal : Down) (r : Reply) → r ≢ reply.Idle →
-    IfOk (send_sub sub state path signal r) (λ t. t.reply ≢ reply.Idle)
-sends-busy sub state path signal r busy =
-    let sent = carried_by sub (Some (record { path = path; signal = signal })) in
-    cond_both (finds_full sub.wires.down sent) (Err WireFull)
-    (Ok (leaves r (record sub { state = state; wires = record sub.wires { down = with_any_sent sub.wires.down sent } })))
-    (λ x. IfOk x (λ t. t.reply ≢ reply.Idle)) (λ e. tt) (λ e. busy)
-
-replies-busy : (sub : Subchannel) (what : Chosen) → is_idle what ≡ false → IfOk (choose_sub sub what) (λ t. t.reply ≢ reply.Idle)
-replies-busy sub Idle e = absurd (cc e)
-replies-busy sub (Resets r path) e =
-    sends-busy sub (reset_sent sub.state path) path (down.Reset r sub.state.hold.known_restarts) (reply.ResetSent r path) (λ g. cc g)
-replies-busy sub PerformsClear e = λ g. cc g
-replies-busy sub (Halts t path) e = sends-busy sub (halt_sent sub.state) path (down.Halt t) (reply.HaltSent t path) (λ g. cc g)
-replies-busy sub PerformsHalt e = λ g. cc g
-replies-busy sub FindsNoPath e = λ g. cc g
-replies-busy sub (Offers c path) e =
-    sends-busy sub (offered sub.state c.program path) path (down.Select (sub.state.drawn + 1)) (reply.Offered (sub.state.drawn + 1) path c.resumes) (λ g. cc g)
-
-replies-idle : (sub : Subchannel) (what : Chosen) → is_idle what ≡ true → IfOk (choose_sub sub what) (λ t. t.reply ≡ reply.Idle)
-replies-idle sub Idle e = refl
-replies-idle sub (Resets r path) e = absurd (cc e)
-replies-idle sub PerformsClear e = absurd (cc e)
-replies-idle sub (Halts t path) e = absurd (cc e)
-replies-idle sub PerformsHalt e = absurd (cc e)
-replies-idle sub FindsNoPath e = absurd (cc e)
-replies-idle sub (Offers c path) e = absurd (cc e)
-
-at-sub-replies : (Q : Reply → Type 0) (s : State) (index : ℕ) (x : Result SubResult Fault) → IfOk x (λ t. Q t.reply) → IfOk (at_sub s index x) (λ t. Q t.reply)
-at-sub-replies Q s index (Ok t) q = q
-at-sub-replies Q s index (Err f) q = tt
-
-settled-replies : (Q : Reply → Type 0) (s : State) (e : Event) (x : Outcome) → IfOk x (λ t. Q t.reply) → IfOk (settled s e x) (λ t. Q t.reply)
-settled-replies Q s e (Ok t) q = q
-settled-replies Q s e (Err f) q = tt
-
-found-of : (subs : List Subchannel) (p : Option ℕ) (sub : Subchannel) → sub_at subs p ≡ Some sub → (f : Found) × (found_at subs p ≡ Some f) × (f.sub ≡ sub)
-found-of subs None sub e = absurd (cc e)
-found-of subs (Some index) sub e = (record { index = index; sub = sub }, ap (found_with index) e, refl)
+told-in : (what : Chosen) (Q : Reply → Type 0) (x : Result SubResult Fault) → MatchResult x (λ t. IsToldBy what t.reply) (λ f. f ≡ WireFull) →
+    ((r : Reply) → IsToldBy what r → Q r) → IfOk x (λ t. Q t.reply)
+told-in what Q (Ok t) told q = q t.reply told
+told-in what Q (Err f) told q = tt
 
 -- what holds of the reply to each lawful choice holds of the reply of the step
 abbrev HoldsOfEach : (Reply → Type 0) → State → Subchannel → Type 0
 HoldsOfEach Q s sub = (choice : Option ℕ) → IsChoice (paths_to_choose s.subs sub) choice → IfOk (choose_sub (marked_sub sub choice) (chosen sub choice)) (λ t. Q t.reply)
 
+on-turn : (Q : Reply → Type 0) (s : State) (word : ℕ) (sub : Subchannel) (r : Reply) (left : State) → sub_of s word ≡ Some sub → HoldsOfEach Q s sub →
+    ResultOf s (event.Choose word) r left → Q r
+on-turn Q s word sub _ _ here each (turn.Chosen _ index found choice t named there is ok) =
+    let same : sub ≡ found = same_Some sub found (sym here ∙ (ap (sub_at s.subs) named ∙ there)) in
+    subst (λ (x : Result SubResult Fault). IfOk x (λ t. Q t.reply)) ok (subst (λ (x : Subchannel). HoldsOfEach Q s x) same each choice is)
+
 on-step : (Q : Reply → Type 0) (s : State) (word : ℕ) (sub : Subchannel) (r : Reply) (new : State) → sub_of s word ≡ Some sub → HoldsOfEach Q s sub →
     Step s (event.Choose word) r new → Q r
-on-step Q s word sub r new here each (t, does_so, is) =
-    let f = found-of s.subs (index_of s word) sub here in
-    let by : HoldsOfEach Q s f.0.sub = subst (λ (x : Subchannel). HoldsOfEach Q s x) (sym f.2) each in
-    let met : (choice : Option ℕ) × IsChoice (paths_to_choose s.subs f.0.sub) choice × (t ≡ at_sub s f.0.index (choose_sub (marked_sub f.0.sub choice) (chosen f.0.sub choice))) =
-    subst (λ (o : Option Found). Rattle.machine_model.specs.ChooseSteps.Chooses s o t) f.1 does_so in
-    subst (λ (x : Outcome). IfOk x (λ t. Q t.reply)) (sym is)
-    (settled-replies Q s (event.Choose word) t
-    (subst (λ (x : Outcome). IfOk x (λ t. Q t.reply)) (sym met.2)
-    (at-sub-replies Q s f.0.index (choose_sub (marked_sub f.0.sub met.0) (chosen f.0.sub met.0)) (by met.0 met.1))))
+on-step Q s word sub r new here each step =
+    let is : HasResult s (event.Choose word) r new = step-turn s (event.Choose word) r new step in
+    on-turn Q s word sub r is.left here each is.turn
 
 not-true : (b : Bool) → not b ≡ true → b ≡ false
 not-true true e = absurd (cc e)
@@ -173,18 +104,24 @@ not-false false e = absurd (cc e)
 busy-step : (s : State) (word : ℕ) (sub : Subchannel) (r : Reply) (new : State) → sub_of s word ≡ Some sub → has_to_choose s.subs sub ≡ true →
     Step s (event.Choose word) r new → r ≢ reply.Idle
 busy-step s word sub r new here owed =
+    let paths : List Bool = paths_to_choose s.subs sub in
     on-step (λ x. x ≢ reply.Idle) s word sub r new here
-    (λ choice x. replies-busy (marked_sub sub choice) (chosen sub choice)
-    (kind-of sub (paths_to_choose s.subs sub) choice (lowest_path (paths_to_choose s.subs sub)) x refl
-    ∙ not-true (is_idle (chosen sub (lowest_path (paths_to_choose s.subs sub)))) owed))
+    (λ choice x. told-in (chosen sub choice) (λ y. y ≢ reply.Idle) (choose_sub (marked_sub sub choice) (chosen sub choice))
+    (choice-told (marked_sub sub choice) (chosen sub choice))
+    (λ y told g.
+    let idle : is_idle (chosen sub (lowest_path paths)) ≡ true =
+    ap is_idle (idle-whichever sub paths choice (lowest_path paths) x (lowest-choice paths (lowest_path paths) refl) (told.0 g)) in
+    cc (sym idle ∙ not-true (is_idle (chosen sub (lowest_path paths))) owed)))
 
 idle-step : (s : State) (word : ℕ) (sub : Subchannel) (r : Reply) (new : State) → sub_of s word ≡ Some sub → has_to_choose s.subs sub ≡ false →
     Step s (event.Choose word) r new → r ≡ reply.Idle
 idle-step s word sub r new here owed =
+    let paths : List Bool = paths_to_choose s.subs sub in
     on-step (λ x. x ≡ reply.Idle) s word sub r new here
-    (λ choice x. replies-idle (marked_sub sub choice) (chosen sub choice)
-    (kind-of sub (paths_to_choose s.subs sub) choice (lowest_path (paths_to_choose s.subs sub)) x refl
-    ∙ not-false (is_idle (chosen sub (lowest_path (paths_to_choose s.subs sub)))) owed))
+    (λ choice x. told-in (chosen sub choice) (λ y. y ≡ reply.Idle) (choose_sub (marked_sub sub choice) (chosen sub choice))
+    (choice-told (marked_sub sub choice) (chosen sub choice))
+    (λ y told. told.1 (idle-whichever sub paths (lowest_path paths) choice (lowest-choice paths (lowest_path paths) refl) x
+    (idle-is (chosen sub (lowest_path paths)) (not-false (is_idle (chosen sub (lowest_path paths))) owed)))))
 
 -- what a turn gives, and when it gives nothing
 record Gives (subs : List Subchannel) (o : Option Subchannel) (word asked : ℕ) : Type 0 where

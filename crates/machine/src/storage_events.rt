@@ -59,9 +59,14 @@ impl Machine {
         ensures refused { OnErr result (log.new ≡ log.old) }
     {
         match self.storage.show(address, length.get()) {
-            Ok(shown) => log.show(shown),
-            Err(fault) => return Err(Fault::Storage(fault)),
+            Ok(shown) => {
+                let reply = Reply::Shown {
+                    bytes: ChunkLength::of(shown),
+                };
+                log.tell_kept(reply, shown);
+                Ok(())
+            }
+            Err(fault) => Err(Fault::Storage(fault)),
         }
-        Ok(())
     }
 }

@@ -5,27 +5,17 @@ use Rattle.std.specs.Prelude.{◌%◌, Bool, true, false, nat_lt, if◌then◌el
 use Rattle.scsw_irb.specs.declared.code.IntCode.{IntCode}
 use Rattle.chan_model.specs.declared.answer.ConditionCode.{ConditionCode}
 use Rattle.chan_model.specs.declared.answer.ConditionCode.TheVariants.{Zero, One}
-use Rattle.chan_model.specs.ConditionCodes.{code_of, tpi_code, stcrw_code}
 use Rattle.chan_events.specs.Events.{Event}
 use Rattle.chan_events.specs.declared.event.Event.TheVariants as event
 use Rattle.chan_events.specs.declared.event.Instruction.{Instruction}
 use Rattle.chan_events.specs.declared.event.Instruction.TheVariants as instruction
 use Rattle.chan_events.specs.Replies.{Reply}
-use Rattle.chan_events.specs.declared.reply.Reply.TheVariants as reply
+pub use Rattle.chan_events.specs.Replies.{reply_code}
 use Rattle.interruptions.specs.Requests as requests
 use Rattle.subchannel_model.specs.declared.state.Subchannel.{Subchannel}
 use Rattle.machine_model.specs.State.{State, sub_of}
 use Rattle.machine_model.specs.Results.{StepResult, Outcome}
 use Rattle.chan_events.specs.Instructions.{subchannel_word}
-
--- the condition code that an instruction with this reply set; STORE CHANNEL PATH STATUS sets none
-abbrev pub reply_code : Reply → Option ConditionCode
-reply_code (reply.Code answer) = Some (code_of answer)
-reply_code (reply.Status answer scsw) = Some (code_of answer)
-reply_code (reply.Interruption found) = Some (tpi_code found)
-reply_code (reply.PathReset code) = Some code
-reply_code (reply.ChannelReport report) = Some (stcrw_code report)
-reply_code other = None
 
 -- TEST with code 0 and 1, and CLEAR with code 0, drop the request of their subchannel (chapter 16)
 abbrev pub drops : Instruction → Option ConditionCode → Bool

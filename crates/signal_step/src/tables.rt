@@ -46,8 +46,6 @@ pub fn engaged_for(subs: &Served<'_>, instruction: OtherInstruction) -> PathTabl
 {
     match instruction {
         OtherInstruction::Stcps { .. } => engaged(subs),
-        OtherInstruction::Tpi { .. }
-        | OtherInstruction::Rchp { .. }
-        | OtherInstruction::Stcrw { .. } => [false; 256],
+        _ => [false; 256],
     }
 }

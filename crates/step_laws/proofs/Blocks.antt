@@ -11,7 +11,7 @@ use Rattle.storage_keys.specs.Storage.{Contents, put, put_at, key_set, prefix_se
 use Rattle.chan_events.specs.Events.{Event}
 use Rattle.chan_events.specs.declared.event.Event.TheVariants as event
 use Rattle.chan_events.specs.declared.event.Instruction.{Instruction}
-use Rattle.chan_events.specs.Replies.{Reply}
+use Rattle.chan_events.specs.Replies.{Reply, reply_code}
 use Rattle.chan_model.specs.declared.fault.Fault.{Fault}
 use Rattle.chan_model.specs.Signals.{Load, Up, load_bytes}
 use Rattle.chan_model.specs.declared.signal.Up.TheVariants as up
@@ -43,7 +43,7 @@ use Rattle.machine_model.specs.Results.{UpResult}
 use Rattle.chan_events.specs.Instructions.{subchannel_word}
 use Rattle.machine_model.specs.UpSteps.{returns_at, up_front, up_sub}
 use Rattle.machine_model.specs.DownSteps.{asks_at}
-use Rattle.machine_model.specs.Requests.{reply_code, drops, requests_after, requests_dropped, posted_all, posted_for, request_of, makes_status}
+use Rattle.machine_model.specs.Requests.{drops, requests_after, requests_dropped, posted_all, posted_for, request_of, makes_status}
 use Rattle.machine_model.specs.Steps.{Step}
 use Rattle.machine_model.specs.Sharing.{is_let_go, members_asked, members_over, members_after}
 use Rattle.machine_model.specs.Setups.{group_of}
@@ -118,17 +118,9 @@ data-of n storage s (Some b) signal load k =
     (brought-of n storage b.transfer signal.sequence (load_bytes load) k)) k
 
 met-of : (n : ℕ) (returns : Bool) (storage : Contents) (s : SubchannelState) (p : ℕ) (signal : Up) → IsOf n storage → MeetsOf n (takes_up returns storage s p signal)
-met-of n returns storage s p (up.Accept t) k = k
-met-of n returns storage s p (up.Busy t) k = k
-met-of n returns storage s p (up.Leave t c) k = k
-met-of n returns storage s p (up.Back t c) k = k
 met-of n returns storage s p (up.Data load t c m seq) k =
     either (MeetsOf n) (is_connected s.hold.phase p t c) _ (with_storage storage (signal_ignored s)) (data-of n storage s s.begun _ load k) k
-met-of n returns storage s p (up.End t m status more) k = k
-met-of n returns storage s p (up.Released t) k = k
-met-of n returns storage s p (up.Cleared r) k = k
-met-of n returns storage s p (up.Notice b) k = k
-met-of n returns storage s p (up.Attn a status) k = k
+met-of n returns storage s p signal k = k
 
 abbrev UpOf : ℕ → Result UpResult Fault → Type 0
 UpOf n r = IfOk r (λ t. IsOf n t.storage)

@@ -1,6 +1,6 @@
 -- What an instruction that names a subchannel answers and leaves.
 use Rattle.std.proofs.Common.{◌≡◌, refl, sym, ◌∙◌, ap, subst, ℕ, zero, suc, Bool, Option, None, Some, Result, Ok, Err, List, [], ◌∷◌, inl, inr}
-use Rattle.std.specs.Prelude.{length, slice_get, slice_set, if◌then◌else◌, IfOk}
+use Rattle.std.specs.Prelude.{length, slice_get, slice_set, if◌then◌else◌, MatchResult}
 use Rattle.orb_block.specs.declared.Orb.{Orb}
 use Rattle.schib_block.specs.declared.pmcw.Pmcw as block
 use Rattle.storage_keys.specs.declared.StorageFault.{StorageFault}
@@ -30,6 +30,7 @@ use Rattle.machine_model.specs.Results.{Outcome, with_state}
 use Rattle.machine_model.specs.InstructionSteps.{code_at, function_at, stores_irb, with_irb, with_schib, with_enabling, test_sub, Modifies_by, Enables_with, Executes_at, PerformsStart, performs_test, performs_store, PerformsModify, PerformsEnable}
 use Rattle.interruptions.specs.Requests.{WaitingRequests}
 use Rattle.step_laws.specs.Codes.{code_by}
+use Rattle.step_laws.proofs.Faults.{IsOther}
 use Rattle.step_laws.proofs.Indices.{found-there}
 
 -- the effect of an instruction with code 0
@@ -97,8 +98,9 @@ set-same (y ∷ ys) zero x e = let same : y ≡ x = cc e in ap (λ (z : _). z �
 set-same (y ∷ ys) (suc k) x e = ap (λ (zs : List _). y ∷ zs) (set-same ys k x e)
 
 module _ (s : State) where
-  abbrev OkDone : ℕ → Instruction → Option Found → Outcome → Type 0
-  OkDone cpu i q o = IfOk o (λ t. IsDoneBy s cpu i q t.reply t.state)
+  -- it is refused, if at all, for something else than want of memory
+  abbrev IsDoneOutcome : ℕ → Instruction → Option Found → Outcome → Type 0
+  IsDoneOutcome cpu i q o = MatchResult o (λ t. IsDoneBy s cpu i q t.reply t.state) IsOther
 
   -- it answers its code, with the serials that it leaves
   abbrev IsPlain : Instruction → Type 0
@@ -106,7 +108,7 @@ module _ (s : State) where
 
   function-done : (cpu : ℕ) (i : Instruction) (q : Option Found) (storage : Contents) (effect : Subchannel → SubchannelState) → IsPlain i →
       ((f : Found) → IsEffect i f.sub (effect f.sub)) → length storage.keys ≡ length s.storage.keys → IsStorageLeft s cpu i q storage →
-      OkDone cpu i q (function_at (record s { storage = storage }) q (code_by i) effect)
+      IsDoneOutcome cpu i q (function_at (record s { storage = storage }) q (code_by i) effect)
   function-done cpu i None storage effect plain is blocks left = record { own = refl; blocks = blocks; storage = left; done = record { replies = refl; subs = refl } }
   function-done cpu i (Some f) storage effect plain is blocks left = record {
     own = refl;
@@ -121,12 +123,12 @@ module _ (s : State) where
   }
 
   starts-done : (cpu word address : ℕ) (q : Option Found) (r : Result (List ℕ) StorageFault) (o : Outcome) → PerformsStart s q r o →
-      OkDone cpu (instruction.Ssch word address) q o
-  starts-done cpu word address q (Err x) o w = subst (OkDone cpu (instruction.Ssch word address) q) (sym w) tt
+      IsDoneOutcome cpu (instruction.Ssch word address) q o
+  starts-done cpu word address q (Err x) o w = subst (IsDoneOutcome cpu (instruction.Ssch word address) q) (sym w) (λ g. cc g)
   starts-done cpu word address q (Ok image) o w =
       elim w [
-        | inl x ↦ subst (OkDone cpu (instruction.Ssch word address) q) (sym x.1) tt
-        | inr x ↦ subst (OkDone cpu (instruction.Ssch word address) q) (sym x.2)
+        | inl x ↦ subst (IsDoneOutcome cpu (instruction.Ssch word address) q) (sym x.1) (λ g. cc g)
+        | inr x ↦ subst (IsDoneOutcome cpu (instruction.Ssch word address) q) (sym x.2)
             (function-done cpu (instruction.Ssch word address) q s.storage (λ sub. started sub.state x.0) (λ c b a. refl) (λ f. (x.0, refl)) refl refl)
       ]
 
@@ -146,20 +148,20 @@ module _ (s : State) where
   test-stored cpu word address f c e = ap (λ (x : ConditionCode). (with_irb s cpu address f.sub (stores_irb x)).storage) (sym e)
 
   test-done : (cpu word address : ℕ) (f : Found) (c : ConditionCode) → code_for (instruction.Tsch word address) f.sub ≡ c →
-      OkDone cpu (instruction.Tsch word address) (Some f) (test_sub s cpu address f c)
+      IsDoneOutcome cpu (instruction.Tsch word address) (Some f) (test_sub s cpu address f c)
   test-done cpu word address f code.Zero e =
       record { own = refl; blocks = refl; storage = test-stored cpu word address f code.Zero e; done = test-left word address f code.Zero _ e refl }
   test-done cpu word address f c e =
       record { own = refl; blocks = refl; storage = test-stored cpu word address f c e; done = test-left word address f c _ e refl }
 
-  tests-done : (cpu word address : ℕ) (q : Option Found) (r : Result (Unit {0}) StorageFault) → OkDone cpu (instruction.Tsch word address) q (performs_test s cpu address q r)
-  tests-done cpu word address q (Err x) = tt
+  tests-done : (cpu word address : ℕ) (q : Option Found) (r : Result (Unit {0}) StorageFault) → IsDoneOutcome cpu (instruction.Tsch word address) q (performs_test s cpu address q r)
+  tests-done cpu word address q (Err x) = λ g. cc g
   tests-done cpu word address None (Ok u) = record { own = refl; blocks = refl; storage = refl; done = record { replies = refl; subs = refl } }
   tests-done cpu word address (Some f) (Ok u) = test-done cpu word address f (code_at tsch_code f.sub) refl
 
   stores-done : (cpu word address : ℕ) (p : Option ℕ) (q : Option Found) (r : Result (Unit {0}) StorageFault) → found_at s.subs p ≡ q →
-      OkDone cpu (instruction.Stsch word address) q (performs_store s cpu address q r)
-  stores-done cpu word address p q (Err x) e = tt
+      IsDoneOutcome cpu (instruction.Stsch word address) q (performs_store s cpu address q r)
+  stores-done cpu word address p q (Err x) e = λ g. cc g
   stores-done cpu word address p None (Ok u) e = record { own = refl; blocks = refl; storage = refl; done = record { replies = refl; subs = refl } }
   stores-done cpu word address p (Some f) (Ok u) e = record {
     own = refl;
@@ -169,57 +171,57 @@ module _ (s : State) where
   }
 
   modified-done : (cpu : ℕ) (i : Instruction) (q : Option Found) (storage : Contents) (image : List ℕ) (o : Outcome) →
-      ((given : block.Pmcw) → OkDone cpu i q (function_at (record s { storage = storage }) q msch_code (λ sub. modified_state sub given))) →
-      Modifies_by (record s { storage = storage }) q image o → OkDone cpu i q o
+      ((given : block.Pmcw) → IsDoneOutcome cpu i q (function_at (record s { storage = storage }) q msch_code (λ sub. modified_state sub given))) →
+      Modifies_by (record s { storage = storage }) q image o → IsDoneOutcome cpu i q o
   modified-done cpu i q storage image o k w =
       elim w.2 [
-        | inl x ↦ subst (OkDone cpu i q) (sym x.1) tt
-        | inr x ↦ subst (OkDone cpu i q) (sym x.1) (k w.0)
+        | inl x ↦ subst (IsDoneOutcome cpu i q) (sym x.1) (λ g. cc g)
+        | inr x ↦ subst (IsDoneOutcome cpu i q) (sym x.1) (k w.0)
       ]
 
   modifies-done : (cpu word address : ℕ) (q : Option Found) (r : Result (List ℕ) StorageFault) (o : Outcome) → PerformsModify s q r o →
-      OkDone cpu (instruction.Msch word address) q o
-  modifies-done cpu word address q (Err x) o w = subst (OkDone cpu (instruction.Msch word address) q) (sym w) tt
+      IsDoneOutcome cpu (instruction.Msch word address) q o
+  modifies-done cpu word address q (Err x) o w = subst (IsDoneOutcome cpu (instruction.Msch word address) q) (sym w) (λ g. cc g)
   modifies-done cpu word address q (Ok image) o w =
       modified-done cpu (instruction.Msch word address) q s.storage image o
       (λ given. function-done cpu (instruction.Msch word address) q s.storage (λ sub. modified_state sub given) (λ c b a. refl) (λ f. (given, refl)) refl refl) w
 
   enabled-done : (cpu word subclass : ℕ) (multipath : Bool) (q : Option Found) (image : List ℕ) (o : Outcome) →
-      Enables_with s cpu q subclass multipath image o → OkDone cpu (instruction.Enable word subclass multipath) q o
+      Enables_with s cpu q subclass multipath image o → IsDoneOutcome cpu (instruction.Enable word subclass multipath) q o
   enabled-done cpu word subclass multipath None image o w =
       modified-done cpu (instruction.Enable word subclass multipath) None (with_enabling s cpu image subclass multipath).storage image o
       (λ given. record { own = refl; blocks = refl; storage = (image, refl); done = record { replies = refl; subs = refl } }) w
   enabled-done cpu word subclass multipath (Some f) image o w =
-      subst (OkDone cpu (instruction.Enable word subclass multipath) (Some f)) (sym w)
+      subst (IsDoneOutcome cpu (instruction.Enable word subclass multipath) (Some f)) (sym w)
       (function-done cpu (instruction.Enable word subclass multipath) (Some f) (with_schib s cpu 0xF00 (enabling_schib f.sub subclass multipath)).storage
       (λ sub. modified_state sub (enabling (pmcw_of sub) subclass multipath)) (λ c b a. refl) (λ f. refl) refl refl)
 
   enables-done : (cpu word subclass : ℕ) (multipath : Bool) (q : Option Found) (r : Result (List ℕ) StorageFault) (o : Outcome) →
-      PerformsEnable s cpu q subclass multipath r o → OkDone cpu (instruction.Enable word subclass multipath) q o
-  enables-done cpu word subclass multipath q (Err x) o w = subst (OkDone cpu (instruction.Enable word subclass multipath) q) (sym w) tt
+      PerformsEnable s cpu q subclass multipath r o → IsDoneOutcome cpu (instruction.Enable word subclass multipath) q o
+  enables-done cpu word subclass multipath q (Err x) o w = subst (IsDoneOutcome cpu (instruction.Enable word subclass multipath) q) (sym w) (λ g. cc g)
   enables-done cpu word subclass multipath q (Ok image) o w = enabled-done cpu word subclass multipath q image o w
 
   -- each instruction
-  pub executes-done : (cpu : ℕ) (i : Instruction) (p : Option ℕ) (q : Option Found) (o : Outcome) → found_at s.subs p ≡ q → Executes_at s cpu i q o → OkDone cpu i q o
+  pub executes-done : (cpu : ℕ) (i : Instruction) (p : Option ℕ) (q : Option Found) (o : Outcome) → found_at s.subs p ≡ q → Executes_at s cpu i q o → IsDoneOutcome cpu i q o
   executes-done cpu (instruction.Ssch word address) p q o e w = starts-done cpu word address q (operand_at s.storage cpu address 12 4) o w
   executes-done cpu (instruction.Tsch word address) p q o e w =
-      subst (OkDone cpu (instruction.Tsch word address) q) (sym w) (tests-done cpu word address q (operand_check s.storage cpu address 64 4))
+      subst (IsDoneOutcome cpu (instruction.Tsch word address) q) (sym w) (tests-done cpu word address q (operand_check s.storage cpu address 64 4))
   executes-done cpu (instruction.Stsch word address) p q o e w =
-      subst (OkDone cpu (instruction.Stsch word address) q) (sym w) (stores-done cpu word address p q (operand_check s.storage cpu address 52 4) e)
+      subst (IsDoneOutcome cpu (instruction.Stsch word address) q) (sym w) (stores-done cpu word address p q (operand_check s.storage cpu address 52 4) e)
   executes-done cpu (instruction.Msch word address) p q o e w = modifies-done cpu word address q (operand_at s.storage cpu address 52 4) o w
   executes-done cpu (instruction.Enable word subclass multipath) p q o e w =
       enables-done cpu word subclass multipath q (operand_at s.storage cpu 0xF00 52 4) o w
   executes-done cpu (instruction.Rsch word) p q o e w =
-      subst (OkDone cpu (instruction.Rsch word) q) (sym w)
+      subst (IsDoneOutcome cpu (instruction.Rsch word) q) (sym w)
       (function-done cpu (instruction.Rsch word) q s.storage (λ sub. resumed sub.state) (λ c b a. refl) (λ f. refl) refl refl)
   executes-done cpu (instruction.Hsch word) p q o e w =
-      subst (OkDone cpu (instruction.Hsch word) q) (sym w)
+      subst (IsDoneOutcome cpu (instruction.Hsch word) q) (sym w)
       (function-done cpu (instruction.Hsch word) q s.storage (λ sub. halted sub.state) (λ c b a. refl) (λ f. refl) refl refl)
   executes-done cpu (instruction.Csch word) p q o e w =
-      subst (OkDone cpu (instruction.Csch word) q) (sym w)
+      subst (IsDoneOutcome cpu (instruction.Csch word) q) (sym w)
       (function-done cpu (instruction.Csch word) q s.storage (λ sub. cleared sub.state) (λ c b a. refl) (λ f. refl) refl refl)
   executes-done cpu (instruction.Xsch word) p q o e w =
-      subst (OkDone cpu (instruction.Xsch word) q) (sym w)
+      subst (IsDoneOutcome cpu (instruction.Xsch word) q) (sym w)
       (function-done cpu (instruction.Xsch word) q s.storage (λ sub. cancelled sub.state) (λ c b a. refl) (λ f. refl) refl refl)
 
   -- whatever requests are left

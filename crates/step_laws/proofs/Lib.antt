@@ -1,3 +1,5 @@
+pub mod Choices
+mod Faults
 pub mod Executed
 pub mod Results
 mod Walk

@@ -1,6 +1,6 @@
 -- What each event answers and leaves of a state, before the requests for interruptions are settled: all that a step is.
 use Rattle.std.proofs.Common.{◌≡◌, refl, sym, subst, ℕ, ◌==◌, Bool, true, false, Option, None, Some, Result, Ok, Err, List, ◌∷◌, []}
-use Rattle.std.specs.Prelude.{slice_get, not, if◌then◌else◌, IfOk, length}
+use Rattle.std.specs.Prelude.{◌≢◌, slice_get, not, if◌then◌else◌, IfErr, MatchResult, length}
 use Rattle.zbits.specs.Bits.{field_of}
 use Rattle.zbits.specs.Words.{bytes_of_words}
 use Rattle.storage_keys.specs.declared.key.Key.{Key}
@@ -42,13 +42,14 @@ use Rattle.machine_model.specs.ReportSteps.{report_sub, report_to, report_at}
 use Rattle.machine_model.specs.RestartSteps.{restart_at}
 use Rattle.machine_model.specs.Requests.{settled, requests_settled}
 use Rattle.machine_model.specs.StorageSteps.{storage_result, show_result_of}
-use Rattle.machine_model.specs.Steps.{Does, Step}
+use Rattle.machine_model.specs.Steps.{Does, IsRefused, Step}
 use Rattle.machine_model.specs.Sharing.{may_take, is_let_go, members_over, owing_after, members_after}
 use Rattle.machine_model.specs.OtherSteps.{LentWhole, answers, code_check, code_stored, engaged_bytes, engaged_chpids, is_up, other_at, other_done, where_stored, with_lent}
 use Rattle.machine_model.specs.PathSteps.{down_path, up_path, reset_path, reset_system}
 use Rattle.machine_model.specs.ActSteps.{side_of_act, act_sub, act_on, act_at, act_to}
 use Rattle.step_laws.proofs.Indices.{found-there}
 use Rattle.step_laws.proofs.Executed.{IsDone, IsDoneBy, IsStorageLeft, executes-done}
+use Rattle.step_laws.proofs.Faults.{IsOther, act-other, choice-other, down-other, not_held-other, report-other, up-other}
 
 pub data ResultOf (s : State) : Event → Reply → State → Type 0 where
   Puts : (address : ℕ) (bytes : List ℕ) (storage : Contents) → put s.storage address bytes ≡ Ok storage →
@@ -104,162 +105,169 @@ pub record HasResult (s : State) (e : Event) (r : Reply) (new : State) : Type 0 
   pub settles : new ≡ record left { requests = requests_settled s e (record { reply = r; state = left }) }
 
 module _ (s : State) where
-  abbrev OkResult : Event → Outcome → Type 0
-  OkResult e o = IfOk o (λ t. ResultOf s e t.reply t.state)
+  -- it is refused, if at all, for something else than want of memory
+  abbrev IsOutcome : Event → Outcome → Type 0
+  IsOutcome e o = MatchResult o (λ t. ResultOf s e t.reply t.state) IsOther
 
-  at_sub-turn : (e : Event) (index : ℕ) (r : Result SubResult Fault) → ((t : SubResult) → r ≡ Ok t → ResultOf s e t.reply (with_sub s index t.sub)) → OkResult e (at_sub s index r)
-  at_sub-turn e index (Ok t) f = f t refl
-  at_sub-turn e index (Err x) f = tt
+  at_sub-turn : (e : Event) (index : ℕ) (r : Result SubResult Fault) → ((t : SubResult) → r ≡ Ok t → ResultOf s e t.reply (with_sub s index t.sub)) → IfErr r IsOther →
+      IsOutcome e (at_sub s index r)
+  at_sub-turn e index (Ok t) f other = f t refl
+  at_sub-turn e index (Err x) f other = other
 
   at_storage-turn : (e : Event) (index : ℕ) (r : Result UpResult Fault) →
-      ((t : UpResult) → r ≡ Ok t → ResultOf s e t.reply (with_sub (record s { storage = t.storage }) index t.sub)) → OkResult e (at_storage s index r)
-  at_storage-turn e index (Ok t) f = f t refl
-  at_storage-turn e index (Err x) f = tt
+      ((t : UpResult) → r ≡ Ok t → ResultOf s e t.reply (with_sub (record s { storage = t.storage }) index t.sub)) → IfErr r IsOther → IsOutcome e (at_storage s index r)
+  at_storage-turn e index (Ok t) f other = f t refl
+  at_storage-turn e index (Err x) f other = other
 
   at_unit-turn : (e : Event) (index at : ℕ) (r : Result DownResult Fault) →
-      ((t : DownResult) → r ≡ Ok t → ResultOf s e t.reply (state_with_unit (with_sub s index t.sub) at t.«unit»)) → OkResult e (at_unit s index at r)
-  at_unit-turn e index at (Ok t) f = f t refl
-  at_unit-turn e index at (Err x) f = tt
+      ((t : DownResult) → r ≡ Ok t → ResultOf s e t.reply (state_with_unit (with_sub s index t.sub) at t.«unit»)) → IfErr r IsOther →
+      IsOutcome e (at_unit s index at r)
+  at_unit-turn e index at (Ok t) f other = f t refl
+  at_unit-turn e index at (Err x) f other = other
 
   at_shared-turn : (e : Event) (index at : ℕ) (asks : Bool) (u : UnitState) (r : Result DownResult Fault) →
       ((t : DownResult) → r ≡ Ok t →
       ResultOf s e t.reply (state_with_unit (with_sub (record s { members = members_after s.members at asks u t.«unit» }) index t.sub) at (owing_after s.members at u t.«unit»))) →
-      OkResult e (at_shared s index at (share_with s.members at asks u r))
-  at_shared-turn e index at asks u (Ok t) f = f t refl
-  at_shared-turn e index at asks u (Err x) f = tt
+      IfErr r IsOther → IsOutcome e (at_shared s index at (share_with s.members at asks u r))
+  at_shared-turn e index at asks u (Ok t) f other = f t refl
+  at_shared-turn e index at asks u (Err x) f other = other
 
   -- an operator's acts
   storage-turn : (e : Event) (r : Result Contents StorageFault) → ((storage : Contents) → r ≡ Ok storage → ResultOf s e reply.Done (record s { storage = storage })) →
-      OkResult e (storage_result s r)
+      IsOutcome e (storage_result s r)
   storage-turn e (Ok storage) f = f storage refl
-  storage-turn e (Err x) f = tt
+  storage-turn e (Err x) f = λ g. cc g
 
-  show-turn : (address count : ℕ) (r : Result (List ℕ) StorageFault) → shown s.storage address count ≡ r → OkResult (event.Show address count) (show_result_of s r)
+  show-turn : (address count : ℕ) (r : Result (List ℕ) StorageFault) → shown s.storage address count ≡ r → IsOutcome (event.Show address count) (show_result_of s r)
   show-turn address count (Ok bytes) n = Shows address count bytes n
-  show-turn address count (Err x) n = tt
+  show-turn address count (Err x) n = λ g. cc g
 
   -- instructions
   done-turn : (cpu : ℕ) (i : Instruction) (id : SubchannelId) (q : Option Found) (o : Outcome) → subchannel_named s.sets (subchannel_word i) ≡ Some id →
-      found_at s.subs (index_in id s.subs) ≡ q → IfOk o (λ t. IsDoneBy s cpu i q t.reply t.state) → OkResult (event.Execute cpu i) o
+      found_at s.subs (index_in id s.subs) ≡ q → MatchResult o (λ t. IsDoneBy s cpu i q t.reply t.state) IsOther → IsOutcome (event.Execute cpu i) o
   done-turn cpu i id q (Ok t) n e k =
       subst (ResultOf s (event.Execute cpu i) t.reply) (sym k.own)
       (Executes cpu i id q t.reply t.state.storage t.state.subs n e k.blocks k.storage (subst (IsDone s i q t.reply) k.own k.done))
-  done-turn cpu i id q (Err x) n e k = tt
+  done-turn cpu i id q (Err x) n e k = k
 
   executes-turn : (cpu : ℕ) (i : Instruction) (x : Option SubchannelId) (o : Outcome) → subchannel_named s.sets (subchannel_word i) ≡ x → Executes_on s cpu i x o →
-      OkResult (event.Execute cpu i) o
-  executes-turn cpu i None o n w = subst (OkResult (event.Execute cpu i)) (sym w) tt
+      IsOutcome (event.Execute cpu i) o
+  executes-turn cpu i None o n w = subst (IsOutcome (event.Execute cpu i)) (sym w) (λ g. cc g)
   executes-turn cpu i (Some id) o n w =
       done-turn cpu i id (found_at s.subs (index_in id s.subs)) o n refl
       (executes-done s cpu i (index_in id s.subs) (found_at s.subs (index_in id s.subs)) o refl w)
 
   -- those that name no subchannel
   tested-turn : (e : Event) (check : Result (Unit {0}) StorageFault) (r : Reply) (left : LentWhole) → ResultOf s e r (with_lent s left) →
-      OkResult e (other_done s (where_stored check (answers r left)))
+      IsOutcome e (other_done s (where_stored check (answers r left)))
   tested-turn e (Ok u) r left k = k
-  tested-turn e (Err x) r left k = tt
+  tested-turn e (Err x) r left k = λ g. cc g
 
   right-turn : (e : Event) (right : Bool) (r : Reply) (left : LentWhole) → ResultOf s e r (with_lent s left) →
-      OkResult e (other_done s (if right then answers r left else Err fault.Operand))
+      IsOutcome e (other_done s (if right then answers r left else Err fault.Operand))
   right-turn e true r left k = k
-  right-turn e false r left k = tt
+  right-turn e false r left k = λ g. cc g
 
-  others-turn : (cpu : ℕ) (i : OtherInstruction) → OkResult (event.ExecuteOther cpu i) (other_at s cpu i)
+  others-turn : (cpu : ℕ) (i : OtherInstruction) → IsOutcome (event.ExecuteOther cpu i) (other_at s cpu i)
   others-turn cpu (other.Tpi mask address) = tested-turn _ (code_check s.storage cpu address) _ _ (Interrupts cpu mask address)
   others-turn cpu (other.Rchp path) = right-turn _ (field_of path 0 23 == 0) _ _ (AsksReset cpu path)
   others-turn cpu (other.Stcrw address) = tested-turn _ (operand_check s.storage cpu address 4 4) _ _ (StoresReport cpu address)
   others-turn cpu (other.Stcps address) = tested-turn _ (operand_check s.storage cpu address 32 32) _ _ (StoresPaths cpu address)
 
   -- what the subsystem does for a subchannel, and what a unit does
-  chooses-turn : (word : ℕ) (q : Option Found) (o : Outcome) → found_of s word ≡ q → Chooses s q o → OkResult (event.Choose word) o
-  chooses-turn word None o e w = subst (OkResult (event.Choose word)) (sym w) tt
+  chooses-turn : (word : ℕ) (q : Option Found) (o : Outcome) → found_of s word ≡ q → Chooses s q o → IsOutcome (event.Choose word) o
+  chooses-turn word None o e w = subst (IsOutcome (event.Choose word)) (sym w) (λ g. cc g)
   chooses-turn word (Some f) o e w =
       let there : (index_of s word ≡ Some f.index) × (slice_get s.subs f.index ≡ Some f.sub) = found-there s.subs (index_of s word) f e in
-      subst (OkResult (event.Choose word)) (sym w.2)
-      (at_sub-turn (event.Choose word) f.index (choose_sub (marked_sub f.sub w.0) (chosen f.sub w.0)) (λ t h. Chosen word f.index f.sub w.0 t there.0 there.1 w.1 h))
+      subst (IsOutcome (event.Choose word)) (sym w.2)
+      (at_sub-turn (event.Choose word) f.index (choose_sub (marked_sub f.sub w.0) (chosen f.sub w.0)) (λ t h. Chosen word f.index f.sub w.0 t there.0 there.1 w.1 h)
+      (choice-other (marked_sub f.sub w.0) (chosen f.sub w.0)))
 
-  ups-turn : (word path : ℕ) (q : Option Found) → found_of s word ≡ q → OkResult (event.Up word path) (up_at s q path)
-  ups-turn word path None e = tt
+  ups-turn : (word path : ℕ) (q : Option Found) → found_of s word ≡ q → IsOutcome (event.Up word path) (up_at s q path)
+  ups-turn word path None e = λ g. cc g
   ups-turn word path (Some f) e =
       let there : (index_of s word ≡ Some f.index) × (slice_get s.subs f.index ≡ Some f.sub) = found-there s.subs (index_of s word) f e in
       at_storage-turn (event.Up word path) f.index (up_sub (returns_at s.subs f.sub path) s.storage f.sub path) (λ t h. Meets word path f.index f.sub t there.0 there.1 h)
+      (up-other (returns_at s.subs f.sub path) s.storage f.sub path)
 
   down_unit-turn : (word path : ℕ) (f : Found) (v : Option UnitState) → index_of s word ≡ Some f.index → slice_get s.subs f.index ≡ Some f.sub →
-      slice_get s.units f.sub.setup.«unit» ≡ v → OkResult (event.Down word path) (down_unit s f path v)
-  down_unit-turn word path f None n e h = tt
+      slice_get s.units f.sub.setup.«unit» ≡ v → IsOutcome (event.Down word path) (down_unit s f path v)
+  down_unit-turn word path f None n e h = λ g. cc g
   down_unit-turn word path f (Some u) n e h =
       at_shared-turn (event.Down word path) f.index f.sub.setup.«unit» (asks_at f.sub path u) u (down_sub (may_take s.members f.sub.setup.«unit» (asks_at f.sub path u)) f.sub path u)
-      (λ t g. Takes word path f.index f.sub u t n e h g)
+      (λ t g. Takes word path f.index f.sub u t n e h g) (down-other (may_take s.members f.sub.setup.«unit» (asks_at f.sub path u)) f.sub path u)
 
-  downs-turn : (word path : ℕ) (q : Option Found) → found_of s word ≡ q → OkResult (event.Down word path) (down_at s q path)
-  downs-turn word path None e = tt
+  downs-turn : (word path : ℕ) (q : Option Found) → found_of s word ≡ q → IsOutcome (event.Down word path) (down_at s q path)
+  downs-turn word path None e = λ g. cc g
   downs-turn word path (Some f) e =
       let there : (index_of s word ≡ Some f.index) × (slice_get s.subs f.index ≡ Some f.sub) = found-there s.subs (index_of s word) f e in
       down_unit-turn word path f (slice_get s.units f.sub.setup.«unit») there.0 there.1 refl
 
   report_to-turn : (at : ℕ) (u : UnitState) (report : Report) (q : Option Found) → slice_get s.units at ≡ Some u →
-      found_at s.subs (reached_in at report.side s.subs) ≡ q → OkResult (event.Report at report) (report_to s at u report q)
-  report_to-turn at u report None h e = tt
+      found_at s.subs (reached_in at report.side s.subs) ≡ q → IsOutcome (event.Report at report) (report_to s at u report q)
+  report_to-turn at u report None h e = λ g. cc g
   report_to-turn at u report (Some f) h e =
       let there : (reached_in at report.side s.subs ≡ Some f.index) × (slice_get s.subs f.index ≡ Some f.sub) = found-there s.subs (reached_in at report.side s.subs) f e in
       at_unit-turn (event.Report at report) f.index at (report_sub f.sub u report) (λ t g. Reports at f.index f.sub u report t h there.0 there.1 g)
+      (report-other f.sub u report)
 
-  reports-turn : (at : ℕ) (v : Option UnitState) (report : Report) → slice_get s.units at ≡ v → OkResult (event.Report at report) (report_at s at v report)
-  reports-turn at None report h = tt
+  reports-turn : (at : ℕ) (v : Option UnitState) (report : Report) → slice_get s.units at ≡ v → IsOutcome (event.Report at report) (report_at s at v report)
+  reports-turn at None report h = λ g. cc g
   reports-turn at (Some u) report h = report_to-turn at u report (found_at s.subs (reached_in at report.side s.subs)) h refl
 
   act_to-turn : (at : ℕ) (u : UnitState) (what : UnitAct) (side : Side) (q : Option Found) → slice_get s.units at ≡ Some u → side_of_act u what ≡ Some side →
-      found_at s.subs (reached_in at side s.subs) ≡ q → OkResult (event.Act at what) (act_to s at u what q)
-  act_to-turn at u what side None h k e = tt
+      found_at s.subs (reached_in at side s.subs) ≡ q → IsOutcome (event.Act at what) (act_to s at u what q)
+  act_to-turn at u what side None h k e = λ g. cc g
   act_to-turn at u what side (Some f) h k e =
       let there : (reached_in at side s.subs ≡ Some f.index) × (slice_get s.subs f.index ≡ Some f.sub) = found-there s.subs (reached_in at side s.subs) f e in
       at_unit-turn (event.Act at what) f.index at (act_sub f.sub u what) (λ t g. Acts at f.index f.sub u what side t h k there.0 there.1 g)
+      (act-other f.sub u what)
 
   act_on-turn : (at : ℕ) (u : UnitState) (what : UnitAct) (side : Option Side) → slice_get s.units at ≡ Some u → side_of_act u what ≡ side →
-      OkResult (event.Act at what) (act_on s at u what side)
-  act_on-turn at u what None h k = tt
+      IsOutcome (event.Act at what) (act_on s at u what side)
+  act_on-turn at u what None h k = not_held-other s.subs at what
   act_on-turn at u what (Some side) h k = act_to-turn at u what side (found_at s.subs (reached_in at side s.subs)) h k refl
 
-  acts-turn : (at : ℕ) (v : Option UnitState) (what : UnitAct) → slice_get s.units at ≡ v → OkResult (event.Act at what) (act_at s at v what)
-  acts-turn at None what h = tt
+  acts-turn : (at : ℕ) (v : Option UnitState) (what : UnitAct) → slice_get s.units at ≡ v → IsOutcome (event.Act at what) (act_at s at v what)
+  acts-turn at None what h = λ g. cc g
   acts-turn at (Some u) what h = act_on-turn at u what (side_of_act u what) h refl
 
-  restarts-turn : (at : ℕ) (v : Option UnitState) → slice_get s.units at ≡ v → OkResult (event.Restart at) (restart_at s at v)
-  restarts-turn at None h = tt
+  restarts-turn : (at : ℕ) (v : Option UnitState) → slice_get s.units at ≡ v → IsOutcome (event.Restart at) (restart_at s at v)
+  restarts-turn at None h = λ g. cc g
   restarts-turn at (Some u) h = Restarts at u h
 
   -- an event of a path is refused, or befalls every subchannel
   path-turn : (e : Event) (there right : Bool) (new : State) → (right ≡ true → ResultOf s e reply.Done new) →
-      OkResult e (if there then (if right then does reply.Done new else Err fault.NotNow) else Err fault.NoSuchPath)
+      IsOutcome e (if there then (if right then does reply.Done new else Err fault.NotNow) else Err fault.NoSuchPath)
   path-turn e true true new k = k refl
-  path-turn e true false new k = tt
-  path-turn e false right new k = tt
+  path-turn e true false new k = λ g. cc g
+  path-turn e false right new k = λ g. cc g
 
-  events-turn : (e : Event) (o : Outcome) → Does s e o → OkResult e o
+  events-turn : (e : Event) (o : Outcome) → Does s e o → IsOutcome e o
   events-turn (event.Put address bytes) o w =
-      subst (OkResult (event.Put address bytes)) (sym w) (storage-turn (event.Put address bytes) (put s.storage address bytes) (Puts address bytes))
+      subst (IsOutcome (event.Put address bytes)) (sym w) (storage-turn (event.Put address bytes) (put s.storage address bytes) (Puts address bytes))
   events-turn (event.SetKey address key) o w =
-      subst (OkResult (event.SetKey address key)) (sym w) (storage-turn (event.SetKey address key) (key_set s.storage address key) (SetsKey address key))
+      subst (IsOutcome (event.SetKey address key)) (sym w) (storage-turn (event.SetKey address key) (key_set s.storage address key) (SetsKey address key))
   events-turn (event.SetPrefix cpu address) o w =
-      subst (OkResult (event.SetPrefix cpu address)) (sym w) (storage-turn (event.SetPrefix cpu address) (prefix_set s.storage cpu address) (SetsPrefix cpu address))
-  events-turn (event.Show address count) o w = subst (OkResult (event.Show address count)) (sym w) (show-turn address count (shown s.storage address count) refl)
+      subst (IsOutcome (event.SetPrefix cpu address)) (sym w) (storage-turn (event.SetPrefix cpu address) (prefix_set s.storage cpu address) (SetsPrefix cpu address))
+  events-turn (event.Show address count) o w = subst (IsOutcome (event.Show address count)) (sym w) (show-turn address count (shown s.storage address count) refl)
   events-turn (event.Execute cpu i) o w = executes-turn cpu i _ o refl w
-  events-turn (event.ExecuteOther cpu i) o w = subst (OkResult (event.ExecuteOther cpu i)) (sym w) (others-turn cpu i)
+  events-turn (event.ExecuteOther cpu i) o w = subst (IsOutcome (event.ExecuteOther cpu i)) (sym w) (others-turn cpu i)
   events-turn (event.Choose word) o w = chooses-turn word (found_of s word) o refl w
-  events-turn (event.Up word path) o w = subst (OkResult (event.Up word path)) (sym w) (ups-turn word path (found_of s word) refl)
-  events-turn (event.Down word path) o w = subst (OkResult (event.Down word path)) (sym w) (downs-turn word path (found_of s word) refl)
-  events-turn (event.Report at report) o w = subst (OkResult (event.Report at report)) (sym w) (reports-turn at (slice_get s.units at) report refl)
-  events-turn (event.Act at what) o w = subst (OkResult (event.Act at what)) (sym w) (acts-turn at (slice_get s.units at) what refl)
-  events-turn (event.Restart at) o w = subst (OkResult (event.Restart at)) (sym w) (restarts-turn at (slice_get s.units at) refl)
+  events-turn (event.Up word path) o w = subst (IsOutcome (event.Up word path)) (sym w) (ups-turn word path (found_of s word) refl)
+  events-turn (event.Down word path) o w = subst (IsOutcome (event.Down word path)) (sym w) (downs-turn word path (found_of s word) refl)
+  events-turn (event.Report at report) o w = subst (IsOutcome (event.Report at report)) (sym w) (reports-turn at (slice_get s.units at) report refl)
+  events-turn (event.Act at what) o w = subst (IsOutcome (event.Act at what)) (sym w) (acts-turn at (slice_get s.units at) what refl)
+  events-turn (event.Restart at) o w = subst (IsOutcome (event.Restart at)) (sym w) (restarts-turn at (slice_get s.units at) refl)
   events-turn (event.PathDown chpid) o w =
-      subst (OkResult (event.PathDown chpid)) (sym w) (path-turn _ (has_number s.chpids chpid) (is_up s.up chpid) _ (λ right. GoesDown chpid))
+      subst (IsOutcome (event.PathDown chpid)) (sym w) (path-turn _ (has_number s.chpids chpid) (is_up s.up chpid) _ (λ right. GoesDown chpid))
   events-turn (event.PathUp chpid) o w =
-      subst (OkResult (event.PathUp chpid)) (sym w) (path-turn _ (has_number s.chpids chpid) (not (is_up s.up chpid)) _ (λ right. ComesUp chpid))
+      subst (IsOutcome (event.PathUp chpid)) (sym w) (path-turn _ (has_number s.chpids chpid) (not (is_up s.up chpid)) _ (λ right. ComesUp chpid))
   events-turn (event.PathReset chpid) o w =
-      subst (OkResult (event.PathReset chpid)) (sym w) (path-turn _ (has_number s.chpids chpid) (reports.is_asked s.reports chpid) _ (IsReset chpid))
-  events-turn event.SystemReset o w = subst (OkResult event.SystemReset) (sym w) ResetsAll
+      subst (IsOutcome (event.PathReset chpid)) (sym w) (path-turn _ (has_number s.chpids chpid) (reports.is_asked s.reports chpid) _ (IsReset chpid))
+  events-turn event.SystemReset o w = subst (IsOutcome event.SystemReset) (sym w) ResetsAll
 
-  outcome-turn : (e : Event) (r : Reply) (new : State) (o : Outcome) → OkResult e o → does r new ≡ settled s e o → HasResult s e r new
+  outcome-turn : (e : Event) (r : Reply) (new : State) (o : Outcome) → IsOutcome e o → does r new ≡ settled s e o → HasResult s e r new
   outcome-turn e r new (Ok t) k n =
       let same : record { reply = r; state = new } ≡ record t { state = record t.state { requests = requests_settled s e t } } = cc n in
       subst (λ (x : StepResult). HasResult s e x.reply x.state) (sym same) (record { left = t.state; turn = k; settles = refl })
@@ -267,3 +275,11 @@ module _ (s : State) where
 
   pub step-turn : (e : Event) (r : Reply) (new : State) → Step s e r new → HasResult s e r new
   step-turn e r new (o, w, n) = outcome-turn e r new o (events-turn e o w) n
+
+  -- no event is refused for want of memory
+  outcome-other : (e : Event) (o : Outcome) → IsOutcome e o → Err fault.NoMemory ≢ settled s e o
+  outcome-other e (Ok t) k n = cc n
+  outcome-other e (Err f) k n = k (sym (cc n))
+
+  pub step-other : (e : Event) → ¬ IsRefused s e fault.NoMemory
+  step-other e (o, w, n) = outcome-other e o (events-turn e o w) n

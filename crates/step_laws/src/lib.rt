@@ -2,11 +2,12 @@
 #![tactic(auto)]
 
 ghost use Rattle.std.specs.Prelude.{◌≡◌, length, map};
+ghost use Rattle.chan_model.specs.declared.fault.Fault.TheVariants.{NoMemory};
 ghost use Rattle.chan_events.specs.Events.{Event};
 ghost use Rattle.chan_events.specs.Replies.{Reply};
 ghost use Rattle.machine_model.specs.Setups.{group_of};
 ghost use Rattle.machine_model.specs.State.{State};
-ghost use Rattle.machine_model.specs.Steps.{Step};
+ghost use Rattle.machine_model.specs.Steps.{IsRefused, Step};
 ghost use Rattle.step_laws.specs.Walks.{Walked};
 
 /// Each step is of one of these kinds: it leaves subchannels and units as they are, or changes one subchannel, one unit, one
@@ -26,4 +27,9 @@ pub fn stays_set_up()
     ensures chpids { (s : State) (e : Event) (r : Reply) (new : State) → Step s e r new → new.chpids ≡ s.chpids }
     ensures groups { (s : State) (e : Event) (r : Reply) (new : State) → Step s e r new → map group_of new.members ≡ map group_of s.members }
     ensures requests { (s : State) (e : Event) (r : Reply) (new : State) → Step s e r new → new.requests.numbers ≡ s.requests.numbers }
+{}
+
+/// No event is refused for want of memory: the definitions take none.
+pub fn refusals()
+    ensures memory { (s : State) (e : Event) → ¬ IsRefused s e NoMemory }
 {}

@@ -1,6 +1,5 @@
 mod Pasts
 mod Rising
 mod Answering
-mod Never
 mod Accepting
 mod Headlines

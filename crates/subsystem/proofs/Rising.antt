@@ -102,21 +102,7 @@ brings s (event.Execute cpu i) r new table all =
     subst (λ (a : Option Answer). IfSome (serials_brought a) IsOrdered) (sym table)
     (answered (code_by i (condition_of (state_of (sub_of s (subchannel_word i))))) (serials_of (sub_of new (subchannel_word i)))
     (ordered-at new.subs (index_of new (subchannel_word i)) all))
-brings s (event.Put address bytes) r new table all = tt
-brings s (event.SetKey address key) r new table all = tt
-brings s (event.SetPrefix cpu address) r new table all = tt
-brings s (event.Show address count) r new table all = tt
-brings s (event.ExecuteOther cpu i) r new table all = tt
-brings s (event.Choose word) r new table all = tt
-brings s (event.Up word path) r new table all = tt
-brings s (event.Down word path) r new table all = tt
-brings s (event.Report index report) r new table all = tt
-brings s (event.Act index act) r new table all = tt
-brings s (event.Restart index) r new table all = tt
-brings s (event.PathDown chpid) r new table all = tt
-brings s (event.PathUp chpid) r new table all = tt
-brings s (event.PathReset chpid) r new table all = tt
-brings s event.SystemReset r new table all = tt
+brings s e r new table all = tt
 
 pub performed-brings : StandsPending → GoesByTable → (h : List Entry) (old : State) (e : Event) (a : Result Reply Fault) (new : State) → HasRun h old →
     Performs old e a new → IfOk a (λ r. BringsOrdered e r)

@@ -16,6 +16,7 @@ use memory::Supply;
 use path_select::PathChoice;
 use run_laws::answers::codes;
 use run_laws::states::{numbers, setups, steps};
+use step_laws::refusals;
 
 /// One event at a machine, and its entry in the history that led there.
 #[inline(never)]
@@ -43,6 +44,7 @@ pub fn keep_step<S: Supply, P: PathChoice + Drop>(
     setups();
     steps();
     codes();
+    refusals();
     if history.len() >= (1 << 62) - 1 {
         return Err(Fault::NoMemory);
     }

@@ -14,7 +14,7 @@ use channel_config::parts::{ChpidList, SubchannelSetup};
 use channel_reports::Reports;
 use functions::{PackedState, Subchannel};
 use interruptions::Pending;
-use io_step::{ChannelPaths, perform, perform_other, reply_code};
+use io_step::{ChannelPaths, perform, perform_other};
 use scsw_irb::code::IntCode;
 use std::alloc::Global;
 use storage_keys::{Storage, StorageFault};
@@ -141,7 +141,7 @@ fn code_in(answer: &Result<PlainReply, Fault>) -> Result<u8, Fault> {
 }
 
 fn code_of(reply: &PlainReply) -> u8 {
-    match reply_code(reply) {
+    match reply.code() {
         Some(ConditionCode::Zero) => 0,
         Some(ConditionCode::One) => 1,
         Some(ConditionCode::Two) => 2,

@@ -6,7 +6,6 @@ use Rattle.machine_model.specs.Steps.{IsRefused, Performs}
 use Rattle.lookup.proofs.Keeping.{fits-kept}
 use Rattle.subsystem.specs.Keeping.{past_of}
 use Rattle.subsystem.proofs.Accepting.{accepted, declined}
-use Rattle.subsystem.proofs.Never.{never}
 use Rattle.subsystem.proofs.Pasts.{past-more, past-postable, performed-set_up}
 use Rattle.subsystem.proofs.Rising.{performed-brings, performed-rises}
 use Rattle.subsystem.proofs.stepping.keep_step.Goals as goal
@@ -52,7 +51,7 @@ returns-in-Err-clause-answered g c =
     let fault = c.in-Err.fault in
     let refused : Performs machine e (Err fault) next = c.in-Err.ensures.performs in
     declined g.P.PathChoice.picks (past_of machine c.args.history.now) (past_of next c.perform.new.log) e fault refused c.in-Err.ensures.ruled
-    (λ is. never machine e (subst (λ (f : Fault). IsRefused machine e f) is refused.0))
+    (λ is. c.refusals.ensures.memory machine e (subst (λ (f : Fault). IsRefused machine e f) is refused.0))
     (c.in-Err.ensures.kept.entries ∙ c.make_room_with.ensures.kept.entries)
     (omega (arith, c.make_room_with.ensures.kept.room, c.in-Err.ensures.kept.room))
     (performed-set_up c.setups.ensures.set_up machine e (Err fault) next refused)
@@ -62,4 +61,4 @@ pub returns-in-Err-clause-memory : goal.returns-in-Err-clause-memory
 returns-in-Err-clause-memory g c = λ is.
     let refused : Performs c.args.machine.now c.args.event.now (Err c.in-Err.fault) c.perform.new.self = c.in-Err.ensures.performs in
     let same : c.in-Err.fault ≡ NoMemory = cc is in
-    absurd (never c.args.machine.now c.args.event.now (subst (λ (f : Fault). IsRefused c.args.machine.now c.args.event.now f) same refused.0))
+    absurd (c.refusals.ensures.memory c.args.machine.now c.args.event.now (subst (λ (f : Fault). IsRefused c.args.machine.now c.args.event.now f) same refused.0))

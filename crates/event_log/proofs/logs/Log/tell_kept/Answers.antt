@@ -2,14 +2,13 @@ use Rattle.std.proofs.Common.{arith, ◌∙◌, ap, ap₂, List, ℕ, take, vec_
 use Rattle.event_log.specs.declared.entries.KeptEntry.{KeptEntry}
 use Rattle.event_log.specs.Logs.{entries_at, unfinished}
 use Rattle.event_log.proofs.Growing.{behind, entries-stay, room-grows}
-use Rattle.chan_events.specs.declared.reply.Reply.TheVariants as reply
-use Rattle.event_log.proofs.logs.Log.show.Goals as goal
+use Rattle.event_log.proofs.logs.Log.tell_kept.Goals as goal
 
 pub returns-clause-kept : goal.returns-clause-kept
 returns-clause-kept c =
     let log = c.self.inside in
     let is = c.self.invariant in
-    let last = behind log.entries.items c.write.new.entries.items log.count (unfinished log.start (reply.Shown c.of.result)) is.some c.write.ensures.items in
+    let last = behind log.entries.items c.write.new.entries.items log.count (unfinished log.start c.args.kept) is.some c.write.ensures.items in
     record {
       entries =
           ap₂ (λ (xs : List ℕ) (ks : List KeptEntry). entries_at xs ks) c.add_bytes.ensures.items last.front
