@@ -147,31 +147,27 @@ with_accept side s (up.Accept t) ts = if same_side s side then t ∷ ts else ts
 with_accept side s x ts = ts
 
 -- At a subchannel: but where the unit was restarted, and did not send it Cleared since.
-abbrev pub IsRestarted : Holding → Side → Type 0
-IsRestarted k side = (side_seen k side).restarted ≡ true
+abbrev pub IsRestarted : SideAnswered → Type 0
+IsRestarted x = x.restarted ≡ true
 
 -- the program of this side and number holds the device; none of this side does
 abbrev pub IsHolderOr : Holding → Side → ℕ → Type 0
-IsHolderOr k side t = IsHolder k side t ⊎ IsRestarted k side
+IsHolderOr k side t = IsHolder k side t ⊎ IsRestarted (side_seen k side)
 
 abbrev pub IsUnheldOr : Holding → Side → Type 0
-IsUnheldOr k side = (is_held_by k.holder side ≡ false) ⊎ IsRestarted k side
+IsUnheldOr k side = (is_held_by k.holder side ≡ false) ⊎ IsRestarted (side_seen k side)
 
--- what is taken
-abbrev pub ComesOfHolder : Holding → Side → Up → Type 0
-ComesOfHolder k side (up.Data load t c n s) = IsHolderOr k side t
-ComesOfHolder k side (up.End t n status more) = IsHolderOr k side t
-ComesOfHolder k side (up.Leave t c) = IsHolderOr k side t
-ComesOfHolder k side signal = Unit {0}
+-- what is taken, where this is so of the numbers of programs that hold the device
+abbrev pub ComesOfHolder : (ℕ → Type 0) → Up → Type 0
+ComesOfHolder IsOfHolder (up.Data load t c n s) = IsOfHolder t
+ComesOfHolder IsOfHolder (up.End t n status more) = IsOfHolder t
+ComesOfHolder IsOfHolder (up.Leave t c) = IsOfHolder t
+ComesOfHolder IsOfHolder signal = Unit {0}
 
 -- what is sent in answer
 abbrev pub IsGrantToHolder : Holding → Side → Down → Type 0
 IsGrantToHolder k side (down.Grant t c) = IsHolderOr k side t
 IsGrantToHolder k side signal = Unit {0}
-
-abbrev pub IsAnswerToHolder : Holding → Side → Option (OnPath Down) → Type 0
-IsAnswerToHolder k side None = Unit {0}
-IsAnswerToHolder k side (Some sent) = IsGrantToHolder k side sent.signal
 
 -- and of itself or for its program
 abbrev pub GoesToHolder : Holding → Side → Down → Type 0
