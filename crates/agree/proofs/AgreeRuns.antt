@@ -31,8 +31,8 @@ use Rattle.agreement_laws.specs.Sending.{is_on_path, is_away}
 use Rattle.agree.specs.Results.{world_result_of, world_result}
 use Rattle.agree.specs.Replies.{told_down, told_up, is_taken, chosen_act, heard_reply, met_reply, owner_reply, reply_of}
 use Rattle.agree.specs.Histories.{entries_of}
-use Rattle.agreement_laws.specs.HolderSeen.{holder, Holding, is_held_by, side_seen}
-use Rattle.agreement_laws.specs.HolderSeen.{IsRestarted, IsHolderOr, IsUnheldOr, ComesOfHolder, GoesToHolder}
+use Rattle.agreement_laws.specs.Holders.{IsRestarted, ComesOfHolder}
+use Rattle.agreement_laws.specs.HolderSeen.{holder, Holding, is_held_by, side_seen, IsHolderOr, IsUnheldOr, GoesToHolder}
 use Rattle.agree.specs.BothAgree.{AgreesIn, DoBothAgree}
 use Rattle.agree.specs.ByItsPath.{IsByItsPath}
 use Rattle.agree.specs.OneHolder.{HasOneHolder, IsBegunOnce}

@@ -26,7 +26,8 @@ use Rattle.agree.specs.State.{WorldState, links_of, line_of, opening_world}
 use Rattle.agree.specs.Results.{WorldResult, world_result_of, world_result, state_after, world_after}
 use Rattle.agree.specs.Replies.{told_down, told_up, met_reply, heard_reply, owner_reply, reply_of}
 use Rattle.agree.specs.Histories.{WorldEntry, entered, entries_of, Throughout}
-use Rattle.agreement_laws.specs.HolderSeen.{holder, Holding, SideAnswered, let_go, is_held_by, with_seen, with_restart, held_after, side_seen, with_answered, IsHolder, IsAnswerOf, IsSaidRight, with_accept}
+use Rattle.agreement_laws.specs.Holders.{SideAnswered}
+use Rattle.agreement_laws.specs.HolderSeen.{holder, Holding, let_go, is_held_by, with_seen, with_restart, held_after, side_seen, with_answered, IsHolder, IsAnswerOf, IsSaidRight, with_accept}
 use Rattle.agree.specs.OneHolder.{restarted_by, held_in, holding_after, IsReplyRight, nothing_held, HasOneHolder, accepts_in, accepts_of, AreAbove, IsBegunOnce}
 use Rattle.agree.proofs.Lasting.{event-lasts}
 use Rattle.agree.proofs.Making.{OnDone, done-weaker, counted-done, Keeps, Ends, MadeOf, turn-made, heard_cause, met_cause}

@@ -2,7 +2,8 @@
 -- program that it has connected, and what it sends to one, is of the program that holds the device, and it offers one only where none
 -- of it does; but where the unit was restarted, and did not send it Cleared since (own).
 use Rattle.std.specs.Prelude.{true, IfSome, List}
-use Rattle.agreement_laws.specs.HolderSeen.{Holding, ComesOfHolder, GoesToHolder, IsGrantToHolder, IsHolderOr}
+use Rattle.agreement_laws.specs.Holders.{ComesOfHolder}
+use Rattle.agreement_laws.specs.HolderSeen.{Holding, GoesToHolder, IsGrantToHolder, IsHolderOr}
 use Rattle.agree.specs.declared.reply.WorldReply.{WorldReply}
 use Rattle.agree.specs.declared.reply.WorldReply.TheVariants as reply
 use Rattle.agree.specs.Histories.{WorldEntry, Throughout}

@@ -1,7 +1,7 @@
 -- What is seen of a unit: the program that holds its device, where this program is, and what each side of the unit answered (own).
 use Rattle.std.specs.Prelude.{ℕ, ◌+◌, ◌%◌, ◌==◌, ◌&&◌, ◌||◌, Bool, true, false, if◌then◌else◌, Option, None, Some, option_map, option_and_then, List}
 use Rattle.std.specs.List.{find}
-use Rattle.agreement_laws.specs.HolderSeen.{SideAnswered}
+use Rattle.agreement_laws.specs.Holders.{SideAnswered}
 use Rattle.chan_events.specs.Events.{Event}
 use Rattle.chan_events.specs.declared.event.Event.TheVariants as event
 use Rattle.chan_events.specs.declared.event.UnitAct.{UnitAct}

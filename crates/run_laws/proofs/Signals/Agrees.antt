@@ -47,7 +47,7 @@ use Rattle.step_laws.specs.Walks as walked
 use Rattle.step_laws.specs.Walks.{AreWalks, Walked, IsQuiet}
 use Rattle.run_laws.specs.Agreeing.{IsAgreed, AllAgree}
 use Rattle.run_laws.specs.Devices.{Holding, side_seen, nothing_held, is_held_by, is_holder, setup_named, holding_after}
-use Rattle.agreement_laws.specs.HolderSeen.{IsRestarted, ComesOfHolder}
+use Rattle.agreement_laws.specs.Holders.{IsRestarted, ComesOfHolder}
 use Rattle.run_laws.specs.BothAgree.{IsHolderOr, IsUnheldOr, GoesToHolder, AgreesIn, AgreesSet, IsEntryAgreed, DoBothAgree}
 use Rattle.run_laws.specs.Entries.{Throughout}
 use Rattle.run_laws.proofs.Machine.Appending.{claim-more}

@@ -13,7 +13,7 @@ use Rattle.chan_model.specs.declared.signal.OnPath.{OnPath}
 use Rattle.chan_model.specs.declared.signal.Up.TheVariants as up
 use Rattle.chan_model.specs.Sides.{same_side}
 use Rattle.step_laws.proofs.Indices.{same-or-not}
-use Rattle.agreement_laws.specs.HolderSeen.{SideAnswered}
+use Rattle.agreement_laws.specs.Holders.{SideAnswered}
 use Rattle.run_laws.specs.Devices.{Connection, Connected, Asking, Apart, Transfer, Held, Asked, commanded, with_transfer, answered, given, Holding, side_seen, with_seen, with_answered, let_go, is_held_by, with_holder, granted, parted, asking, moved, with_restart, held_after, quiet_after, acted_after, held_met}
 use Rattle.run_laws.specs.OneHolder.{connection_of, IsHigher, IsNumbered, IsAnswerNumbered}
 use Rattle.run_laws.specs.DevicePaths.{Ways, with_way, way_answered, way_met, way_asked}
