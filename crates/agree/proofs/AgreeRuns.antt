@@ -1,8 +1,7 @@
 -- In the entries of each list of events both sides agree on the program that holds the device.
-use Rattle.std.proofs.Common.{◌≡◌, refl, sym, ◌∙◌, ap, subst, ℕ, ◌==◌, ◌&&◌, nat_lt, Bool, true, false, Option, None, Some, List, [], ◌∷◌, inl, inr}
-use Rattle.std.specs.Prelude.{◌⊎◌, ◌||◌, Ok, Err, slice_get, if◌then◌else◌}
+use Rattle.std.proofs.Common.{◌≡◌, refl, sym, ◌∙◌, ap, subst, ℕ, ◌==◌, ◌&&◌, nat_lt, Bool, true, false, Option, None, Some, List, ◌++◌, inl, inr}
+use Rattle.std.specs.Prelude.{◌⊎◌, ◌||◌, slice_get, if◌then◌else◌}
 use Rattle.std.proofs.lemmas.Bool.{eqb-true, and_parts}
-use Rattle.chan_model.specs.declared.fault.Fault.TheVariants.{NoMemory}
 use Rattle.chan_model.specs.declared.hold_state.HoldPhase.{HoldPhase}
 use Rattle.chan_model.specs.declared.hold_state.HoldPhase.TheVariants as hold
 use Rattle.chan_model.specs.declared.hold_state.HoldState.{HoldState}
@@ -29,17 +28,19 @@ use Rattle.agree.specs.declared.reply.WorldReply.TheVariants as reply
 use Rattle.agree.specs.Bounds.{IsWell}
 use Rattle.agree.specs.State.{WorldState, links_of, line_of, opening_world}
 use Rattle.agreement_laws.specs.Sending.{is_on_path, is_away}
-use Rattle.agree.specs.Results.{WorldResult, world_result_of, counted, max_steps, world_result, state_after, world_after}
+use Rattle.agree.specs.Results.{world_result_of, world_result}
 use Rattle.agree.specs.Replies.{told_down, told_up, is_taken, chosen_act, heard_reply, met_reply, owner_reply, reply_of}
-use Rattle.agree.specs.Histories.{WorldEntry, entered, entries_of}
-use Rattle.agreement_laws.specs.HolderSeen.{holder, Holding, is_held_by}
-use Rattle.agree.specs.OneHolder.{holding_after}
-use Rattle.agreement_laws.specs.HolderSeen.{IsRestarted, IsHolderOr, IsUnheldOr, ComesOfHolder, GoesToHolder}
-use Rattle.agree.specs.BothAgree.{AgreesIn, AreAgreed, DoBothAgree}
-use Rattle.agree.proofs.Lasting.{Means, event-lasts}
-use Rattle.agree.proofs.Making.{OnDone, done-weaker, Keeps, Ends, MadeOf, turn-made}
+use Rattle.agree.specs.Histories.{entries_of}
+use Rattle.agreement_laws.specs.Holders.{IsRestarted, ComesOfHolder}
+use Rattle.agreement_laws.specs.HolderSeen.{holder, Holding, is_held_by, side_seen, IsHolderOr, IsUnheldOr, GoesToHolder}
+use Rattle.agree.specs.BothAgree.{AgreesIn, DoBothAgree}
+use Rattle.agree.specs.ByItsPath.{IsByItsPath}
+use Rattle.agree.specs.OneHolder.{HasOneHolder, IsBegunOnce}
+use Rattle.agree.specs.Promises.{GoesOnSound}
+use Rattle.agree.proofs.Lasting.{Means}
+use Rattle.agree.proofs.Making.{OnDone, done-weaker, counted-done, Keeps, Ends, MadeOf, turn-made}
 use Rattle.agree.proofs.Holdings.{holder_of, holding_of, side-restarted}
-use Rattle.agree.proofs.HolderRuns.{event-holds}
+use Rattle.agree.proofs.HolderRuns.{Goes, event-holds, list-through}
 
 -- the program of this number holds the device by the hold
 abbrev IsHeldBy : HoldPhase → ℕ → Type 0
@@ -66,7 +67,7 @@ owner-unheld (own.Owned k v at) side e = by (same_side k side) e
     by true f = absurd (cc f)
     by false f = refl
 
-fresh-restarted : (u : UnitState) (side : Side) → (side_of u side).fresh ≡ true → IsRestarted (holding_of u) side
+fresh-restarted : (u : UnitState) (side : Side) → (side_of u side).fresh ≡ true → IsRestarted (side_seen (holding_of u) side)
 fresh-restarted u side e = side-restarted u side ∙ e
 
 -- so its holder is that program, or the unit was restarted
@@ -219,7 +220,7 @@ cleared-agrees u side n h (hold.On v q c) p r = tt
 cleared-agrees u side n h (hold.Away v) p r = tt
 cleared-agrees u side n h (hold.Letting v q) p r = tt
 
-attn-agrees : (u : UnitState) (side : Side) (n : ℕ) (h : HoldState) (phase : HoldPhase) (x : OnPath Up) (a : ℕ) (may : Bool) → ComesOfHolder (holding_of u) side x.signal → AgreedBy u side n h x (attended h phase x.path a may)
+attn-agrees : (u : UnitState) (side : Side) (n : ℕ) (h : HoldState) (phase : HoldPhase) (x : OnPath Up) (a : ℕ) (may : Bool) → ComesOfHolder (IsHolderOr (holding_of u) side) x.signal → AgreedBy u side n h x (attended h phase x.path a may)
 attn-agrees u side n h hold.Free x a true comes = (comes, tt)
 attn-agrees u side n h hold.Free x a false comes = tt
 attn-agrees u side n h (hold.Offer v q) x a may comes = tt
@@ -234,7 +235,7 @@ notice-agrees u side n h p b true false = tt
 notice-agrees u side n h p b false true = (tt, tt)
 notice-agrees u side n h p b false false = tt
 
-quiet-agrees : (k : Holding) (side : Side) (x : OnPath Up) (taken : Bool) → (taken ≡ true → ComesOfHolder k side x.signal) → Agreed k side x taken None
+quiet-agrees : (k : Holding) (side : Side) (x : OnPath Up) (taken : Bool) → (taken ≡ true → ComesOfHolder (IsHolderOr k side) x.signal) → Agreed k side x taken None
 quiet-agrees k side x true f = (f refl, tt)
 quiet-agrees k side x false f = tt
 
@@ -295,32 +296,16 @@ event-agrees means w (event.Notice s p) new g made = said-agrees (holding_of w.�
 event-agrees means w event.Restart new g made = tt
 event-agrees means w (event.Report report) new g made = owner-agrees w w.«unit».own (Reports report)
 
-abbrev Goes : WorldState → WorldEvent → WorldState → Type 0
-Goes w e new = AgreesIn (reply_of w e) (holding_of w.«unit») × (holding_of new.«unit» ≡ holding_after e (reply_of w e) (holding_of w.«unit»))
-
-counted-agrees : (w : WorldState) (e : WorldEvent) (n : ℕ) (turn : WorldResult) → OnDone (Goes w e) turn → OnDone (Goes w e) (counted n turn)
-counted-agrees w e n (Ok new) h = h
-counted-agrees w e n (Err f) h = tt
-
-bounded-agrees : (w : WorldState) (e : WorldEvent) (b : Bool) (turn : WorldResult) → OnDone (Goes w e) turn → OnDone (Goes w e) (if b then turn else Err NoMemory)
-bounded-agrees w e true turn h = h
-bounded-agrees w e false turn h = tt
-
-turn-agrees : Means → Rises → (w : WorldState) (e : WorldEvent) → IsGood (links_of w) → OnDone (Goes w e) (world_result w e)
+turn-agrees : Means → Rises → (w : WorldState) (e : WorldEvent) → IsGood (links_of w) → OnDone (Goes AgreesIn w e) (world_result w e)
 turn-agrees means rises w e g =
-    bounded-agrees w e (nat_lt w.steps max_steps) (counted w.steps (world_result_of w e))
-    (counted-agrees w e w.steps (world_result_of w e)
-    (done-weaker (MadeOf w e) (Goes w e) (λ new made. (event-agrees means w e new g made, (event-holds rises w e new g made).1)) (world_result_of w e) (turn-made w e)))
-
-entered-agrees : (w : WorldState) (e : WorldEvent) (turn : WorldResult) (entries : List WorldEntry) → OnDone (Goes w e) turn → AreAgreed (holding_of (state_after w turn).«unit») entries →
-    AreAgreed (holding_of w.«unit») (entered w e turn entries)
-entered-agrees w e (Ok new) entries h rest = (h.0, subst (λ (k : Holding). AreAgreed k entries) h.1 rest)
-entered-agrees w e (Err f) entries h rest = rest
-
-list-agrees : Keeps → Ends → Means → Rises → (w : WorldState) (es : List WorldEvent) → IsWell w → AreAgreed (holding_of w.«unit») (entries_of w es)
-list-agrees keeps ends means rises w [] well = tt
-list-agrees keeps ends means rises w (e ∷ es) well =
-    entered-agrees w e (world_result w e) (entries_of (world_after w e) es) (turn-agrees means rises w e well.good) (list-agrees keeps ends means rises (world_after w e) es (event-lasts keeps ends w e well).0)
+    counted-done (Goes AgreesIn w e) (λ new n h. h) w e
+    (done-weaker (MadeOf w e) (Goes AgreesIn w e) (λ new made. (event-agrees means w e new g made, (event-holds rises w e new g made).1)) (world_result_of w e) (turn-made w e))
 
 pub both_agree : Keeps → Ends → Means → Rises → IsWell opening_world → (es : List WorldEvent) → DoBothAgree (entries_of opening_world es)
-both_agree keeps ends means rises well es = list-agrees keeps ends means rises opening_world es well
+both_agree keeps ends means rises well es = list-through AgreesIn keeps ends (turn-agrees means rises) opening_world es well
+
+-- what holds of each list of events from the opening holds of these after whatever led here
+pub goes-on : ((es : List WorldEvent) → IsByItsPath (entries_of opening_world es)) → ((es : List WorldEvent) → HasOneHolder (entries_of opening_world es)) →
+    ((es : List WorldEvent) → IsBegunOnce (entries_of opening_world es)) → ((es : List WorldEvent) → DoBothAgree (entries_of opening_world es)) →
+    (w : WorldState) (es : List WorldEvent) → GoesOnSound w es
+goes-on paths one once agree w es before is = (paths (before ++ es), one (before ++ es), once (before ++ es), agree (before ++ es))

@@ -1,8 +1,7 @@
 -- What is done at one side leaves the other.
 use Rattle.std.proofs.Common.{◌≡◌, ℕ, ◌+◌, ◌&&◌, not, Bool, true, false, Option, None, Some, List, [], ◌∷◌, refl, sym, subst, ◌∙◌}
-use Rattle.std.specs.Prelude.{Result, Ok, Err, OnOk, slice_get, if◌then◌else◌, nat_lt}
+use Rattle.std.specs.Prelude.{Result, Ok, Err, OnOk, slice_get}
 use Rattle.chan_model.specs.declared.fault.Fault.{Fault}
-use Rattle.chan_model.specs.declared.fault.Fault.TheVariants.{NoMemory}
 use Rattle.chan_model.specs.declared.names.Side.{Side}
 use Rattle.chan_model.specs.declared.names.Side.TheVariants.{First, Second}
 use Rattle.chan_model.specs.Reports.{Report}
@@ -18,16 +17,16 @@ use Rattle.chan_model.specs.UnitReports.{unit_reports}
 use Rattle.chan_model.proofs.OneSide.{one-side}
 use Rattle.unit.specs.UnitWords.{LeavesOther}
 use Rattle.unit.proofs.Apart.{leaves-same, leaves-program, leaves-changed, leaves-if, leaves-unit_takes, owns-other, apart}
-use Rattle.agreement_laws.specs.Moving.{UnitAct, Takes_down, Leaves, Asks, Attends, Notices, Reports, unit_steps, is_owner_side}
+use Rattle.agreement_laws.specs.Moving.{UnitAct, Leaves, Asks, Attends, Notices, Reports, unit_steps, is_owner_side}
 use Rattle.agree.specs.declared.event.WorldEvent.{WorldEvent}
 use Rattle.agree.specs.declared.event.WorldEvent.TheVariants as event
 use Rattle.agree.specs.State.{LineState, WorldState, line_of, with_line}
-use Rattle.agree.specs.Lines.{GivesResult, LineResult, UnitLine, acts_for, met, unit_meets, line_chosen, line_let_go, line_sends, hears, loses_down, loses_up, goes_down, comes_up, is_cut, acts}
+use Rattle.agree.specs.Lines.{GivesResult, LineResult, acts_for, met, unit_meets, line_chosen, line_let_go, line_sends, hears, loses_down, loses_up, goes_down, comes_up, is_cut, acts}
 use Rattle.agreement_laws.specs.Moving as moving
 use Rattle.agree.specs.Lines as line
-use Rattle.agree.specs.Results.{WorldResult, at_side, at_world_unit, at_owner, both_of, on_path, path_named, world_result_of, counted, max_steps, world_result, state_after, world_after}
+use Rattle.agree.specs.Results.{WorldResult, at_side, at_world_unit, at_owner, both_of, on_path, path_named, world_result_of, world_result, state_after, world_after}
 use Rattle.agree.specs.Promises.{IsApart, LeavesApart, EachApart}
-use Rattle.agree.proofs.Making.{OnDone, done-at_side, done-at_unit, done-at_owner, done-on_path, done-stepping}
+use Rattle.agree.proofs.Making.{OnDone, counted-done, done-at_side, done-at_unit, done-at_owner, done-on_path, done-stepping}
 use Rattle.agree.proofs.Reports.{at_report}
 
 pub any-done : {S : Type 0} (P : S → Type 0) → ((s : S) → P s) → (r : Result S Fault) → OnDone P r
@@ -186,16 +185,8 @@ none-leaves w (event.Notice side p) = same-apart side w
 none-leaves w event.Restart = tt
 none-leaves w (event.Report report) = λ side e. same-apart side w
 
-counted-leaves : (w : WorldState) (e : WorldEvent) (n : ℕ) (turn : WorldResult) → OnDone (LeavesApart w e) turn → OnDone (LeavesApart w e) (counted n turn)
-counted-leaves w e n (Ok new) h = step-leaves w e new (n + 1) h
-counted-leaves w e n (Err f) h = tt
-
-bounded-leaves : (w : WorldState) (e : WorldEvent) (b : Bool) (turn : WorldResult) → OnDone (LeavesApart w e) turn → OnDone (LeavesApart w e) (if b then turn else Err NoMemory)
-bounded-leaves w e true turn h = h
-bounded-leaves w e false turn h = tt
-
 world-leaves : (w : WorldState) (e : WorldEvent) → OnDone (LeavesApart w e) (world_result w e)
-world-leaves w e = bounded-leaves w e (nat_lt w.steps max_steps) (counted w.steps (world_result_of w e)) (counted-leaves w e w.steps (world_result_of w e) (turn-leaves w e))
+world-leaves w e = counted-done (LeavesApart w e) (step-leaves w e) w e (turn-leaves w e)
 
 state-leaves : (w : WorldState) (e : WorldEvent) (turn : WorldResult) → OnDone (LeavesApart w e) turn → LeavesApart w e (state_after w turn)
 state-leaves w e (Ok new) h = h

@@ -1,7 +1,6 @@
 -- The entries of each list of events are right by the program that holds the device, and each number is accepted at most once.
 use Rattle.std.proofs.Common.{◌≡◌, refl, sym, ◌∙◌, ap, subst, ℕ, ◌<◌, ◌≤◌, Bool, true, false, Option, None, Some, List, [], ◌∷◌, arith}
-use Rattle.std.specs.Prelude.{Ok, Err, slice_get, nat_lt, if◌then◌else◌, IfSome}
-use Rattle.chan_model.specs.declared.fault.Fault.TheVariants.{NoMemory}
+use Rattle.std.specs.Prelude.{Ok, Err, slice_get, if◌then◌else◌, IfSome}
 use Rattle.chan_model.specs.declared.names.Side.{Side}
 use Rattle.chan_model.specs.declared.names.Side.TheVariants.{First, Second}
 use Rattle.chan_model.specs.Signals.{Down}
@@ -24,13 +23,14 @@ use Rattle.agree.specs.declared.reply.WorldReply.{WorldReply}
 use Rattle.agree.specs.declared.reply.WorldReply.TheVariants as reply
 use Rattle.agree.specs.Bounds.{IsWell}
 use Rattle.agree.specs.State.{WorldState, links_of, line_of, opening_world}
-use Rattle.agree.specs.Results.{WorldResult, world_result_of, counted, max_steps, world_result, state_after, world_after}
+use Rattle.agree.specs.Results.{WorldResult, world_result_of, world_result, state_after, world_after}
 use Rattle.agree.specs.Replies.{told_down, told_up, met_reply, heard_reply, owner_reply, reply_of}
-use Rattle.agree.specs.Histories.{WorldEntry, entered, entries_of}
-use Rattle.agreement_laws.specs.HolderSeen.{holder, Holding, SideAnswered, let_go, is_held_by, with_seen, with_restart, held_after, side_seen, with_answered, IsHolder, IsAnswerOf, IsSaidRight, with_accept}
-use Rattle.agree.specs.OneHolder.{restarted_by, held_in, holding_after, IsReplyRight, nothing_held, AreOfHolder, HasOneHolder, accepts_in, accepts_of, AreAbove, IsBegunOnce}
+use Rattle.agree.specs.Histories.{WorldEntry, entered, entries_of, Throughout}
+use Rattle.agreement_laws.specs.Holders.{SideAnswered}
+use Rattle.agreement_laws.specs.HolderSeen.{holder, Holding, let_go, is_held_by, with_seen, with_restart, held_after, side_seen, with_answered, IsHolder, IsAnswerOf, IsSaidRight, with_accept}
+use Rattle.agree.specs.OneHolder.{restarted_by, held_in, holding_after, IsReplyRight, nothing_held, HasOneHolder, accepts_in, accepts_of, AreAbove, IsBegunOnce}
 use Rattle.agree.proofs.Lasting.{event-lasts}
-use Rattle.agree.proofs.Making.{OnDone, done-weaker, Keeps, Ends, MadeOf, turn-made, heard_cause, met_cause}
+use Rattle.agree.proofs.Making.{OnDone, done-weaker, counted-done, Keeps, Ends, MadeOf, turn-made, heard_cause, met_cause}
 use Rattle.agree.proofs.Holdings.{holder_of, holding_of, Turns, takes-turns, takes-told-after, reports-keep, leaving-keeps, asking-keeps, attending-keeps, noticing-keeps}
 use Rattle.agree.proofs.Holdings as holdings
 use Rattle.agree.proofs.UnitActs.{IsOfConnection, Acts, Idles, Says, Begins, Asks, Sends, reports-acts, leaving-acts, asking-acts, attending-acts, noticing-acts}
@@ -39,8 +39,11 @@ use Rattle.agree.proofs.UnitPaths.{Held, held, held_at}
 use Rattle.agree.proofs.PathRuns.{stepped}
 
 -- an event is right, and what is seen is what the unit keeps
+abbrev pub Goes : (WorldReply → Holding → Type 0) → WorldState → WorldEvent → WorldState → Type 0
+Goes Claim w e new = Claim (reply_of w e) (holding_of w.«unit») × (holding_of new.«unit» ≡ holding_after e (reply_of w e) (holding_of w.«unit»))
+
 abbrev pub Holds : WorldState → WorldEvent → WorldState → Type 0
-Holds w e new = IsReplyRight (reply_of w e) (holding_of w.«unit») × (holding_of new.«unit» ≡ holding_after e (reply_of w e) (holding_of w.«unit»))
+Holds w e new = Goes IsReplyRight w e new
 
 -- a hold acts
 told-right : (s : Side) (k : Holding) (sent : Option (OnPath Down)) → IsReplyRight (told_down s sent) k × (held_in (told_down s sent) k ≡ k)
@@ -141,31 +144,24 @@ event-holds rises w event.Restart new g made = (tt, ap holding_of (stepped w eve
 event-holds rises w (event.Report report) new g made =
     owner-holds w new (Reports report) w.«unit».own refl (λ s h. reports-acts s w.«unit» report h) (reports-keep w.«unit» report) (stepped w (event.Report report) new made)
 
-counted-holds : (w : WorldState) (e : WorldEvent) (n : ℕ) (turn : WorldResult) → OnDone (Holds w e) turn → OnDone (Holds w e) (counted n turn)
-counted-holds w e n (Ok new) h = h
-counted-holds w e n (Err f) h = tt
-
-bounded-holds : (w : WorldState) (e : WorldEvent) (b : Bool) (turn : WorldResult) → OnDone (Holds w e) turn → OnDone (Holds w e) (if b then turn else Err NoMemory)
-bounded-holds w e true turn h = h
-bounded-holds w e false turn h = tt
-
 turn-holds : Rises → (w : WorldState) (e : WorldEvent) → IsGood (links_of w) → OnDone (Holds w e) (world_result w e)
 turn-holds rises w e g =
-    bounded-holds w e (nat_lt w.steps max_steps) (counted w.steps (world_result_of w e))
-    (counted-holds w e w.steps (world_result_of w e) (done-weaker (MadeOf w e) (Holds w e) (λ new made. event-holds rises w e new g made) (world_result_of w e) (turn-made w e)))
+    counted-done (Holds w e) (λ new n h. h) w e (done-weaker (MadeOf w e) (Holds w e) (λ new made. event-holds rises w e new g made) (world_result_of w e) (turn-made w e))
 
-entered-holds : (w : WorldState) (e : WorldEvent) (turn : WorldResult) (entries : List WorldEntry) → OnDone (Holds w e) turn → AreOfHolder (holding_of (state_after w turn).«unit») entries →
-    AreOfHolder (holding_of w.«unit») (entered w e turn entries)
-entered-holds w e (Ok new) entries h rest = (h.0, subst (λ (k : Holding). AreOfHolder k entries) h.1 rest)
-entered-holds w e (Err f) entries h rest = rest
+entered-through : (Claim : WorldReply → Holding → Type 0) (w : WorldState) (e : WorldEvent) (turn : WorldResult) (entries : List WorldEntry) → OnDone (Goes Claim w e) turn →
+    Throughout holding_after Claim (holding_of (state_after w turn).«unit») entries → Throughout holding_after Claim (holding_of w.«unit») (entered w e turn entries)
+entered-through Claim w e (Ok new) entries h rest = (h.0, subst (λ (k : Holding). Throughout holding_after Claim k entries) h.1 rest)
+entered-through Claim w e (Err f) entries h rest = rest
 
-list-holds : Keeps → Ends → Rises → (w : WorldState) (es : List WorldEvent) → IsWell w → AreOfHolder (holding_of w.«unit») (entries_of w es)
-list-holds keeps ends rises w [] well = tt
-list-holds keeps ends rises w (e ∷ es) well =
-    entered-holds w e (world_result w e) (entries_of (world_after w e) es) (turn-holds rises w e well.good) (list-holds keeps ends rises (world_after w e) es (event-lasts keeps ends w e well).0)
+pub list-through : (Claim : WorldReply → Holding → Type 0) → Keeps → Ends → ((w : WorldState) (e : WorldEvent) → IsGood (links_of w) → OnDone (Goes Claim w e) (world_result w e)) →
+    (w : WorldState) (es : List WorldEvent) → IsWell w → Throughout holding_after Claim (holding_of w.«unit») (entries_of w es)
+list-through Claim keeps ends goes w [] well = tt
+list-through Claim keeps ends goes w (e ∷ es) well =
+    entered-through Claim w e (world_result w e) (entries_of (world_after w e) es) (goes w e well.good)
+    (list-through Claim keeps ends goes (world_after w e) es (event-lasts keeps ends w e well).0)
 
 pub one_holder : Keeps → Ends → Rises → IsWell opening_world → (es : List WorldEvent) → HasOneHolder (entries_of opening_world es)
-one_holder keeps ends rises well es = list-holds keeps ends rises opening_world es well
+one_holder keeps ends rises well es = list-through IsReplyRight keeps ends (turn-holds rises) opening_world es well
 
 -- begun once: what is above a number stays so, and the number that a side answered last never falls
 above-lower : (m n : ℕ) (ts : List ℕ) → m ≤ n → AreAbove n ts → AreAbove m ts
@@ -262,7 +258,7 @@ reply-rises side k (reply.Up s x taken sent) ts right h = h
 reply-rises side k (reply.SentDown s x) ts right h = h
 reply-rises side k (reply.SentUp s x) ts right h = said-rises side s k x.signal ts right h
 
-once : (side : Side) (k : Holding) (entries : List WorldEntry) → AreOfHolder k entries → AreAbove (last_of k side) (accepts_of side entries)
+once : (side : Side) (k : Holding) (entries : List WorldEntry) → Throughout holding_after IsReplyRight k entries → AreAbove (last_of k side) (accepts_of side entries)
 once side k [] right = tt
 once side k (entry ∷ entries) right =
     reply-rises side k entry.reply (accepts_of side entries) right.0

@@ -25,7 +25,8 @@ use Rattle.chan_model.specs.UnitReports.{is_outward, may_end, most_of, is_to_sup
 use Rattle.chan_model.specs.UnitTable.{UnitStep, outcome_of, unit_after, sends, side_of, with_side, freed, raised, owns, resets, telling, noticing, unit_takes, leaving_from, leaving, asking_from, asking, attending, is_idle, reset_side}
 use Rattle.chan_model.proofs.TakenSignals.{Takes, Ignores, Notices, Accepts, Denies, Begins, Joins, Leaves, Parts, Answers, Gives, Halts, Frees, Resets, Forgets, takes-by, takes-fresh}
 use Rattle.agreement_laws.proofs.SeenSignals.{IsResetAbove}
-use Rattle.agreement_laws.specs.HolderSeen.{Holder, Holding, SideAnswered, side_seen, with_seen, with_answered, let_go, is_held_by, held_met, IsMetRight, IsTold}
+use Rattle.agreement_laws.specs.Holders.{SideAnswered}
+use Rattle.agreement_laws.specs.HolderSeen.{Holder, Holding, side_seen, with_seen, with_answered, let_go, is_held_by, held_met, IsMetRight, IsTold}
 use Rattle.agree.proofs.UnitPaths.{floor_of}
 
 -- what a unit keeps of it

@@ -1,5 +1,5 @@
 -- Each event is a step, or two.
-use Rattle.std.proofs.Common.{◌≡◌, ℕ, inl, inr, Bool, true, false, Option, None, Some, List, refl, sym, ap, subst, ◌∙◌}
+use Rattle.std.proofs.Common.{◌≡◌, ℕ, ◌+◌, inl, inr, Bool, true, false, Option, None, Some, List, refl, sym, ap, subst, ◌∙◌}
 use Rattle.std.proofs.lemmas.Bool.{cond_both}
 use Rattle.std.specs.Prelude.{Result, Ok, Err, slice_get, nat_lt, length, remove, slice_set, if◌then◌else◌, Contains}
 use Rattle.chan_model.specs.declared.fault.Fault.{Fault}
@@ -23,10 +23,10 @@ use Rattle.agree.specs.declared.event.WorldEvent.{WorldEvent}
 use Rattle.agree.specs.declared.event.WorldEvent.TheVariants as event
 use Rattle.agreement_laws.specs.Sending.{may_send}
 use Rattle.agree.specs.State.{LineState, WorldState, links_of, line_of, with_line, is_up}
-use Rattle.chan_model.specs.declared.fault.Fault.TheVariants.{NoSuchPath, NotSent, NotNow}
+use Rattle.chan_model.specs.declared.fault.Fault.TheVariants.{NoMemory, NoSuchPath, NotSent, NotNow}
 use Rattle.agree.specs.Lines.{LineResult, UnitLine, acts, line_told, unit_stepped, stepping, acts_for, with_downs, with_ups, line_with_path, left_after, without_path, line_chosen, line_let_go, line_sends, heard, hears, met, unit_meets, loses_down, loses_up, cut, goes_down, comes_up, is_cut}
 use Rattle.agree.specs.Replies.{chosen_act}
-use Rattle.agree.specs.Results.{WorldResult, at_side, at_world_unit, at_owner, both_of, on_path, path_named, all_reset, world_result_of}
+use Rattle.agree.specs.Results.{WorldResult, at_side, at_world_unit, at_owner, both_of, on_path, path_named, all_reset, world_result_of, counted, max_steps, world_result}
 use Rattle.agree.specs.Promises.{EndsByEvent, IsResetTakenBy, IsResetMet}
 use Rattle.agree.proofs.Carrying.{AreAmong, among-same, among-without, among-removed, among-left, contains-got, carried, sent-carried}
 
@@ -422,23 +422,18 @@ turn-made w (event.Notice side p) =
 turn-made w event.Restart = restart-made w
 turn-made w (event.Report report) = owner-made w (event.Report report) (Reports report) refl (λ s. refl) tt (λ s h. absurd h)
 
+-- what holds of the state that an event makes, whatever its count of steps, holds of the result
+pub counted-done : (P : WorldState → Type 0) → ((new : WorldState) (n : ℕ) → P new → P (record new { steps = n })) → (w : WorldState) (e : WorldEvent) →
+    OnDone P (world_result_of w e) → OnDone P (world_result w e)
+counted-done P still w e h =
+    cond_both (nat_lt w.steps max_steps) (counted w.steps (world_result_of w e)) (Err NoMemory) (λ r. OnDone P r) (λ b. count (world_result_of w e) h) (λ b. tt)
+  where
+    count : (turn : WorldResult) → OnDone P turn → OnDone P (counted w.steps turn)
+    count (Ok new) h = still new (w.steps + 1) h
+    count (Err f) h = tt
+
 -- what is kept after each event
 pub turn-kept : Keeps → Ends → (w : WorldState) (e : WorldEvent) → IsGood (links_of w) → OnDone (Kept w e) (world_result_of w e)
 turn-kept keeps ends w event.SubsystemReset g = all_reset-kept keeps ends w g
-turn-kept keeps ends w (event.Choose side p single) g = done-weaker (Made w (event.Choose side p single)) (Kept w (event.Choose side p single)) (made-kept keeps ends w (event.Choose side p single) g) (world_result_of w (event.Choose side p single)) (turn-made w (event.Choose side p single))
-turn-kept keeps ends w (event.Down side index keep may) g = done-weaker (Made w (event.Down side index keep may)) (Kept w (event.Down side index keep may)) (made-kept keeps ends w (event.Down side index keep may) g) (world_result_of w (event.Down side index keep may)) (turn-made w (event.Down side index keep may))
-turn-kept keeps ends w (event.Up side index keep may) g = done-weaker (Made w (event.Up side index keep may)) (Kept w (event.Up side index keep may)) (made-kept keeps ends w (event.Up side index keep may) g) (world_result_of w (event.Up side index keep may)) (turn-made w (event.Up side index keep may))
-turn-kept keeps ends w (event.LoseDown side index) g = done-weaker (Made w (event.LoseDown side index)) (Kept w (event.LoseDown side index)) (made-kept keeps ends w (event.LoseDown side index) g) (world_result_of w (event.LoseDown side index)) (turn-made w (event.LoseDown side index))
-turn-kept keeps ends w (event.LoseUp side index) g = done-weaker (Made w (event.LoseUp side index)) (Kept w (event.LoseUp side index)) (made-kept keeps ends w (event.LoseUp side index) g) (world_result_of w (event.LoseUp side index)) (turn-made w (event.LoseUp side index))
-turn-kept keeps ends w (event.PathDown side p) g = done-weaker (Made w (event.PathDown side p)) (Kept w (event.PathDown side p)) (made-kept keeps ends w (event.PathDown side p) g) (world_result_of w (event.PathDown side p)) (turn-made w (event.PathDown side p))
-turn-kept keeps ends w (event.PathUp side p) g = done-weaker (Made w (event.PathUp side p)) (Kept w (event.PathUp side p)) (made-kept keeps ends w (event.PathUp side p) g) (world_result_of w (event.PathUp side p)) (turn-made w (event.PathUp side p))
-turn-kept keeps ends w (event.PathReset side p) g = done-weaker (Made w (event.PathReset side p)) (Kept w (event.PathReset side p)) (made-kept keeps ends w (event.PathReset side p) g) (world_result_of w (event.PathReset side p)) (turn-made w (event.PathReset side p))
-turn-kept keeps ends w (event.LetGo side) g = done-weaker (Made w (event.LetGo side)) (Kept w (event.LetGo side)) (made-kept keeps ends w (event.LetGo side) g) (world_result_of w (event.LetGo side)) (turn-made w (event.LetGo side))
 turn-kept keeps ends w (event.Send side p signal) g = done-weaker (MadeOf w (event.Send side p signal)) (Kept w (event.Send side p signal)) (λ new h. made-kept keeps ends w (event.Send side p signal) g new h.1) (world_result_of w (event.Send side p signal)) (turn-made w (event.Send side p signal))
-turn-kept keeps ends w (event.Clear side) g = done-weaker (Made w (event.Clear side)) (Kept w (event.Clear side)) (made-kept keeps ends w (event.Clear side) g) (world_result_of w (event.Clear side)) (turn-made w (event.Clear side))
-turn-kept keeps ends w event.Leave g = done-weaker (Made w event.Leave) (Kept w event.Leave) (made-kept keeps ends w event.Leave g) (world_result_of w event.Leave) (turn-made w event.Leave)
-turn-kept keeps ends w (event.Ask p) g = done-weaker (Made w (event.Ask p)) (Kept w (event.Ask p)) (made-kept keeps ends w (event.Ask p) g) (world_result_of w (event.Ask p)) (turn-made w (event.Ask p))
-turn-kept keeps ends w (event.Attention side p) g = done-weaker (Made w (event.Attention side p)) (Kept w (event.Attention side p)) (made-kept keeps ends w (event.Attention side p) g) (world_result_of w (event.Attention side p)) (turn-made w (event.Attention side p))
-turn-kept keeps ends w (event.Notice side p) g = done-weaker (Made w (event.Notice side p)) (Kept w (event.Notice side p)) (made-kept keeps ends w (event.Notice side p) g) (world_result_of w (event.Notice side p)) (turn-made w (event.Notice side p))
-turn-kept keeps ends w event.Restart g = done-weaker (Made w event.Restart) (Kept w event.Restart) (made-kept keeps ends w event.Restart g) (world_result_of w event.Restart) (turn-made w event.Restart)
-turn-kept keeps ends w (event.Report report) g = done-weaker (Made w (event.Report report)) (Kept w (event.Report report)) (made-kept keeps ends w (event.Report report) g) (world_result_of w (event.Report report)) (turn-made w (event.Report report))
+turn-kept keeps ends w e g = done-weaker (Made w e) (Kept w e) (made-kept keeps ends w e g) (world_result_of w e) (turn-made w e)

@@ -1,7 +1,6 @@
 -- The entries of each list of events are right by what is seen of a side's paths.
-use Rattle.std.proofs.Common.{◌≡◌, refl, sym, ◌∙◌, ap, subst, ℕ, Bool, true, false, Option, None, Some, List, [], ◌∷◌, arith}
-use Rattle.std.specs.Prelude.{Ok, Err, slice_get, nat_lt, if◌then◌else◌, Contains}
-use Rattle.chan_model.specs.declared.fault.Fault.TheVariants.{NoMemory}
+use Rattle.std.proofs.Common.{◌≡◌, refl, sym, ◌∙◌, ap, subst, ℕ, Bool, true, Option, None, Some, List, [], ◌∷◌, arith}
+use Rattle.std.specs.Prelude.{Ok, Err, slice_get, if◌then◌else◌, Contains}
 use Rattle.chan_model.specs.declared.hold_state.HoldPhase.{HoldPhase}
 use Rattle.chan_model.specs.declared.hold_state.HoldPhase.TheVariants as hold
 use Rattle.chan_model.specs.declared.names.Side.{Side}
@@ -26,14 +25,14 @@ use Rattle.agree.specs.declared.reply.WorldReply.TheVariants as reply
 use Rattle.agree.specs.Bounds.{IsWell}
 use Rattle.agree.specs.State.{WorldState, links_of, line_of, with_line, opening_world}
 use Rattle.agree.specs.Lines.{acts}
-use Rattle.agree.specs.Results.{WorldResult, all_reset, world_result_of, counted, max_steps, world_result, state_after, world_after}
+use Rattle.agree.specs.Results.{WorldResult, all_reset, world_result_of, world_result, state_after, world_after}
 use Rattle.agree.specs.Replies.{told_down, chosen_act, met_reply, heard_reply, owner_reply, reply_of}
-use Rattle.agree.specs.Histories.{WorldEntry, entered, entries_of}
+use Rattle.agree.specs.Histories.{WorldEntry, entered, entries_of, Throughout}
 use Rattle.agreement_laws.specs.PathsSeen.{SeenPaths}
-use Rattle.agree.specs.ByItsPath.{cleared, seen_in, seen_after, AreRight, nothing_seen, IsByItsPath}
+use Rattle.agree.specs.ByItsPath.{cleared, seen_in, seen_after, IsRight, nothing_seen, IsByItsPath}
 use Rattle.agree.proofs.Aparting.{attends-leaves, notices-leaves, leaving-leaves, asking-leaves, report-leaves}
 use Rattle.agree.proofs.Lasting.{event-lasts}
-use Rattle.agree.proofs.Making.{OnDone, done-weaker, Keeps, Ends, Made, MadeOf, turn-made, heard_cause, met_cause, cause_of, first-reset, second-reset}
+use Rattle.agree.proofs.Making.{OnDone, done-weaker, counted-done, Keeps, Ends, Made, MadeOf, turn-made, heard_cause, met_cause, cause_of, first-reset, second-reset}
 use Rattle.agree.proofs.UnitActs.{Acts, reports-acts, leaving-acts, asking-acts, attending-acts, noticing-acts, apart-still}
 use Rattle.agree.proofs.UnitPaths.{IsStill}
 use Rattle.agree.proofs.UnitPaths as paths
@@ -141,26 +140,18 @@ event-goes rises side k w (event.Report report) new g t made =
     owner-goes side w new k (Reports report) w.«unit».own refl (λ s. refl) (λ h. reports-acts side w.«unit» report h) (λ s e. report-leaves s w.«unit» report e)
     (λ e. subst (λ (o : Own). IsStill w.«unit» (unit_after w.«unit» (report_of w.«unit» o report)) side) (sym e) (paths.still w.«unit» side)) (stepped w (event.Report report) new made) t
 
--- the count of steps is not seen
-counted-goes : (side : Side) (k : SeenPaths) (w : WorldState) (e : WorldEvent) (n : ℕ) (turn : WorldResult) → OnDone (Goes side k w e) turn → OnDone (Goes side k w e) (counted n turn)
-counted-goes side k w e n (Ok new) h = h
-counted-goes side k w e n (Err f) h = tt
-
-bounded-goes : (side : Side) (k : SeenPaths) (w : WorldState) (e : WorldEvent) (b : Bool) (turn : WorldResult) → OnDone (Goes side k w e) turn → OnDone (Goes side k w e) (if b then turn else Err NoMemory)
-bounded-goes side k w e true turn h = h
-bounded-goes side k w e false turn h = tt
-
 turn-goes : Rises → (side : Side) (k : SeenPaths) (w : WorldState) (e : WorldEvent) → IsGood (links_of w) → TiedIn side (links_of w) k → OnDone (Goes side k w e) (world_result w e)
 turn-goes rises side k w e g t =
-    bounded-goes side k w e (nat_lt w.steps max_steps) (counted w.steps (world_result_of w e))
-    (counted-goes side k w e w.steps (world_result_of w e) (done-weaker (MadeOf w e) (Goes side k w e) (λ new made. event-goes rises side k w e new g t made) (world_result_of w e) (turn-made w e)))
+    counted-done (Goes side k w e) (λ new n h. h) w e
+    (done-weaker (MadeOf w e) (Goes side k w e) (λ new made. event-goes rises side k w e new g t made) (world_result_of w e) (turn-made w e))
 
 entered-right : (side : Side) (k : SeenPaths) (w : WorldState) (e : WorldEvent) (turn : WorldResult) (entries : List WorldEntry) → OnDone (Goes side k w e) turn →
-    ((next : SeenPaths) → TiedIn side (links_of (state_after w turn)) next → AreRight side next entries) → TiedIn side (links_of w) k → AreRight side k (entered w e turn entries)
+    ((next : SeenPaths) → TiedIn side (links_of (state_after w turn)) next → Throughout (seen_after side) (IsRight side) next entries) → TiedIn side (links_of w) k → Throughout (seen_after side) (IsRight side) k (entered w e turn entries)
 entered-right side k w e (Ok new) entries h rest t = (h.0, rest (seen_after side e (reply_of w e) k) h.1)
 entered-right side k w e (Err f) entries h rest t = rest k t
 
-pub list-right : Keeps → Ends → Rises → (side : Side) (k : SeenPaths) (w : WorldState) (es : List WorldEvent) → IsWell w → TiedIn side (links_of w) k → AreRight side k (entries_of w es)
+pub list-right : Keeps → Ends → Rises → (side : Side) (k : SeenPaths) (w : WorldState) (es : List WorldEvent) → IsWell w → TiedIn side (links_of w) k →
+    Throughout (seen_after side) (IsRight side) k (entries_of w es)
 list-right keeps ends rises side k w [] well t = tt
 list-right keeps ends rises side k w (e ∷ es) well t =
     entered-right side k w e (world_result w e) (entries_of (world_after w e) es) (turn-goes rises side k w e well.good t)

@@ -1,15 +1,15 @@
 -- By which path the signals of a side's programs go, over wires that lose, repeat and mix them: what is taken of a program and what is
 -- sent to it goes by the path of the last Accept that was taken or Grant that was sent (SA22-7832, chapter 15, the working allegiance),
 -- and at the device by that of the last Accept that was sent or Grant that was taken.
-use Rattle.std.specs.Prelude.{◌≡◌, ◌==◌, ℕ, Bool, true, false, if◌then◌else◌, Option, None, Some, List, [], ◌∷◌}
+use Rattle.std.specs.Prelude.{◌≡◌, ◌==◌, ℕ, Bool, true, false, if◌then◌else◌, Option, None, Some, IfSome, List, []}
 use Rattle.chan_model.specs.declared.names.Side.{Side}
 use Rattle.chan_model.specs.Sides.{same_side}
-use Rattle.agreement_laws.specs.PathsSeen.{Connected, Offered, SeenPaths, answered_down, sent_down, sent_up, taken_down, taken_up, AnswersRight, ArrivesRight, ComesRight, GoesRight, SendsRight, TakesRight}
+use Rattle.agreement_laws.specs.PathsSeen.{Connected, Offered, SeenPaths, answered_down, sent_down, sent_up, taken_down, taken_up, IsAnswerRight, ArrivesRight, ComesRight, GoesRight, SendsRight, TakesRight}
 use Rattle.agree.specs.declared.event.WorldEvent.{WorldEvent}
 use Rattle.agree.specs.declared.event.WorldEvent.TheVariants as event
 use Rattle.agree.specs.declared.reply.WorldReply.{WorldReply}
 use Rattle.agree.specs.declared.reply.WorldReply.TheVariants as reply
-use Rattle.agree.specs.Histories.{WorldEntry}
+use Rattle.agree.specs.Histories.{WorldEntry, Throughout}
 
 -- at this side
 abbrev pub seen_here : WorldReply → SeenPaths → SeenPaths
@@ -61,7 +61,7 @@ IsHereRight reply.Done k = Unit {0}
 IsHereRight (reply.Down s x true None) k = TakesRight k.moving x.path x.signal
 IsHereRight (reply.Down s x true (Some sent)) k = sent.path ≡ x.path
 IsHereRight (reply.Down s x false sent) k = sent ≡ None
-IsHereRight (reply.Up s x true sent) k = ArrivesRight k x.path x.signal × ComesRight k x.path x.signal × AnswersRight k.connected x sent
+IsHereRight (reply.Up s x true sent) k = ArrivesRight k x.path x.signal × ComesRight k x.path x.signal × IfSome sent (λ y. IsAnswerRight k.connected x y.path y.signal)
 IsHereRight (reply.Up s x false sent) k = ArrivesRight k x.path x.signal × (sent ≡ None)
 IsHereRight (reply.SentDown s x) k = GoesRight k.connected x.path x.signal
 IsHereRight (reply.SentUp s x) k = SendsRight k.moving x.path x.signal
@@ -70,14 +70,9 @@ IsHereRight (reply.SentUp s x) k = SendsRight k.moving x.path x.signal
 abbrev pub IsRight : Side → WorldReply → SeenPaths → Type 0
 IsRight side r k = is_at r side ≡ true → IsHereRight r k
 
--- each of these entries is right, where this was seen before them
-abbrev pub AreRight : Side → SeenPaths → List WorldEntry → Type 0
-AreRight side k [] = Unit {0}
-AreRight side k (entry ∷ entries) = IsRight side entry.reply k × AreRight side (seen_after side entry.event entry.reply k) entries
-
 abbrev pub nothing_seen : SeenPaths
 nothing_seen = record { offered = None; connected = None; answered = 0; moving = None; ways = [] }
 
 -- of each side
 abbrev pub IsByItsPath : List WorldEntry → Type 0
-IsByItsPath h = (side : Side) → AreRight side nothing_seen h
+IsByItsPath h = (side : Side) → Throughout (seen_after side) (IsRight side) nothing_seen h

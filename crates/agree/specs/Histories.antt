@@ -14,6 +14,11 @@ abbrev pub entered : WorldState → WorldEvent → WorldResult → List WorldEnt
 entered w e (Ok new) entries = record { event = e; reply = reply_of w e } ∷ entries
 entered w e (Err f) entries = entries
 
+-- each of these entries keeps to a claim, where this was seen before them
+abbrev pub Throughout : {S : Type 0} → (WorldEvent → WorldReply → S → S) → (WorldReply → S → Type 0) → S → List WorldEntry → Type 0
+Throughout after Claim k [] = Unit {0}
+Throughout after Claim k (entry ∷ entries) = Claim entry.reply k × Throughout after Claim (after entry.event entry.reply k) entries
+
 -- the entries of a list of events; a refused one leaves none
 abbrev pub entries_of : WorldState → List WorldEvent → List WorldEntry
 entries_of w [] = []

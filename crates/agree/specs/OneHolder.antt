@@ -7,7 +7,7 @@ use Rattle.agree.specs.declared.event.WorldEvent.{WorldEvent}
 use Rattle.agree.specs.declared.event.WorldEvent.TheVariants as event
 use Rattle.agree.specs.declared.reply.WorldReply.{WorldReply}
 use Rattle.agree.specs.declared.reply.WorldReply.TheVariants as reply
-use Rattle.agree.specs.Histories.{WorldEntry}
+use Rattle.agree.specs.Histories.{WorldEntry, Throughout}
 
 abbrev pub held_in : WorldReply → Holding → Holding
 held_in (reply.Down side x taken sent) k = held_met side x.signal taken sent k
@@ -35,13 +35,8 @@ nothing_held = record {
   second = record { number = 0; restarted = false };
 }
 
--- each of these entries is right, where this was seen before them
-abbrev pub AreOfHolder : Holding → List WorldEntry → Type 0
-AreOfHolder k [] = Unit {0}
-AreOfHolder k (entry ∷ entries) = IsReplyRight entry.reply k × AreOfHolder (holding_after entry.event entry.reply k) entries
-
 abbrev pub HasOneHolder : List WorldEntry → Type 0
-HasOneHolder h = AreOfHolder nothing_held h
+HasOneHolder h = Throughout holding_after IsReplyRight nothing_held h
 
 -- Begun once: the numbers of the Accepts that are sent to a side rise, so that of one number at most one is ever sent.
 abbrev pub accepts_in : Side → WorldReply → List ℕ → List ℕ

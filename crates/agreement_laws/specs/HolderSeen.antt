@@ -9,6 +9,7 @@ use Rattle.chan_model.specs.declared.signal.OnPath.{OnPath}
 use Rattle.chan_model.specs.Signals.{Up}
 use Rattle.chan_model.specs.declared.signal.Up.TheVariants as up
 use Rattle.chan_model.specs.Sides.{same_side}
+use Rattle.agreement_laws.specs.Holders.{SideAnswered, IsRestarted}
 
 -- a program holds the device: of this side, under this number
 pub record Holder : Type 0 where
@@ -17,11 +18,6 @@ pub record Holder : Type 0 where
 
 abbrev pub holder : Side → ℕ → Option Holder
 holder side t = Some (record { side = side; number = t })
-
--- what is seen of a side of the unit: the number that it answered last, and whether the unit was restarted since it last sent Cleared
-pub record SideAnswered : Type 0 where
-  pub number : ℕ
-  pub restarted : Bool
 
 -- how often the unit was restarted, the program that holds its device, the number of the command that it took last of it, and its sides
 pub record Holding : Type 0 where
@@ -146,32 +142,18 @@ abbrev pub with_accept : Side → Side → Up → List ℕ → List ℕ
 with_accept side s (up.Accept t) ts = if same_side s side then t ∷ ts else ts
 with_accept side s x ts = ts
 
--- At a subchannel: but where the unit was restarted, and did not send it Cleared since.
-abbrev pub IsRestarted : Holding → Side → Type 0
-IsRestarted k side = (side_seen k side).restarted ≡ true
-
--- the program of this side and number holds the device; none of this side does
+-- At a subchannel the program of this side and number holds the device, or none of this side does; but where the unit was restarted, and
+-- did not send it Cleared since.
 abbrev pub IsHolderOr : Holding → Side → ℕ → Type 0
-IsHolderOr k side t = IsHolder k side t ⊎ IsRestarted k side
+IsHolderOr k side t = IsHolder k side t ⊎ IsRestarted (side_seen k side)
 
 abbrev pub IsUnheldOr : Holding → Side → Type 0
-IsUnheldOr k side = (is_held_by k.holder side ≡ false) ⊎ IsRestarted k side
-
--- what is taken
-abbrev pub ComesOfHolder : Holding → Side → Up → Type 0
-ComesOfHolder k side (up.Data load t c n s) = IsHolderOr k side t
-ComesOfHolder k side (up.End t n status more) = IsHolderOr k side t
-ComesOfHolder k side (up.Leave t c) = IsHolderOr k side t
-ComesOfHolder k side signal = Unit {0}
+IsUnheldOr k side = (is_held_by k.holder side ≡ false) ⊎ IsRestarted (side_seen k side)
 
 -- what is sent in answer
 abbrev pub IsGrantToHolder : Holding → Side → Down → Type 0
 IsGrantToHolder k side (down.Grant t c) = IsHolderOr k side t
 IsGrantToHolder k side signal = Unit {0}
-
-abbrev pub IsAnswerToHolder : Holding → Side → Option (OnPath Down) → Type 0
-IsAnswerToHolder k side None = Unit {0}
-IsAnswerToHolder k side (Some sent) = IsGrantToHolder k side sent.signal
 
 -- and of itself or for its program
 abbrev pub GoesToHolder : Holding → Side → Down → Type 0

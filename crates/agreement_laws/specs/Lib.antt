@@ -4,4 +4,5 @@ pub mod Invariant
 pub mod Claims
 pub mod Sending
 pub mod PathsSeen
+pub mod Holders
 pub mod HolderSeen

@@ -1,6 +1,6 @@
 -- By which path the signals of a side's programs go: what is seen of a side by each signal that is taken or sent, and which are right by
 -- what was seen before (SA22-7832, chapter 15, the working allegiance; the signals are own).
-use Rattle.std.specs.Prelude.{◌≡◌, ◌<◌, ◌==◌, ◌&&◌, ℕ, if◌then◌else◌, Option, None, Some, List, [], ◌∷◌}
+use Rattle.std.specs.Prelude.{◌≡◌, ◌<◌, ◌==◌, ◌&&◌, ℕ, if◌then◌else◌, Option, None, Some, IfSome, IsSomeAnd, List, [], ◌∷◌}
 use Rattle.chan_model.specs.Signals.{Down}
 use Rattle.chan_model.specs.declared.signal.Down.TheVariants as down
 use Rattle.chan_model.specs.declared.signal.OnPath.{OnPath}
@@ -112,16 +112,13 @@ taken_down x (Some sent) k = answered_up sent k
 
 -- the program of this number is connected by this path; it is of this number
 abbrev pub IsConnected : Option Connected → ℕ → ℕ → Type 0
-IsConnected None t p = ⊥
-IsConnected (Some k) t p = (k.number ≡ t) × (k.path ≡ p)
+IsConnected k t p = IsSomeAnd k (λ x. (x.number ≡ t) × (x.path ≡ p))
 
 abbrev pub IsOffered : Option Offered → ℕ → Type 0
-IsOffered None t = ⊥
-IsOffered (Some o) t = o.number ≡ t
+IsOffered o t = IsSomeAnd o (λ x. x.number ≡ t)
 
 abbrev pub IsNumber : Option Connected → ℕ → Type 0
-IsNumber None t = ⊥
-IsNumber (Some k) t = k.number ≡ t
+IsNumber k t = IsSomeAnd k (λ x. x.number ≡ t)
 
 -- Data, Leave and Back arrive, taken or not, by the path that the unit asked for their connection by.
 abbrev pub ArrivesRight : SeenPaths → ℕ → Up → Type 0
@@ -145,8 +142,7 @@ ComesRight k p signal = Unit {0}
 -- A Select goes out where nothing is connected; a Command, Took, Give or Release by the path of what is connected, a Give under its
 -- connection too; a Halt by that path, where something is connected.
 abbrev pub IsHaltOn : Option Connected → ℕ → ℕ → Type 0
-IsHaltOn None t p = Unit {0}
-IsHaltOn (Some k) t p = (k.number ≡ t) × (k.path ≡ p)
+IsHaltOn k t p = IfSome k (λ x. (x.number ≡ t) × (x.path ≡ p))
 
 abbrev pub GoesRight : Option Connected → ℕ → Down → Type 0
 GoesRight k p (down.Select t) = k ≡ None
@@ -164,10 +160,6 @@ IsAnswerRight k x p (down.Refuse t c) = x ≡ record { path = p; signal = up.Bac
 IsAnswerRight k x p (down.Release t) = x ≡ record { path = p; signal = up.Accept t }
 IsAnswerRight k x p (down.Got a) = p ≡ x.path
 IsAnswerRight k x p signal = ⊥
-
-abbrev pub AnswersRight : Option Connected → OnPath Up → Option (OnPath Down) → Type 0
-AnswersRight k x None = Unit {0}
-AnswersRight k x (Some sent) = IsAnswerRight k x sent.path sent.signal
 
 -- a Give that the unit takes came by the path on which its device moves data, under its connection
 abbrev pub TakesRight : Option Connected → ℕ → Down → Type 0

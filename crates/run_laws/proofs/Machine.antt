@@ -1,4 +1,5 @@
 -- What states keep, step by step and along runs.
+pub mod Appending
 pub mod Names
 pub mod Sound
 pub mod Moves

@@ -13,6 +13,7 @@ use Rattle.chan_model.specs.declared.signal.Up.TheVariants as up
 use Rattle.channel_config.specs.declared.names.SubchannelId.{SubchannelId}
 use Rattle.channel_config.specs.SubchannelWords.{subchannel_named}
 use Rattle.ccw_walk.specs.Sequences.{Sequence, Nothing, ◌▸◌}
+use Rattle.run_laws.specs.Entries.{seen_through}
 use Rattle.run_laws.specs.StateClaims.{is_id}
 
 -- a number under which a start was offered
@@ -60,12 +61,8 @@ abbrev pub no_starts : StartCounts
 no_starts = record { accepted = 0; offers = Nothing; begun = [] }
 
 -- the starts of a subchannel after these entries
-abbrev pub starts_by : ℕ → SubchannelId → StartCounts → List Entry → StartCounts
-starts_by sets id k [] = k
-starts_by sets id k (entry ∷ entries) = starts_by sets id (starts_after sets id entry.event entry.reply k) entries
-
 abbrev pub starts : ℕ → SubchannelId → List Entry → StartCounts
-starts sets id h = starts_by sets id no_starts h
+starts sets id h = seen_through (starts_after sets id) no_starts h
 
 -- each start begins at most one program: those that did, of each subchannel, rise
 abbrev pub IsBegunOnce : ℕ → List Entry → Type 0

@@ -1,6 +1,6 @@
 -- What answers an Accept: the first command of its program, or Release; Release alone where since the offer its start was cancelled or
 -- halted, or a later one accepted (SA22-7832, chapters 14 and 15; that an offer stays until it is answered is this project's own choice).
-use Rattle.std.specs.Prelude.{◌≡◌, ◌⊎◌, ℕ, Bool, true, false, if◌then◌else◌, Option, None, Some, List, [], ◌∷◌}
+use Rattle.std.specs.Prelude.{◌≡◌, ◌⊎◌, ℕ, Bool, true, false, if◌then◌else◌, Option, None, Some, List}
 use Rattle.chan_events.specs.Events.{Event}
 use Rattle.chan_events.specs.declared.event.Event.TheVariants as event
 use Rattle.chan_events.specs.declared.event.Instruction.TheVariants as instruction
@@ -14,6 +14,7 @@ use Rattle.chan_model.specs.declared.signal.OnPath.{OnPath}
 use Rattle.chan_model.specs.declared.signal.Up.TheVariants as up
 use Rattle.channel_config.specs.declared.names.SubchannelId.{SubchannelId}
 use Rattle.channel_config.specs.SubchannelWords.{subchannel_named}
+use Rattle.run_laws.specs.Entries.{Throughout}
 use Rattle.run_laws.specs.StateClaims.{is_id}
 
 -- condition code 0
@@ -61,12 +62,6 @@ abbrev pub IsEntryRight : ℕ → SubchannelId → Event → Reply → Bool → 
 IsEntryRight sets id (event.Up word path) r over = is_id (subchannel_named sets word) id ≡ true → IsAcceptRight r over
 IsEntryRight sets id e r over = Unit {0}
 
--- each of these entries is right, where what was offered before them is over or not
-abbrev pub AreRight : ℕ → SubchannelId → Bool → List Entry → Type 0
-AreRight sets id over [] = Unit {0}
-AreRight sets id over (entry ∷ entries) =
-    IsEntryRight sets id entry.event entry.reply over × AreRight sets id (over_after sets id entry.event entry.reply over) entries
-
 -- of each subchannel
 abbrev pub BeginsItsOwn : ℕ → List Entry → Type 0
-BeginsItsOwn sets h = (id : SubchannelId) → AreRight sets id false h
+BeginsItsOwn sets h = (id : SubchannelId) → Throughout (over_after sets id) (IsEntryRight sets id) false h

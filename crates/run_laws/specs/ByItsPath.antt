@@ -1,7 +1,7 @@
 -- By which path the signals of a subchannel's programs go: what is taken of a program and what is sent to it goes by the path of the
 -- last Accept that was taken or Grant that was sent (SA22-7832, chapter 15, the working allegiance).
-use Rattle.std.specs.Prelude.{◌≡◌, ℕ, true, false, if◌then◌else◌, Option, None, Some, List, [], ◌∷◌}
-use Rattle.agreement_laws.specs.PathsSeen.{Connected, Offered, connected_on, IsConnected}
+use Rattle.std.specs.Prelude.{◌≡◌, ℕ, true, false, if◌then◌else◌, Option, None, Some, IfSome, List}
+use Rattle.agreement_laws.specs.PathsSeen.{Connected, Offered, connected_on, IsConnected, IsHaltOn}
 use Rattle.chan_events.specs.Events.{Event}
 use Rattle.chan_events.specs.declared.event.Event.TheVariants as event
 use Rattle.chan_events.specs.declared.reply.Entry.{Entry}
@@ -14,6 +14,7 @@ use Rattle.chan_model.specs.Signals.{Up}
 use Rattle.chan_model.specs.declared.signal.Up.TheVariants as up
 use Rattle.channel_config.specs.declared.names.SubchannelId.{SubchannelId}
 use Rattle.channel_config.specs.SubchannelWords.{subchannel_named}
+use Rattle.run_laws.specs.Entries.{Throughout}
 use Rattle.run_laws.specs.StateClaims.{is_id}
 
 -- a signal that came up by a path was taken: by an Accept a program is connected, by a Leave it is no more
@@ -64,8 +65,7 @@ GoesRight k p (down.Release t) = IsConnected k t p
 GoesRight k p signal = Unit {0}
 
 abbrev pub IsAnswerRight : Option Connected → Option (OnPath Down) → Type 0
-IsAnswerRight k None = Unit {0}
-IsAnswerRight k (Some sent) = GoesRight k sent.path sent.signal
+IsAnswerRight k sent = IfSome sent (λ x. GoesRight k x.path x.signal)
 
 -- what is not taken is not answered
 abbrev pub IsReplyRight : ℕ → Reply → SeenPaths → Type 0
@@ -74,10 +74,6 @@ IsReplyRight path (reply.Up signal false sent) k = sent ≡ None
 IsReplyRight path r k = Unit {0}
 
 -- a Halt goes by the path of what is connected, where something is
-abbrev pub IsHaltOn : Option Connected → ℕ → ℕ → Type 0
-IsHaltOn None t p = Unit {0}
-IsHaltOn (Some k) t p = (k.number ≡ t) × (k.path ≡ p)
-
 abbrev pub IsHaltRight : Reply → SeenPaths → Type 0
 IsHaltRight (reply.HaltSent t p) k = IsHaltOn k.connected t p
 IsHaltRight r k = Unit {0}
@@ -87,11 +83,6 @@ IsEntryRight sets id (event.Choose word) r k = is_id (subchannel_named sets word
 IsEntryRight sets id (event.Up word path) r k = is_id (subchannel_named sets word) id ≡ true → IsReplyRight path r k
 IsEntryRight sets id e r k = Unit {0}
 
--- each of these entries is right, where this was seen before them
-abbrev pub AreRight : ℕ → SubchannelId → SeenPaths → List Entry → Type 0
-AreRight sets id k [] = Unit {0}
-AreRight sets id k (entry ∷ entries) = IsEntryRight sets id entry.event entry.reply k × AreRight sets id (seen_after sets id entry.event entry.reply k) entries
-
 -- of each subchannel
 abbrev pub IsByItsPath : ℕ → List Entry → Type 0
-IsByItsPath sets h = (id : SubchannelId) → AreRight sets id (record { offered = None; connected = None }) h
+IsByItsPath sets h = (id : SubchannelId) → Throughout (seen_after sets id) (IsEntryRight sets id) (record { offered = None; connected = None }) h

@@ -1,6 +1,6 @@
 -- Condition codes by the status that STORE SUBCHANNEL shows just before (SA22-7832, chapter 14). That a subchannel is enabled stands in
 -- another word, and is told by the entries; where none of them tells it, both may be.
-use Rattle.std.specs.Prelude.{◌≡◌, ℕ, ◌==◌, ◌&&◌, Bool, true, false, if◌then◌else◌, Option, None, Some, option_map, List, [], ◌∷◌, ◌++◌}
+use Rattle.std.specs.Prelude.{◌≡◌, ℕ, Bool, true, false, if◌then◌else◌, Option, None, Some, IfSome, option_map, List, ◌∷◌, ◌++◌}
 use Rattle.std.specs.List.{list_any}
 use Rattle.chan_events.specs.Events.{Event}
 use Rattle.chan_events.specs.declared.event.Event.TheVariants as event
@@ -14,9 +14,11 @@ use Rattle.chan_model.specs.ConditionCodes.{answer_of_code, code_of}
 use Rattle.channel_config.specs.declared.names.SubchannelId.{SubchannelId}
 use Rattle.channel_config.specs.Setup.{Setup, set_count}
 use Rattle.run_laws.specs.CodeSteps.{answer_in}
+use Rattle.run_laws.specs.Entries.{seen_through}
 use Rattle.chan_events.specs.Instructions.{subchannel_word}
 use Rattle.run_laws.specs.CodeTable.{code_due}
 use Rattle.run_laws.specs.Shown.{StoredStatus, names, Between}
+use Rattle.run_laws.specs.StateClaims.{is_same_id}
 
 -- what the reply to an instruction tells: MODIFY SUBCHANNEL with code 0 may have changed it; START, TEST, RESUME, HALT, CLEAR and CANCEL
 -- answer 3 where the subchannel is not enabled
@@ -45,17 +47,12 @@ enabled_after sets id (event.Execute cpu i) r known = if names sets id (subchann
 enabled_after sets id event.SystemReset r known = Some false
 enabled_after sets id e r known = known
 
-abbrev pub enabled_through : ℕ → SubchannelId → Option Bool → List Entry → Option Bool
-enabled_through sets id known [] = known
-enabled_through sets id known (entry ∷ entries) = enabled_through sets id (enabled_after sets id entry.event entry.reply known) entries
-
 -- at the opening it is not enabled
 abbrev pub enabled_in : ℕ → SubchannelId → List Entry → Option Bool
-enabled_in sets id h = enabled_through sets id (Some false) h
+enabled_in sets id h = seen_through (enabled_after sets id) (Some false) h
 
 abbrev pub MayBe : Option Bool → Bool → Type 0
-MayBe None enabled = Unit {0}
-MayBe (Some known) enabled = enabled ≡ known
+MayBe known enabled = IfSome known (λ b. enabled ≡ b)
 
 -- the code is that of the instruction's table for the status before; codes 0 and 1 bring the serials as STORE SUBCHANNEL shows them after
 abbrev pub IsCodeRight : ℕ → SubchannelId → Option Bool → StoredStatus → Event → Reply → StoredStatus → Type 0
@@ -69,7 +66,7 @@ AreCodesRight sets h = (id : SubchannelId) → Between sets id h (λ before old 
 
 -- the code is 3 where the word names a subchannel that is not configured
 abbrev pub is_configured : Setup → SubchannelId → Bool
-is_configured setup id = list_any (λ x. (x.id.set == id.set) && (x.id.number == id.number)) setup.subchannels
+is_configured setup id = list_any (λ x. is_same_id x.id id) setup.subchannels
 
 abbrev pub IsThree : Setup → Event → Reply → Type 0
 IsThree setup (event.Execute cpu i) r = (id : SubchannelId) → names (set_count setup) id (subchannel_word i) ≡ true → is_configured setup id ≡ false → code_in r ≡ Some Three

@@ -1,6 +1,6 @@
 -- By which path a program is offered after unit check: by that of its End, until the device moves data or ends a command without it, or
 -- the subchannel is cleared or reset (SA22-7832, chapter 15, the dedicated allegiance; how long it stands is this project's own choice).
-use Rattle.std.specs.Prelude.{◌≡◌, ℕ, true, if◌then◌else◌, Option, None, Some, List, [], ◌∷◌}
+use Rattle.std.specs.Prelude.{◌≡◌, ℕ, true, if◌then◌else◌, Option, None, Some, List}
 use Rattle.chan_events.specs.Events.{Event}
 use Rattle.chan_events.specs.declared.event.Event.TheVariants as event
 use Rattle.chan_events.specs.declared.event.Instruction.TheVariants as instruction
@@ -11,6 +11,7 @@ use Rattle.chan_model.specs.declared.signal.Up.TheVariants as up
 use Rattle.chan_model.specs.UnitReports.{has_unit_check}
 use Rattle.channel_config.specs.declared.names.SubchannelId.{SubchannelId}
 use Rattle.channel_config.specs.SubchannelWords.{subchannel_named}
+use Rattle.run_laws.specs.Entries.{Throughout}
 use Rattle.run_laws.specs.StateClaims.{is_id}
 use Rattle.run_laws.specs.BeginsItsOwn.{is_code_zero}
 
@@ -39,12 +40,6 @@ abbrev pub IsEntryRight : ℕ → SubchannelId → Event → Reply → Option �
 IsEntryRight sets id (event.Choose word) r d = is_id (subchannel_named sets word) id ≡ true → IsOfferOn d r
 IsEntryRight sets id e r d = Unit {0}
 
--- each of these entries is right, where this allegiance was dedicated before them
-abbrev pub AreRight : ℕ → SubchannelId → Option ℕ → List Entry → Type 0
-AreRight sets id d [] = Unit {0}
-AreRight sets id d (entry ∷ entries) =
-    IsEntryRight sets id entry.event entry.reply d × AreRight sets id (dedicated_after sets id entry.event entry.reply d) entries
-
 -- of each subchannel
 abbrev pub OffersOnDedicated : ℕ → List Entry → Type 0
-OffersOnDedicated sets h = (id : SubchannelId) → AreRight sets id None h
+OffersOnDedicated sets h = (id : SubchannelId) → Throughout (dedicated_after sets id) (IsEntryRight sets id) None h

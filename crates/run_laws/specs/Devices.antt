@@ -1,5 +1,7 @@
 -- What is seen of a unit: the program that holds its device, where this program is, and what each side of the unit answered (own).
-use Rattle.std.specs.Prelude.{ℕ, ◌+◌, ◌%◌, ◌==◌, ◌&&◌, ◌||◌, Bool, true, false, if◌then◌else◌, Option, None, Some, option_map, List, [], ◌∷◌}
+use Rattle.std.specs.Prelude.{ℕ, ◌+◌, ◌%◌, ◌==◌, ◌&&◌, ◌||◌, Bool, true, false, if◌then◌else◌, Option, None, Some, option_map, option_and_then, List}
+use Rattle.std.specs.List.{find}
+use Rattle.agreement_laws.specs.Holders.{SideAnswered}
 use Rattle.chan_events.specs.Events.{Event}
 use Rattle.chan_events.specs.declared.event.Event.TheVariants as event
 use Rattle.chan_events.specs.declared.event.UnitAct.{UnitAct}
@@ -18,16 +20,11 @@ use Rattle.chan_model.specs.Sides.{same_side}
 use Rattle.channel_config.specs.declared.names.SubchannelId.{SubchannelId}
 use Rattle.channel_config.specs.declared.parts.SubchannelSetup.{SubchannelSetup}
 use Rattle.channel_config.specs.SubchannelWords.{subchannel_named}
-use Rattle.run_laws.specs.StateClaims.{is_id}
+use Rattle.run_laws.specs.StateClaims.{is_same_id}
 
 -- the subchannel that a word names, as it was set up
-abbrev pub first_named : SubchannelId → List SubchannelSetup → Option SubchannelSetup
-first_named id [] = None
-first_named id (x ∷ xs) = if is_id (Some x.id) id then Some x else first_named id xs
-
 abbrev pub setup_named : List SubchannelSetup → Option SubchannelId → Option SubchannelSetup
-setup_named subs None = None
-setup_named subs (Some id) = first_named id subs
+setup_named subs named = option_and_then (λ id. find (λ x. is_same_id x.id id) subs) named
 
 -- where a program is at its device: connected by a path, under a connection; asking for a path, under the next one; or on none
 pub data Connection : Type 0 where
@@ -51,11 +48,6 @@ pub record Held : Type 0 where
   pub transfer : Option Transfer
   pub halted : Bool
 
--- a side: the number that it answered last, and whether the unit was restarted since it last sent Cleared
-pub record SideSeen : Type 0 where
-  pub number : ℕ
-  pub restarted : Bool
-
 -- the side that the unit asked for attention last, under which number, where Got did not answer it
 pub record Asked : Type 0 where
   pub side : Side
@@ -65,16 +57,16 @@ pub record Asked : Type 0 where
 pub record Holding : Type 0 where
   pub restarts : ℕ
   pub holder : Option Held
-  pub first : SideSeen
-  pub second : SideSeen
+  pub first : SideAnswered
+  pub second : SideAnswered
   pub attentions : ℕ
   pub attention : Option Asked
 
-abbrev pub side_seen : Holding → Side → SideSeen
+abbrev pub side_seen : Holding → Side → SideAnswered
 side_seen k First = k.first
 side_seen k Second = k.second
 
-abbrev pub with_seen : Holding → Side → SideSeen → Holding
+abbrev pub with_seen : Holding → Side → SideAnswered → Holding
 with_seen k First x = record k { first = x }
 with_seen k Second x = record k { second = x }
 

@@ -1,6 +1,6 @@
 -- The engine of a channel path serves one subchannel at most: the one whose program is offered, connected or let go by it (SA22-7832,
 -- chapter 15, the active allegiance); and STORE CHANNEL PATH STATUS shows just these engines (chapter 14).
-use Rattle.std.specs.Prelude.{◌≡◌, ℕ, ◌+◌, ◌*◌, Bool, true, false, Some, List, map, slice_get}
+use Rattle.std.specs.Prelude.{◌≡◌, ℕ, ◌+◌, ◌*◌, Bool, true, false, Some, IsSomeAnd, List, map, slice_get}
 use Rattle.std.specs.List.{list_any, range_with_len}
 use Rattle.chan_events.specs.Events.{Event}
 use Rattle.chan_events.specs.declared.event.Event.TheVariants as event
@@ -13,8 +13,9 @@ use Rattle.chan_model.specs.declared.signal.Down.TheVariants as down
 use Rattle.chan_model.specs.declared.signal.Up.TheVariants as up
 use Rattle.channel_config.specs.Setup.{Setup, set_count}
 use Rattle.channel_config.specs.SubchannelWords.{subchannel_named}
+use Rattle.run_laws.specs.Entries.{Throughout}
 use Rattle.run_laws.specs.Returns.{granted_path}
-use Rattle.run_laws.specs.Links.{Apart, SubSeen, Seen, engaged_by, is_on, IsUp, seen_named, OfSub, seen_after, nothing_seen, Throughout}
+use Rattle.run_laws.specs.Links.{Apart, SubSeen, Seen, engaged_by, is_on, IsUp, seen_named, seen_after, nothing_seen}
 
 -- the engine of a channel path serves this subchannel; it serves one
 abbrev pub is_served : ℕ → SubSeen → Bool
@@ -44,8 +45,8 @@ IsGrantDue k path (reply.Up (up.Back t c) true sent) sub =
 IsGrantDue k path r sub = Unit {0}
 
 abbrev pub GoesByIdle : ℕ → Seen → Event → Reply → Type 0
-GoesByIdle sets k (event.Choose word) r = OfSub (IsOfferRight k r) (seen_named (subchannel_named sets word) k.subs)
-GoesByIdle sets k (event.Up word path) r = OfSub (λ sub. IsGrantRight k r sub × IsGrantDue k path r sub) (seen_named (subchannel_named sets word) k.subs)
+GoesByIdle sets k (event.Choose word) r = IsSomeAnd (seen_named (subchannel_named sets word) k.subs) (IsOfferRight k r)
+GoesByIdle sets k (event.Up word path) r = IsSomeAnd (seen_named (subchannel_named sets word) k.subs) (λ sub. IsGrantRight k r sub × IsGrantDue k path r sub)
 GoesByIdle sets k e r = Unit {0}
 
 -- STORE CHANNEL PATH STATUS: bit n of 32 bytes is one where the engine of channel path n serves a subchannel
@@ -64,8 +65,8 @@ pub record ServesOne (k : Seen) : Type 0 where
   pub alone : (chpid i j : ℕ) (x y : SubSeen) → slice_get k.subs i ≡ Some x → slice_get k.subs j ≡ Some y → is_served chpid x ≡ true → is_served chpid y ≡ true → i ≡ j
   pub up : (chpid i : ℕ) (x : SubSeen) → slice_get k.subs i ≡ Some x → is_served chpid x ≡ true → k.up chpid ≡ true
 
-abbrev pub IsEntryRight : ℕ → Seen → Event → Reply → Type 0
-IsEntryRight sets k e r = GoesByIdle sets k e r × ShowsServed k e r × ServesOne (seen_after sets e r k)
+abbrev pub IsEntryRight : ℕ → Event → Reply → Seen → Type 0
+IsEntryRight sets e r k = GoesByIdle sets k e r × ShowsServed k e r × ServesOne (seen_after sets e r k)
 
 abbrev pub HasOneEngine : Setup → List Entry → Type 0
-HasOneEngine setup h = Throughout (set_count setup) (IsEntryRight (set_count setup)) (nothing_seen setup) h
+HasOneEngine setup h = Throughout (seen_after (set_count setup)) (IsEntryRight (set_count setup)) (nothing_seen setup) h

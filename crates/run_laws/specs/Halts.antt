@@ -1,6 +1,6 @@
 -- What the subsystem chooses where STORE SUBCHANNEL shows a halt pending just before, by where the subchannel's program is, as the entries before
 -- tell (SA22-7832, chapter 14, HALT SUBCHANNEL; when it is done is this project's own choice).
-use Rattle.std.specs.Prelude.{◌≡◌, ◌⊎◌, ℕ, Bool, true, Some, List}
+use Rattle.std.specs.Prelude.{◌≡◌, ◌⊎◌, ℕ, Bool, true, Some, IsSomeAnd, List}
 use Rattle.chan_events.specs.Events.{Event}
 use Rattle.chan_events.specs.declared.event.Event.TheVariants as event
 use Rattle.chan_events.specs.declared.reply.Entry.{Entry}
@@ -8,7 +8,7 @@ use Rattle.chan_events.specs.Replies.{Reply}
 use Rattle.chan_events.specs.declared.reply.Reply.TheVariants as reply
 use Rattle.channel_config.specs.declared.names.SubchannelId.{SubchannelId}
 use Rattle.channel_config.specs.Setup.{Setup, set_count}
-use Rattle.run_laws.specs.Links.{Link, Nowhere, Offered, Connected, Apart, Leaving, Resetting, Reset_sent, SubSeen, Seen, OfSub, IsReset, IsUp, first_seen, nothing_seen, seen_through}
+use Rattle.run_laws.specs.Links.{Link, Nowhere, Offered, Connected, Apart, Leaving, Resetting, Reset_sent, SubSeen, Seen, IsReset, IsUp, first_seen, links_in}
 use Rattle.run_laws.specs.Shown.{StoredStatus, names, Between}
 
 -- the path by which the program was accepted is not up
@@ -32,12 +32,12 @@ abbrev pub IsHaltDoneFor : (ℕ → Bool) → Reply → SubSeen → Type 0
 IsHaltDoneFor is_up r k = IsHaltDone is_up k k.link r ⊎ ((k.doubt ≡ true) × IsHaltDone is_up k Resetting r)
 
 abbrev pub IsHaltDoneBy : SubchannelId → Reply → Seen → Type 0
-IsHaltDoneBy id r k = OfSub (IsHaltDoneFor k.up r) (first_seen id k.subs)
+IsHaltDoneBy id r k = IsSomeAnd (first_seen id k.subs) (IsHaltDoneFor k.up r)
 
 abbrev pub IsHaltRight : Setup → SubchannelId → List Entry → StoredStatus → Event → Reply → Type 0
 IsHaltRight setup id before old (event.Choose word) r =
     names (set_count setup) id word ≡ true → old.scsw.activity.halt_pending ≡ true →
-    IsHaltDoneBy id r (seen_through (set_count setup) (nothing_seen setup) before)
+    IsHaltDoneBy id r (links_in setup before)
 IsHaltRight setup id before old e r = Unit {0}
 
 -- of each subchannel

@@ -1,3 +1,4 @@
+pub mod Entries
 pub mod Agreeing
 pub mod StateClaims
 pub mod Beginnings

@@ -1,7 +1,7 @@
 -- Where the channel subsystem has the program that each subchannel offered last, and what it may take, send and choose there (SA22-7832,
 -- chapter 15, the allegiances; the signals, and when a reset is due, are this project's own).
-use Rattle.std.specs.Prelude.{◌≡◌, ◌⊎◌, ◌<◌, ℕ, ◌==◌, nat_lt, Bool, true, false, not, ◌&&◌, ◌||◌, if◌then◌else◌, Option, None, Some, List, [], ◌∷◌, map, slice_get}
-use Rattle.std.specs.List.{list_any}
+use Rattle.std.specs.Prelude.{◌≡◌, ◌⊎◌, ◌<◌, ℕ, ◌==◌, nat_lt, Bool, true, false, not, ◌&&◌, ◌||◌, if◌then◌else◌, Option, None, Some, IsSomeAnd, MatchOption, option_and_then, List, [], ◌∷◌, map, slice_get}
+use Rattle.std.specs.List.{find, list_any}
 use Rattle.chan_events.specs.Events.{Event}
 use Rattle.chan_events.specs.declared.event.Event.TheVariants as event
 use Rattle.chan_events.specs.declared.event.Instruction.TheVariants as instruction
@@ -18,7 +18,8 @@ use Rattle.channel_config.specs.declared.names.SubchannelId.{SubchannelId}
 use Rattle.channel_config.specs.declared.parts.SubchannelSetup.{SubchannelSetup}
 use Rattle.channel_config.specs.Setup.{Setup, set_count, has_number}
 use Rattle.channel_config.specs.SubchannelWords.{subchannel_named}
-use Rattle.run_laws.specs.StateClaims.{is_id}
+use Rattle.run_laws.specs.Entries.{Throughout, seen_through}
+use Rattle.run_laws.specs.StateClaims.{is_same_id}
 use Rattle.scsw_irb.specs.declared.status.DeviceStatus.{DeviceStatus}
 use Rattle.run_laws.specs.BeginsItsOwn.{is_code_zero}
 
@@ -141,16 +142,14 @@ sub_lost chpid k =
 
 -- of the first subchannel of a name
 abbrev pub first_seen : SubchannelId → List SubSeen → Option SubSeen
-first_seen id [] = None
-first_seen id (x ∷ xs) = if is_id (Some x.setup.id) id then Some x else first_seen id xs
+first_seen id subs = find (λ x. is_same_id x.setup.id id) subs
 
 abbrev pub seen_named : Option SubchannelId → List SubSeen → Option SubSeen
-seen_named None subs = None
-seen_named (Some id) subs = first_seen id subs
+seen_named named subs = option_and_then (λ id. first_seen id subs) named
 
 abbrev pub change_first : SubchannelId → (SubSeen → SubSeen) → List SubSeen → List SubSeen
 change_first id f [] = []
-change_first id f (x ∷ xs) = if is_id (Some x.setup.id) id then f x ∷ xs else x ∷ change_first id f xs
+change_first id f (x ∷ xs) = if is_same_id x.setup.id id then f x ∷ xs else x ∷ change_first id f xs
 
 abbrev pub change_named : Option SubchannelId → (SubSeen → SubSeen) → List SubSeen → List SubSeen
 change_named None f subs = subs
@@ -177,16 +176,9 @@ nothing_offered setup = record { setup = setup; link = Nowhere; asked = 0; first
 abbrev pub nothing_seen : Setup → Seen
 nothing_seen setup = record { up = has_number setup.paths; subs = map nothing_offered setup.subchannels }
 
--- after these entries, where this was seen before them
-abbrev pub seen_through : ℕ → Seen → List Entry → Seen
-seen_through sets k [] = k
-seen_through sets k (entry ∷ entries) = seen_through sets (seen_after sets entry.event entry.reply k) entries
-
--- each of these entries keeps to a claim, where this was seen before them
-abbrev pub Throughout : ℕ → (Seen → Event → Reply → Type 0) → Seen → List Entry → Type 0
-Throughout sets Claim k [] = Unit {0}
-Throughout sets Claim k (entry ∷ entries) =
-    Claim k entry.event entry.reply × Throughout sets Claim (seen_after sets entry.event entry.reply k) entries
+-- what is seen after these entries
+abbrev pub links_in : Setup → List Entry → Seen
+links_in setup h = seen_through (seen_after (set_count setup)) (nothing_seen setup) h
 
 -- what is taken: an answer exactly where its number waits for it; a Notice of more restarts than are known; a Leave of the connection
 -- at hand; a Back of the program that is connected or apart, of a connection above the last, but where a reset may be due. Of a program
@@ -258,8 +250,7 @@ IsSilent true (up.Attn a status) = ⊥
 IsSilent true signal = Unit {0}
 
 abbrev pub AreSentFor : (ℕ → Bool) → SubSeen → ℕ → Up → Bool → Option (OnPath Down) → Type 0
-AreSentFor is_up k path signal taken None = IsSilent taken signal
-AreSentFor is_up k path signal taken (Some sent) = IsSentFor is_up k path signal sent.path sent.signal
+AreSentFor is_up k path signal taken sent = MatchOption sent (IsSilent taken signal) (λ x. IsSentFor is_up k path signal x.path x.signal)
 
 abbrev pub IsMetRight : (ℕ → Bool) → ℕ → Reply → SubSeen → Type 0
 IsMetRight is_up path (reply.Up signal taken sent) k = IsTaken k path signal taken × AreSentFor is_up k path signal taken sent
@@ -292,14 +283,10 @@ abbrev pub IsChosenRight : (ℕ → Bool) → Reply → SubSeen → Type 0
 IsChosenRight is_up r k = IsChoiceRight is_up r k × (k.link ≡ Resetting → has_up is_up k.setup ≡ true → IsReset r)
 
 -- of the subchannel that a word names: it is one of the set-up
-abbrev pub OfSub : (SubSeen → Type 0) → Option SubSeen → Type 0
-OfSub P None = ⊥
-OfSub P (Some k) = P k
-
-abbrev pub IsEntryRight : ℕ → Seen → Event → Reply → Type 0
-IsEntryRight sets k (event.Choose word) r = OfSub (IsChosenRight k.up r) (seen_named (subchannel_named sets word) k.subs)
-IsEntryRight sets k (event.Up word path) r = OfSub (IsMetRight k.up path r) (seen_named (subchannel_named sets word) k.subs)
-IsEntryRight sets k e r = Unit {0}
+abbrev pub IsEntryRight : ℕ → Event → Reply → Seen → Type 0
+IsEntryRight sets (event.Choose word) r k = IsSomeAnd (seen_named (subchannel_named sets word) k.subs) (IsChosenRight k.up r)
+IsEntryRight sets (event.Up word path) r k = IsSomeAnd (seen_named (subchannel_named sets word) k.subs) (IsMetRight k.up path r)
+IsEntryRight sets e r k = Unit {0}
 
 abbrev pub KeepsLinks : Setup → List Entry → Type 0
-KeepsLinks setup h = Throughout (set_count setup) (IsEntryRight (set_count setup)) (nothing_seen setup) h
+KeepsLinks setup h = Throughout (seen_after (set_count setup)) (IsEntryRight (set_count setup)) (nothing_seen setup) h

@@ -1,7 +1,7 @@
 -- Where the loss of a path, or a Notice of restarts, makes a status, an interface-control check (SA22-7832, chapter 16): where a program that
 -- STORE SUBCHANNEL shows just before is offered or holds the device, as the entries before tell, and is lost with it; and nowhere else. A start
 -- that waits while its device is let go is not lost (own).
-use Rattle.std.specs.Prelude.{◌≡◌, ◌<◌, ◌&&◌, ◌||◌, not, ℕ, Bool, true, false, Option, Some, List}
+use Rattle.std.specs.Prelude.{◌≡◌, ◌<◌, ◌&&◌, ◌||◌, not, ℕ, Bool, true, false, Option, Some, IsSomeAnd, List}
 use Rattle.chan_events.specs.Events.{Event}
 use Rattle.chan_events.specs.declared.event.Event.TheVariants as event
 use Rattle.chan_events.specs.declared.reply.Entry.{Entry}
@@ -10,7 +10,7 @@ use Rattle.chan_events.specs.declared.reply.Reply.TheVariants as reply
 use Rattle.chan_model.specs.declared.signal.Up.TheVariants as up
 use Rattle.channel_config.specs.declared.names.SubchannelId.{SubchannelId}
 use Rattle.channel_config.specs.Setup.{Setup, set_count}
-use Rattle.run_laws.specs.Links.{Link, Offered, Connected, Apart, SubSeen, OfSub, used_by, is_apart, is_on, first_seen, nothing_seen, seen_through}
+use Rattle.run_laws.specs.Links.{Link, Offered, Connected, Apart, SubSeen, used_by, is_apart, is_on, first_seen, links_in}
 use Rattle.run_laws.specs.Codes.{enabled_in}
 use Rattle.run_laws.specs.Serials.{IsAtWork}
 use Rattle.run_laws.specs.Shown.{StoredStatus, names, Between}
@@ -50,7 +50,7 @@ is_of_sub sets id e = true
 abbrev pub IsLossRight : Setup → SubchannelId → List Entry → StoredStatus → Event → Reply → StoredStatus → Type 0
 IsLossRight setup id before old e r new =
     is_of_sub (set_count setup) id e ≡ true →
-    OfSub (IsLossBy (enabled_in (set_count setup) id before) old e r new) (first_seen id (seen_through (set_count setup) (nothing_seen setup) before).subs)
+    IsSomeAnd (first_seen id (links_in setup before).subs) (IsLossBy (enabled_in (set_count setup) id before) old e r new)
 
 abbrev pub AreLossesRight : Setup → List Entry → Type 0
 AreLossesRight setup h = (id : SubchannelId) → Between (set_count setup) id h (IsLossRight setup id)

@@ -3,7 +3,7 @@
 -- device where it is of that side, or none is. As what is seen tells each reply, the two sides leave each other alone: a unit in which
 -- a signal of one side raised the number of the other, marked it as restarted or let its program go would answer a later signal
 -- of the other otherwise than is due.
-use Rattle.std.specs.Prelude.{◌≡◌, ◌<◌, ℕ, ◌+◌, ◌==◌, ◌&&◌, nat_lt, Bool, true, false, not, if◌then◌else◌, Option, None, Some, is_some, List, [], ◌∷◌, slice_get}
+use Rattle.std.specs.Prelude.{◌≡◌, ◌<◌, ℕ, ◌+◌, ◌==◌, ◌&&◌, nat_lt, Bool, true, false, not, if◌then◌else◌, Option, None, Some, is_some, IfSome, List, slice_get}
 use Rattle.chan_events.specs.Events.{Event}
 use Rattle.chan_events.specs.declared.event.Event.TheVariants as event
 use Rattle.chan_events.specs.declared.event.UnitAct.{UnitAct}
@@ -22,6 +22,7 @@ use Rattle.chan_model.specs.Sides.{same_side}
 use Rattle.channel_config.specs.declared.parts.SubchannelSetup.{SubchannelSetup}
 use Rattle.channel_config.specs.Setup.{Setup, set_count, groups_of}
 use Rattle.channel_config.specs.SubchannelWords.{subchannel_named}
+use Rattle.run_laws.specs.Entries.{Throughout}
 use Rattle.run_laws.specs.Devices.{Connection, Connected, Asking, Apart, Transfer, Held, Asked, Holding, side_seen, is_holder, setup_named, holding_after, nothing_held}
 
 -- a signal is ignored; it is taken in silence where a test is passed; it is answered, by the path by which it came
@@ -121,8 +122,7 @@ IsNumbered k side (up.Cleared r) = IsHigher k side r
 IsNumbered k side signal = Unit {0}
 
 abbrev pub IsAnswerNumbered : Holding → Side → Option (OnPath Up) → Type 0
-IsAnswerNumbered k side None = Unit {0}
-IsAnswerNumbered k side (Some sent) = IsNumbered k side sent.signal
+IsAnswerNumbered k side sent = IfSome sent (λ x. IsNumbered k side x.signal)
 
 -- what was seen of each unit
 abbrev pub Seen : Type 0
@@ -140,8 +140,7 @@ IsDownRight groups seen at side path (reply.Down signal taken sent) =
 IsDownRight groups seen at side path r = Unit {0}
 
 abbrev pub IsSetRight : List ℕ → Seen → Option SubchannelSetup → ℕ → Reply → Type 0
-IsSetRight groups seen None path r = Unit {0}
-IsSetRight groups seen (Some x) path r = IsDownRight groups seen x.«unit» x.side path r
+IsSetRight groups seen setup path r = IfSome setup (λ x. IsDownRight groups seen x.«unit» x.side path r)
 
 -- what a device reports is of the program that holds it, connected, for its last command
 abbrev pub IsReportRight : Holding → Report → Type 0
@@ -159,20 +158,16 @@ IsActRight k (act.Ask path) = is_held_and (λ h. not (is_connected h.connection)
 IsActRight k (act.Attention path side) = (k.holder ≡ None) × ((side_seen k side).restarted ≡ false)
 IsActRight k (act.Notice path side) = (side_seen k side).restarted ≡ true
 
-abbrev pub IsEntryRight : List ℕ → ℕ → List SubchannelSetup → Seen → Event → Reply → Type 0
-IsEntryRight groups sets subs seen (event.Down word path) r = IsSetRight groups seen (setup_named subs (subchannel_named sets word)) path r
-IsEntryRight groups sets subs seen (event.Report at report) r = IsReportRight (seen at) report
-IsEntryRight groups sets subs seen (event.Act at what) r = IsActRight (seen at) what
-IsEntryRight groups sets subs seen e r = Unit {0}
+abbrev pub IsEntryRight : List ℕ → ℕ → List SubchannelSetup → Event → Reply → Seen → Type 0
+IsEntryRight groups sets subs (event.Down word path) r seen = IsSetRight groups seen (setup_named subs (subchannel_named sets word)) path r
+IsEntryRight groups sets subs (event.Report at report) r seen = IsReportRight (seen at) report
+IsEntryRight groups sets subs (event.Act at what) r seen = IsActRight (seen at) what
+IsEntryRight groups sets subs e r seen = Unit {0}
 
--- each of these entries is right, where this was seen of the units before them
+-- what is seen of each unit after an entry
 abbrev pub seen_after : ℕ → List SubchannelSetup → Event → Reply → Seen → Seen
 seen_after sets subs e r seen = λ at. holding_after sets subs at e r (seen at)
 
-abbrev pub AreRight : List ℕ → ℕ → List SubchannelSetup → Seen → List Entry → Type 0
-AreRight groups sets subs seen [] = Unit {0}
-AreRight groups sets subs seen (entry ∷ entries) =
-    IsEntryRight groups sets subs seen entry.event entry.reply × AreRight groups sets subs (seen_after sets subs entry.event entry.reply seen) entries
-
 abbrev pub HasOneHolder : Setup → List Entry → Type 0
-HasOneHolder setup h = AreRight (groups_of setup) (set_count setup) setup.subchannels (λ at. nothing_held) h
+HasOneHolder setup h =
+    Throughout (seen_after (set_count setup) setup.subchannels) (IsEntryRight (groups_of setup) (set_count setup) setup.subchannels) (λ at. nothing_held) h

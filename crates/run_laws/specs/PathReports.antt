@@ -14,6 +14,7 @@ use Rattle.channel_config.specs.Setup.{Setup, has_number}
 use Rattle.scsw_irb.specs.declared.crw.Crw.{Crw}
 use Rattle.scsw_irb.specs.declared.crw.PathReport.{PathReport}
 use Rattle.scsw_irb.specs.declared.crw.PathReport.TheVariants as report
+use Rattle.run_laws.specs.Entries.{Throughout}
 use Rattle.run_laws.specs.Links.{with_up}
 
 -- which channel paths are up, of which a reset is asked for and not done, and the reports that wait, the oldest first
@@ -54,17 +55,12 @@ abbrev pub reset_code : PathsSeen → ℕ → ConditionCode
 reset_code k chpid = if k.up chpid then (if k.asked chpid then code.Two else code.Zero) else code.Three
 
 -- a path is reset where this was asked for
-abbrev pub IsEntryRight : PathsSeen → Event → Reply → Type 0
-IsEntryRight k (event.PathReset chpid) r = k.asked chpid ≡ true
-IsEntryRight k (event.ExecuteOther cpu (other.Rchp path)) r = r ≡ reply.PathReset (reset_code k (field_of path 24 31))
-IsEntryRight k (event.ExecuteOther cpu (other.Stcrw address)) r = r ≡ reply.ChannelReport (slice_get k.reports 0)
-IsEntryRight k e r = Unit {0}
-
--- each of these entries is right, where this was seen before them
-abbrev pub AreRight : PathsSeen → List Entry → Type 0
-AreRight k [] = Unit {0}
-AreRight k (entry ∷ entries) = IsEntryRight k entry.event entry.reply × AreRight (paths_after entry.event entry.reply k) entries
+abbrev pub IsEntryRight : Event → Reply → PathsSeen → Type 0
+IsEntryRight (event.PathReset chpid) r k = k.asked chpid ≡ true
+IsEntryRight (event.ExecuteOther cpu (other.Rchp path)) r k = r ≡ reply.PathReset (reset_code k (field_of path 24 31))
+IsEntryRight (event.ExecuteOther cpu (other.Stcrw address)) r k = r ≡ reply.ChannelReport (slice_get k.reports 0)
+IsEntryRight e r k = Unit {0}
 
 -- before all the paths of the set-up are up
 abbrev pub AnswersByPaths : Setup → List Entry → Type 0
-AnswersByPaths setup h = AreRight (record { up = has_number setup.paths; asked = λ c. false; reports = [] }) h
+AnswersByPaths setup h = Throughout paths_after IsEntryRight (record { up = has_number setup.paths; asked = λ c. false; reports = [] }) h

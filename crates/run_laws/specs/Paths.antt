@@ -2,7 +2,7 @@
 -- (SA22-7832, chapter 15, the path-management-control word). They stand in word 2 of the block that it stores at real addresses; where the
 -- prefix of its CPU is zero these are absolute, and what stands there is shown. None of this changes anything of the subchannel, so what is
 -- claimed of an entry right after it, and of the entries before it, is claimed of what the subchannel has then.
-use Rattle.std.specs.Prelude.{◌≡◌, ℕ, ◌+◌, ◌&&◌, true, if◌then◌else◌, Option, None, Some, List, [], ◌∷◌, ◌++◌}
+use Rattle.std.specs.Prelude.{◌≡◌, ℕ, ◌+◌, ◌&&◌, true, if◌then◌else◌, Option, None, Some, List, ◌∷◌, ◌++◌}
 use Rattle.byteorder.specs.Endian.{big_number}
 use Rattle.zbits.specs.Bits.{field_of}
 use Rattle.chan_events.specs.Events.{Event}
@@ -15,6 +15,7 @@ use Rattle.chan_model.specs.declared.signal.Up.TheVariants as up
 use Rattle.chan_model.specs.PathSets.{has_path, mask_of_path}
 use Rattle.channel_config.specs.declared.names.SubchannelId.{SubchannelId}
 use Rattle.subchannel_model.specs.Back.{is_grant}
+use Rattle.run_laws.specs.Entries.{seen_through}
 use Rattle.run_laws.specs.Shown.{names, is_accepted}
 
 -- a CPU's prefix is set to zero, it executes STORE SUBCHANNEL of this subchannel with condition code 0, and the four bytes of word 2 of the
@@ -66,13 +67,9 @@ used_after sets id (event.Execute cpu (instruction.Csch named)) r used = if name
 used_after sets id event.SystemReset r used = None
 used_after sets id e r used = used
 
-abbrev pub used_through : ℕ → SubchannelId → Option ℕ → List Entry → Option ℕ
-used_through sets id used [] = used
-used_through sets id used (entry ∷ entries) = used_through sets id (used_after sets id entry.event entry.reply used) entries
-
 -- at the opening there is none
 abbrev pub used_in : ℕ → SubchannelId → List Entry → Option ℕ
-used_in sets id h = used_through sets id None h
+used_in sets id h = seen_through (used_after sets id) None h
 
 -- of each subchannel, the last-path-used mask that is shown is of that path alone, or zero
 abbrev pub ShowsLastUsed : ℕ → List Entry → Type 0

@@ -1,6 +1,6 @@
 -- After each run of a lawful set-up each unit has such links: each subchannel and its unit agree, and the starts of a
 -- subchannel that began a program rise.
-use Rattle.std.proofs.Common.{◌≡◌, refl, sym, ◌∙◌, ap, subst, ℕ, ◌<◌, ◌==◌, Bool, true, false, Option, None, Some, Result, List, [], ◌∷◌, ◌++◌, arith}
+use Rattle.std.proofs.Common.{◌≡◌, refl, sym, ◌∙◌, ap, subst, ℕ, ◌<◌, ◌==◌, Bool, true, false, Option, None, Some, Result, List, arith}
 use Rattle.std.specs.Prelude.{if◌then◌else◌, map, slice_get, slice_set, AllPairs, IfOk}
 use Rattle.std.proofs.lemmas.Bool.{eqb-true, and_parts}
 use Rattle.chan_model.specs.declared.fault.Fault.{Fault}
@@ -45,7 +45,8 @@ use Rattle.machine_model.specs.InstructionSteps.{test_with, function_sub}
 use Rattle.machine_model.specs.Steps.{Run, Opened, Stepped}
 use Rattle.machine_model.specs.Sharing.{owing}
 use Rattle.run_laws.specs.Agreeing.{IsAgreed, AllAgree, AreAbove, IsEnd}
-use Rattle.run_laws.specs.Beginnings.{StartCounts, with_offer, with_taken, starts_after, starts_by, starts, IsBegunOnce, with_start, no_starts}
+use Rattle.run_laws.specs.Beginnings.{StartCounts, with_offer, with_taken, starts_after, starts, IsBegunOnce, with_start, no_starts}
+use Rattle.run_laws.proofs.Machine.Appending.{through-more}
 use Rattle.run_laws.specs.StateClaims.{is_id, is_same_id}
 use Rattle.step_laws.specs.Walks as walked
 use Rattle.machine_model.specs.PathSteps.{swept}
@@ -118,11 +119,6 @@ offer-begun r k = refl
 down-rises : (b : Bool) (k mine : StartCounts) → (b ≡ true → AllPairs (λ x y. x < y) mine.begun) → AllPairs (λ x y. x < y) k.begun → AllPairs (λ x y. x < y) (if b then mine else k).begun
 down-rises true k mine f r = f refl
 down-rises false k mine f r = r
-
--- an entry more
-starts-more : (sets : ℕ) (id : SubchannelId) (k : StartCounts) (h : List Entry) (x : Entry) → starts_by sets id k (h ++ x ∷ []) ≡ starts_after sets id x.event x.reply (starts_by sets id k h)
-starts-more sets id k [] x = refl
-starts-more sets id k (y ∷ h) x = starts-more sets id (starts_after sets id y.event y.reply k) h x
 
 module _ (laws : AreLaws) where
   -- CLEAR alone changes the hold
@@ -258,7 +254,7 @@ module _ (laws : AreLaws) where
       (sets-stay old e r new (laws.walks old e r new step), links-walk id (starts (set_count setup) id h) old e r new (laws.walks old e r new step) told.1) in (
         next.0 ∙ told.0,
         subst (λ (k : StartCounts). IsStateTold id k new.subs new.units)
-            (ap (λ (sets : ℕ). starts_after sets id e r (starts (set_count setup) id h)) told.0 ∙ sym (starts-more (set_count setup) id no_starts h (record { event = e; reply = r })))
+            (ap (λ (sets : ℕ). starts_after sets id e r (starts (set_count setup) id h)) told.0 ∙ sym (through-more (starts_after (set_count setup) id) no_starts h e r))
             next.1,
       )
 

@@ -1,5 +1,5 @@
 -- After each run a halt is specified for a subchannel exactly where the entries tell it.
-use Rattle.std.proofs.Common.{◌≡◌, refl, sym, ◌∙◌, ap, subst, ℕ, ◌&&◌, Bool, true, false, Some, List, [], ◌∷◌, ◌++◌}
+use Rattle.std.proofs.Common.{◌≡◌, refl, sym, ◌∙◌, ap, subst, ℕ, ◌&&◌, Bool, true, false, Some, List}
 use Rattle.std.specs.Prelude.{if◌then◌else◌, slice_get}
 use Rattle.scsw_irb.specs.declared.scsw.FunctionControl.{FunctionControl}
 use Rattle.scsw_irb.specs.declared.scsw.Scsw.{Scsw}
@@ -30,6 +30,8 @@ use Rattle.run_laws.proofs.Shown.Following.{turned-follows}
 use Rattle.run_laws.proofs.Shown.Runs.{AreLaws, run-keeps}
 use Rattle.run_laws.proofs.Shown.Turned.{Turned, Executes, Sweeps, Rests}
 use Rattle.run_laws.specs.ProgramTold.{halt_by, halted_after}
+use Rattle.run_laws.specs.Entries.{seen_through}
+use Rattle.run_laws.proofs.Machine.Appending.{through-more}
 
 -- what an event is about, by the name of the subchannel
 abbrev pub mine : ℕ → SubchannelId → Event → Bool
@@ -39,14 +41,11 @@ mine sets id (event.Up word path) = names sets id word
 mine sets id (event.Down word path) = names sets id word
 mine sets id e = false
 
-abbrev pub halted_by : ℕ → SubchannelId → Bool → List Entry → Bool
-halted_by sets id halted [] = halted
-halted_by sets id halted (x ∷ h) = halted_by sets id (halted_after (mine sets id x.event) x.event x.reply halted) h
+abbrev pub halted_of : ℕ → SubchannelId → Event → Reply → Bool → Bool
+halted_of sets id e r halted = halted_after (mine sets id e) e r halted
 
-by-more : (sets : ℕ) (id : SubchannelId) (halted : Bool) (h : List Entry) (x : Entry) →
-    halted_by sets id halted (h ++ x ∷ []) ≡ halted_after (mine sets id x.event) x.event x.reply (halted_by sets id halted h)
-by-more sets id halted [] x = refl
-by-more sets id halted (y ∷ h) x = by-more sets id (halted_after (mine sets id y.event) y.event y.reply halted) h x
+abbrev pub halted_by : ℕ → SubchannelId → Bool → List Entry → Bool
+halted_by sets id halted h = seen_through (halted_of sets id) halted h
 
 -- an instruction with this code
 same-if : (b : Bool) (f : FunctionControl) → (if b then f else f).halt ≡ f.halt
@@ -124,6 +123,6 @@ run-halted laws setup id h s run index sub named there =
       halted = ap (λ (f : FunctionControl). f.halt) (turned-follows sets id e r sub after k.fits turned).functions
           ∙ leaves sets id e r sub after turned
           ∙ ap (λ (b : Bool). halted_after (mine sets id e) e r b) k.halted
-          ∙ sym (by-more sets id false h (record { event = e; reply = r }));
+          ∙ sym (through-more (halted_of sets id) false h e r);
     }) h s run index sub named there in
     w.halted

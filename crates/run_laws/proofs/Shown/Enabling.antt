@@ -1,6 +1,6 @@
 -- What is known of whether a subchannel is enabled is so, and the codes are those of the tables.
-use Rattle.std.proofs.Common.{◌≡◌, refl, sym, ◌∙◌, ap, subst, ℕ, ◌&&◌, Bool, true, false, Option, None, Some, List, [], ◌∷◌, ◌++◌}
-use Rattle.std.specs.Prelude.{if◌then◌else◌, slice_get, is_some, nat_lt}
+use Rattle.std.proofs.Common.{◌≡◌, refl, sym, ◌∙◌, ap, subst, ℕ, ◌&&◌, Bool, true, false, Option, None, Some, List}
+use Rattle.std.specs.Prelude.{if◌then◌else◌, slice_get}
 use Rattle.scsw_irb.specs.declared.serials.Serials.{Serials}
 use Rattle.chan_events.specs.Events.{Event}
 use Rattle.chan_events.specs.declared.event.Event.TheVariants as event
@@ -35,13 +35,14 @@ use Rattle.subchannel_model.specs.declared.state.Subchannel.{Subchannel}
 use Rattle.subchannel_model.specs.declared.state.SubchannelState.{SubchannelState}
 use Rattle.subchannel_model.specs.Causes.{without_begun, without_waiting, programs_after_end, with_cause}
 use Rattle.subchannel_model.specs.Choosing.{chosen, marked_sub}
-use Rattle.subchannel_model.specs.Conditions.{condition_of, left_by}
+use Rattle.subchannel_model.specs.Conditions.{left_by}
 use Rattle.subchannel_model.specs.Halt.{drops_status, status_dropped, halt_begun}
 use Rattle.subchannel_model.specs.Losing.{path_lost, path_index, loses_at, loses, shows_at}
 use Rattle.subchannel_model.specs.Programs.{without_programs}
 use Rattle.subchannel_model.specs.Test.{tested, ends_suspended}
 use Rattle.run_laws.proofs.Shown.CodeTable.{code-is}
-use Rattle.run_laws.specs.Codes.{told_by, enabled_by, enabled_with, code_in, enabled_after, enabled_through, enabled_in, MayBe, IsCodeRight, AreCodesRight}
+use Rattle.run_laws.specs.Codes.{told_by, enabled_by, enabled_with, code_in, enabled_after, enabled_in, MayBe, IsCodeRight, AreCodesRight}
+use Rattle.run_laws.proofs.Machine.Appending.{through-more}
 use Rattle.run_laws.specs.Shown.{names, is_about}
 use Rattle.run_laws.proofs.Shown.Effects.{Seen, seen, of_seen, Effect, Causes}
 use Rattle.step_laws.proofs.Executed.{IsEffect, reply_of, code_for, state_left}
@@ -214,17 +215,12 @@ turned-enabled sets id _ _ _ _ known (Sweeps what r sub) k = swept-enabled sets 
 turned-enabled sets id _ _ _ _ known (Rests e r sub about) k = rests-enabled sets id e r known sub.state.pmcw.enabled about k
 
 -- along a run
-through-more : (sets : ℕ) (id : SubchannelId) (known : Option Bool) (h : List Entry) (x : Entry) →
-    enabled_through sets id known (h ++ x ∷ []) ≡ enabled_after sets id x.event x.reply (enabled_through sets id known h)
-through-more sets id known [] x = refl
-through-more sets id known (y ∷ h) x = through-more sets id (enabled_after sets id y.event y.reply known) h x
-
 pub run-enabled : AreLaws → (setup : Setup) (id : SubchannelId) (h : List Entry) (s : State) → Run (opening_of setup) h s → (index : ℕ) (sub : Subchannel) →
     Rattle.subchannel_model.specs.Indices.index_in id s.subs ≡ Some index → slice_get s.subs index ≡ Some sub → MayBe (enabled_in (set_count setup) id h) sub.state.pmcw.enabled
 run-enabled laws setup id =
     run-keeps laws setup id (λ h s. MayBe (enabled_in (set_count setup) id h) s.pmcw.enabled) refl
     (λ h e r sub after k turned.
-    subst (λ (known : Option Bool). MayBe known after.pmcw.enabled) (sym (through-more (set_count setup) id (Some false) h (record { event = e; reply = r })))
+    subst (λ (known : Option Bool). MayBe known after.pmcw.enabled) (sym (through-more (enabled_after (set_count setup) id) (Some false) h e r))
     (turned-enabled (set_count setup) id e r sub after (enabled_in (set_count setup) id h) turned k))
 
 -- the code of an instruction

@@ -1,6 +1,6 @@
 -- After each run what is chosen where a halt is shown pending is what is due by where the program is.
 use Rattle.std.proofs.Common.{◌≡◌, refl, sym, ◌∙◌, subst, ℕ, Bool, true, false, Option, None, Some, List, [], ◌∷◌, inl, inr}
-use Rattle.std.specs.Prelude.{unwrap_or}
+use Rattle.std.specs.Prelude.{unwrap_or, IsSomeAnd}
 use Rattle.allegiance.specs.PathUse.{reachable_paths}
 use Rattle.chan_model.specs.PathSets.{is_any}
 use Rattle.chan_events.specs.Events.{Event}
@@ -22,7 +22,7 @@ use Rattle.subchannel_model.specs.declared.state.Subchannel.{Subchannel}
 use Rattle.subchannel_model.specs.declared.state.SubchannelState.{SubchannelState}
 use Rattle.path_select.specs.Choice.{IsChoice}
 use Rattle.subchannel_model.specs.Choosing.{return_paths, is_away, unsent_at, unsent_reset, first_some, candidate, path_use, reset_chosen, clear_chosen, chosen, marked_sub, halt_chosen, offer_chosen}
-use Rattle.run_laws.specs.Links.{Link, Apart, Offered, Resetting, SubSeen, Seen, OfSub, first_seen, nothing_seen, seen_through}
+use Rattle.run_laws.specs.Links.{Link, Apart, Offered, Resetting, SubSeen, Seen, first_seen, links_in}
 use Rattle.run_laws.proofs.Signals.LinkHolds.{link_at, Stands}
 use Rattle.run_laws.proofs.Signals.LinkLists.{of-first}
 use Rattle.run_laws.proofs.Signals.LinkRuns.{AreOnePath, IsRunSeen, run-seen}
@@ -118,14 +118,14 @@ halt-done is_up k sub choice tie away pending =
 
 module _ (setup : Setup) (id : SubchannelId) (before : List Entry) where
   abbrev was : Seen
-  was = seen_through (set_count setup) (nothing_seen setup) before
+  was = links_in setup before
 
   rests-right : (e : Event) (r : Reply) (old : StoredStatus) → is_about (set_count setup) id e ≡ false → IsHaltRight setup id before old e r
   rests-right (event.Choose word) r old about = λ mine. absurd (cc (sym mine ∙ about))
   rests-right e r old about = tt
 
   turned-right : (e : Event) (r : Reply) (sub : Subchannel) (after : SubchannelState) →
-      ((P : SubSeen → Type 0) → ((k : SubSeen) → IsTied was.up k sub → P k) → OfSub P (first_seen id was.subs)) →
+      ((P : SubSeen → Type 0) → ((k : SubSeen) → IsTied was.up k sub → P k) → IsSomeAnd (first_seen id was.subs) P) →
       Turned (set_count setup) id e r sub after → IsHaltRight setup id before (status_of sub.state) e r
   turned-right _ _ _ _ seen (Chooses word sub choice named away) = λ mine pending.
       seen (λ k. IsHaltDoneFor was.up (reply_chosen (marked_sub sub choice).state (chosen sub choice)) k) (λ k tie. halt-done was.up k sub choice tie away pending)

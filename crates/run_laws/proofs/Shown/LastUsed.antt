@@ -30,7 +30,8 @@ use Rattle.subchannel_model.specs.Losing.{loses, path_index}
 use Rattle.subchannel_model.specs.Indices.{index_in}
 use Rattle.subchannel_model.specs.Programs.{without_programs}
 use Rattle.subchannel_model.specs.Test.{ends_suspended, tested}
-use Rattle.run_laws.specs.Paths.{used_met, used_after, used_through, used_in, ShowsLastUsed}
+use Rattle.run_laws.specs.Paths.{used_met, used_after, used_in, ShowsLastUsed}
+use Rattle.run_laws.proofs.Machine.Appending.{through-more}
 use Rattle.run_laws.specs.Shown.{names, is_about, is_accepted}
 use Rattle.step_laws.proofs.Executed.{IsEffect, reply_of, code_for, state_left}
 use Rattle.run_laws.proofs.Shown.Runs.{AreLaws, IsPassed, passed, passed-next, sets-stay, run-keeps}
@@ -113,10 +114,6 @@ module _ (sets : ℕ) (id : SubchannelId) where
   turned-uses _ _ _ _ (Rests e r sub about) = rests-uses e r sub.state about
 
 -- along a run
-through-more : (sets : ℕ) (id : SubchannelId) (k : Option ℕ) (h : List Entry) (x : Entry) → used_through sets id k (h ++ x ∷ []) ≡ used_after sets id x.event x.reply (used_through sets id k h)
-through-more sets id k [] x = refl
-through-more sets id k (y ∷ h) x = through-more sets id (used_after sets id y.event y.reply k) h x
-
 run-used : AreLaws → (setup : Setup) (id : SubchannelId) (h : List Entry) (s : State) → Run (opening_of setup) h s → (index : ℕ) (sub : Subchannel) → index_in id s.subs ≡ Some index →
     slice_get s.subs index ≡ Some sub → used sub.state ≡ used_in (set_count setup) id h
 run-used laws setup id =
@@ -124,7 +121,7 @@ run-used laws setup id =
     (λ h e r sub after k turned.
     turned-uses (set_count setup) id e r sub after turned
     ∙ ap (λ (o : Option ℕ). used_after (set_count setup) id e r o) k
-    ∙ sym (through-more (set_count setup) id None h (record { event = e; reply = r })))
+    ∙ sym (through-more (used_after (set_count setup) id) None h e r))
 
 pub run-last_used : AreLaws → (setup : Setup) (h : List Entry) (s : State) → Run (opening_of setup) h s → ShowsLastUsed (set_count setup) h
 run-last_used laws setup h s run id before after a b c word eq shown =

@@ -1,6 +1,6 @@
 -- After each run a path that is lost, and a Notice, make a status where a program is lost that is shown, and nowhere else.
 use Rattle.std.proofs.Common.{◌≡◌, refl, sym, ◌∙◌, subst, ℕ, ◌&&◌, nat_lt, not, Bool, true, false, Option, List}
-use Rattle.std.specs.Prelude.{if◌then◌else◌}
+use Rattle.std.specs.Prelude.{if◌then◌else◌, IsSomeAnd}
 use Rattle.storage_keys.specs.Storage.{Contents}
 use Rattle.chan_events.specs.Events.{Event}
 use Rattle.chan_events.specs.declared.event.Event.TheVariants as event
@@ -21,7 +21,7 @@ use Rattle.subchannel_model.specs.declared.state.UpStep.{UpStep}
 use Rattle.subchannel_model.specs.Losing.{reset_for, loses, path_index}
 use Rattle.subchannel_model.specs.Notice.{with_known}
 use Rattle.subchannel_model.specs.Outcomes.{signal_taken, signal_ignored}
-use Rattle.run_laws.specs.Links.{SubSeen, OfSub, first_seen, nothing_seen, seen_through}
+use Rattle.run_laws.specs.Links.{SubSeen, first_seen, links_in}
 use Rattle.run_laws.proofs.Signals.LinkLists.{of-first}
 use Rattle.run_laws.proofs.Signals.LinkRuns.{AreOnePath, IsRunSeen, run-seen}
 use Rattle.run_laws.proofs.Signals.LinkSubs.{IsTied}
@@ -73,7 +73,7 @@ module _ (setup : Setup) (id : SubchannelId) (before : List Entry) where
   known = enabled_in (set_count setup) id before
 
   abbrev Seen : (SubSeen → Type 0) → Type 0
-  Seen P = OfSub P (first_seen id (seen_through (set_count setup) (nothing_seen setup) before).subs)
+  Seen P = IsSomeAnd (first_seen id (links_in setup before).subs) P
 
   turned-right : (is_up : ℕ → Bool) (e : Event) (r : Reply) (sub : Subchannel) (after : SubchannelState) → IsKnown known sub.state →
       ((P : SubSeen → Type 0) → ((k : SubSeen) → IsTied is_up k sub → P k) → Seen P) →

@@ -1,6 +1,6 @@
 -- After each run what was seen of a unit is what the unit keeps, and with it the subchannels agree: in each entry they do.
-use Rattle.std.proofs.Common.{◌≡◌, refl, sym, ◌∙◌, ap, subst, ℕ, zero, suc, ◌+◌, ◌<◌, ◌==◌, ◌&&◌, nat_lt, Bool, true, false, Option, None, Some, Result, List, [], ◌∷◌, ◌++◌, length, map, slice_get, IfOk, if◌then◌else◌, inl, inr}
-use Rattle.std.specs.Prelude.{◌⊎◌}
+use Rattle.std.proofs.Common.{◌≡◌, refl, sym, ◌∙◌, ap, subst, ℕ, zero, suc, ◌+◌, ◌<◌, ◌==◌, ◌&&◌, nat_lt, Bool, true, false, Option, None, Some, Result, List, [], ◌∷◌, length, map, slice_get, IfOk, if◌then◌else◌, inl, inr}
+use Rattle.std.specs.Prelude.{◌⊎◌, IfSome}
 use Rattle.std.proofs.lemmas.Bool.{eqb-true, eq-eqb}
 use Rattle.std.proofs.lemmas.Option.{slice_get_within, get_or_from_slice_get}
 use Rattle.chan_events.specs.Events.{Event}
@@ -46,11 +46,14 @@ use Rattle.step_laws.proofs.Indices.{get-set, both-true}
 use Rattle.step_laws.specs.Walks as walked
 use Rattle.step_laws.specs.Walks.{AreWalks, Walked, IsQuiet}
 use Rattle.run_laws.specs.Agreeing.{IsAgreed, AllAgree}
-use Rattle.run_laws.specs.Devices.{Holding, nothing_held, is_held_by, is_holder, setup_named, holding_after}
-use Rattle.run_laws.specs.BothAgree.{IsHolderOr, IsUnheldOr, IsRestarted, ComesOfHolder, GoesToHolder, IsAnswerToHolder, AgreesIn, AgreesSet, IsEntryAgreed, AreAgreed, DoBothAgree}
+use Rattle.run_laws.specs.Devices.{Holding, side_seen, nothing_held, is_held_by, is_holder, setup_named, holding_after}
+use Rattle.agreement_laws.specs.Holders.{IsRestarted, ComesOfHolder}
+use Rattle.run_laws.specs.BothAgree.{IsHolderOr, IsUnheldOr, GoesToHolder, AgreesIn, AgreesSet, IsEntryAgreed, DoBothAgree}
+use Rattle.run_laws.specs.Entries.{Throughout}
+use Rattle.run_laws.proofs.Machine.Appending.{claim-more}
 use Rattle.run_laws.proofs.Signals.Holdings.{holder_in, holding_of}
 use Rattle.run_laws.proofs.Signals.UnitTurns.{setups, setup-is, if-ok}
-use Rattle.run_laws.proofs.Signals.HolderRuns.{IsSeen, AreKnown, IsRunRight, run-right, holding_through, there-is}
+use Rattle.run_laws.proofs.Signals.HolderRuns.{IsSeen, AreKnown, IsRunRight, run-right, run_seen, there-is}
 use Rattle.run_laws.proofs.Signals.Meets.{IsPlainUp, ArePlainDown, AreCommandsOn, AreDataAnswers, Meets, takes-meets}
 use Rattle.run_laws.proofs.Signals.Meets as meets
 
@@ -58,7 +61,7 @@ use Rattle.run_laws.proofs.Signals.Meets as meets
 abbrev AgreeAt : HoldPhase → UnitState → Side → Type 0
 AgreeAt phase u side = Agrees phase (owner_of u.own side) ⊎ IsOutstanding phase (side_of u side)
 
-fresh-seen : (u : UnitState) (side : Side) → (side_of u side).fresh ≡ true → IsRestarted (holding_of u) side
+fresh-seen : (u : UnitState) (side : Side) → (side_of u side).fresh ≡ true → IsRestarted (side_seen (holding_of u) side)
 fresh-seen u First e = e
 fresh-seen u Second e = e
 
@@ -94,7 +97,7 @@ free-unheld u side (inr (inl f)) = inr (fresh-seen u side f)
 free-unheld u side (inr (inr f)) = absurd f
 
 -- what is sent
-plain-up : (k : Holding) (side : Side) (x : Up) → IsPlainUp x → ComesOfHolder k side x
+plain-up : (k : Holding) (side : Side) (x : Up) → IsPlainUp x → ComesOfHolder (IsHolderOr k side) x
 plain-up k side (up.Accept t) n = tt
 plain-up k side (up.Busy t) n = tt
 plain-up k side (up.Leave t c) n = absurd n
@@ -113,14 +116,14 @@ plain-down k side _ (meets.Halts t) = tt
 plain-down k side _ (meets.Resets r b) = tt
 plain-down k side _ (meets.Answers a) = tt
 
-plain-answer : (k : Holding) (side : Side) (sent : Option (OnPath Down)) → ArePlainDown sent → IsAnswerToHolder k side sent
+plain-answer : (k : Holding) (side : Side) (sent : Option (OnPath Down)) → ArePlainDown sent → IfSome sent (λ x. GoesToHolder k side x.signal)
 plain-answer k side None n = tt
 plain-answer k side (Some s) n = plain-down k side s.signal n
 
 command-goes : (k : Holding) (side : Side) (t p q : ℕ) (d : Down) → meets.IsCommandOn t p q d → IsHolderOr k side t → GoesToHolder k side d
 command-goes k side t p q _ (meets.Sends_command v m code room number path) h = subst (λ (w : ℕ). IsHolderOr k side w) number h
 
-command-answer : (k : Holding) (side : Side) (t p : ℕ) (sent : Option (OnPath Down)) → AreCommandsOn t p sent → IsHolderOr k side t → IsAnswerToHolder k side sent
+command-answer : (k : Holding) (side : Side) (t p : ℕ) (sent : Option (OnPath Down)) → AreCommandsOn t p sent → IsHolderOr k side t → IfSome sent (λ x. GoesToHolder k side x.signal)
 command-answer k side t p None n h = tt
 command-answer k side t p (Some s) n h = command-goes k side t p s.path s.signal n h
 
@@ -128,7 +131,7 @@ data-goes : (k : Holding) (side : Side) (t p c q : ℕ) (d : Down) → meets.IsD
 data-goes k side t p c q _ (meets.Sends_room v m s room number path) h = subst (λ (w : ℕ). IsHolderOr k side w) number h
 data-goes k side t p c q _ (meets.Sends_bytes bytes v d m s number path connection) h = subst (λ (w : ℕ). IsHolderOr k side w) number h
 
-data-answer : (k : Holding) (side : Side) (t p c : ℕ) (sent : Option (OnPath Down)) → AreDataAnswers t p c sent → IsHolderOr k side t → IsAnswerToHolder k side sent
+data-answer : (k : Holding) (side : Side) (t p c : ℕ) (sent : Option (OnPath Down)) → AreDataAnswers t p c sent → IsHolderOr k side t → IfSome sent (λ x. GoesToHolder k side x.signal)
 data-answer k side t p c None n h = tt
 data-answer k side t p c (Some s) n h = data-goes k side t p c s.path s.signal n h
 
@@ -248,22 +251,19 @@ walked-agreed setup at s _ _ _ k (walked.Met word path returns index sub t new n
 walked-agreed setup at s _ _ _ k (walked.Swept e r what new q sets subs units by) set old now seen = quiet-agreed s.sets (setups s.subs) at e r k q
 walked-agreed setup at s _ _ _ k w set old now seen = tt
 
-agreed-more : (sets : ℕ) (subs : List SubchannelSetup) (at : ℕ) (k : Holding) (h : List Entry) (x : Entry) → AreAgreed sets subs at k h →
-    IsEntryAgreed sets subs at x.event x.reply (holding_through sets subs at k h) → AreAgreed sets subs at k (h ++ x ∷ [])
-agreed-more sets subs at k [] x all one = (one, tt)
-agreed-more sets subs at k (y ∷ h) x all one = (all.0, agreed-more sets subs at (holding_after sets subs at y.event y.reply k) h x all.1 one)
-
 abbrev DoRunsAgree : Type 0
 DoRunsAgree = (setup : Setup) (h : List Entry) (s : State) → IsLawful setup → Run (opening_of setup) h s → AllAgree s
 
-run-agreed : AreWalks → AreKnown → DoRunsAgree → (setup : Setup) (at : ℕ) (h : List Entry) (s : State) → IsLawful setup → Run (opening_of setup) h s → AreAgreed (set_count setup) setup.subchannels at nothing_held h
+run-agreed : AreWalks → AreKnown → DoRunsAgree → (setup : Setup) (at : ℕ) (h : List Entry) (s : State) → IsLawful setup → Run (opening_of setup) h s →
+    Throughout (holding_after (set_count setup) setup.subchannels at) (IsEntryAgreed (set_count setup) setup.subchannels at) nothing_held h
 run-agreed walks known agree setup at _ _ lawful Opened = tt
 run-agreed walks known agree setup at _ _ lawful (Stepped h old e r new run step) =
     let before : IsRunRight setup h old = run-right known setup h old lawful run in
-    let k : Holding = holding_through (set_count setup) setup.subchannels at nothing_held h in
+    let k : Holding = run_seen setup h at in
     let now : IsEntryAgreed old.sets (setups old.subs) at e r k =
     walked-agreed setup at old e r new k (walks old e r new step) before.set_up (agree setup h old lawful run) (agree setup _ new lawful (Stepped h old e r new run step)) (before.seen at) in
-    agreed-more (set_count setup) setup.subchannels at nothing_held h (record { event = e; reply = r }) (run-agreed walks known agree setup at h old lawful run)
+    claim-more (holding_after (set_count setup) setup.subchannels at) (IsEntryAgreed (set_count setup) setup.subchannels at) nothing_held h e r
+    (run-agreed walks known agree setup at h old lawful run)
     (subst (λ (n : ℕ). IsEntryAgreed n setup.subchannels at e r k) before.set_up.sets
     (subst (λ (xs : List SubchannelSetup). IsEntryAgreed old.sets xs at e r k) before.set_up.subs now))
 

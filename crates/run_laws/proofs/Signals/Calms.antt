@@ -43,8 +43,8 @@ use Rattle.step_laws.specs.Walks.{Function, Resumes, Halts, Clears, Cancels, eff
 use Rattle.step_laws.specs.Walks as walks
 use Rattle.run_laws.proofs.Machine.SameHold.{IsSameHold, cause-same, tested-same, halted-same}
 use Rattle.chan_events.specs.Replies.{Reply}
-use Rattle.agreement_laws.specs.PathsSeen.{Connected}
-use Rattle.run_laws.specs.ByItsPath.{SeenPaths, offered_in, IsHaltOn, IsHaltRight}
+use Rattle.agreement_laws.specs.PathsSeen.{Connected, IsHaltOn}
+use Rattle.run_laws.specs.ByItsPath.{SeenPaths, offered_in, IsHaltRight}
 use Rattle.run_laws.proofs.Signals.Meets.{Stays, phase-of, reset-gone}
 use Rattle.run_laws.proofs.Signals.Ties.{Ties, stays-ties}
 use Rattle.run_laws.proofs.Signals.Bounds.{IsBound}

@@ -1,5 +1,5 @@
 -- After each run the path to which an allegiance is seen to be dedicated is that of its subchannel: each entry is right.
-use Rattle.std.proofs.Common.{◌≡◌, refl, sym, ◌∙◌, ap, subst, ℕ, Bool, true, false, Option, None, Some, Result, List, [], ◌∷◌, ◌++◌, length, map, nat_lt, slice_get, slice_set, IfOk, if◌then◌else◌, inl, inr}
+use Rattle.std.proofs.Common.{◌≡◌, refl, sym, ◌∙◌, ap, subst, ℕ, Bool, true, false, Option, None, Some, Result, List, length, map, nat_lt, slice_get, slice_set, IfOk, if◌then◌else◌, inl, inr}
 use Rattle.std.specs.Prelude.{◌⊎◌}
 use Rattle.chan_events.specs.Events.{Event}
 use Rattle.chan_events.specs.declared.event.Event.TheVariants as event
@@ -47,7 +47,9 @@ use Rattle.step_laws.specs.Walks.{AreWalks, Walked, IsQuiet, OneSub, Function, R
 use Rattle.run_laws.proofs.Machine.Linked.{index-set}
 use Rattle.run_laws.specs.StateClaims.{is_id}
 use Rattle.run_laws.specs.BeginsItsOwn.{is_code_zero}
-use Rattle.run_laws.specs.Dedicated.{dedicated_met, dedicated_cleared, dedicated_after, IsOfferOn, IsEntryRight, AreRight, OffersOnDedicated}
+use Rattle.run_laws.specs.Dedicated.{dedicated_met, dedicated_cleared, dedicated_after, IsOfferOn, IsEntryRight, OffersOnDedicated}
+use Rattle.run_laws.specs.Entries.{seen_through, Throughout}
+use Rattle.run_laws.proofs.Machine.Appending.{through-more, claim-more}
 use Rattle.run_laws.proofs.Signals.Dedicating.{IsStill, IsByCheck, IsLeft, tested-still, halted-still, loses-still, shows-still, choose-still, takes-left}
 use Rattle.run_laws.proofs.Signals.OwnSteps.{IsApart, down-apart, step-apart, act-apart, up-setup, choose-setup}
 use Rattle.run_laws.proofs.Signals.OwnRuns.{sets-stay}
@@ -320,37 +322,24 @@ walked-seen on id s _ _ _ k (walked.Swept e r what new q sets subs units by) ste
 )
 
 -- along a run, before which none was dedicated
-abbrev dedicated_through : ℕ → SubchannelId → Option ℕ → List Entry → Option ℕ
-dedicated_through sets id k [] = k
-dedicated_through sets id k (x ∷ xs) = dedicated_through sets id (dedicated_after sets id x.event x.reply k) xs
-
-through-more : (sets : ℕ) (id : SubchannelId) (k : Option ℕ) (h : List Entry) (x : Entry) →
-    dedicated_through sets id k (h ++ x ∷ []) ≡ dedicated_after sets id x.event x.reply (dedicated_through sets id k h)
-through-more sets id k [] x = refl
-through-more sets id k (y ∷ h) x = through-more sets id (dedicated_after sets id y.event y.reply k) h x
-
-right-more : (sets : ℕ) (id : SubchannelId) (k : Option ℕ) (h : List Entry) (x : Entry) → AreRight sets id k h → IsEntryRight sets id x.event x.reply (dedicated_through sets id k h) →
-    AreRight sets id k (h ++ x ∷ [])
-right-more sets id k [] x all one = (one, tt)
-right-more sets id k (y ∷ h) x all one = (all.0, right-more sets id (dedicated_after sets id y.event y.reply k) h x all.1 one)
-
 record IsRunSeen (sets : ℕ) (id : SubchannelId) (h : List Entry) (s : State) : Type 0 where
   count : s.sets ≡ sets
-  ties : DedicatedAt id s.subs (dedicated_through sets id None h)
-  right : AreRight sets id None h
+  ties : DedicatedAt id s.subs (seen_through (dedicated_after sets id) None h)
+  right : Throughout (dedicated_after sets id) (IsEntryRight sets id) None h
 
 run-seen : AreWalks → AreOnDedicated → (setup : Setup) (id : SubchannelId) (h : List Entry) (s : State) → Run (opening_of setup) h s → IsRunSeen (set_count setup) id h s
 run-seen walks on setup id _ _ Opened = record { count = refl; ties = λ index sub named there. none-dedicates sub.state.dedicated; right = tt }
 run-seen walks on setup id _ _ (Stepped h old e r new run step) =
     let before : IsRunSeen (set_count setup) id h old = run-seen walks on setup id h old run in
     let walk : Walked old e r new = walks old e r new step in
-    let k : Option ℕ = dedicated_through (set_count setup) id None h in
+    let k : Option ℕ = seen_through (dedicated_after (set_count setup) id) None h in
     let now : IsSeen id old e r new k = walked-seen on id old e r new k walk step before.ties in
     record {
       count = sets-stay old e r new walk ∙ before.count;
-      ties = subst (λ (o : Option ℕ). DedicatedAt id new.subs o) (sym (through-more (set_count setup) id None h (record { event = e; reply = r })))
+      ties = subst (λ (o : Option ℕ). DedicatedAt id new.subs o) (sym (through-more (dedicated_after (set_count setup) id) None h e r))
           (subst (λ (n : ℕ). DedicatedAt id new.subs (dedicated_after n id e r k)) before.count now.1);
-      right = right-more (set_count setup) id None h (record { event = e; reply = r }) before.right (subst (λ (n : ℕ). IsEntryRight n id e r k) before.count now.0);
+      right = claim-more (dedicated_after (set_count setup) id) (IsEntryRight (set_count setup) id) None h e r before.right
+          (subst (λ (n : ℕ). IsEntryRight n id e r k) before.count now.0);
     }
 
 pub run-offers-on-dedicated : AreWalks → AreOnDedicated → (setup : Setup) (h : List Entry) (s : State) → Run (opening_of setup) h s → OffersOnDedicated (set_count setup) h

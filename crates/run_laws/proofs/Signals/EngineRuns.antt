@@ -49,13 +49,14 @@ use Rattle.run_laws.proofs.Machine.PathSets.{without-parts, each-true}
 use Rattle.run_laws.proofs.Machine.Turning.{returns-right}
 use Rattle.step_laws.specs.Walks as walked
 use Rattle.step_laws.specs.Walks.{AreWalks, Walked, IsQuiet}
-use Rattle.run_laws.specs.Links.{Apart, SubSeen, Seen, engaged_by, is_on, IsUp, nothing_seen, seen_through}
+use Rattle.run_laws.specs.Links.{Apart, SubSeen, Seen, engaged_by, is_on, IsUp, seen_after, links_in, nothing_seen}
 use Rattle.run_laws.specs.Engines.{is_served, serves, IsIdle, IsOfferRight, IsGrantRight, IsGrantDue, GoesByIdle, status_byte, status_bytes, ShowsServed, ServesOne, IsEntryRight, HasOneEngine}
 use Rattle.run_laws.proofs.Signals.LinkHolds.{Stands, link_at}
 use Rattle.run_laws.proofs.Signals.Returning.{up-available, first-returns}
 use Rattle.run_laws.proofs.Signals.LinkLists.{AreTied, of-named}
 use Rattle.run_laws.proofs.Signals.LinkPaths.{member-up}
-use Rattle.run_laws.proofs.Signals.LinkRuns.{AreSeen, AreOnePath, IsRunSeen, run-seen, through-more, right-more}
+use Rattle.run_laws.proofs.Signals.LinkRuns.{AreSeen, AreOnePath, IsRunSeen, run-seen}
+use Rattle.run_laws.proofs.Machine.Appending.{through-more, claim-more}
 use Rattle.run_laws.proofs.Signals.LinkSubs.{IsTied}
 use Rattle.step_laws.proofs.Results as turn
 use Rattle.step_laws.proofs.Results.{ResultOf, HasResult, step-turn}
@@ -317,10 +318,10 @@ run-one-engine walks paths setup _ _ lawful Opened = tt
 run-one-engine walks paths setup _ _ lawful (Stepped h old e r new run step) =
     let before : IsRunSeen setup h old = run-seen walks paths setup h old lawful run in
     let after : IsRunSeen setup (h ++ record { event = e; reply = r } ∷ []) new = run-seen walks paths setup _ new lawful (Stepped h old e r new run step) in
-    let k : Seen = seen_through (set_count setup) (nothing_seen setup) h in
-    right-more (IsEntryRight (set_count setup)) (set_count setup) (nothing_seen setup) h (record { event = e; reply = r }) (run-one-engine walks paths setup h old lawful run) (
+    let k : Seen = links_in setup h in
+    claim-more (seen_after (set_count setup)) (IsEntryRight (set_count setup)) (nothing_seen setup) h e r (run-one-engine walks paths setup h old lawful run) (
       subst (λ (n : ℕ). GoesByIdle n k e r) before.count (walked-idle old e r new k (walks old e r new step) before.tied),
       shown old e r new k step before.tied,
-      subst (λ (y : Seen). ServesOne y) (through-more (set_count setup) (nothing_seen setup) h (record { event = e; reply = r }))
-          (one-served (seen_through (set_count setup) (nothing_seen setup) (h ++ record { event = e; reply = r } ∷ [])) new (paths setup _ new lawful (Stepped h old e r new run step)) after.tied),
+      subst (λ (y : Seen). ServesOne y) (through-more (seen_after (set_count setup)) (nothing_seen setup) h e r)
+          (one-served (links_in setup (h ++ record { event = e; reply = r } ∷ [])) new (paths setup _ new lawful (Stepped h old e r new run step)) after.tied),
     )

@@ -36,7 +36,9 @@ use Rattle.machine_model.specs.State.{State, opening_of, idle_of}
 use Rattle.machine_model.specs.Steps.{Run, Opened, Stepped, Step}
 use Rattle.step_laws.proofs.Indices.{get-set, get-other, map-get, same-or-not}
 use Rattle.run_laws.specs.Devices.{Held, Holding, with_holder, with_transfer, reported, with_restart, nothing_held, setup_named, acted_after, held_met, holding_met, holding_after}
-use Rattle.run_laws.specs.OneHolder.{Seen, IsFree, IsDownRight, IsSetRight, IsAnswerNumbered, reply_due, IsReportRight, IsActRight, IsEntryRight, seen_after, AreRight, HasOneHolder}
+use Rattle.run_laws.specs.OneHolder.{Seen, IsFree, IsDownRight, IsSetRight, IsAnswerNumbered, reply_due, IsReportRight, IsActRight, IsEntryRight, seen_after, HasOneHolder}
+use Rattle.run_laws.specs.Entries.{seen_through}
+use Rattle.run_laws.proofs.Machine.Appending.{through-more, claim-more}
 use Rattle.run_laws.specs.Agreeing.{AreAbove}
 use Rattle.run_laws.proofs.Signals.Holdings.{holder_in, holding_of}
 use Rattle.run_laws.proofs.Signals.HolderActs.{IfStep, reports-hand, reports-right, IsActed, acts-acted}
@@ -95,7 +97,7 @@ others-are i change seen at n =
 
 -- the entry is right, and what was seen stands after it
 pub record IsRight (s : State) (e : Event) (r : Reply) (new : State) (seen : Seen) : Type 0 where
-  pub right : IsEntryRight (map group_of s.members) s.sets (setups s.subs) seen e r
+  pub right : IsEntryRight (map group_of s.members) s.sets (setups s.subs) e r seen
   pub units : AreSeen new.units (seen_after s.sets (setups s.subs) e r seen)
   pub begun : AreBegun new.members (seen_after s.sets (setups s.subs) e r seen)
 
@@ -229,35 +231,23 @@ step-right s e r new seen step above members units begun =
     let is : HasResult s e r new = step-turn s e r new step in
     subst (λ (x : State). IsRight s e r x seen) (sym is.settles) (turn-right s e r is.left _ seen is.turn above members units begun)
 
--- along a run, before which nothing was seen
-abbrev pub holding_through : ℕ → List SubchannelSetup → ℕ → Holding → List Entry → Holding
-holding_through sets subs at k [] = k
-holding_through sets subs at k (x ∷ xs) = holding_through sets subs at (holding_after sets subs at x.event x.reply k) xs
-
-pub through-more : (sets : ℕ) (subs : List SubchannelSetup) (at : ℕ) (k : Holding) (h : List Entry) (x : Entry) →
-    holding_through sets subs at k (h ++ x ∷ []) ≡ holding_after sets subs at x.event x.reply (holding_through sets subs at k h)
-through-more sets subs at k [] x = refl
-through-more sets subs at k (y ∷ h) x = through-more sets subs at (holding_after sets subs at y.event y.reply k) h x
-
-abbrev pub seen_through : ℕ → List SubchannelSetup → Seen → List Entry → Seen
-seen_through sets subs seen h = λ at. holding_through sets subs at (seen at) h
-
-right-more : (groups : List ℕ) (sets : ℕ) (subs : List SubchannelSetup) (seen : Seen) (h : List Entry) (x : Entry) → AreRight groups sets subs seen h →
-    IsEntryRight groups sets subs (seen_through sets subs seen h) x.event x.reply → AreRight groups sets subs seen (h ++ x ∷ [])
-right-more groups sets subs seen [] x all one = (one, tt)
-right-more groups sets subs seen (y ∷ h) x all one = (all.0, right-more groups sets subs (seen_after sets subs y.event y.reply seen) h x all.1 one)
+-- along a run, before which nothing was seen: of all units is seen what is of each
+each-through : (sets : ℕ) (subs : List SubchannelSetup) (seen : Seen) (h : List Entry) →
+    seen_through (seen_after sets subs) seen h ≡ (λ at. seen_through (holding_after sets subs at) (seen at) h)
+each-through sets subs seen [] = refl
+each-through sets subs seen (x ∷ h) = each-through sets subs (seen_after sets subs x.event x.reply seen) h
 
 abbrev pub none_held : Seen
 none_held at = nothing_held
 
 abbrev pub run_seen : Setup → List Entry → Seen
-run_seen setup h = seen_through (set_count setup) setup.subchannels none_held h
+run_seen setup h = λ at. seen_through (holding_after (set_count setup) setup.subchannels at) nothing_held h
 
 pub record IsRunRight (setup : Setup) (h : List Entry) (s : State) : Type 0 where
   pub set_up : IsSetUp setup s
   pub seen : (at : ℕ) → IsSeen at s.units (run_seen setup h at)
   pub begun : AreBegun s.members (run_seen setup h)
-  pub right : AreRight (groups_of setup) (set_count setup) setup.subchannels none_held h
+  pub right : HasOneHolder setup h
 
 opened-seen : (setup : Setup) (at : ℕ) → IsSeen at (opening_of setup).units nothing_held
 opened-seen setup at u e =
@@ -317,15 +307,16 @@ run-right known setup _ _ lawful (Stepped h old e r new run step) =
     let same : (at : ℕ) → seen_after old.sets (setups old.subs) e r seen at ≡ run_seen setup (h ++ record { event = e; reply = r } ∷ []) at =
     λ at.
     ap (λ (n : ℕ). holding_after n (setups old.subs) at e r (seen at)) set.sets ∙ (ap (λ (xs : List SubchannelSetup). holding_after (set_count setup) xs at e r (seen at)) subs
-    ∙ sym (through-more (set_count setup) setup.subchannels at nothing_held h (record { event = e; reply = r }))) in
+    ∙ sym (through-more (holding_after (set_count setup) setup.subchannels at) nothing_held h e r)) in
     record {
       set_up = known.set_up setup old e r new step set;
       seen = λ at. subst (λ (x : Holding). IsSeen at new.units x) (same at) (now.units at);
       begun = λ i m f. now.begun i m f ∙ ap (λ (x : Holding). is_some x.holder) (same i);
-      right = right-more (groups_of setup) (set_count setup) setup.subchannels none_held h (record { event = e; reply = r }) before.right
-          (subst (λ (gs : List ℕ). IsEntryRight gs (set_count setup) setup.subchannels seen e r) set.groups
-          (subst (λ (n : ℕ). IsEntryRight (map group_of old.members) n setup.subchannels seen e r) set.sets
-          (subst (λ (xs : List SubchannelSetup). IsEntryRight (map group_of old.members) old.sets xs seen e r) subs now.right)));
+      right = claim-more (seen_after (set_count setup) setup.subchannels) (IsEntryRight (groups_of setup) (set_count setup) setup.subchannels) none_held h e r before.right
+          (subst (λ (k : Seen). IsEntryRight (groups_of setup) (set_count setup) setup.subchannels e r k) (sym (each-through (set_count setup) setup.subchannels none_held h))
+          (subst (λ (gs : List ℕ). IsEntryRight gs (set_count setup) setup.subchannels e r seen) set.groups
+          (subst (λ (n : ℕ). IsEntryRight (map group_of old.members) n setup.subchannels e r seen) set.sets
+          (subst (λ (xs : List SubchannelSetup). IsEntryRight (map group_of old.members) old.sets xs e r seen) subs now.right))));
     }
 
 pub run-one-holder : AreKnown → (setup : Setup) (h : List Entry) (s : State) → IsLawful setup → Run (opening_of setup) h s → HasOneHolder setup h

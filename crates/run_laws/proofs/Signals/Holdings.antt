@@ -23,7 +23,8 @@ use Rattle.chan_model.specs.UnitTable.{UnitStep, with_given, current_answered, c
 use Rattle.machine_model.specs.Sharing.{is_asked_for}
 use Rattle.step_laws.proofs.Indices.{both-true}
 use Rattle.run_laws.specs.Devices as seen
-use Rattle.run_laws.specs.Devices.{Connected, Asking, Apart, Transfer, Held, Asked, commanded, with_transfer, answered, given, Holding, SideSeen, side_seen, with_seen, with_answered, let_go, is_held_by, is_holder, with_holder, parted, moved, held_after, quiet_after, acted_after, held_met}
+use Rattle.agreement_laws.specs.Holders.{SideAnswered}
+use Rattle.run_laws.specs.Devices.{Connected, Asking, Apart, Transfer, Held, Asked, commanded, with_transfer, answered, given, Holding, side_seen, with_seen, with_answered, let_go, is_held_by, is_holder, with_holder, parted, moved, held_after, quiet_after, held_met}
 use Rattle.run_laws.specs.OneHolder.{is_unanswered, is_next, is_asked, ignores, takes_if, answers, answers_if, holds_and, is_connected_by, is_asking, connection_of, grant_due, works_due, reply_due, IsHigher, IsNumbered, IsAnswerNumbered}
 use Rattle.run_laws.proofs.Signals.UnitMoves.{floor_of}
 use Rattle.agreement_laws.proofs.SeenSignals.{IsResetAbove}
@@ -50,7 +51,7 @@ abbrev pub asked_in : Option Attention → Option Asked
 asked_in None = None
 asked_in (Some x) = Some (record { side = x.side; number = x.number })
 
-abbrev pub seen_of : SideState → SideSeen
+abbrev pub seen_of : SideState → SideAnswered
 seen_of s = record { number = s.floor; restarted = s.fresh }
 
 abbrev pub held_with : UnitState → Option Held → Holding

@@ -1,6 +1,6 @@
 -- What is seen of each subchannel is what it keeps: of all subchannels, as one of them or all are changed.
 use Rattle.std.proofs.Common.{◌≡◌, refl, sym, ◌∙◌, ap, subst, ℕ, zero, suc, ◌≤◌, ◌<◌, ◌==◌, ◌&&◌, Bool, true, false, Option, None, Some, List, [], ◌∷◌, length, map, slice_get, slice_set, if◌then◌else◌, inl, inr, arith}
-use Rattle.std.specs.Prelude.{nat_le, nat_lt}
+use Rattle.std.specs.Prelude.{nat_le, nat_lt, IsSomeAnd}
 use Rattle.std.specs.List.{list_all}
 use Rattle.std.proofs.lemmas.Bool.{and_parts, leb-true}
 use Rattle.std.proofs.lemmas.List.{get_or-replicate}
@@ -13,7 +13,7 @@ use Rattle.subchannel_model.specs.declared.state.Subchannel.{Subchannel}
 use Rattle.subchannel_model.specs.Opening.{opened}
 use Rattle.subchannel_model.specs.Indices.{is_named, index_in, index_of_id}
 use Rattle.run_laws.proofs.Machine.WaitingSignals.{none-wait}
-use Rattle.run_laws.specs.Links.{SubSeen, first_seen, seen_named, change_first, change_named, nothing_offered, OfSub}
+use Rattle.run_laws.specs.Links.{SubSeen, first_seen, seen_named, change_first, change_named, nothing_offered}
 use Rattle.run_laws.proofs.Signals.UnitTurns.{first-cases}
 use Rattle.run_laws.proofs.Signals.LinkMeets.{IsSeenUp}
 use Rattle.run_laws.proofs.Signals.LinkSubs.{IsTied}
@@ -54,7 +54,7 @@ named-same : (is_up : ℕ → Bool) (id : SubchannelId) (k : SubSeen) (sub : Sub
 named-same is_up id k sub b tie e = ap (λ (s : SubchannelSetup). (s.id.set == id.set) && (s.id.number == id.number)) tie.setup ∙ e
 
 pub of-first : (is_up : ℕ → Bool) (P : SubSeen → Type 0) (id : SubchannelId) (ks : List SubSeen) (subs : List Subchannel) (index : ℕ) (sub : Subchannel) → index_in id subs ≡ Some index →
-    slice_get subs index ≡ Some sub → ((k : SubSeen) → IsTied is_up k sub → P k) → AreTied is_up ks subs → OfSub P (first_seen id ks)
+    slice_get subs index ≡ Some sub → ((k : SubSeen) → IsTied is_up k sub → P k) → AreTied is_up ks subs → IsSomeAnd (first_seen id ks) P
 of-first is_up P id [] [] index sub e there f all = absurd (cc there)
 of-first is_up P id [] (x ∷ xs) index sub e there f all = absurd all
 of-first is_up P id (k ∷ ks) [] index sub e there f all = absurd all
@@ -62,10 +62,10 @@ of-first is_up P id (k ∷ ks) (x ∷ xs) index sub e there f all =
     elim (first-cases (is_named id x) (index_in id xs) index e) [
       | inl h ↦
           let same : x ≡ sub = cc (subst (λ (i : ℕ). slice_get (x ∷ xs) i ≡ Some sub) h.1 there) in
-          subst (λ (o : Option SubSeen). OfSub P o) (sym (ap (λ (b : Bool). if b then Some k else first_seen id ks) (named-same is_up id k x true all.0 h.0)))
+          subst (λ (o : Option SubSeen). IsSomeAnd o P) (sym (ap (λ (b : Bool). if b then Some k else first_seen id ks) (named-same is_up id k x true all.0 h.0)))
           (f k (subst (λ (y : Subchannel). IsTied is_up k y) same all.0))
       | inr h ↦
-          subst (λ (o : Option SubSeen). OfSub P o) (sym (ap (λ (b : Bool). if b then Some k else first_seen id ks) (named-same is_up id k x false all.0 h.0)))
+          subst (λ (o : Option SubSeen). IsSomeAnd o P) (sym (ap (λ (b : Bool). if b then Some k else first_seen id ks) (named-same is_up id k x false all.0 h.0)))
           (of-first is_up P id ks xs h.1.0 sub h.1.1 (subst (λ (i : ℕ). slice_get (x ∷ xs) i ≡ Some sub) h.1.2 there) f all.1)
     ]
 
@@ -89,7 +89,7 @@ change-tied is_up id f (k ∷ ks) (x ∷ xs) index sub after e there h all =
 
 -- the subchannel that a word names
 pub of-named : (is_up : ℕ → Bool) (P : SubSeen → Type 0) (x : Option SubchannelId) (ks : List SubSeen) (subs : List Subchannel) (index : ℕ) (sub : Subchannel) → index_of_id subs x ≡ Some index →
-    slice_get subs index ≡ Some sub → ((k : SubSeen) → IsTied is_up k sub → P k) → AreTied is_up ks subs → OfSub P (seen_named x ks)
+    slice_get subs index ≡ Some sub → ((k : SubSeen) → IsTied is_up k sub → P k) → AreTied is_up ks subs → IsSomeAnd (seen_named x ks) P
 of-named is_up P None ks subs index sub e there f all = absurd (cc e)
 of-named is_up P (Some id) ks subs index sub e there f all = of-first is_up P id ks subs index sub e there f all
 

@@ -1,5 +1,5 @@
 -- After each run what is seen of each subchannel is what it keeps: each entry is right.
-use Rattle.std.proofs.Common.{◌≡◌, refl, sym, ◌∙◌, ap, subst, ℕ, Bool, true, false, Option, Some, Result, Ok, List, [], ◌∷◌, ◌++◌, length, map, slice_get, slice_set, IfOk, if◌then◌else◌}
+use Rattle.std.proofs.Common.{◌≡◌, refl, sym, ◌∙◌, ap, subst, ℕ, Bool, true, false, Option, Some, Result, Ok, List, length, map, slice_get, slice_set, IfOk, if◌then◌else◌}
 use Rattle.std.proofs.lemmas.Option.{slice_get_within, get_or_from_slice_get}
 use Rattle.chan_model.specs.PathSets.{is_member}
 use Rattle.chan_events.specs.Events.{Event}
@@ -33,9 +33,10 @@ use Rattle.run_laws.proofs.Machine.Moving.{return-parts}
 use Rattle.run_laws.proofs.Machine.Turning.{returns-right}
 use Rattle.run_laws.specs.OneEngine.{IsOnePath}
 use Rattle.step_laws.specs.Walks as walked
-use Rattle.step_laws.specs.Walks.{AreWalks, Walked, IsQuiet, OneSub, Function, Resumes, Clears, Cancels, instruction_of, sweep_event}
+use Rattle.step_laws.specs.Walks.{AreWalks, Walked, IsQuiet, OneSub, Function, Clears, instruction_of, sweep_event}
 use Rattle.run_laws.specs.BeginsItsOwn.{is_code_zero}
-use Rattle.run_laws.specs.Links.{SubSeen, Seen, with_up, sub_met, sub_chosen, sub_reset, sub_cleared, sub_lost, change_named, seen_after, seen_through, nothing_seen, Throughout, IsMetRight, IsChosenRight, IsEntryRight, KeepsLinks}
+use Rattle.run_laws.specs.Links.{SubSeen, Seen, with_up, sub_met, sub_chosen, sub_reset, sub_cleared, sub_lost, change_named, seen_after, links_in, nothing_seen, IsMetRight, IsChosenRight, IsEntryRight, KeepsLinks}
+use Rattle.run_laws.proofs.Machine.Appending.{through-more, claim-more}
 use Rattle.run_laws.proofs.Signals.LinkChoices.{IsChoiceTied, chosen-for, choice-available, due-choice, choose-tied}
 use Rattle.run_laws.proofs.Signals.LinkLists.{AreTied, tied-set, tied-map, tied-subs, of-named, named-tied, named-none, opening-tied}
 use Rattle.run_laws.proofs.Signals.LinkPassing.{MayReturn, IsUpTied, IsDownTied, met-tied, sunk-tied, report-tied, act-tied}
@@ -53,7 +54,7 @@ abbrev pub AreSeen : Seen → State → Type 0
 AreSeen k s = AreTied k.up k.subs s.subs
 
 record IsSeenStep (s : State) (e : Event) (r : Reply) (new : State) (k : Seen) : Type 0 where
-  right : IsEntryRight s.sets k e r
+  right : IsEntryRight s.sets e r k
   tied : AreSeen (seen_after s.sets e r k) new
 
 -- the events that may change what is seen, but choices and signals
@@ -67,7 +68,7 @@ IsCalm e = Unit {0}
 
 record IsPlain (sets : ℕ) (e : Event) (r : Reply) (k : Seen) : Type 0 where
   same : seen_after sets e r k ≡ k
-  right : IsEntryRight sets k e r
+  right : IsEntryRight sets e r k
 
 plain : (sets : ℕ) (e : Event) (r : Reply) (k : Seen) → IsQuiet e r → IsCalm e → IsPlain sets e r k
 plain sets (event.Execute cpu (instruction.Csch word)) r k q c = absurd c
@@ -226,23 +227,13 @@ step-seen walks s event.SystemReset r new k step engaged tied =
     }
 step-seen walks s e r new k step engaged tied = walked-seen s _ r new k (walks s _ r new step) tt engaged tied
 
--- along a run
-pub through-more : (sets : ℕ) (k : Seen) (h : List Entry) (x : Entry) → seen_through sets k (h ++ x ∷ []) ≡ seen_after sets x.event x.reply (seen_through sets k h)
-through-more sets k [] x = refl
-through-more sets k (y ∷ h) x = through-more sets (seen_after sets y.event y.reply k) h x
-
-pub right-more : (Claim : Seen → Event → Reply → Type 0) (sets : ℕ) (k : Seen) (h : List Entry) (x : Entry) → Throughout sets Claim k h → Claim (seen_through sets k h) x.event x.reply →
-    Throughout sets Claim k (h ++ x ∷ [])
-right-more Claim sets k [] x all one = (one, tt)
-right-more Claim sets k (y ∷ h) x all one = (all.0, right-more Claim sets (seen_after sets y.event y.reply k) h x all.1 one)
-
 -- each engine is of an available path, after each run
 abbrev pub AreOnePath : Type 0
 AreOnePath = (setup : Setup) (h : List Entry) (s : State) → IsLawful setup → Run (opening_of setup) h s → IsOnePath s
 
 pub record IsRunSeen (setup : Setup) (h : List Entry) (s : State) : Type 0 where
   pub count : s.sets ≡ set_count setup
-  pub tied : AreSeen (seen_through (set_count setup) (nothing_seen setup) h) s
+  pub tied : AreSeen (links_in setup h) s
   pub right : KeepsLinks setup h
 
 pub run-seen : AreWalks → AreOnePath → (setup : Setup) (h : List Entry) (s : State) → IsLawful setup → Run (opening_of setup) h s → IsRunSeen setup h s
@@ -256,14 +247,14 @@ run-seen walks paths setup _ _ lawful Opened = record {
 run-seen walks paths setup _ _ lawful (Stepped h old e r new run step) =
     let before : IsRunSeen setup h old = run-seen walks paths setup h old lawful run in
     let one : IsOnePath old = paths setup h old lawful run in
-    let k : Seen = seen_through (set_count setup) (nothing_seen setup) h in
+    let k : Seen = links_in setup h in
     let now : IsSeenStep old e r new k = step-seen walks old e r new k step one.available before.tied in
     record {
       count = sets-stay old e r new (walks old e r new step) ∙ before.count;
-      tied = subst (λ (y : Seen). AreSeen y new) (sym (through-more (set_count setup) (nothing_seen setup) h (record { event = e; reply = r })))
+      tied = subst (λ (y : Seen). AreSeen y new) (sym (through-more (seen_after (set_count setup)) (nothing_seen setup) h e r))
           (subst (λ (n : ℕ). AreSeen (seen_after n e r k) new) before.count now.tied);
-      right = right-more (IsEntryRight (set_count setup)) (set_count setup) (nothing_seen setup) h (record { event = e; reply = r }) before.right
-          (subst (λ (n : ℕ). IsEntryRight n k e r) before.count now.right);
+      right = claim-more (seen_after (set_count setup)) (IsEntryRight (set_count setup)) (nothing_seen setup) h e r before.right
+          (subst (λ (n : ℕ). IsEntryRight n e r k) before.count now.right);
     }
 
 pub run-keeps-links : AreWalks → AreOnePath → (setup : Setup) (h : List Entry) (s : State) → IsLawful setup → Run (opening_of setup) h s → KeepsLinks setup h

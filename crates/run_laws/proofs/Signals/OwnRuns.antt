@@ -1,5 +1,5 @@
 -- After each run an offer that is over by what was seen is over for its subchannel: each entry is right.
-use Rattle.std.proofs.Common.{◌≡◌, refl, sym, ◌∙◌, ap, subst, ℕ, Bool, true, false, Option, None, Some, Result, List, [], ◌∷◌, ◌++◌, map, slice_get, slice_set, IfOk, if◌then◌else◌, inl, inr, arith}
+use Rattle.std.proofs.Common.{◌≡◌, refl, sym, ◌∙◌, ap, subst, ℕ, Bool, true, false, Option, None, Some, Result, List, map, slice_get, slice_set, IfOk, if◌then◌else◌, inl, inr, arith}
 use Rattle.std.specs.Prelude.{◌⊎◌}
 use Rattle.chan_events.specs.Events.{Event}
 use Rattle.chan_events.specs.declared.event.Event.TheVariants as event
@@ -39,7 +39,9 @@ use Rattle.step_laws.specs.Walks as walked
 use Rattle.step_laws.specs.Walks.{AreWalks, Walked, IsQuiet, is_start, OneSub}
 use Rattle.run_laws.proofs.Machine.Linked.{index-set}
 use Rattle.run_laws.specs.StateClaims.{is_id}
-use Rattle.run_laws.specs.BeginsItsOwn.{is_code_zero, over_by, over_chosen, over_after, IsEntryRight, AreRight, BeginsItsOwn}
+use Rattle.run_laws.specs.BeginsItsOwn.{is_code_zero, over_by, over_chosen, over_after, IsEntryRight, BeginsItsOwn}
+use Rattle.run_laws.specs.Entries.{seen_through, Throughout}
+use Rattle.run_laws.proofs.Machine.Appending.{through-more, claim-more}
 use Rattle.run_laws.proofs.Signals.Overs.{start-over, halt-over}
 use Rattle.run_laws.proofs.Signals.RunPaths.{index-map}
 use Rattle.run_laws.proofs.Machine.Names.{named-is, named-index}
@@ -281,24 +283,10 @@ sets-stay s _ _ _ (walked.Restarted at owed u r new found sets subs units up) = 
 sets-stay s _ _ _ (walked.Swept e r what new q sets subs units by) = sets
 
 -- along a run, before which nothing was offered
-abbrev over_through : ℕ → SubchannelId → Bool → List Entry → Bool
-over_through sets id over [] = over
-over_through sets id over (x ∷ xs) = over_through sets id (over_after sets id x.event x.reply over) xs
-
-through-more : (sets : ℕ) (id : SubchannelId) (over : Bool) (h : List Entry) (x : Entry) →
-    over_through sets id over (h ++ x ∷ []) ≡ over_after sets id x.event x.reply (over_through sets id over h)
-through-more sets id over [] x = refl
-through-more sets id over (y ∷ h) x = through-more sets id (over_after sets id y.event y.reply over) h x
-
-right-more : (sets : ℕ) (id : SubchannelId) (over : Bool) (h : List Entry) (x : Entry) → AreRight sets id over h → IsEntryRight sets id x.event x.reply (over_through sets id over h) →
-    AreRight sets id over (h ++ x ∷ [])
-right-more sets id over [] x all one = (one, tt)
-right-more sets id over (y ∷ h) x all one = (all.0, right-more sets id (over_after sets id y.event y.reply over) h x all.1 one)
-
 record IsRunRight (sets : ℕ) (id : SubchannelId) (h : List Entry) (s : State) : Type 0 where
   count : s.sets ≡ sets
-  owned : OwnedAt id s.subs (over_through sets id false h)
-  right : AreRight sets id false h
+  owned : OwnedAt id s.subs (seen_through (over_after sets id) false h)
+  right : Throughout (over_after sets id) (IsEntryRight sets id) false h
 
 opened-owned : (setup : Setup) (id : SubchannelId) → OwnedAt id (opening_of setup).subs false
 opened-owned setup id index sub named e =
@@ -310,13 +298,14 @@ run-right walks setup id _ _ Opened = record { count = refl; owned = opened-owne
 run-right walks setup id _ _ (Stepped h old e r new run step) =
     let before : IsRunRight (set_count setup) id h old = run-right walks setup id h old run in
     let walk : Walked old e r new = walks old e r new step in
-    let over : Bool = over_through (set_count setup) id false h in
+    let over : Bool = seen_through (over_after (set_count setup) id) false h in
     let now : IsRight id old e r new over = walked-right id old e r new over walk step before.owned in
     record {
       count = sets-stay old e r new walk ∙ before.count;
-      owned = subst (λ (b : Bool). OwnedAt id new.subs b) (sym (through-more (set_count setup) id false h (record { event = e; reply = r })))
+      owned = subst (λ (b : Bool). OwnedAt id new.subs b) (sym (through-more (over_after (set_count setup) id) false h e r))
           (subst (λ (n : ℕ). OwnedAt id new.subs (over_after n id e r over)) before.count now.1);
-      right = right-more (set_count setup) id false h (record { event = e; reply = r }) before.right (subst (λ (n : ℕ). IsEntryRight n id e r over) before.count now.0);
+      right = claim-more (over_after (set_count setup) id) (IsEntryRight (set_count setup) id) false h e r before.right
+          (subst (λ (n : ℕ). IsEntryRight n id e r over) before.count now.0);
     }
 
 pub run-begins-its-own : AreWalks → (setup : Setup) (h : List Entry) (s : State) → Run (opening_of setup) h s → BeginsItsOwn (set_count setup) h

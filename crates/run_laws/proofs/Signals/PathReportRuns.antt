@@ -23,7 +23,9 @@ use Rattle.machine_model.specs.Steps.{Run, Opened, Stepped, Step}
 use Rattle.run_laws.proofs.Machine.SweptPaths.{set-here, set-other, set-default}
 use Rattle.step_laws.proofs.Indices.{same-or-not}
 use Rattle.run_laws.specs.Links.{with_up}
-use Rattle.run_laws.specs.PathReports.{PathsSeen, marked, queued, reported, asked_by, paths_after, reset_code, IsEntryRight, AreRight, AnswersByPaths}
+use Rattle.run_laws.specs.PathReports.{PathsSeen, marked, queued, reported, asked_by, paths_after, reset_code, IsEntryRight, AnswersByPaths}
+use Rattle.run_laws.specs.Entries.{seen_through}
+use Rattle.run_laws.proofs.Machine.Appending.{through-more, claim-more}
 use Rattle.run_laws.proofs.Signals.LinkPaths.{up-here, up-other, there-is}
 use Rattle.chan_model.specs.declared.answer.ConditionCode.{ConditionCode}
 use Rattle.step_laws.proofs.Results as turn
@@ -149,7 +151,7 @@ asked-seen k s chpid false true low e seen = seen
 asked-seen k s chpid false false low e seen = seen
 
 record IsStepSeen (k : PathsSeen) (e : Event) (r : Reply) (new : State) : Type 0 where
-  right : IsEntryRight k e r
+  right : IsEntryRight e r k
   seen : IsSeen (paths_after e r k) new.up new.reports
 
 asked-right : (k : PathsSeen) (s : State) (chpid : ℕ) → chpid < 0x100 → IsSeen k s.up s.reports →
@@ -187,18 +189,6 @@ step-seen k s e r new step seen =
     subst (IsStepSeen k e r) (sym is.settles) (record { right = now.right; seen = now.seen })
 
 -- along a run
-abbrev paths_through : PathsSeen → List Entry → PathsSeen
-paths_through k [] = k
-paths_through k (x ∷ xs) = paths_through (paths_after x.event x.reply k) xs
-
-through-more : (k : PathsSeen) (h : List Entry) (x : Entry) → paths_through k (h ++ x ∷ []) ≡ paths_after x.event x.reply (paths_through k h)
-through-more k [] x = refl
-through-more k (y ∷ h) x = through-more (paths_after y.event y.reply k) h x
-
-right-more : (k : PathsSeen) (h : List Entry) (x : Entry) → AreRight k h → IsEntryRight (paths_through k h) x.event x.reply → AreRight k (h ++ x ∷ [])
-right-more k [] x all one = (one, tt)
-right-more k (y ∷ h) x all one = (all.0, right-more (paths_after y.event y.reply k) h x all.1 one)
-
 abbrev opening_paths : Setup → PathsSeen
 opening_paths setup = record { up = has_number setup.paths; asked = λ c. false; reports = [] }
 
@@ -211,7 +201,7 @@ unfolding configured_paths
 configured-long paths = length-map-range_with_len (has_number paths) 0 0x100
 
 record IsRunSeen (setup : Setup) (h : List Entry) (s : State) : Type 0 where
-  seen : IsSeen (paths_through (opening_paths setup) h) s.up s.reports
+  seen : IsSeen (seen_through paths_after (opening_paths setup) h) s.up s.reports
   right : AnswersByPaths setup h
 
 run-seen : (setup : Setup) (h : List Entry) (s : State) → Run (opening_of setup) h s → IsRunSeen setup h s
@@ -227,10 +217,11 @@ run-seen setup _ _ Opened = record {
 }
 run-seen setup _ _ (Stepped h old e r new run step) =
     let before : IsRunSeen setup h old = run-seen setup h old run in
-    let now : IsStepSeen (paths_through (opening_paths setup) h) e r new = step-seen (paths_through (opening_paths setup) h) old e r new step before.seen in
+    let k : PathsSeen = seen_through paths_after (opening_paths setup) h in
+    let now : IsStepSeen k e r new = step-seen k old e r new step before.seen in
     record {
-      seen = subst (λ (y : PathsSeen). IsSeen y new.up new.reports) (sym (through-more (opening_paths setup) h (record { event = e; reply = r }))) now.seen;
-      right = right-more (opening_paths setup) h (record { event = e; reply = r }) before.right now.right;
+      seen = subst (λ (y : PathsSeen). IsSeen y new.up new.reports) (sym (through-more paths_after (opening_paths setup) h e r)) now.seen;
+      right = claim-more paths_after IsEntryRight (opening_paths setup) h e r before.right now.right;
     }
 
 pub run-answers-by-paths : (setup : Setup) (h : List Entry) (s : State) → Run (opening_of setup) h s → AnswersByPaths setup h

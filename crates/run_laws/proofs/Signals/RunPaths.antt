@@ -1,6 +1,6 @@
 -- After each run of a lawful set-up the signals of each subchannel and its unit are in order, and what was seen of connections fits its
 -- hold: each entry is right.
-use Rattle.std.proofs.Common.{◌≡◌, refl, sym, ◌∙◌, ap, subst, ℕ, ◌==◌, ◌&&◌, Bool, true, false, Option, None, Some, Result, List, [], ◌∷◌, ◌++◌, map, slice_get, slice_set, IfOk, if◌then◌else◌, inl, inr}
+use Rattle.std.proofs.Common.{◌≡◌, refl, sym, ◌∙◌, ap, subst, ℕ, ◌==◌, ◌&&◌, Bool, true, false, Option, None, Some, Result, List, [], ◌∷◌, map, slice_get, slice_set, IfOk, if◌then◌else◌, inl, inr}
 use Rattle.chan_events.specs.Events.{Event}
 use Rattle.chan_events.specs.declared.event.Event.TheVariants as event
 use Rattle.chan_events.specs.declared.reply.Entry.{Entry}
@@ -34,7 +34,9 @@ use Rattle.run_laws.proofs.Machine.RunAgrees.{run-told}
 use Rattle.run_laws.specs.Beginnings.{StartCounts}
 use Rattle.run_laws.proofs.Machine.Names.{named-is, named-index}
 use Rattle.run_laws.specs.StateClaims.{is_id}
-use Rattle.run_laws.specs.ByItsPath.{SeenPaths, connected_in, seen_after, IsHaltRight, IsEntryRight, AreRight, IsByItsPath}
+use Rattle.run_laws.specs.ByItsPath.{SeenPaths, connected_in, seen_after, IsHaltRight, IsEntryRight, IsByItsPath}
+use Rattle.run_laws.specs.Entries.{seen_through, Throughout}
+use Rattle.run_laws.proofs.Machine.Appending.{through-more, claim-more}
 use Rattle.run_laws.proofs.Signals.Ties.{Ties, connects}
 use Rattle.run_laws.proofs.Signals.Calms.{Same, offers, IsCalm, chosen-halts, start-calm, test-calm, modify-calm, function-calm, marked-choose, swept-calm}
 use Rattle.run_laws.proofs.Signals.Fits.{fits}
@@ -177,24 +179,10 @@ walked-seen id s _ _ _ k (walked.Swept e r what new q sets subs units by) fit b 
 abbrev nothing : SeenPaths
 nothing = record { offered = None; connected = None }
 
-abbrev pub seen_through : ℕ → SubchannelId → SeenPaths → List Entry → SeenPaths
-seen_through sets id k [] = k
-seen_through sets id k (x ∷ xs) = seen_through sets id (seen_after sets id x.event x.reply k) xs
-
-through-more : (sets : ℕ) (id : SubchannelId) (k : SeenPaths) (h : List Entry) (x : Entry) →
-    seen_through sets id k (h ++ x ∷ []) ≡ seen_after sets id x.event x.reply (seen_through sets id k h)
-through-more sets id k [] x = refl
-through-more sets id k (y ∷ h) x = through-more sets id (seen_after sets id y.event y.reply k) h x
-
-right-more : (sets : ℕ) (id : SubchannelId) (k : SeenPaths) (h : List Entry) (x : Entry) → AreRight sets id k h → IsEntryRight sets id x.event x.reply (seen_through sets id k h) →
-    AreRight sets id k (h ++ x ∷ [])
-right-more sets id k [] x all one = (one, tt)
-right-more sets id k (y ∷ h) x all one = (all.0, right-more sets id (seen_after sets id y.event y.reply k) h x all.1 one)
-
 record IsRunSeen (sets : ℕ) (id : SubchannelId) (h : List Entry) (s : State) : Type 0 where
   bound : AreBound s.subs s.units
-  ties : TiesAt id s.subs (seen_through sets id nothing h)
-  right : AreRight sets id nothing h
+  ties : TiesAt id s.subs (seen_through (seen_after sets id) nothing h)
+  right : Throughout (seen_after sets id) (IsEntryRight sets id) nothing h
 
 opened-ties : (setup : Setup) (id : SubchannelId) → TiesAt id (opening_of setup).subs nothing
 opened-ties setup id index sub named e =
@@ -214,13 +202,13 @@ run-seen laws rises good setup id _ _ lawful (Stepped h old e r new run step) =
     let told = run-told laws setup id h old lawful good run in
     let fit : AreFit old.subs old.units = linked-fit rises old.subs old.units _ _ told.1.linked in
     let walk : Walked old e r new = laws.walks old e r new step in
-    let k : SeenPaths = seen_through (set_count setup) id nothing h in
+    let k : SeenPaths = seen_through (seen_after (set_count setup) id) nothing h in
     let seen : IsSeen id old e r new k = walked-seen id old e r new k walk fit before.bound before.ties in
     record {
       bound = walked-bound old e r new walk told.1.linked.apart fit before.bound;
-      ties = subst (λ (y : SeenPaths). TiesAt id new.subs y) (sym (through-more (set_count setup) id nothing h (record { event = e; reply = r })))
+      ties = subst (λ (y : SeenPaths). TiesAt id new.subs y) (sym (through-more (seen_after (set_count setup) id) nothing h e r))
           (subst (λ (n : ℕ). TiesAt id new.subs (seen_after n id e r k)) told.0 seen.1);
-      right = right-more (set_count setup) id nothing h (record { event = e; reply = r }) before.right
+      right = claim-more (seen_after (set_count setup) id) (IsEntryRight (set_count setup) id) nothing h e r before.right
           (subst (λ (n : ℕ). IsEntryRight n id e r k) told.0 seen.0);
     }
 

@@ -23,7 +23,9 @@ use Rattle.machine_model.specs.DownSteps.{with_answer, asks_at, down_front, down
 use Rattle.machine_model.specs.Sharing.{is_asked_for, may_take}
 use Rattle.machine_model.specs.State.{State}
 use Rattle.machine_model.specs.Results.{DownResult}
-use Rattle.run_laws.specs.Devices.{first_named, setup_named, held_met}
+use Rattle.run_laws.specs.Devices.{setup_named, held_met}
+use Rattle.run_laws.specs.StateClaims.{is_same_id}
+use Rattle.std.specs.List.{find}
 use Rattle.run_laws.specs.OneHolder.{IsAnswerNumbered, reply_due}
 use Rattle.run_laws.specs.Agreeing.{AreAbove}
 use Rattle.agreement_laws.proofs.SeenSignals.{IsResetAbove}
@@ -46,16 +48,19 @@ first-cases true later index e = let z : 0 ≡ index = cc e in inl (refl, sym z)
 first-cases false None index e = absurd (cc e)
 first-cases false (Some i) index e = let z : i + 1 ≡ index = cc e in inr (refl, (i, refl, omega (arith, z)))
 
+abbrev setup_of : SubchannelId → List SubchannelSetup → Option SubchannelSetup
+setup_of id subs = find (λ x. is_same_id x.id id) subs
+
 first-is : (id : SubchannelId) (subs : List Subchannel) (index : ℕ) (sub : Subchannel) → index_in id subs ≡ Some index → slice_get subs index ≡ Some sub →
-    first_named id (setups subs) ≡ Some sub.setup
+    setup_of id (setups subs) ≡ Some sub.setup
 first-is id [] index sub e there = absurd (cc e)
 first-is id (x ∷ xs) index sub e there =
     elim (first-cases (is_named id x) (index_in id xs) index e) [
       | inl h ↦
           let same : x ≡ sub = cc (subst (λ (k : ℕ). slice_get (x ∷ xs) k ≡ Some sub) h.1 there) in
-          ap (λ (b : Bool). if b then Some x.setup else first_named id (setups xs)) h.0 ∙ ap (λ (y : Subchannel). Some y.setup) same
+          ap (λ (b : Bool). if b then Some x.setup else setup_of id (setups xs)) h.0 ∙ ap (λ (y : Subchannel). Some y.setup) same
       | inr h ↦
-          ap (λ (b : Bool). if b then Some x.setup else first_named id (setups xs)) h.0
+          ap (λ (b : Bool). if b then Some x.setup else setup_of id (setups xs)) h.0
           ∙ first-is id xs h.1.0 sub h.1.1 (subst (λ (k : ℕ). slice_get (x ∷ xs) k ≡ Some sub) h.1.2 there)
     ]
 

@@ -42,7 +42,9 @@ use Rattle.run_laws.specs.OneHolder.{Seen, reply_due, IsAnswerNumbered}
 use Rattle.run_laws.specs.DevicePaths.{Ways, way_met, is_at, ways_after, IsReplyBy, IsEntryBy, AreBy, HasOneWayEach}
 use Rattle.run_laws.proofs.Signals.Bounds.{each-taken, each-sent}
 use Rattle.run_laws.proofs.Signals.Holdings.{holding_of}
-use Rattle.run_laws.proofs.Signals.HolderRuns.{AreSeen, AreKnown, IsRunRight, run-right, run_seen, holding_through, through-more}
+use Rattle.run_laws.proofs.Signals.HolderRuns.{AreSeen, AreKnown, IsRunRight, run-right, run_seen}
+use Rattle.run_laws.specs.Entries.{seen_through}
+use Rattle.run_laws.proofs.Machine.Appending.{through-more}
 use Rattle.run_laws.proofs.Signals.UnitTurns.{setups, setup-is, IsTurned, sunk-turned}
 use Rattle.run_laws.proofs.Machine.WaitingSignals.{Each, each-front}
 use Rattle.run_laws.proofs.Signals.Lists.{none-wait}
@@ -365,12 +367,12 @@ ways_through sets subs at side k ways [] = ways
 ways_through sets subs at side k ways (x ∷ xs) = ways_through sets subs at side (holding_after sets subs at x.event x.reply k) (ways_after sets subs at side x.event x.reply k ways) xs
 
 ways-more : (sets : ℕ) (subs : List SubchannelSetup) (at : ℕ) (side : Side) (k : Holding) (ways : Ways) (h : List Entry) (x : Entry) →
-    ways_through sets subs at side k ways (h ++ x ∷ []) ≡ ways_after sets subs at side x.event x.reply (holding_through sets subs at k h) (ways_through sets subs at side k ways h)
+    ways_through sets subs at side k ways (h ++ x ∷ []) ≡ ways_after sets subs at side x.event x.reply (seen_through (holding_after sets subs at) k h) (ways_through sets subs at side k ways h)
 ways-more sets subs at side k ways [] x = refl
 ways-more sets subs at side k ways (y ∷ h) x = ways-more sets subs at side (holding_after sets subs at y.event y.reply k) (ways_after sets subs at side y.event y.reply k ways) h x
 
 by-more : (sets : ℕ) (subs : List SubchannelSetup) (at : ℕ) (side : Side) (k : Holding) (ways : Ways) (h : List Entry) (x : Entry) → AreBy sets subs at side k ways h →
-    IsEntryBy sets subs at side x.event x.reply (holding_through sets subs at k h) (ways_through sets subs at side k ways h) → AreBy sets subs at side k ways (h ++ x ∷ [])
+    IsEntryBy sets subs at side x.event x.reply (seen_through (holding_after sets subs at) k h) (ways_through sets subs at side k ways h) → AreBy sets subs at side k ways (h ++ x ∷ [])
 by-more sets subs at side k ways [] x all one = (one, tt)
 by-more sets subs at side k ways (y ∷ h) x all one =
     (all.0, by-more sets subs at side (holding_after sets subs at y.event y.reply k) (ways_after sets subs at side y.event y.reply k ways) h x all.1 one)
@@ -409,7 +411,7 @@ run-by known setup _ _ lawful (Stepped h old e r new run step) =
     let held : (at : ℕ) → holding_after old.sets (setups old.subs) at e r (seen at) ≡ run_seen setup (h ++ x ∷ []) at =
     λ at.
     ap (λ (n : ℕ). holding_after n (setups old.subs) at e r (seen at)) sets ∙ (ap (λ (xs : List SubchannelSetup). holding_after (set_count setup) xs at e r (seen at)) subs
-    ∙ sym (through-more (set_count setup) setup.subchannels at nothing_held h x)) in
+    ∙ sym (through-more (holding_after (set_count setup) setup.subchannels at) nothing_held h e r)) in
     let went : (at : ℕ) (side : Side) → ways_after old.sets (setups old.subs) at side e r (seen at) (ways at side) ≡ run_ways setup (h ++ x ∷ []) at side =
     λ at side.
     ap (λ (n : ℕ). ways_after n (setups old.subs) at side e r (seen at) (ways at side)) sets

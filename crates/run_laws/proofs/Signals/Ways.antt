@@ -13,7 +13,8 @@ use Rattle.chan_model.specs.declared.signal.OnPath.{OnPath}
 use Rattle.chan_model.specs.declared.signal.Up.TheVariants as up
 use Rattle.chan_model.specs.Sides.{same_side}
 use Rattle.step_laws.proofs.Indices.{same-or-not}
-use Rattle.run_laws.specs.Devices.{Connection, Connected, Asking, Apart, Transfer, Held, Asked, commanded, with_transfer, answered, given, Holding, SideSeen, side_seen, with_seen, with_answered, let_go, is_held_by, with_holder, granted, parted, asking, moved, with_restart, held_after, quiet_after, acted_after, held_met}
+use Rattle.agreement_laws.specs.Holders.{SideAnswered}
+use Rattle.run_laws.specs.Devices.{Connection, Connected, Asking, Apart, Transfer, Held, Asked, commanded, with_transfer, answered, given, Holding, side_seen, with_seen, with_answered, let_go, is_held_by, with_holder, granted, parted, asking, moved, with_restart, held_after, quiet_after, acted_after, held_met}
 use Rattle.run_laws.specs.OneHolder.{connection_of, IsHigher, IsNumbered, IsAnswerNumbered}
 use Rattle.run_laws.specs.DevicePaths.{Ways, with_way, way_answered, way_met, way_asked}
 
@@ -71,17 +72,17 @@ taken-by k next side ways h l e n =
     (λ f x. subst (λ (o : Option Held). OwnWay ways f o side) (sym e) (λ s. absurd (cc (sym n ∙ s))))
 
 -- what a side answers
-here-seen : (k : Holding) (side : Side) (x : SideSeen) → side_seen (with_seen k side x) side ≡ x
+here-seen : (k : Holding) (side : Side) (x : SideAnswered) → side_seen (with_seen k side x) side ≡ x
 here-seen k First x = refl
 here-seen k Second x = refl
 
-other-seen : (k : Holding) (side j : Side) (x : SideSeen) → same_side side j ≡ false → side_seen (with_seen k side x) j ≡ side_seen k j
+other-seen : (k : Holding) (side j : Side) (x : SideAnswered) → same_side side j ≡ false → side_seen (with_seen k side x) j ≡ side_seen k j
 other-seen k First First x n = absurd (cc n)
 other-seen k First Second x n = refl
 other-seen k Second First x n = refl
 other-seen k Second Second x n = absurd (cc n)
 
-seen-holder : (k : Holding) (side : Side) (x : SideSeen) → (with_seen k side x).holder ≡ k.holder
+seen-holder : (k : Holding) (side : Side) (x : SideAnswered) → (with_seen k side x).holder ≡ k.holder
 seen-holder k First x = refl
 seen-holder k Second x = refl
 
@@ -89,8 +90,8 @@ held-seen : (k : Holding) (h : Option Held) (j : Side) → side_seen (record k {
 held-seen k h First = refl
 held-seen k h Second = refl
 
-rises-to : (k next : Holding) (side : Side) (x : SideSeen) → side_seen next side ≡ x → (side_seen k side).number ≤ x.number → (side_seen k side).number ≤ (side_seen next side).number
-rises-to k next side x e l = subst (λ (y : SideSeen). (side_seen k side).number ≤ y.number) (sym e) l
+rises-to : (k next : Holding) (side : Side) (x : SideAnswered) → side_seen next side ≡ x → (side_seen k side).number ≤ x.number → (side_seen k side).number ≤ (side_seen next side).number
+rises-to k next side x e l = subst (λ (y : SideAnswered). (side_seen k side).number ≤ y.number) (sym e) l
 
 -- Accept
 other-way : (t path : ℕ) (ways : Ways) (u c p : ℕ) → u < t → ways u c ≡ Some p → with_way t 0 path ways u c ≡ Some p
@@ -325,11 +326,11 @@ ask-follows k side path ways =
     let same : side_seen (acted_after (act.Ask path) k) side ≡ side_seen k side = held-seen k (option_map (moved (asking path)) k.holder) side in
     record {
       way = λ p t c x. record {
-        below = subst (λ (y : SideSeen). t ≤ y.number) (sym same) x.below;
+        below = subst (λ (y : SideAnswered). t ≤ y.number) (sym same) x.below;
         way = asked-way k.holder side path ways p t c x.way x.past;
         past = asked-past k.holder side path t c x.past;
       };
-      own = λ x. subst (λ (y : SideSeen). OwnWay (way_asked side path k.holder ways) y.number (option_map (moved (asking path)) k.holder) side) (sym same) (asked-own k.holder side path ways (side_seen k side).number x);
+      own = λ x. subst (λ (y : SideAnswered). OwnWay (way_asked side path k.holder ways) y.number (option_map (moved (asking path)) k.holder) side) (sym same) (asked-own k.holder side path ways (side_seen k side).number x);
     }
 
 abbrev pub way_acted : Side → UnitAct → Option Held → Ways → Ways

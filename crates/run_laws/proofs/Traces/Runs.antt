@@ -52,6 +52,8 @@ use Rattle.run_laws.proofs.Offers.Starting.{Started, Unfound, Refused, Starts, s
 use Rattle.run_laws.proofs.Offers.Overs.{Owned}
 use Rattle.run_laws.proofs.Offers.OverRuns.{OwnedAt, about, step-owned}
 use Rattle.run_laws.proofs.Offers.Halts.{mine, halted_by, run-halted}
+use Rattle.run_laws.specs.Entries.{seen_through}
+use Rattle.run_laws.proofs.Machine.Appending.{through-more}
 use Rattle.run_laws.proofs.Offers.StartMasks.{Masked}
 use Rattle.run_laws.proofs.Offers.OfferedPaths.{IsNoStart, MaskedAt, SameSetups, stays-masked, set-masked, start-masked, offered-path}
 use Rattle.run_laws.proofs.Statuses.StatusRuns.{path-is, named-same, AreStatusesTold, nothing-stored, entry-told, step-told}
@@ -66,14 +68,11 @@ stored-more storage [] (y ∷ later) mid after x a b = absurd a
 stored-more storage (y ∷ h) [] mid after x a b = absurd a
 stored-more storage (y ∷ h) (z ∷ later) mid after x a b = (a.0, stored-more z h later mid after x a.1 b)
 
-abbrev standing_through : ℕ → List SubchannelSetup → ℕ → Standing → List Entry → Standing
-standing_through sets subs index st [] = st
-standing_through sets subs index st (x ∷ xs) = standing_through sets subs index (standing_after (is_about sets subs index x.event) x.event x.reply st) xs
+abbrev standing_of : ℕ → List SubchannelSetup → ℕ → Event → Reply → Standing → Standing
+standing_of sets subs index e r st = standing_after (is_about sets subs index e) e r st
 
-through-more : (sets : ℕ) (subs : List SubchannelSetup) (index : ℕ) (st : Standing) (h : List Entry) (x : Entry) →
-    standing_through sets subs index st (h ++ x ∷ []) ≡ standing_after (is_about sets subs index x.event) x.event x.reply (standing_through sets subs index st h)
-through-more sets subs index st [] x = refl
-through-more sets subs index st (y ∷ h) x = through-more sets subs index (standing_after (is_about sets subs index y.event) y.event y.reply st) h x
+abbrev standing_through : ℕ → List SubchannelSetup → ℕ → Standing → List Entry → Standing
+standing_through sets subs index st h = seen_through (standing_of sets subs index) st h
 
 abbrev StatusTold : Standing → Bool → Entry → Told → Type 0
 StatusTold st mine x k = IsStatusTold st.over st.behind st.stored.passed (shown_by mine x.event x.reply) k.program
@@ -405,9 +404,9 @@ module _ (known : AreKnown) (setup : Setup) (lawful : IsLawful setup) where
       record {
         orb = now.0;
         started = now.1;
-        owned = subst (λ (b : Standing). OwnedAt b.over new.subs index) (sym (through-more sets subs index nothing_over h x))
+        owned = subst (λ (b : Standing). OwnedAt b.over new.subs index) (sym (through-more (standing_of sets subs index) nothing_over h e r))
             (subst (λ (b : Bool). OwnedAt (over_after b e r st.over) new.subs index) same (step-owned st.over old e r new index step walk before.owned));
-        statuses = subst (λ (b : Standing). AreStatusesTold index b new k) (sym (through-more sets subs index nothing_over h x))
+        statuses = subst (λ (b : Standing). AreStatusesTold index b new k) (sym (through-more (standing_of sets subs index) nothing_over h e r))
             (subst (λ (b : Bool). AreStatusesTold index (standing_after b e r st) new k) same
             (step-told known.laws setup h old run e r new step index was.0 was.1 st t.0 k before.statuses (before.owned was.0 was.1) offer t.2));
         all = told-more sets subs index (opening_storage setup) nothing_over nothing_traced h (storages (opening_of setup) h old run) old.storage new.storage x (told before.orb t.0) (told now.0 k)

@@ -1,4 +1,5 @@
 use Rattle.std.proofs.Common.{◌∙◌}
+use Rattle.agree.proofs.AgreeRuns.{goes-on}
 use Rattle.agree.proofs.Lasting.{worlds-step}
 use Rattle.agree.proofs.Wanting.{taken-more}
 use Rattle.agree.proofs.world.World.run_with.Goals as goal
@@ -14,3 +15,11 @@ loop-event-preserved g c = record {
   sound = c.is_sound-in-loop-event.ensures.now;
   unrefused = c.in_ok-pass.ensures.unrefused ∙ c.loop-event.invariant.unrefused;
 }
+
+pub returns-in_err-pass-clause-history : goal.returns-in_err-pass-clause-history
+returns-in_err-pass-clause-history g c =
+    goes-on c.by_its_path.ensures.paths c.one_holder.ensures.one c.one_holder.ensures.once c.both_agree.ensures.agree c.args.self.now.world c.args.events.now
+
+pub returns-clause-history : goal.returns-clause-history
+returns-clause-history g c =
+    goes-on c.by_its_path.ensures.paths c.one_holder.ensures.one c.one_holder.ensures.once c.both_agree.ensures.agree c.args.self.now.world c.args.events.now
