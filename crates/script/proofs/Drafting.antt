@@ -129,8 +129,8 @@ pub set-err : (r : Result Unit LineFault) (old : ScriptBuilder) (setting : Setti
 set-err (Ok done) old setting may what e h = tt
 set-err (Err fault) old setting may what e h = subst (λ (w : Result Said LineRule). BreaksRule fault (broken_by (context old) may w)) (sym e) (h may)
 
-pub says-of : (r : Result Setting LineFault) (setting : Setting) (said : Option (Result Setting LineRule)) → r ≡ Ok setting → Says r said → said ≡ Some (Ok setting)
-says-of r setting said e h = subst (λ (x : Result Setting LineFault). Says x said) e h
+pub says-of : (r : Option Setting) (setting : Setting) (what : Option (Result Setting LineRule)) → r ≡ Some setting → Says (Ok r) what → what ≡ Some (Ok setting)
+says-of r setting what e h = subst (λ (x : Option Setting). Says (Ok x) what) e h
 
 or-true : (b : Bool) → (b || true) ≡ true
 or-true true = refl

@@ -3,8 +3,7 @@
 ghost use Rattle.std.specs.Prelude.{◌≡◌, ◌≢◌, ◌∷◌, ℕ, Bool, List, true, Some, OnOk, OnErr, IfErr, IfOk, None, Ok, Err, length, map};
 ghost use Rattle.script.specs.Pieces.{lines_of, words_between_blanks};
 ghost use Rattle.script.specs.Saying.{Sets, action_said, first_is_storage, has_words as words_stand, is_ascii, race_said, words_say};
-ghost use Rattle.script_rows.specs.Actions.{action_row};
-ghost use Rattle.script_rows.specs.Slots.{action_at, row_at};
+ghost use Rattle.script_rows.specs.Slots.{action_at, rows_at};
 ghost use Rattle.script.specs.Scripts as spec;
 ghost use Rattle.script.specs.Drafts.{context, Hears, IsNext, IsDraftOf};
 ghost use Rattle.script.specs.Reading.{BreaksRule, BadIn, bad_by};
@@ -109,10 +108,7 @@ fn race(
     ensures err { IfErr result (λ f. BreaksRule f (spec.broken_by (context draft.old) (spec.may_race given.now.races given.now.line.later) (race_said said))) }
     ensures memory { result ≢ Err LineFault.NoMemory }
 {
-    let race = match said {
-        Ok(race) => race,
-        Err(rule) => return Err(LineFault::Rule(rule)),
-    };
+    let race = said?;
     if !may_race(given) {
         return Err(LineFault::Rule(LineRule::MisplacedRace));
     }
@@ -124,50 +120,27 @@ fn race(
     Ok(())
 }
 
-/// Takes the action that stands in a slot, or the rule that its line breaks.
+/// Takes the action that stands in a slot, or the rule that its line breaks, where its first word is known.
 #[inline(always)]
 fn act<S: Supply>(
     supply: &mut S,
     draft: &mut ScriptBuilder,
     slot: &ActionSlot,
     number: u64,
-    said: Result<(), LineRule>,
+    said: Result<bool, LineRule>,
 ) -> Result<(), LineFault>
-    ensures ok { OnOk result ((may : Bool) → (spec.broken_by (context draft.old) may (action_said (Some (row_at said (action_at slot.now)))) ≡ None) ×
-        Hears draft.old number (action_said (Some (row_at said (action_at slot.now)))) draft.new) }
-    ensures err { IfErr result (λ f. (may : Bool) → BreaksRule f (spec.broken_by (context draft.old) may (action_said (Some (row_at said (action_at slot.now)))))) }
+    ensures ok { OnOk result ((may : Bool) → (spec.broken_by (context draft.old) may (action_said (rows_at said (action_at slot.now))) ≡ None) ×
+        Hears draft.old number (action_said (rows_at said (action_at slot.now))) draft.new) }
+    ensures err { IfErr result (λ f. (may : Bool) → BreaksRule f (spec.broken_by (context draft.old) may (action_said (rows_at said (action_at slot.now))))) }
     ensures unrefused { OnOk result (S.refused supply.new ≡ S.refused supply.old) }
     ensures memory { result ≡ Err LineFault.NoMemory → S.refused supply.new ≡ true }
 {
-    match said {
-        Ok(()) => {
-            draft.lines.add(supply, number, slot)?;
-            draft.acted = true;
-            Ok(())
-        }
-        Err(rule) => Err(LineFault::Rule(rule)),
+    if !said? {
+        return Err(LineFault::Rule(LineRule::UnknownWord));
     }
-}
-
-/// Takes what the words of a line ask the machine for, by the first of them; the action is written to a slot.
-fn drive<S: Supply>(
-    supply: &mut S,
-    draft: &mut ScriptBuilder,
-    slot: &mut ActionSlot,
-    number: u64,
-    word: &[u8],
-    words: &[&[u8]],
-) -> Result<(), LineFault>
-    ensures ok { OnOk result ((may : Bool) → (spec.broken_by (context draft.old) may (action_said (action_row word.now (map (λ w. w.now) words.now))) ≡ None) ×
-        Hears draft.old number (action_said (action_row word.now (map (λ w. w.now) words.now))) draft.new) }
-    ensures err { IfErr result (λ f. (may : Bool) → BreaksRule f (spec.broken_by (context draft.old) may (action_said (action_row word.now (map (λ w. w.now) words.now))))) }
-    ensures unrefused { OnOk result (S.refused supply.new ≡ S.refused supply.old) }
-    ensures memory { result ≡ Err LineFault.NoMemory → S.refused supply.new ≡ true }
-{
-    match action_row(slot, word, words) {
-        Some(said) => act(supply, draft, slot, number, said),
-        None => Err(LineFault::Rule(LineRule::UnknownWord)),
-    }
+    draft.lines.add(supply, number, slot)?;
+    draft.acted = true;
+    Ok(())
 }
 
 /// Takes what the words of a line say, by the first of them: apart, as most lines are common ones.
@@ -187,15 +160,14 @@ fn hear_other<S: Supply>(
     ensures unrefused { OnOk result (S.refused supply.new ≡ S.refused supply.old) }
     ensures memory { result ≡ Err LineFault.NoMemory → S.refused supply.new ≡ true }
 {
-    match setting_row(alloc, supply, said.first, said.others) {
-        Some(Ok(setting)) => return set(supply, draft, &setting),
-        Some(Err(fault)) => return Err(fault),
-        None => {}
+    if let Some(setting) = setting_row(alloc, supply, said.first, said.others)? {
+        return set(supply, draft, &setting);
     }
     if is_name(said.first, b"race".as_slice()) {
         return race(draft, given, race_row(said.others));
     }
-    drive(supply, draft, slot, given.number, said.first, said.others)
+    let asked = action_row(slot, said.first, said.others);
+    act(supply, draft, slot, given.number, asked)
 }
 
 /// Takes what the words of a line say, by the first of them.
@@ -217,8 +189,7 @@ fn hear<S: Supply>(
         return Err(LineFault::Rule(LineRule::UnknownWord));
     };
     match common_row(slot, first, others) {
-        Some(said) => act(supply, draft, slot, given.number, said),
-        None => hear_other(
+        Ok(false) => hear_other(
             alloc,
             supply,
             draft,
@@ -226,6 +197,7 @@ fn hear<S: Supply>(
             given,
             &Sentence { first, others },
         ),
+        said => act(supply, draft, slot, given.number, said),
     }
 }
 

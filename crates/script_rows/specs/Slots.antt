@@ -1,5 +1,5 @@
 -- Actions whose bytes stand elsewhere, and what stands in a slot for one.
-use Rattle.std.specs.Prelude.{ℕ, List, Option, Some, None, Result, Ok, Err}
+use Rattle.std.specs.Prelude.{ℕ, Bool, true, false, List, Option, Some, None, Result, Ok, Err}
 use Rattle.chan_events.specs.Events.{event_in, event_length}
 use Rattle.script_rows.specs.declared.Action.{Action}
 use Rattle.script_rows.specs.declared.Action.TheVariants as action
@@ -23,11 +23,8 @@ action_length kept = 0
 abbrev pub action_at : ActionSlot → Action
 action_at slot = action_in slot.kept slot.bytes
 
--- what a row says, whose action stands in a slot
-abbrev pub row_at : Result Unit LineRule → Action → Result Action LineRule
-row_at (Ok done) asked = Ok asked
-row_at (Err rule) asked = Err rule
-
-abbrev pub rows_at : Option (Result Unit LineRule) → Action → Option (Result Action LineRule)
-rows_at None asked = None
-rows_at (Some said) asked = Some (row_at said asked)
+-- what rows say, whose action stands in a slot where one of them has the first word
+abbrev pub rows_at : Result Bool LineRule → Action → Option (Result Action LineRule)
+rows_at (Ok true) asked = Some (Ok asked)
+rows_at (Ok false) asked = None
+rows_at (Err rule) asked = Some (Err rule)

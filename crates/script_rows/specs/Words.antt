@@ -1,5 +1,6 @@
 -- What a word of a line stands for, and how many words a line has (own).
-use Rattle.std.specs.Prelude.{ℕ, ◌+◌, ◌-◌, ◌*◌, ◌&&◌, nat_lt, nat_le, List, [], ◌∷◌, length, Option, Some, None, Result, Ok, Err, if◌then◌else◌}
+use Rattle.std.specs.Prelude.{ℕ, ◌+◌, ◌-◌, ◌*◌, ◌&&◌, nat_lt, nat_le, List, [], ◌∷◌, length, Option, Some, None, option_map, ok_or, Result, Ok, Err, if◌then◌else◌}
+use Rattle.std.specs.Str.{bytes_eq}
 use Rattle.script_rows.specs.declared.words.LineRule.{LineRule}
 use Rattle.script_rows.specs.declared.words.LineRule.TheVariants.{WrongCount, BadWord}
 
@@ -63,51 +64,54 @@ hex_bytes word = if nat_lt 0 (length word) && nat_le (length word) 512 then byte
 abbrev pub subchannel : List ℕ → Option ℕ
 subchannel word = and_then (number word) (λ n. Some (if nat_le (length word) 4 then 0x10000 + n else n))
 
--- a word is not what it should be
-abbrev pub or_bad_word : {A : Type 0} → Option A → Result A LineRule
-or_bad_word (Some said) = Ok said
-or_bad_word None = Err BadWord
-
--- there are not as many words as there should be
-abbrev pub or_wrong_count : {A B : Type 0} → Option A → (A → Result B LineRule) → Result B LineRule
-or_wrong_count None says = Err WrongCount
-or_wrong_count (Some words) says = says words
-
+-- the only words of a line, so many of them
 abbrev pub one_of : List (List ℕ) → Option (List ℕ)
-one_of [] = None
 one_of (a ∷ []) = Some a
-one_of (a ∷ b ∷ rest) = None
+one_of words = None
 
 abbrev pub two_of : List (List ℕ) → Option (List ℕ × List ℕ)
-two_of [] = None
-two_of (a ∷ []) = None
 two_of (a ∷ b ∷ []) = Some (a, b)
-two_of (a ∷ b ∷ c ∷ rest) = None
+two_of words = None
 
 abbrev pub three_of : List (List ℕ) → Option (List ℕ × List ℕ × List ℕ)
-three_of [] = None
-three_of (a ∷ []) = None
-three_of (a ∷ b ∷ []) = None
 three_of (a ∷ b ∷ c ∷ []) = Some (a, b, c)
-three_of (a ∷ b ∷ c ∷ d ∷ rest) = None
+three_of words = None
 
 abbrev pub four_of : List (List ℕ) → Option (List ℕ × List ℕ × List ℕ × List ℕ)
-four_of [] = None
-four_of (a ∷ []) = None
-four_of (a ∷ b ∷ []) = None
-four_of (a ∷ b ∷ c ∷ []) = None
 four_of (a ∷ b ∷ c ∷ d ∷ []) = Some (a, b, c, d)
-four_of (a ∷ b ∷ c ∷ d ∷ e ∷ rest) = None
+four_of words = None
 
--- rows of so many words, which say what they say where each word is what it should be
-abbrev pub with_one : {A : Type 0} → (List ℕ → Option A) → List (List ℕ) → Result A LineRule
-with_one says words = or_wrong_count (one_of words) (λ a. or_bad_word (says a))
+-- there are not as many words as there should be, or a word is not what it should be
+abbrev pub says_of : {A B : Type 0} → Option A → (A → Option B) → Result B LineRule
+says_of None says = Err WrongCount
+says_of (Some words) says = ok_or (says words) BadWord
 
-abbrev pub with_two : {A : Type 0} → (List ℕ → List ℕ → Option A) → List (List ℕ) → Result A LineRule
-with_two says words = or_wrong_count (two_of words) (λ p. or_bad_word (says p.0 p.1))
+-- no words
+abbrev pub with_none : {A : Type 0} → A → List (List ℕ) → Result A LineRule
+with_none said [] = Ok said
+with_none said words = Err WrongCount
 
-abbrev pub with_three : {A : Type 0} → (List ℕ → List ℕ → List ℕ → Option A) → List (List ℕ) → Result A LineRule
-with_three says words = or_wrong_count (three_of words) (λ p. or_bad_word (says p.0 p.1 p.2))
+-- what so many words say of what they are, where each is what it should be
+abbrev pub with_one : {A B : Type 0} → (List ℕ → Option A) → (A → B) → List (List ℕ) → Result B LineRule
+with_one first says words = says_of (one_of words) (λ w. option_map says (first w))
 
-abbrev pub with_four : {A : Type 0} → (List ℕ → List ℕ → List ℕ → List ℕ → Option A) → List (List ℕ) → Result A LineRule
-with_four says words = or_wrong_count (four_of words) (λ p. or_bad_word (says p.0 p.1 p.2 p.3))
+abbrev pub with_two : {A B C : Type 0} → (List ℕ → Option A) → (List ℕ → Option B) → (A → B → C) → List (List ℕ) → Result C LineRule
+with_two first second says words = says_of (two_of words) (λ w. and_then (first w.0) (λ a. option_map (says a) (second w.1)))
+
+abbrev pub with_three : {A B C D : Type 0} → (List ℕ → Option A) → (List ℕ → Option B) → (List ℕ → Option C) → (A → B → C → D)
+    → List (List ℕ) → Result D LineRule
+with_three first second third says words =
+    says_of (three_of words) (λ w. and_then (first w.0) (λ a. and_then (second w.1) (λ b. option_map (says a b) (third w.2))))
+
+-- what a name stands for in a table
+abbrev pub named : {A : Type 0} → List (List ℕ × A) → List ℕ → Option A
+named [] word = None
+named (row ∷ rows) word = if bytes_eq word row.0 then Some row.1 else named rows word
+
+-- a row of a table of lines: a first word, and what the other words of its line say
+abbrev pub Row : Type 0 → Type 0
+Row A = List ℕ × (List (List ℕ) → Result A LineRule)
+
+-- what a line says by the row of its first word, where the table has one
+abbrev pub row_of : {A : Type 0} → List (Row A) → List ℕ → List (List ℕ) → Option (Result A LineRule)
+row_of rows w ws = option_map (λ says. says ws) (named rows w)

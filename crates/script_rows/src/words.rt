@@ -1,6 +1,6 @@
 //! What a word of a line stands for.
 
-ghost use Rattle.std.specs.Prelude.{◌≡◌, ◌<◌, ◌≤◌, [], ◌∷◌, ◌++◌, map, length, true, IfSome, OnOk, IfErr, MatchOption, MatchResult, Some, None, Ok, Err};
+ghost use Rattle.std.specs.Prelude.{◌≡◌, ◌<◌, ◌≤◌, [], ◌∷◌, ◌++◌, map, length, ok_or, true, IfSome, OnOk, IfErr, MatchOption, MatchResult, Some, None, Ok, Err};
 ghost use Rattle.std.specs.Str.{bytes_eq};
 ghost use Rattle.script_rows.specs.Words as spec;
 ghost use Rattle.script_rows.specs.Faults.{FaultOf, rule_number};
@@ -63,6 +63,17 @@ impl From<AllocError> for LineFault {
 
     fn from(_: AllocError) -> Self {
         LineFault::NoMemory
+    }
+}
+
+impl From<LineRule> for LineFault {
+    ghost use Rattle.std.specs.Prelude.{◌≡◌};
+    ghost use Rattle.script_rows.specs.declared.words.LineFault.TheVariants.{Rule};
+
+    ghost from_gives = { λ rule fault. fault ≡ Rule rule };
+
+    fn from(rule: LineRule) -> Self {
+        LineFault::Rule(rule)
     }
 }
 
@@ -248,7 +259,7 @@ pub(crate) fn numbers_of<S: Supply>(
     words: &[&[u8]],
 ) -> Result<Numbers, LineFault>
     ensures says { MatchResult result (λ ns. spec.numbers_of (map (λ w. w.now) words.now) ≡ Some ns)
-        (λ f. FaultOf f (spec.or_bad_word (spec.numbers_of (map (λ w. w.now) words.now)))) }
+        (λ f. FaultOf f (ok_or (spec.numbers_of (map (λ w. w.now) words.now)) LineRule.BadWord)) }
     ensures unrefused { OnOk result (S.refused supply.new ≡ S.refused supply.old) }
     ensures memory { result ≡ Err LineFault.NoMemory → S.refused supply.new ≡ true }
 {
@@ -329,9 +340,8 @@ pub(crate) fn one<'a>(words: &[&'a [u8]]) -> Option<&'a [u8]>
         (λ w. spec.one_of (map (λ w. w.now) words.now) ≡ Some w.now) }
 {
     match words {
-        [] => None,
         [first] => Some(*first),
-        [_, _, ..] => None,
+        _ => None,
     }
 }
 
@@ -341,10 +351,8 @@ pub(crate) fn two<'a>(words: &[&'a [u8]]) -> Option<(&'a [u8], &'a [u8])>
         (λ p. spec.two_of (map (λ w. w.now) words.now) ≡ Some (p.0.now, p.1.now)) }
 {
     match words {
-        [] => None,
-        [_] => None,
         [first, second] => Some((*first, *second)),
-        [_, _, _, ..] => None,
+        _ => None,
     }
 }
 
@@ -354,11 +362,8 @@ pub(crate) fn three<'a>(words: &[&'a [u8]]) -> Option<(&'a [u8], &'a [u8], &'a [
         (λ p. spec.three_of (map (λ w. w.now) words.now) ≡ Some (p.0.now, p.1.now, p.2.now)) }
 {
     match words {
-        [] => None,
-        [_] => None,
-        [_, _] => None,
         [first, second, third] => Some((*first, *second, *third)),
-        [_, _, _, _, ..] => None,
+        _ => None,
     }
 }
 
@@ -368,11 +373,36 @@ pub(crate) fn four<'a>(words: &[&'a [u8]]) -> Option<(&'a [u8], &'a [u8], &'a [u
         (λ p. spec.four_of (map (λ w. w.now) words.now) ≡ Some (p.0.now, p.1.now, p.2.now, p.3.now)) }
 {
     match words {
-        [] => None,
-        [_] => None,
-        [_, _] => None,
-        [_, _, _] => None,
         [first, second, third, fourth] => Some((*first, *second, *third, *fourth)),
-        [_, _, _, _, _, ..] => None,
+        _ => None,
     }
+}
+
+/// The number that is the only word.
+#[inline(always)]
+pub(crate) fn only_number(words: &[&[u8]]) -> Result<u32, LineRule>
+    ensures { result ≡ spec.with_one spec.number (λ n. n) (map (λ w. w.now) words.now) }
+{
+    let word = one(words).ok_or(LineRule::WrongCount)?;
+    number(word).ok_or(LineRule::BadWord)
+}
+
+/// The subchannel that the only word names.
+#[inline(always)]
+pub(crate) fn only_subchannel(words: &[&[u8]]) -> Result<u32, LineRule>
+    ensures { result ≡ spec.with_one spec.subchannel (λ s. s) (map (λ w. w.now) words.now) }
+{
+    let word = one(words).ok_or(LineRule::WrongCount)?;
+    subchannel(word).ok_or(LineRule::BadWord)
+}
+
+/// The subchannel and the number that the only two words name.
+#[inline(always)]
+pub(crate) fn subchannel_and_number(words: &[&[u8]]) -> Result<(u32, u32), LineRule>
+    ensures { result ≡ spec.with_two spec.subchannel spec.number (λ s n. (s, n)) (map (λ w. w.now) words.now) }
+{
+    let (word, other) = two(words).ok_or(LineRule::WrongCount)?;
+    let subchannel = subchannel(word).ok_or(LineRule::BadWord)?;
+    let number = number(other).ok_or(LineRule::BadWord)?;
+    Ok((subchannel, number))
 }

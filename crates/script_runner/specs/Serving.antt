@@ -74,12 +74,10 @@ EndsBy false true refused held now ending = (whole : Bool) × (ending ≡ AuditF
 
 -- lines are performed and written, all of them or those up to one within whose print the sink failed, and the audit is made
 abbrev pub PerformsAll : Bool → Installed → List Line → Seen → Seen → Ending → Type 0
-PerformsAll short old lines held now NotRead = ⊥
-PerformsAll short old lines held now (Bad whole) = ⊥
-PerformsAll short old lines held now (NoMemory whole) = ⊥
 PerformsAll short old lines held now (Done refused) = (last : Installed) × HasPerformed short old lines held now refused last × IsAudited last
 PerformsAll short old lines held now (Stopped refused) = (last : Installed) × HasStopped short old lines held now refused last × IsAudited last
 PerformsAll short old lines held now (AuditFailed whole) = (last : Installed) × FailsAudit short old lines held now whole last × ¬ IsAudited last
+PerformsAll short old lines held now other = ⊥
 
 -- a script is run; or there was no memory before its first event
 abbrev pub IsRunOf : Bool → Setup → List Line → Seen → Seen → Ending → Type 0
@@ -104,9 +102,6 @@ pub record RacesAfter (short : Bool) (old : Installed) (lines : List Line) (line
 
 -- how that ended; or the sink failed before the race
 abbrev pub Races : Bool → Installed → List Line → RaceLine → Seen → Seen → Ending → Type 0
-Races short old lines line held now NotRead = ⊥
-Races short old lines line held now (Bad whole) = ⊥
-Races short old lines line held now (NoMemory whole) = ⊥
 Races short old lines line held now (Done refused) = RacesAfter short old lines line held now true true refused
 Races short old lines line held now (Stopped refused) =
     RacesAfter short old lines line held now false true refused ⊎ ((last : Installed) × HasStopped short old lines held now refused last × IsAudited last)
@@ -114,6 +109,7 @@ Races short old lines line held now (AuditFailed true) = (refused : Bool) × Rac
 Races short old lines line held now (AuditFailed false) =
     ((refused : Bool) × RacesAfter short old lines line held now false false refused)
     ⊎ ((last : Installed) × (refused : Bool) × HasStopped short old lines held now refused last × ¬ IsAudited last)
+Races short old lines line held now other = ⊥
 
 abbrev pub IsRaceOf : Bool → Setup → List Line → RaceLine → Seen → Seen → Ending → Type 0
 IsRaceOf short setup lines line held now (NoMemory whole) = TellsNoMemory held now whole
@@ -149,20 +145,14 @@ abbrev pub HasNoScript : Bool → Option (List ℕ) → Seen → Seen → Ending
 HasNoScript races input held now NotRead = now ≡ held
 HasNoScript races input held now (NoMemory whole) = TellsNoMemory held now whole
 HasNoScript races input held now (Bad whole) = IfSome input (λ text. TellsBad races text held now whole)
-HasNoScript races input held now (Done refused) = ⊥
-HasNoScript races input held now (Stopped refused) = ⊥
-HasNoScript races input held now (AuditFailed whole) = ⊥
+HasNoScript races input held now other = ⊥
 
 -- there is none, or memory came to want after it was read; or this was done with the script
 abbrev pub DoesWith : Bool → (ScriptContents → Seen → Seen → Ending → Type 0) → Option (List ℕ) → Seen → Seen → Ending → Type 0
 DoesWith races does input held now NotRead = HasNoScript races input held now NotRead
 DoesWith races does input held now (NoMemory whole) = HasNoScript races input held now (NoMemory whole)
 DoesWith races does input held now (Bad whole) = HasNoScript races input held now (Bad whole)
-DoesWith races does input held now (Done refused) = IfSome input (λ text. (s : ScriptContents) × IsScript races (lines_of text) s × does s held now (Done refused))
-DoesWith races does input held now (Stopped refused) =
-    IfSome input (λ text. (s : ScriptContents) × IsScript races (lines_of text) s × does s held now (Stopped refused))
-DoesWith races does input held now (AuditFailed whole) =
-    IfSome input (λ text. (s : ScriptContents) × IsScript races (lines_of text) s × does s held now (AuditFailed whole))
+DoesWith races does input held now other = IfSome input (λ text. (s : ScriptContents) × IsScript races (lines_of text) s × does s held now other)
 
 -- the command `run`
 abbrev pub Serves : Bool → Option (List ℕ) → Seen → Seen → Ending → Type 0

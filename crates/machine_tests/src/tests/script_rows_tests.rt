@@ -74,7 +74,7 @@ fn asks(alloc: Global, slot: &mut ActionSlot, line: &[u8], name: &[u8], numbers:
     match words.as_slice() {
         [] => false,
         [first, others @ ..] => match action_row(slot, first, others) {
-            Some(Ok(())) => {
+            Ok(true) => {
                 let action = slot.kept.with(slot.bytes());
                 shown(&action) == (name, numbers)
             }
@@ -105,10 +105,7 @@ fn broken(alloc: Global, slot: &mut ActionSlot, line: &[u8]) -> Option<LineRule>
     };
     match words.as_slice() {
         [] => None,
-        [first, others @ ..] => match action_row(slot, first, others) {
-            Some(Err(rule)) => Some(rule),
-            _ => None,
-        },
+        [first, others @ ..] => action_row(slot, first, others).err(),
     }
 }
 
@@ -139,7 +136,9 @@ fn read(alloc: Global, line: &[u8]) -> Option<Result<Setting, LineFault>> {
     let words = words_of(alloc, line).ok()?;
     match words.as_slice() {
         [] => None,
-        [first, others @ ..] => setting_row(alloc, &mut Allocator { refused: false }, first, others),
+        [first, others @ ..] => {
+            setting_row(alloc, &mut Allocator { refused: false }, first, others).transpose()
+        }
     }
 }
 

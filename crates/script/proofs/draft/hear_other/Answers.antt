@@ -7,20 +7,20 @@ use Rattle.script_rows.specs.declared.words.LineRule.{LineRule}
 use Rattle.script.proofs.Drafting.{says-of, set-ok, set-err}
 use Rattle.script.proofs.draft.hear_other.Goals as goal
 
-pub returns-in-Some-Ok-clause-ok : goal.returns-in-Some-Ok-clause-ok
-returns-in-Some-Ok-clause-ok g c =
+pub returns-in-Some-clause-ok : goal.returns-in-Some-clause-ok
+returns-in-Some-clause-ok g c =
     let word = c.args.said.now.first.now in
     let words = map (λ w. w.now) c.args.said.now.others.now in
-    let says = says-of _ _ (setting_row word words) c.in-Some-Ok.field-0-is c.in-Some-Ok.ensures.says in
-    set-ok c.set.result c.args.draft.now c.set.new.draft c.in-Some-Ok.setting c.args.given.now.number (may_race c.args.given.now.races c.args.given.now.line.later)
+    let says = says-of _ _ (setting_row word words) c.in-Some.is c.in_ok-setting.ensures.says in
+    set-ok c.set.result c.args.draft.now c.set.new.draft c.in-Some.setting c.args.given.now.number (may_race c.args.given.now.races c.args.given.now.line.later)
     (setting_said (setting_row word words) (drive_said word words))
     (ap (λ (said : Option (Result Setting LineRule)). setting_said said (drive_said word words)) says) c.set.ensures.ok
 
-pub returns-in-Some-Ok-clause-err : goal.returns-in-Some-Ok-clause-err
-returns-in-Some-Ok-clause-err g c =
+pub returns-in-Some-clause-err : goal.returns-in-Some-clause-err
+returns-in-Some-clause-err g c =
     let word = c.args.said.now.first.now in
     let words = map (λ w. w.now) c.args.said.now.others.now in
-    let says = says-of _ _ (setting_row word words) c.in-Some-Ok.field-0-is c.in-Some-Ok.ensures.says in
-    set-err c.set.result c.args.draft.now c.in-Some-Ok.setting (may_race c.args.given.now.races c.args.given.now.line.later)
+    let says = says-of _ _ (setting_row word words) c.in-Some.is c.in_ok-setting.ensures.says in
+    set-err c.set.result c.args.draft.now c.in-Some.setting (may_race c.args.given.now.races c.args.given.now.line.later)
     (setting_said (setting_row word words) (drive_said word words))
     (ap (λ (said : Option (Result Setting LineRule)). setting_said said (drive_said word words)) says) c.set.ensures.err
