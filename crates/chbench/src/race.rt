@@ -95,7 +95,11 @@ fn looks<J: MachineBrand>(seat: &mut Seat<J>, times: u64) -> u64 {
 }
 
 /// One more runner; false where there is no seat or no memory.
-fn add<J: MachineBrand>(core: &mut Core<J, Rotating>, runners: &mut Vec<Runner<J>>, task: Task) -> bool {
+fn add<J: MachineBrand>(
+    core: &mut Core<J, Rotating>,
+    runners: &mut Vec<Runner<J>>,
+    task: Task,
+) -> bool {
     let Ok(seat) = core.seat() else {
         return false;
     };

@@ -20,7 +20,7 @@ use crate::outcome::Outcome;
 use crate::serve;
 use crate::tests::scenes::Scene;
 use crate::tests::want_of_memory::{Short, Slow};
-use memory::{FailingMemory, Allocator};
+use memory::{Allocator, FailingMemory};
 use script_runner::Ending;
 use std::sync::Wait;
 use std::thread::Threads;

@@ -10,7 +10,7 @@ ghost use Rattle.command_words.specs.declared.Wanted.{Wanted};
 
 use clap::Command;
 use clap::error::{Error, ErrorKind};
-use memory::{FailingMemory, Allocator, Supply};
+use memory::{Allocator, FailingMemory, Supply};
 use std::alloc::{AllocError, Global};
 
 /// What the words ask for.

@@ -5,7 +5,7 @@ ghost use Rattle.std.specs.Arc.{arc_value};
 
 use crate::directory::Directory;
 use glance_cell::supplies::CellSupply;
-use memory::{FailingMemory, Allocator};
+use memory::{Allocator, FailingMemory};
 use std::alloc::{AllocError, Global};
 use std::sync::Arc;
 

@@ -3,7 +3,7 @@
 ghost use Rattle.std.specs.Prelude.{◌≡◌, ◌+◌, Bool, true, IfOk, OnOk, OnErr};
 
 use crate::cell::{Reader, Writer};
-use memory::{FailingMemory, Allocator, Supply};
+use memory::{Allocator, FailingMemory, Supply};
 use std::alloc::{AllocError, Global};
 
 /// Memory for lists, and for cells and their readers. That it refused something can be seen from then on.

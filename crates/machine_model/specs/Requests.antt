@@ -10,7 +10,7 @@ use Rattle.chan_events.specs.declared.event.Event.TheVariants as event
 use Rattle.chan_events.specs.declared.event.Instruction.{Instruction}
 use Rattle.chan_events.specs.declared.event.Instruction.TheVariants as instruction
 use Rattle.chan_events.specs.Replies.{Reply}
-pub use Rattle.chan_events.specs.Replies.{reply_code}
+use Rattle.chan_events.specs.Replies.{reply_code}
 use Rattle.interruptions.specs.Requests as requests
 use Rattle.subchannel_model.specs.declared.state.Subchannel.{Subchannel}
 use Rattle.machine_model.specs.State.{State, sub_of}

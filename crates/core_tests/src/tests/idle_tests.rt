@@ -53,7 +53,10 @@ impl Work {
 }
 
 /// A CPU, and a worker of the one channel path, which has nothing to do.
-pub fn begins_idle<J: MachineBrand>(core: &mut Core<J, Rotating>, racers: &mut Vec<Racer<J>>) -> bool {
+pub fn begins_idle<J: MachineBrand>(
+    core: &mut Core<J, Rotating>,
+    racers: &mut Vec<Racer<J>>,
+) -> bool {
     let Some(cpu) = Cpu::new(0) else {
         return false;
     };

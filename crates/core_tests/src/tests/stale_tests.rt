@@ -136,7 +136,11 @@ pub fn begins_late<J: MachineBrand>(
 
 /// CLEAR SUBCHANNEL, and the Reset that it asks for: it is sent, the unit takes it, and the subchannel takes the answer. The
 /// device is not called.
-fn resets<J: MachineBrand, R: Wait>(rt: &R, machine: &Machine<J, Rotating>, seat: &mut Seat<J>) -> bool
+fn resets<J: MachineBrand, R: Wait>(
+    rt: &R,
+    machine: &Machine<J, Rotating>,
+    seat: &mut Seat<J>,
+) -> bool
     requires { seat.old.value.owed ≡ None }
     ensures { seat.new.value.owed ≡ None }
 {

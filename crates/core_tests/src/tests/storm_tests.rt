@@ -42,7 +42,11 @@ fn devices() -> Devices {
 }
 
 /// The next event of a unit, if there is one.
-fn at_unit<J: MachineBrand>(core: &Core<J, Rotating>, devices: &mut Devices, unit: u32) -> Option<Event> {
+fn at_unit<J: MachineBrand>(
+    core: &Core<J, Rotating>,
+    devices: &mut Devices,
+    unit: u32,
+) -> Option<Event> {
     let device = devices.get_mut(unit as usize)?;
     match turn_by(false, None, unit, core.subsystem().unit_turn(unit)) {
         Turn::Enters(event) => Some(event),

@@ -1,7 +1,7 @@
 //! Words that a user may give, with what `clap` is known to say of them.
 
 use command_words::{Refused, Wanted, command_of};
-use memory::{FailingMemory, Allocator};
+use memory::{Allocator, FailingMemory};
 use std::alloc::Global;
 
 fn text_has<'a>(alloc: Global, words: &'a [&'a str], part: &str) -> bool {

@@ -2,7 +2,7 @@
 
 use control_units::ControlUnit;
 use control_units::sharing::Sharing;
-use memory::{FailingMemory, Allocator, Supply};
+use memory::{Allocator, FailingMemory, Supply};
 use std::alloc::Global;
 
 /// The groups of five units.

@@ -1,7 +1,7 @@
 //! Requests that wait, and those that are answered.
 
 use interruptions::Pending;
-use memory::{FailingMemory, Allocator};
+use memory::{Allocator, FailingMemory};
 use scsw_irb::code::IntCode;
 use std::alloc::{AllocError, Global};
 

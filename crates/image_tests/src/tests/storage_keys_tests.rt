@@ -1,6 +1,6 @@
 //! Accesses whose answers the manual gives (SA22-7832, chapter 3).
 
-use memory::{FailingMemory, Allocator, Supply};
+use memory::{Allocator, FailingMemory, Supply};
 use std::alloc::Global;
 use storage_keys::key::Key;
 use storage_keys::{Storage, StorageFault};

@@ -1,6 +1,6 @@
 //! Readers and writers that give and take a few bytes a call, and fail at one.
 
-use memory::{FailingMemory, Allocator};
+use memory::{Allocator, FailingMemory};
 use std::io;
 use std::io::{ErrorKind, Read, Write};
 use streams::{

@@ -1,6 +1,6 @@
 //! Each request refused in turn.
 
-use memory::{FailingMemory, Allocator, Supply, extend, make_room, push};
+use memory::{Allocator, FailingMemory, Supply, extend, make_room, push};
 use std::alloc::{AllocError, Global};
 
 /// Three requests: two bytes one by one, and two together.

@@ -8,7 +8,7 @@ use channel_config::parts::{ChpidList, SubchannelSetup};
 use functions::{PackedState, Subchannel};
 use lookup::engines::engaged;
 use lookup::tables::SubchannelIndex;
-use memory::{FailingMemory, Allocator, Supply};
+use memory::{Allocator, FailingMemory, Supply};
 use std::alloc::{AllocError, Global};
 use subchannel_model::state::SubchannelState;
 use wires::Wires;

@@ -1,7 +1,7 @@
 //! Scripts with a bad line: its number, and the first rule that it breaks.
 
 use crate::tests::script_lines::text_of;
-use memory::{FailingMemory, Allocator, Supply};
+use memory::{Allocator, FailingMemory, Supply};
 use script::{Script, ScriptBad};
 use script_rows::words::LineRule;
 use std::alloc::{AllocError, Global};

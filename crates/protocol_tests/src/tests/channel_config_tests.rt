@@ -4,7 +4,7 @@ use chan_model::names::Side;
 use channel_config::config::{Config, ConfigFault, ConfigRule};
 use channel_config::names::{SubchannelId, subchannel_named};
 use channel_config::parts::UnitKind;
-use memory::{FailingMemory, Allocator, Supply};
+use memory::{Allocator, FailingMemory, Supply};
 use std::alloc::Global;
 
 #[test]

@@ -22,7 +22,7 @@ use Rattle.interruptions.specs.Requests.{WaitingRequests, request_dropped}
 use Rattle.run_laws.specs.CodeSteps.{IsByTable}
 use Rattle.run_laws.specs.StateClaims.{is_id}
 use Rattle.chan_events.specs.Instructions.{subchannel_word}
-use Rattle.machine_model.specs.Requests.{reply_code, drops, requests_after, requests_dropped, request_of}
+use Rattle.machine_model.specs.Requests.{drops, requests_after, requests_dropped, request_of}
 use Rattle.machine_model.specs.State.{State, sub_of}
 use Rattle.machine_model.specs.Steps.{Step}
 use Rattle.step_laws.proofs.Indices.{alone, both-true, first-passes, found-there}
