@@ -33,7 +33,7 @@ pend_sub sub cause = Ok (leaves reply.Pending (with_state sub (with_cause sub.st
 
 abbrev pub choose_sub : Subchannel → Chosen → Result SubResult Fault
 choose_sub sub Idle = Ok (leaves reply.Idle sub)
-choose_sub sub (Resets r path) = send_sub sub (reset_sent sub.state path) path (down.Reset r sub.state.hold.known) (reply.ResetSent r path)
+choose_sub sub (Resets r path) = send_sub sub (reset_sent sub.state path) path (down.Reset r sub.state.hold.known_restarts) (reply.ResetSent r path)
 choose_sub sub PerformsClear = pend_sub sub cause.ClearDone
 choose_sub sub (Halts t path) = send_sub sub (halt_sent sub.state) path (down.Halt t) (reply.HaltSent t path)
 choose_sub sub PerformsHalt = pend_sub sub cause.HaltDone

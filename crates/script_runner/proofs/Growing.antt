@@ -85,7 +85,7 @@ pub performed_to : (was short : Bool) (old middle new : Installed) (ls : List Li
 performed_to was short old middle new ls i l held then now a r there h t whole =
     subst (λ (ks : List Line). HasPerformed short old ks held now (a || r.refused) new) (sym (grown ls i l there))
     (performed_more was short old middle new (take i ls) l held then now a r t.outcome h t.acts t.refused
-    (subst (λ (w : Bool). Puts then (event_line l.number t.outcome) now w) whole t.prints) t.given t.memory)
+    (subst (λ (w : Bool). Puts then (event_line l.number t.outcome) now w) whole t.prints) t.unrefused t.memory)
 
 -- before the first line
 pub performed_none : (short : Bool) (old : Installed) (held : Seen) → HasPerformed short old [] held held false old
@@ -120,7 +120,7 @@ stopped_at was short old middle new ls i l held then now a r there h t failed = 
     runs = h.runs;
     refused = h.refused;
     written = h.written;
-    memory = still was short middle (list_any is_starved h.outcomes) (is_starved t.outcome) h.memory t.given t.memory;
+    memory = still was short middle (list_any is_starved h.outcomes) (is_starved t.outcome) h.memory t.unrefused t.memory;
   };
   stopped = t;
   printed = failed;
@@ -141,7 +141,7 @@ both_false false b e = (refl, e)
 
 -- where no action was refused the supply refused none
 pub none_refused : (was short : Bool) (middle : Installed) (l : Line) (then now : Seen) (r : Written) (new : Installed) → IsDone was short middle l then now r new → r.refused ≡ false → short ≡ was
-none_refused was short middle l then now r new t e = t.given (nothing_starved t.outcome (sym t.refused ∙ e))
+none_refused was short middle l then now r new t e = t.unrefused (nothing_starved t.outcome (sym t.refused ∙ e))
 
 pub none_refused_more : (first was short : Bool) (middle : Installed) (l : Line) (then now : Seen) (a : Bool) (r : Written) (new : Installed)
     → (a ≡ false → was ≡ first) → IsDone was short middle l then now r new → (a || r.refused) ≡ false → short ≡ first

@@ -12,7 +12,7 @@ loop-blanks-preserved g c =
       few = omega (arith, old.few, c.split_word-more.ensures.shorter);
       room = omega (arith, old.room, c.split_word-more.ensures.shorter, c.push_reserved.ensures.len, c.push_reserved.ensures.capacity);
       parts = joined (λ p. p.now) c.loop-blanks.found.items _ _ 32 c.loop-blanks.rest.now c.split_word-more.result.1.now c.args.line.now c.push_reserved.ensures.items old.parts c.split_word-more.ensures.parts;
-      given = old.given;
+      unrefused = old.unrefused;
     }
 
 pub returns-clause-parts : goal.returns-clause-parts

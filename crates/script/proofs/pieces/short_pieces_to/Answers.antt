@@ -11,7 +11,7 @@ loop-index-preserved g c =
       parts = parted (λ p. p.now) c.loop-index.found.items _ _ _ (c.loop-index.index - c.loop-index.start) (drop c.loop-index.start bytes) _ _ c.in_ok-add.ensures.added (search rules) old.parts
           (next c.args.separator bytes c.loop-index.start c.loop-index.index old.ordered (search rules) old.before (search rules));
       before = λ k from to. absurd (omega arith);
-      given = search rules;
+      unrefused = search rules;
     }
 
 pub returns-clause-parts : goal.returns-clause-parts
