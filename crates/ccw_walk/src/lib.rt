@@ -23,7 +23,7 @@ use crate::program::{Advance, Ended, Latest, Reading, Role};
 use orb_block::Orb;
 use reading::reading;
 use std::marker::Model;
-use storage_keys::{Storage, StorageFault};
+use storage_keys::{MainStorage, Storage, StorageFault};
 
 /// How many bytes a block has.
 const BLOCK: u32 = 8;

@@ -14,7 +14,7 @@ use ccw_walk::check::Check;
 use chan_model::chunk::CHUNK_BYTES;
 use idaw::{ListKind, WordFault, piece};
 use std::marker::Model;
-use storage_keys::Storage;
+use storage_keys::{MainStorage, Storage};
 use storage_keys::law::{fetched_bytes, put_bytes};
 
 /// How far the data of a command word that took control is moved.

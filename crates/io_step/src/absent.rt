@@ -17,7 +17,7 @@ use functions::blocks::enabling_word;
 use schib_block::SCHIB_BYTES;
 use schib_block::words::PmcwWords;
 use scsw_irb::irb::IRB_BYTES;
-use storage_keys::Storage;
+use storage_keys::{MainStorage, Storage};
 use zbits::be_bytes;
 
 fn start(storage: &Storage, cpu: Cpu, address: u32) -> Result<PlainReply, Fault>

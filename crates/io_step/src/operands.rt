@@ -13,7 +13,7 @@ use chan_model::names::Cpu;
 use orb_block::{ORB_BYTES, Orb};
 use schib_block::SCHIB_BYTES;
 use schib_block::words::PmcwWords;
-use storage_keys::Storage;
+use storage_keys::{MainStorage, Storage};
 use zbits::be_words;
 
 /// The boundary of a word, on which all but one of the operands must be.

@@ -18,7 +18,7 @@ use channel_reports::Reports;
 use interruptions::Pending;
 use scsw_irb::code::IntCode;
 use scsw_irb::crw::{CRW_BYTES, Crw};
-use storage_keys::Storage;
+use storage_keys::{MainStorage, Storage};
 use zbits::{be_bytes, field};
 
 /// The real address of the I/O-interruption code, where TEST PENDING INTERRUPTION stores it if its operand has address

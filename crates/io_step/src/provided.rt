@@ -23,7 +23,7 @@ use functions::Subchannel;
 use schib_block::SCHIB_BYTES;
 use schib_block::words::block_of;
 use scsw_irb::irb::IRB_BYTES;
-use storage_keys::Storage;
+use storage_keys::{MainStorage, Storage};
 
 fn start(
     storage: &Storage,

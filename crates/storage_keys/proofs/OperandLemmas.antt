@@ -12,7 +12,7 @@ use Rattle.std.proofs.lemmas.List.Edits.{sets-eq}
 use Rattle.std.proofs.lemmas.List.FromFn.{length-range_with_len, get_or-range_with_len, length-map-range_with_len, get_or-map-range_with_len}
 use Rattle.std.proofs.lemmas.Bool.Decides.{nat_tests}
 use Rattle.std.proofs.lemmas.Grind.{get_or_default_zero}
-use Rattle.storage_keys.specs.Storage.{Contents, IsStorage, IsPrefix, absolute_under, absolute, absolute_addresses, is_inside, is_operand_inside, with_values, operand_stored, put_at}
+use Rattle.storage_keys.specs.Storage.{Contents, IsAddressable, IsPrefix, absolute_under, absolute, absolute_addresses, is_inside, is_operand_inside, with_values, operand_stored, put_at}
 
 -- a real address is in storage where its absolute address is
 below-absolute_under : (prefix size real : ℕ) → 8192 ≤ size → prefix + 8192 ≤ size → nat_lt (absolute_under prefix real) size ≡ nat_lt real size
@@ -32,13 +32,14 @@ all_inside prefix size a b address (suc count) =
     ∙ ap (λ (x : Bool). nat_lt address size && x) rest
     ∙ both
 
-pub is_operand_inside-is : (s : Contents) → IsStorage s → (cpu address count : ℕ) → is_operand_inside s cpu address count ≡ is_inside s address count
+pub is_operand_inside-is : (s : Contents) → IsAddressable s → (cpu address count : ℕ) → is_operand_inside s cpu address count ≡ is_inside s address count
 unfolding absolute_addresses
 is_operand_inside-is s h cpu address count =
-    all_inside (slice_index s.prefixes cpu) (length s.bytes) (omega (arith, h.least)) (h.prefixes cpu).1 address count
+    let named : slice_index s.prefixes cpu + 8192 ≤ length s.bytes = (h.prefixes cpu).1 in
+    all_inside (slice_index s.prefixes cpu) (length s.bytes) (omega arith) named address count
 
 -- bytes of one area stand in a row
-addresses-one_area : (s : Contents) → IsStorage s → (cpu real n : ℕ) → real % 8192 + n ≤ 8192 → absolute_addresses s cpu real n ≡ range_with_len (absolute s cpu real) n
+addresses-one_area : (s : Contents) → IsAddressable s → (cpu real n : ℕ) → real % 8192 + n ≤ 8192 → absolute_addresses s cpu real n ≡ range_with_len (absolute s cpu real) n
 unfolding absolute_addresses
 addresses-one_area s h cpu real n fits =
     same_lists (map (absolute s cpu) (range_with_len real n)) (range_with_len (absolute s cpu real) n)
@@ -49,8 +50,8 @@ addresses-one_area s h cpu real n fits =
     ∙ absolute_under-add (slice_index s.prefixes cpu) real n k (h.prefixes cpu).0 fits within
     ∙ sym (get_or-range_with_len (absolute s cpu real) n k d within))
 
-area_inside : (prefix size real n : ℕ) → IsPrefix size prefix → real % 8192 + n ≤ 8192 → real + n ≤ size → 65536 ≤ size → absolute_under prefix real + n ≤ size
-area_inside prefix size real n names area inside least =
+area_inside : (prefix size real n : ℕ) → IsPrefix size prefix → real % 8192 + n ≤ 8192 → real + n ≤ size → absolute_under prefix real + n ≤ size
+area_inside prefix size real n names area inside =
     let aligned : prefix % 8192 ≡ 0 = names.0 in
     let named : prefix + 8192 ≤ size = names.1 in
     grind (arith, nat_tests)
@@ -110,15 +111,15 @@ length-with_values bytes (p ∷ ps) [] = refl
 length-with_values bytes (p ∷ ps) (v ∷ vs) = length-with_values (set bytes p v) ps vs ∙ length-set bytes p v
 
 -- the piece of an operand in one area: it is in storage, stands in a row, and is stored in a row
-pub piece_inside : (s : Contents) → IsStorage s → (cpu real n : ℕ) → real % 8192 + n ≤ 8192 → real + n ≤ length s.bytes → absolute s cpu real + n ≤ length s.bytes
-piece_inside s h cpu real n area inside = area_inside (slice_index s.prefixes cpu) (length s.bytes) real n (h.prefixes cpu) area inside (omega (arith, h.least))
+pub piece_inside : (s : Contents) → IsAddressable s → (cpu real n : ℕ) → real % 8192 + n ≤ 8192 → real + n ≤ length s.bytes → absolute s cpu real + n ≤ length s.bytes
+piece_inside s h cpu real n area inside = area_inside (slice_index s.prefixes cpu) (length s.bytes) real n (h.prefixes cpu) area inside
 
-pub piece_read : (s : Contents) → IsStorage s → (cpu real n : ℕ) → real % 8192 + n ≤ 8192 → real + n ≤ length s.bytes
+pub piece_read : (s : Contents) → IsAddressable s → (cpu real n : ℕ) → real % 8192 + n ≤ 8192 → real + n ≤ length s.bytes
     → slice_range s.bytes (absolute s cpu real) (absolute s cpu real + n) ≡ map (slice_index s.bytes) (absolute_addresses s cpu real n)
 piece_read s h cpu real n area inside =
     sym (ap (map (slice_index s.bytes)) (addresses-one_area s h cpu real n area) ∙ map-slice_index-range s.bytes (absolute s cpu real) n (λ _. piece_inside s h cpu real n area inside))
 
-pub piece_stored : (s : Contents) → IsStorage s → (cpu real : ℕ) (values : List ℕ) → real % 8192 + length values ≤ 8192 → real + length values ≤ length s.bytes
+pub piece_stored : (s : Contents) → IsAddressable s → (cpu real : ℕ) (values : List ℕ) → real % 8192 + length values ≤ 8192 → real + length values ≤ length s.bytes
     → put_at s (absolute s cpu real) values ≡ operand_stored s cpu real values
 piece_stored s h cpu real values area inside =
     let same : with_values s.bytes (absolute_addresses s cpu real (length values)) values ≡ take (absolute s cpu real) s.bytes ++ (values ++ drop (absolute s cpu real + length values) s.bytes) =

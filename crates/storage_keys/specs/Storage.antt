@@ -26,6 +26,11 @@ pub record IsStorage (storage : Contents) : Type 0 where
   pub cpus : length storage.prefixes ≡ 16
   pub prefixes : (cpu : ℕ) → IsPrefix (length storage.bytes) (slice_index storage.prefixes cpu)
 
+-- what accesses need of storage, whoever has it: at most 2^31 bytes, among them the area that each prefix names
+pub record IsAddressable (storage : Contents) : Type 0 where
+  pub greatest : length storage.bytes ≤ 2 ^ 31
+  pub prefixes : (cpu : ℕ) → IsPrefix (length storage.bytes) (slice_index storage.prefixes cpu)
+
 -- the key of each block at first (own)
 abbrev pub zero_key : Key
 zero_key = record { access = 0; fetch_protected = false; referenced = false; changed = false; access_fits = lit< tt }

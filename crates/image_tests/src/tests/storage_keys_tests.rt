@@ -3,7 +3,7 @@
 use memory::{Allocator, FailingMemory, Supply};
 use std::alloc::Global;
 use storage_keys::key::Key;
-use storage_keys::{Storage, StorageFault};
+use storage_keys::{MainStorage, Storage, StorageFault};
 
 const ADDRESSING: StorageFault = StorageFault::Addressing;
 

@@ -8,7 +8,7 @@ use data_move::moving::Move;
 use idaw::{ListKind, WordFault};
 use orb_block::Orb;
 use std::alloc::Global;
-use storage_keys::Storage;
+use storage_keys::{MainStorage, Storage};
 use storage_keys::key::Key;
 
 const PROGRAM: Check = Check::Program;

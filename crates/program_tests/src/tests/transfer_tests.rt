@@ -8,7 +8,7 @@ use data_move::law::command_numbers;
 use data_move::transfer::{Beginning, CommandStart, Transfer};
 use orb_block::Orb;
 use std::alloc::Global;
-use storage_keys::Storage;
+use storage_keys::{MainStorage, Storage};
 
 /// Storage of 64K with a program at 1000 and bytes at 2000.
 fn storage_of(alloc: Global, program: &[u8]) -> Option<Storage> {

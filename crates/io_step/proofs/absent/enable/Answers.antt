@@ -24,7 +24,7 @@ pub returns : goal.returns
 returns c = λ word s.
     let fetched = permitted (operand_at c.args.storage.now c.args.cpu 0xF00 52 4) c.in_ok-image.image c.in_ok-image.ensures in
     let left = enables-none s c.args.storage.now c.store_operand.new.self c.args.cpu c.number.result c.args.subclass c.args.multipath c.in_ok-image.image c.be_bytes-placed.result _ c.enabling_word.result
-    (second c.in_ok-image.image c.word_in-words.result c.word_in-words.ensures.words) c.enabling_word.ensures c.be_bytes-placed.ensures c.number.ensures.value c.store_operand.ensures in
+    (second c.in_ok-image.image c.word_in-words.result c.word_in-words.ensures.words) c.enabling_word.ensures c.be_bytes-placed.ensures c.number.ensures.value c.store_operand.ensures.stored in
     subst (λ (x : Result (List ℕ) StorageFault). PerformsEnable (state_with_storage s c.args.storage.now) c.args.cpu None c.args.subclass c.args.multipath x
     (does (reply.Code answer.Three) (state_with_storage s c.store_operand.new.self))) (sym fetched)
     (pmcw_of_words c.word_in-words.result, c.word_in-words.ensures.shown, inr (c.is_allowed.ensures.0 c.if-not-is_allowed.false, ap (does (reply.Code answer.Three)) left))

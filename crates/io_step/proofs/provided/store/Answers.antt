@@ -15,4 +15,4 @@ returns c = λ word s index there.
     ap (λ (r : Reply). does r (with_sub (state_with_storage s c.store_operand.new.self) index c.args.sub.now)) c.store_reply.ensures
     ∙ stores-sub s c.args.storage.now c.store_operand.new.self c.args.cpu c.number.result c.args.address index c.args.sub.now c.schib-image.result
     c.in_ok-check_operand.field-0 there c.in_ok-check_operand.ensures.checked c.number.ensures.value
-    (c.schib-image.ensures ∙ ap (λ (x : Subchannel). image_of (schib_tables (schib_of x))) c.sub.view_is) c.store_operand.ensures
+    (c.schib-image.ensures ∙ ap (λ (x : Subchannel). image_of (schib_tables (schib_of x))) c.sub.view_is) c.store_operand.ensures.stored

@@ -1,7 +1,0 @@
--- A piece of one area stands in a row.
-use Rattle.storage_keys.proofs.OperandLemmas.{piece_read}
-use Rattle.storage_keys.proofs.Storage.piece.Goals as goal
-
-pub returns-clause-piece : goal.returns-clause-piece
-returns-clause-piece c =
-    rw (c.part.ensures, c.piece_address.ensures.address) (piece_read c.args.self.now c.piece_address.ensures.sound c.args.cpu c.args.real c.args.count c.requires.one_area c.requires.inside)
