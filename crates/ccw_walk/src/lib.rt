@@ -23,7 +23,7 @@ use crate::program::{Advance, Ended, Latest, Reading, Role};
 use orb_block::Orb;
 use reading::reading;
 use std::marker::Model;
-use storage_keys::{MainStorage, Storage, StorageFault};
+use storage_keys::{MainStorage, StorageFault};
 
 /// How many bytes a block has.
 const BLOCK: u32 = 8;
@@ -179,11 +179,11 @@ impl Walk {
     ///
     /// A fetch that the key refuses is a protection check. A block outside storage is a program
     /// check, and so is a first one off a doubleword boundary, or past 24 bits in format 0.
-    pub fn advance(&mut self, storage: &Storage) -> Option<Advance>
-        ensures answer { result ≡ advance_of_acts self.old (advance_acts storage.now self.old) }
+    pub fn advance<M: MainStorage>(&mut self, storage: &M) -> Option<Advance>
+        ensures answer { result ≡ advance_of_acts self.old (advance_acts (M.contents storage.now) self.old) }
         ensures answered { IsSome result ↔ IsSome self.old.next }
-        ensures after { self.new ≡ after_acts self.old (advance_acts storage.now self.old) }
-        ensures goes_on { GoesOn self.old (advance_acts storage.now self.old) self.new }
+        ensures after { self.new ≡ after_acts self.old (advance_acts (M.contents storage.now) self.old) }
+        ensures goes_on { GoesOn self.old (advance_acts (M.contents storage.now) self.old) self.new }
     {
         positions();
         advances();
@@ -196,10 +196,10 @@ impl Walk {
     }
 
     /// Fetches the next block. None where it is a transfer in channel.
-    fn step(&mut self, storage: &Storage, address: u32) -> Option<Advance>
+    fn step<M: MainStorage>(&mut self, storage: &M, address: u32) -> Option<Advance>
         requires { self.old.next ≡ Some address }
-        ensures answer { result ≡ advance_of_act self.old (fetch_act storage.now self.old.orb self.old.role address) }
-        ensures after { self.new ≡ after_act self.old (fetch_act storage.now self.old.orb self.old.role address) }
+        ensures answer { result ≡ advance_of_act self.old (fetch_act (M.contents storage.now) self.old.orb self.old.role address) }
+        ensures after { self.new ≡ after_act self.old (fetch_act (M.contents storage.now) self.old.orb self.old.role address) }
     {
         match self.block_at(storage, address) {
             Err(check) => {
@@ -215,9 +215,9 @@ impl Walk {
         }
     }
 
-    fn block_at(&self, storage: &Storage, address: u32) -> Result<[u8; 8], Check>
-        ensures fetched { IfOk result (λ bytes. fetch_act storage.now self.now.orb self.now.role address ≡ Block address bytes) }
-        ensures refused { IfErr result (λ check. fetch_act storage.now self.now.orb self.now.role address ≡ Unfetched address check) }
+    fn block_at<M: MainStorage>(&self, storage: &M, address: u32) -> Result<[u8; 8], Check>
+        ensures fetched { IfOk result (λ bytes. fetch_act (M.contents storage.now) self.now.orb self.now.role address ≡ Block address bytes) }
+        ensures refused { IfErr result (λ check. fetch_act (M.contents storage.now) self.now.orb self.now.role address ≡ Unfetched address check) }
         ensures inside { OnOk result (address < 2 ^ 31) }
     {
         if self.role.first && is_program_misplaced(self.orb, address) {
@@ -236,12 +236,13 @@ fn is_program_misplaced(orb: Orb, address: u32) -> bool
     address % BLOCK != 0 || !orb.format_one && address >= 1 << 24
 }
 
-fn fetch_block(storage: &Storage, key: u8, address: u32) -> Result<[u8; 8], StorageFault>
-    ensures fetched { result ≡ storage_fetched storage.now key address 8 }
+fn fetch_block<M: MainStorage>(storage: &M, key: u8, address: u32) -> Result<[u8; 8], StorageFault>
+    ensures fetched { result ≡ storage_fetched (M.contents storage.now) key address 8 }
     ensures inside { OnOk result (address < 2 ^ 31) }
 {
     let bytes = storage.fetch(key, address, 8)?;
-    prove!(address < storage.size());
+    let size = storage.size();
+    prove!(address < size);
     let mut block = [0; 8];
     block.copy_from_slice(bytes);
     Ok(block)
