@@ -13,7 +13,7 @@ use crate::transfer::{NextChunk, Transfer};
 use ccw_walk::Walk;
 use ccw_walk::check::Check;
 use ccw_walk::program::Advance;
-use storage_keys::Storage;
+use storage_keys::MainStorage;
 
 fn chains_data(transfer: &Transfer, count: u16) -> bool
     ensures { result ≡ data_chaining.chains_data transfer.now count }
@@ -46,8 +46,8 @@ fn chain_to(transfer: &mut Transfer, walk: Walk, advance: Option<Advance>)
 }
 
 /// The next block takes control, with its own data.
-fn chain(storage: &Storage, transfer: &mut Transfer)
-    ensures { transfer.new ≡ data_chaining.data_chained storage.now transfer.old }
+fn chain<M: MainStorage>(storage: &M, transfer: &mut Transfer)
+    ensures { transfer.new ≡ data_chaining.data_chained (M.contents storage.now) transfer.old }
 {
     let mut walk = transfer.walk;
     walk.used_up();
@@ -56,9 +56,9 @@ fn chain(storage: &Storage, transfer: &mut Transfer)
 }
 
 /// So many bytes of the chunk at hand were moved.
-fn move_on(storage: &Storage, transfer: &mut Transfer, count: u16)
+fn move_on<M: MainStorage>(storage: &M, transfer: &mut Transfer, count: u16)
     requires { count ≤ transfer.old.moving.left }
-    ensures { transfer.new ≡ data_chaining.after_bytes_moved storage.now transfer.old count }
+    ensures { transfer.new ≡ data_chaining.after_bytes_moved (M.contents storage.now) transfer.old count }
 {
     transfer.moving.moved(count);
     if chains_data(transfer, count) {
@@ -75,9 +75,9 @@ fn is_next(transfer: &Transfer, sequence: u64) -> bool
 }
 
 /// The device absorbed so many bytes of a chunk.
-pub fn absorb(storage: &Storage, transfer: &mut Transfer, sequence: u64, count: usize)
+pub fn absorb<M: MainStorage>(storage: &M, transfer: &mut Transfer, sequence: u64, count: usize)
     requires { transfer.old.sequence < 2 ^ 63 }
-    ensures { transfer.new ≡ to_device.chunk_absorbed storage.now transfer.old sequence count }
+    ensures { transfer.new ≡ to_device.chunk_absorbed (M.contents storage.now) transfer.old sequence count }
 {
     if is_next(transfer, sequence) {
         transfer.sequence = sequence;
@@ -88,9 +88,14 @@ pub fn absorb(storage: &Storage, transfer: &mut Transfer, sequence: u64, count: 
 }
 
 /// The transfer after the device absorbed so many bytes of a chunk.
-pub fn absorbed(storage: &Storage, transfer: &Transfer, sequence: u64, count: usize) -> Transfer
+pub fn absorbed<M: MainStorage>(
+    storage: &M,
+    transfer: &Transfer,
+    sequence: u64,
+    count: usize,
+) -> Transfer
     requires { transfer.now.sequence < 2 ^ 63 }
-    ensures { result ≡ to_device.chunk_absorbed storage.now transfer.now sequence count }
+    ensures { result ≡ to_device.chunk_absorbed (M.contents storage.now) transfer.now sequence count }
 {
     let mut next = *transfer;
     absorb(storage, &mut next, sequence, count);
@@ -113,8 +118,8 @@ fn give_fault<'a>(transfer: &mut Transfer, check: Check) -> ChunkSlice<'a>
     ChunkSlice::empty()
 }
 
-fn give_from<'a>(storage: &'a Storage, transfer: &mut Transfer) -> ChunkSlice<'a>
-    ensures { with_bytes transfer.new result ≡ to_device.chunk_at_place storage.now transfer.old }
+fn give_from<'a, M: MainStorage>(storage: &'a M, transfer: &mut Transfer) -> ChunkSlice<'a>
+    ensures { with_bytes transfer.new result ≡ to_device.chunk_at_place (M.contents storage.now) transfer.old }
 {
     if has_stopped(transfer) {
         return give_bytes(transfer, ChunkSlice::empty());
@@ -126,16 +131,16 @@ fn give_from<'a>(storage: &'a Storage, transfer: &mut Transfer) -> ChunkSlice<'a
 }
 
 /// The bytes of the next chunk as it is given to the device, as they lie in storage; the transfer takes note of them.
-pub fn give_next<'a>(storage: &'a Storage, transfer: &mut Transfer) -> ChunkSlice<'a>
-    ensures { with_bytes transfer.new result ≡ to_device.next_chunk storage.now transfer.old }
+pub fn give_next<'a, M: MainStorage>(storage: &'a M, transfer: &mut Transfer) -> ChunkSlice<'a>
+    ensures { with_bytes transfer.new result ≡ to_device.next_chunk (M.contents storage.now) transfer.old }
 {
     locate(storage, transfer);
     give_from(storage, transfer)
 }
 
 /// The next chunk as it is given to the device: its bytes as they lie in storage.
-pub fn next_given<'a>(storage: &'a Storage, transfer: &Transfer) -> NextChunk<'a>
-    ensures { result ≡ to_device.next_chunk storage.now transfer.now }
+pub fn next_given<'a, M: MainStorage>(storage: &'a M, transfer: &Transfer) -> NextChunk<'a>
+    ensures { result ≡ to_device.next_chunk (M.contents storage.now) transfer.now }
 {
     let mut next = *transfer;
     let bytes = give_next(storage, &mut next);
@@ -146,11 +151,12 @@ pub fn next_given<'a>(storage: &'a Storage, transfer: &Transfer) -> NextChunk<'a
 }
 
 /// Bytes that the device supplied are stored at the next places.
-fn bring_in(storage: &mut Storage, transfer: &mut Transfer, bytes: &[u8])
+fn bring_in<M: MainStorage>(storage: &mut M, transfer: &mut Transfer, bytes: &[u8])
     requires piece { length bytes.now ≤ transfer.old.moving.left }
     requires chunk { length bytes.now ≤ 256 }
-    ensures transfer { transfer.new ≡ (from_device.bytes_brought_in storage.old transfer.old bytes.now).transfer }
-    ensures storage { storage.new ≡ (from_device.bytes_brought_in storage.old transfer.old bytes.now).storage }
+    ensures transfer { transfer.new ≡ (from_device.bytes_brought_in (M.contents storage.old) transfer.old bytes.now).transfer }
+    ensures storage { M.contents storage.new ≡ (from_device.bytes_brought_in (M.contents storage.old) transfer.old bytes.now).storage }
+    ensures lender { M.lender storage.new ≡ M.lender storage.old }
 {
     if transfer.fault.is_some() {
         return;
@@ -163,10 +169,11 @@ fn bring_in(storage: &mut Storage, transfer: &mut Transfer, bytes: &[u8])
 }
 
 /// The device supplied a chunk: the bytes that there is room for are stored.
-pub fn bring(storage: &mut Storage, transfer: &mut Transfer, sequence: u64, bytes: &[u8])
+pub fn bring<M: MainStorage>(storage: &mut M, transfer: &mut Transfer, sequence: u64, bytes: &[u8])
     requires { transfer.old.sequence < 2 ^ 63 }
-    ensures transfer { transfer.new ≡ (from_device.chunk_stored storage.old transfer.old sequence bytes.now).transfer }
-    ensures storage { storage.new ≡ (from_device.chunk_stored storage.old transfer.old sequence bytes.now).storage }
+    ensures transfer { transfer.new ≡ (from_device.chunk_stored (M.contents storage.old) transfer.old sequence bytes.now).transfer }
+    ensures storage { M.contents storage.new ≡ (from_device.chunk_stored (M.contents storage.old) transfer.old sequence bytes.now).storage }
+    ensures lender { M.lender storage.new ≡ M.lender storage.old }
 {
     if is_next(transfer, sequence) {
         transfer.sequence = sequence;
@@ -176,10 +183,16 @@ pub fn bring(storage: &mut Storage, transfer: &mut Transfer, sequence: u64, byte
 }
 
 /// The transfer after a chunk that the device supplied. The bytes that there is room for are stored.
-pub fn brought(storage: &mut Storage, transfer: &Transfer, sequence: u64, bytes: &[u8]) -> Transfer
+pub fn brought<M: MainStorage>(
+    storage: &mut M,
+    transfer: &Transfer,
+    sequence: u64,
+    bytes: &[u8],
+) -> Transfer
     requires { transfer.now.sequence < 2 ^ 63 }
-    ensures transfer { result ≡ (from_device.chunk_stored storage.old transfer.now sequence bytes.now).transfer }
-    ensures storage { storage.new ≡ (from_device.chunk_stored storage.old transfer.now sequence bytes.now).storage }
+    ensures transfer { result ≡ (from_device.chunk_stored (M.contents storage.old) transfer.now sequence bytes.now).transfer }
+    ensures storage { M.contents storage.new ≡ (from_device.chunk_stored (M.contents storage.old) transfer.now sequence bytes.now).storage }
+    ensures lender { M.lender storage.new ≡ M.lender storage.old }
 {
     let mut next = *transfer;
     bring(storage, &mut next, sequence, bytes);

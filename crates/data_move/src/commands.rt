@@ -12,7 +12,7 @@ use ccw_walk::Walk;
 use ccw_walk::check::Check;
 use ccw_walk::program::{Advance, Ended};
 use idaw::ListKind;
-use storage_keys::Storage;
+use storage_keys::MainStorage;
 
 /// Whether a command moves bytes to the device.
 pub fn is_outward(code: u8) -> bool
@@ -63,8 +63,8 @@ fn begins(walk: Walk, command: u64, advance: Option<Advance>) -> CommandStart
     }
 }
 
-fn goes_to(storage: &Storage, command: u64, walk: Walk) -> Beginning
-    ensures { result ≡ spec.goes_to storage.now command walk }
+fn goes_to<M: MainStorage>(storage: &M, command: u64, walk: Walk) -> Beginning
+    ensures { result ≡ spec.goes_to (M.contents storage.now) command walk }
 {
     let mut walk = walk;
     let advance = walk.advance(storage);
@@ -75,16 +75,16 @@ fn goes_to(storage: &Storage, command: u64, walk: Walk) -> Beginning
 }
 
 /// The first command of a program from where it stands: at its beginning, or where it was suspended.
-pub fn first_command(storage: &Storage, walk: Walk) -> Beginning
-    ensures { result ≡ spec.first_command storage.now walk }
+pub fn first_command<M: MainStorage>(storage: &M, walk: Walk) -> Beginning
+    ensures { result ≡ spec.first_command (M.contents storage.now) walk }
 {
     goes_to(storage, 1, walk)
 }
 
 /// The command that is chained to one that ended, with status modifier or without.
-pub fn next_command(storage: &Storage, transfer: &Transfer, modifier: bool) -> Beginning
+pub fn next_command<M: MainStorage>(storage: &M, transfer: &Transfer, modifier: bool) -> Beginning
     requires { transfer.now.command < 2 ^ 63 }
-    ensures { result ≡ spec.next_command storage.now transfer.now modifier }
+    ensures { result ≡ spec.next_command (M.contents storage.now) transfer.now modifier }
 {
     let mut walk = transfer.walk;
     walk.device_end(Ended {
@@ -95,8 +95,8 @@ pub fn next_command(storage: &Storage, transfer: &Transfer, modifier: bool) -> B
 }
 
 /// The next word of an indirect list is fetched where it is needed.
-pub(crate) fn locate(storage: &Storage, transfer: &mut Transfer)
-    ensures { transfer.new ≡ spec.located_transfer storage.now transfer.old }
+pub(crate) fn locate<M: MainStorage>(storage: &M, transfer: &mut Transfer)
+    ensures { transfer.new ≡ spec.located_transfer (M.contents storage.now) transfer.old }
 {
     if transfer.fault.is_some() {
         return;
@@ -124,16 +124,16 @@ fn room_of(transfer: &Transfer) -> u16
 }
 
 /// The room for the next chunk of a transfer, which finds the place for it.
-pub fn find_room(storage: &Storage, transfer: &mut Transfer) -> u16
-    ensures { record { transfer = transfer.new; room = result } ≡ spec.with_room storage.now transfer.old }
+pub fn find_room<M: MainStorage>(storage: &M, transfer: &mut Transfer) -> u16
+    ensures { record { transfer = transfer.new; room = result } ≡ spec.with_room (M.contents storage.now) transfer.old }
 {
     locate(storage, transfer);
     room_of(transfer)
 }
 
 /// A transfer with the room for its next chunk.
-pub fn with_room(storage: &Storage, transfer: &Transfer) -> WithRoom
-    ensures { result ≡ spec.with_room storage.now transfer.now }
+pub fn with_room<M: MainStorage>(storage: &M, transfer: &Transfer) -> WithRoom
+    ensures { result ≡ spec.with_room (M.contents storage.now) transfer.now }
 {
     let mut next = *transfer;
     let room = find_room(storage, &mut next);
@@ -150,8 +150,8 @@ fn brings(class: Class) -> bool
 }
 
 /// The room that the device of a command is told of, which is begun.
-pub fn room_to_tell(storage: &Storage, transfer: &mut Transfer) -> u16
-    ensures { record { transfer = transfer.new; room = result } ≡ spec.begun_with_room storage.now transfer.old }
+pub fn room_to_tell<M: MainStorage>(storage: &M, transfer: &mut Transfer) -> u16
+    ensures { record { transfer = transfer.new; room = result } ≡ spec.begun_with_room (M.contents storage.now) transfer.old }
 {
     if brings(class(transfer.code)) {
         find_room(storage, transfer)
@@ -161,8 +161,8 @@ pub fn room_to_tell(storage: &Storage, transfer: &mut Transfer) -> u16
 }
 
 /// A command that is begun, with the room that its device is told of.
-pub fn begun_with_room(storage: &Storage, transfer: &Transfer) -> WithRoom
-    ensures { result ≡ spec.begun_with_room storage.now transfer.now }
+pub fn begun_with_room<M: MainStorage>(storage: &M, transfer: &Transfer) -> WithRoom
+    ensures { result ≡ spec.begun_with_room (M.contents storage.now) transfer.now }
 {
     let mut next = *transfer;
     let room = room_to_tell(storage, &mut next);

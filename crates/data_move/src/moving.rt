@@ -14,7 +14,7 @@ use ccw_walk::check::Check;
 use chan_model::chunk::CHUNK_BYTES;
 use idaw::{ListKind, WordFault, piece};
 use std::marker::Model;
-use storage_keys::{MainStorage, Storage};
+use storage_keys::MainStorage;
 use storage_keys::law::{fetched_bytes, put_bytes};
 
 /// How far the data of a command word that took control is moved.
@@ -148,12 +148,12 @@ impl Move {
     ///
     /// Program check where the list is off its boundary, a byte of the word is not in storage, or the
     /// word has a fault; protection check where the key does not permit the fetch.
-    pub fn locate(&mut self, storage: &Storage, key: u8) -> Result<(), Check>
-        ensures located { OnOk result (access.located storage.now key self.old ≡ Ok self.new) }
-        ensures refused { IfErr result (λ check. access.located storage.now key self.old ≡ Err check) }
+    pub fn locate<M: MainStorage>(&mut self, storage: &M, key: u8) -> Result<(), Check>
+        ensures located { OnOk result (access.located (M.contents storage.now) key self.old ≡ Ok self.new) }
+        ensures refused { IfErr result (λ check. access.located (M.contents storage.now) key self.old ≡ Err check) }
         ensures kept { OnErr result (self.new ≡ self.old) }
         ensures ready { OnOk result ((0 < self.new.left) ⊎ (self.new.done ≡ self.new.ccw.count)) }
-        ensures goes_on { OnOk result ((r : Reach) → IsAt r self.old → IsAt (access.reach_located storage.now key self.old r) self.new) }
+        ensures goes_on { OnOk result ((r : Reach) → IsAt r self.old → IsAt (access.reach_located (M.contents storage.now) key self.old r) self.new) }
     {
         if !self.needs_word() {
             return Ok(());
@@ -169,12 +169,16 @@ impl Move {
     ///
     /// Program check where a byte is not in storage, otherwise protection check where the key does not
     /// permit the fetch of each of them.
-    pub fn copied<'a>(&self, storage: &'a Storage, key: u8) -> Result<ChunkSlice<'a>, Check>
-        ensures copied { IfOk result (λ chunk. access.copied storage.now key self.now ≡ Ok chunk) }
-        ensures refused { IfErr result (λ check. access.copied storage.now key self.now ≡ Err check) }
+    pub fn copied<'a, M: MainStorage>(
+        &self,
+        storage: &'a M,
+        key: u8,
+    ) -> Result<ChunkSlice<'a>, Check>
+        ensures copied { IfOk result (λ chunk. access.copied (M.contents storage.now) key self.now ≡ Ok chunk) }
+        ensures refused { IfErr result (λ check. access.copied (M.contents storage.now) key self.now ≡ Err check) }
         ensures whole { IfOk result (λ chunk. self.now.skipped ≡ false → length chunk ≡ spec.room self.now) }
         // They are the bytes at the next places of the formula.
-        ensures places { IfOk result (λ chunk. (r : Reach) → IsAt r self.now → chunk ≡ access.bytes_at storage.now.bytes (places_from (block self.now.kind) r self.now.done (spec.room self.now))) }
+        ensures places { IfOk result (λ chunk. (r : Reach) → IsAt r self.now → chunk ≡ access.bytes_at (M.contents storage.now).bytes (places_from (block self.now.kind) r self.now.done (spec.room self.now))) }
     {
         if self.skipped {
             return Ok(ChunkSlice::empty());
@@ -190,14 +194,20 @@ impl Move {
     ///
     /// Program check where a place is not in storage, otherwise protection check where the key does not
     /// permit the store of each byte. Nothing is then stored.
-    pub fn stored(&self, storage: &mut Storage, key: u8, bytes: &[u8]) -> Result<(), Check>
+    pub fn stored<M: MainStorage>(
+        &self,
+        storage: &mut M,
+        key: u8,
+        bytes: &[u8],
+    ) -> Result<(), Check>
         requires { length bytes.now ≤ self.now.left }
-        ensures stored { OnOk result (access.stored_or_skipped storage.old key self.now bytes.now ≡ Ok storage.new) }
-        ensures refused { IfErr result (λ check. access.stored_or_skipped storage.old key self.now bytes.now ≡ Err check) }
-        ensures kept { OnErr result (storage.new ≡ storage.old) }
+        ensures stored { OnOk result (access.stored_or_skipped (M.contents storage.old) key self.now bytes.now ≡ Ok (M.contents storage.new)) }
+        ensures refused { IfErr result (λ check. access.stored_or_skipped (M.contents storage.old) key self.now bytes.now ≡ Err check) }
+        ensures kept { OnErr result (M.contents storage.new ≡ M.contents storage.old) }
         // Each byte stands at its place of the formula, and no other byte is changed.
-        ensures placed { OnOk result ((r : Reach) → IsAt r self.now → (i place : ℕ) → i < length bytes.now → place_of_byte (block self.now.kind) r (self.now.done + i) ≡ Some place → slice_index storage.new.bytes place ≡ slice_index bytes.now i) }
-        ensures others { OnOk result ((r : Reach) → IsAt r self.now → (place : ℕ) → ((i : ℕ) → i < length bytes.now → place_of_byte (block self.now.kind) r (self.now.done + i) ≢ Some place) → slice_index storage.new.bytes place ≡ slice_index storage.old.bytes place) }
+        ensures placed { OnOk result ((r : Reach) → IsAt r self.now → (i place : ℕ) → i < length bytes.now → place_of_byte (block self.now.kind) r (self.now.done + i) ≡ Some place → slice_index (M.contents storage.new).bytes place ≡ slice_index bytes.now i) }
+        ensures others { OnOk result ((r : Reach) → IsAt r self.now → (place : ℕ) → ((i : ℕ) → i < length bytes.now → place_of_byte (block self.now.kind) r (self.now.done + i) ≢ Some place) → slice_index (M.contents storage.new).bytes place ≡ slice_index (M.contents storage.old).bytes place) }
+        ensures lender { M.lender storage.new ≡ M.lender storage.old }
     {
         if self.skipped {
             return Ok(());
@@ -221,8 +231,8 @@ impl Move {
     }
 
     /// The next word of the list as storage has it.
-    fn fetch_word(&self, storage: &Storage, key: u8) -> Result<u64, Check>
-        ensures { result ≡ access.word_fetched storage.now key self.now }
+    fn fetch_word<M: MainStorage>(&self, storage: &M, key: u8) -> Result<u64, Check>
+        ensures { result ≡ access.word_fetched (M.contents storage.now) key self.now }
     {
         let width = self.kind.width();
         if self.ccw.address % width != 0 {
