@@ -34,7 +34,7 @@ use scsw_irb::bits::{
 };
 use scsw_irb::words::ScswWords;
 use status::make_pending;
-use storage_keys::Storage;
+use storage_keys::MainStorage;
 use subchannel_model::cause::StatusCause;
 use subchannel_model::state::{ActiveProgram, Program, ProgramPosition};
 
@@ -153,9 +153,9 @@ fn take_over(state: &mut PackedState, program: Program, transfer: Transfer)
 }
 
 /// The room for the first bytes of a program's first command is found, and its device is told of both.
-fn tell_first(storage: &Storage, begun: &mut ActiveProgram, number: u64) -> PlainDown
-    ensures begun { begun.new ≡ record begun.old { transfer = (transfer_spec.begun_with_room storage.now begun.old.transfer).transfer } }
-    ensures signal { plain_down result ≡ down.Command number begun.new.transfer.command begun.new.transfer.code (transfer_spec.begun_with_room storage.now begun.old.transfer).room }
+fn tell_first<M: MainStorage>(storage: &M, begun: &mut ActiveProgram, number: u64) -> PlainDown
+    ensures begun { begun.new ≡ record begun.old { transfer = (transfer_spec.begun_with_room (M.contents storage.now) begun.old.transfer).transfer } }
+    ensures signal { plain_down result ≡ down.Command number begun.new.transfer.command begun.new.transfer.code (transfer_spec.begun_with_room (M.contents storage.now) begun.old.transfer).room }
 {
     let room = room_to_tell(storage, &mut begun.transfer);
     PlainDown::of(Down::Command {
@@ -167,8 +167,8 @@ fn tell_first(storage: &Storage, begun: &mut ActiveProgram, number: u64) -> Plai
 }
 
 /// The program takes the device with its first command, of which the device is told.
-fn send_first(
-    storage: &Storage,
+fn send_first<M: MainStorage>(
+    storage: &M,
     state: &mut PackedState,
     offer: AcceptedOffer,
     program: Program,
@@ -176,7 +176,7 @@ fn send_first(
     sent: &mut SentDown,
 ) -> Met
     requires { state.old.state.serials.made < 2 ^ 63 }
-    ensures step { subchannel_stepped state.new.state (outcome_with result sent.new) ≡ on_accept.sends_first_command state.old.state offer.path offer.number program (transfer_spec.begun_with_room storage.now first) }
+    ensures step { subchannel_stepped state.new.state (outcome_with result sent.new) ≡ on_accept.sends_first_command state.old.state offer.path offer.number program (transfer_spec.begun_with_room (M.contents storage.now) first) }
     ensures setup { state.new.setup ≡ state.old.setup }
 {
     take_over(state, program, first);
@@ -231,8 +231,8 @@ fn check_first(
 }
 
 /// The program begins by what its first block came to.
-fn begin_as(
-    storage: &Storage,
+fn begin_as<M: MainStorage>(
+    storage: &M,
     state: &mut PackedState,
     offer: AcceptedOffer,
     standing: &ProgramPosition,
@@ -241,7 +241,7 @@ fn begin_as(
 ) -> Met
     requires { state.old.state.serials.made < 2 ^ 63 }
     ensures step { subchannel_stepped state.new.state (outcome_with result sent.new) ≡
-        on_accept.first_ccw_outcome storage.now state.old.state offer.path offer.number standing.now first.walk
+        on_accept.first_ccw_outcome (M.contents storage.now) state.old.state offer.path offer.number standing.now first.walk
         (transfer_spec.command_begins first.walk 1 first.advance) }
     ensures setup { state.new.setup ≡ state.old.setup }
 {
@@ -259,15 +259,15 @@ fn begin_as(
     }
 }
 
-fn begin_with(
-    storage: &Storage,
+fn begin_with<M: MainStorage>(
+    storage: &M,
     state: &mut PackedState,
     offer: AcceptedOffer,
     standing: &ProgramPosition,
     sent: &mut SentDown,
 ) -> Met
     requires { state.old.state.serials.made < 2 ^ 63 }
-    ensures step { subchannel_stepped state.new.state (outcome_with result sent.new) ≡ on_accept.begins_with storage.now state.old.state offer.path offer.number standing.now (transfer_spec.first_command storage.now standing.now.walk) }
+    ensures step { subchannel_stepped state.new.state (outcome_with result sent.new) ≡ on_accept.begins_with (M.contents storage.now) state.old.state offer.path offer.number standing.now (transfer_spec.first_command (M.contents storage.now) standing.now.walk) }
     ensures setup { state.new.setup ≡ state.old.setup }
 {
     let mut walk = standing.walk;
@@ -276,14 +276,14 @@ fn begin_with(
     begin_as(storage, state, offer, standing, first, sent)
 }
 
-fn begin_standing(
-    storage: &Storage,
+fn begin_standing<M: MainStorage>(
+    storage: &M,
     state: &mut PackedState,
     offer: AcceptedOffer,
     sent: &mut SentDown,
 ) -> Met
     requires { state.old.state.serials.made < 2 ^ 63 }
-    ensures step { subchannel_stepped state.new.state (outcome_with result sent.new) ≡ on_accept.begins_at storage.now state.old.state offer.path offer.number (on_accept.offered_position state.old.state) }
+    ensures step { subchannel_stepped state.new.state (outcome_with result sent.new) ≡ on_accept.begins_at (M.contents storage.now) state.old.state offer.path offer.number (on_accept.offered_position state.old.state) }
     ensures setup { state.new.setup ≡ state.old.setup }
 {
     match standing(state) {
@@ -303,9 +303,14 @@ fn do_halt(state: &mut PackedState)
 }
 
 /// What comes of an Accept that the hold took as `sent` says.
-fn accepted_by(storage: &Storage, state: &mut PackedState, met: Met, sent: &mut SentDown) -> Met
+fn accepted_by<M: MainStorage>(
+    storage: &M,
+    state: &mut PackedState,
+    met: Met,
+    sent: &mut SentDown,
+) -> Met
     requires { state.old.state.serials.made < 2 ^ 63 }
-    ensures step { subchannel_stepped state.new.state (outcome_with result sent.new) ≡ on_accept.accepted_in_phase storage.now state.old.state state.old.state.hold.phase (outcome_with met sent.old) }
+    ensures step { subchannel_stepped state.new.state (outcome_with result sent.new) ≡ on_accept.accepted_in_phase (M.contents storage.now) state.old.state state.old.state.hold.phase (outcome_with met sent.old) }
     ensures setup { state.new.setup ≡ state.old.setup }
 {
     let phase = state.rest().hold.phase;
@@ -324,15 +329,15 @@ fn accepted_by(storage: &Storage, state: &mut PackedState, met: Met, sent: &mut 
 }
 
 /// Accept: the program that was offered takes the device.
-pub fn accept(
-    storage: &Storage,
+pub fn accept<M: MainStorage>(
+    storage: &M,
     state: &mut PackedState,
     path: Path,
     signal: &LentUp<'_>,
     sent: &mut SentDown,
 ) -> Met
     requires { state.old.state.serials.made < 2 ^ 63 }
-    ensures step { subchannel_stepped state.new.state (outcome_with result sent.new) ≡ on_accept.takes_accept storage.now state.old.state (hold_takes state.old.state.hold path (lent_up signal.now) (on_accept.takes_device state.old.state)) }
+    ensures step { subchannel_stepped state.new.state (outcome_with result sent.new) ≡ on_accept.takes_accept (M.contents storage.now) state.old.state (hold_takes state.old.state.hold path (lent_up signal.now) (on_accept.takes_device state.old.state)) }
     ensures setup { state.new.setup ≡ state.old.setup }
 {
     let mut hold = Hold::of(state.rest().hold);

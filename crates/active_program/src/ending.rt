@@ -33,7 +33,7 @@ use functions::PackedState;
 use hold::Hold;
 use status::ends::{chains_command, is_last_end};
 use status::{make_end_pending, make_pending};
-use storage_keys::Storage;
+use storage_keys::MainStorage;
 use subchannel_model::cause::StatusCause;
 use subchannel_model::signals::EndSignal;
 use subchannel_model::state::{ActiveProgram, Program};
@@ -157,11 +157,16 @@ fn check_at(
     let_go(state, sent)
 }
 
-fn chain(storage: &Storage, state: &mut PackedState, end: &EndSignal, sent: &mut SentDown) -> Met
+fn chain<M: MainStorage>(
+    storage: &M,
+    state: &mut PackedState,
+    end: &EndSignal,
+    sent: &mut SentDown,
+) -> Met
     requires made { state.old.state.serials.made < 2 ^ 63 }
     requires below { command_spec.AreNumbersBelow state.old.state.begun }
     ensures step { IfSome state.old.state.begun (λ b. subchannel_stepped state.new.state (outcome_with result sent.new) ≡
-        on_end.chains_with storage.now state.old.state (on_end.with_first_end b) end.now (transfer_spec.next_command storage.now b.transfer (end_spec.has_status_modifier end.now.status))) }
+        on_end.chains_with (M.contents storage.now) state.old.state (on_end.with_first_end b) end.now (transfer_spec.next_command (M.contents storage.now) b.transfer (end_spec.has_status_modifier end.now.status))) }
     ensures setup { state.new.setup ≡ state.old.setup }
 {
     let Some(begun) = &state.rest().begun else {
@@ -186,11 +191,16 @@ fn note_end(begun: &mut ActiveProgram)
     begun.transfer.ended = true;
 }
 
-fn go_on(storage: &Storage, state: &mut PackedState, end: &EndSignal, sent: &mut SentDown) -> Met
+fn go_on<M: MainStorage>(
+    storage: &M,
+    state: &mut PackedState,
+    end: &EndSignal,
+    sent: &mut SentDown,
+) -> Met
     requires made { state.old.state.serials.made < 2 ^ 63 }
     requires below { command_spec.AreNumbersBelow state.old.state.begun }
     ensures step { IfSome state.old.state.begun (λ b. subchannel_stepped state.new.state (outcome_with result sent.new) ≡
-        on_end.chains_at_device_end storage.now state.old.state (on_end.with_first_end b) end.now) }
+        on_end.chains_at_device_end (M.contents storage.now) state.old.state (on_end.with_first_end b) end.now) }
     ensures setup { state.new.setup ≡ state.old.setup }
 {
     if end.status.has_device_end() {
@@ -237,15 +247,15 @@ fn chains_at(state: &PackedState, end: &EndSignal) -> bool
     }
 }
 
-fn command_ended(
-    storage: &Storage,
+fn command_ended<M: MainStorage>(
+    storage: &M,
     state: &mut PackedState,
     end: &EndSignal,
     sent: &mut SentDown,
 ) -> Met
     requires made { state.old.state.serials.made < 2 ^ 63 }
     requires below { command_spec.AreNumbersBelow state.old.state.begun }
-    ensures step { IfSome state.old.state.begun (λ b. subchannel_stepped state.new.state (outcome_with result sent.new) ≡ on_end.ends_command storage.now state.old.state b end.now) }
+    ensures step { IfSome state.old.state.begun (λ b. subchannel_stepped state.new.state (outcome_with result sent.new) ≡ on_end.ends_command (M.contents storage.now) state.old.state b end.now) }
     ensures setup { state.new.setup ≡ state.old.setup }
 {
     if chains_at(state, end) {
@@ -256,8 +266,8 @@ fn command_ended(
 }
 
 /// End: the command ended.
-pub fn end_command(
-    storage: &Storage,
+pub fn end_command<M: MainStorage>(
+    storage: &M,
     state: &mut PackedState,
     path: Path,
     signal: &LentUp<'_>,
@@ -265,7 +275,7 @@ pub fn end_command(
 ) -> Met
     requires made { state.old.state.serials.made < 2 ^ 63 }
     requires below { command_spec.AreNumbersBelow state.old.state.begun }
-    ensures step { subchannel_stepped state.new.state (outcome_with result sent.new) ≡ working_spec.end_taken_by storage.now state.old.state (working_spec.end_by path (lent_up signal.now)) }
+    ensures step { subchannel_stepped state.new.state (outcome_with result sent.new) ≡ working_spec.end_taken_by (M.contents storage.now) state.old.state (working_spec.end_by path (lent_up signal.now)) }
     ensures setup { state.new.setup ≡ state.old.setup }
 {
     let Some(end) = end_by(path, signal) else {

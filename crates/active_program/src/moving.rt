@@ -28,7 +28,7 @@ use data_move::commands::{find_room, is_outward};
 use data_move::transfer::Transfer;
 use functions::PackedState;
 use hold::Hold;
-use storage_keys::Storage;
+use storage_keys::MainStorage;
 use subchannel_model::signals::DataSignal;
 use subchannel_model::state::ActiveProgram;
 
@@ -85,8 +85,8 @@ pub(crate) fn move_on(state: &mut PackedState, transfer: Transfer)
 }
 
 /// The device absorbed so many bytes; the next ones are given.
-fn give(
-    storage: &Storage,
+fn give<M: MainStorage>(
+    storage: &M,
     begun: &mut ActiveProgram,
     moved: &DataSignal,
     count: usize,
@@ -94,8 +94,8 @@ fn give(
 )
     requires sequence { moved.now.sequence < 2 ^ 63 }
     requires below { begun.old.transfer.sequence < 2 ^ 63 }
-    ensures begun { begun.new ≡ record begun.old { transfer = (working_spec.given storage.now begun.old moved.now count).transfer } }
-    ensures sent { sent.new ≡ working_spec.give_of moved.now (working_spec.given storage.now begun.old moved.now count) }
+    ensures begun { begun.new ≡ record begun.old { transfer = (working_spec.given (M.contents storage.now) begun.old moved.now count).transfer } }
+    ensures sent { sent.new ≡ working_spec.give_of moved.now (working_spec.given (M.contents storage.now) begun.old moved.now count) }
 {
     absorb(storage, &mut begun.transfer, moved.sequence, count);
     let bytes = give_next(storage, &mut begun.transfer);
@@ -110,17 +110,18 @@ fn give(
 }
 
 /// The bytes that the device supplied are stored; it is told how many more may come.
-fn take_in(
-    storage: &mut Storage,
+fn take_in<M: MainStorage>(
+    storage: &mut M,
     begun: &mut ActiveProgram,
     moved: &DataSignal,
     bytes: &[u8],
     sent: &mut SentDown,
 )
     requires { begun.old.transfer.sequence < 2 ^ 63 }
-    ensures storage { storage.new ≡ (chunk_stored storage.old begun.old.transfer moved.now.sequence bytes.now).storage }
-    ensures begun { begun.new ≡ record begun.old { transfer = (working_spec.taken_in storage.old begun.old moved.now bytes.now).transfer } }
-    ensures sent { sent.new ≡ working_spec.took_of moved.now (working_spec.taken_in storage.old begun.old moved.now bytes.now) }
+    ensures storage { M.contents storage.new ≡ (chunk_stored (M.contents storage.old) begun.old.transfer moved.now.sequence bytes.now).storage }
+    ensures begun { begun.new ≡ record begun.old { transfer = (working_spec.taken_in (M.contents storage.old) begun.old moved.now bytes.now).transfer } }
+    ensures sent { sent.new ≡ working_spec.took_of moved.now (working_spec.taken_in (M.contents storage.old) begun.old moved.now bytes.now) }
+    ensures lender { M.lender storage.new ≡ M.lender storage.old }
 {
     bring(storage, &mut begun.transfer, moved.sequence, bytes);
     let room = find_room(storage, &mut begun.transfer);
@@ -164,8 +165,8 @@ fn goes_out(state: &PackedState) -> bool
     }
 }
 
-fn give_bytes(
-    storage: &Storage,
+fn give_bytes<M: MainStorage>(
+    storage: &M,
     state: &mut PackedState,
     moved: &DataSignal,
     count: usize,
@@ -175,7 +176,7 @@ fn give_bytes(
     requires sequence { moved.now.sequence < 2 ^ 63 }
     requires below { command_spec.AreNumbersBelow state.old.state.begun }
     ensures step { IfSome state.old.state.begun (λ b. subchannel_stepped state.new.state (outcome_with result sent.new) ≡
-        working_spec.give_next storage.now state.old.state b moved.now count) }
+        working_spec.give_next (M.contents storage.now) state.old.state b moved.now count) }
     ensures setup { state.new.setup ≡ state.old.setup }
 {
     if let Some(begun) = &mut state.rest_mut().begun {
@@ -185,8 +186,8 @@ fn give_bytes(
     Met::Taken
 }
 
-fn take_bytes(
-    storage: &mut Storage,
+fn take_bytes<M: MainStorage>(
+    storage: &mut M,
     state: &mut PackedState,
     moved: &DataSignal,
     bytes: &[u8],
@@ -194,9 +195,10 @@ fn take_bytes(
 ) -> Met
     requires made { state.old.state.serials.made < 2 ^ 63 }
     requires below { command_spec.AreNumbersBelow state.old.state.begun }
-    ensures step { IfSome state.old.state.begun (λ b. outcomes.with_storage storage.new (subchannel_stepped state.new.state (outcome_with result sent.new)) ≡
-        on_data.tells_room_after state.old.state b moved.now (chunk_stored storage.old b.transfer moved.now.sequence bytes.now)) }
+    ensures step { IfSome state.old.state.begun (λ b. outcomes.with_storage (M.contents storage.new) (subchannel_stepped state.new.state (outcome_with result sent.new)) ≡
+        on_data.tells_room_after state.old.state b moved.now (chunk_stored (M.contents storage.old) b.transfer moved.now.sequence bytes.now)) }
     ensures setup { state.new.setup ≡ state.old.setup }
+    ensures lender { M.lender storage.new ≡ M.lender storage.old }
 {
     if let Some(begun) = &mut state.rest_mut().begun {
         take_in(storage, begun, moved, bytes, sent);
@@ -205,8 +207,8 @@ fn take_bytes(
     Met::Taken
 }
 
-fn move_bytes(
-    storage: &mut Storage,
+fn move_bytes<M: MainStorage>(
+    storage: &mut M,
     state: &mut PackedState,
     moved: &DataSignal,
     signal: &LentUp<'_>,
@@ -215,9 +217,10 @@ fn move_bytes(
     requires made { state.old.state.serials.made < 2 ^ 63 }
     requires sequence { moved.now.sequence < 2 ^ 63 }
     requires below { command_spec.AreNumbersBelow state.old.state.begun }
-    ensures step { IfSome state.old.state.begun (λ b. outcomes.with_storage storage.new (subchannel_stepped state.new.state (outcome_with result sent.new)) ≡
-        on_data.moves_bytes storage.old state.old.state b moved.now (load_of (lent_up signal.now))) }
+    ensures step { IfSome state.old.state.begun (λ b. outcomes.with_storage (M.contents storage.new) (subchannel_stepped state.new.state (outcome_with result sent.new)) ≡
+        on_data.moves_bytes (M.contents storage.old) state.old.state b moved.now (load_of (lent_up signal.now))) }
     ensures setup { state.new.setup ≡ state.old.setup }
+    ensures lender { M.lender storage.new ≡ M.lender storage.old }
 {
     if goes_out(state) {
         give_bytes(storage, state, moved, count_of(signal), sent)
@@ -227,8 +230,8 @@ fn move_bytes(
 }
 
 /// Data: bytes were moved.
-pub fn take_data(
-    storage: &mut Storage,
+pub fn take_data<M: MainStorage>(
+    storage: &mut M,
     state: &mut PackedState,
     path: Path,
     signal: &LentUp<'_>,
@@ -236,8 +239,9 @@ pub fn take_data(
 ) -> Met
     requires made { state.old.state.serials.made < 2 ^ 63 }
     requires below { command_spec.AreNumbersBelow state.old.state.begun }
-    ensures step { outcomes.with_storage storage.new (subchannel_stepped state.new.state (outcome_with result sent.new)) ≡ working_spec.data_taken storage.old state.old.state (load_of (lent_up signal.now)) (working_spec.data_by path (lent_up signal.now)) }
+    ensures step { outcomes.with_storage (M.contents storage.new) (subchannel_stepped state.new.state (outcome_with result sent.new)) ≡ working_spec.data_taken (M.contents storage.old) state.old.state (load_of (lent_up signal.now)) (working_spec.data_by path (lent_up signal.now)) }
     ensures setup { state.new.setup ≡ state.old.setup }
+    ensures lender { M.lender storage.new ≡ M.lender storage.old }
 {
     let Some(moved) = data_by(path, signal) else {
         return ignored(sent);

@@ -44,8 +44,8 @@ met-so None storage step after outcome = tt
 met-so (Some b) storage step after outcome = ap (with_storage storage) outcome
 
 pub returns-then-goes_out-clause-step : goal.returns-then-goes_out-clause-step
-returns-then-goes_out-clause-step c =
-    let storage = c.args.storage.now in
+returns-then-goes_out-clause-step g c =
+    let storage = g.M.MainStorage.contents c.args.storage.now in
     let s = c.args.state.now.state in
     let moved = c.args.moved.now in
     let load : Load = load_of (lent_up c.args.signal.now) in
@@ -58,12 +58,12 @@ returns-then-goes_out-clause-step c =
     (met-so s.begun storage step (λ b. give_next storage s b moved (load_length load)) outcome)
 
 pub returns-else-goes_out-clause-step : goal.returns-else-goes_out-clause-step
-returns-else-goes_out-clause-step c =
-    let storage = c.args.storage.now in
+returns-else-goes_out-clause-step g c =
+    let storage = g.M.MainStorage.contents c.args.storage.now in
     let s = c.args.state.now.state in
     let moved = c.args.moved.now in
     let load : Load = load_of (lent_up c.args.signal.now) in
-    let met : SignalOutcome = with_storage c.take_bytes.new.storage (subchannel_stepped c.take_bytes.new.state.state (outcome_with c.take_bytes.result c.take_bytes.new.sent)) in
+    let met : SignalOutcome = with_storage (g.M.MainStorage.contents c.take_bytes.new.storage) (subchannel_stepped c.take_bytes.new.state.state (outcome_with c.take_bytes.result c.take_bytes.new.sent)) in
     second-way s.begun c.goes_out.result met
     (λ b. with_storage storage (give_next storage s b moved (load_length load)))
     (λ b. tells_room_after s b moved (chunk_stored storage b.transfer moved.sequence (load_bytes load)))
