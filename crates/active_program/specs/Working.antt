@@ -31,11 +31,15 @@ pub record Moved : Type 0 where
   pub begun : ActiveProgram
   pub signal : DataSignal
 
--- a Data by the connection at hand, that is to be answered
+-- a Data that is to be answered
+abbrev pub is_due : Option ActiveProgram → DataSignal → Bool
+is_due None signal = false
+is_due (Some b) signal = is_answered b.transfer signal.command signal.sequence
+
+-- one by the connection at hand
 abbrev pub moved_of : Option ActiveProgram → DataSignal → Option Moved
 moved_of None signal = None
-moved_of (Some b) signal =
-    if is_answered b.transfer signal.command signal.sequence then Some (record { begun = b; signal = signal }) else None
+moved_of (Some b) signal = if is_due (Some b) signal then Some (record { begun = b; signal = signal }) else None
 
 abbrev pub moved_at : SubchannelState → DataSignal → Option Moved
 moved_at s signal =
@@ -52,11 +56,7 @@ moved_when s (Some signal) = moved_at s signal
 abbrev pub moved_by : SubchannelState → ℕ → Up → Option Moved
 moved_by s p signal = moved_when s (data_by p signal)
 
--- whether it is to be answered, and what comes of the one that a signal is
-abbrev pub is_due : Option ActiveProgram → DataSignal → Bool
-is_due None signal = false
-is_due (Some b) signal = is_answered b.transfer signal.command signal.sequence
-
+-- what comes of the one that a signal is
 abbrev pub data_taken : Contents → SubchannelState → Load → Option DataSignal → SignalOutcome
 data_taken storage s load None = with_storage storage (signal_ignored s)
 data_taken storage s load (Some signal) = takes_data storage s signal load
@@ -99,10 +99,15 @@ pub record Ended : Type 0 where
   pub begun : ActiveProgram
   pub signal : EndSignal
 
--- an End of the command at hand of the program that is connected
+-- an End of the command at hand
+abbrev pub is_of_command : Option ActiveProgram → EndSignal → Bool
+is_of_command None signal = false
+is_of_command (Some b) signal = signal.command == b.transfer.command
+
+-- one of the program that is connected
 abbrev pub ended_of : Option ActiveProgram → EndSignal → Option Ended
 ended_of None signal = None
-ended_of (Some b) signal = if signal.command == b.transfer.command then Some (record { begun = b; signal = signal }) else None
+ended_of (Some b) signal = if is_of_command (Some b) signal then Some (record { begun = b; signal = signal }) else None
 
 abbrev pub ended_at : SubchannelState → EndSignal → Option Ended
 ended_at s signal = if is_on s.hold.phase signal.number then ended_of s.begun signal else None
@@ -118,11 +123,7 @@ ended_when s (Some signal) = ended_at s signal
 abbrev pub ended_by : SubchannelState → ℕ → Up → Option Ended
 ended_by s p signal = ended_when s (end_by p signal)
 
--- whether it is of the command at hand, and what comes of the one that a signal is
-abbrev pub is_of_command : Option ActiveProgram → EndSignal → Bool
-is_of_command None signal = false
-is_of_command (Some b) signal = signal.command == b.transfer.command
-
+-- what comes of the one that a signal is
 abbrev pub end_taken_by : Contents → SubchannelState → Option EndSignal → UpStep
 end_taken_by storage s None = signal_ignored s
 end_taken_by storage s (Some signal) = takes_end storage s signal

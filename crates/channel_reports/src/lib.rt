@@ -101,6 +101,13 @@ impl Reports {
         }
     }
 
+    /// How many reports wait, at most 16.
+    pub fn count(&self) -> usize
+        ensures { result ≡ length self.now.reports }
+    {
+        self.queue.len()
+    }
+
     /// STORE CHANNEL REPORT WORD: takes the oldest report. None, condition code 1, where none waits.
     pub fn stcrw(&mut self) -> Option<Crw>
         ensures oldest { result ≡ spec.oldest self.old }

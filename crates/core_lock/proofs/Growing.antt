@@ -92,21 +92,21 @@ module _ (d : Setup) (roam : Bool) (at : ℕ) where
   none_waiting : (old now : Option WaitingReport) → now ≡ None → IsWaitingFrom d roam at old now
   none_waiting old now is = subst (λ (o : Option WaitingReport). IsWaitingFrom d roam at old o) (sym is) tt
 
-  some_waiting : (old now : Option WaitingReport) (kept : WaitingReport) → old ≡ Some kept → now ≡ Some kept → IsWaitingFrom d roam at old now
-  some_waiting old now kept was is = subst (λ (o : Option WaitingReport). IsWaitingFrom d roam at old o) (sym is) (inr was)
+  some_waiting : (old now : Option WaitingReport) (waiting : WaitingReport) → old ≡ Some waiting → now ≡ Some waiting → IsWaitingFrom d roam at old now
+  some_waiting old now waiting was is = subst (λ (o : Option WaitingReport). IsWaitingFrom d roam at old o) (sym is) (inr was)
 
-  waiting_by : (kept : WaitingReport) (f : Fault) (now : Option WaitingReport) → now ≡ waits_after (report_event kept) f → IsWaitingFrom d roam at (Some kept) now
-  waiting_by kept fault.NoMemory now is = some_waiting (Some kept) now kept refl is
-  waiting_by kept fault.WireFull now is = some_waiting (Some kept) now kept refl is
-  waiting_by kept fault.NotSent now is = none_waiting (Some kept) now is
-  waiting_by kept fault.NoSuchSubchannel now is = none_waiting (Some kept) now is
-  waiting_by kept fault.NoSuchPath now is = none_waiting (Some kept) now is
-  waiting_by kept fault.NoSuchUnit now is = none_waiting (Some kept) now is
-  waiting_by kept fault.NotNow now is = none_waiting (Some kept) now is
-  waiting_by kept (fault.ConfigBad rule) now is = none_waiting (Some kept) now is
-  waiting_by kept (fault.ScriptBad line rule) now is = none_waiting (Some kept) now is
-  waiting_by kept (fault.Storage kind) now is = none_waiting (Some kept) now is
-  waiting_by kept fault.Operand now is = none_waiting (Some kept) now is
+  waiting_by : (waiting : WaitingReport) (f : Fault) (now : Option WaitingReport) → now ≡ waits_after (report_event waiting) f → IsWaitingFrom d roam at (Some waiting) now
+  waiting_by waiting fault.NoMemory now is = some_waiting (Some waiting) now waiting refl is
+  waiting_by waiting fault.WireFull now is = some_waiting (Some waiting) now waiting refl is
+  waiting_by waiting fault.NotSent now is = none_waiting (Some waiting) now is
+  waiting_by waiting fault.NoSuchSubchannel now is = none_waiting (Some waiting) now is
+  waiting_by waiting fault.NoSuchPath now is = none_waiting (Some waiting) now is
+  waiting_by waiting fault.NoSuchUnit now is = none_waiting (Some waiting) now is
+  waiting_by waiting fault.NotNow now is = none_waiting (Some waiting) now is
+  waiting_by waiting (fault.ConfigBad rule) now is = none_waiting (Some waiting) now is
+  waiting_by waiting (fault.ScriptBad line rule) now is = none_waiting (Some waiting) now is
+  waiting_by waiting (fault.Storage kind) now is = none_waiting (Some waiting) now is
+  waiting_by waiting fault.Operand now is = none_waiting (Some waiting) now is
 
   kept_on : (a b c : Option WaitingReport) → IsWaitingFrom d roam at a b → IsWaitingFrom d roam at b c → IsWaitingFrom d roam at a c
   kept_on a b None p q = tt
@@ -115,15 +115,15 @@ module _ (d : Setup) (roam : Bool) (at : ℕ) where
 
   of_worker : (a b : Option WaitingReport) (e : Event) → IsWaitingFrom d roam at a b → IsOfWorker d roam at b e → IsOfWorker d roam at a e
   of_worker a b e p (inl is) = inl is
-  of_worker a b e p (inr (kept, from, is)) = inr (kept, kept_on a b (Some kept) p from, is)
+  of_worker a b e p (inr (waiting, from, is)) = inr (waiting, kept_on a b (Some waiting) p from, is)
 
-takes_turn : (picks : Rule) (old : GuardedCore) (seat : HeldSeat) (roam : Bool) (at : ℕ) (t : Turn) (result : Result Bool Fault) (new : Guarded) (after : Seated) → MayTurn seat.value.setup roam at t → seat.value.kept ≡ None → TakesTurn picks old seat t result new after → WorksUnit roam at seat.value after (count_in result)
+takes_turn : (picks : Rule) (old : GuardedCore) (seat : HeldSeat) (roam : Bool) (at : ℕ) (t : Turn) (result : Result Bool Fault) (new : Guarded) (after : Seated) → MayTurn seat.value.setup roam at t → seat.value.waiting ≡ None → TakesTurn picks old seat t result new after → WorksUnit roam at seat.value after (count_in result)
 takes_turn picks old seat roam at (Enters e) result new after may none t = record {
   number = tries_same (λ (s : Seated). s.number) (λ s x r. refl) picks old seat seat.value e result new after refl t;
   setup = tries_same (λ (s : Seated). s.setup) (λ s x r. refl) picks old seat seat.value e result new after refl t;
   directory = tries_same (λ (s : Seated). s.directory) (λ s x r. refl) picks old seat seat.value e result new after refl t;
-  kept = none_waiting seat.value.setup roam at seat.value.kept after.kept (tries_same (λ (s : Seated). s.kept) (λ s x r. refl) picks old seat seat.value e result new after refl t ∙ none);
-  log = tries_grows (IsOfWorker seat.value.setup roam at seat.value.kept) picks old seat seat.value e result new after refl (inl (Enters e, may, refl)) t;
+  waiting = none_waiting seat.value.setup roam at seat.value.waiting after.waiting (tries_same (λ (s : Seated). s.waiting) (λ s x r. refl) picks old seat seat.value e result new after refl t ∙ none);
+  log = tries_grows (IsOfWorker seat.value.setup roam at seat.value.waiting) picks old seat seat.value e result new after refl (inl (Enters e, may, refl)) t;
 }
 takes_turn picks old seat roam at (Leaves command) result new after may none t =
     let last = with_left seat.value (Some command) in
@@ -132,22 +132,22 @@ takes_turn picks old seat roam at (Leaves command) result new after may none t =
       number = tries_same (λ (s : Seated). s.number) (λ s x r. refl) picks old seat last e result new after refl t;
       setup = tries_same (λ (s : Seated). s.setup) (λ s x r. refl) picks old seat last e result new after refl t;
       directory = tries_same (λ (s : Seated). s.directory) (λ s x r. refl) picks old seat last e result new after refl t;
-      kept = none_waiting seat.value.setup roam at seat.value.kept after.kept (tries_same (λ (s : Seated). s.kept) (λ s x r. refl) picks old seat last e result new after refl t ∙ none);
-      log = tries_grows (IsOfWorker seat.value.setup roam at seat.value.kept) picks old seat last e result new after refl (inl (Leaves command, may, refl)) t;
+      waiting = none_waiting seat.value.setup roam at seat.value.waiting after.waiting (tries_same (λ (s : Seated). s.waiting) (λ s x r. refl) picks old seat last e result new after refl t ∙ none);
+      log = tries_grows (IsOfWorker seat.value.setup roam at seat.value.waiting) picks old seat last e result new after refl (inl (Leaves command, may, refl)) t;
     }
 takes_turn picks old seat roam at (Owes owed) result new after may none t = record {
   number = ap (λ (s : Seated). s.number) t.2;
   setup = ap (λ (s : Seated). s.setup) t.2;
   directory = ap (λ (s : Seated). s.directory) t.2;
-  kept = none_waiting seat.value.setup roam at seat.value.kept after.kept (ap (λ (s : Seated). s.kept) t.2 ∙ none);
-  log = passes_grows (IsOfWorker seat.value.setup roam at seat.value.kept) old (with_owed seat.value (Some owed)) result new after t;
+  waiting = none_waiting seat.value.setup roam at seat.value.waiting after.waiting (ap (λ (s : Seated). s.waiting) t.2 ∙ none);
+  log = passes_grows (IsOfWorker seat.value.setup roam at seat.value.waiting) old (with_owed seat.value (Some owed)) result new after t;
 }
 takes_turn picks old seat roam at Rests result new after may none t = record {
   number = ap (λ (s : Seated). s.number) t.2;
   setup = ap (λ (s : Seated). s.setup) t.2;
   directory = ap (λ (s : Seated). s.directory) t.2;
-  kept = none_waiting seat.value.setup roam at seat.value.kept after.kept (ap (λ (s : Seated). s.kept) t.2 ∙ none);
-  log = passes_grows (IsOfWorker seat.value.setup roam at seat.value.kept) old seat.value result new after t;
+  waiting = none_waiting seat.value.setup roam at seat.value.waiting after.waiting (ap (λ (s : Seated). s.waiting) t.2 ∙ none);
+  log = passes_grows (IsOfWorker seat.value.setup roam at seat.value.waiting) old seat.value result new after t;
 }
 
 -- what is handed in
@@ -156,51 +156,51 @@ pub record Handed (roam : Bool) (at : ℕ) (report : WaitingReport) (seat after 
   pub setup : after.setup ≡ seat.setup
   pub directory : after.directory ≡ seat.directory
   pub owed : after.owed ≡ seat.owed
-  pub kept : IsWaitingFrom seat.setup roam at (Some report) after.kept
+  pub waiting : IsWaitingFrom seat.setup roam at (Some report) after.waiting
   pub log : Grew (IsOfWorker seat.setup roam at (Some report)) seat.log after.log count
 
-handed : (picks : Rule) (old : GuardedCore) (seat : HeldSeat) (roam : Bool) (at : ℕ) (kept : WaitingReport) (result : Result Bool Fault) (new : Guarded) (after : Seated) → seat.value.kept ≡ None → EntersReport picks old seat kept result new after → Handed roam at kept seat.value after (count_in result)
-handed picks old seat roam at kept (Ok true) new after none (r, enters) = record {
+handed : (picks : Rule) (old : GuardedCore) (seat : HeldSeat) (roam : Bool) (at : ℕ) (waiting : WaitingReport) (result : Result Bool Fault) (new : Guarded) (after : Seated) → seat.value.waiting ≡ None → EntersReport picks old seat waiting result new after → Handed roam at waiting seat.value after (count_in result)
+handed picks old seat roam at waiting (Ok true) new after none (r, enters) = record {
   number = ap (λ (s : Seated). s.number) enters.0.3;
   setup = ap (λ (s : Seated). s.setup) enters.0.3;
   directory = ap (λ (s : Seated). s.directory) enters.0.3;
   owed = ap (λ (s : Seated). s.owed) enters.0.3;
-  kept = none_waiting seat.value.setup roam at (Some kept) after.kept (ap (λ (s : Seated). s.kept) enters.0.3 ∙ none);
-  log = grew_one (IsOfWorker seat.value.setup roam at (Some kept)) seat.value.log after.log (report_event kept) r (ap (λ (s : Seated). s.log) enters.0.3) (inr (kept, inr refl, refl));
+  waiting = none_waiting seat.value.setup roam at (Some waiting) after.waiting (ap (λ (s : Seated). s.waiting) enters.0.3 ∙ none);
+  log = grew_one (IsOfWorker seat.value.setup roam at (Some waiting)) seat.value.log after.log (report_event waiting) r (ap (λ (s : Seated). s.log) enters.0.3) (inr (waiting, inr refl, refl));
 }
-handed picks old seat roam at kept (Ok false) new after none (may, core, is) = record {
+handed picks old seat roam at waiting (Ok false) new after none (may, core, is) = record {
   number = ap (λ (s : Seated). s.number) is;
   setup = ap (λ (s : Seated). s.setup) is;
   directory = ap (λ (s : Seated). s.directory) is;
   owed = ap (λ (s : Seated). s.owed) is;
-  kept = none_waiting seat.value.setup roam at (Some kept) after.kept (ap (λ (s : Seated). s.kept) is);
-  log = grew_none (IsOfWorker seat.value.setup roam at (Some kept)) seat.value.log after.log (ap (λ (s : Seated). s.log) is);
+  waiting = none_waiting seat.value.setup roam at (Some waiting) after.waiting (ap (λ (s : Seated). s.waiting) is);
+  log = grew_none (IsOfWorker seat.value.setup roam at (Some waiting)) seat.value.log after.log (ap (λ (s : Seated). s.log) is);
 }
-handed picks old seat roam at kept (Err f) new after none (other, may, core, is) = record {
+handed picks old seat roam at waiting (Err f) new after none (other, may, core, is) = record {
   number = ap (λ (s : Seated). s.number) is;
   setup = ap (λ (s : Seated). s.setup) is;
   directory = ap (λ (s : Seated). s.directory) is;
   owed = ap (λ (s : Seated). s.owed) is;
-  kept = waiting_by seat.value.setup roam at kept f after.kept (ap (λ (s : Seated). s.kept) is);
-  log = grew_none (IsOfWorker seat.value.setup roam at (Some kept)) seat.value.log after.log (ap (λ (s : Seated). s.log) is);
+  waiting = waiting_by seat.value.setup roam at waiting f after.waiting (ap (λ (s : Seated). s.waiting) is);
+  log = grew_none (IsOfWorker seat.value.setup roam at (Some waiting)) seat.value.log after.log (ap (λ (s : Seated). s.log) is);
 }
 
-unit_turn_works : (picks : Rule) (old : GuardedCore) (seat : HeldSeat) (k : Option WaitingReport) (at : ℕ) (roam : Bool) (result : Result Bool Fault) (new : Guarded) (after : Seated) → MayStand seat.value.setup old.value.state → seat.value.kept ≡ k → TakesUnitTurn picks old (turned_seat seat) k at roam result new after → WorksUnit roam at seat.value after (count_in result)
+unit_turn_works : (picks : Rule) (old : GuardedCore) (seat : HeldSeat) (k : Option WaitingReport) (at : ℕ) (roam : Bool) (result : Result Bool Fault) (new : Guarded) (after : Seated) → MayStand seat.value.setup old.value.state → seat.value.waiting ≡ k → TakesUnitTurn picks old (turned_seat seat) k at roam result new after → WorksUnit roam at seat.value after (count_in result)
 unit_turn_works picks old seat None at roam result new after stands is t =
     let w = takes_turn picks old (turned_seat seat) roam at (turn_of roam seat.value.left at old.value.state) result new after (old.value.state, stands, seat.value.left, refl) is t in
-    record { number = w.number; setup = w.setup; directory = w.directory; kept = w.kept; log = w.log }
-unit_turn_works picks old seat (Some kept) at roam result new after stands is t =
-    let w = handed picks old (emptied_seat (turned_seat seat)) roam at kept result new after refl t in
+    record { number = w.number; setup = w.setup; directory = w.directory; waiting = w.waiting; log = w.log }
+unit_turn_works picks old seat (Some waiting) at roam result new after stands is t =
+    let w = handed picks old (emptied_seat (turned_seat seat)) roam at waiting result new after refl t in
     record {
       number = w.number;
       setup = w.setup;
       directory = w.directory;
-      kept = subst (λ (o : Option WaitingReport). IsWaitingFrom seat.value.setup roam at o after.kept) (sym is) w.kept;
+      waiting = subst (λ (o : Option WaitingReport). IsWaitingFrom seat.value.setup roam at o after.waiting) (sym is) w.waiting;
       log = subst (λ (o : Option WaitingReport). Grew (IsOfWorker seat.value.setup roam at o) seat.value.log after.log (count_in result)) (sym is) w.log;
     }
 
-pub unit_works : (picks : Rule) (old : GuardedCore) (seat : HeldSeat) (at : ℕ) (roam : Bool) (result : Result Bool Fault) (new : Guarded) (after : Seated) → MayStand seat.value.setup old.value.state → TakesUnitTurn picks old (turned_seat seat) seat.value.kept at roam result new after → WorksUnit roam at seat.value after (count_in result)
-unit_works picks old seat at roam result new after stands t = unit_turn_works picks old seat seat.value.kept at roam result new after stands refl t
+pub unit_works : (picks : Rule) (old : GuardedCore) (seat : HeldSeat) (at : ℕ) (roam : Bool) (result : Result Bool Fault) (new : Guarded) (after : Seated) → MayStand seat.value.setup old.value.state → TakesUnitTurn picks old (turned_seat seat) seat.value.waiting at roam result new after → WorksUnit roam at seat.value after (count_in result)
+unit_works picks old seat at roam result new after stands t = unit_turn_works picks old seat seat.value.waiting at roam result new after stands refl t
 
 -- what is owed after a turn
 turn_owed : (picks : Rule) (old : GuardedCore) (seat : HeldSeat) (roam : Bool) (at : ℕ) (t : Turn) (result : Result Bool Fault) (new : Guarded) (after : Seated) → MayTurn seat.value.setup roam at t → seat.value.owed ≡ None → TakesTurn picks old seat t result new after → IsOwedBy seat.value.setup roam at after.owed
@@ -214,11 +214,11 @@ turn_owed picks old seat roam at Rests result new after may none t = subst (IsOw
 unit_turn_owed : (picks : Rule) (old : GuardedCore) (seat : HeldSeat) (k : Option WaitingReport) (at : ℕ) (roam : Bool) (result : Result Bool Fault) (new : Guarded) (after : Seated) → MayStand seat.value.setup old.value.state → seat.value.owed ≡ None → TakesUnitTurn picks old seat k at roam result new after → IsOwedBy seat.value.setup roam at after.owed
 unit_turn_owed picks old seat None at roam result new after stands none t =
     turn_owed picks old seat roam at (turn_of roam seat.value.left at old.value.state) result new after (old.value.state, stands, seat.value.left, refl) none t
-unit_turn_owed picks old seat (Some kept) at roam result new after stands none t =
-    subst (IsOwedBy seat.value.setup roam at) (sym ((handed picks old (emptied_seat seat) roam at kept result new after refl t).owed ∙ none)) tt
+unit_turn_owed picks old seat (Some waiting) at roam result new after stands none t =
+    subst (IsOwedBy seat.value.setup roam at) (sym ((handed picks old (emptied_seat seat) roam at waiting result new after refl t).owed ∙ none)) tt
 
-pub unit_owed : (picks : Rule) (old : GuardedCore) (seat : HeldSeat) (at : ℕ) (roam : Bool) (result : Result Bool Fault) (new : Guarded) (after : Seated) → MayStand seat.value.setup old.value.state → seat.value.owed ≡ None → TakesUnitTurn picks old (turned_seat seat) seat.value.kept at roam result new after → IsOwedBy seat.value.setup roam at after.owed
-unit_owed picks old seat at roam result new after stands none t = unit_turn_owed picks old (turned_seat seat) seat.value.kept at roam result new after stands none t
+pub unit_owed : (picks : Rule) (old : GuardedCore) (seat : HeldSeat) (at : ℕ) (roam : Bool) (result : Result Bool Fault) (new : Guarded) (after : Seated) → MayStand seat.value.setup old.value.state → seat.value.owed ≡ None → TakesUnitTurn picks old (turned_seat seat) seat.value.waiting at roam result new after → IsOwedBy seat.value.setup roam at after.owed
+unit_owed picks old seat at roam result new after stands none t = unit_turn_owed picks old (turned_seat seat) seat.value.waiting at roam result new after stands none t
 
 -- a turn is counted by itself: what it is for adds none
 takes_turns : (picks : Rule) (old : GuardedCore) (seat : HeldSeat) (t : Turn) (result : Result Bool Fault) (new : Guarded) (after : Seated) → TakesTurn picks old seat t result new after → after.turns ≡ seat.value.turns
@@ -228,27 +228,27 @@ takes_turns picks old seat (Leaves command) result new after t =
 takes_turns picks old seat (Owes owed) result new after t = ap (λ (s : Seated). s.turns) t.2
 takes_turns picks old seat Rests result new after t = ap (λ (s : Seated). s.turns) t.2
 
-hands_turns : (picks : Rule) (old : GuardedCore) (seat : HeldSeat) (kept : WaitingReport) (result : Result Bool Fault) (new : Guarded) (after : Seated) → EntersReport picks old seat kept result new after → after.turns ≡ seat.value.turns
-hands_turns picks old seat kept (Ok true) new after (r, enters) = ap (λ (s : Seated). s.turns) enters.0.3
-hands_turns picks old seat kept (Ok false) new after (may, core, is) = ap (λ (s : Seated). s.turns) is
-hands_turns picks old seat kept (Err f) new after (other, may, core, is) = ap (λ (s : Seated). s.turns) is
+hands_turns : (picks : Rule) (old : GuardedCore) (seat : HeldSeat) (waiting : WaitingReport) (result : Result Bool Fault) (new : Guarded) (after : Seated) → EntersReport picks old seat waiting result new after → after.turns ≡ seat.value.turns
+hands_turns picks old seat waiting (Ok true) new after (r, enters) = ap (λ (s : Seated). s.turns) enters.0.3
+hands_turns picks old seat waiting (Ok false) new after (may, core, is) = ap (λ (s : Seated). s.turns) is
+hands_turns picks old seat waiting (Err f) new after (other, may, core, is) = ap (λ (s : Seated). s.turns) is
 
 pub unit_turns : (picks : Rule) (old : GuardedCore) (seat : HeldSeat) (k : Option WaitingReport) (at : ℕ) (roam : Bool) (result : Result Bool Fault) (new : Guarded) (after : Seated) → TakesUnitTurn picks old seat k at roam result new after → after.turns ≡ seat.value.turns
 unit_turns picks old seat None at roam result new after t = takes_turns picks old seat (turn_of roam seat.value.left at old.value.state) result new after t
-unit_turns picks old seat (Some kept) at roam result new after t = hands_turns picks old (emptied_seat seat) kept result new after t
+unit_turns picks old seat (Some waiting) at roam result new after t = hands_turns picks old (emptied_seat seat) waiting result new after t
 
 -- turn after turn
 pub works_more : (roam : Bool) (at : ℕ) (a b c : Seated) (m n : ℕ) → WorksUnit roam at a b m → WorksUnit roam at b c n → WorksUnit roam at a c (m + n)
 works_more roam at a b c m n p q =
-    let kept = subst (λ (d : Setup). IsWaitingFrom d roam at b.kept c.kept) p.setup q.kept in
-    let log = subst (λ (d : Setup). Grew (IsOfWorker d roam at b.kept) b.log c.log n) p.setup q.log in
+    let waiting = subst (λ (d : Setup). IsWaitingFrom d roam at b.waiting c.waiting) p.setup q.waiting in
+    let log = subst (λ (d : Setup). Grew (IsOfWorker d roam at b.waiting) b.log c.log n) p.setup q.log in
     record {
       number = q.number ∙ p.number;
       setup = q.setup ∙ p.setup;
       directory = q.directory ∙ p.directory;
-      kept = kept_on a.setup roam at a.kept b.kept c.kept p.kept kept;
-      log = grew_more (IsOfWorker a.setup roam at a.kept) a.log b.log c.log m n p.log
-          (grew_wider (IsOfWorker a.setup roam at b.kept) (IsOfWorker a.setup roam at a.kept) b.log c.log n (λ e. of_worker a.setup roam at a.kept b.kept e p.kept) log);
+      waiting = kept_on a.setup roam at a.waiting b.waiting c.waiting p.waiting waiting;
+      log = grew_more (IsOfWorker a.setup roam at a.waiting) a.log b.log c.log m n p.log
+          (grew_wider (IsOfWorker a.setup roam at b.waiting) (IsOfWorker a.setup roam at a.waiting) b.log c.log n (λ e. of_worker a.setup roam at a.waiting b.waiting e p.waiting) log);
     }
 
 pub paths_more : (chpid : ℕ) (a b c : Seated) (m n : ℕ) → WorksPath chpid a b m → WorksPath chpid b c n → WorksPath chpid a c (m + n)

@@ -57,8 +57,8 @@ same_count old new index found (before, there, is) = ap length is ∙ length-set
 
 -- what a look finds and leaves
 pub looks : (s : State) (seat : Seated) (d : Directory) (word index : ℕ) (pair found : Serials) (readers : List Words) → directory_of s ≡ d → d ≡ seat.directory → index_named d word ≡ Some index
-    → slice_get (all_serials s) index ≡ Some found → slice_get seat.pairs index ≡ Some pair → LoadsAt seat.loaded index found readers
-    → Looks s seat word found (record seat { pairs = slice_set seat.pairs index (greater pair found); loaded = readers })
+    → slice_get (all_serials s) index ≡ Some found → slice_get seat.seen_serials index ≡ Some pair → LoadsAt seat.loaded index found readers
+    → Looks s seat word found (record seat { seen_serials = slice_set seat.seen_serials index (greater pair found); loaded = readers })
 looks s seat d word index pair found readers is same named has saw (before, there, loaded) =
     let words : Words = record before { made = found.made; cleared = found.cleared; loads = before.loads + 1 } in
     record {
@@ -75,5 +75,5 @@ looks s seat d word index pair found readers is same named has saw (before, ther
       };
       found_is = refl;
       has = has_at s d word index found is named has;
-      leaves = ap (λ (l : List Words). record seat { pairs = slice_set seat.pairs index (greater pair found); loaded = l }) loaded;
+      leaves = ap (λ (l : List Words). record seat { seen_serials = slice_set seat.seen_serials index (greater pair found); loaded = l }) loaded;
     }

@@ -19,7 +19,7 @@ use Rattle.core_lock.specs.Seats.{Guarded, GuardedCore, HeldSeat, LockedCore, Se
 
 -- a seat after an event that it entered: its log has the entry
 abbrev pub entered : Seated → Event → Reply → Seated
-entered seat e r = record seat { log = seat.log ++ entry e r ∷ []; pairs = raised seat e r }
+entered seat e r = record seat { log = seat.log ++ entry e r ∷ []; seen_serials = raised seat e r }
 
 -- one step, one entry of the history with the number of its seat beside it, and the same in the log of the seat
 abbrev pub Enters : Guarded → Seated → Event → Reply → Guarded → Seated → Type 0
@@ -66,7 +66,7 @@ pub record IsEntered (picks : Rule) (old : GuardedCore) (held : HeldSeat) (e : E
   pub history : IfOk answer (λ reply. new.value.history ≡ old.value.history ++ entry e reply ∷ [])
   -- the number of the seat stands beside it
   pub by : IfOk answer (λ reply. new.value.by ≡ old.value.by ++ held.value.number ∷ [])
-  -- the log of the seat has the same entry, and its pairs are raised by it
+  -- the log of the seat has the same entry, and the serials that it has seen are raised by it
   pub logged : IfOk answer (λ reply. after.value ≡ entered held.value e reply)
   -- a path is chosen by the rule
   pub ruled : answer ≢ Err fault.NoMemory → GoesByRule picks old.value.state e answer new.value.state
@@ -96,7 +96,7 @@ event_of cpu (cpu_instruction.OfSubsystem i) = event.ExecuteOther cpu i
 pub record LoadsOnce (old : Seated) (word index : ℕ) (pair : Serials) (words : Words) : Type 0 where
   pub before : Words
   pub named : index_named old.directory word ≡ Some index
-  pub saw : slice_get old.pairs index ≡ Some pair
+  pub saw : slice_get old.seen_serials index ≡ Some pair
   pub had : slice_get old.loaded index ≡ Some before
   pub cell : words.cell ≡ before.cell
   pub loads : words.loads ≡ before.loads + 1
@@ -110,7 +110,7 @@ LoadsAt old index found new =
 
 -- a seat with this pair of a subchannel, whose reader loaded these words
 abbrev pub seat_loaded : Seated → ℕ → Serials → Words → Seated
-seat_loaded seat index pair words = record seat { pairs = slice_set seat.pairs index pair; loaded = slice_set seat.loaded index words }
+seat_loaded seat index pair words = record seat { seen_serials = slice_set seat.seen_serials index pair; loaded = slice_set seat.loaded index words }
 
 -- a look at a subchannel: what is found is part by part the greater of the words loaded and the pair, which becomes the pair
 pub record Glances (old : Seated) (word : ℕ) (found : Serials) (new : Seated) : Type 0 where

@@ -39,13 +39,13 @@ pub record IsStock (made : ℕ) (left turns_left : Part) : Type 0 where
 
 -- a seat: its share is the length of its log, in which no entry is being written; it has a pair, in order, and a reader for each
 -- subchannel
-pub record IsSeat (counted : Part) (turn_parts : ℕ) (log : Logged) (pairs : List Serials) (readers : List Words) (held : Directory) (name : MachineName) : Type 0 where
+pub record IsSeat (counted : Part) (turn_parts : ℕ) (log : Logged) (seen_serials : List Serials) (readers : List Words) (held : Directory) (name : MachineName) : Type 0 where
   pub share : counted.parts ≡ 1
   pub turns : turn_parts ≡ 1
   pub entries : counted.amount ≡ length log.entries
   pub fresh : log.reply ≡ reply.Done
-  pub beside : length pairs ≡ length readers
-  pub ordered : All IsOrdered pairs
+  pub beside : length seen_serials ≡ length readers
+  pub ordered : All IsOrdered seen_serials
   pub cells : cells_of readers ≡ name.cells
   pub names : length held.setups ≡ length readers
   pub directory : held ≡ name.directory

@@ -26,4 +26,4 @@ pub record IsUnitTurn (picks : Rule) (roam : Bool) (at : ℕ) (old : HeldSeat) (
   pub core : GuardedCore
   pub left : Guarded
   pub of_machine : IsOfMachine old.value core.value
-  pub turn : TakesUnitTurn picks core (turned_seat old) old.value.kept at roam result left new
+  pub turn : TakesUnitTurn picks core (turned_seat old) old.value.waiting at roam result left new

@@ -38,12 +38,12 @@ pub record Seated : Type 0 where
   pub log : List Entry
   pub setup : Setup
   pub directory : Directory
-  pub pairs : List Serials
+  pub seen_serials : List Serials
   pub loaded : List Words
   pub turns : ℕ
   pub calls : ℕ
   pub owed : Option OwedCall
-  pub kept : Option WaitingReport
+  pub waiting : Option WaitingReport
   pub left : Option TakenCommand
 
 -- a machine under its lock, and for how many more entries there is room, in its history and beside it
@@ -77,17 +77,17 @@ greater one other = serials (max one.made other.made) (max one.cleared other.cle
 
 -- the pair of an index, raised to these counts
 abbrev pub raised_at : List Serials → Option ℕ → Serials → List Serials
-raised_at pairs None found = pairs
-raised_at pairs (Some index) found = slice_set pairs index (greater (slice_index_or pairs index found) found)
+raised_at seen_serials None found = seen_serials
+raised_at seen_serials (Some index) found = slice_set seen_serials index (greater (slice_index_or seen_serials index found) found)
 
 abbrev pub raised_by : List Serials → Option ℕ → Option Serials → List Serials
-raised_by pairs index None = pairs
-raised_by pairs index (Some found) = raised_at pairs index found
+raised_by seen_serials index None = seen_serials
+raised_by seen_serials index (Some found) = raised_at seen_serials index found
 
 -- TEST SUBCHANNEL with code 0 or 1 ends by raising the pair of its subchannel to the counts that it answers
 abbrev pub raised_among : List Serials → Directory → Event → Reply → List Serials
-raised_among pairs directory (event.Execute cpu (instruction.Tsch word address)) r = raised_by pairs (index_named directory word) (serials_brought (answer_in r))
-raised_among pairs directory e r = pairs
+raised_among seen_serials directory (event.Execute cpu (instruction.Tsch word address)) r = raised_by seen_serials (index_named directory word) (serials_brought (answer_in r))
+raised_among seen_serials directory e r = seen_serials
 
 abbrev pub raised : Seated → Event → Reply → List Serials
-raised seat e r = raised_among seat.pairs seat.directory e r
+raised seat e r = raised_among seat.seen_serials seat.directory e r

@@ -34,7 +34,7 @@ abbrev pub turned : Seated → Seated
 turned seat = record seat { turns = seat.turns + 1 }
 
 abbrev pub with_waiting : Seated → Option WaitingReport → Seated
-with_waiting seat kept = record seat { kept = kept }
+with_waiting seat waiting = record seat { waiting = waiting }
 
 abbrev pub with_owed : Seated → Option OwedCall → Seated
 with_owed seat owed = record seat { owed = owed }
@@ -73,13 +73,13 @@ Executes picks core seat e (Err f) new after = IsRefusedBy picks core seat e f �
 abbrev pub Passes : GuardedCore → Seated → Result Bool Fault → Guarded → Seated → Type 0
 Passes core seat result new after = (result ≡ Ok false) × (new ≡ core.value) × (after ≡ seat)
 
--- a report that is kept is handed in: it is entered, or refused; a stale one is dropped then
+-- a report that waits is handed in: it is entered, or refused; a stale one is dropped then
 abbrev pub EntersReport : Rule → GuardedCore → HeldSeat → WaitingReport → Result Bool Fault → Guarded → Seated → Type 0
-EntersReport picks core seat kept (Ok true) new after = (r : Reply) × EntersBy picks core.value seat.value (report_event kept) r new after
-EntersReport picks core seat kept (Ok false) new after =
-    IsRefusedBy picks core seat (report_event kept) fault.NotNow × (new ≡ core.value) × (after ≡ with_waiting seat.value None)
-EntersReport picks core seat kept (Err f) new after =
-    (f ≢ fault.NotNow) × IsRefusedBy picks core seat (report_event kept) f × (new ≡ core.value) × (after ≡ with_waiting seat.value (waits_after (report_event kept) f))
+EntersReport picks core seat waiting (Ok true) new after = (r : Reply) × EntersBy picks core.value seat.value (report_event waiting) r new after
+EntersReport picks core seat waiting (Ok false) new after =
+    IsRefusedBy picks core seat (report_event waiting) fault.NotNow × (new ≡ core.value) × (after ≡ with_waiting seat.value None)
+EntersReport picks core seat waiting (Err f) new after =
+    (f ≢ fault.NotNow) × IsRefusedBy picks core seat (report_event waiting) f × (new ≡ core.value) × (after ≡ with_waiting seat.value (waits_after (report_event waiting) f))
 
 abbrev pub TakesTurn : Rule → GuardedCore → HeldSeat → Turn → Result Bool Fault → Guarded → Seated → Type 0
 TakesTurn picks core seat (Enters e) result new after = Tries picks core seat seat.value e result new after
@@ -90,7 +90,7 @@ TakesTurn picks core seat Rests result new after = Passes core seat.value result
 
 -- a turn of a unit's worker, by a seat with one turn more
 abbrev pub TakesUnitTurn : Rule → GuardedCore → HeldSeat → Option WaitingReport → ℕ → Bool → Result Bool Fault → Guarded → Seated → Type 0
-TakesUnitTurn picks core seat (Some kept) at roam result new after = EntersReport picks core (emptied_seat seat) kept result new after
+TakesUnitTurn picks core seat (Some waiting) at roam result new after = EntersReport picks core (emptied_seat seat) waiting result new after
 TakesUnitTurn picks core seat None at roam result new after =
     TakesTurn picks core seat (turn_of roam seat.value.left at core.value.state) result new after
 
@@ -108,13 +108,13 @@ abbrev pub one_call_more : ℕ → ℕ
 one_call_more calls = min (calls + 1) 0xFFFFFFFFFFFFFFFF
 
 -- the call that is owed is made: the gate let it pass, by its unit and the number that the seat's calls have with it; it is made by
--- the relation of the device, between the device before it, the call, its answer and the device after it; the answer is kept as a
+-- the relation of the device, between the device before it, the call, its answer and the device after it; the answer waits as a
 -- report, and nothing is owed
 abbrev pub Calls : {D : Type 0} → (ℕ → ℕ → Type 0) → (D → Call → DeviceAnswer → D → Type 0) → Seated → D → Seated → D → Type 0
 Calls passes answers old device new after =
     (owed : OwedCall) × (answer : DeviceAnswer) × (old.owed ≡ Some owed)
     × passes owed.«unit» (one_call_more old.calls) × answers device owed.call answer after
-    × (new ≡ record old { calls = one_call_more old.calls; owed = None; kept = Some (report_of owed answer) })
+    × (new ≡ record old { calls = one_call_more old.calls; owed = None; waiting = Some (report_of owed answer) })
 
 -- what a lock guards is of the machine of this seat: its history led to its state, it is set up so, and these are its subchannels
 abbrev pub IsOfMachine : Seated → Guarded → Type 0
@@ -140,13 +140,13 @@ IsEnteredBy turn e = ⊥
 
 -- the report of what a device answered to a call that such a turn owed
 abbrev pub IsAnswer : Setup → Bool → ℕ → WaitingReport → Type 0
-IsAnswer setup roam at kept =
-    (owed : OwedCall) × (answer : DeviceAnswer) × MayTurn setup roam at (Owes owed) × (kept ≡ report_of owed answer)
+IsAnswer setup roam at waiting =
+    (owed : OwedCall) × (answer : DeviceAnswer) × MayTurn setup roam at (Owes owed) × (waiting ≡ report_of owed answer)
 
--- a report that is kept in the end was kept before, or answers a call of such a turn; a call that is owed is of such a turn
+-- a report that waits in the end waited before, or answers a call of such a turn; a call that is owed is of such a turn
 abbrev pub IsWaitingFrom : Setup → Bool → ℕ → Option WaitingReport → Option WaitingReport → Type 0
 IsWaitingFrom setup roam at old None = Unit {0}
-IsWaitingFrom setup roam at old (Some kept) = IsAnswer setup roam at kept ⊎ (old ≡ Some kept)
+IsWaitingFrom setup roam at old (Some waiting) = IsAnswer setup roam at waiting ⊎ (old ≡ Some waiting)
 
 abbrev pub IsOwedBy : Setup → Bool → ℕ → Option OwedCall → Type 0
 IsOwedBy setup roam at None = Unit {0}
@@ -157,10 +157,10 @@ abbrev pub IsTurnEvent : Setup → Bool → ℕ → Event → Type 0
 IsTurnEvent setup roam at e = (turn : Turn) × MayTurn setup roam at turn × IsEnteredBy turn e
 
 abbrev pub IsEnteredReport : Setup → Bool → ℕ → Option WaitingReport → Event → Type 0
-IsEnteredReport setup roam at old e = (kept : WaitingReport) × IsWaitingFrom setup roam at old (Some kept) × (e ≡ report_event kept)
+IsEnteredReport setup roam at old e = (waiting : WaitingReport) × IsWaitingFrom setup roam at old (Some waiting) × (e ≡ report_event waiting)
 
 abbrev pub IsOfWorker : Setup → Bool → ℕ → Option WaitingReport → Event → Type 0
-IsOfWorker setup roam at kept e = IsTurnEvent setup roam at e ⊎ IsEnteredReport setup roam at kept e
+IsOfWorker setup roam at waiting e = IsTurnEvent setup roam at e ⊎ IsEnteredReport setup roam at waiting e
 
 -- the log grew by so many entries, whose events are such
 abbrev pub Grew : (Event → Type 0) → List Entry → List Entry → ℕ → Type 0
@@ -178,8 +178,8 @@ pub record WorksUnit (roam : Bool) (at : ℕ) (old new : Seated) (count : ℕ) :
   pub number : new.number ≡ old.number
   pub setup : new.setup ≡ old.setup
   pub directory : new.directory ≡ old.directory
-  pub kept : IsWaitingFrom old.setup roam at old.kept new.kept
-  pub log : Grew (IsOfWorker old.setup roam at old.kept) old.log new.log count
+  pub waiting : IsWaitingFrom old.setup roam at old.waiting new.waiting
+  pub log : Grew (IsOfWorker old.setup roam at old.waiting) old.log new.log count
 
 -- what a call that is made leaves, where one is owed: a report of it
 abbrev pub IsAnswered : Option OwedCall → Option WaitingReport → Option WaitingReport → Type 0
@@ -193,7 +193,7 @@ pub record IsCalled (old new : Seated) : Type 0 where
   pub log : new.log ≡ old.log
   pub turns : new.turns ≡ old.turns
   pub owed : new.owed ≡ None
-  pub kept : IsAnswered old.owed old.kept new.kept
+  pub waiting : IsAnswered old.owed old.waiting new.waiting
 
 -- how many entries a turn made
 abbrev pub count_of : Bool → ℕ

@@ -9,7 +9,7 @@ ghost use Rattle.core_lock.specs.Named.{cells_of, shown};
 
 use crate::locked::Seat;
 use crate::naming::{Entries, MachineBrand};
-use crate::pairs::{publish, raise};
+use crate::seen_serials::{publish, raise};
 use crate::touching::{touched_by, touches};
 use chan_events::event::Event;
 use chan_model::fault::Fault;
@@ -94,7 +94,7 @@ pub(crate) fn keep_entry<S: Supply, J: MachineBrand, P: PathChoice + Drop>(
     publish(writers, subsystem, touched);
     entry_seats.entries.add(&mut seat.share, 1);
     entry_seats.by.push_reserved(seat.number);
-    raise(&mut seat.pairs, &seat.directory, event, subsystem);
+    raise(&mut seat.seen_serials, &seat.directory, event, subsystem);
     subsystem.add_last(&mut seat.log);
     Ok(())
 }

@@ -21,7 +21,7 @@ use crate::directory::Directory;
 use crate::entering::{EntrySeats, keep_entry};
 use crate::locked::Seat;
 use crate::naming::{Entries, MachineBrand, Turns};
-use crate::pairs::{first_pairs, watch};
+use crate::seen_serials::{first_seen_serials, watch};
 use crate::parts::Parts;
 use crate::same_log::is_log;
 use crate::stock::SeatStock;
@@ -68,7 +68,7 @@ impl<J: MachineBrand, P: PathChoice + Drop> Model for Guarded<J, P> {
 pub(crate) struct FirstLook {
     pub directory: Arc<Directory>,
     pub readers: Vec<Reader>,
-    pub pairs: Vec<Serials>,
+    pub seen_serials: Vec<Serials>,
 }
 
 /// A subsystem to which nothing happened yet, with the parts of its configuration and an empty list: what the lock of its
@@ -134,19 +134,19 @@ impl<J: MachineBrand, P: PathChoice + Drop> Guarded<J, P> {
         ensures named { IfOk result (λ look. arc_value look.directory ≡ J.name.directory) }
         ensures loaded { IfOk result (λ look. shown look.readers.items ≡ all_serials self.old.value.state) }
         ensures cells { IfOk result (λ look. cells_of look.readers.items ≡ J.name.cells) }
-        ensures pairs { IfOk result (λ look. look.pairs.items ≡ all_serials self.old.value.state) }
-        ensures ordered { IfOk result (λ look. All IsOrdered look.pairs.items) }
+        ensures seen_serials { IfOk result (λ look. look.seen_serials.items ≡ all_serials self.old.value.state) }
+        ensures ordered { IfOk result (λ look. All IsOrdered look.seen_serials.items) }
         ensures same { self.new ≡ self.old }
         ensures unrefused { OnOk result (S.refused supply.new ≡ S.refused supply.old) }
         ensures memory { OnErr result (S.refused supply.new ≡ true) }
     {
         let directory = supply.share_again(&self.directory)?;
         let readers = watch(alloc, supply, &mut self.writers)?;
-        let pairs = first_pairs(alloc, supply, &self.subsystem)?;
+        let seen_serials = first_seen_serials(alloc, supply, &self.subsystem)?;
         Ok(FirstLook {
             directory,
             readers,
-            pairs,
+            seen_serials,
         })
     }
 

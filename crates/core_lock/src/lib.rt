@@ -18,7 +18,7 @@ pub mod guarded;
 pub mod locked;
 mod looking;
 pub mod naming;
-pub mod pairs;
+pub mod seen_serials;
 pub mod parts;
 mod path_turns;
 mod same_log;

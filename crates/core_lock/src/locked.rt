@@ -71,7 +71,7 @@ pub struct Seat<J: MachineBrand> {
     pub(crate) number: u16,
     pub(crate) log: Log,
     pub(crate) directory: Arc<Directory>,
-    pub(crate) pairs: Vec<Serials>,
+    pub(crate) seen_serials: Vec<Serials>,
     pub(crate) readers: Vec<Reader>,
     pub(crate) share: Share<Entries<J>>,
     pub(crate) turns: Share<Turns<J>>,
@@ -79,7 +79,7 @@ pub struct Seat<J: MachineBrand> {
     /// How often an event was refused it for want of memory.
     pub(crate) starved: u64,
     pub(crate) owed: Option<OwedCall>,
-    pub(crate) kept: Option<WaitingReport>,
+    pub(crate) waiting: Option<WaitingReport>,
     pub(crate) left: Option<TakenCommand>,
 }
 
@@ -96,19 +96,19 @@ impl<J: MachineBrand> Model for Seat<J> {
         log = s.log.entries;
         setup = J.setup;
         directory = arc_value s.directory;
-        pairs = s.pairs.items;
+        seen_serials = s.seen_serials.items;
         loaded = s.readers.items;
         turns = s.turns.amount;
         calls = s.calls;
         owed = s.owed;
-        kept = s.kept;
+        waiting = s.waiting;
         left = s.left;
       };
       room = s.log.room;
       starved = s.starved;
     } };
 
-    ghost invariant = { λ s. IsSeat (record { parts = s.share.parts; amount = s.share.amount }) s.turns.parts s.log s.pairs.items s.readers.items (arc_value s.directory) J.name };
+    ghost invariant = { λ s. IsSeat (record { parts = s.share.parts; amount = s.share.amount }) s.turns.parts s.log s.seen_serials.items s.readers.items (arc_value s.directory) J.name };
 }
 
 impl<J: MachineBrand, P: PathChoice + Drop> Core<J, P> {
@@ -177,12 +177,12 @@ impl<J: MachineBrand, P: PathChoice + Drop> Core<J, P> {
             log = [];
             setup = J.setup;
             directory = directory_of self.old.value.state;
-            pairs = all_serials self.old.value.state;
+            seen_serials = all_serials self.old.value.state;
             loaded = s.value.loaded;
             turns = 0;
             calls = 0;
             owed = None;
-            kept = None;
+            waiting = None;
             left = None;
           };
           room = 0;
@@ -207,12 +207,12 @@ impl<J: MachineBrand, P: PathChoice + Drop> Core<J, P> {
             log = [];
             setup = J.setup;
             directory = directory_of self.old.value.state;
-            pairs = all_serials self.old.value.state;
+            seen_serials = all_serials self.old.value.state;
             loaded = s.value.loaded;
             turns = 0;
             calls = 0;
             owed = None;
-            kept = None;
+            waiting = None;
             left = None;
           };
           room = 0;
@@ -238,21 +238,21 @@ impl<J: MachineBrand, P: PathChoice + Drop> Core<J, P> {
         let FirstLook {
             directory,
             readers,
-            pairs,
+            seen_serials,
         } = look;
         let (share, turns) = self.stock.take();
         Ok(Seat {
             number,
             log: Log::new(alloc),
             directory,
-            pairs,
+            seen_serials,
             readers,
             share,
             turns,
             calls: 0,
             starved: 0,
             owed: None,
-            kept: None,
+            waiting: None,
             left: None,
         })
     }
@@ -303,14 +303,14 @@ impl<J: MachineBrand> Seat<J> {
             number: _,
             log: _,
             directory: _,
-            pairs: _,
+            seen_serials: _,
             readers: _,
             share,
             turns: _,
             calls: _,
             starved: _,
             owed: _,
-            kept: _,
+            waiting: _,
             left: _,
         } = self;
         share

@@ -12,7 +12,7 @@ use crate::gate::{Gate, Gated};
 use crate::guarded::Guarded;
 use crate::locked::{Core, Seat};
 use crate::naming::MachineBrand;
-use crate::pairs::greater;
+use crate::seen_serials::greater;
 use chan_model::fault::Fault;
 use glance_cell::cell::{Reader, Writer};
 use glance_cell::words::Glance;
@@ -39,7 +39,7 @@ impl<J: MachineBrand> Seat<J> {
         self.calls = self.calls.saturating_add(1);
         gate.pass(owed.unit, self.calls);
         let answer = device.call_through(gate, owed.unit, self.calls, &owed.call);
-        self.kept = Some(owed.report(answer));
+        self.waiting = Some(owed.report(answer));
     }
 
     /// The serials of a subchannel: part by part the greater of what is loaded and of what the seat saw. It takes no lock and
@@ -56,7 +56,7 @@ impl<J: MachineBrand> Seat<J> {
         };
         let reader = &mut self.readers[index];
         let loaded = reader.load();
-        let pair = self.pairs[index];
+        let pair = self.seen_serials[index];
         let found = greater(
             pair,
             Serials {
@@ -64,7 +64,7 @@ impl<J: MachineBrand> Seat<J> {
                 cleared: loaded.cleared,
             },
         );
-        self.pairs[index] = found;
+        self.seen_serials[index] = found;
         Ok(Glance {
             made: found.made,
             cleared: found.cleared,
@@ -100,9 +100,9 @@ impl<J: MachineBrand, P: PathChoice + Drop> Guarded<J, P> {
             return Err(Fault::NoSuchSubchannel);
         };
         let found = load_at(&mut self.writers, &mut seat.readers, index);
-        let pair = seat.pairs[index];
+        let pair = seat.seen_serials[index];
         let raised = greater(pair, found);
-        seat.pairs[index] = raised;
+        seat.seen_serials[index] = raised;
         Ok(found)
     }
 }

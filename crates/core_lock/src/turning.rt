@@ -50,12 +50,12 @@ impl<J: MachineBrand, P: PathChoice + Drop> Guarded<J, P> {
     }
 
     /// One turn of the worker of a unit. A report that the seat keeps is handed in first: a stale one is dropped, and one that
-    /// is refused `NoMemory` or `WireFull` stays kept. Else an event is entered, or a call of the device becomes owed. A unit that
+    /// is refused `NoMemory` or `WireFull` stays waiting. Else an event is entered, or a call of the device becomes owed. A unit that
     /// roams leaves its path first, once after each command, and asks for one again. Whether an event was entered.
     pub fn unit_step(&mut self, seat: &mut Seat<J>, unit: u32, roam: bool) -> Result<bool, Fault>
         requires { seat.old.value.owed ≡ None }
         ensures turns { seat.new.value.turns ≡ seat.old.value.turns + 1 }
-        ensures turn { turn_spec.TakesUnitTurn P.picks self.old (turn_spec.turned_seat seat.old) seat.old.value.kept «unit» roam result self.new.value seat.new.value }
+        ensures turn { turn_spec.TakesUnitTurn P.picks self.old (turn_spec.turned_seat seat.old) seat.old.value.waiting «unit» roam result self.new.value seat.new.value }
         ensures told { IsUnitTurn P.picks roam «unit» seat.old result seat.new.value }
         ensures works { turn_spec.WorksUnit roam «unit» seat.old.value seat.new.value (turn_spec.count_in result) }
         ensures owes { turn_spec.IsOwedBy seat.old.value.setup roam «unit» seat.new.value.owed }
@@ -68,13 +68,13 @@ impl<J: MachineBrand, P: PathChoice + Drop> Guarded<J, P> {
     /// Takes the turn of a unit's worker that there is.
     fn unit_turn(&mut self, seat: &mut Seat<J>, unit: u32, roam: bool) -> Result<bool, Fault>
         requires { seat.old.value.owed ≡ None }
-        ensures { turn_spec.TakesUnitTurn P.picks self.old seat.old seat.old.value.kept «unit» roam result self.new.value seat.new.value }
+        ensures { turn_spec.TakesUnitTurn P.picks self.old seat.old seat.old.value.waiting «unit» roam result self.new.value seat.new.value }
     {
-        match &seat.kept {
-            Some(kept) => {
-                let kept = kept.copy();
-                seat.kept = None;
-                self.enter_report(seat, kept)
+        match &seat.waiting {
+            Some(waiting) => {
+                let waiting = waiting.copy();
+                seat.waiting = None;
+                self.enter_report(seat, waiting)
             }
             None => {
                 let turn = turn_by(roam, seat.left, unit, self.subsystem.unit_turn(unit));
@@ -91,11 +91,11 @@ impl<J: MachineBrand, P: PathChoice + Drop> Guarded<J, P> {
         self.turns.add(&mut seat.turns, 1);
     }
 
-    /// Hands in a report that was kept.
-    fn enter_report(&mut self, seat: &mut Seat<J>, kept: WaitingReport) -> Result<bool, Fault>
-        ensures { turn_spec.EntersReport P.picks self.old seat.old kept result self.new.value seat.new.value }
+    /// Hands in a report that waits.
+    fn enter_report(&mut self, seat: &mut Seat<J>, waiting: WaitingReport) -> Result<bool, Fault>
+        ensures { turn_spec.EntersReport P.picks self.old seat.old waiting result self.new.value seat.new.value }
     {
-        let event = kept.event();
+        let event = waiting.event();
         let outcome = self.try_enter(seat, &event);
         match outcome {
             Ok(entered) => Ok(entered),
@@ -142,13 +142,13 @@ impl<J: MachineBrand, P: PathChoice + Drop> Guarded<J, P> {
 }
 
 impl<J: MachineBrand> Seat<J> {
-    /// Keeps the report of an event that was refused, where it is to be kept. A stale one is no refusal.
+    /// Has the report of an event that was refused wait, where it is to be handed in later. A stale one is no refusal.
     fn keep(&mut self, event: &Event, fault: Fault) -> Result<bool, Fault>
         ensures result { result ≡ waiting_spec.refusal_of fault }
         ensures seat { self.new.value ≡ turn_spec.with_waiting self.old.value (waiting_spec.waits_after event.now fault) }
         ensures room { self.new.room ≡ self.old.room }
     {
-        keep_refused(&mut self.kept, event, fault);
+        keep_refused(&mut self.waiting, event, fault);
         refusal_of(fault)
     }
 }

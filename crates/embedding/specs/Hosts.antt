@@ -19,7 +19,7 @@ use Rattle.embedding.specs.declared.host.Turn.TheVariants.{Moved, Quiet, Refused
 pub record Hosted : Type 0 where
   pub past : Past
   pub clock : Clocks
-  pub kept : Option WaitingReport
+  pub waiting : Option WaitingReport
 
 -- an event is refused for want of memory only where the history has no room, or no number is left, and else as the machine refuses it
 abbrev pub MayRefuse : Past → Event → Fault → Type 0

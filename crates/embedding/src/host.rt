@@ -45,7 +45,7 @@ pub enum Turn {
 pub struct Host {
     subsystem: Subsystem<Rotating>,
     clock: Clock,
-    kept: Option<WaitingReport>,
+    waiting: Option<WaitingReport>,
 }
 
 impl Model for Host {
@@ -53,7 +53,7 @@ impl Model for Host {
 
     ghost Value = { Hosted };
 
-    ghost view = { λ h. record { past = h.subsystem; clock = h.clock; kept = h.kept } };
+    ghost view = { λ h. record { past = h.subsystem; clock = h.clock; waiting = h.waiting } };
 }
 
 /// Storage of 64 KiB, two channel paths, and the subchannel of device 0190, which reaches the unit by both. Of what kind
@@ -71,14 +71,14 @@ pub fn configured(alloc: Global) -> Result<Config, ConfigFault> {
 impl Host {
     /// The host at its opening; None where there is no memory.
     pub fn new(alloc: Global, clock: Clock) -> Option<Host>
-        ensures { IfSome result (λ h. (h.clock ≡ clock) × (h.kept ≡ None) × (h.past.history ≡ [])) }
+        ensures { IfSome result (λ h. (h.clock ≡ clock) × (h.waiting ≡ None) × (h.past.history ≡ [])) }
     {
         let config = configured(alloc).ok()?;
         let subsystem = Subsystem::new(alloc, config, Rotating).ok()?;
         Some(Host {
             subsystem,
             clock,
-            kept: None,
+            waiting: None,
         })
     }
 
@@ -133,26 +133,26 @@ impl Host {
         self.choose()
     }
 
-    /// The report that was kept, else that of the unit's next work, for which the clock may be called.
+    /// The report that waits, else that of the unit's next work, for which the clock may be called.
     fn next_report(&mut self) -> Option<Report>
         ensures machine { self.new.past ≡ self.old.past }
     {
         let turn = self.subsystem.lent_turn(UNIT)?;
-        reported(&mut self.clock, &self.kept, &turn)
+        reported(&mut self.clock, &self.waiting, &turn)
     }
 
-    /// Hands in a report. The clock was called for it, so it is kept where there is no room for it yet.
+    /// Hands in a report. The clock was called for it, so it waits where there is no room for it yet.
     fn enter_report(&mut self, report: Report) -> Turn
         ensures { Turned 0x10000 1 result self.old.past self.new.past }
     {
         let event = Event::Report { unit: UNIT, report };
         match self.enter(&event) {
             Ok(()) => {
-                forget(&mut self.kept);
+                forget(&mut self.waiting);
                 Turn::Moved
             }
             Err(fault) => {
-                keep_refused(&mut self.kept, &event, fault);
+                keep_refused(&mut self.waiting, &event, fault);
                 Turn::Refused(fault)
             }
         }

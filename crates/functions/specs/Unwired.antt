@@ -56,24 +56,25 @@ state_of pmcw up = record {
   subclass_fits = pmcw.subclass_fits;
 }
 
-abbrev pub unwired_of : SubchannelSetup → Pmcw → Scsw → List Bool → Rest → Unwired
-unwired_of setup pmcw scsw up rest = record {
-  setup = setup;
-  state = record {
-    pmcw = state_of pmcw up;
-    scsw = scsw;
-    serials = rest.serials;
-    drawn = rest.drawn;
-    starts = rest.starts;
-    waiting = rest.waiting;
-    begun = rest.begun;
-    suspended = rest.suspended;
-    hold = rest.hold;
-    offered = rest.offered;
-    last_path = rest.last_path;
-    dedicated = rest.dedicated;
-  };
+-- both words, and the parts beside them
+abbrev pub state_made : PmcwState → Scsw → Rest → SubchannelState
+state_made pmcw scsw rest = record {
+  pmcw = pmcw;
+  scsw = scsw;
+  serials = rest.serials;
+  drawn = rest.drawn;
+  starts = rest.starts;
+  waiting = rest.waiting;
+  begun = rest.begun;
+  suspended = rest.suspended;
+  hold = rest.hold;
+  offered = rest.offered;
+  last_path = rest.last_path;
+  dedicated = rest.dedicated;
 }
+
+abbrev pub unwired_of : SubchannelSetup → Pmcw → Scsw → List Bool → Rest → Unwired
+unwired_of setup pmcw scsw up rest = record { setup = setup; state = state_made (state_of pmcw up) scsw rest }
 
 abbrev pub bare : SubchannelSetup → Pmcw → Scsw → List Bool → Rest → Subchannel
 bare setup pmcw scsw up rest = unwired_sub (unwired_of setup pmcw scsw up rest)
@@ -94,20 +95,7 @@ rest_in s = record {
 }
 
 abbrev pub with_rest : Unwired → Rest → Unwired
-with_rest s rest = record s {
-  state = record s.state {
-    serials = rest.serials;
-    drawn = rest.drawn;
-    starts = rest.starts;
-    waiting = rest.waiting;
-    begun = rest.begun;
-    suspended = rest.suspended;
-    hold = rest.hold;
-    offered = rest.offered;
-    last_path = rest.last_path;
-    dedicated = rest.dedicated;
-  };
-}
+with_rest s rest = with_state s (state_made s.state.pmcw s.state.scsw rest)
 
 -- what MODIFY SUBCHANNEL leaves for a word of zeros but for LPM and POM
 abbrev pub disabled : PmcwState → PmcwState

@@ -7,6 +7,7 @@
 #![tactic(auto)]
 
 pub mod law;
+mod looks;
 pub mod machine;
 pub mod opening;
 mod paths;

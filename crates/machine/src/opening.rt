@@ -20,7 +20,7 @@ use functions::Subchannel;
 use interruptions::Pending;
 use lookup::engines::Engines;
 use lookup::tables::SubchannelIndex;
-use memory::{Supply, push};
+use memory::{Supply, make_room, push};
 use signal_step::tables::configured;
 use std::alloc::{AllocError, Global};
 use storage_keys::Storage;
@@ -47,6 +47,7 @@ fn opened<S: Supply>(
     })
 }
 
+/// The subchannels of a configuration at the opening. Room for all is made first, so that none is moved.
 fn opened_all<S: Supply>(
     alloc: Global,
     supply: &mut S,
@@ -57,6 +58,7 @@ fn opened_all<S: Supply>(
     ensures memory { OnErr result (S.refused supply.new ≡ true) }
 {
     let mut subs = Vec::new(alloc);
+    make_room(supply, &mut subs, setups.len())?;
     for setup in setups {
         let sub = opened(alloc, supply, setup)?;
         push(supply, &mut subs, sub)?;

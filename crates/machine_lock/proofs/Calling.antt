@@ -26,10 +26,10 @@ not_called seat is =
       log = refl;
       turns = refl;
       owed = none;
-      kept = subst (λ (o : Option OwedCall). IsAnswered o seat.kept seat.kept) (sym none) refl;
+      waiting = subst (λ (o : Option OwedCall). IsAnswered o seat.waiting seat.waiting) (sym none) refl;
     }
 
-pub called : (old new : Seated) (owed : OwedCall) (answer : DeviceAnswer) → old.owed ≡ Some owed → new ≡ record old { calls = one_call_more old.calls; owed = None; kept = Some (report_of owed answer) } → IsCalled old new
+pub called : (old new : Seated) (owed : OwedCall) (answer : DeviceAnswer) → old.owed ≡ Some owed → new ≡ record old { calls = one_call_more old.calls; owed = None; waiting = Some (report_of owed answer) } → IsCalled old new
 called old new owed answer was is = record {
   number = ap (λ (s : Seated). s.number) is;
   setup = ap (λ (s : Seated). s.setup) is;
@@ -37,7 +37,7 @@ called old new owed answer was is = record {
   log = ap (λ (s : Seated). s.log) is;
   turns = ap (λ (s : Seated). s.turns) is;
   owed = ap (λ (s : Seated). s.owed) is;
-  kept = subst (λ (o : Option OwedCall). IsAnswered o old.kept new.kept) (sym was) (answer, ap (λ (s : Seated). s.kept) is);
+  waiting = subst (λ (o : Option OwedCall). IsAnswered o old.waiting new.waiting) (sym was) (answer, ap (λ (s : Seated). s.waiting) is);
 }
 
 waiting_called : (d : Setup) (roam : Bool) (at : ℕ) (first old new : Option WaitingReport) (o : Option OwedCall) → IsOwedBy d roam at o → IsAnswered o old new → IsWaitingFrom d roam at first old → IsWaitingFrom d roam at first new
@@ -49,8 +49,8 @@ works_called roam at a b c n works by called = record {
   number = called.number ∙ works.number;
   setup = called.setup ∙ works.setup;
   directory = called.directory ∙ works.directory;
-  kept = waiting_called a.setup roam at a.kept b.kept c.kept b.owed by called.kept works.kept;
-  log = subst (λ (l : List Entry). Grew (IsOfWorker a.setup roam at a.kept) a.log l n) (sym called.log) works.log;
+  waiting = waiting_called a.setup roam at a.waiting b.waiting c.waiting b.owed by called.waiting works.waiting;
+  log = subst (λ (l : List Entry). Grew (IsOfWorker a.setup roam at a.waiting) a.log l n) (sym called.log) works.log;
 }
 
 module _ {D : Type 0} (passes : ℕ → ℕ → Type 0) (answers : D → Call → DeviceAnswer → D → Type 0) where

@@ -57,7 +57,7 @@ impl<J: MachineBrand, P: PathChoice + Drop> Machine<J, P> {
         ensures number { seat.new.value.number ≡ seat.old.value.number }
         ensures most { result ≤ turns }
         ensures each { AreUnitTurns P.picks (G.passes gate.now) D.answers roam «unit» turns seat.old device.old seat.new device.new result }
-        ensures log { Grew (IsOfWorker seat.old.value.setup roam «unit» seat.old.value.kept) seat.old.value.log seat.new.value.log result }
+        ensures log { Grew (IsOfWorker seat.old.value.setup roam «unit» seat.old.value.waiting) seat.old.value.log seat.new.value.log result }
     {
         let mut added = 0;
         for _turn in 0..turns {

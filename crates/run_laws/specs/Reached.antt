@@ -49,6 +49,6 @@ CantFetch storage orb acts moved =
 
 -- A command begins: one that brings bytes in is told at once how many may come, and none where the first of them can't be reached
 abbrev pub BeginsData : Contents → Orb → ℕ → ℕ → Bool → Sequence Act → Type 0
-BeginsData storage orb code room kept acts =
-    (room ≡ (if brings (class_of code) && not kept then room_of orb acts [] else 0)) × (kept ≡ true → CantReach storage orb acts [])
-    × (kept ≡ false → brings (class_of code) ≡ true → is_short orb acts [] ≡ false)
+BeginsData storage orb code room stopped_by_check acts =
+    (room ≡ (if brings (class_of code) && not stopped_by_check then room_of orb acts [] else 0)) × (stopped_by_check ≡ true → CantReach storage orb acts [])
+    × (stopped_by_check ≡ false → brings (class_of code) ≡ true → is_short orb acts [] ≡ false)

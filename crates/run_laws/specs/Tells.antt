@@ -57,8 +57,8 @@ command_sent (Some sent) =
 abbrev pub GoesTo : Contents → Option SentCommand → Sequence Act → ProgramTrace → ProgramTrace → Type 0
 GoesTo storage (Some c) acts k after =
     (c.number ≡ k.number) × (c.command ≡ k.sent + 1) × (each code (commands k.orb acts) ≡ each code (commands k.orb k.now.acts) ▸ c.sent_code)
-    × (kept : Bool) × BeginsData storage k.orb c.sent_code c.room kept acts
-    × (after ≡ record k { sent = k.sent + 1; now = record no_trace { acts = acts; kept = kept }; before = k.now })
+    × (stopped_by_check : Bool) × BeginsData storage k.orb c.sent_code c.room stopped_by_check acts
+    × (after ≡ record k { sent = k.sent + 1; now = record no_trace { acts = acts; stopped_by_check = stopped_by_check }; before = k.now })
 GoesTo storage None acts k after =
     (each code (commands k.orb acts) ≡ each code (commands k.orb k.now.acts)) × (after ≡ record k { now = record k.now { acts = acts } })
 
@@ -89,7 +89,7 @@ Accepted storage s next sent k after =
 -- How many bytes a Data moves: of a write, of those that the device says it absorbed, where it is the next, as many as there is room
 -- for at the next indices; and of a write, how many are given next
 abbrev pub has_stopped : CommandTrace → Bool
-has_stopped k = k.stopped || k.kept
+has_stopped k = k.stopped || k.stopped_by_check
 
 abbrev pub room_in : Orb → CommandTrace → ℕ
 room_in orb k = room_of orb k.acts k.moved
@@ -103,9 +103,9 @@ given_of orb now = if has_stopped now || skips (data_areas orb now.acts) then 0 
 -- A check stops the transfer and is kept for the End: of a block that was chained to, or as the next bytes can't be reached, or for this
 -- other cause
 pub record Keeps (cause : Type 0) (storage : Contents) (orb : Orb) (k now : CommandTrace) : Type 0 where
-  pub stays : k.kept ≡ true → now.kept ≡ true
-  pub because : now.kept ≡ true → (k.kept ≡ true) ⊎ ((has_check orb now.acts ≡ true) ⊎ (CantReach storage orb now.acts now.moved ⊎ cause))
-  pub without : now.kept ≡ false → (has_check orb now.acts ≡ false) × (is_short orb now.acts now.moved ≡ false)
+  pub stays : k.stopped_by_check ≡ true → now.stopped_by_check ≡ true
+  pub because : now.stopped_by_check ≡ true → (k.stopped_by_check ≡ true) ⊎ ((has_check orb now.acts ≡ true) ⊎ (CantReach storage orb now.acts now.moved ⊎ cause))
+  pub without : now.stopped_by_check ≡ false → (has_check orb now.acts ≡ false) × (is_short orb now.acts now.moved ≡ false)
 
 -- Data of a write: what the device absorbed of a chunk is moved; and the next chunk that is given is copied from the next places.
 -- Those places the next chunk and the count tell
@@ -126,8 +126,8 @@ pub record Gives (storage : Contents) (orb : Orb) (count next : ℕ) (bytes : Li
 -- Data of a read: its bytes are stored, as many as there is room for, where it is the next, so that none is stored twice; or none
 -- are, and storage stays, where it is another, a check was kept before, or storage refuses them
 abbrev pub Stores : Contents → Contents → Orb → ℕ → Bool → ℕ → List ℕ → CommandTrace → CommandTrace → Type 0
-Stores former storage orb fits kept s bytes k now =
-    ((s ≡ length k.arrived + 1 → (kept ≡ true) ⊎ CantStore former orb k.acts k.moved (take fits bytes)) × (storage ≡ former) × (now.arrived ≡ k.arrived) × (now.moved ≡ k.moved))
+Stores former storage orb fits stopped_by_check s bytes k now =
+    ((s ≡ length k.arrived + 1 → (stopped_by_check ≡ true) ⊎ CantStore former orb k.acts k.moved (take fits bytes)) × (storage ≡ former) × (now.arrived ≡ k.arrived) × (now.moved ≡ k.moved))
     ⊎ ((s ≡ length k.arrived + 1) × (places : List (Option ℕ))
     × (now.arrived ≡ k.arrived ++ record { former = former.bytes; chunk = record { storage = storage.bytes; places = places; bytes = take fits bytes } } ∷ [])
     × (now.moved ≡ k.moved ++ places) × (storage ≡ record former { bytes = storage.bytes }))
@@ -142,7 +142,7 @@ pub record GivesNext (storage : Contents) (orb : Orb) (s count : ℕ) (bytes : L
 
 -- Data of a read: its bytes are stored, and the device is told how many more there is room for
 pub record TakesNext (former storage : Contents) (orb : Orb) (s : ℕ) (bytes : List ℕ) (more : ℕ) (k now : CommandTrace) : Type 0 where
-  pub stores : Stores former storage orb (room_in orb k) k.kept s bytes k now
+  pub stores : Stores former storage orb (room_in orb k) k.stopped_by_check s bytes k now
   pub copied : now.copied ≡ k.copied
   pub keeps : Keeps (CantStore former orb k.acts k.moved (take (room_in orb k) bytes)) storage orb k now
   pub more_room : more ≡ (if has_stopped now then 0 else room_in orb now)
@@ -159,9 +159,9 @@ MovesBy former storage orb s load signal k now = ⊥
 -- Data is chained where bytes were moved, and those that were moved so far are all that the counts ask for, unless a check was kept:
 -- the latest block says whether another is next
 abbrev pub is_used_up : Orb → Bool → CommandTrace → CommandTrace → Bool
-is_used_up orb kept k now =
+is_used_up orb stopped_by_check k now =
     nat_lt (length k.moved) (length now.moved)
-    && ((length now.moved == counts (data_areas orb k.acts)) && (is_some (next_used_up (latest orb k.acts)) && not kept))
+    && ((length now.moved == counts (data_areas orb k.acts)) && (is_some (next_used_up (latest orb k.acts)) && not stopped_by_check))
 
 abbrev pub acts_used : Bool → Sequence Act → Sequence Act
 acts_used used acts = if used then acts ▸ Used_up else acts
@@ -179,7 +179,7 @@ abbrev pub Moves : Contents → Contents → ℕ → Load → Option (OnPath Dow
 Moves former storage s load None k after = ⊥
 Moves former storage s load (Some sent) k after =
     (now : CommandTrace) × (after ≡ record k { now = now })
-    × AddsFetched storage k.orb (acts_used (is_used_up k.orb k.now.kept k.now now) k.now.acts) now.acts
+    × AddsFetched storage k.orb (acts_used (is_used_up k.orb k.now.stopped_by_check k.now now) k.now.acts) now.acts
     × (each code (commands k.orb now.acts) ≡ each code (commands k.orb k.now.acts)) × (now.ended ≡ k.now.ended) × (now.unchained ≡ k.now.unchained)
     × MovesBy former storage k.orb s load sent.signal k.now now
 
@@ -200,7 +200,7 @@ is_length_wrong orb k halted status more ccw =
 abbrev pub breaks : Orb → CommandTrace → Bool → DeviceStatus → Bool → Bool
 breaks orb k halted status more =
     k.unchained || (has_unit_check status || (has_unit_exception status
-    || (elim (latest orb k.acts) [ None ↦ false | Some last ↦ is_length_wrong orb k halted status more last.ccw ] || (k.kept || halted))))
+    || (elim (latest orb k.acts) [ None ↦ false | Some last ↦ is_length_wrong orb k halted status more last.ccw ] || (k.stopped_by_check || halted))))
 
 abbrev pub IsChained : Bool → Bool → DeviceStatus → Bool → ProgramTrace → Type 0
 IsChained chains halted status more k = (is_some (next k.orb (k.now.acts ▸ ended true status)) && not (breaks k.orb k.now halted status more)) ≡ chains

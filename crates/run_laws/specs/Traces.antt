@@ -38,7 +38,7 @@ pub record CommandTrace : Type 0 where
   pub given : ℕ
   pub stopped : Bool
   -- whether a check stops its data, which its End shows; whether an End of it came; and whether nothing is chained to it any more
-  pub kept : Bool
+  pub stopped_by_check : Bool
   pub ended : Bool
   pub unchained : Bool
 
@@ -51,7 +51,7 @@ no_trace = record {
   sequence = 0;
   given = 0;
   stopped = false;
-  kept = false;
+  stopped_by_check = false;
   ended = false;
   unchained = false;
 }

@@ -12,7 +12,7 @@ use Rattle.script_rows.specs.Settings.{configured}
 use Rattle.script.specs.declared.Line.{Line}
 use Rattle.script.specs.declared.RaceLine.{RaceLine}
 use Rattle.script.specs.declared.draft.ScriptBuilder.{ScriptBuilder}
-use Rattle.script.specs.Saying.{Said, Nothing, Sets, first_is_storage, said, has_words, words_say}
+use Rattle.script.specs.Parsing.{Parsed, Nothing, Sets, first_is_storage, parsed, has_words, parsed_words}
 use Rattle.script.specs.Pieces.{words_between_blanks}
 use Rattle.script_rows.specs.Faults.{Says}
 use Rattle.std.specs.Str.{is_utf8}
@@ -22,7 +22,7 @@ use Rattle.script_rows.specs.declared.words.LineFault.TheVariants as line_fault
 use Rattle.script_rows.specs.declared.words.LineRule.{LineRule}
 use Rattle.script_rows.specs.declared.words.LineRule.TheVariants.{BadWord, StorageNotFirst}
 use Rattle.script.specs.Reading.{BadIn, BreaksRule, bad_by}
-use Rattle.script.specs.Drafts.{context, Hears, IsNext, IsDraftOf}
+use Rattle.script.specs.Drafts.{context, TakesLine, IsNext, IsDraftOf}
 
 or-false : (a : Bool) → (a || false) ≡ a
 or-false true = refl
@@ -38,14 +38,14 @@ set_up-append : (s : Setup) (xs ys : List Setting) → set_up s (xs ++ ys) ≡ s
 set_up-append s [] ys = refl
 set_up-append s (x ∷ xs) ys = set_up-append (setup_kept s (configured s x)) xs ys
 
-actions-more : (n : ℕ) (xs : List (List ℕ)) (x : List ℕ) → actions_from n (xs ++ x ∷ []) ≡ actions_from n xs ++ action_of (n + length xs) (said x)
+actions-more : (n : ℕ) (xs : List (List ℕ)) (x : List ℕ) → actions_from n (xs ++ x ∷ []) ≡ actions_from n xs ++ action_of (n + length xs) (parsed x)
 actions-more n [] x =
     let e : n ≡ n + 0 = omega arith in
-    append-nil (action_of n (said x)) ∙ ap (λ (m : ℕ). action_of m (said x)) e
+    append-nil (action_of n (parsed x)) ∙ ap (λ (m : ℕ). action_of m (parsed x)) e
 actions-more n (y ∷ ys) x =
     let e : n + 1 + length ys ≡ n + suc (length ys) = omega arith in
-    ap (λ (t : List Line). action_of n (said y) ++ t) (actions-more (n + 1) ys x ∙ ap (λ (m : ℕ). actions_from (n + 1) ys ++ action_of m (said x)) e)
-    ∙ sym (append_assoc (action_of n (said y)) (actions_from (n + 1) ys) (action_of (n + suc (length ys)) (said x)))
+    ap (λ (t : List Line). action_of n (parsed y) ++ t) (actions-more (n + 1) ys x ∙ ap (λ (m : ℕ). actions_from (n + 1) ys ++ action_of m (parsed x)) e)
+    ∙ sym (append_assoc (action_of n (parsed y)) (actions_from (n + 1) ys) (action_of (n + suc (length ys)) (parsed x)))
 
 latest-twice : (a b c : Option RaceLine) → latest a (latest b c) ≡ latest (latest a b) c
 latest-twice a b None = refl
@@ -55,14 +55,14 @@ latest-none : (a : Option RaceLine) → latest None a ≡ a
 latest-none None = refl
 latest-none (Some a) = refl
 
-race-more : (n : ℕ) (xs : List (List ℕ)) (x : List ℕ) → race_from n (xs ++ x ∷ []) ≡ latest (race_from n xs) (race_of (n + length xs) (said x))
+race-more : (n : ℕ) (xs : List (List ℕ)) (x : List ℕ) → race_from n (xs ++ x ∷ []) ≡ latest (race_from n xs) (race_of (n + length xs) (parsed x))
 race-more n [] x =
     let e : n ≡ n + 0 = omega arith in
-    ap (λ (m : ℕ). race_of m (said x)) e ∙ sym (latest-none (race_of (n + 0) (said x)))
+    ap (λ (m : ℕ). race_of m (parsed x)) e ∙ sym (latest-none (race_of (n + 0) (parsed x)))
 race-more n (y ∷ ys) x =
     let e : n + 1 + length ys ≡ n + suc (length ys) = omega arith in
-    ap (latest (race_of n (said y))) (race-more (n + 1) ys x ∙ ap (λ (m : ℕ). latest (race_from (n + 1) ys) (race_of m (said x))) e)
-    ∙ latest-twice (race_of n (said y)) (race_from (n + 1) ys) (race_of (n + suc (length ys)) (said x))
+    ap (latest (race_of n (parsed y))) (race-more (n + 1) ys x ∙ ap (λ (m : ℕ). latest (race_from (n + 1) ys) (race_of m (parsed x))) e)
+    ∙ latest-twice (race_of n (parsed y)) (race_from (n + 1) ys) (race_of (n + suc (length ys)) (parsed x))
 
 same_context : (b b' a a' : Bool) (s s' : Setup) → b ≡ b' → a ≡ a' → s ≡ s'
     → fault (record { begun = b; acted = a; setup = s }) ≡ fault (record { begun = b'; acted = a'; setup = s' })
@@ -102,32 +102,32 @@ drafted races lines i n old new line later lt num e after h f t =
     record {
       clean = clean-more races lines i h.clean (sym (same_fault races lines i old line later h e after) ∙ f);
       begun = t.begun ∙ ap (λ (b : Bool). b || has_words line) h.begun ∙ sym (any-more has_words (take i lines) line) ∙ ap (list_any has_words) (sym grown);
-      acted = t.acted ∙ ap (λ (b : Bool). b || is_action (said line)) h.acted ∙ sym (any-more (λ l. is_action (said l)) (take i lines) line)
-          ∙ ap (list_any (λ l. is_action (said l))) (sym grown);
-      setup = t.setup ∙ ap (λ (s : Setup). set_up s (setting_of (said line))) h.setup
-          ∙ sym (set_up-append no_setup (flat_map (λ l. setting_of (said l)) (take i lines)) (setting_of (said line)))
-          ∙ ap (set_up no_setup) (sym (flat-more (λ l. setting_of (said l)) (take i lines) line))
-          ∙ ap (λ (ls : List (List ℕ)). set_up no_setup (flat_map (λ l. setting_of (said l)) ls)) (sym grown);
-      lines = t.lines ∙ ap (λ (ls : List Line). ls ++ action_of n (said line)) h.lines ∙ ap (λ (m : ℕ). actions_from 1 (take i lines) ++ action_of m (said line)) at
+      acted = t.acted ∙ ap (λ (b : Bool). b || is_action (parsed line)) h.acted ∙ sym (any-more (λ l. is_action (parsed l)) (take i lines) line)
+          ∙ ap (list_any (λ l. is_action (parsed l))) (sym grown);
+      setup = t.setup ∙ ap (λ (s : Setup). set_up s (setting_of (parsed line))) h.setup
+          ∙ sym (set_up-append no_setup (flat_map (λ l. setting_of (parsed l)) (take i lines)) (setting_of (parsed line)))
+          ∙ ap (set_up no_setup) (sym (flat-more (λ l. setting_of (parsed l)) (take i lines) line))
+          ∙ ap (λ (ls : List (List ℕ)). set_up no_setup (flat_map (λ l. setting_of (parsed l)) ls)) (sym grown);
+      lines = t.lines ∙ ap (λ (ls : List Line). ls ++ action_of n (parsed line)) h.lines ∙ ap (λ (m : ℕ). actions_from 1 (take i lines) ++ action_of m (parsed line)) at
           ∙ sym (actions-more 1 (take i lines) line) ∙ ap (actions_from 1) (sym grown);
-      race = t.race ∙ ap (λ (r : Option RaceLine). latest r (race_of n (said line))) h.race
-          ∙ ap (λ (m : ℕ). latest (race_from 1 (take i lines)) (race_of m (said line))) at
+      race = t.race ∙ ap (λ (r : Option RaceLine). latest r (race_of n (parsed line))) h.race
+          ∙ ap (λ (m : ℕ). latest (race_from 1 (take i lines)) (race_of m (parsed line))) at
           ∙ sym (race-more 1 (take i lines) line) ∙ ap (race_from 1) (sym grown);
     }
 
 -- a setting that is taken or refused is what the line says
-pub set-ok : (r : Result Unit LineFault) (old new : ScriptBuilder) (setting : Setting) (number : ℕ) (may : Bool) (what : Result Said LineRule) → what ≡ Ok (Sets setting) →
-    OnOk r ((n : ℕ) (m : Bool) → (broken_by (context old) m (Ok (Sets setting)) ≡ None) × Hears old n (Ok (Sets setting)) new) →
-    OnOk r ((broken_by (context old) may what ≡ None) × Hears old number what new)
+pub set-ok : (r : Result Unit LineFault) (old new : ScriptBuilder) (setting : Setting) (number : ℕ) (may : Bool) (what : Result Parsed LineRule) → what ≡ Ok (Sets setting) →
+    OnOk r ((n : ℕ) (m : Bool) → (broken_by (context old) m (Ok (Sets setting)) ≡ None) × TakesLine old n (Ok (Sets setting)) new) →
+    OnOk r ((broken_by (context old) may what ≡ None) × TakesLine old number what new)
 set-ok (Ok done) old new setting number may what e h =
-    subst (λ (w : Result Said LineRule). (broken_by (context old) may w ≡ None) × Hears old number w new) (sym e) (h number may)
+    subst (λ (w : Result Parsed LineRule). (broken_by (context old) may w ≡ None) × TakesLine old number w new) (sym e) (h number may)
 set-ok (Err fault) old new setting number may what e h = tt
 
-pub set-err : (r : Result Unit LineFault) (old : ScriptBuilder) (setting : Setting) (may : Bool) (what : Result Said LineRule) → what ≡ Ok (Sets setting) →
+pub set-err : (r : Result Unit LineFault) (old : ScriptBuilder) (setting : Setting) (may : Bool) (what : Result Parsed LineRule) → what ≡ Ok (Sets setting) →
     IfErr r (λ f. (m : Bool) → BreaksRule f (broken_by (context old) m (Ok (Sets setting)))) →
     IfErr r (λ f. BreaksRule f (broken_by (context old) may what))
 set-err (Ok done) old setting may what e h = tt
-set-err (Err fault) old setting may what e h = subst (λ (w : Result Said LineRule). BreaksRule fault (broken_by (context old) may w)) (sym e) (h may)
+set-err (Err fault) old setting may what e h = subst (λ (w : Result Parsed LineRule). BreaksRule fault (broken_by (context old) may w)) (sym e) (h may)
 
 pub says-of : (r : Option Setting) (setting : Setting) (what : Option (Result Setting LineRule)) → r ≡ Some setting → Says (Ok r) what → what ≡ Some (Ok setting)
 says-of r setting what e h = subst (λ (x : Option Setting). Says (Ok x) what) e h
@@ -143,29 +143,29 @@ pub record IsWorded (old : ScriptBuilder) (line : List ℕ) (parts : List (List 
   pub readable : (nat_lt 1024 (length line) || not (is_utf8 line)) ≡ false
   pub words : parts ≡ words_between_blanks line
 
-said-worded : (old : ScriptBuilder) (line : List ℕ) (words : List (List ℕ)) → IsWorded old line words → said line ≡ words_say words
-said-worded old line words is =
-    ap (λ (b : Bool). if b then Err BadWord else (if has_words line then words_say (words_between_blanks line) else Ok Nothing)) is.readable
-    ∙ ap (λ (b : Bool). if b then words_say (words_between_blanks line) else Ok Nothing) is.worded ∙ ap words_say (sym is.words)
+parsed-worded : (old : ScriptBuilder) (line : List ℕ) (words : List (List ℕ)) → IsWorded old line words → parsed line ≡ parsed_words words
+parsed-worded old line words is =
+    ap (λ (b : Bool). if b then Err BadWord else (if has_words line then parsed_words (words_between_blanks line) else Ok Nothing)) is.readable
+    ∙ ap (λ (b : Bool). if b then parsed_words (words_between_blanks line) else Ok Nothing) is.worded ∙ ap parsed_words (sym is.words)
 
 pub taken-clean : (old : ScriptBuilder) (line : List ℕ) (words : List (List ℕ)) (may : Bool) → IsWorded old line words →
-    broken_by (context old) may (words_say words) ≡ None → fault (context old) may line ≡ None
+    broken_by (context old) may (parsed_words words) ≡ None → fault (context old) may line ≡ None
 taken-clean old line words may is none =
-    let other = broken_by (context old) may (said line) in
+    let other = broken_by (context old) may (parsed line) in
     ap (λ (b : Bool). if b && (not old.begun && not (first_is_storage (words_between_blanks line))) then Some StorageNotFirst else other) is.worded
     ∙ ap (λ (b : Bool). if b then Some StorageNotFirst else other) is.begun
-    ∙ ap (broken_by (context old) may) (said-worded old line words is) ∙ none
+    ∙ ap (broken_by (context old) may) (parsed-worded old line words is) ∙ none
 
-pub taken-next : (old mid : ScriptBuilder) (n : ℕ) (line : List ℕ) (words : List (List ℕ)) → IsWorded old line words → Hears old n (words_say words) mid →
+pub taken-next : (old mid : ScriptBuilder) (n : ℕ) (line : List ℕ) (words : List (List ℕ)) → IsWorded old line words → TakesLine old n (parsed_words words) mid →
     IsNext old n line (record { config = mid.config; begun = true; acted = mid.acted; lines = mid.lines; race = mid.race })
 taken-next old mid n line words is h =
-    let what = sym (said-worded old line words is) in
+    let what = sym (parsed-worded old line words is) in
     record {
       begun = sym (ap (λ (b : Bool). old.begun || b) is.worded ∙ or-true old.begun);
-      acted = h.acted ∙ ap (λ (w : Result Said LineRule). old.acted || is_action w) what;
-      setup = h.setup ∙ ap (λ (w : Result Said LineRule). set_up old.config (setting_of w)) what;
-      lines = h.lines ∙ ap (λ (w : Result Said LineRule). old.lines ++ action_of n w) what;
-      race = h.race ∙ ap (λ (w : Result Said LineRule). latest old.race (race_of n w)) what;
+      acted = h.acted ∙ ap (λ (w : Result Parsed LineRule). old.acted || is_action w) what;
+      setup = h.setup ∙ ap (λ (w : Result Parsed LineRule). set_up old.config (setting_of w)) what;
+      lines = h.lines ∙ ap (λ (w : Result Parsed LineRule). old.lines ++ action_of n w) what;
+      race = h.race ∙ ap (λ (w : Result Parsed LineRule). latest old.race (race_of n w)) what;
     }
 
 -- the draft of all lines, behind the last of which no line follows

@@ -1,5 +1,5 @@
 pub mod Pieces
-pub mod Saying
+pub mod Parsing
 pub mod Scripts
 pub mod Reading
 pub mod Drafts

@@ -10,10 +10,10 @@ use Rattle.script.specs.declared.Line.{Line}
 use Rattle.script.specs.declared.RaceLine.{RaceLine}
 use Rattle.script.specs.Pieces.{words_between_blanks}
 use Rattle.script_rows.specs.Settings.{configured}
-use Rattle.script.specs.Saying.{Said, Nothing, Sets, Does, Races, has_words, said, first_is_storage}
+use Rattle.script.specs.Parsing.{Parsed, Nothing, Sets, Does, Races, has_words, parsed, first_is_storage}
 
 -- the settings of a line, none or one
-abbrev pub setting_of : Result Said LineRule → List Setting
+abbrev pub setting_of : Result Parsed LineRule → List Setting
 setting_of (Ok Nothing) = []
 setting_of (Ok (Sets setting)) = setting ∷ []
 setting_of (Ok (Does action)) = []
@@ -21,7 +21,7 @@ setting_of (Ok (Races race)) = []
 setting_of (Err rule) = []
 
 -- the actions of a line, none or one, under its number
-abbrev pub action_of : ℕ → Result Said LineRule → List Line
+abbrev pub action_of : ℕ → Result Parsed LineRule → List Line
 action_of n (Ok Nothing) = []
 action_of n (Ok (Sets setting)) = []
 action_of n (Ok (Does action)) = record { number = n; action = action } ∷ []
@@ -29,7 +29,7 @@ action_of n (Ok (Races race)) = []
 action_of n (Err rule) = []
 
 -- the race of a line, under its number
-abbrev pub race_of : ℕ → Result Said LineRule → Option RaceLine
+abbrev pub race_of : ℕ → Result Parsed LineRule → Option RaceLine
 race_of n (Ok Nothing) = None
 race_of n (Ok (Sets setting)) = None
 race_of n (Ok (Does action)) = None
@@ -37,7 +37,7 @@ race_of n (Ok (Races race)) = Some (record { number = n; race = race })
 race_of n (Err rule) = None
 
 -- a line that drives the machine
-abbrev pub is_action : Result Said LineRule → Bool
+abbrev pub is_action : Result Parsed LineRule → Bool
 is_action (Ok Nothing) = false
 is_action (Ok (Sets setting)) = false
 is_action (Ok (Does action)) = true
@@ -56,7 +56,7 @@ set_up s (x ∷ xs) = set_up (setup_kept s (configured s x)) xs
 -- the actions of the lines, the first of which has the number n
 abbrev pub actions_from : ℕ → List (List ℕ) → List Line
 actions_from n [] = []
-actions_from n (line ∷ lines) = action_of n (said line) ++ actions_from (n + 1) lines
+actions_from n (line ∷ lines) = action_of n (parsed line) ++ actions_from (n + 1) lines
 
 -- the race of the lines, the first of which has the number n; a later one counts, where there were several
 abbrev pub latest : Option RaceLine → Option RaceLine → Option RaceLine
@@ -65,7 +65,7 @@ latest earlier (Some race) = Some race
 
 abbrev pub race_from : ℕ → List (List ℕ) → Option RaceLine
 race_from n [] = None
-race_from n (line ∷ lines) = latest (race_of n (said line)) (race_from (n + 1) lines)
+race_from n (line ∷ lines) = latest (race_of n (parsed line)) (race_from (n + 1) lines)
 
 -- what the lines before a line decide about it: whether some had words, whether some drove the machine, and the set-up
 pub record Context : Type 0 where
@@ -76,8 +76,8 @@ pub record Context : Type 0 where
 abbrev pub context_of : List (List ℕ) → Context
 context_of before = record {
   begun = list_any has_words before;
-  acted = list_any (λ line. is_action (said line)) before;
-  setup = set_up no_setup (flat_map (λ line. setting_of (said line)) before);
+  acted = list_any (λ line. is_action (parsed line)) before;
+  setup = set_up no_setup (flat_map (λ line. setting_of (parsed line)) before);
 }
 
 -- whichever rule of configurations is broken
@@ -94,7 +94,7 @@ refused_race false = Some MisplacedRace
 abbrev pub may_race : Bool → List (List ℕ) → Bool
 may_race races later = races && not (list_any has_words later)
 
-abbrev pub broken_by : Context → Bool → Result Said LineRule → Option LineRule
+abbrev pub broken_by : Context → Bool → Result Parsed LineRule → Option LineRule
 broken_by c may (Err rule) = Some rule
 broken_by c may (Ok Nothing) = None
 broken_by c may (Ok (Sets setting)) = if c.acted then Some SettingAfterAction else refused_setting (configured c.setup setting)
@@ -103,7 +103,7 @@ broken_by c may (Ok (Races race)) = refused_race may
 
 -- the first rule that a line breaks after these lines; that the first line with words is no `storage` line comes before all others
 abbrev pub fault : Context → Bool → List ℕ → Option LineRule
-fault c may line = if has_words line && (not c.begun && not (first_is_storage (words_between_blanks line))) then Some StorageNotFirst else broken_by c may (said line)
+fault c may line = if has_words line && (not c.begun && not (first_is_storage (words_between_blanks line))) then Some StorageNotFirst else broken_by c may (parsed line)
 
 -- the same of the line with n lines before it
 abbrev pub fault_at : Bool → List (List ℕ) → ℕ → Option LineRule
@@ -126,7 +126,7 @@ pub record IsScript (races : Bool) (text : List (List ℕ)) (s : ScriptContents)
   -- some line has words, so `storage` comes first
   pub begun : list_any has_words text ≡ true
   -- the settings in order make the set-up, and the actions stand in order under the numbers of their lines
-  pub setup : s.setup ≡ set_up no_setup (flat_map (λ line. setting_of (said line)) text)
+  pub setup : s.setup ≡ set_up no_setup (flat_map (λ line. setting_of (parsed line)) text)
   pub lines : s.lines ≡ actions_from 1 text
   -- the race, where there is one, stands in the last line
   pub race : s.race ≡ race_from 1 text

@@ -2,15 +2,15 @@
 
 ghost use Rattle.std.specs.Prelude.{◌≡◌, ◌≢◌, ◌∷◌, ℕ, Bool, List, true, Some, OnOk, OnErr, IfErr, IfOk, None, Ok, Err, length, map};
 ghost use Rattle.script.specs.Pieces.{lines_of, words_between_blanks};
-ghost use Rattle.script.specs.Saying.{Sets, action_said, first_is_storage, has_words as words_stand, is_ascii, race_said, words_say};
+ghost use Rattle.script.specs.Parsing.{Sets, parsed_action, first_is_storage, has_words as words_stand, is_ascii, parsed_race, parsed_words};
 ghost use Rattle.script_rows.specs.Slots.{action_at, rows_at};
 ghost use Rattle.script.specs.Scripts as spec;
-ghost use Rattle.script.specs.Drafts.{context, Hears, IsNext, IsDraftOf};
+ghost use Rattle.script.specs.Drafts.{context, TakesLine, IsNext, IsDraftOf};
 ghost use Rattle.script.specs.Reading.{BreaksRule, BadIn, bad_by};
 
 use crate::lines::Lines;
 use crate::pieces::find;
-use crate::said::{has_words, is_readable};
+use crate::readable::{has_words, is_readable};
 use crate::text::{TextLine, some_have_words};
 use crate::{RaceLine, ScriptBad};
 use channel_config::config::{Config, ConfigFault};
@@ -38,7 +38,7 @@ pub struct ScriptBuilder {
 /// A line of a text, with the lines that follow it: its number, whether it is known to be of ASCII, and whether the command lets its
 /// text race.
 #[derive(Drop)]
-struct GivenLine<'a> {
+struct NextLine<'a> {
     number: u64,
     plain: bool,
     races: bool,
@@ -75,7 +75,7 @@ fn set<S: Supply>(
     setting: &Setting,
 ) -> Result<(), LineFault>
     ensures ok { OnOk result ((number : ℕ) (may : Bool) → (spec.broken_by (context draft.old) may (Ok (Sets setting.now)) ≡ None) ×
-        Hears draft.old number (Ok (Sets setting.now)) draft.new) }
+        TakesLine draft.old number (Ok (Sets setting.now)) draft.new) }
     ensures err { IfErr result (λ f. (may : Bool) → BreaksRule f (spec.broken_by (context draft.old) may (Ok (Sets setting.now)))) }
     ensures unrefused { OnOk result (S.refused supply.new ≡ S.refused supply.old) }
     ensures memory { result ≡ Err LineFault.NoMemory → S.refused supply.new ≡ true }
@@ -91,29 +91,29 @@ fn set<S: Supply>(
 }
 
 /// Whether a race may be in this line.
-fn may_race(given: &GivenLine<'_>) -> bool
-    ensures { result ≡ spec.may_race given.now.races given.now.line.later }
+fn may_race(next: &NextLine<'_>) -> bool
+    ensures { result ≡ spec.may_race next.now.races next.now.line.later }
 {
-    given.races && !some_have_words(given.line.later())
+    next.races && !some_have_words(next.line.later())
 }
 
 /// Takes the race of a line, or the rule that its words break.
 fn race(
     draft: &mut ScriptBuilder,
-    given: &GivenLine<'_>,
-    said: Result<Race, LineRule>,
+    next: &NextLine<'_>,
+    parsed: Result<Race, LineRule>,
 ) -> Result<(), LineFault>
-    ensures ok { OnOk result ((spec.broken_by (context draft.old) (spec.may_race given.now.races given.now.line.later) (race_said said) ≡ None) ×
-        Hears draft.old given.now.number (race_said said) draft.new) }
-    ensures err { IfErr result (λ f. BreaksRule f (spec.broken_by (context draft.old) (spec.may_race given.now.races given.now.line.later) (race_said said))) }
+    ensures ok { OnOk result ((spec.broken_by (context draft.old) (spec.may_race next.now.races next.now.line.later) (parsed_race parsed) ≡ None) ×
+        TakesLine draft.old next.now.number (parsed_race parsed) draft.new) }
+    ensures err { IfErr result (λ f. BreaksRule f (spec.broken_by (context draft.old) (spec.may_race next.now.races next.now.line.later) (parsed_race parsed))) }
     ensures memory { result ≢ Err LineFault.NoMemory }
 {
-    let race = said?;
-    if !may_race(given) {
+    let race = parsed?;
+    if !may_race(next) {
         return Err(LineFault::Rule(LineRule::MisplacedRace));
     }
     draft.race = Some(RaceLine {
-        number: given.number,
+        number: next.number,
         race,
     });
     draft.acted = true;
@@ -127,15 +127,15 @@ fn act<S: Supply>(
     draft: &mut ScriptBuilder,
     slot: &ActionSlot,
     number: u64,
-    said: Result<bool, LineRule>,
+    parsed: Result<bool, LineRule>,
 ) -> Result<(), LineFault>
-    ensures ok { OnOk result ((may : Bool) → (spec.broken_by (context draft.old) may (action_said (rows_at said (action_at slot.now))) ≡ None) ×
-        Hears draft.old number (action_said (rows_at said (action_at slot.now))) draft.new) }
-    ensures err { IfErr result (λ f. (may : Bool) → BreaksRule f (spec.broken_by (context draft.old) may (action_said (rows_at said (action_at slot.now))))) }
+    ensures ok { OnOk result ((may : Bool) → (spec.broken_by (context draft.old) may (parsed_action (rows_at parsed (action_at slot.now))) ≡ None) ×
+        TakesLine draft.old number (parsed_action (rows_at parsed (action_at slot.now))) draft.new) }
+    ensures err { IfErr result (λ f. (may : Bool) → BreaksRule f (spec.broken_by (context draft.old) may (parsed_action (rows_at parsed (action_at slot.now))))) }
     ensures unrefused { OnOk result (S.refused supply.new ≡ S.refused supply.old) }
     ensures memory { result ≡ Err LineFault.NoMemory → S.refused supply.new ≡ true }
 {
-    if !said? {
+    if !parsed? {
         return Err(LineFault::Rule(LineRule::UnknownWord));
     }
     draft.lines.add(supply, number, slot)?;
@@ -146,42 +146,42 @@ fn act<S: Supply>(
 /// Takes what the words of a line say, by the first of them: apart, as most lines are common ones.
 #[cold]
 #[inline(never)]
-fn hear_other<S: Supply>(
+fn parse_other<S: Supply>(
     alloc: Global,
     supply: &mut S,
     draft: &mut ScriptBuilder,
     slot: &mut ActionSlot,
-    given: &GivenLine<'_>,
-    said: &Sentence<'_, '_>,
+    next: &NextLine<'_>,
+    sentence: &Sentence<'_, '_>,
 ) -> Result<(), LineFault>
-    ensures ok { OnOk result ((spec.broken_by (context draft.old) (spec.may_race given.now.races given.now.line.later) (words_say (said.now.first.now ∷ map (λ w. w.now) said.now.others.now)) ≡ None) ×
-        Hears draft.old given.now.number (words_say (said.now.first.now ∷ map (λ w. w.now) said.now.others.now)) draft.new) }
-    ensures err { IfErr result (λ f. BreaksRule f (spec.broken_by (context draft.old) (spec.may_race given.now.races given.now.line.later) (words_say (said.now.first.now ∷ map (λ w. w.now) said.now.others.now)))) }
+    ensures ok { OnOk result ((spec.broken_by (context draft.old) (spec.may_race next.now.races next.now.line.later) (parsed_words (sentence.now.first.now ∷ map (λ w. w.now) sentence.now.others.now)) ≡ None) ×
+        TakesLine draft.old next.now.number (parsed_words (sentence.now.first.now ∷ map (λ w. w.now) sentence.now.others.now)) draft.new) }
+    ensures err { IfErr result (λ f. BreaksRule f (spec.broken_by (context draft.old) (spec.may_race next.now.races next.now.line.later) (parsed_words (sentence.now.first.now ∷ map (λ w. w.now) sentence.now.others.now)))) }
     ensures unrefused { OnOk result (S.refused supply.new ≡ S.refused supply.old) }
     ensures memory { result ≡ Err LineFault.NoMemory → S.refused supply.new ≡ true }
 {
-    if let Some(setting) = setting_row(alloc, supply, said.first, said.others)? {
+    if let Some(setting) = setting_row(alloc, supply, sentence.first, sentence.others)? {
         return set(supply, draft, &setting);
     }
-    if is_name(said.first, b"race".as_slice()) {
-        return race(draft, given, race_row(said.others));
+    if is_name(sentence.first, b"race".as_slice()) {
+        return race(draft, next, race_row(sentence.others));
     }
-    let asked = action_row(slot, said.first, said.others);
-    act(supply, draft, slot, given.number, asked)
+    let asked = action_row(slot, sentence.first, sentence.others);
+    act(supply, draft, slot, next.number, asked)
 }
 
 /// Takes what the words of a line say, by the first of them.
-fn hear<S: Supply>(
+fn parse<S: Supply>(
     alloc: Global,
     supply: &mut S,
     draft: &mut ScriptBuilder,
     slot: &mut ActionSlot,
-    given: &GivenLine<'_>,
+    next: &NextLine<'_>,
     words: &[&[u8]],
 ) -> Result<(), LineFault>
-    ensures ok { OnOk result ((spec.broken_by (context draft.old) (spec.may_race given.now.races given.now.line.later) (words_say (map (λ w. w.now) words.now)) ≡ None) ×
-        Hears draft.old given.now.number (words_say (map (λ w. w.now) words.now)) draft.new) }
-    ensures err { IfErr result (λ f. BreaksRule f (spec.broken_by (context draft.old) (spec.may_race given.now.races given.now.line.later) (words_say (map (λ w. w.now) words.now)))) }
+    ensures ok { OnOk result ((spec.broken_by (context draft.old) (spec.may_race next.now.races next.now.line.later) (parsed_words (map (λ w. w.now) words.now)) ≡ None) ×
+        TakesLine draft.old next.now.number (parsed_words (map (λ w. w.now) words.now)) draft.new) }
+    ensures err { IfErr result (λ f. BreaksRule f (spec.broken_by (context draft.old) (spec.may_race next.now.races next.now.line.later) (parsed_words (map (λ w. w.now) words.now)))) }
     ensures unrefused { OnOk result (S.refused supply.new ≡ S.refused supply.old) }
     ensures memory { result ≡ Err LineFault.NoMemory → S.refused supply.new ≡ true }
 {
@@ -189,15 +189,15 @@ fn hear<S: Supply>(
         return Err(LineFault::Rule(LineRule::UnknownWord));
     };
     match common_row(slot, first, others) {
-        Ok(false) => hear_other(
+        Ok(false) => parse_other(
             alloc,
             supply,
             draft,
             slot,
-            given,
+            next,
             &Sentence { first, others },
         ),
-        said => act(supply, draft, slot, given.number, said),
+        parsed => act(supply, draft, slot, next.number, parsed),
     }
 }
 
@@ -207,29 +207,29 @@ fn take_words<'a, S: Supply>(
     supply: &mut S,
     draft: &mut ScriptBuilder,
     desk: &mut Desk<'a>,
-    given: &GivenLine<'a>,
+    next: &NextLine<'a>,
 ) -> Result<(), LineFault>
-    requires worded { words_stand given.now.line.line ≡ true }
-    requires plain { given.now.plain ≡ true → is_ascii given.now.line.line ≡ true }
-    ensures ok { OnOk result ((spec.fault (context draft.old) (spec.may_race given.now.races given.now.line.later) given.now.line.line ≡ None) ×
-        IsNext draft.old given.now.number given.now.line.line draft.new) }
-    ensures err { IfErr result (λ f. BreaksRule f (spec.fault (context draft.old) (spec.may_race given.now.races given.now.line.later) given.now.line.line)) }
+    requires worded { words_stand next.now.line.line ≡ true }
+    requires plain { next.now.plain ≡ true → is_ascii next.now.line.line ≡ true }
+    ensures ok { OnOk result ((spec.fault (context draft.old) (spec.may_race next.now.races next.now.line.later) next.now.line.line ≡ None) ×
+        IsNext draft.old next.now.number next.now.line.line draft.new) }
+    ensures err { IfErr result (λ f. BreaksRule f (spec.fault (context draft.old) (spec.may_race next.now.races next.now.line.later) next.now.line.line)) }
     ensures unrefused { OnOk result (S.refused supply.new ≡ S.refused supply.old) }
     ensures memory { result ≡ Err LineFault.NoMemory → S.refused supply.new ≡ true }
 {
-    if !draft.begun && !begins(given.line.bytes()) {
+    if !draft.begun && !begins(next.line.bytes()) {
         return Err(LineFault::Rule(LineRule::StorageNotFirst));
     }
-    if !is_readable(given.plain, given.line.bytes()) {
+    if !is_readable(next.plain, next.line.bytes()) {
         return Err(LineFault::Rule(LineRule::BadWord));
     }
-    given.line.words_to(supply, &mut desk.words)?;
-    hear(
+    next.line.words_to(supply, &mut desk.words)?;
+    parse(
         alloc,
         supply,
         draft,
         &mut desk.slot,
-        given,
+        next,
         desk.words.as_slice(),
     )?;
     draft.begun = true;
@@ -242,19 +242,19 @@ fn take_line<'a, S: Supply>(
     supply: &mut S,
     draft: &mut ScriptBuilder,
     desk: &mut Desk<'a>,
-    given: &GivenLine<'a>,
+    next: &NextLine<'a>,
 ) -> Result<(), LineFault>
-    requires { given.now.plain ≡ true → is_ascii given.now.line.line ≡ true }
-    ensures ok { OnOk result ((spec.fault (context draft.old) (spec.may_race given.now.races given.now.line.later) given.now.line.line ≡ None) ×
-        IsNext draft.old given.now.number given.now.line.line draft.new) }
-    ensures err { IfErr result (λ f. BreaksRule f (spec.fault (context draft.old) (spec.may_race given.now.races given.now.line.later) given.now.line.line)) }
+    requires { next.now.plain ≡ true → is_ascii next.now.line.line ≡ true }
+    ensures ok { OnOk result ((spec.fault (context draft.old) (spec.may_race next.now.races next.now.line.later) next.now.line.line ≡ None) ×
+        IsNext draft.old next.now.number next.now.line.line draft.new) }
+    ensures err { IfErr result (λ f. BreaksRule f (spec.fault (context draft.old) (spec.may_race next.now.races next.now.line.later) next.now.line.line)) }
     ensures unrefused { OnOk result (S.refused supply.new ≡ S.refused supply.old) }
     ensures memory { result ≡ Err LineFault.NoMemory → S.refused supply.new ≡ true }
 {
-    if has_words(given.line.bytes()) {
-        return take_words(alloc, supply, draft, desk, given);
+    if has_words(next.line.bytes()) {
+        return take_words(alloc, supply, draft, desk, next);
     }
-    if is_readable(given.plain, given.line.bytes()) {
+    if is_readable(next.plain, next.line.bytes()) {
         Ok(())
     } else {
         Err(LineFault::Rule(LineRule::BadWord))
@@ -319,17 +319,17 @@ pub fn draft_of<S: Supply>(
     'lines: loop {
         let line = TextLine::first(rest);
         number += 1;
-        let given = GivenLine {
+        let next = NextLine {
             number,
             plain,
             races,
             line,
         };
-        match take_line(alloc, supply, &mut draft, &mut desk, &given) {
+        match take_line(alloc, supply, &mut draft, &mut desk, &next) {
             Ok(()) => {}
             Err(fault) => return Err(bad_line(number, fault)),
         }
-        match given.line.rest() {
+        match next.line.rest() {
             None => return Ok(draft),
             Some(later) => rest = later,
         }

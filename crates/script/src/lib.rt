@@ -10,12 +10,12 @@ mod draft;
 mod kept;
 pub mod lines;
 mod pieces;
-mod said;
+mod readable;
 mod text;
 
 use crate::draft::draft_of;
 use crate::lines::Lines;
-use crate::said::is_plain;
+use crate::readable::is_plain;
 use crate::text::some_have_words;
 use channel_config::config::Config;
 use memory::{Allocator, Supply};

@@ -3,10 +3,10 @@
 ghost use Rattle.std.specs.Prelude.{◌≡◌, ◌∷◌, [], MatchOption, OnOk, OnErr, map, true};
 ghost use Rattle.std.specs.List.{list_any};
 ghost use Rattle.script.specs.Pieces.{lines_of, words_between_blanks};
-ghost use Rattle.script.specs.Saying.{has_words as words_stand};
+ghost use Rattle.script.specs.Parsing.{has_words as words_stand};
 
 use crate::pieces::{STEP, find, marked_words_to, marks, short_pieces_to};
-use crate::said::has_words;
+use crate::readable::has_words;
 use memory::Supply;
 use std::alloc::AllocError;
 use std::marker::Model;

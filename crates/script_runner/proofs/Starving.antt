@@ -89,10 +89,10 @@ next_lacks devices index (Asked asks) is = with_lacks asks (answer_by (slice_get
 next_lacks devices index Nothing is = absurd (cc)
 
 -- a unit has a report, or not, whatever memory there is
-pub turn_lacks : (devices : List AnyDevice) (index : ℕ) (kept : Option (Option WaitingReport)) (turn : Option UnitTurn) → (turn_by devices index kept turn).report ≢ lacking
+pub turn_lacks : (devices : List AnyDevice) (index : ℕ) (waiting : Option (Option WaitingReport)) (turn : Option UnitTurn) → (turn_by devices index waiting turn).report ≢ lacking
 turn_lacks devices index None turn is = absurd (cc)
-turn_lacks devices index (Some kept) None is = absurd (cc)
-turn_lacks devices index (Some kept) (Some turn) is = next_lacks devices index (next_of kept turn) is
+turn_lacks devices index (Some waiting) None is = absurd (cc)
+turn_lacks devices index (Some waiting) (Some turn) is = next_lacks devices index (next_of waiting turn) is
 
 -- an action whose outcome is so is refused so
 pub starved_by : (r : Result Acted Fault) (h : List Entry) → is_starved (outcome_of r h) ≡ true → r ≡ Err fault.NoMemory
@@ -124,5 +124,5 @@ abbrev no_report : Fault → Result Report Fault
 no_report f = Err f
 
 -- where a unit has no report, its turn is not refused for want of memory
-pub turn_has_memory : (devices : List AnyDevice) (index : ℕ) (kept : Option (Option WaitingReport)) (turn : Option UnitTurn) (f : Fault) → (turn_by devices index kept turn).report ≡ no_report f → refusal f ≢ refusal fault.NoMemory
-turn_has_memory devices index kept turn f is same = turn_lacks devices index kept turn (is ∙ ap no_report (ap fault_in same))
+pub turn_has_memory : (devices : List AnyDevice) (index : ℕ) (waiting : Option (Option WaitingReport)) (turn : Option UnitTurn) (f : Fault) → (turn_by devices index waiting turn).report ≡ no_report f → refusal f ≢ refusal fault.NoMemory
+turn_has_memory devices index waiting turn f is same = turn_lacks devices index waiting turn (is ∙ ap no_report (ap fault_in same))

@@ -50,7 +50,7 @@ pub record Installed : Type 0 where
   pub past : Past
   pub books : Books
   pub devices : List AnyDevice
-  pub kept : List (Option WaitingReport)
+  pub waiting : List (Option WaitingReport)
 
 -- a machine that no lock guards and its one seat, as a past and its books
 abbrev pub past_of : LockedCore → HeldSeat → Past
@@ -74,7 +74,7 @@ opening_installed setup seat = record {
   past = record { state = opening_of setup; history = []; room = 0 };
   books = opening_books seat;
   devices = map device_of setup.units;
-  kept = replicate (length setup.units) None;
+  waiting = replicate (length setup.units) None;
 }
 
 -- a machine at its opening, with its first seat
@@ -145,14 +145,14 @@ turn_by_next devices index (Told report) = hands devices report
 turn_by_next devices index (Asked asks) = asked devices index asks
 turn_by_next devices index Nothing = turn_refused devices fault.NotNow
 
--- the report that is kept for a unit, else the one of its work
+-- the report that waits for a unit, else the one of its work
 abbrev pub turn_by : List AnyDevice → ℕ → Option (Option WaitingReport) → Option UnitTurn → DeviceTurn
 turn_by devices index None turn = turn_refused devices fault.NoSuchUnit
-turn_by devices index (Some kept) None = turn_refused devices fault.NoSuchUnit
-turn_by devices index (Some kept) (Some turn) = turn_by_next devices index (next_of kept turn)
+turn_by devices index (Some waiting) None = turn_refused devices fault.NoSuchUnit
+turn_by devices index (Some waiting) (Some turn) = turn_by_next devices index (next_of waiting turn)
 
 abbrev pub device_turn_of : Installed → ℕ → DeviceTurn
-device_turn_of old index = turn_by old.devices index (slice_get old.kept index) (unit_turn_of old.past.state index)
+device_turn_of old index = turn_by old.devices index (slice_get old.waiting index) (unit_turn_of old.past.state index)
 
 -- where an answer was given it stands in an index; and so does a report
 abbrev pub answer_when : Bool → DeviceAnswer → Option DeviceAnswer
@@ -168,13 +168,13 @@ abbrev pub IsWritten : ℕ → Result Unit Fault → Event → Result Report Fau
 IsWritten index (Ok done) e r = (report : Report) × (e ≡ event.Report index report) × (r ≡ Ok report)
 IsWritten index (Err f) e r = r ≡ Err f
 
--- a report is kept where it was refused for want of memory or of room on a wire, and only there
+-- a report waits on where it was refused for want of memory or of room on a wire, and only there
 abbrev pub EntersReport : Installed → ℕ → Report → Result Reply Fault → Installed → Type 0
 EntersReport old index report r new =
     Enters old.past (event.Report index report) r new.past
     × (new.books ≡ booked old.books (event.Report index report) r)
     × (new.devices ≡ old.devices)
-    × (new.kept ≡ slice_set old.kept index (waits_by (event.Report index report) r))
+    × (new.waiting ≡ slice_set old.waiting index (waits_by (event.Report index report) r))
 
 -- a turn of the device of a unit: its report is handed in, or it has none and nothing changes
 abbrev pub Follows : Installed → ℕ → Result Report Fault → Result Reply Fault → Installed → Type 0
@@ -207,7 +207,7 @@ LooksFrom old word own r new =
     × SeatLooks old.past.state old.books.seat word own new.books.seat
     × (new ≡ record old { books = record old.books { seat = new.books.seat } })
 
--- where a restart of a unit was accepted its device is put back to its opening; a report that is kept for it is kept on
+-- where a restart of a unit was accepted its device is put back to its opening; a report that waits for it waits on
 abbrev pub put_back : List AnyDevice → ℕ → Option AnyDevice → List AnyDevice
 put_back devices index None = devices
 put_back devices index (Some device) = slice_set devices index (device_opening device)
@@ -225,7 +225,7 @@ Happens old e r new =
     Enters old.past e r new.past
     × (new.books ≡ booked old.books e r)
     × (new.devices ≡ devices_left old.devices e r)
-    × (new.kept ≡ old.kept)
+    × (new.waiting ≡ old.waiting)
 
 abbrev pub PerformsAction : Installed → Action → ActionOutcome → Installed → Type 0
 PerformsAction old (action.Event e) r new =

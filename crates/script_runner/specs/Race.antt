@@ -139,12 +139,12 @@ new_seat setup core loaded = record {
   log = [];
   setup = setup;
   directory = directory_of core.state;
-  pairs = all_serials core.state;
+  seen_serials = all_serials core.state;
   loaded = loaded;
   turns = 0;
   calls = 0;
   owed = None;
-  kept = None;
+  waiting = None;
   left = None;
 }
 

@@ -93,21 +93,21 @@ fn first_seats<J: MachineBrand, S: CoreSupply>(
     Ok((seat, racers))
 }
 
-/// No report is kept for so many units.
+/// No report waits for so many units.
 fn no_reports<S: Supply>(
     alloc: Global,
     supply: &mut S,
     count: usize,
 ) -> Result<Vec<Option<WaitingReport>>, AllocError>
-    ensures none { IfOk result (λ kept. kept.items ≡ replicate count None) }
+    ensures none { IfOk result (λ waiting. waiting.items ≡ replicate count None) }
     ensures unrefused { OnOk result (S.refused supply.new ≡ S.refused supply.old) }
     ensures memory { OnErr result (S.refused supply.new ≡ true) }
 {
-    let mut kept = Vec::new(alloc);
+    let mut waiting = Vec::new(alloc);
     for _ in 0..count {
-        push(supply, &mut kept, None)?;
+        push(supply, &mut waiting, None)?;
     }
-    Ok(kept)
+    Ok(waiting)
 }
 
 /// The device of each unit at its opening, and no report for it.
@@ -117,13 +117,13 @@ pub(crate) fn opening_units<S: Supply>(
     kinds: &[UnitKind],
 ) -> Result<(Vec<AnyDevice>, Vec<Option<WaitingReport>>), AllocError>
     ensures devices { IfOk result (λ both. both.0.items ≡ map device_of kinds.now) }
-    ensures kept { IfOk result (λ both. both.1.items ≡ replicate (length kinds.now) None) }
+    ensures waiting { IfOk result (λ both. both.1.items ≡ replicate (length kinds.now) None) }
     ensures unrefused { OnOk result (S.refused supply.new ≡ S.refused supply.old) }
     ensures memory { OnErr result (S.refused supply.new ≡ true) }
 {
     let devices = opening_devices(alloc, supply, kinds)?;
-    let kept = no_reports(alloc, supply, kinds.len())?;
-    Ok((devices, kept))
+    let waiting = no_reports(alloc, supply, kinds.len())?;
+    Ok((devices, waiting))
 }
 
 /// The device of each unit, at its opening.

@@ -13,19 +13,19 @@ use machine_model::state::UnitTurn;
 use unit_driver::reporting::{NextReport, next_report};
 use unit_driver::waiting::WaitingReport;
 
-/// The report that is kept for a unit, else the one of its next work where this is its turn, written into a slot. Where there is
+/// The report that waits for a unit, else the one of its next work where this is its turn, written into a slot. Where there is
 /// a call of its device, it is made.
 pub(crate) fn reported_by(
     devices: &mut Vec<AnyDevice>,
     unit: u32,
-    kept: &Option<WaitingReport>,
+    waiting: &Option<WaitingReport>,
     turn: &UnitTurn<LentWork<'_>>,
     report: &mut Report,
 ) -> Result<(), Fault>
-    ensures report { spec.reported result report.new ≡ (spec.turn_by devices.old.items «unit» (Some kept.now) (Some (lent_turn turn.now))).report }
-    ensures calls { devices.new.items ≡ (spec.turn_by devices.old.items «unit» (Some kept.now) (Some (lent_turn turn.now))).devices }
+    ensures report { spec.reported result report.new ≡ (spec.turn_by devices.old.items «unit» (Some waiting.now) (Some (lent_turn turn.now))).report }
+    ensures calls { devices.new.items ≡ (spec.turn_by devices.old.items «unit» (Some waiting.now) (Some (lent_turn turn.now))).devices }
 {
-    match next_report(kept, turn, report) {
+    match next_report(waiting, turn, report) {
         NextReport::Told(()) => Ok(()),
         NextReport::Asked(call) => {
             if called(devices, unit, &call, &mut report.answer) {

@@ -57,7 +57,7 @@ pub struct ScriptedMachine<J: MachineBrand> {
     core: Core<J, Rotating>,
     seat: Seat<J>,
     devices: Vec<AnyDevice>,
-    kept: Vec<Option<WaitingReport>>,
+    waiting: Vec<Option<WaitingReport>>,
 }
 
 /// What an action came to that was not refused.
@@ -78,7 +78,7 @@ impl<J: MachineBrand> Model for ScriptedMachine<J> {
       past = past_of i.core i.seat;
       books = books_of i.core i.seat;
       devices = i.devices.items;
-      kept = i.kept.items;
+      waiting = i.waiting.items;
     } };
 }
 
@@ -101,21 +101,21 @@ impl<J: MachineBrand> ScriptedMachine<J> {
         ensures unrefused { OnOk result (S.refused supply.new ≡ S.refused supply.old) }
         ensures memory { OnErr result (S.refused supply.new ≡ true) }
     {
-        let (devices, kept) = opening_units(alloc, supply, config.units())?;
+        let (devices, waiting) = opening_units(alloc, supply, config.units())?;
         let (core, seat, racers) = opening_seats(alloc, supply, config, parts, cpus)?;
         let installation = ScriptedMachine {
             core,
             seat,
             devices,
-            kept,
+            waiting,
         };
         Ok((installation, racers))
     }
 
     /// Performs an action. An event that restarts a unit, where it is accepted, puts the unit's device back to its opening;
-    /// a report that is kept for the unit stays, and is refused NotNow by the unit's next turn. A turn of a device hands in
-    /// the report that is kept for its unit, else the one of the unit's next work. It is refused NoSuchUnit where the unit
-    /// is not configured, and NotNow where no report is kept and a signal waits for the unit, its program may ask for a
+    /// a report that waits for the unit stays, and is refused NotNow by the unit's next turn. A turn of a device hands in
+    /// the report that waits for its unit, else the one of the unit's next work. It is refused NoSuchUnit where the unit
+    /// is not configured, and NotNow where no report waits and a signal waits for the unit, its program may ask for a
     /// path, or it has nothing to do. A look at serials goes by the seat, whose reader loads what the
     /// subsystem has. It is refused NoSuchSubchannel where the subchannel is not configured. Room for the entry of an event is
     /// from a supply: it is refused NoMemory only where the supply refused it, or no number is left. The reply of an event is
@@ -217,7 +217,7 @@ impl<J: MachineBrand> ScriptedMachine<J> {
             core,
             seat,
             devices: _,
-            kept: _,
+            waiting: _,
         } = self;
         has_its_log(&core, seat)
     }
@@ -240,7 +240,7 @@ impl<J: MachineBrand> ScriptedMachine<J> {
             core,
             seat,
             devices: _,
-            kept: _,
+            waiting: _,
         } = self;
         let before = core.subsystem().history().len() as u64;
         let (core, seats, total) = racers.race(rt, core, seat, race);
@@ -324,15 +324,15 @@ impl<J: MachineBrand> ScriptedMachine<J> {
         came
     }
 
-    /// The report that is kept for a unit, else the one of its next work, written into a slot.
+    /// The report that waits for a unit, else the one of its next work, written into a slot.
     fn next_report(&mut self, unit: u32, report: &mut Report) -> Result<(), Fault>
         ensures report { spec.reported result report.new ≡ (spec.device_turn_of self.old «unit»).report }
         ensures calls { self.new ≡ record self.old { devices = (spec.device_turn_of self.old «unit»).devices } }
     {
-        report_among(&self.core, &mut self.devices, &self.kept, unit, report)
+        report_among(&self.core, &mut self.devices, &self.waiting, unit, report)
     }
 
-    /// Hands in a report. It is kept where it is refused for want of memory or of room on a wire, and only there.
+    /// Hands in a report. It waits on where it is refused for want of memory or of room on a wire, and only there.
     fn enter_report<M: Supply>(
         &mut self,
         supply: &mut M,
@@ -345,35 +345,35 @@ impl<J: MachineBrand> ScriptedMachine<J> {
         ensures memory { result ≡ Err fault_spec.NoMemory → (M.refused supply.new ≡ true) ⊎ spec.IsUsedUp self.old.past }
     {
         let answer = enter_from(&mut self.core, &mut self.seat, supply, event);
-        if let Some(kept) = self.kept.get_mut(unit as usize) {
+        if let Some(waiting) = self.waiting.get_mut(unit as usize) {
             match answer {
-                Ok(()) => forget(kept),
-                Err(fault) => keep_refused(kept, event, fault),
+                Ok(()) => forget(waiting),
+                Err(fault) => keep_refused(waiting, event, fault),
             }
         }
         answer
     }
 }
 
-/// The report that is kept among these for a unit, else the one of its next work, written into a slot.
+/// The report that waits among these for a unit, else the one of its next work, written into a slot.
 fn report_among<J: MachineBrand>(
     core: &Core<J, Rotating>,
     devices: &mut Vec<AnyDevice>,
-    kept: &[Option<WaitingReport>],
+    waiting: &[Option<WaitingReport>],
     unit: u32,
     report: &mut Report,
 ) -> Result<(), Fault>
-    ensures report { spec.reported result report.new ≡ (spec.turn_by devices.old.items «unit» (slice_get kept.now «unit») (unit_turn_of core.now.value.state «unit»)).report }
-    ensures calls { devices.new.items ≡ (spec.turn_by devices.old.items «unit» (slice_get kept.now «unit») (unit_turn_of core.now.value.state «unit»)).devices }
+    ensures report { spec.reported result report.new ≡ (spec.turn_by devices.old.items «unit» (slice_get waiting.now «unit») (unit_turn_of core.now.value.state «unit»)).report }
+    ensures calls { devices.new.items ≡ (spec.turn_by devices.old.items «unit» (slice_get waiting.now «unit») (unit_turn_of core.now.value.state «unit»)).devices }
 {
-    let Some(kept) = kept.get(unit as usize) else {
+    let Some(waiting) = waiting.get(unit as usize) else {
         return Err(Fault::NoSuchUnit);
     };
     let subsystem = core.subsystem();
     let Some(turn) = subsystem.lent_turn(unit) else {
         return Err(Fault::NoSuchUnit);
     };
-    reported_by(devices, unit, kept, &turn, report)
+    reported_by(devices, unit, waiting, &turn, report)
 }
 
 /// Whether the log of a machine's one seat is what the history has of it.

@@ -1,5 +1,7 @@
 //! The channel subsystem: its machine, and the history that led there.
 
+mod looks;
+
 ghost use Rattle.std.specs.Prelude.{◌≡◌, ◌≢◌, ◌⊎◌, ◌+◌, ◌^◌, ◌<◌, ◌≤◌, All, Err, List, ◌++◌, ◌∷◌, [], IfOk, IfErr, IfNone, IfSome, OnErr, OnOk, length, slice_get, true, vec_len, vec_capacity};
 ghost use Rattle.chan_events.specs.declared.reply.Entry.{Entry};
 ghost use Rattle.chan_model.specs.declared.fault.Fault.TheVariants as fault_spec;

@@ -22,7 +22,7 @@ report_of owed answer = record {
 -- the call that is owed is made, by the relation of the device between the device before it, the call, its answer and the device after
 -- it; this is the report
 abbrev pub IsMade : {D : Type 0} → (D → Call → DeviceAnswer → D → Type 0) → OwedCall → D → WaitingReport → D → Type 0
-IsMade answers owed old kept new = (answer : DeviceAnswer) × answers old owed.call answer new × (kept ≡ report_of owed answer)
+IsMade answers owed old waiting new = (answer : DeviceAnswer) × answers old owed.call answer new × (waiting ≡ report_of owed answer)
 
 -- a call of a unit's device that is asked for, with the command and chunk that it is of
 pub record AskedCall : Type 0 where
@@ -42,9 +42,9 @@ next_by_work (work.Report own) = Told own
 next_by_work (work.Call side number command sequence call) =
     Asked (record { side = side; number = number; command = command; sequence = sequence; call = call })
 
--- what a unit is to report next: what is kept for it, else that of its work; nothing where it is to take a signal, is away or rests
+-- what a unit is to report next: what waits for it, else that of its work; nothing where it is to take a signal, is away or rests
 abbrev pub next_of : Option WaitingReport → UnitTurn → NextReport Report AskedCall
-next_of (Some kept) turn = Told kept.report
+next_of (Some waiting) turn = Told waiting.report
 next_of None (Takes id path) = Nothing
 next_of None (Works w) = next_by_work w
 next_of None (Away path) = Nothing

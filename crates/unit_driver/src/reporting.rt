@@ -16,7 +16,7 @@ use machine_model::state::UnitTurn;
 /// What a unit is to report next, over what stands for a report and for a call.
 #[derive(Clone, Copy, Drop)]
 pub enum NextReport<R, C> {
-    /// A report that is there: it was kept, or needs no call.
+    /// A report that is there: it waits, or needs no call.
     Told(R),
     /// What the device answers to a call that is still to be made.
     Asked(C),
@@ -50,18 +50,18 @@ impl OwedCall {
     }
 }
 
-/// Writes the report that a unit hands in next into a slot: the one that is kept for it, else that of its work. Where it is
+/// Writes the report that a unit hands in next into a slot: the one that waits for it, else that of its work. Where it is
 /// what the device answers to a call, the call is answered, and the slot lacks the answer alone.
 pub fn next_report<'a>(
-    kept: &Option<WaitingReport>,
+    waiting: &Option<WaitingReport>,
     turn: &UnitTurn<LentWork<'a>>,
     report: &mut Report,
 ) -> NextReport<(), LentCall<'a>>
-    ensures { spec.next_in result report.new ≡ spec.next_of kept.now (lent_turn turn.now) }
+    ensures { spec.next_in result report.new ≡ spec.next_of waiting.now (lent_turn turn.now) }
 {
-    match kept {
-        Some(kept) => {
-            copy_to(&kept.report, report);
+    match waiting {
+        Some(waiting) => {
+            copy_to(&waiting.report, report);
             NextReport::Told(())
         }
         None => match turn {
@@ -74,14 +74,14 @@ pub fn next_report<'a>(
 /// The report that a unit hands in next, with the call of its device where there is one. None where there is no report now.
 pub fn reported<D: Device>(
     device: &mut D,
-    kept: &Option<WaitingReport>,
+    waiting: &Option<WaitingReport>,
     turn: &UnitTurn<LentWork<'_>>,
 ) -> Option<Report>
-    ensures reported { spec.IsReported D.answers (spec.next_of kept.now (lent_turn turn.now)) device.old result device.new }
+    ensures reported { spec.IsReported D.answers (spec.next_of waiting.now (lent_turn turn.now)) device.old result device.new }
     ensures opening { D.opening device.new ≡ D.opening device.old }
 {
     let mut report = no_report();
-    match next_report(kept, turn, &mut report) {
+    match next_report(waiting, turn, &mut report) {
         NextReport::Told(()) => Some(report),
         NextReport::Asked(call) => {
             answer_to(device, &call, &mut report.answer);
@@ -130,8 +130,8 @@ fn next_by_work<'a>(work: &LentWork<'a>, report: &mut Report) -> NextReport<(), 
 /// Writes the same report into a slot.
 #[cold]
 #[inline(never)]
-fn copy_to(kept: &Report, report: &mut Report)
-    ensures { report.new ≡ kept.now }
+fn copy_to(waiting: &Report, report: &mut Report)
+    ensures { report.new ≡ waiting.now }
 {
-    *report = kept.copy();
+    *report = waiting.copy();
 }

@@ -95,7 +95,17 @@ impl Downs {
         Some(self.slots[self.oldest].lend())
     }
 
-    /// Lets that signal go.
+    /// The signal at an index, 0 for that which waits longest; None where fewer wait.
+    pub fn at(&self, index: usize) -> Option<LentDown<'_>>
+        ensures { MatchOption result (slice_get self.now index ≡ None) (λ signal. slice_get self.now index ≡ Some (lent_down signal)) }
+    {
+        if index >= self.count {
+            return None;
+        }
+        Some(self.slots[(self.oldest + index) % 8].lend())
+    }
+
+    /// Lets the signal go that waits longest.
     pub fn drop_front(&mut self)
         requires { 0 < length self.old }
         ensures { self.new ≡ drop 1 self.old }

@@ -12,7 +12,7 @@
 mod downs;
 mod ups;
 
-ghost use Rattle.std.specs.Prelude.{◌≡◌, ◌<◌, ◌↔◌, None, Some, IfOk, IsTrue, IsSome, MatchOption, OnErr, OnOk, length, true};
+ghost use Rattle.std.specs.Prelude.{◌≡◌, ◌<◌, ◌↔◌, None, Some, IfOk, IsTrue, IsSome, MatchOption, OnErr, OnOk, length, slice_get, true};
 ghost use Rattle.std.specs.Bool.{OnFalse};
 ghost use Rattle.chan_model.specs.Lent.{lent_down, lent_up};
 ghost use Rattle.wires.specs.Queues.{no_queues, queue, first_of, sent, taken, lost};
@@ -87,7 +87,14 @@ impl Wires {
         self.down[path.index()].front()
     }
 
-    /// Lets that signal go.
+    /// The signal at an index of the wire down of a path, 0 for that which waits longest; None where fewer wait.
+    pub fn down_at(&self, path: Path, index: usize) -> Option<LentDown<'_>>
+        ensures { MatchOption result (slice_get (queue self.now.down path) index ≡ None) (λ signal. slice_get (queue self.now.down path) index ≡ Some (lent_down signal)) }
+    {
+        self.down[path.index()].at(index)
+    }
+
+    /// Lets the signal go that waits longest on the wire down of a path.
     pub fn drop_down(&mut self, path: Path)
         requires { 0 < length (queue self.old.down path) }
         ensures { self.new ≡ record self.old { down = taken self.old.down path } }
@@ -119,7 +126,14 @@ impl Wires {
         self.up[path.index()].front()
     }
 
-    /// Lets that signal go.
+    /// The signal at an index of the wire up of a path, 0 for that which waits longest; None where fewer wait.
+    pub fn up_at(&self, path: Path, index: usize) -> Option<LentUp<'_>>
+        ensures { MatchOption result (slice_get (queue self.now.up path) index ≡ None) (λ signal. slice_get (queue self.now.up path) index ≡ Some (lent_up signal)) }
+    {
+        self.up[path.index()].at(index)
+    }
+
+    /// Lets the signal go that waits longest on the wire up of a path.
     pub fn drop_up(&mut self, path: Path)
         requires { 0 < length (queue self.old.up path) }
         ensures { self.new ≡ record self.old { up = taken self.old.up path } }

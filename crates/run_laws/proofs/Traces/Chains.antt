@@ -103,7 +103,7 @@ module _ (laws : AreLaws) (accesses : AreAccesses) where
       let h : Bool = s.scsw.functions.halt in
       let n : Bool = is_some (next k.orb (k.now.acts ▸ End (record { goes_on = true; modifier = has_status_modifier status }))) in
       let wrong : Bool = wrong-by k.orb k.now h status more last in
-      ap (λ (u : Bool). n && not (u || (has_unit_check status || (has_unit_exception status || (wrong || (k.now.kept || h)))))) w.3.5
+      ap (λ (u : Bool). n && not (u || (has_unit_check status || (has_unit_exception status || (wrong || (k.now.stopped_by_check || h)))))) w.3.5
       ∙ ap (λ (f : Bool). n && not (b.transfer.unchained || (has_unit_check status || (has_unit_exception status || (wrong || (f || h)))))) w.3.3
       ∙ ap (λ (y : Bool). n && not (b.transfer.unchained || (has_unit_check status || (has_unit_exception status || (y || (is_some b.transfer.fault || h))))))
       (sym (length-by s.scsw b k status more last (latest-of k.earlier k.orb k.now.acts k.now.moved b.transfer w.0.tied) w))

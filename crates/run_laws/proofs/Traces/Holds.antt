@@ -54,7 +54,7 @@ IsDrawn other drawn = Unit {0}
 -- its marks are those of the transfer
 abbrev pub IsMarked : CommandTrace → Transfer → Type 0
 IsMarked p t =
-    (p.sequence ≡ t.sequence) × (p.given ≡ t.offered) × (p.stopped ≡ t.stopped) × (p.kept ≡ is_some t.fault) × (p.ended ≡ t.ended) × (p.unchained ≡ t.unchained)
+    (p.sequence ≡ t.sequence) × (p.given ≡ t.offered) × (p.stopped ≡ t.stopped) × (p.stopped_by_check ≡ is_some t.fault) × (p.ended ≡ t.ended) × (p.unchained ≡ t.unchained)
 
 -- those of a command that begins
 abbrev FreshMarked : Transfer → Type 0

@@ -93,7 +93,7 @@ trace_giving storage t k = copying storage (located_transfer storage t) (with_ac
 
 -- what is kept of the transfer
 abbrev pub marked : Transfer → CommandTrace → CommandTrace
-marked t k = record k { sequence = t.sequence; given = t.offered; stopped = t.stopped; kept = is_some t.fault; ended = t.ended; unchained = t.unchained }
+marked t k = record k { sequence = t.sequence; given = t.offered; stopped = t.stopped; stopped_by_check = is_some t.fault; ended = t.ended; unchained = t.unchained }
 
 -- a Data of a command that takes bytes to the device
 abbrev pub gives : Contents → Transfer → ℕ → ℕ → CommandTrace → CommandTrace

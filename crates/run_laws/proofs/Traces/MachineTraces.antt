@@ -42,7 +42,7 @@ use Rattle.chan_model.specs.ResetCauses.{is_path}
 -- a command begins, or can't, or the program is suspended
 abbrev pub trace_goes_on : Contents → CommandStart → Sequence Act → ProgramTrace → ProgramTrace
 trace_goes_on storage (outcome.Begins t) acts k =
-    record k { sent = k.sent + 1; now = record no_trace { acts = k.now.acts ▸▸ acts; kept = is_some (begun_with_room storage t).transfer.fault }; before = k.now }
+    record k { sent = k.sent + 1; now = record no_trace { acts = k.now.acts ▸▸ acts; stopped_by_check = is_some (begun_with_room storage t).transfer.fault }; before = k.now }
 trace_goes_on storage outcome.Suspends acts k = record k { now = with_acts k.now acts }
 trace_goes_on storage (outcome.Stops check) acts k = record k { now = with_acts k.now acts }
 

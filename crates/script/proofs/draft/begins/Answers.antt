@@ -1,6 +1,6 @@
 use Rattle.std.proofs.Common.{◌∙◌, ap, sym, take}
 use Rattle.std.specs.Str.{bytes_eq}
-use Rattle.script.specs.Saying.{first_is_storage}
+use Rattle.script.specs.Parsing.{first_is_storage}
 use Rattle.script.proofs.Parting.{headed}
 use Rattle.script.proofs.draft.begins.Goals as goal
 

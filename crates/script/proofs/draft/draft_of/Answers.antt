@@ -4,7 +4,7 @@ use Rattle.std.specs.Prelude.{nat_lt}
 use Rattle.script.specs.declared.ScriptBad.{ScriptBad}
 use Rattle.script.specs.Pieces.{lines_of}
 use Rattle.script.specs.Reading.{BadIn}
-use Rattle.script.specs.Saying.{is_ascii}
+use Rattle.script.specs.Parsing.{is_ascii}
 use Rattle.script.proofs.Drafting.{all-drafted, drafted, first-bad}
 use Rattle.script.proofs.Following.{next-of}
 use Rattle.script.proofs.Parting.{all_in, few-pieces}

@@ -1,7 +1,7 @@
 use Rattle.std.proofs.Common.{◌≡◌, length}
 use Rattle.std.specs.List.{list_any}
 use Rattle.script.specs.Pieces.{lines_of}
-use Rattle.script.specs.Saying.{has_words}
+use Rattle.script.specs.Parsing.{has_words}
 use Rattle.script.proofs.text.some_have_words.Given as goal
 
 abbrev pub invariant-lines : goal.invariant-lines

@@ -30,22 +30,22 @@ pub invariant_of-seat : goal.invariant_of-seat
 invariant_of-seat g c =
     let i = c.seat.invariant in
     let k = c.in-Some.index in
-    let pairs = c.seat.inside.pairs.items in
+    let seen_serials = c.seat.inside.seen_serials.items in
     let readers = c.seat.inside.readers.items in
     let pair = c.index-pair.result.now in
     let found = c.load_at-found.result in
     let now = c.greater-raised.result in
     let loaded = c.load_at-found.new.readers.items in
     let loads = c.load_at-found.ensures.readers in
-    let lt : k < length pairs = omega (arith, c.in-Some.ensures.bound, ap (λ (d : Directory). length d.setups) c.deref.ensures, i.names, i.beside) in
+    let lt : k < length seen_serials = omega (arith, c.in-Some.ensures.bound, ap (λ (d : Directory). length d.setups) c.deref.ensures, i.names, i.beside) in
     let le = greater_ordered pair found (subst IsOrdered (sym c.index-pair.ensures) (i.ordered k pair lt)) c.load_at-found.ensures.ordered in
     record {
       share = i.share;
       turns = i.turns;
       entries = i.entries;
       fresh = i.fresh;
-      beside = length-set pairs k now ∙ i.beside ∙ sym (same_count readers loaded k found loads);
-      ordered = set_ordered pairs k now i.ordered (subst IsOrdered (sym c.greater-raised.ensures) le);
+      beside = length-set seen_serials k now ∙ i.beside ∙ sym (same_count readers loaded k found loads);
+      ordered = set_ordered seen_serials k now i.ordered (subst IsOrdered (sym c.greater-raised.ensures) le);
       cells = look.same_cells readers loaded k found loads ∙ i.cells;
       names = i.names ∙ sym (same_count readers loaded k found loads);
       directory = i.directory;
@@ -59,7 +59,7 @@ returns-clause-found g c =
     let word = c.args.subchannel in
     let inside = c.seat.inside in
     let state = c.self.inside.subsystem.state in
-    let pairs = inside.pairs.items in
+    let seen_serials = inside.seen_serials.items in
     let pair = c.index-pair.result.now in
     let found = c.load_at-found.result in
     let loaded = c.load_at-found.new.readers.items in
@@ -69,23 +69,23 @@ returns-clause-found g c =
       log = inside.log.entries;
       setup = g.J.MachineBrand.setup;
       directory = directory;
-      pairs = pairs;
+      seen_serials = seen_serials;
       loaded = inside.readers.items;
       turns = inside.turns.amount;
       calls = inside.calls;
       owed = inside.owed;
-      kept = inside.kept;
+      waiting = inside.waiting;
       left = inside.left;
     } in
-    let lt : k < length pairs = omega (arith, c.in-Some.ensures.bound, ap (λ (d : Directory). length d.setups) c.deref.ensures, i.names, i.beside) in
+    let lt : k < length seen_serials = omega (arith, c.in-Some.ensures.bound, ap (λ (d : Directory). length d.setups) c.deref.ensures, i.names, i.beside) in
     let named = ap (λ (d : Directory). index_named d word) (sym c.deref.ensures) ∙ sym c.in-Some.ensures.index in
     let has = ap (λ (l : List Serials). slice_get l k) (sym m.shown) ∙ c.load_at-found.ensures.found in
-    let saw = slice_get_read pairs (length pairs) k pair refl lt c.index-pair.ensures in
+    let saw = slice_get_read seen_serials (length seen_serials) k pair refl lt c.index-pair.ensures in
     let is = is_named g.J.MachineBrand.setup state g.J.MachineBrand.name.directory m.set_up m.named ∙ sym i.directory in
     let base = looks state seat directory word k pair found loaded is refl named has saw c.load_at-found.ensures.readers in
-    subst (λ (l : GuardedCore). Looks l.value.state c.args.seat.now.value word found (record seat { pairs = set pairs k c.greater-raised.result; loaded = loaded })) c.self.view_is
-    (subst (λ (h : HeldSeat). Looks state h.value word found (record seat { pairs = set pairs k c.greater-raised.result; loaded = loaded })) c.seat.view_is
-    (subst (λ (p : Serials). Looks state seat word found (record seat { pairs = set pairs k p; loaded = loaded })) (sym c.greater-raised.ensures) base))
+    subst (λ (l : GuardedCore). Looks l.value.state c.args.seat.now.value word found (record seat { seen_serials = set seen_serials k c.greater-raised.result; loaded = loaded })) c.self.view_is
+    (subst (λ (h : HeldSeat). Looks state h.value word found (record seat { seen_serials = set seen_serials k c.greater-raised.result; loaded = loaded })) c.seat.view_is
+    (subst (λ (p : Serials). Looks state seat word found (record seat { seen_serials = set seen_serials k p; loaded = loaded })) (sym c.greater-raised.ensures) base))
 
 pub returns-in_default-clause-refused : goal.returns-in_default-clause-refused
 returns-in_default-clause-refused g c =

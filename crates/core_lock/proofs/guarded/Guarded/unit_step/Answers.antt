@@ -10,8 +10,8 @@ returns-clause-turn g c =
     let result = c.unit_turn.result in
     let new = c.unit_turn.new.self.value in
     let after = c.unit_turn.new.seat.value in
-    subst (λ (s : HeldSeat). TakesUnitTurn g.P.PathChoice.picks c.args.self.now s s.value.kept c.args.«unit» c.args.roam result new after) c.count_turn.ensures.seat
-    (subst (λ (l : GuardedCore). TakesUnitTurn g.P.PathChoice.picks l c.count_turn.new.seat c.count_turn.new.seat.value.kept c.args.«unit» c.args.roam result new after) core c.unit_turn.ensures)
+    subst (λ (s : HeldSeat). TakesUnitTurn g.P.PathChoice.picks c.args.self.now s s.value.waiting c.args.«unit» c.args.roam result new after) c.count_turn.ensures.seat
+    (subst (λ (l : GuardedCore). TakesUnitTurn g.P.PathChoice.picks l c.count_turn.new.seat c.count_turn.new.seat.value.waiting c.args.«unit» c.args.roam result new after) core c.unit_turn.ensures)
 
 pub returns-clause-works : goal.returns-clause-works
 returns-clause-works g c =
@@ -23,7 +23,7 @@ returns-clause-owes g c =
 
 pub returns-clause-turns : goal.returns-clause-turns
 returns-clause-turns g c =
-    unit_turns g.P.PathChoice.picks c.args.self.now (turned_seat c.args.seat.now) c.args.seat.now.value.kept c.args.«unit» c.args.roam c.unit_turn.result c.unit_turn.new.self.value c.unit_turn.new.seat.value (returns-clause-turn g c)
+    unit_turns g.P.PathChoice.picks c.args.self.now (turned_seat c.args.seat.now) c.args.seat.now.value.waiting c.args.«unit» c.args.roam c.unit_turn.result c.unit_turn.new.self.value c.unit_turn.new.seat.value (returns-clause-turn g c)
 
 pub returns-clause-told : goal.returns-clause-told
 returns-clause-told g c = record {

@@ -14,20 +14,20 @@ pub invariant_of-self : goal.invariant_of-self
 invariant_of-self g c =
     let i = c.self.invariant in
     let k = c.in-Some.index in
-    let pairs = c.self.inside.pairs.items in
+    let seen_serials = c.self.inside.seen_serials.items in
     let readers = c.self.inside.readers.items in
     let pair = c.index-pair.result.now in
     let now = c.greater-found.result in
     let found = serials c.load-loaded.result.made c.load-loaded.result.cleared in
-    let lt : k < length pairs = omega (arith, c.in-Some.ensures.bound, ap (λ (d : Directory). length d.setups) c.deref.ensures, i.names, i.beside) in
+    let lt : k < length seen_serials = omega (arith, c.in-Some.ensures.bound, ap (λ (d : Directory). length d.setups) c.deref.ensures, i.names, i.beside) in
     let le = greater_ordered pair found (subst IsOrdered (sym c.index-pair.ensures) (i.ordered k pair lt)) c.load-loaded.ensures.ordered in
     record {
       share = i.share;
       turns = i.turns;
       entries = i.entries;
       fresh = i.fresh;
-      beside = length-set pairs k now ∙ i.beside ∙ sym (length-set readers k c.load-loaded.new.self);
-      ordered = set_ordered pairs k now i.ordered (subst IsOrdered (sym c.greater-found.ensures) le);
+      beside = length-set seen_serials k now ∙ i.beside ∙ sym (length-set readers k c.load-loaded.new.self);
+      ordered = set_ordered seen_serials k now i.ordered (subst IsOrdered (sym c.greater-found.ensures) le);
       cells = map-set_same cell_of readers k c.load-loaded.new.self c.index_mut-reader.result.now (c.load-loaded.ensures.cell ∙ ap cell_of c.index_mut-reader.ensures.value) ∙ i.cells;
       names = i.names ∙ sym (length-set readers k c.load-loaded.new.self);
       directory = i.directory;
@@ -37,13 +37,13 @@ pub returns-clause-found : goal.returns-clause-found
 returns-clause-found g c =
     let i = c.self.invariant in
     let k = c.in-Some.index in
-    let pairs = c.self.inside.pairs.items in
+    let seen_serials = c.self.inside.seen_serials.items in
     let readers = c.self.inside.readers.items in
     let pair = c.index-pair.result.now in
     let w = c.load-loaded.new.self in
     let was = c.index_mut-reader.result.now in
     let v = c.load-loaded.ensures.value in
-    let lt : k < length pairs = omega (arith, c.in-Some.ensures.bound, ap (λ (d : Directory). length d.setups) c.deref.ensures, i.names, i.beside) in
+    let lt : k < length seen_serials = omega (arith, c.in-Some.ensures.bound, ap (λ (d : Directory). length d.setups) c.deref.ensures, i.names, i.beside) in
     let is = c.self.view_is in
     record {
       index = k;
@@ -52,11 +52,11 @@ returns-clause-found g c =
       load = record {
         before = was;
         named = ap (λ (s : HeldSeat). index_named s.value.directory c.args.subchannel) (sym is) ∙ ap (λ (d : Directory). index_named d c.args.subchannel) (sym c.deref.ensures) ∙ sym c.in-Some.ensures.index;
-        saw = ap (λ (s : HeldSeat). slice_get s.value.pairs k) (sym is) ∙ slice_get_read pairs (length pairs) k pair refl lt c.index-pair.ensures;
+        saw = ap (λ (s : HeldSeat). slice_get s.value.seen_serials k) (sym is) ∙ slice_get_read seen_serials (length seen_serials) k pair refl lt c.index-pair.ensures;
         had = ap (λ (s : HeldSeat). slice_get s.value.loaded k) (sym is) ∙ slice_get_read readers (length readers) k was refl (omega (arith, lt, i.beside)) c.index_mut-reader.ensures.value;
         cell = c.load-loaded.ensures.cell;
         loads = c.load-loaded.ensures.loads;
       };
       found_is = c.greater-found.ensures ∙ (λ j. greater pair (serials (v.0 j) (v.1 j)));
-      leaves = ap (λ (s : HeldSeat). record s.value { pairs = set s.value.pairs k c.greater-found.result; loaded = set s.value.loaded k w }) is;
+      leaves = ap (λ (s : HeldSeat). record s.value { seen_serials = set s.value.seen_serials k c.greater-found.result; loaded = set s.value.loaded k w }) is;
     }

@@ -1,6 +1,6 @@
 use Rattle.std.proofs.Common.{ap, sym}
 use Rattle.std.specs.List.{list_any}
-use Rattle.script.specs.Saying.{has_words}
+use Rattle.script.specs.Parsing.{has_words}
 use Rattle.script.proofs.text.TextLine.later.Goals as goal
 
 pub returns-in-None : goal.returns-in-None

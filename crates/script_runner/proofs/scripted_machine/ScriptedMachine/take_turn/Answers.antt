@@ -10,4 +10,4 @@ returns-in_err-write_report-clause-memory g c =
     let i = c.args.self.now in
     let at = c.args.«unit» in
     let err = c.in_err-write_report in
-    rw (p.1, p.2) (λ is. absurd (turn_has_memory i.devices at (slice_get i.kept at) (unit_turn_of i.past.state at) err.field-0.0 err.ensures.report is))
+    rw (p.1, p.2) (λ is. absurd (turn_has_memory i.devices at (slice_get i.waiting at) (unit_turn_of i.past.state at) err.field-0.0 err.ensures.report is))

@@ -5,7 +5,7 @@ use Rattle.std.proofs.Math.Seq.{map-set_same}
 use Rattle.glance_cell.specs.Shown.{Words}
 use Rattle.core_lock.specs.Named.{cell_of, counts_of, shown}
 use Rattle.core_lock.proofs.Rewriting.{shown_at}
-use Rattle.core_lock.proofs.pairs.publish_one.Goals as goal
+use Rattle.core_lock.proofs.seen_serials.publish_one.Goals as goal
 
 pub store-requires-clause-rises : goal.store-requires-clause-rises
 store-requires-clause-rises c =

@@ -13,34 +13,34 @@ use Rattle.script_rows.specs.Actions.{action_row}
 use Rattle.script_rows.specs.Races.{race_row}
 
 -- what one line says
-pub data Said : Type 0 where
-  Nothing : Said
-  Sets : (setting : Setting) → Said
-  Does : (asked : Action) → Said
-  Races : (race : Race) → Said
+pub data Parsed : Type 0 where
+  Nothing : Parsed
+  Sets : (setting : Setting) → Parsed
+  Does : (asked : Action) → Parsed
+  Races : (race : Race) → Parsed
 
 -- the first word may be unknown
-abbrev pub action_said : Option (Result Action LineRule) → Result Said LineRule
-action_said None = Err UnknownWord
-action_said (Some (Ok action)) = Ok (Does action)
-action_said (Some (Err rule)) = Err rule
+abbrev pub parsed_action : Option (Result Action LineRule) → Result Parsed LineRule
+parsed_action None = Err UnknownWord
+parsed_action (Some (Ok action)) = Ok (Does action)
+parsed_action (Some (Err rule)) = Err rule
 
-abbrev pub race_said : Result Race LineRule → Result Said LineRule
-race_said (Ok race) = Ok (Races race)
-race_said (Err rule) = Err rule
+abbrev pub parsed_race : Result Race LineRule → Result Parsed LineRule
+parsed_race (Ok race) = Ok (Races race)
+parsed_race (Err rule) = Err rule
 
 -- a line that drives a machine
-abbrev pub drive_said : List ℕ → List (List ℕ) → Result Said LineRule
-drive_said w ws = if bytes_eq w (codes "race") then race_said (race_row ws) else action_said (action_row w ws)
+abbrev pub parsed_drive : List ℕ → List (List ℕ) → Result Parsed LineRule
+parsed_drive w ws = if bytes_eq w (codes "race") then parsed_race (race_row ws) else parsed_action (action_row w ws)
 
-abbrev pub setting_said : Option (Result Setting LineRule) → Result Said LineRule → Result Said LineRule
-setting_said None other = other
-setting_said (Some (Ok setting)) other = Ok (Sets setting)
-setting_said (Some (Err rule)) other = Err rule
+abbrev pub parsed_setting : Option (Result Setting LineRule) → Result Parsed LineRule → Result Parsed LineRule
+parsed_setting None other = other
+parsed_setting (Some (Ok setting)) other = Ok (Sets setting)
+parsed_setting (Some (Err rule)) other = Err rule
 
-abbrev pub words_say : List (List ℕ) → Result Said LineRule
-words_say [] = Err UnknownWord
-words_say (w ∷ ws) = setting_said (setting_row w ws) (drive_said w ws)
+abbrev pub parsed_words : List (List ℕ) → Result Parsed LineRule
+parsed_words [] = Err UnknownWord
+parsed_words (w ∷ ws) = parsed_setting (setting_row w ws) (parsed_drive w ws)
 
 -- a line that is neither empty nor a comment
 abbrev pub has_words : List ℕ → Bool
@@ -53,9 +53,9 @@ is_ascii bytes = list_all (λ b. nat_lt b 128) bytes
 
 -- what a line says by itself, or the first rule that it breaks by itself; a line of more than 1,024 bytes, or not of UTF-8, is a
 -- bad word
-abbrev pub said : List ℕ → Result Said LineRule
-said line = if nat_lt 1024 (length line) || not (is_utf8 line) then Err BadWord
-    else (if has_words line then words_say (words_between_blanks line) else Ok Nothing)
+abbrev pub parsed : List ℕ → Result Parsed LineRule
+parsed line = if nat_lt 1024 (length line) || not (is_utf8 line) then Err BadWord
+    else (if has_words line then parsed_words (words_between_blanks line) else Ok Nothing)
 
 -- the first word is `storage`
 abbrev pub first_is_storage : List (List ℕ) → Bool

@@ -2,7 +2,7 @@ use Rattle.std.proofs.Common.{arith, ◌∙◌}
 use Rattle.subsystem.specs.Keeping.{all_serials}
 use Rattle.core_lock.specs.Named.{shown}
 use Rattle.core_lock.proofs.Rewriting.{rises_at, mixes_on, mix_end, same_cells, shown_length}
-use Rattle.core_lock.proofs.pairs.publish_all.Goals as goal
+use Rattle.core_lock.proofs.seen_serials.publish_all.Goals as goal
 
 pub serials_at-requires : goal.serials_at-requires
 serials_at-requires g c =

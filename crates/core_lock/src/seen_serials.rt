@@ -1,4 +1,4 @@
-//! Work on the glance cells and the pairs of all subchannels.
+//! Work on the glance cells of all subchannels, and on the serials that a seat has seen of each.
 
 ghost use Rattle.std.specs.Prelude.{◌≡◌, ◌<◌, ◌≤◌, ℕ, true, All, IfOk, OnErr, OnOk, Some, length, slice_get, slice_set, vec_len};
 ghost use Rattle.scsw_irb.specs.declared.serials.Serials.{Serials};
@@ -97,23 +97,23 @@ pub fn watch<S: CellSupply>(
     Ok(readers)
 }
 
-/// The pairs that a new seat begins with.
-pub fn first_pairs<S: Supply, P: PathChoice + Drop>(
+/// The serials that a new seat has seen: those that stand.
+pub fn first_seen_serials<S: Supply, P: PathChoice + Drop>(
     alloc: Global,
     supply: &mut S,
     subsystem: &Subsystem<P>,
 ) -> Result<Vec<Serials>, AllocError>
-    ensures value { IfOk result (λ pairs. pairs.items ≡ all_serials subsystem.now.state) }
-    ensures ordered { IfOk result (λ pairs. All IsOrdered pairs.items) }
+    ensures value { IfOk result (λ seen_serials. seen_serials.items ≡ all_serials subsystem.now.state) }
+    ensures ordered { IfOk result (λ seen_serials. All IsOrdered seen_serials.items) }
     ensures unrefused { OnOk result (S.refused supply.new ≡ S.refused supply.old) }
     ensures memory { OnErr result (S.refused supply.new ≡ true) }
 {
     let _first = subsystem.serials_at(0);
-    let mut pairs = Vec::new(alloc);
+    let mut seen_serials = Vec::new(alloc);
     for index in 0..subsystem.count() {
-        push(supply, &mut pairs, serials_at(subsystem, index))?;
+        push(supply, &mut seen_serials, serials_at(subsystem, index))?;
     }
-    Ok(pairs)
+    Ok(seen_serials)
 }
 
 /// The serials that an answer brings.
@@ -148,15 +148,15 @@ fn last_brought<P: PathChoice + Drop>(subsystem: &Subsystem<P>) -> Option<Serial
 }
 
 /// Raises the pair of an index to these serials.
-fn raise_at(pairs: &mut Vec<Serials>, index: Option<usize>, found: Serials)
-    ensures { pairs.new.items ≡ spec.raised_at pairs.old.items index found }
+fn raise_at(seen_serials: &mut Vec<Serials>, index: Option<usize>, found: Serials)
+    ensures { seen_serials.new.items ≡ spec.raised_at seen_serials.old.items index found }
 {
     let Some(index) = index else {
         return;
     };
-    if index < pairs.len() {
-        let was = pairs[index];
-        pairs[index] = greater(was, found);
+    if index < seen_serials.len() {
+        let was = seen_serials[index];
+        seen_serials[index] = greater(was, found);
     }
 }
 
@@ -173,12 +173,12 @@ pub fn greater(one: Serials, other: Serials) -> Serials
 /// TEST SUBCHANNEL with code 0 or 1 ends by raising the pair of its subchannel, to the serials that its reply, the last one of the
 /// subsystem, brings.
 pub fn raise<P: PathChoice + Drop>(
-    pairs: &mut Vec<Serials>,
+    seen_serials: &mut Vec<Serials>,
     directory: &Directory,
     event: &Event,
     subsystem: &Subsystem<P>,
 )
-    ensures { pairs.new.items ≡ spec.raised_among pairs.old.items directory.now event.now (last_reply subsystem.now.history) }
+    ensures { seen_serials.new.items ≡ spec.raised_among seen_serials.old.items directory.now event.now (last_reply subsystem.now.history) }
 {
     let Event::Execute {
         instruction: Instruction::Tsch { subchannel, .. },
@@ -188,6 +188,6 @@ pub fn raise<P: PathChoice + Drop>(
         return;
     };
     if let Some(found) = last_brought(subsystem) {
-        raise_at(pairs, directory.index_of(*subchannel), found);
+        raise_at(seen_serials, directory.index_of(*subchannel), found);
     }
 }

@@ -2,7 +2,7 @@
 
 ghost use Rattle.std.specs.Prelude.{◌≡◌, ◌||◌, ◌∷◌, ℕ, List, length, nat_lt, not, true};
 ghost use Rattle.std.specs.Str.{is_utf8};
-ghost use Rattle.script.specs.Saying as spec;
+ghost use Rattle.script.specs.Parsing as spec;
 
 use std::str::from_utf8;
 
