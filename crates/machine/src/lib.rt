@@ -1,5 +1,5 @@
-//! One event at a time on the whole machine: storage, channel paths, subchannels with their wires, units and the control units
-//! that they share, and the requests and reports that wait for the program.
+//! One event at a time on the whole machine: channel paths, subchannels with their wires, units and the control units that they
+//! share, and the requests and reports that wait for the program. Main storage is lent to it for each event.
 //!
 //! Used alone, this crate promises: `Machine::perform` answers and leaves what the machine's definitions give for the
 //! event, by a path that the rule of the choice gives, or refuses it and changes nothing. Only the opening takes
@@ -10,6 +10,7 @@ pub mod law;
 mod looks;
 pub mod machine;
 pub mod opening;
+pub mod owning;
 mod paths;
 mod storage_events;
 mod turns;

@@ -3,7 +3,6 @@
 ghost use Rattle.std.specs.Prelude.{◌≡◌, ◌<◌, ◌+◌, ◌==◌, ℕ, IfSome, IfNone, Some, None, length, slice_get, slice_index_or, false};
 ghost use Rattle.zbits.specs.Bits.{bit_of};
 ghost use Rattle.interruptions.specs.Requests.{has_request};
-ghost use Rattle.storage_keys.specs.Storage as storage_spec;
 ghost use Rattle.subchannel_model.specs.Choosing.{any_engages};
 ghost use Rattle.lookup.specs.Tables.{Fits};
 ghost use Rattle.machine_model.specs.State as state_spec;
@@ -13,8 +12,6 @@ use chan_model::unit_state::UnitState;
 use functions::Subchannel;
 use lookup::engines::Served;
 use lookup::tables::SubchannelIndex;
-use storage_keys::StorageFault;
-use storage_keys::key::Key;
 
 impl Machine {
     /// The interruption subclasses of which a request waits, a bit each: hexadecimal 80 is subclass 0, 01 is subclass 7.
@@ -62,12 +59,5 @@ impl Machine {
         ensures { result ≡ any_engages self.now.subs chpid }
     {
         Served::of(self.subs.as_slice(), &self.engines).is_engaged(chpid)
-    }
-
-    /// The key of the block of 4,096 bytes in which an absolute address lies. Addressing where it is not in storage.
-    pub fn key_at(&self, address: u32) -> Result<Key, StorageFault>
-        ensures { result ≡ storage_spec.key_at self.now.storage address }
-    {
-        self.storage.key_at(address)
     }
 }

@@ -6,13 +6,16 @@ ghost use Rattle.machine_model.specs.State as state_spec;
 ghost use Rattle.machine_model.specs.Ruled.{GoesByRule};
 ghost use Rattle.machine_model.specs.Steps as spec;
 ghost use Rattle.machine_model.specs.Bounds.{CanCount, CanUnitCount};
+ghost use Rattle.machine.specs.Lent.{lent};
 ghost use Rattle.machine.specs.Postable.{IsPostable};
+ghost use Rattle.storage_keys.specs.Storage.{Contents};
 ghost use Rattle.chan_events.specs.declared.event.Event.TheVariants as event_spec;
 ghost use Rattle.lookup.specs.Tables.{Fits};
 ghost use Rattle.chan_events.specs.declared.reply.Reply.TheVariants as reply_spec;
 ghost use Rattle.event_log.specs.Logs.{IsKept, answer_in};
 ghost use Rattle.chan_events.specs.Replies.{plain_outcome};
 
+use crate::storage_events::{put, set_key, set_prefix, show};
 use active_program::sent::SentDown;
 use chan_events::event::{Event, Instruction, OtherInstruction, UnitAct};
 use chan_events::reply::{PlainReply, Reply};
@@ -39,7 +42,7 @@ use signal_step::turns::{
     choose_sub, down_sub, path_of, reached_unit, report_sub, returns_at, up_sub,
 };
 use std::marker::Model;
-use storage_keys::Storage;
+use storage_keys::MainStorage;
 use subchannel::choosing::{chosen, paths_to_choose};
 use unit::Unit;
 
@@ -50,10 +53,9 @@ fn last_path_of(sub: &Subchannel) -> Option<Path>
     sub.state.rest().last_path
 }
 
-/// Storage, channel paths, subchannels and units, and what waits for the program.
+/// Channel paths, subchannels and units, and what waits for the program. Main storage is another's, and lent for each call.
 #[derive(Drop)]
 pub struct Machine {
-    pub(crate) storage: Storage,
     pub(crate) sets: u8,
     pub(crate) chpids: Vec<u8>,
     /// Of each channel path, whether it is configured and not down.
@@ -71,12 +73,13 @@ pub struct Machine {
 impl Model for Machine {
     ghost use Rattle.std.specs.Prelude.{◌≤◌, length};
     ghost use Rattle.machine_model.specs.State.{State};
+    ghost use Rattle.machine.specs.Lent.{no_storage};
     ghost use Rattle.lookup.specs.Tables.{Serves};
 
     ghost Value = { State };
 
     ghost view = { λ m. record {
-      storage = m.storage;
+      storage = no_storage;
       sets = m.sets;
       chpids = m.chpids.items;
       up = m.up;
@@ -130,8 +133,9 @@ impl Machine {
     }
 
     #[inline(always)]
-    fn execute(
+    fn execute<M: MainStorage>(
         &mut self,
+        storage: &mut M,
         indices: &SubchannelIndex,
         cpu: Cpu,
         instruction: &Instruction,
@@ -140,7 +144,8 @@ impl Machine {
         requires roomy { All CanCount self.old.subs }
         requires postable { All IsPostable self.old.subs }
         requires requests { self.old.requests.numbers ≡ 0x100 }
-        ensures { spec.Performs self.old (event_spec.Execute cpu instruction.now) (plain_outcome result) self.new }
+        ensures performs { spec.Performs (lent self.old (M.contents storage.old)) (event_spec.Execute cpu instruction.now) (plain_outcome result) (lent self.new (M.contents storage.new)) }
+        ensures lender { M.lender storage.new ≡ M.lender storage.old }
     {
         engines();
         let instruction = *instruction;
@@ -148,12 +153,12 @@ impl Machine {
             return Err(Fault::Operand);
         };
         let Some(index) = indices.index_in(id, self.subs.as_slice()) else {
-            return execute_absent(&mut self.storage, cpu, instruction);
+            return execute_absent(storage, cpu, instruction);
         };
         let sub = &mut self.subs[index];
         let before = engaged(sub);
         let made = made_by(sub);
-        let answer = perform_provided(&mut self.storage, sub, &mut self.pending, cpu, instruction);
+        let answer = perform_provided(storage, sub, &mut self.pending, cpu, instruction);
         post(&mut self.pending, sub, made);
         let after = engaged(sub);
         self.engines.change(index, before, after);
@@ -161,12 +166,14 @@ impl Machine {
     }
 
     #[inline(never)]
-    fn execute_other(
+    fn execute_other<M: MainStorage>(
         &mut self,
+        storage: &mut M,
         cpu: Cpu,
         instruction: OtherInstruction,
     ) -> Result<PlainReply, Fault>
-        ensures { spec.Performs self.old (event_spec.ExecuteOther cpu instruction) (plain_outcome result) self.new }
+        ensures performs { spec.Performs (lent self.old (M.contents storage.old)) (event_spec.ExecuteOther cpu instruction) (plain_outcome result) (lent self.new (M.contents storage.new)) }
+        ensures lender { M.lender storage.new ≡ M.lender storage.old }
     {
         let served = Served::of(self.subs.as_slice(), &self.engines);
         let paths = ChannelPaths {
@@ -174,7 +181,7 @@ impl Machine {
             engaged: engaged_for(&served, instruction),
         };
         perform_other(
-            &mut self.storage,
+            storage,
             &mut self.pending,
             &mut self.reports,
             &paths,
@@ -194,8 +201,8 @@ impl Machine {
         requires roomy { All CanCount self.old.subs }
         requires postable { All IsPostable self.old.subs }
         requires requests { self.old.requests.numbers ≡ 0x100 }
-        ensures performs { spec.Performs self.old (event_spec.Choose word) (plain_outcome result) self.new }
-        ensures ruled { GoesByRule P.picks self.old (event_spec.Choose word) (plain_outcome result) self.new }
+        ensures performs { (storage : Contents) → spec.Performs (lent self.old storage) (event_spec.Choose word) (plain_outcome result) (lent self.new storage) }
+        ensures ruled { (storage : Contents) → GoesByRule P.picks (lent self.old storage) (event_spec.Choose word) (plain_outcome result) (lent self.new storage) }
     {
         engines();
         let Some(index) = self.index_of(indices, word) else {
@@ -216,8 +223,9 @@ impl Machine {
     }
 
     #[inline(never)]
-    fn up(
+    fn up<M: MainStorage>(
         &mut self,
+        storage: &mut M,
         indices: &SubchannelIndex,
         word: u32,
         path: u32,
@@ -229,9 +237,10 @@ impl Machine {
         requires requests { self.old.requests.numbers ≡ 0x100 }
         requires room { 1 ≤ log.old.room }
         requires fresh { log.old.reply ≡ reply_spec.Done }
-        ensures performs { spec.Performs self.old (event_spec.Up word path) (answer_in result log.new) self.new }
+        ensures performs { spec.Performs (lent self.old (M.contents storage.old)) (event_spec.Up word path) (answer_in result log.new) (lent self.new (M.contents storage.new)) }
         ensures kept { IsKept log.old log.new }
         ensures refused { OnErr result (log.new ≡ log.old) }
+        ensures lender { M.lender storage.new ≡ M.lender storage.old }
     {
         engines();
         let Some(index) = self.index_of(indices, word) else {
@@ -245,7 +254,7 @@ impl Machine {
         let sub = &mut self.subs[index];
         let before = engaged(sub);
         let made = made_by(sub);
-        let answer = up_sub(&mut self.storage, sub, path, returns, &mut self.sent, log);
+        let answer = up_sub(storage, sub, path, returns, &mut self.sent, log);
         post(&mut self.pending, sub, made);
         let after = engaged(sub);
         self.engines.change(index, before, after);
@@ -263,7 +272,7 @@ impl Machine {
         requires fits { Fits indices.now self.old.subs }
         requires room { 1 ≤ log.old.room }
         requires fresh { log.old.reply ≡ reply_spec.Done }
-        ensures performs { spec.Performs self.old (event_spec.Down word path) (answer_in result log.new) self.new }
+        ensures performs { (storage : Contents) → spec.Performs (lent self.old storage) (event_spec.Down word path) (answer_in result log.new) (lent self.new storage) }
         ensures kept { IsKept log.old log.new }
         ensures refused { OnErr result (log.new ≡ log.old) }
     {
@@ -288,7 +297,7 @@ impl Machine {
     ) -> Result<PlainReply, Fault>
         requires fits { Fits indices.now self.old.subs }
         requires roomy { All CanUnitCount self.old.units }
-        ensures { spec.Performs self.old (event_spec.Report number report.now) (plain_outcome result) self.new }
+        ensures { (storage : Contents) → spec.Performs (lent self.old storage) (event_spec.Report number report.now) (plain_outcome result) (lent self.new storage) }
     {
         let number = number as usize;
         if number >= self.units.len() {
@@ -304,8 +313,9 @@ impl Machine {
 
     /// `execute`, with its reply in the log.
     #[inline(never)]
-    fn tell_code(
+    fn tell_code<M: MainStorage>(
         &mut self,
+        storage: &mut M,
         indices: &SubchannelIndex,
         cpu: Cpu,
         instruction: &Instruction,
@@ -317,11 +327,12 @@ impl Machine {
         requires requests { self.old.requests.numbers ≡ 0x100 }
         requires room { 1 ≤ log.old.room }
         requires fresh { log.old.reply ≡ reply_spec.Done }
-        ensures performs { spec.Performs self.old (event_spec.Execute cpu instruction.now) (answer_in result log.new) self.new }
+        ensures performs { spec.Performs (lent self.old (M.contents storage.old)) (event_spec.Execute cpu instruction.now) (answer_in result log.new) (lent self.new (M.contents storage.new)) }
         ensures kept { IsKept log.old log.new }
         ensures refused { OnErr result (log.new ≡ log.old) }
+        ensures lender { M.lender storage.new ≡ M.lender storage.old }
     {
-        log.tell(&self.execute(indices, cpu, instruction))
+        log.tell(&self.execute(storage, indices, cpu, instruction))
     }
 
     /// `choose`, with its reply in the log.
@@ -339,8 +350,8 @@ impl Machine {
         requires requests { self.old.requests.numbers ≡ 0x100 }
         requires room { 1 ≤ log.old.room }
         requires fresh { log.old.reply ≡ reply_spec.Done }
-        ensures performs { spec.Performs self.old (event_spec.Choose word) (answer_in result log.new) self.new }
-        ensures ruled { GoesByRule P.picks self.old (event_spec.Choose word) (answer_in result log.new) self.new }
+        ensures performs { (storage : Contents) → spec.Performs (lent self.old storage) (event_spec.Choose word) (answer_in result log.new) (lent self.new storage) }
+        ensures ruled { (storage : Contents) → GoesByRule P.picks (lent self.old storage) (event_spec.Choose word) (answer_in result log.new) (lent self.new storage) }
         ensures kept { IsKept log.old log.new }
         ensures refused { OnErr result (log.new ≡ log.old) }
     {
@@ -360,7 +371,7 @@ impl Machine {
         requires roomy { All CanUnitCount self.old.units }
         requires room { 1 ≤ log.old.room }
         requires fresh { log.old.reply ≡ reply_spec.Done }
-        ensures performs { spec.Performs self.old (event_spec.Report number report.now) (answer_in result log.new) self.new }
+        ensures performs { (storage : Contents) → spec.Performs (lent self.old storage) (event_spec.Report number report.now) (answer_in result log.new) (lent self.new storage) }
         ensures kept { IsKept log.old log.new }
         ensures refused { OnErr result (log.new ≡ log.old) }
     {
@@ -376,7 +387,7 @@ impl Machine {
     ) -> Result<PlainReply, Fault>
         requires fits { Fits indices.now self.old.subs }
         requires roomy { All CanUnitCount self.old.units }
-        ensures { spec.Performs self.old (event_spec.Act number act) (plain_outcome result) self.new }
+        ensures { (storage : Contents) → spec.Performs (lent self.old storage) (event_spec.Act number act) (plain_outcome result) (lent self.new storage) }
     {
         let number = number as usize;
         if number >= self.units.len() {
@@ -396,7 +407,7 @@ impl Machine {
     #[inline(never)]
     fn restart(&mut self, number: u32) -> Result<PlainReply, Fault>
         requires { All CanUnitCount self.old.units }
-        ensures { spec.Performs self.old (event_spec.Restart number) (plain_outcome result) self.new }
+        ensures { (storage : Contents) → spec.Performs (lent self.old storage) (event_spec.Restart number) (plain_outcome result) (lent self.new storage) }
     {
         if number as usize >= self.units.len() {
             return Err(Fault::NoSuchUnit);
@@ -409,8 +420,9 @@ impl Machine {
     /// Performs one event, with its reply in the log, where it begins an entry; a refusal changes nothing.
     #[inline(always)]
     #[tactic(auto, using(crate::proofs::Storing::put_performs, crate::proofs::Storing::key_performs, crate::proofs::Storing::prefix_performs, crate::proofs::Storing::show_performs))]
-    pub fn perform<P: PathChoice>(
+    pub fn perform<M: MainStorage, P: PathChoice>(
         &mut self,
+        storage: &mut M,
         indices: &SubchannelIndex,
         choice: &P,
         event: &Event,
@@ -423,27 +435,28 @@ impl Machine {
         requires requests { self.old.requests.numbers ≡ 0x100 }
         requires room { 1 ≤ log.old.room }
         requires fresh { log.old.reply ≡ reply_spec.Done }
-        ensures performs { spec.Performs self.old event.now (answer_in result log.new) self.new }
-        ensures ruled { GoesByRule P.picks self.old event.now (answer_in result log.new) self.new }
+        ensures performs { spec.Performs (lent self.old (M.contents storage.old)) event.now (answer_in result log.new) (lent self.new (M.contents storage.new)) }
+        ensures ruled { GoesByRule P.picks (lent self.old (M.contents storage.old)) event.now (answer_in result log.new) (lent self.new (M.contents storage.new)) }
         ensures kept { IsKept log.old log.new }
         ensures refused { OnErr result (log.new ≡ log.old) }
+        ensures lender { M.lender storage.new ≡ M.lender storage.old }
     {
         let answer = match event {
-            Event::Up { subchannel, path } => return self.up(indices, *subchannel, *path, log),
+            Event::Up { subchannel, path } => return self.up(storage, indices, *subchannel, *path, log),
             Event::Down { subchannel, path } => return self.down(indices, *subchannel, *path, log),
             Event::Report { unit, report } => return self.tell_report(indices, *unit, report, log),
             Event::Choose { subchannel } => {
                 return self.tell_choice(indices, choice, *subchannel, log);
             }
             Event::Execute { cpu, instruction } => {
-                return self.tell_code(indices, *cpu, instruction, log);
+                return self.tell_code(storage, indices, *cpu, instruction, log);
             }
-            Event::Show { address, length } => return self.show(*address, *length, log),
+            Event::Show { address, length } => return show(storage, *address, *length, log),
             Event::Act { unit, act } => self.act(indices, *unit, *act),
-            Event::Put { address, bytes } => self.put(*address, bytes),
-            Event::SetKey { address, key } => self.set_key(*address, *key),
-            Event::SetPrefix { cpu, address } => self.set_prefix(*cpu, *address),
-            Event::ExecuteOther { cpu, instruction } => self.execute_other(*cpu, *instruction),
+            Event::Put { address, bytes } => put(storage, *address, bytes),
+            Event::SetKey { address, key } => set_key(storage, *address, *key),
+            Event::SetPrefix { cpu, address } => set_prefix(storage, *cpu, *address),
+            Event::ExecuteOther { cpu, instruction } => self.execute_other(storage, *cpu, *instruction),
             Event::Restart { unit } => self.restart(*unit),
             Event::PathDown { chpid } => self.path_down(*chpid),
             Event::PathUp { chpid } => self.path_up(*chpid),

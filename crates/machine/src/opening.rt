@@ -8,6 +8,7 @@ ghost use Rattle.channel_config.specs.Setup as setup_spec;
 ghost use Rattle.control_units.specs.Units as members_spec;
 ghost use Rattle.lookup.specs.Tables.{Fits};
 ghost use Rattle.interruptions.specs.Requests.{no_requests_wait};
+ghost use Rattle.machine.specs.Lent.{lent, no_storage};
 ghost use Rattle.storage_keys.specs.Storage.{cleared_storage};
 
 use crate::machine::Machine;
@@ -139,17 +140,32 @@ fn opened_sides<S: Supply>(
     Ok((indices, units, subs))
 }
 
-/// What the subsystem keeps beside them at the opening: storage, the channel paths, what control units keep, and requests for
+/// What the machine keeps beside them at the opening: the channel paths, what control units keep, and requests for
 /// interruptions.
 fn opened_rest<S: Supply>(
     alloc: Global,
     supply: &mut S,
     config: &Config,
-) -> Result<(Storage, Vec<u8>, Sharing, Pending), AllocError>
-    ensures storage { IfOk result (λ rest. rest.0 ≡ cleared_storage (unwrap_or config.now.blocks 16)) }
-    ensures chpids { IfOk result (λ rest. rest.1.items ≡ config.now.paths) }
-    ensures sharing { IfOk result (λ rest. rest.2 ≡ map members_spec.idle_member (setup_spec.groups_of config.now)) }
-    ensures pending { IfOk result (λ rest. rest.3 ≡ no_requests_wait 0x100) }
+) -> Result<(Vec<u8>, Sharing, Pending), AllocError>
+    ensures chpids { IfOk result (λ rest. rest.0.items ≡ config.now.paths) }
+    ensures sharing { IfOk result (λ rest. rest.1 ≡ map members_spec.idle_member (setup_spec.groups_of config.now)) }
+    ensures pending { IfOk result (λ rest. rest.2 ≡ no_requests_wait 0x100) }
+    ensures unrefused { OnOk result (S.refused supply.new ≡ S.refused supply.old) }
+    ensures memory { OnErr result (S.refused supply.new ≡ true) }
+{
+    let chpids = copied(alloc, supply, config.paths())?;
+    let sharing = shared(alloc, supply, config)?;
+    let pending = Pending::new_with(alloc, supply, NUMBERS_OF_A_SET)?;
+    Ok((chpids, sharing, pending))
+}
+
+/// Main storage of a configuration at its opening: as large as it says, or the least.
+pub(crate) fn opened_storage<S: Supply>(
+    alloc: Global,
+    supply: &mut S,
+    config: &Config,
+) -> Result<Storage, AllocError>
+    ensures storage { IfOk result (λ storage. storage ≡ cleared_storage (unwrap_or config.now.blocks 16)) }
     ensures unrefused { OnOk result (S.refused supply.new ≡ S.refused supply.old) }
     ensures memory { OnErr result (S.refused supply.new ≡ true) }
 {
@@ -157,31 +173,26 @@ fn opened_rest<S: Supply>(
         Some(blocks) => blocks,
         None => 16,
     };
-    let storage = Storage::new_with(alloc, supply, blocks)?;
-    let chpids = copied(alloc, supply, config.paths())?;
-    let sharing = shared(alloc, supply, config)?;
-    let pending = Pending::new_with(alloc, supply, NUMBERS_OF_A_SET)?;
-    Ok((storage, chpids, sharing, pending))
+    Storage::new_with(alloc, supply, blocks)
 }
 
-/// The machine of a configuration, with the indices of its subchannels. It is refused only where the supply refuses a
-/// growth.
+/// The machine of a configuration, with the indices of its subchannels; storage is to be lent to it. It is refused only where
+/// the supply refuses a growth.
 pub fn opened_machine<S: Supply>(
     alloc: Global,
     supply: &mut S,
     config: &Config,
 ) -> Result<(SubchannelIndex, Machine), AllocError>
-    ensures opened { IfOk result (λ m. m.1 ≡ state_spec.opening_of config.now) }
+    ensures opened { IfOk result (λ m. m.1 ≡ lent (state_spec.opening_of config.now) no_storage) }
     ensures fits { IfOk result (λ m. Fits m.0 m.1.subs) }
     ensures lawful { OnOk result (IsLawful config.now) }
     ensures unrefused { OnOk result (S.refused supply.new ≡ S.refused supply.old) }
     ensures memory { OnErr result (S.refused supply.new ≡ true) }
 {
     let (indices, units, subs) = opened_sides(alloc, supply, config)?;
-    let (storage, chpids, sharing, pending) = opened_rest(alloc, supply, config)?;
+    let (chpids, sharing, pending) = opened_rest(alloc, supply, config)?;
     let engines = Engines::new();
     let machine = Machine {
-        storage,
         sets: config.set_count(),
         chpids,
         up: configured(config.paths()),

@@ -8,7 +8,9 @@ ghost use Rattle.machine_model.specs.PathSteps as path_spec;
 ghost use Rattle.machine_model.specs.Requests as requests_spec;
 ghost use Rattle.machine_model.specs.Steps as spec;
 ghost use Rattle.signal_step.specs.Giving as giving_spec;
+ghost use Rattle.machine.specs.Lent.{lent};
 ghost use Rattle.machine.specs.Postable.{IsPostable};
+ghost use Rattle.storage_keys.specs.Storage.{Contents};
 ghost use Rattle.chan_events.specs.Replies.{plain_outcome};
 
 use crate::machine::Machine;
@@ -92,7 +94,7 @@ impl Machine {
         requires roomy { All CanCount self.old.subs }
         requires postable { All IsPostable self.old.subs }
         requires requests { self.old.requests.numbers ≡ 0x100 }
-        ensures { spec.Performs self.old (event_spec.PathDown number) (plain_outcome result) self.new }
+        ensures { (storage : Contents) → spec.Performs (lent self.old storage) (event_spec.PathDown number) (plain_outcome result) (lent self.new storage) }
     {
         let Some(chpid) = chpid_of(self.chpids.as_slice(), number) else {
             return Err(Fault::NoSuchPath);
@@ -113,7 +115,7 @@ impl Machine {
         requires roomy { All CanCount self.old.subs }
         requires postable { All IsPostable self.old.subs }
         requires requests { self.old.requests.numbers ≡ 0x100 }
-        ensures { spec.Performs self.old (event_spec.PathUp number) (plain_outcome result) self.new }
+        ensures { (storage : Contents) → spec.Performs (lent self.old storage) (event_spec.PathUp number) (plain_outcome result) (lent self.new storage) }
     {
         let Some(chpid) = chpid_of(self.chpids.as_slice(), number) else {
             return Err(Fault::NoSuchPath);
@@ -134,7 +136,7 @@ impl Machine {
         requires roomy { All CanCount self.old.subs }
         requires postable { All IsPostable self.old.subs }
         requires requests { self.old.requests.numbers ≡ 0x100 }
-        ensures { spec.Performs self.old (event_spec.PathReset number) (plain_outcome result) self.new }
+        ensures { (storage : Contents) → spec.Performs (lent self.old storage) (event_spec.PathReset number) (plain_outcome result) (lent self.new storage) }
     {
         let Some(chpid) = chpid_of(self.chpids.as_slice(), number) else {
             return Err(Fault::NoSuchPath);
@@ -153,7 +155,7 @@ impl Machine {
         requires roomy { All CanCount self.old.subs }
         requires postable { All IsPostable self.old.subs }
         requires requests { self.old.requests.numbers ≡ 0x100 }
-        ensures { spec.Performs self.old event_spec.SystemReset (plain_outcome result) self.new }
+        ensures { (storage : Contents) → spec.Performs (lent self.old storage) event_spec.SystemReset (plain_outcome result) (lent self.new storage) }
     {
         self.pending.drop_all();
         self.reports = Reports::new();

@@ -166,13 +166,19 @@ shown storage address count = if is_inside storage address count then Ok (slice_
 abbrev pub key_at : Contents → ℕ → Result Key StorageFault
 key_at storage address = ok_or (slice_get storage.keys (address / 4096)) Addressing
 
+-- storage with this key of that block, and with this prefix of a CPU
+abbrev pub with_key : Contents → ℕ → Key → Contents
+with_key storage address key = record storage { keys = slice_set storage.keys (address / 4096) key }
+
+abbrev pub with_prefix : Contents → ℕ → ℕ → Contents
+with_prefix storage cpu address = record storage { prefixes = slice_set storage.prefixes cpu address }
+
 -- storage after that key is set
 abbrev pub key_set : Contents → ℕ → Key → Result Contents StorageFault
-key_set storage address key =
-    if is_inside storage address 1 then Ok (record storage { keys = slice_set storage.keys (address / 4096) key }) else Err Addressing
+key_set storage address key = if is_inside storage address 1 then Ok (with_key storage address key) else Err Addressing
 
 -- storage after a CPU's prefix is set
 abbrev pub prefix_set : Contents → ℕ → ℕ → Result Contents StorageFault
 prefix_set storage cpu address =
     if not (address % 8192 == 0) then Err Specification
-    else (if is_inside storage address 8192 then Ok (record storage { prefixes = slice_set storage.prefixes cpu address }) else Err Addressing)
+    else (if is_inside storage address 8192 then Ok (with_prefix storage cpu address) else Err Addressing)

@@ -86,76 +86,6 @@ impl Storage {
         })
     }
 
-    /// Puts bytes from an absolute address on, as an operator does: no key is asked (own).
-    /// Addressing where a byte is not in storage, and then nothing is put.
-    pub fn put(&mut self, address: u32, bytes: &[u8]) -> Result<(), StorageFault>
-        ensures put { OnOk result (spec.put self.old address bytes.now ≡ Ok self.new) }
-        ensures refused { IfErr result (λ fault. spec.put self.old address bytes.now ≡ Err fault) }
-        ensures kept { OnErr result (self.new ≡ self.old) }
-    {
-        if !is_inside(self, address, bytes.len()) {
-            return Err(StorageFault::Addressing);
-        }
-        self.overwrite(address, bytes);
-        Ok(())
-    }
-
-    /// So many bytes from an absolute address on, as an operator is shown them: no key is asked
-    /// (own). Addressing where a byte is not in storage.
-    pub fn show(&self, address: u32, count: usize) -> Result<&[u8], StorageFault>
-        ensures shown { IfOk result (λ bytes. spec.shown self.now address count ≡ Ok bytes.now) }
-        ensures refused { IfErr result (λ fault. spec.shown self.now address count ≡ Err fault) }
-    {
-        if is_inside(self, address, count) {
-            Ok(part(self, address, count))
-        } else {
-            Err(StorageFault::Addressing)
-        }
-    }
-
-    /// The key of the block in which an absolute address lies. Addressing where it is not in
-    /// storage.
-    pub fn key_at(&self, address: u32) -> Result<Key, StorageFault>
-        ensures { result ≡ spec.key_at self.now address }
-    {
-        match self.keys.get(address as usize / BLOCK) {
-            Some(key) => Ok(*key),
-            None => Err(StorageFault::Addressing),
-        }
-    }
-
-    /// Sets the key of the block in which an absolute address lies. Addressing where it is not in
-    /// storage.
-    pub fn set_key(&mut self, address: u32, key: Key) -> Result<(), StorageFault>
-        ensures set { OnOk result (spec.key_set self.old address key ≡ Ok self.new) }
-        ensures refused { IfErr result (λ fault. spec.key_set self.old address key ≡ Err fault) }
-        ensures kept { OnErr result (self.new ≡ self.old) }
-    {
-        if !is_inside(self, address, 1) {
-            return Err(StorageFault::Addressing);
-        }
-        self.keys[address as usize / BLOCK] = key;
-        Ok(())
-    }
-
-    /// Sets the prefix of a CPU. Specification where it is no multiple of 8,192, otherwise
-    /// Addressing where the 8,192 bytes from it on are not all in storage.
-    pub fn set_prefix(&mut self, cpu: u8, address: u32) -> Result<(), StorageFault>
-        requires { cpu < 16 }
-        ensures set { OnOk result (spec.prefix_set self.old cpu address ≡ Ok self.new) }
-        ensures refused { IfErr result (λ fault. spec.prefix_set self.old cpu address ≡ Err fault) }
-        ensures kept { OnErr result (self.new ≡ self.old) }
-    {
-        if address % PREFIX_AREA != 0 {
-            return Err(StorageFault::Specification);
-        }
-        if !is_inside(self, address, PREFIX_AREA as usize) {
-            return Err(StorageFault::Addressing);
-        }
-        self.prefixes[cpu as usize] = address;
-        Ok(())
-    }
-
     /// The keys of the blocks in which so many bytes lie.
     fn keys_of(&self, address: u32, count: usize) -> &[Key]
         requires { IsTrue (spec.is_inside self.now address count) }
@@ -201,6 +131,21 @@ impl MainStorage for Storage {
         }
         let first = address as usize;
         self.bytes[first..first + bytes.len()].copy_from_slice(bytes);
+    }
+
+    fn key_at(&self, address: u32) -> Result<Key, StorageFault> {
+        match self.keys.get(address as usize / BLOCK) {
+            Some(key) => Ok(*key),
+            None => Err(StorageFault::Addressing),
+        }
+    }
+
+    fn write_key(&mut self, address: u32, key: Key) {
+        self.keys[address as usize / BLOCK] = key;
+    }
+
+    fn write_prefix(&mut self, cpu: u8, address: u32) {
+        self.prefixes[cpu as usize] = address;
     }
 }
 

@@ -6,7 +6,8 @@ ghost use Rattle.storage_keys.specs.Storage as spec;
 
 use crate::StorageFault;
 use crate::accesses::{check_fetch, is_inside, part};
-use crate::operands::{absolute_under, is_operand_inside, piece_length, read_operand, store_piece};
+use crate::key::Key;
+use crate::operands::{PREFIX_AREA, absolute_under, is_operand_inside, piece_length, read_operand, store_piece};
 
 /// Main storage: at most 2,147,483,648 bytes, a key for each block of 4,096 of them, and a prefix for each of 16 CPUs. Who has
 /// it gives its bytes, what its keys permit, its prefixes and a write; all accesses stand on these. No call takes memory.
@@ -42,6 +43,24 @@ pub trait MainStorage: Sized {
     fn overwrite(&mut self, address: u32, bytes: &[u8])
         requires { IsTrue (spec.is_inside (contents self.old) address (length bytes.now)) }
         ensures overwritten { contents self.new ≡ spec.put_at (contents self.old) address bytes.now }
+        ensures lender { lender self.new ≡ lender self.old };
+
+    /// The key of the block in which an absolute address lies. Addressing where it is not in
+    /// storage.
+    fn key_at(&self, address: u32) -> Result<Key, StorageFault>
+        ensures { result ≡ spec.key_at (contents self.now) address };
+
+    /// Writes the key of the block in which an absolute address lies.
+    fn write_key(&mut self, address: u32, key: Key)
+        requires { IsTrue (spec.is_inside (contents self.old) address 1) }
+        ensures written { contents self.new ≡ spec.with_key (contents self.old) address key }
+        ensures lender { lender self.new ≡ lender self.old };
+
+    /// Writes the prefix of a CPU: an address on a boundary of 8,192 bytes, from which on as many are in storage.
+    fn write_prefix(&mut self, cpu: u8, address: u32)
+        requires cpu { cpu < 16 }
+        requires prefix { spec.IsPrefix (length (contents self.old).bytes) address }
+        ensures written { contents self.new ≡ spec.with_prefix (contents self.old) cpu address }
         ensures lender { lender self.new ≡ lender self.old };
 
     /// How many bytes there are.
@@ -89,6 +108,68 @@ pub trait MainStorage: Sized {
     {
         self.check_store(key, address, bytes.len())?;
         self.overwrite(address, bytes);
+        Ok(())
+    }
+
+    /// Puts bytes from an absolute address on, as an operator does: no key is asked (own).
+    /// Addressing where a byte is not in storage, and then nothing is put.
+    final fn put(&mut self, address: u32, bytes: &[u8]) -> Result<(), StorageFault>
+        ensures put { OnOk result (spec.put (contents self.old) address bytes.now ≡ Ok (contents self.new)) }
+        ensures refused { IfErr result (λ fault. spec.put (contents self.old) address bytes.now ≡ Err fault) }
+        ensures kept { OnErr result (contents self.new ≡ contents self.old) }
+        ensures lender { lender self.new ≡ lender self.old }
+    {
+        if !is_inside(self, address, bytes.len()) {
+            return Err(StorageFault::Addressing);
+        }
+        self.overwrite(address, bytes);
+        Ok(())
+    }
+
+    /// So many bytes from an absolute address on, as an operator is shown them: no key is asked
+    /// (own). Addressing where a byte is not in storage.
+    final fn show(&self, address: u32, count: usize) -> Result<&[u8], StorageFault>
+        ensures shown { IfOk result (λ bytes. spec.shown (contents self.now) address count ≡ Ok bytes.now) }
+        ensures refused { IfErr result (λ fault. spec.shown (contents self.now) address count ≡ Err fault) }
+    {
+        if is_inside(self, address, count) {
+            Ok(part(self, address, count))
+        } else {
+            Err(StorageFault::Addressing)
+        }
+    }
+
+    /// Sets the key of the block in which an absolute address lies. Addressing where it is not in
+    /// storage.
+    final fn set_key(&mut self, address: u32, key: Key) -> Result<(), StorageFault>
+        ensures set { OnOk result (spec.key_set (contents self.old) address key ≡ Ok (contents self.new)) }
+        ensures refused { IfErr result (λ fault. spec.key_set (contents self.old) address key ≡ Err fault) }
+        ensures kept { OnErr result (contents self.new ≡ contents self.old) }
+        ensures lender { lender self.new ≡ lender self.old }
+    {
+        if !is_inside(self, address, 1) {
+            return Err(StorageFault::Addressing);
+        }
+        self.write_key(address, key);
+        Ok(())
+    }
+
+    /// Sets the prefix of a CPU. Specification where it is no multiple of 8,192, otherwise
+    /// Addressing where the 8,192 bytes from it on are not all in storage.
+    final fn set_prefix(&mut self, cpu: u8, address: u32) -> Result<(), StorageFault>
+        requires { cpu < 16 }
+        ensures set { OnOk result (spec.prefix_set (contents self.old) cpu address ≡ Ok (contents self.new)) }
+        ensures refused { IfErr result (λ fault. spec.prefix_set (contents self.old) cpu address ≡ Err fault) }
+        ensures kept { OnErr result (contents self.new ≡ contents self.old) }
+        ensures lender { lender self.new ≡ lender self.old }
+    {
+        if address % PREFIX_AREA != 0 {
+            return Err(StorageFault::Specification);
+        }
+        if !is_inside(self, address, PREFIX_AREA as usize) {
+            return Err(StorageFault::Addressing);
+        }
+        self.write_prefix(cpu, address);
         Ok(())
     }
 

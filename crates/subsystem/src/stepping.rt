@@ -11,7 +11,7 @@ use chan_events::event::Event;
 use chan_model::fault::Fault;
 use event_log::logs::Log;
 use lookup::tables::SubchannelIndex;
-use machine::machine::Machine;
+use machine::owning::MachineAndStorage;
 use memory::Supply;
 use path_select::PathChoice;
 use run_laws::answers::codes;
@@ -22,7 +22,7 @@ use step_laws::refusals;
 #[inline(never)]
 #[tactic(auto, using(crate::proofs::Accepting::starved))]
 pub fn keep_step<S: Supply, P: PathChoice + Drop>(
-    machine: &mut Machine,
+    machine: &mut MachineAndStorage,
     history: &mut Log,
     supply: &mut S,
     indices: &SubchannelIndex,

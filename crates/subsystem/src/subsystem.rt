@@ -31,8 +31,7 @@ use channel_config::config::Config;
 use event_log::history::{History, LentReply};
 use event_log::logs::Log;
 use lookup::tables::SubchannelIndex;
-use machine::machine::Machine;
-use machine::opening::opened_machine;
+use machine::owning::MachineAndStorage;
 use machine_model::state::UnitTurn;
 use memory::{Allocator, Supply, make_room};
 use path_select::PathChoice;
@@ -50,7 +49,7 @@ use std::marker::Model;
 pub struct Subsystem<P: Drop> {
     choice: P,
     indices: SubchannelIndex,
-    machine: Machine,
+    machine: MachineAndStorage,
     history: Log,
 }
 
@@ -105,7 +104,7 @@ impl<P: PathChoice + Drop> Subsystem<P> {
         ensures unrefused { OnOk result (S.refused supply.new ≡ S.refused supply.old) }
         ensures memory { OnErr result (S.refused supply.new ≡ true) }
     {
-        match opened_machine(alloc, supply, &config) {
+        match MachineAndStorage::opened(alloc, supply, &config) {
             Ok((indices, machine)) => Ok(Subsystem {
                 choice,
                 indices,
@@ -302,7 +301,7 @@ impl<P: PathChoice + Drop> Subsystem<P> {
     pub fn count(&self) -> usize
         ensures { result ≡ length (all_serials self.now.state) }
     {
-        self.machine.count()
+        self.machine.beside().count()
     }
 
     /// The index of the subchannel that a subsystem-identification word names, in the order of the configuration, from 0;
@@ -311,7 +310,7 @@ impl<P: PathChoice + Drop> Subsystem<P> {
         ensures index { result ≡ state_spec.index_of self.now.state subchannel }
         ensures bound { IfSome result (λ index. index < length (all_serials self.now.state)) }
     {
-        self.machine.index_of(&self.indices, subchannel)
+        self.machine.beside().index_of(&self.indices, subchannel)
     }
 
     /// The serials of the subchannel at an index; None where there is none.
@@ -320,14 +319,14 @@ impl<P: PathChoice + Drop> Subsystem<P> {
         ensures ordered { All IsOrdered (all_serials self.now.state) }
     {
         numbers();
-        self.machine.serials_at(index)
+        self.machine.beside().serials_at(index)
     }
 
     /// The serials of the subchannel that a subsystem-identification word names; None where it is not configured.
     pub fn serials(&self, subchannel: u32) -> Option<Serials>
         ensures { result ≡ state_spec.serials_in (state_spec.sub_of self.now.state subchannel) }
     {
-        self.machine.serials(&self.indices, subchannel)
+        self.machine.beside().serials(&self.indices, subchannel)
     }
 
     /// The event of a turn of a channel path's worker, for a subchannel: the signal that waits longest on the wire up of the
@@ -336,21 +335,21 @@ impl<P: PathChoice + Drop> Subsystem<P> {
     pub fn path_turn(&self, subchannel: u32, chpid: u8) -> Option<Event>
         ensures { result ≡ path_spec.path_turn_of self.now.state subchannel chpid }
     {
-        self.machine.path_turn(&self.indices, subchannel, chpid)
+        self.machine.beside().path_turn(&self.indices, subchannel, chpid)
     }
 
     /// What a unit is to do next; None where it is not configured.
     pub fn unit_turn(&self, unit: u32) -> Option<UnitTurn>
         ensures { result ≡ state_spec.unit_turn_of self.now.state «unit» }
     {
-        self.machine.unit_turn(&self.indices, unit)
+        self.machine.beside().unit_turn(&self.indices, unit)
     }
 
     /// What a unit is to do next, as `unit_turn` has it; the bytes that are to be absorbed are lent.
     pub fn lent_turn(&self, unit: u32) -> Option<UnitTurn<LentWork<'_>>>
         ensures { lent_turns result ≡ state_spec.unit_turn_of self.now.state «unit» }
     {
-        self.machine.lent_turn(&self.indices, unit)
+        self.machine.beside().lent_turn(&self.indices, unit)
     }
 }
 

@@ -27,14 +27,14 @@ impl<P: PathChoice + Drop> Subsystem<P> {
     pub fn requested_subclasses(&self) -> u8
         ensures { (subclass : ℕ) → subclass < 8 → (bit_of result (24 + subclass) == 1) ≡ has_request self.now.state.requests subclass }
     {
-        self.machine.requested_subclasses()
+        self.machine.beside().requested_subclasses()
     }
 
     /// How many channel reports wait, at most 16. STORE CHANNEL REPORT WORD takes the oldest (SA22-7832, chapter 17).
     pub fn report_count(&self) -> usize
         ensures { result ≡ length self.now.state.reports.reports }
     {
-        self.machine.report_count()
+        self.machine.beside().report_count()
     }
 
     /// The subchannel that a subsystem-identification word names, lent: `state.rest()` has its programs, its hold and its
@@ -44,7 +44,7 @@ impl<P: PathChoice + Drop> Subsystem<P> {
         ensures found { IfSome result (λ sub. state_spec.sub_of self.now.state subchannel ≡ Some sub.now) }
         ensures none { IfNone result (state_spec.sub_of self.now.state subchannel ≡ None) }
     {
-        self.machine.subchannel(&self.indices, subchannel)
+        self.machine.beside().subchannel(&self.indices, subchannel)
     }
 
     /// The 52 bytes of the subchannel-information block that STORE SUBCHANNEL would store (SA22-7832, chapter 15). None where the
@@ -52,7 +52,7 @@ impl<P: PathChoice + Drop> Subsystem<P> {
     pub fn schib(&self, subchannel: u32) -> Option<[u8; SCHIB_BYTES]>
         ensures { result ≡ option_map (λ sub. image_of (schib_tables (schib_of sub))) (state_spec.sub_of self.now.state subchannel) }
     {
-        match self.machine.subchannel(&self.indices, subchannel) {
+        match self.machine.beside().subchannel(&self.indices, subchannel) {
             Some(sub) => Some(sub.state.schib()),
             None => None,
         }
@@ -63,7 +63,7 @@ impl<P: PathChoice + Drop> Subsystem<P> {
     pub fn irb(&self, subchannel: u32) -> Option<[u8; IRB_BYTES]>
         ensures { result ≡ option_map (λ sub. image_of (irb_tables (irb_of sub.state))) (state_spec.sub_of self.now.state subchannel) }
     {
-        match self.machine.subchannel(&self.indices, subchannel) {
+        match self.machine.beside().subchannel(&self.indices, subchannel) {
             Some(sub) => Some(sub.state.irb()),
             None => None,
         }
@@ -75,21 +75,21 @@ impl<P: PathChoice + Drop> Subsystem<P> {
         ensures found { IfSome result (λ state. slice_get self.now.state.units «unit» ≡ Some state.now) }
         ensures none { IfNone result (slice_get self.now.state.units «unit» ≡ None) }
     {
-        self.machine.unit(unit)
+        self.machine.beside().unit(unit)
     }
 
     /// Whether the channel path of this identifier is configured and not down.
     pub fn is_path_up(&self, chpid: u8) -> bool
         ensures { result ≡ slice_index_or self.now.state.up chpid false }
     {
-        self.machine.is_path_up(chpid)
+        self.machine.beside().is_path_up(chpid)
     }
 
     /// Whether the channel path of this identifier serves a subchannel, as STORE CHANNEL PATH STATUS tells it.
     pub fn is_path_engaged(&self, chpid: u8) -> bool
         ensures { result ≡ any_engages self.now.state.subs chpid }
     {
-        self.machine.is_path_engaged(chpid)
+        self.machine.beside().is_path_engaged(chpid)
     }
 
     /// The key of the block of 4,096 bytes in which an absolute address lies. Addressing where it is not in storage.

@@ -4,10 +4,12 @@ use Rattle.chan_events.specs.declared.event.Event.TheVariants as event
 use Rattle.lookup.specs.Tables.{Serves}
 use Rattle.chan_events.specs.Replies.{plain_outcome}
 use Rattle.machine.specs.Postable.{IsPostable}
+use Rattle.storage_keys.specs.Storage.{Contents}
 use Rattle.machine_model.specs.State.{State}
 use Rattle.subchannel_model.specs.Choosing.{paths_to_choose}
 use Rattle.subchannel_model.specs.declared.state.Subchannel.{Subchannel}
 use Rattle.signal_step.specs.Giving.{posted_since}
+use Rattle.machine.specs.Lent.{lent}
 use Rattle.machine.specs.contracts.machine.Machine.{the_view}
 use Rattle.machine.proofs.Lifting.{at_seen, named_at, chooses, chooses-none, postable-at, gets}
 use Rattle.machine.proofs.Serving.{served-performed}
@@ -18,17 +20,17 @@ returns g c =
     let old = the_view c.self.inside in
     let at = named_at old c.args.self.now c.args.word c.in-Some.index c.index_of.result c.self.view_is c.index_of.ensures.index c.in-Some.is in
     let stands = at_seen old.subs c.args.self.now.subs c.in-Some.index c.index_mut-sub.result.now (ap (λ (s : State). s.subs) c.self.view_is) c.in-Some.ensures.bound c.index_mut-sub.ensures.value in
-    let both = chooses g.P.PathChoice.picks old c.args.self.now c.args.word c.in-Some.index c.index_mut-sub.result.now c.index.result.now c.choose_sub-answer.new.sub
-    c.paths_to_choose-paths.result c.choose-path.result c.chosen-what.result (plain_outcome c.choose_sub-answer.result) c.post.new.pending c.self.view_is at stands c.index.ensures
+    let both = λ (storage : Contents). chooses g.P.PathChoice.picks (lent old storage) (lent c.args.self.now storage) c.args.word c.in-Some.index c.index_mut-sub.result.now c.index.result.now c.choose_sub-answer.new.sub
+    c.paths_to_choose-paths.result c.choose-path.result c.chosen-what.result (plain_outcome c.choose_sub-answer.result) c.post.new.pending (ap (λ (s : State). lent s storage) c.self.view_is) at stands c.index.ensures
     (c.paths_to_choose-paths.ensures ∙ ap (λ (subs : List Subchannel). paths_to_choose subs c.index.result.now) (c.of-served.ensures ∙ c.as_slice.ensures.value))
     c.choose-path.ensures.law (subst (λ (last : Option ℕ). g.P.PathChoice.picks c.paths_to_choose-paths.result last c.choose-path.result) c.last_path_of.ensures c.choose-path.ensures.rule)
     c.chosen-what.ensures.chosen c.choose_sub-answer.ensures.gives (c.post.ensures ∙ ap (λ (n : ℕ). posted_since n c.choose_sub-answer.new.sub old.requests) c.made_by-made.ensures) in
-    record { performs = both.0; ruled = both.1 }
+    record { performs = λ storage. (both storage).0; ruled = λ storage. (both storage).1 }
 
 pub returns-in_default : goal.returns-in_default
 returns-in_default g c =
-    let both = chooses-none g.P.PathChoice.picks c.args.self.now c.args.word (sym c.index_of.ensures.index ∙ c.in_default.is) in
-    record { performs = both.0; ruled = both.1 }
+    let both = λ (storage : Contents). chooses-none g.P.PathChoice.picks (lent c.args.self.now storage) c.args.word (sym c.index_of.ensures.index ∙ c.in_default.is) in
+    record { performs = λ storage. (both storage).0; ruled = λ storage. (both storage).1 }
 
 pub invariant_of-self : goal.invariant_of-self
 invariant_of-self g c =
