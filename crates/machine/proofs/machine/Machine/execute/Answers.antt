@@ -27,7 +27,7 @@ returns-in_default-index_in c =
     let placed : index_in c.in-Some.id old.subs ≡ None =
     ap (index_in c.in-Some.id) (sym c.as_slice.ensures.value) ∙ (sym c.index_in.ensures.index ∙ c.in_default-index_in.is) in
     subst (λ (s : State). Performs s (event.Execute c.args.cpu c.args.instruction.now) (plain_outcome c.execute_absent.result) (record old { storage = c.execute_absent.new.storage })) c.self.view_is
-    (executes-absent old c.args.cpu c.args.instruction.now c.in-Some.id c.execute_absent.new.storage (plain_outcome c.execute_absent.result) named placed c.execute_absent.ensures)
+    (executes-absent old c.args.cpu c.args.instruction.now c.in-Some.id c.execute_absent.new.storage (plain_outcome c.execute_absent.result) named placed c.execute_absent.ensures.done)
 
 pub returns : goal.returns
 returns c =

@@ -14,4 +14,4 @@ returns c =
     subst (λ (s : State). Performs s (event.ExecuteOther c.args.cpu c.args.instruction) (plain_outcome c.perform_other.result)
     (record old { storage = c.perform_other.new.storage; requests = c.perform_other.new.pending; reports = c.perform_other.new.reports })) c.self.view_is
     (other-performs old c.args.cpu c.args.instruction c.engaged_for.result (plain_outcome c.perform_other.result) c.perform_other.new.storage c.perform_other.new.pending c.perform_other.new.reports
-    (subst (λ (subs : List Subchannel). AreAlike subs c.engaged_for.result c.args.instruction) (c.of-served.ensures ∙ c.as_slice.ensures.value) c.engaged_for.ensures) c.perform_other.ensures)
+    (subst (λ (subs : List Subchannel). AreAlike subs c.engaged_for.result c.args.instruction) (c.of-served.ensures ∙ c.as_slice.ensures.value) c.engaged_for.ensures) c.perform_other.ensures.done)
