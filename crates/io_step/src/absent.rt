@@ -17,54 +17,55 @@ use functions::blocks::enabling_word;
 use schib_block::SCHIB_BYTES;
 use schib_block::words::PmcwWords;
 use scsw_irb::irb::IRB_BYTES;
-use storage_keys::{MainStorage, Storage};
+use storage_keys::MainStorage;
 use zbits::be_bytes;
 
-fn start(storage: &Storage, cpu: Cpu, address: u32) -> Result<PlainReply, Fault>
+fn start<M: MainStorage>(storage: &M, cpu: Cpu, address: u32) -> Result<PlainReply, Fault>
     ensures { (word : ℕ) →
-        spec.Executed_absent storage.now cpu (instruction_spec.Ssch word address) (plain_outcome result) storage.now }
+        spec.Executed_absent (M.contents storage.now) cpu (instruction_spec.Ssch word address) (plain_outcome result) (M.contents storage.now) }
 {
     orb_at(storage, cpu, address)?;
     Ok(Reply::Code(Answer::Three))
 }
 
-fn test(storage: &Storage, cpu: Cpu, address: u32) -> Result<PlainReply, Fault>
+fn test<M: MainStorage>(storage: &M, cpu: Cpu, address: u32) -> Result<PlainReply, Fault>
     ensures { (word : ℕ) →
-        spec.Executed_absent storage.now cpu (instruction_spec.Tsch word address) (plain_outcome result) storage.now }
+        spec.Executed_absent (M.contents storage.now) cpu (instruction_spec.Tsch word address) (plain_outcome result) (M.contents storage.now) }
 {
     check_operand(storage, cpu, address, IRB_BYTES, WORD)?;
     Ok(Reply::Code(Answer::Three))
 }
 
-fn store(storage: &Storage, cpu: Cpu, address: u32) -> Result<PlainReply, Fault>
+fn store<M: MainStorage>(storage: &M, cpu: Cpu, address: u32) -> Result<PlainReply, Fault>
     ensures { (word : ℕ) →
-        spec.Executed_absent storage.now cpu (instruction_spec.Stsch word address) (plain_outcome result) storage.now }
+        spec.Executed_absent (M.contents storage.now) cpu (instruction_spec.Stsch word address) (plain_outcome result) (M.contents storage.now) }
 {
     check_operand(storage, cpu, address, SCHIB_BYTES, WORD)?;
     Ok(Reply::Code(Answer::Three))
 }
 
-fn modify(storage: &Storage, cpu: Cpu, address: u32) -> Result<PlainReply, Fault>
+fn modify<M: MainStorage>(storage: &M, cpu: Cpu, address: u32) -> Result<PlainReply, Fault>
     ensures { (word : ℕ) →
-        spec.Executed_absent storage.now cpu (instruction_spec.Msch word address) (plain_outcome result) storage.now }
+        spec.Executed_absent (M.contents storage.now) cpu (instruction_spec.Msch word address) (plain_outcome result) (M.contents storage.now) }
 {
     word_at(storage, cpu, address)?;
     Ok(Reply::Code(Answer::Three))
 }
 
 /// The bits are placed in the block that stands there, where MODIFY SUBCHANNEL takes it.
-fn enable(
-    storage: &mut Storage,
+fn enable<M: MainStorage>(
+    storage: &mut M,
     cpu: Cpu,
     subclass: u8,
     multipath: bool,
 ) -> Result<PlainReply, Fault>
-    ensures { (word : ℕ) →
-        spec.Executed_absent storage.old cpu (instruction_spec.Enable word subclass multipath)
-        (plain_outcome result) storage.new }
+    ensures done { (word : ℕ) →
+        spec.Executed_absent (M.contents storage.old) cpu (instruction_spec.Enable word subclass multipath)
+        (plain_outcome result) (M.contents storage.new) }
+    ensures lender { M.lender storage.new ≡ M.lender storage.old }
 {
     check_operand(storage, cpu, ENABLE_BLOCK, SCHIB_BYTES, WORD)?;
-    let image = operand::<SCHIB_BYTES>(storage, cpu, ENABLE_BLOCK)?;
+    let image = operand::<M, SCHIB_BYTES>(storage, cpu, ENABLE_BLOCK)?;
     let words = word_in(&image);
     if !PmcwWords::is_allowed(&words) {
         return Err(Fault::Operand);
@@ -75,12 +76,13 @@ fn enable(
 }
 
 /// Executes an instruction on a subchannel that is not provided. A refusal changes nothing.
-pub fn execute_absent(
-    storage: &mut Storage,
+pub fn execute_absent<M: MainStorage>(
+    storage: &mut M,
     cpu: Cpu,
     instruction: Instruction,
 ) -> Result<PlainReply, Fault>
-    ensures { spec.Executed_absent storage.old cpu instruction (plain_outcome result) storage.new }
+    ensures done { spec.Executed_absent (M.contents storage.old) cpu instruction (plain_outcome result) (M.contents storage.new) }
+    ensures lender { M.lender storage.new ≡ M.lender storage.old }
 {
     match instruction {
         Instruction::Ssch { address, .. } => start(storage, cpu, address),

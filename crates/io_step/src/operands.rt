@@ -13,7 +13,7 @@ use chan_model::names::Cpu;
 use orb_block::{ORB_BYTES, Orb};
 use schib_block::SCHIB_BYTES;
 use schib_block::words::PmcwWords;
-use storage_keys::{MainStorage, Storage};
+use storage_keys::MainStorage;
 use zbits::be_words;
 
 /// The boundary of a word, on which all but one of the operands must be.
@@ -26,16 +26,16 @@ pub const ENABLE_BLOCK: u32 = 0xF00;
 pub const ENABLE_WORD: u32 = 0xF04;
 
 /// Tests an operand: it must be on its boundary, and then in storage.
-pub fn check_operand(
-    storage: &Storage,
+pub fn check_operand<M: MainStorage>(
+    storage: &M,
     cpu: Cpu,
     address: u32,
     bytes: usize,
     boundary: u32,
 ) -> Result<(), Fault>
     requires { 0 < boundary }
-    ensures checked { result ≡ from_storage (operand_check storage.now cpu address bytes boundary) }
-    ensures inside { OnOk result (0 < bytes → address + bytes ≤ length storage.now.bytes) }
+    ensures checked { result ≡ from_storage (operand_check (M.contents storage.now) cpu address bytes boundary) }
+    ensures inside { OnOk result (0 < bytes → address + bytes ≤ length (M.contents storage.now).bytes) }
 {
     storage
         .check_operand(cpu.number(), address, bytes, boundary)
@@ -43,12 +43,12 @@ pub fn check_operand(
 }
 
 /// Fetches an operand, which must be on a word boundary, and then in storage.
-pub fn operand<const BYTES: usize>(
-    storage: &Storage,
+pub fn operand<M: MainStorage, const BYTES: usize>(
+    storage: &M,
     cpu: Cpu,
     address: u32,
 ) -> Result<[u8; BYTES], Fault>
-    ensures { result ≡ from_storage (operand_at storage.now cpu address BYTES 4) }
+    ensures { result ≡ from_storage (operand_at (M.contents storage.now) cpu address BYTES 4) }
 {
     storage
         .operand::<BYTES>(cpu.number(), address, WORD)
@@ -56,10 +56,10 @@ pub fn operand<const BYTES: usize>(
 }
 
 /// The operation-request block at a real address.
-pub fn orb_at(storage: &Storage, cpu: Cpu, address: u32) -> Result<Orb, Fault>
-    ensures { HasOrb (operand_at storage.now cpu address 12 4) result }
+pub fn orb_at<M: MainStorage>(storage: &M, cpu: Cpu, address: u32) -> Result<Orb, Fault>
+    ensures { HasOrb (operand_at (M.contents storage.now) cpu address 12 4) result }
 {
-    let image = operand::<ORB_BYTES>(storage, cpu, address)?;
+    let image = operand::<M, ORB_BYTES>(storage, cpu, address)?;
     Orb::read(&image).map_err(|_| Fault::Operand)
 }
 
@@ -75,12 +75,12 @@ pub fn word_in(image: &[u8; SCHIB_BYTES]) -> [u32; 7]
 
 /// The words of the path-management-control word of the subchannel-information block at a real address, where MODIFY
 /// SUBCHANNEL takes it.
-pub fn word_at(storage: &Storage, cpu: Cpu, address: u32) -> Result<[u32; 7], Fault>
-    ensures word { IfOk result (λ given. HasWord (operand_at storage.now cpu address 52 4) (Ok (pmcw_of_words given))) }
-    ensures refused { IfErr result (λ f. HasWord (operand_at storage.now cpu address 52 4) (Err f)) }
+pub fn word_at<M: MainStorage>(storage: &M, cpu: Cpu, address: u32) -> Result<[u32; 7], Fault>
+    ensures word { IfOk result (λ given. HasWord (operand_at (M.contents storage.now) cpu address 52 4) (Ok (pmcw_of_words given))) }
+    ensures refused { IfErr result (λ f. HasWord (operand_at (M.contents storage.now) cpu address 52 4) (Err f)) }
     ensures allowed { IfOk result (λ given. IsAllowedPmcw (pmcw_of_words given)) }
 {
-    let image = operand::<SCHIB_BYTES>(storage, cpu, address)?;
+    let image = operand::<M, SCHIB_BYTES>(storage, cpu, address)?;
     let given = word_in(&image);
     if PmcwWords::is_allowed(&given) {
         Ok(given)

@@ -18,7 +18,7 @@ use channel_reports::Reports;
 use interruptions::Pending;
 use scsw_irb::code::IntCode;
 use scsw_irb::crw::{CRW_BYTES, Crw};
-use storage_keys::{MainStorage, Storage};
+use storage_keys::MainStorage;
 use zbits::{be_bytes, field};
 
 /// The real address of the I/O-interruption code, where TEST PENDING INTERRUPTION stores it if its operand has address
@@ -48,9 +48,9 @@ pub struct ChannelPaths {
 }
 
 /// Whether the interruption code may be stored at an address.
-fn check_code(storage: &Storage, cpu: Cpu, address: u32) -> Result<(), Fault>
-    ensures checked { result ≡ from_storage (spec.code_check storage.now cpu address) }
-    ensures inside { OnOk result (spec.code_address address + spec.code_size address ≤ length storage.now.bytes) }
+fn check_code<M: MainStorage>(storage: &M, cpu: Cpu, address: u32) -> Result<(), Fault>
+    ensures checked { result ≡ from_storage (spec.code_check (M.contents storage.now) cpu address) }
+    ensures inside { OnOk result (spec.code_address address + spec.code_size address ≤ length (M.contents storage.now).bytes) }
 {
     if address == 0 {
         check_operand(storage, cpu, CODE, LONG_CODE_BYTES, WORD)
@@ -60,9 +60,10 @@ fn check_code(storage: &Storage, cpu: Cpu, address: u32) -> Result<(), Fault>
 }
 
 /// The interruption code is stored at an address.
-fn store_code(storage: &mut Storage, cpu: Cpu, address: u32, code: IntCode)
-    requires inside { spec.code_address address + spec.code_size address ≤ length storage.old.bytes }
-    ensures { storage.new ≡ spec.code_stored storage.old cpu address (Some code) }
+fn store_code<M: MainStorage>(storage: &mut M, cpu: Cpu, address: u32, code: IntCode)
+    requires inside { spec.code_address address + spec.code_size address ≤ length (M.contents storage.old).bytes }
+    ensures stored { M.contents storage.new ≡ spec.code_stored (M.contents storage.old) cpu address (Some code) }
+    ensures lender { M.lender storage.new ≡ M.lender storage.old }
 {
     let [identification, parameter, interruption] = code.words();
     if address == 0 {
@@ -78,18 +79,19 @@ fn store_code(storage: &mut Storage, cpu: Cpu, address: u32, code: IntCode)
 /// Two words at the address, which must be on a word boundary, or three at real 184 where it is 0, must be in storage
 /// even where nothing is stored. None, code 0, where no enabled request waits; otherwise the request is stored and
 /// taken out, code 1.
-pub fn tpi(
-    storage: &mut Storage,
+pub fn tpi<M: MainStorage>(
+    storage: &mut M,
     pending: &mut Pending,
     cpu: Cpu,
     mask: u8,
     address: u32,
 ) -> Result<Option<IntCode>, Fault>
-    ensures done { IfOk result (λ found. (queue : WaitingReports) → spec.tpi_result (spec.lent_whole storage.old pending.old queue) cpu mask address ≡
-        spec.answers (reply.Interruption found) (spec.lent_whole storage.new pending.new queue)) }
-    ensures refused { IfErr result (λ f. (queue : WaitingReports) → spec.tpi_result (spec.lent_whole storage.old pending.old queue) cpu mask address ≡ Err f) }
-    ensures storage_kept { OnErr result (storage.new ≡ storage.old) }
+    ensures done { IfOk result (λ found. (queue : WaitingReports) → spec.tpi_result (spec.lent_whole (M.contents storage.old) pending.old queue) cpu mask address ≡
+        spec.answers (reply.Interruption found) (spec.lent_whole (M.contents storage.new) pending.new queue)) }
+    ensures refused { IfErr result (λ f. (queue : WaitingReports) → spec.tpi_result (spec.lent_whole (M.contents storage.old) pending.old queue) cpu mask address ≡ Err f) }
+    ensures storage_kept { OnErr result (M.contents storage.new ≡ M.contents storage.old) }
     ensures pending_kept { OnErr result (pending.new ≡ pending.old) }
+    ensures lender { M.lender storage.new ≡ M.lender storage.old }
 {
     check_code(storage, cpu, address)?;
     let found = pending.tpi(mask);
@@ -101,17 +103,18 @@ pub fn tpi(
 
 /// STORE CHANNEL REPORT WORD at an address on a word boundary: the oldest report is taken out. None, code 1, where none
 /// waits, and then zero is stored.
-pub fn stcrw(
-    storage: &mut Storage,
+pub fn stcrw<M: MainStorage>(
+    storage: &mut M,
     reports: &mut Reports,
     cpu: Cpu,
     address: u32,
 ) -> Result<Option<Crw>, Fault>
-    ensures done { IfOk result (λ report. (waiting : WaitingRequests) → spec.stcrw_result (spec.lent_whole storage.old waiting reports.old) cpu address ≡
-        spec.answers (reply.ChannelReport report) (spec.lent_whole storage.new waiting reports.new)) }
-    ensures refused { IfErr result (λ f. (waiting : WaitingRequests) → spec.stcrw_result (spec.lent_whole storage.old waiting reports.old) cpu address ≡ Err f) }
-    ensures storage_kept { OnErr result (storage.new ≡ storage.old) }
+    ensures done { IfOk result (λ report. (waiting : WaitingRequests) → spec.stcrw_result (spec.lent_whole (M.contents storage.old) waiting reports.old) cpu address ≡
+        spec.answers (reply.ChannelReport report) (spec.lent_whole (M.contents storage.new) waiting reports.new)) }
+    ensures refused { IfErr result (λ f. (waiting : WaitingRequests) → spec.stcrw_result (spec.lent_whole (M.contents storage.old) waiting reports.old) cpu address ≡ Err f) }
+    ensures storage_kept { OnErr result (M.contents storage.new ≡ M.contents storage.old) }
     ensures reports_kept { OnErr result (reports.new ≡ reports.old) }
+    ensures lender { M.lender storage.new ≡ M.lender storage.old }
 {
     check_operand(storage, cpu, address, CRW_BYTES, WORD)?;
     let report = reports.stcrw();
@@ -159,16 +162,17 @@ fn engaged_bytes(engaged: &PathTable) -> [u8; PATH_STATUS_BYTES]
 
 /// STORE CHANNEL PATH STATUS at an address on a boundary of 32 bytes. `engaged` has the channel paths whose bit is one.
 /// The bytes that were stored.
-pub fn stcps(
-    storage: &mut Storage,
+pub fn stcps<M: MainStorage>(
+    storage: &mut M,
     engaged: &PathTable,
     cpu: Cpu,
     address: u32,
 ) -> Result<[u8; PATH_STATUS_BYTES], Fault>
-    ensures done { IfOk result (λ stored. (waiting : WaitingRequests) (queue : WaitingReports) → spec.stcps_result (spec.lent_whole storage.old waiting queue) engaged.now cpu address ≡
-        spec.answers (reply.Paths stored) (spec.lent_whole storage.new waiting queue)) }
-    ensures refused { IfErr result (λ f. (waiting : WaitingRequests) (queue : WaitingReports) → spec.stcps_result (spec.lent_whole storage.old waiting queue) engaged.now cpu address ≡ Err f) }
-    ensures kept { OnErr result (storage.new ≡ storage.old) }
+    ensures done { IfOk result (λ stored. (waiting : WaitingRequests) (queue : WaitingReports) → spec.stcps_result (spec.lent_whole (M.contents storage.old) waiting queue) engaged.now cpu address ≡
+        spec.answers (reply.Paths stored) (spec.lent_whole (M.contents storage.new) waiting queue)) }
+    ensures refused { IfErr result (λ f. (waiting : WaitingRequests) (queue : WaitingReports) → spec.stcps_result (spec.lent_whole (M.contents storage.old) waiting queue) engaged.now cpu address ≡ Err f) }
+    ensures kept { OnErr result (M.contents storage.new ≡ M.contents storage.old) }
+    ensures lender { M.lender storage.new ≡ M.lender storage.old }
 {
     check_operand(
         storage,

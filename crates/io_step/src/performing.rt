@@ -18,7 +18,7 @@ use chan_model::names::Cpu;
 use channel_reports::Reports;
 use functions::Subchannel;
 use interruptions::Pending;
-use storage_keys::Storage;
+use storage_keys::MainStorage;
 
 /// Whether an instruction that set this code drops the request of its subchannel.
 fn drops(instruction: Instruction, code: Option<ConditionCode>) -> bool
@@ -40,18 +40,19 @@ fn drops(instruction: Instruction, code: Option<ConditionCode>) -> bool
 }
 
 /// Performs an instruction on a subchannel that is provided. A refusal changes nothing.
-pub fn perform_provided(
-    storage: &mut Storage,
+pub fn perform_provided<M: MainStorage>(
+    storage: &mut M,
     sub: &mut Subchannel,
     pending: &mut Pending,
     cpu: Cpu,
     instruction: Instruction,
 ) -> Result<PlainReply, Fault>
     requires { CanCount sub.old }
-    ensures done { spec.Performed (spec.lent storage.old (Some sub.old) pending.old) cpu instruction
-        (plain_outcome result) (spec.lent storage.new (Some sub.new) pending.new) }
+    ensures done { spec.Performed (spec.lent (M.contents storage.old) (Some sub.old) pending.old) cpu instruction
+        (plain_outcome result) (spec.lent (M.contents storage.new) (Some sub.new) pending.new) }
     ensures setup { sub.new.setup ≡ sub.old.setup }
     ensures numbers { pending.new.numbers ≡ pending.old.numbers }
+    ensures lender { M.lender storage.new ≡ M.lender storage.old }
 {
     let id = sub.state.setup().id;
     let reply = execute(storage, sub, cpu, instruction)?;
@@ -62,16 +63,17 @@ pub fn perform_provided(
 }
 
 /// Performs an instruction on a subchannel: `sub`, or one that is not provided. A refusal changes nothing.
-pub fn perform(
-    storage: &mut Storage,
+pub fn perform<M: MainStorage>(
+    storage: &mut M,
     sub: Option<&mut Subchannel>,
     pending: &mut Pending,
     cpu: Cpu,
     instruction: Instruction,
 ) -> Result<PlainReply, Fault>
     requires { IfSome (spec.sub_lent sub) (λ s. CanCount s) }
-    ensures { spec.Performed (spec.lent storage.old (spec.sub_lent sub.entry) pending.old) cpu instruction
-        (plain_outcome result) (spec.lent storage.new (spec.sub_left sub.exit) pending.new) }
+    ensures done { spec.Performed (spec.lent (M.contents storage.old) (spec.sub_lent sub.entry) pending.old) cpu instruction
+        (plain_outcome result) (spec.lent (M.contents storage.new) (spec.sub_left sub.exit) pending.new) }
+    ensures lender { M.lender storage.new ≡ M.lender storage.old }
 {
     match sub {
         Some(sub) => perform_provided(storage, sub, pending, cpu, instruction),
@@ -80,16 +82,17 @@ pub fn perform(
 }
 
 /// Performs an instruction that names no subchannel. A refusal changes nothing.
-pub fn perform_other(
-    storage: &mut Storage,
+pub fn perform_other<M: MainStorage>(
+    storage: &mut M,
     pending: &mut Pending,
     reports: &mut Reports,
     paths: &ChannelPaths,
     cpu: Cpu,
     instruction: OtherInstruction,
 ) -> Result<PlainReply, Fault>
-    ensures { spec.Performed_other (lent_whole storage.old pending.old reports.old) paths.now cpu instruction
-        (plain_outcome result) (lent_whole storage.new pending.new reports.new) }
+    ensures done { spec.Performed_other (lent_whole (M.contents storage.old) pending.old reports.old) paths.now cpu instruction
+        (plain_outcome result) (lent_whole (M.contents storage.new) pending.new reports.new) }
+    ensures lender { M.lender storage.new ≡ M.lender storage.old }
 {
     match instruction {
         OtherInstruction::Tpi { mask, address } => {

@@ -23,18 +23,18 @@ use functions::Subchannel;
 use schib_block::SCHIB_BYTES;
 use schib_block::words::block_of;
 use scsw_irb::irb::IRB_BYTES;
-use storage_keys::{MainStorage, Storage};
+use storage_keys::MainStorage;
 
-fn start(
-    storage: &Storage,
+fn start<M: MainStorage>(
+    storage: &M,
     sub: &mut Subchannel,
     cpu: Cpu,
     address: u32,
 ) -> Result<PlainReply, Fault>
     requires { CanCount sub.old }
     ensures done { (word : ℕ) →
-        spec.Executed storage.now sub.old cpu (instruction_spec.Ssch word address)
-        (plain_outcome result) storage.now sub.new }
+        spec.Executed (M.contents storage.now) sub.old cpu (instruction_spec.Ssch word address)
+        (plain_outcome result) (M.contents storage.now) sub.new }
     ensures setup { sub.new.setup ≡ sub.old.setup }
 {
     let orb = orb_at(storage, cpu, address)?;
@@ -42,11 +42,12 @@ fn start(
 }
 
 /// The interruption-response block is stored where TEST SUBCHANNEL stores one.
-fn store_irb(storage: &mut Storage, sub: &Subchannel, cpu: Cpu, address: u32)
-    requires inside { address + 64 ≤ length storage.old.bytes }
-    ensures { (s : State) → spec.state_with_storage s storage.new ≡
-        steps.with_irb (spec.state_with_storage s storage.old) cpu address sub.now
+fn store_irb<M: MainStorage>(storage: &mut M, sub: &Subchannel, cpu: Cpu, address: u32)
+    requires inside { address + 64 ≤ length (M.contents storage.old).bytes }
+    ensures stored { (s : State) → spec.state_with_storage s (M.contents storage.new) ≡
+        steps.with_irb (spec.state_with_storage s (M.contents storage.old)) cpu address sub.now
         (steps.stores_irb (steps.code_at tsch_code sub.now)) }
+    ensures lender { M.lender storage.new ≡ M.lender storage.old }
 {
     if stores_irb(test_code_of(sub)) {
         let image = sub.state.irb();
@@ -54,31 +55,33 @@ fn store_irb(storage: &mut Storage, sub: &Subchannel, cpu: Cpu, address: u32)
     }
 }
 
-fn test(
-    storage: &mut Storage,
+fn test<M: MainStorage>(
+    storage: &mut M,
     sub: &mut Subchannel,
     cpu: Cpu,
     address: u32,
 ) -> Result<PlainReply, Fault>
     ensures done { (word : ℕ) →
-        spec.Executed storage.old sub.old cpu (instruction_spec.Tsch word address)
-        (plain_outcome result) storage.new sub.new }
+        spec.Executed (M.contents storage.old) sub.old cpu (instruction_spec.Tsch word address)
+        (plain_outcome result) (M.contents storage.new) sub.new }
     ensures setup { sub.new.setup ≡ sub.old.setup }
+    ensures lender { M.lender storage.new ≡ M.lender storage.old }
 {
     check_operand(storage, cpu, address, IRB_BYTES, WORD)?;
     store_irb(storage, sub, cpu, address);
     Ok(test_sub(sub))
 }
 
-fn store(
-    storage: &mut Storage,
+fn store<M: MainStorage>(
+    storage: &mut M,
     sub: &Subchannel,
     cpu: Cpu,
     address: u32,
 ) -> Result<PlainReply, Fault>
-    ensures { (word : ℕ) →
-        spec.Executed storage.old sub.now cpu (instruction_spec.Stsch word address)
-        (plain_outcome result) storage.new sub.now }
+    ensures done { (word : ℕ) →
+        spec.Executed (M.contents storage.old) sub.now cpu (instruction_spec.Stsch word address)
+        (plain_outcome result) (M.contents storage.new) sub.now }
+    ensures lender { M.lender storage.new ≡ M.lender storage.old }
 {
     check_operand(storage, cpu, address, SCHIB_BYTES, WORD)?;
     let image = sub.state.schib();
@@ -86,32 +89,33 @@ fn store(
     Ok(store_reply(sub))
 }
 
-fn modify(
-    storage: &Storage,
+fn modify<M: MainStorage>(
+    storage: &M,
     sub: &mut Subchannel,
     cpu: Cpu,
     address: u32,
 ) -> Result<PlainReply, Fault>
     ensures done { (word : ℕ) →
-        spec.Executed storage.now sub.old cpu (instruction_spec.Msch word address)
-        (plain_outcome result) storage.now sub.new }
+        spec.Executed (M.contents storage.now) sub.old cpu (instruction_spec.Msch word address)
+        (plain_outcome result) (M.contents storage.now) sub.new }
     ensures setup { sub.new.setup ≡ sub.old.setup }
 {
     let given = word_at(storage, cpu, address)?;
     Ok(modify_sub(sub, &given))
 }
 
-fn enable(
-    storage: &mut Storage,
+fn enable<M: MainStorage>(
+    storage: &mut M,
     sub: &mut Subchannel,
     cpu: Cpu,
     subclass: u8,
     multipath: bool,
 ) -> Result<PlainReply, Fault>
     ensures done { (word : ℕ) →
-        spec.Executed storage.old sub.old cpu (instruction_spec.Enable word subclass multipath)
-        (plain_outcome result) storage.new sub.new }
+        spec.Executed (M.contents storage.old) sub.old cpu (instruction_spec.Enable word subclass multipath)
+        (plain_outcome result) (M.contents storage.new) sub.new }
     ensures setup { sub.new.setup ≡ sub.old.setup }
+    ensures lender { M.lender storage.new ≡ M.lender storage.old }
 {
     check_operand(storage, cpu, ENABLE_BLOCK, SCHIB_BYTES, WORD)?;
     let given = enabling(sub.state.pmcw(), subclass, multipath);
@@ -123,15 +127,16 @@ fn enable(
 /// Executes an instruction on a subchannel that is provided: what it answers, and what is left of storage and of the
 /// subchannel, is what the machine's definitions give for every machine that has both. A refusal changes nothing. That
 /// general register 1 names this subchannel is the caller's test, and so are the interruption requests.
-pub fn execute(
-    storage: &mut Storage,
+pub fn execute<M: MainStorage>(
+    storage: &mut M,
     sub: &mut Subchannel,
     cpu: Cpu,
     instruction: Instruction,
 ) -> Result<PlainReply, Fault>
     requires { CanCount sub.old }
-    ensures done { spec.Executed storage.old sub.old cpu instruction (plain_outcome result) storage.new sub.new }
+    ensures done { spec.Executed (M.contents storage.old) sub.old cpu instruction (plain_outcome result) (M.contents storage.new) sub.new }
     ensures setup { sub.new.setup ≡ sub.old.setup }
+    ensures lender { M.lender storage.new ≡ M.lender storage.old }
 {
     match instruction {
         Instruction::Ssch { address, .. } => start(storage, sub, cpu, address),

@@ -46,7 +46,7 @@ use event_log::logs::Log;
 use functions::Subchannel;
 use lookup::engines::Served;
 use status::make_pending;
-use storage_keys::Storage;
+use storage_keys::MainStorage;
 use subchannel::answering::{answer_path, answer_paths, standing_path};
 use subchannel::choosing::{mark_lost_paths, offer, send_halt, send_reset};
 use subchannel::paths::is_granted;
@@ -188,8 +188,8 @@ fn answers_may_find_full(sub: &Subchannel, path: Path) -> bool
 }
 
 /// Whether what comes of a signal finds its wire full. It is asked where it goes only where a wire that it may go by is full.
-fn up_finds_full(
-    storage: &Storage,
+fn up_finds_full<M: MainStorage>(
+    storage: &M,
     sub: &Subchannel,
     path: Path,
     signal: &LentUp<'_>,
@@ -197,7 +197,7 @@ fn up_finds_full(
 ) -> bool
     requires { CanCount sub.now }
     ensures { giving_spec.TellsFull sub.now.wires.down (sending_spec.carried_by sub.now
-        (takes_up returns storage.now sub.now.state path (lent_up signal.now)).step.outcome.sent) result }
+        (takes_up returns (M.contents storage.now) sub.now.state path (lent_up signal.now)).step.outcome.sent) result }
 {
     answer_paths();
     if !answers_may_find_full(sub, path) {
@@ -236,14 +236,19 @@ pub fn returns_at(subs: &Served<'_>, sub: &Subchannel, path: Path) -> bool
 }
 
 /// Whether a signal waits on the wire up of a path, and what comes of it finds room. A refusal is that of the event.
-fn may_come_up(storage: &Storage, sub: &Subchannel, path: Path, returns: bool) -> Result<(), Fault>
+fn may_come_up<M: MainStorage>(
+    storage: &M,
+    sub: &Subchannel,
+    path: Path,
+    returns: bool,
+) -> Result<(), Fault>
     requires roomy { CanCount sub.now }
     requires inside { nat_lt path (length sub.now.setup.paths) ≡ true }
     ensures waits { OnOk result (0 < length (queue sub.now.wires.up path)) }
     ensures room { OnOk result ((signal : signals.Up) → first_of sub.now.wires.up path ≡ Some signal →
         giving_spec.TellsFull sub.now.wires.down (sending_spec.carried_by sub.now
-        (takes_up returns storage.now sub.now.state path signal).step.outcome.sent) false) }
-    ensures refused { IfErr result (λ f. up_spec.up_sub returns storage.now sub.now path ≡ Err f) }
+        (takes_up returns (M.contents storage.now) sub.now.state path signal).step.outcome.sent) false) }
+    ensures refused { IfErr result (λ f. up_spec.up_sub returns (M.contents storage.now) sub.now path ≡ Err f) }
 {
     let Some(front) = sub.wires.front_up(path) else {
         return Err(Fault::NotSent);
@@ -256,8 +261,8 @@ fn may_come_up(storage: &Storage, sub: &Subchannel, path: Path, returns: bool) -
 
 /// The subchannel takes the signal that waits longest on the wire up of a path that it has, once it is known that what comes
 /// of it finds room. `returns`: a program that is away may come back by the path.
-pub fn up_sub(
-    storage: &mut Storage,
+pub fn up_sub<M: MainStorage>(
+    storage: &mut M,
     sub: &mut Subchannel,
     path: Path,
     returns: bool,
@@ -269,10 +274,11 @@ pub fn up_sub(
     requires room { 1 ≤ log.old.room }
     requires fresh { log.old.reply ≡ reply_spec.Done }
     ensures setup { sub.new.setup ≡ sub.old.setup }
-    ensures gives { giving_spec.GivesStorage storage.old sub.old (up_spec.up_sub returns storage.old sub.old path)
-        (answer_in result log.new) storage.new sub.new }
+    ensures gives { giving_spec.GivesStorage (M.contents storage.old) sub.old (up_spec.up_sub returns (M.contents storage.old) sub.old path)
+        (answer_in result log.new) (M.contents storage.new) sub.new }
     ensures kept { IsKept log.old log.new }
     ensures refused { OnErr result (log.new ≡ log.old) }
+    ensures lender { M.lender storage.new ≡ M.lender storage.old }
 {
     may_come_up(storage, sub, path, returns)?;
     let available = sub.state.up();

@@ -21,7 +21,7 @@ use chan_model::signal::Up;
 use data_move::chunks::is_answered;
 use functions::PackedState;
 use hold::Hold;
-use storage_keys::Storage;
+use storage_keys::MainStorage;
 
 /// The path of the program that is offered or connected.
 pub fn standing_path(hold: &HoldState) -> Option<Path>
@@ -61,8 +61,8 @@ fn answers_data(state: &PackedState, path: Path, signal: &LentUp<'_>) -> bool
 /// The path of the signal that is sent as this one is taken; None where none is sent. A Data is answered by its path, since its bytes
 /// are not to be stored yet; any other signal is taken by a copy of the state.
 #[tactic(auto, using(crate::proofs::Answered::data_answers))]
-pub fn answer_path(
-    storage: &Storage,
+pub fn answer_path<M: MainStorage>(
+    storage: &M,
     state: &PackedState,
     path: Path,
     signal: &LentUp<'_>,
@@ -71,7 +71,7 @@ pub fn answer_path(
     requires made { state.now.state.serials.made < 2 ^ 63 }
     requires drawn { state.now.state.drawn < 2 ^ 63 }
     requires below { command_spec.AreNumbersBelow state.now.state.begun }
-    ensures { sent_path (taking_spec.takes_up returns storage.now state.now.state path (lent_up signal.now)).step.outcome.sent ≡ result }
+    ensures { sent_path (taking_spec.takes_up returns (M.contents storage.now) state.now.state path (lent_up signal.now)).step.outcome.sent ≡ result }
 {
     match *signal.kept {
         Up::Data { .. } if answers_data(state, path, signal) => Some(path),
@@ -81,8 +81,8 @@ pub fn answer_path(
 }
 
 /// The path of the signal that a copy of the state sends.
-fn unmoved_path(
-    storage: &Storage,
+fn unmoved_path<M: MainStorage>(
+    storage: &M,
     state: &PackedState,
     path: Path,
     signal: &LentUp<'_>,
@@ -92,7 +92,7 @@ fn unmoved_path(
     requires drawn { state.now.state.drawn < 2 ^ 63 }
     requires below { command_spec.AreNumbersBelow state.now.state.begun }
     requires unmoved { spec.is_data (lent_up signal.now) ≡ false }
-    ensures { sent_path (taking_spec.takes_up returns storage.now state.now.state path (lent_up signal.now)).step.outcome.sent ≡ result }
+    ensures { sent_path (taking_spec.takes_up returns (M.contents storage.now) state.now.state path (lent_up signal.now)).step.outcome.sent ≡ result }
 {
     let mut copy = state.copy();
     let mut sent = SentDown::new();

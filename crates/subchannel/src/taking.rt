@@ -29,7 +29,7 @@ use functions::PackedState;
 use hold::Hold;
 use scsw_irb::bits::CLEAR_PENDING;
 use status::make_pending;
-use storage_keys::Storage;
+use storage_keys::MainStorage;
 use subchannel_model::cause::StatusCause;
 
 /// A clear that is pending is performed.
@@ -76,8 +76,8 @@ fn notice(state: &mut PackedState, restarts: u64, sent: &mut SentDown) -> Met
 /// A subchannel takes a signal that moves no bytes, so that storage stays: whether it was taken, with what is sent in a slot.
 /// `returns`: a program that is away may come back by the path.
 #[tactic(auto, using(crate::proofs::Working::end_takes))]
-pub fn take_unmoved(
-    storage: &Storage,
+pub fn take_unmoved<M: MainStorage>(
+    storage: &M,
     state: &mut PackedState,
     path: Path,
     signal: &LentUp<'_>,
@@ -88,7 +88,7 @@ pub fn take_unmoved(
     requires drawn { state.old.state.drawn < 2 ^ 63 }
     requires below { command.AreNumbersBelow state.old.state.begun }
     requires unmoved { is_data (lent_up signal.now) ≡ false }
-    ensures met { outcomes.with_storage storage.now (subchannel_stepped state.new.state (outcome_with result sent.new)) ≡ spec.takes_up returns storage.now state.old.state path (lent_up signal.now) }
+    ensures met { outcomes.with_storage (M.contents storage.now) (subchannel_stepped state.new.state (outcome_with result sent.new)) ≡ spec.takes_up returns (M.contents storage.now) state.old.state path (lent_up signal.now) }
     ensures setup { state.new.setup ≡ state.old.setup }
 {
     match *signal.kept {
@@ -104,8 +104,8 @@ pub fn take_unmoved(
 
 /// A subchannel takes a signal: whether it was taken, with what is sent in a slot. The bytes of a read are stored.
 /// `returns`: a program that is away may come back by the path.
-pub fn take_up(
-    storage: &mut Storage,
+pub fn take_up<M: MainStorage>(
+    storage: &mut M,
     state: &mut PackedState,
     path: Path,
     signal: &LentUp<'_>,
@@ -115,8 +115,9 @@ pub fn take_up(
     requires made { state.old.state.serials.made < 2 ^ 63 }
     requires drawn { state.old.state.drawn < 2 ^ 63 }
     requires below { command.AreNumbersBelow state.old.state.begun }
-    ensures met { outcomes.with_storage storage.new (subchannel_stepped state.new.state (outcome_with result sent.new)) ≡ spec.takes_up returns storage.old state.old.state path (lent_up signal.now) }
+    ensures met { outcomes.with_storage (M.contents storage.new) (subchannel_stepped state.new.state (outcome_with result sent.new)) ≡ spec.takes_up returns (M.contents storage.old) state.old.state path (lent_up signal.now) }
     ensures setup { state.new.setup ≡ state.old.setup }
+    ensures lender { M.lender storage.new ≡ M.lender storage.old }
 {
     match *signal.kept {
         Up::Data { .. } => take_data(storage, state, path, signal, sent),

@@ -8,6 +8,7 @@ use Rattle.io_step.proofs.Executions.{starts}
 use Rattle.io_step.proofs.absent.start.Goals as goal
 
 pub returns : goal.returns
-returns c = λ word s.
-    starts (state_with_storage s c.args.storage.now) None (operand_at c.args.storage.now c.args.cpu c.args.address 12 4) c.in_ok-orb_at.field-0
-    (does (reply.Code answer.Three) (state_with_storage s c.args.storage.now)) c.in_ok-orb_at.ensures refl
+returns g c = λ word s.
+    let storage = g.M.MainStorage.contents c.args.storage.now in
+    starts (state_with_storage s storage) None (operand_at storage c.args.cpu c.args.address 12 4) c.in_ok-orb_at.field-0
+    (does (reply.Code answer.Three) (state_with_storage s storage)) c.in_ok-orb_at.ensures refl

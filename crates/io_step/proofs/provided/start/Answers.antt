@@ -8,7 +8,8 @@ use Rattle.io_step.proofs.Executions.{starts}
 use Rattle.io_step.proofs.provided.start.Goals as goal
 
 pub returns-clause-done : goal.returns-clause-done
-returns-clause-done c = λ word s index there.
-    let now = state_with_storage s c.args.storage.now in
-    starts now (Some (record { index = index; sub = c.args.sub.now })) (operand_at c.args.storage.now c.args.cpu c.args.address 12 4) c.in_ok-orb.orb
+returns-clause-done g c = λ word s index there.
+    let storage = g.M.MainStorage.contents c.args.storage.now in
+    let now = state_with_storage s storage in
+    starts now (Some (record { index = index; sub = c.args.sub.now })) (operand_at storage c.args.cpu c.args.address 12 4) c.in_ok-orb.orb
     (does (reply_of c.start_sub.result) (with_sub now index c.start_sub.new.sub)) c.in_ok-orb.ensures (sym (ap (at_index now index) c.start_sub.ensures.left))

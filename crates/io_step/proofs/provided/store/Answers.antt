@@ -10,9 +10,11 @@ use Rattle.io_step.specs.Executing.{state_with_storage}
 use Rattle.io_step.proofs.Executions.{stores-sub}
 use Rattle.io_step.proofs.provided.store.Goals as goal
 
-pub returns : goal.returns
-returns c = λ word s index there.
-    ap (λ (r : Reply). does r (with_sub (state_with_storage s c.store_operand.new.self) index c.args.sub.now)) c.store_reply.ensures
-    ∙ stores-sub s c.args.storage.now c.store_operand.new.self c.args.cpu c.number.result c.args.address index c.args.sub.now c.schib-image.result
+pub returns-clause-done : goal.returns-clause-done
+returns-clause-done g c = λ word s index there.
+    let before = g.M.MainStorage.contents c.args.storage.now in
+    let after = g.M.MainStorage.contents c.store_operand.new.self in
+    ap (λ (r : Reply). does r (with_sub (state_with_storage s after) index c.args.sub.now)) c.store_reply.ensures
+    ∙ stores-sub s before after c.args.cpu c.number.result c.args.address index c.args.sub.now c.schib-image.result
     c.in_ok-check_operand.field-0 there c.in_ok-check_operand.ensures.checked c.number.ensures.value
     (c.schib-image.ensures ∙ ap (λ (x : Subchannel). image_of (schib_tables (schib_of x))) c.sub.view_is) c.store_operand.ensures.stored

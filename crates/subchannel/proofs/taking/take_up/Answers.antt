@@ -7,6 +7,6 @@ use Rattle.subchannel.proofs.taking.take_up.Goals as goal
 
 -- a Data
 pub returns-in-Data-clause-met : goal.returns-in-Data-clause-met
-returns-in-Data-clause-met c =
+returns-in-Data-clause-met g c =
     let is : is_data (lent_up c.args.signal.now) ≡ true = ap (λ (k : KeptUp). is_data (up_in k c.args.signal.now.bytes.now)) c.in-Data.is in
-    c.take_data.ensures.step ∙ told_takes c.args.returns c.args.storage.now c.args.state.now.state c.args.path (lent_up c.args.signal.now) is
+    c.take_data.ensures.step ∙ told_takes c.args.returns (g.M.MainStorage.contents c.args.storage.now) c.args.state.now.state c.args.path (lent_up c.args.signal.now) is
