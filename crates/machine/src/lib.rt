@@ -7,7 +7,7 @@
 #![tactic(auto)]
 
 pub mod law;
-mod looks;
+pub mod looks;
 pub mod machine;
 pub mod opening;
 pub mod owning;

@@ -1,63 +1,110 @@
-//! Looks at the whole between events: each is a function of the state, and changes nothing.
+//! Looks between events: each is a function of the state, is no event, takes no memory and changes nothing.
 
-ghost use Rattle.std.specs.Prelude.{◌≡◌, ◌<◌, ◌+◌, ◌==◌, ℕ, IfSome, IfNone, Some, None, length, slice_get, slice_index_or, false};
+ghost use Rattle.std.specs.Prelude.{◌≡◌, ◌<◌, ◌+◌, ◌==◌, ℕ, IfSome, IfNone, Some, None, length, option_map, slice_get, slice_index_or, false};
 ghost use Rattle.zbits.specs.Bits.{bit_of};
+ghost use Rattle.zbits.specs.Layout.{image_of};
+ghost use Rattle.schib_block.specs.SchibTable.{schib_tables};
+ghost use Rattle.scsw_irb.specs.ScswTable.{irb_tables};
 ghost use Rattle.interruptions.specs.Requests.{has_request};
 ghost use Rattle.subchannel_model.specs.Choosing.{any_engages};
-ghost use Rattle.lookup.specs.Tables.{Fits};
+ghost use Rattle.subchannel_model.specs.Store.{schib_of};
+ghost use Rattle.subchannel_model.specs.Test.{irb_of};
+ghost use Rattle.machine_model.specs.State.{State};
 ghost use Rattle.machine_model.specs.State as state_spec;
+ghost use Rattle.machine.specs.Lent.{lent, no_storage};
 
 use crate::machine::Machine;
 use chan_model::unit_state::UnitState;
 use functions::Subchannel;
 use lookup::engines::Served;
-use lookup::tables::SubchannelIndex;
+use schib_block::SCHIB_BYTES;
+use scsw_irb::irb::IRB_BYTES;
 
-impl Machine {
-    /// The interruption subclasses of which a request waits, a bit each: hexadecimal 80 is subclass 0, 01 is subclass 7.
-    pub fn requested_subclasses(&self) -> u8
-        ensures { (subclass : ℕ) → subclass < 8 → (bit_of result (24 + subclass) == 1) ≡ has_request self.now.requests subclass }
+/// A machine that can be looked at.
+pub trait Looks: Sized {
+    // The state that it is in.
+    ghost state: { Self → State };
+
+    /// The machine beside its storage.
+    fn machine(&self) -> &Machine
+        ensures { result.now ≡ lent (state self.now) no_storage };
+
+    /// The index of the subchannel that a subsystem-identification word names, in the order of the configuration, from 0;
+    /// None where it is not configured.
+    fn index_of(&self, subchannel: u32) -> Option<usize>
+        ensures index { result ≡ state_spec.index_of (state self.now) subchannel }
+        ensures bound { IfSome result (λ index. index < length (state self.now).subs) };
+
+    /// The interruption subclasses of which a request waits, a bit each: hexadecimal 80 is subclass 0, 01 is subclass 7. TEST
+    /// PENDING INTERRUPTION with a mask that has one of them answers a request (SA22-7832, chapter 14).
+    final fn requested_subclasses(&self) -> u8
+        ensures { (subclass : ℕ) → subclass < 8 → (bit_of result (24 + subclass) == 1) ≡ has_request (state self.now).requests subclass }
     {
-        self.pending.subclasses()
+        self.machine().pending.subclasses()
     }
 
-    /// How many channel reports wait, at most 16.
-    pub fn report_count(&self) -> usize
-        ensures { result ≡ length self.now.reports.reports }
+    /// How many channel reports wait, at most 16. STORE CHANNEL REPORT WORD takes the oldest (SA22-7832, chapter 17).
+    final fn report_count(&self) -> usize
+        ensures { result ≡ length (state self.now).reports.reports }
     {
-        self.reports.count()
+        self.machine().reports.count()
     }
 
-    /// The subchannel that a word names, lent: its blocks, its programs, its hold and its wires.
-    pub fn subchannel(&self, indices: &SubchannelIndex, word: u32) -> Option<&Subchannel>
-        requires fits { Fits indices.now self.now.subs }
-        ensures found { IfSome result (λ sub. state_spec.sub_of self.now word ≡ Some sub.now) }
-        ensures none { IfNone result (state_spec.sub_of self.now word ≡ None) }
+    /// The subchannel that a subsystem-identification word names, lent: `state.rest()` has its programs, its hold and its
+    /// serials, `wires` the signals that wait on each path, `pmcw_words` and `scsw_words` its control blocks word by word. None
+    /// where it is not configured.
+    final fn subchannel(&self, subchannel: u32) -> Option<&Subchannel>
+        ensures found { IfSome result (λ sub. state_spec.sub_of (state self.now) subchannel ≡ Some sub.now) }
+        ensures none { IfNone result (state_spec.sub_of (state self.now) subchannel ≡ None) }
     {
-        let index = self.index_of(indices, word)?;
-        Some(&self.subs[index])
+        let index = self.index_of(subchannel)?;
+        Some(&self.machine().subs[index])
     }
 
-    /// What a unit remembers, lent.
-    pub fn unit(&self, number: u32) -> Option<&UnitState>
-        ensures found { IfSome result (λ state. slice_get self.now.units number ≡ Some state.now) }
-        ensures none { IfNone result (slice_get self.now.units number ≡ None) }
+    /// The 52 bytes of the subchannel-information block that STORE SUBCHANNEL would store (SA22-7832, chapter 15). None where the
+    /// subchannel is not configured.
+    final fn schib(&self, subchannel: u32) -> Option<[u8; SCHIB_BYTES]>
+        ensures { result ≡ option_map (λ sub. image_of (schib_tables (schib_of sub))) (state_spec.sub_of (state self.now) subchannel) }
     {
-        let unit = self.units.get(number as usize)?;
+        match self.subchannel(subchannel) {
+            Some(sub) => Some(sub.state.schib()),
+            None => None,
+        }
+    }
+
+    /// The 64 bytes of the interruption-response block that TEST SUBCHANNEL would store (SA22-7832, chapter 16), where its
+    /// subchannel is enabled. None where the subchannel is not configured.
+    final fn irb(&self, subchannel: u32) -> Option<[u8; IRB_BYTES]>
+        ensures { result ≡ option_map (λ sub. image_of (irb_tables (irb_of sub.state))) (state_spec.sub_of (state self.now) subchannel) }
+    {
+        match self.subchannel(subchannel) {
+            Some(sub) => Some(sub.state.irb()),
+            None => None,
+        }
+    }
+
+    /// What a unit remembers, lent: the program that holds it, its command at hand, and what each of its sides knows. None where
+    /// it is not configured.
+    final fn unit(&self, unit: u32) -> Option<&UnitState>
+        ensures found { IfSome result (λ remembered. slice_get (state self.now).units «unit» ≡ Some remembered.now) }
+        ensures none { IfNone result (slice_get (state self.now).units «unit» ≡ None) }
+    {
+        let unit = self.machine().units.get(unit as usize)?;
         Some(unit.state())
     }
 
     /// Whether the channel path of this identifier is configured and not down.
-    pub fn is_path_up(&self, chpid: u8) -> bool
-        ensures { result ≡ slice_index_or self.now.up chpid false }
+    final fn is_path_up(&self, chpid: u8) -> bool
+        ensures { result ≡ slice_index_or (state self.now).up chpid false }
     {
-        self.up[usize::from(chpid)]
+        self.machine().up[usize::from(chpid)]
     }
 
-    /// Whether the channel path of this identifier serves a subchannel, so that its engine is in use.
-    pub fn is_path_engaged(&self, chpid: u8) -> bool
-        ensures { result ≡ any_engages self.now.subs chpid }
+    /// Whether the channel path of this identifier serves a subchannel, as STORE CHANNEL PATH STATUS tells it.
+    final fn is_path_engaged(&self, chpid: u8) -> bool
+        ensures { result ≡ any_engages (state self.now).subs chpid }
     {
-        Served::of(self.subs.as_slice(), &self.engines).is_engaged(chpid)
+        let machine = self.machine();
+        Served::of(machine.subs.as_slice(), &machine.engines).is_engaged(chpid)
     }
 }

@@ -4,6 +4,7 @@ use super::subsystem_tests::{WORD, begun, opened};
 use chan_events::event::{Event, Instruction};
 use chan_model::names::{Cpu, Path, Side};
 use chan_model::unit_state::Own;
+use machine::looks::Looks;
 use path_select::Rotating;
 use std::alloc::Global;
 use storage_keys::StorageFault;
