@@ -1,3 +1,4 @@
 pub mod KeyLemmas
 pub mod OperandLemmas
 pub mod ByteLemmas
+pub mod LentLemmas

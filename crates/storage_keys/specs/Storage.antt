@@ -70,6 +70,19 @@ key_permits_store key block = key == 0 || key == block.access
 abbrev pub key_permits_fetch : ℕ → Key → Bool
 key_permits_fetch key block = key_permits_store key block || not block.fetch_protected
 
+-- Storage that a host lends: its bytes, the keys as bytes, and the prefixes
+
+abbrev pub lent_contents : List ℕ → List ℕ → List ℕ → Contents
+lent_contents bytes keys prefixes = record { bytes = bytes; keys = map key_of_byte keys; prefixes = prefixes }
+
+-- a prefix is the address of an area of 8,192 bytes in storage of this size, on a boundary of as many
+abbrev pub is_prefix : ℕ → ℕ → Bool
+is_prefix size prefix = (prefix % 8192 == 0) && nat_le (prefix + 8192) size
+
+-- 16 to 524,288 blocks may be lent, each with its key, and an area for each prefix (own)
+abbrev pub may_be_lent : ℕ → ℕ → List ℕ → Bool
+may_be_lent size blocks prefixes = (nat_le 16 blocks && nat_le blocks 524288) && ((size == 4096 * blocks) && list_all (is_prefix size) prefixes)
+
 -- Accesses by absolute address
 
 -- whether so many bytes from this address on are in storage

@@ -1,7 +1,8 @@
 //! Main storage as a channel subsystem sees it: bytes, keys and prefixes (SA22-7832, chapter 3).
 //!
 //! Used alone, this crate promises: over any storage that keeps the clauses of `MainStorage`, each access answers what is
-//! there, or the fault that is due, and a refused one changes nothing. `Storage` is such a storage, and its own.
+//! there, or the fault that is due, and a refused one changes nothing. `Storage` is such a storage, and its own;
+//! `LentStorage` is a host's, for one call.
 #![tactic(auto)]
 
 ghost use Rattle.std.specs.Prelude.{◌≡◌, ◌<◌, ◌≤◌, IsTrue, IfOk, IfErr, OnOk, OnErr, Ok, Err, replicate, true};
@@ -11,11 +12,13 @@ ghost use Rattle.memory.specs.Requests.{IsModest};
 mod accesses;
 pub mod key;
 pub mod law;
+mod lent_storage;
 mod main_storage;
 mod operands;
 
 use accesses::{is_inside, part};
 use key::Key;
+pub use lent_storage::LentStorage;
 pub use main_storage::MainStorage;
 use memory::{Allocator, Supply};
 use operands::PREFIX_AREA;

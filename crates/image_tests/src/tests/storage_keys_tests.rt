@@ -2,8 +2,9 @@
 
 use memory::{Allocator, FailingMemory, Supply};
 use std::alloc::Global;
+use std::test::Fail;
 use storage_keys::key::Key;
-use storage_keys::{MainStorage, Storage, StorageFault};
+use storage_keys::{LentStorage, MainStorage, Storage, StorageFault};
 
 const ADDRESSING: StorageFault = StorageFault::Addressing;
 
@@ -132,6 +133,34 @@ fn a_block_is_guarded_by_its_key(rt: HostRuntime) {
             && key_set_outside == Err(ADDRESSING)
             && key_outside == Err(ADDRESSING)
     );
+}
+
+/// What a store of two bytes by an access key comes to in storage that a host lends. None where it may not be lent.
+fn stores_in(
+    bytes: &mut [u8],
+    keys: &[u8],
+    prefixes: &[u32; 16],
+    key: u8,
+) -> Option<Result<(), StorageFault>> {
+    if !LentStorage::fits(bytes.len(), keys.len(), prefixes) {
+        return None;
+    }
+    let mut lent = LentStorage::new(bytes, keys, prefixes);
+    Some(lent.store(key, 0x1FFF, &[1, 2]))
+}
+
+#[test]
+fn a_host_lends_its_bytes(rt: HostRuntime) -> Result<(), Fail> {
+    let mut bytes = vec![in rt.alloc(); 0; 0x1_0000]?;
+    let keys = [0x10; 16];
+    let refused = stores_in(bytes.as_mut_slice(), &keys, &[0; 16], 2);
+    let stored = stores_in(bytes.as_mut_slice(), &keys, &[0; 16], 1);
+    let too_few_keys = stores_in(bytes.as_mut_slice(), &keys[1..], &[0; 16], 1);
+    let prefix_outside = stores_in(bytes.as_mut_slice(), &keys, &[0x1_0000; 16], 1);
+    assert!(rt; refused == Some(Err(PROTECTION)) && stored == Some(Ok(())));
+    assert!(rt; too_few_keys.is_none() && prefix_outside.is_none());
+    assert!(rt; bytes.get(0x1FFE..0x2002) == Some([0, 1, 2, 0].as_slice()));
+    Ok(())
 }
 
 /// Real addresses of a processor whose prefix is 4000, and the absolute ones.
