@@ -140,7 +140,7 @@ taken-takes side u p _ _ above (taken.Accepts t high idle) =
     Accepts t _ high (begun-floor (raised u side t) (own.Owned side t (connection.On p 0)) side ∙ here-floor u side _) (held-here side t (connection.On p 0))
 taken-takes side u p _ _ above (taken.Denies t high) = Tells _ (raised u side t) (up.Busy t) tt (raised-still u side t high)
 taken-takes side u p _ _ above (taken.Begins t n code room at is next) =
-    Changes _ _ tt (still-as u (record u { last_command = n; current = Some (new_command code room) }) side refl refl refl)
+    Changes _ _ tt (still-as u (record u { last_command = n; current = Some (new_command p code room) }) side refl refl refl)
 taken-takes side u p _ _ above (taken.Joins t c q is) =
     Joins t c q _ (owned-here u side t (connection.Ask q c) is) (held-here side t (connection.On q c)) (floor-le u (own.Owned side t (connection.On q c)) side)
 taken-takes side u p _ _ above (taken.Leaves t c at is) = Answers t c

@@ -28,7 +28,7 @@ pub data Takes (u : UnitState) (side : Side) (p : ℕ) : Down → Option UnitSte
       Takes u side p (down.Select t) (sends (record (freed (raised u side t)) { own = own.Owned side t (On p 0) }) p (up.Accept t))
   Denies : (t : ℕ) → (side_of u side).floor < t → Takes u side p (down.Select t) (sends (raised u side t) p (up.Busy t))
   Begins : (t n code room : ℕ) (connection : Connection) → IsAt u side t connection → n ≡ u.last_command + 1 →
-      Takes u side p (down.Command t n code room) (changes (record u { last_command = n; current = Some (new_command code room) }))
+      Takes u side p (down.Command t n code room) (changes (record u { last_command = n; current = Some (new_command p code room) }))
   Joins : (t c q : ℕ) → IsAt u side t (Ask q c) → Takes u side p (down.Grant t c) (changes (record u { own = own.Owned side t (On q c) }))
   Leaves : (t c : ℕ) (connection : Connection) → IsAt u side t connection → Takes u side p (down.Grant t c) (sends u p (up.Leave t c))
   Parts : (t c q : ℕ) → IsAt u side t (Ask q c) → Takes u side p (down.Refuse t c) (changes (record u { own = own.Owned side t (Away c) }))

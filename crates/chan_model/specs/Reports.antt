@@ -48,7 +48,7 @@ map_report f r = record { side = r.side; answer = f r.answer; number = r.number;
 
 -- the same call over something else in place of its bytes, and the same work over another call or report
 abbrev pub map_call : {A B : Type 0} → (A → B) → declared_call.Call A → declared_call.Call B
-map_call f (call.Initial code) = call.Initial code
+map_call f (call.Initial code came_by) = call.Initial code came_by
 map_call f (call.Absorb bytes) = call.Absorb (f bytes)
 map_call f (call.Supply most) = call.Supply most
 map_call f call.Finish = call.Finish

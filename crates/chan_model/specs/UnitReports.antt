@@ -5,6 +5,7 @@ use Rattle.scsw_irb.specs.Status as bit
 use Rattle.scsw_irb.specs.Status.{has}
 use Rattle.scsw_irb.specs.declared.status.DeviceStatus.{DeviceStatus}
 use Rattle.chan_model.specs.declared.names.Side.{Side}
+use Rattle.chan_model.specs.declared.names.CommandPath.{CommandPath}
 use Rattle.chan_model.specs.declared.signal.OnPath.{OnPath}
 use Rattle.chan_model.specs.Signals.{Load}
 use Rattle.chan_model.specs.declared.signal.Load.TheVariants as load
@@ -90,8 +91,12 @@ abbrev pub work_on_data : UnitState → Side → ℕ → CurrentCommand → Opti
 work_on_data u side t x (Some load) = if x.again then reporting u side t x Again else None
 work_on_data u side t x None = work_on_bytes u side t x x.unabsorbed
 
+-- the path by which a command of a side came: the command's own, on whatever path the unit is connected now
+abbrev pub came_by : Side → CurrentCommand → CommandPath
+came_by side x = record { side = side; path = x.path }
+
 abbrev pub work_at : UnitState → Side → ℕ → CurrentCommand → Progress → Option Work
-work_at u side t x progress.New = if u.halted then halted_report u side t x else calling u side t x (call.Initial x.code)
+work_at u side t x progress.New = if u.halted then halted_report u side t x else calling u side t x (call.Initial x.code (came_by side x))
 work_at u side t x progress.Working = if u.halted then calling u side t x call.Finish else work_on_data u side t x x.unanswered
 work_at u side t x progress.ChannelEnded = calling u side t x call.Finish
 work_at u side t x progress.Ended = None

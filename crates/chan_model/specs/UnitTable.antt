@@ -90,14 +90,14 @@ abbrev pub selected : UnitState → Own → Side → ℕ → ℕ → Bool → Op
 selected u Idle side p t may_serve = if may_serve then sends (held u side t p) p (up.Accept t) else sends u p (up.Busy t)
 selected u (Owned k v connection) side p t may_serve = sends u p (up.Busy t)
 
--- Command: the next of the program that holds the device
-abbrev pub new_command : ℕ → ℕ → CurrentCommand
-new_command code room = record { code = code; room = room; progress = New; sequence = 0; unanswered = None; asked = 0; again = false; unabsorbed = None; stopped = false }
+-- Command: the next of the program that holds the device; it keeps the path by which it came
+abbrev pub new_command : ℕ → ℕ → ℕ → CurrentCommand
+new_command p code room = record { path = p; code = code; room = room; progress = New; sequence = 0; unanswered = None; asked = 0; again = false; unabsorbed = None; stopped = false }
 
-abbrev pub commanded : UnitState → Side → ℕ → ℕ → ℕ → ℕ → Option UnitStep
-commanded u side t n code room =
+abbrev pub commanded : UnitState → Side → ℕ → ℕ → ℕ → ℕ → ℕ → Option UnitStep
+commanded u side p t n code room =
     if is_owner u.own side t && (n == u.last_command + 1)
-    then changes (record u { last_command = n; current = Some (new_command code room) })
+    then changes (record u { last_command = n; current = Some (new_command p code room) })
     else None
 
 -- Give: the next chunk of the command at hand; no bytes stop the transfer
@@ -185,7 +185,7 @@ noticing u side p = if (side_of u side).fresh then telling u p else None
 -- Each signal to a side that is not fresh
 abbrev pub unit_works : UnitState → Side → ℕ → Down → Bool → Option UnitStep
 unit_works u side p (down.Select t) may = if nat_lt (side_of u side).floor t then selected (raised u side t) u.own side p t may else None
-unit_works u side p (down.Command t n code room) may = commanded u side t n code room
+unit_works u side p (down.Command t n code room) may = commanded u side p t n code room
 unit_works u side p (down.Grant t c) may = granted u u.own side p t c
 unit_works u side p (down.Refuse t c) may = grant_refused u u.own side t c
 unit_works u side p (down.Took t n s room) may =

@@ -100,6 +100,16 @@ pub enum Side {
     Second,
 }
 
+/// The path by which a command came to a unit: the subchannel that sent it, and the channel path that brought it
+/// (SA22-7832, chapter 15).
+#[derive(Clone, Copy, Debug)]
+pub struct CommandPath {
+    /// The side of the unit that the subchannel is.
+    pub side: Side,
+    /// The index of the path, 0 to 7, in the order of that subchannel's paths.
+    pub path: Path,
+}
+
 impl Side {
     ghost use Rattle.chan_model.specs.Sides.{same_side};
 

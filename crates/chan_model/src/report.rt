@@ -4,14 +4,15 @@ ghost use Rattle.std.specs.Prelude.{◌≡◌, ◌≤◌, ◌++◌, ℕ, List, l
 ghost use Rattle.chan_model.specs.Reports as spec;
 
 use crate::chunk::{Bytes, Chunk, ChunkLength};
-use crate::names::{Path, Side};
+use crate::names::{CommandPath, Path, Side};
 use scsw_irb::status::DeviceStatus;
 
 /// What the device is asked for, over what stands for its bytes.
-#[derive(Clone, Copy, Drop)]
+#[derive(Drop)]
 pub enum Call<B = Chunk> {
-    /// The initial status of a command.
-    Initial { code: u8 },
+    /// The initial status of a command of this code, which came by this path. A command that is begun on another path, since its
+    /// unit left the first and came back, still names the first.
+    Initial { code: u8, came_by: CommandPath },
     /// To absorb bytes of a write.
     Absorb { bytes: B },
     /// At most so many bytes of a read: from 1 to 256.
@@ -66,7 +67,7 @@ pub enum ReportPath {
 }
 
 /// What a unit has to do next, over what stands for a call and for a report.
-#[derive(Clone, Copy, Drop)]
+#[derive(Drop)]
 pub enum Work<C = Call, R = Report> {
     /// A call of the device model; its answer is the report of this place.
     Call {
@@ -238,7 +239,10 @@ impl Call {
         ensures { spec.lent_call result ≡ self.now }
     {
         match self {
-            Call::Initial { code } => Call::Initial { code: *code },
+            Call::Initial { code, came_by } => Call::Initial {
+                code: *code,
+                came_by: *came_by,
+            },
             Call::Absorb { bytes } => Call::Absorb {
                 bytes: bytes.lend(),
             },
@@ -248,13 +252,31 @@ impl Call {
     }
 }
 
-impl LentCall<'_> {
+impl<'a> LentCall<'a> {
+    /// The same call.
+    pub fn copy(&self) -> LentCall<'a>
+        ensures { spec.lent_call result ≡ spec.lent_call self.now }
+    {
+        match self {
+            Call::Initial { code, came_by } => Call::Initial {
+                code: *code,
+                came_by: *came_by,
+            },
+            Call::Absorb { bytes } => Call::Absorb { bytes: *bytes },
+            Call::Supply { most } => Call::Supply { most: *most },
+            Call::Finish => Call::Finish,
+        }
+    }
+
     /// The same call with its own bytes.
     pub fn own(&self) -> Call
         ensures { result ≡ spec.lent_call self.now }
     {
         match self {
-            Call::Initial { code } => Call::Initial { code: *code },
+            Call::Initial { code, came_by } => Call::Initial {
+                code: *code,
+                came_by: *came_by,
+            },
             Call::Absorb { bytes } => Call::Absorb {
                 bytes: Chunk::of(bytes.as_slice()),
             },

@@ -54,6 +54,8 @@ pub enum Progress {
 /// The command at hand.
 #[derive(Drop)]
 pub struct CurrentCommand {
+    /// The path of its side's subchannel by which it came; the unit may be on another since.
+    pub path: Path,
     pub code: u8,
     /// How many bytes of a read may come.
     pub room: u16,
@@ -105,6 +107,7 @@ impl CurrentCommand {
         ensures { result ≡ self.now }
     {
         CurrentCommand {
+            path: self.path,
             code: self.code,
             room: self.room,
             progress: self.progress,

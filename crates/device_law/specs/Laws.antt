@@ -17,8 +17,8 @@ IsFinal status = IsTrue (has_device_end status)
 
 -- the answers that a call may bring, and no others: never a Data that is sent again, which needs no call
 abbrev pub IsAnswer : Call → DeviceAnswer → Type 0
-IsAnswer (Initial code) Begins = Unit {0}
-IsAnswer (Initial code) (Ended status more) = IsTrue (is_initial status) × (more ≡ false)
+IsAnswer (Initial code came_by) Begins = Unit {0}
+IsAnswer (Initial code came_by) (Ended status more) = IsTrue (is_initial status) × (more ≡ false)
 IsAnswer (Absorb bytes) (Absorbed count) = count ≤ length bytes
 IsAnswer (Supply most) (Supplied bytes) = length bytes ≤ most
 IsAnswer Finish (Ended status more) = IsFinal status

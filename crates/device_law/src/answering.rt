@@ -6,6 +6,7 @@ ghost use Rattle.chan_model.specs.Reports.{lent_call};
 ghost use Rattle.chan_model.specs.declared.report.Call.TheVariants as call_spec;
 
 use crate::{Device, Finish};
+use chan_model::names::CommandPath;
 use chan_model::report::{Call, DeviceAnswer, LentCall};
 
 /// Makes the call.
@@ -26,7 +27,7 @@ pub fn answer_to<D: Device>(device: &mut D, call: &LentCall<'_>, slot: &mut Devi
     ensures opening { D.opening device.new ≡ D.opening device.old }
 {
     match call {
-        Call::Initial { code } => initial_to(device, *code, slot),
+        Call::Initial { code, came_by } => initial_to(device, *code, *came_by, slot),
         Call::Absorb { bytes } => absorb_to(device, bytes.as_slice(), slot),
         Call::Supply { most } => supply_to(device, *most, slot),
         Call::Finish => {
@@ -59,12 +60,12 @@ fn supply_to<D: Device>(device: &mut D, most: u16, slot: &mut DeviceAnswer)
 }
 
 /// The answer to an initial status, written into its slot: an empty one begins the command, any other ends it or its channel's part.
-fn initial_to<D: Device>(device: &mut D, code: u8, slot: &mut DeviceAnswer)
-    ensures law { IsAnswer (call_spec.Initial code) slot.new }
-    ensures answers { D.answers device.old (call_spec.Initial code) slot.new device.new }
+fn initial_to<D: Device>(device: &mut D, code: u8, came_by: CommandPath, slot: &mut DeviceAnswer)
+    ensures law { IsAnswer (call_spec.Initial code came_by) slot.new }
+    ensures answers { D.answers device.old (call_spec.Initial code came_by) slot.new device.new }
     ensures opening { D.opening device.new ≡ D.opening device.old }
 {
-    let status = device.initial(code);
+    let status = device.initial(code, came_by);
     match status.bits() {
         0 => *slot = DeviceAnswer::Begins,
         _ => *slot = DeviceAnswer::Ended {

@@ -21,6 +21,7 @@ ghost use Rattle.device_law.specs.Laws.{IsInitial, IsFinal};
 ghost use Rattle.device_law.specs.Calls.{answer_of_initial, answer_of_finish};
 
 use chan_model::chunk::Chunk;
+use chan_model::names::CommandPath;
 use scsw_irb::status::DeviceStatus;
 
 /// How a command ended.
@@ -41,10 +42,13 @@ pub trait Device {
 
     /// The initial status of the command of this code, which the device begins: empty, channel end alone
     /// or unit check alone. A read backward is always refused.
-    fn initial(&mut self, code: u8) -> DeviceStatus
+    ///
+    /// `came_by` is the path by which the command came, also where its unit left that path before it made this call and came
+    /// back on another; a device to which all paths are alike does not look at it.
+    fn initial(&mut self, code: u8, came_by: CommandPath) -> DeviceStatus
         ensures law { IsInitial result }
         ensures backward { class_of code ≡ ReadBackward → result.0 ≡ 0x02 }
-        ensures answers { answers self.old (call_spec.Initial code) (answer_of_initial result) self.new }
+        ensures answers { answers self.old (call_spec.Initial code came_by) (answer_of_initial result) self.new }
         ensures opening { opening self.new ≡ opening self.old };
 
     /// Gives the next bytes of a read, at most so many.

@@ -126,13 +126,13 @@ ended store = ended_by store.command store
 
 -- Each call of a store: its answer, and the store after it.
 abbrev pub answer_of : Blocks → Call → DeviceAnswer
-answer_of store (call.Initial code) = answer_of_begun (begun store (block_command_of code))
+answer_of store (call.Initial code came_by) = answer_of_begun (begun store (block_command_of code))
 answer_of store (call.Absorb bytes) = answer.Absorbed (taken_of store bytes)
 answer_of store (call.Supply most) = answer.Supplied (given_of store most)
 answer_of store call.Finish = answer_of_ended (ended store)
 
 abbrev pub after : Blocks → Call → Blocks
-after store (call.Initial code) = (begun store (block_command_of code)).state
+after store (call.Initial code came_by) = (begun store (block_command_of code)).state
 after store (call.Absorb bytes) = absorbed store bytes
 after store (call.Supply most) = supplied store (given_of store most)
 after store call.Finish = (ended store).state

@@ -87,13 +87,13 @@ ended console = ended_by console.command console
 
 -- Each call of a console: its answer, and the console after it.
 abbrev pub answer_of : Lines → Call → DeviceAnswer
-answer_of console (call.Initial code) = answer_of_begun (begun console (console_command_of code))
+answer_of console (call.Initial code came_by) = answer_of_begun (begun console (console_command_of code))
 answer_of console (call.Absorb bytes) = answer.Absorbed (taken_of console bytes)
 answer_of console (call.Supply most) = answer.Supplied (given_of console most)
 answer_of console call.Finish = answer_of_ended (ended console)
 
 abbrev pub after : Lines → Call → Lines
-after console (call.Initial code) = (begun console (console_command_of code)).state
+after console (call.Initial code came_by) = (begun console (console_command_of code)).state
 after console (call.Absorb bytes) = absorbed console bytes
 after console (call.Supply most) = supplied console (given_of console most)
 after console call.Finish = (ended console).state

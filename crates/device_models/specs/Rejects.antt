@@ -23,13 +23,13 @@ ended device = record { status = 0x0C; more = false; state = device }
 
 -- Each call of it: its answer, and the device after it.
 abbrev pub answer_of : Rejects → Call → DeviceAnswer
-answer_of device (call.Initial code) = answer_of_begun begun
+answer_of device (call.Initial code came_by) = answer_of_begun begun
 answer_of device (call.Absorb bytes) = answer.Absorbed 0
 answer_of device (call.Supply most) = answer.Supplied []
 answer_of device call.Finish = answer_of_ended (ended device)
 
 abbrev pub after : Rejects → Call → Rejects
-after device (call.Initial code) = begun.state
+after device (call.Initial code came_by) = begun.state
 after device (call.Absorb bytes) = device
 after device (call.Supply most) = device
 after device call.Finish = device

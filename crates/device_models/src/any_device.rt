@@ -13,6 +13,7 @@ use crate::block_store::BlockStore;
 use crate::console::Console;
 use crate::rejecting::Rejecting;
 use chan_model::chunk::Chunk;
+use chan_model::names::CommandPath;
 use channel_config::parts::UnitKind;
 use device_law::{Device, Finish};
 use scsw_irb::status::DeviceStatus;
@@ -43,11 +44,11 @@ impl Device for AnyDevice {
 
     ghost opening = { spec.device_opening };
 
-    fn initial(&mut self, code: u8) -> DeviceStatus {
+    fn initial(&mut self, code: u8, came_by: CommandPath) -> DeviceStatus {
         match self {
-            AnyDevice::Block(store) => store.initial(code),
-            AnyDevice::Console(console) => console.initial(code),
-            AnyDevice::Rejecting(device) => device.initial(code),
+            AnyDevice::Block(store) => store.initial(code, came_by),
+            AnyDevice::Console(console) => console.initial(code, came_by),
+            AnyDevice::Rejecting(device) => device.initial(code, came_by),
         }
     }
 

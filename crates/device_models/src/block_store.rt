@@ -13,6 +13,7 @@ ghost use Rattle.device_law.specs.Calls.{IsDeviceAnswer, answer_of_initial, answ
 use crate::command::BlockCommand;
 use crate::giving::{COMMAND_REJECT, part};
 use chan_model::chunk::Chunk;
+use chan_model::names::CommandPath;
 use device_law::{Device, Finish};
 use scsw_irb::status::DeviceStatus;
 use std::marker::Model;
@@ -152,7 +153,7 @@ impl Device for BlockStore {
 
     /// Codes 01 (write), 02 (read), 03 (no operation), 04 (sense), 07 (seek), 0B (recalibrate) and 31 (search
     /// equal) are begun. Any other is rejected: the sense byte is 80 then.
-    fn initial(&mut self, code: u8) -> DeviceStatus {
+    fn initial(&mut self, code: u8, _came_by: CommandPath) -> DeviceStatus {
         self.command = BlockCommand::of_code(code);
         self.moved = 0;
         match self.command {

@@ -13,6 +13,7 @@ use crate::console_command::ConsoleCommand;
 use crate::giving::{COMMAND_REJECT, part};
 use arrayvec::ArrayVec;
 use chan_model::chunk::Chunk;
+use chan_model::names::CommandPath;
 use device_law::{Device, Finish};
 use scsw_irb::status::DeviceStatus;
 use std::marker::Model;
@@ -98,7 +99,7 @@ impl Device for Console {
 
     /// Codes 01 (write), 0A (read), 03 (no operation) and 04 (sense) are begun. A write begins an empty line. Any other
     /// code is rejected: the sense byte is 80 then.
-    fn initial(&mut self, code: u8) -> DeviceStatus {
+    fn initial(&mut self, code: u8, _came_by: CommandPath) -> DeviceStatus {
         self.command = ConsoleCommand::of_code(code);
         self.given = 0;
         match self.command {

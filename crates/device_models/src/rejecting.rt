@@ -11,6 +11,7 @@ ghost use Rattle.device_models.specs.Rejects as spec;
 
 use crate::giving::COMMAND_REJECT;
 use chan_model::chunk::Chunk;
+use chan_model::names::CommandPath;
 use device_law::{Device, Finish};
 use scsw_irb::status::DeviceStatus;
 use std::marker::Model;
@@ -44,7 +45,7 @@ impl Device for Rejecting {
     ghost opening = { λ _. spec.opening };
 
     /// Any code is rejected: unit check, and the sense byte is 80 then.
-    fn initial(&mut self, code: u8) -> DeviceStatus {
+    fn initial(&mut self, code: u8, _came_by: CommandPath) -> DeviceStatus {
         self.sense = COMMAND_REJECT;
         DeviceStatus::UNIT_CHECK
     }

@@ -29,13 +29,13 @@ initial_status code = if code == 0x02 then 0 else if code == 0x04 then 0 else 0x
 
 -- Each call of a clock: its answer, and the clock after it.
 abbrev pub answer_of : Clocks → Call → DeviceAnswer
-answer_of clock (call.Initial code) = answer_of_initial (record { 0 = initial_status code })
+answer_of clock (call.Initial code came_by) = answer_of_initial (record { 0 = initial_status code })
 answer_of clock (call.Absorb bytes) = answer.Absorbed 0
 answer_of clock (call.Supply most) = answer.Supplied (take most clock.left)
 answer_of clock call.Finish = answer.Ended (record { 0 = 0x0C }) (not (length clock.left == 0))
 
 abbrev pub after : Clocks → Call → Clocks
-after clock (call.Initial code) = begun clock code
+after clock (call.Initial code came_by) = begun clock code
 after clock (call.Absorb bytes) = clock
 after clock (call.Supply most) = record clock { left = drop most clock.left }
 after clock call.Finish = record clock { left = [] }

@@ -10,6 +10,7 @@ ghost use Rattle.device_law.specs.Calls.{IsDeviceAnswer, answer_of_initial, answ
 ghost use Rattle.embedding.specs.Clocks as spec;
 
 use chan_model::chunk::Chunk;
+use chan_model::names::CommandPath;
 use device_law::{Device, Finish};
 use scsw_irb::status::DeviceStatus;
 use std::marker::Model;
@@ -61,7 +62,7 @@ impl Device for Clock {
     ghost opening = { spec.opened };
 
     /// Code 02 gives the time, four bytes, and code 04 the sense byte. Any other is rejected.
-    fn initial(&mut self, code: u8) -> DeviceStatus {
+    fn initial(&mut self, code: u8, _came_by: CommandPath) -> DeviceStatus {
         match code {
             0x02 => {
                 let bytes: [u8; 4] = be_bytes(&[self.time]);

@@ -137,7 +137,9 @@ impl Host {
     fn next_report(&mut self) -> Option<Report>
         ensures machine { self.new.past ≡ self.old.past }
     {
-        let turn = self.subsystem.lent_turn(UNIT)?;
+        let Some(turn) = self.subsystem.lent_turn(UNIT) else {
+            return None;
+        };
         reported(&mut self.clock, &self.waiting, &turn)
     }
 

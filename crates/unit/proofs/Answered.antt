@@ -1,5 +1,5 @@
 -- Whether a signal is answered: neither its path nor what the control unit may do decides that.
-use Rattle.std.proofs.Common.{◌≡◌, ◌==◌, ◌&&◌, ℕ, Bool, true, false, if◌then◌else◌, nat_lt, is_some, Option, None, Some, refl, sym, ◌∙◌}
+use Rattle.std.proofs.Common.{◌≡◌, ◌+◌, ◌==◌, ◌&&◌, ℕ, Bool, true, false, if◌then◌else◌, nat_lt, is_some, Option, None, Some, refl, sym, ◌∙◌}
 use Rattle.chan_model.specs.declared.names.Side.{Side}
 use Rattle.chan_model.specs.Signals.{Down, map_sent}
 use Rattle.chan_model.specs.declared.signal.OnPath.{OnPath}
@@ -51,7 +51,9 @@ sends_one-unit_takes u side p (Select t) may =
     sends_one-if (side_of u side).fresh _ _ _ _ refl
     (sends_one-if (nat_lt (side_of u side).floor t) _ _ _ _
     (sends_one-selected (raised u side t) u.own side p t may ∙ sym (sends_one-selected (raised u side t) u.own side 0 t false)) refl)
-sends_one-unit_takes u side p (Command t n code room) may = sends_one-if (side_of u side).fresh _ _ _ _ refl refl
+sends_one-unit_takes u side p (Command t n code room) may =
+    sends_one-if (side_of u side).fresh _ _ _ _ refl
+    (sends_one-if (is_owner u.own side t && (n == u.last_command + 1)) _ _ _ _ refl refl)
 sends_one-unit_takes u side p (Grant t c) may =
     sends_one-if (side_of u side).fresh _ _ _ _ refl (sends_one-granted u u.own side p 0 t c)
 sends_one-unit_takes u side p (Refuse t c) may = sends_one-if (side_of u side).fresh _ _ _ _ refl refl

@@ -9,25 +9,25 @@ ghost use Rattle.unit.specs.UnitWords as words;
 use crate::parts::{Outcome, follows, is_owner, is_owner_on};
 use chan_model::chunk::Chunk;
 use chan_model::lent::LentDown;
-use chan_model::names::Side;
+use chan_model::names::{CommandPath, Path, Side};
 use chan_model::signal::{Down, Taken};
 use chan_model::unit_state::{CurrentCommand, Progress, UnitState};
 
-/// Command: the next of the program that holds the device.
+/// Command: the next of the program that holds the device, which came by this path.
 pub fn commanded(
     unit: &mut UnitState,
-    side: Side,
+    came_by: CommandPath,
     number: u64,
     command: u64,
     code: u8,
     room: u16,
 ) -> Outcome
-    ensures state { unit.new ≡ table.unit_after unit.old (table.commanded unit.old side number command code room) }
-    ensures outcome { map_taken plain_up result ≡ table.outcome_of (table.commanded unit.old side number command code room) }
+    ensures state { unit.new ≡ table.unit_after unit.old (table.commanded unit.old came_by.side came_by.path number command code room) }
+    ensures outcome { map_taken plain_up result ≡ table.outcome_of (table.commanded unit.old came_by.side came_by.path number command code room) }
 {
-    if is_owner(unit, side, number) && follows(command, unit.last_command) {
+    if is_owner(unit, came_by.side, number) && follows(command, unit.last_command) {
         unit.last_command = command;
-        unit.current = Some(new_command(code, room));
+        unit.current = Some(new_command(came_by.path, code, room));
         Taken::quietly()
     } else {
         Taken::ignored()
@@ -35,10 +35,11 @@ pub fn commanded(
 }
 
 /// A command that is not begun.
-fn new_command(code: u8, room: u16) -> CurrentCommand
-    ensures { result ≡ table.new_command code room }
+fn new_command(path: Path, code: u8, room: u16) -> CurrentCommand
+    ensures { result ≡ table.new_command path code room }
 {
     CurrentCommand {
+        path,
         code,
         room,
         progress: Progress::New,

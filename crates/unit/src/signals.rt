@@ -11,7 +11,7 @@ ghost use Rattle.unit.specs.UnitWords as words;
 use crate::commands::{answered, commanded, given, is_of_command};
 use crate::parts::{Outcome, free, is_owner, keep_side, owns, side_of};
 use chan_model::lent::{LentDown, PlainUp};
-use chan_model::names::{Path, Side};
+use chan_model::names::{CommandPath, Path, Side};
 use chan_model::signal::{Down, Taken, Up};
 use chan_model::unit_state::{Connection, Own, SideState, UnitState};
 
@@ -47,7 +47,14 @@ fn works(unit: &mut UnitState, side: Side, path: Path, signal: &LentDown<'_>, ma
             room,
             number,
             command,
-        } => commanded(unit, side, number, command, code, room),
+        } => commanded(
+            unit,
+            CommandPath { side, path },
+            number,
+            command,
+            code,
+            room,
+        ),
         Down::Grant { number, connection } => granted(unit, side, path, number, connection),
         Down::Refuse { number, connection } => refused(unit, side, number, connection),
         Down::Took { room, sequence, .. } if is_of_command(unit, side, signal) => {

@@ -6,7 +6,7 @@ ghost use Rattle.chan_model.specs.UnitReports as reports;
 
 use crate::reports::{is_outward, is_over, most_of};
 use chan_model::chunk::Bytes;
-use chan_model::names::Side;
+use chan_model::names::{CommandPath, Side};
 use chan_model::report::{Call, DeviceAnswer, LentCall, LentWork, Report, Work};
 use chan_model::unit_state::{Connection, CurrentCommand, Own, Progress, UnitState};
 use scsw_irb::status::DeviceStatus;
@@ -44,13 +44,19 @@ fn work_at<'a>(
             side,
             number,
             command,
-            Call::Initial { code: command.code },
+            &Call::Initial {
+                code: command.code,
+                came_by: CommandPath {
+                    side,
+                    path: command.path,
+                },
+            },
         )),
         Progress::Working if unit.halted => {
-            Some(calling(unit, side, number, command, Call::Finish))
+            Some(calling(unit, side, number, command, &Call::Finish))
         }
         Progress::Working => work_on_data(unit, side, number, command),
-        Progress::ChannelEnded => Some(calling(unit, side, number, command, Call::Finish)),
+        Progress::ChannelEnded => Some(calling(unit, side, number, command, &Call::Finish)),
         Progress::Ended => None,
     }
 }
@@ -92,7 +98,7 @@ fn work_on_bytes<'a>(
             side,
             number,
             command,
-            Call::Absorb {
+            &Call::Absorb {
                 bytes: bytes.lend(),
             },
         )),
@@ -110,12 +116,12 @@ fn work_on_transfer<'a>(
     ensures { lent_works result ≡ reports.work_on_transfer unit.now side number command.now }
 {
     if is_over(command) {
-        Some(calling(unit, side, number, command, Call::Finish))
+        Some(calling(unit, side, number, command, &Call::Finish))
     } else if is_outward(command.code) {
         None
     } else {
         let most = most_of(command);
-        Some(calling(unit, side, number, command, Call::Supply { most }))
+        Some(calling(unit, side, number, command, &Call::Supply { most }))
     }
 }
 
@@ -125,16 +131,16 @@ fn calling<'a>(
     side: Side,
     number: u64,
     command: &CurrentCommand,
-    call: LentCall<'a>,
+    call: &LentCall<'a>,
 ) -> LentWork<'a>
-    ensures { Some (lent_work result) ≡ reports.calling unit.now side number command.now (lent_call call.entry) }
+    ensures { Some (lent_work result) ≡ reports.calling unit.now side number command.now (lent_call call.now) }
 {
     Work::Call {
         side,
         number,
         command: unit.last_command,
         sequence: command.sequence,
-        call,
+        call: call.copy(),
     }
 }
 

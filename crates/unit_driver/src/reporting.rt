@@ -118,7 +118,7 @@ fn next_by_work<'a>(work: &LentWork<'a>, report: &mut Report) -> NextReport<(), 
             report.number = *number;
             report.command = *command;
             report.sequence = *sequence;
-            NextReport::Asked(*call)
+            NextReport::Asked(call.copy())
         }
         Work::Report(told) => {
             *report = told.own();

@@ -5,7 +5,7 @@ use ccw_codec::Class;
 use ccw_codec::command::class;
 use chan_model::chunk::Chunk;
 use chan_model::lent::PlainDown;
-use chan_model::names::{Path, Side};
+use chan_model::names::{CommandPath, Path, Side};
 use chan_model::report::{Report, Work};
 use chan_model::signal::{Down, KeptUp, Up};
 use device_law::answering::answer;
@@ -24,7 +24,7 @@ impl Device for Rewinding {
 
     ghost opening = { λ d. d };
 
-    fn initial(&mut self, code: u8) -> DeviceStatus {
+    fn initial(&mut self, code: u8, _came_by: CommandPath) -> DeviceStatus {
         match class(code) {
             Class::ReadBackward => DeviceStatus::UNIT_CHECK,
             _ => DeviceStatus::CHANNEL_END,

@@ -2,6 +2,7 @@
 
 use bitflags::Flags;
 use chan_model::chunk::Chunk;
+use chan_model::names::{CommandPath, Path, Side};
 use chan_model::report::{Call, DeviceAnswer};
 use channel_config::parts::UnitKind;
 use device_law::answering::answer;
@@ -13,16 +14,32 @@ use device_models::console::Console;
 use device_models::console_command::ConsoleCommand;
 use device_models::rejecting::Rejecting;
 
+/// The first path of the first side.
+fn first_path() -> CommandPath {
+    CommandPath {
+        side: Side::First,
+        path: Path::new(0).unwrap(),
+    }
+}
+
 /// Begins a command and ends it, its bytes moved before: the two statuses.
 fn run(store: &mut BlockStore, code: u8, bytes: &[u8]) -> (u8, u8) {
-    let first = store.initial(code).bits();
+    let first = begun(store, code);
     let _ = store.absorb(bytes);
     (first, store.finish().status.bits())
 }
 
 /// Begins a command; its first status.
 fn begun<D: Device>(device: &mut D, code: u8) -> u8 {
-    device.initial(code).bits()
+    device.initial(code, first_path()).bits()
+}
+
+/// The call for the initial status of a command.
+fn initial(code: u8) -> Call {
+    Call::Initial {
+        code,
+        came_by: first_path(),
+    }
 }
 
 /// Ends a command: its last status, and whether there was more.
@@ -53,11 +70,11 @@ fn a_write_is_taken_up_to_a_block(rt: HostRuntime) {
 
 /// Writes a whole block, and then its first byte.
 fn write_twice(store: &mut BlockStore) {
-    let _ = store.initial(1);
+    let _ = begun(store, 1);
     let _ = store.absorb(&[7; 60]);
     let _ = store.absorb(&[9; 60]);
     let _ = store.finish();
-    let _ = store.initial(1);
+    let _ = begun(store, 1);
     let _ = store.absorb(&[5]);
 }
 
@@ -148,7 +165,7 @@ fn end_of(came: &DeviceAnswer) -> Option<(u8, bool)> {
 
 /// Whether a write of three bytes begins and takes them.
 fn takes_three(store: &mut BlockStore) -> bool {
-    let begins = answer(store, &Call::Initial { code: 1 });
+    let begins = answer(store, &initial(1));
     let bytes = Chunk::of(&[1, 2, 3]);
     let absorbs = answer(store, &Call::Absorb { bytes });
     matches!(begins, DeviceAnswer::Begins) && matches!(absorbs, DeviceAnswer::Absorbed(3))
@@ -159,7 +176,7 @@ fn a_call_is_answered(rt: HostRuntime) {
     let mut store = BlockStore::new();
     let takes = takes_three(&mut store);
     let end = end_of(&answer(&mut store, &Call::Finish));
-    let control = end_of(&answer(&mut store, &Call::Initial { code: 3 }));
+    let control = end_of(&answer(&mut store, &initial(3)));
     drop(store);
     assert!(rt; takes && end == Some((0x0C, false)) && control == Some((8, false)));
 }
@@ -180,7 +197,7 @@ fn a_console_keeps_one_line(rt: HostRuntime) {
 
 /// Writes a whole line.
 fn write_line(console: &mut Console) {
-    let _ = console.initial(1);
+    let _ = begun(console, 1);
     let _ = console.absorb(&[7; 100]);
     let _ = console.absorb(&[9; 100]);
     let _ = console.finish();
@@ -243,7 +260,7 @@ fn a_console_tells_what_it_rejected(rt: HostRuntime) {
 fn every_command_is_rejected(rt: HostRuntime) {
     let mut device = Rejecting::new();
     for code in [1, 2, 3, 4, 0x0C] {
-        assert!(rt; device.initial(code).bits() == 2);
+        assert!(rt; begun(&mut device, code) == 2);
     }
     assert!(rt; device.absorb(&[1, 2]) == 0);
     let none = device.supply(1);
@@ -251,19 +268,19 @@ fn every_command_is_rejected(rt: HostRuntime) {
     let finish = device.finish();
     assert!(rt; finish.status.bits() == 0x0C && !finish.more);
     device.restart();
-    assert!(rt; device.initial(1).bits() == 2);
+    assert!(rt; begun(&mut device, 1) == 2);
 }
 
 /// What a device of a kind answers to the write of a byte, that to its read, and that after a restart.
 fn exercised(kind: UnitKind, read: u8) -> (u8, usize, usize, u8, usize) {
     let mut device = AnyDevice::of(kind);
-    let first = device.initial(1).bits();
+    let first = begun(&mut device, 1);
     let taken = device.absorb(&[1]);
-    let _ = device.initial(read);
+    let _ = begun(&mut device, read);
     let given = device.supply(1).len();
     let last = device.finish().status.bits();
     device.restart();
-    let _ = device.initial(read);
+    let _ = begun(&mut device, read);
     (first, taken, given, last, device.supply(1).len())
 }
 

@@ -247,7 +247,7 @@ fn is_to_take(subsystem: &Subsystem<Rotating>) -> bool {
 fn is_first(work: &Work, wanted: u8) -> bool {
     match work {
         Work::Call { call, .. } => match call {
-            Call::Initial { code } => *code == wanted,
+            Call::Initial { code, .. } => *code == wanted,
             _ => false,
         },
         _ => false,

@@ -1,6 +1,7 @@
 //! What a unit asks its device for, and what it sends.
 
 use chan_model::lent::PlainUp;
+use chan_model::names::Side;
 use chan_model::report::{Call, DeviceAnswer, Report, ReportPath, Work};
 use chan_model::signal::{Load, OnPath, Taken, Up};
 use chan_model::unit_state::{Connection, Own};
@@ -11,10 +12,21 @@ pub(crate) fn code_to_begin(unit: &Unit) -> Option<u8> {
     let Some(Work::Call { call, .. }) = unit.work() else {
         return None;
     };
-    let Call::Initial { code } = call else {
+    let Call::Initial { code, .. } = call else {
         return None;
     };
     Some(code)
+}
+
+/// The path by which the command came that the device is to begin: its side, and its index.
+pub(crate) fn came_by(unit: &Unit) -> Option<(Side, usize)> {
+    let Some(Work::Call { call, .. }) = unit.work() else {
+        return None;
+    };
+    let Call::Initial { came_by, .. } = call else {
+        return None;
+    };
+    Some((came_by.side, came_by.path.index()))
 }
 
 /// How many bytes of a write the device is to absorb.

@@ -1,8 +1,8 @@
 //! A write and a read, a path that is left and asked for, a Data that is sent again, and both sides of a restart.
 
 use crate::tests::unit_answers::{
-    absorbed_of, code_to_begin, connected_path, count_to_absorb, data_of, is_end, is_notice,
-    is_refused, is_to_finish, is_to_send_again, most_asked, path_of,
+    absorbed_of, came_by, code_to_begin, connected_path, count_to_absorb, data_of, is_end,
+    is_notice, is_refused, is_to_finish, is_to_send_again, most_asked, path_of,
 };
 use chan_model::chunk::Chunk;
 use chan_model::lent::{PlainDown, PlainUp};
@@ -371,6 +371,36 @@ fn a_path_is_left_and_asked_for(rt: HostRuntime) {
     drop(unit);
     assert!(rt; selected && left && asked);
     assert!(rt; granted && connected == Some(1));
+}
+
+/// Whether the unit leaves its path and comes back on another, by its connection of this number.
+fn comes_back(unit: &mut Unit, path: Path, connection: u64) -> bool {
+    let left = unit.leave().is_some();
+    let asked = asked_for(unit, path).is_some();
+    let grant = Down::Grant {
+        number: 1,
+        connection,
+    };
+    let granted = takes(unit, Side::Second, path, &grant);
+    left && asked && granted
+}
+
+#[test]
+fn a_device_is_told_by_which_path_its_command_came(rt: HostRuntime) {
+    let offered_on = Path::new(0).unwrap();
+    let commanded_on = Path::new(2).unwrap();
+    let begun_on = Path::new(5).unwrap();
+    let mut unit = Unit::new();
+    let selected = takes(&mut unit, Side::Second, offered_on, &select());
+    let back = comes_back(&mut unit, commanded_on, 1);
+    let commanded = takes(&mut unit, Side::Second, commanded_on, &write());
+    let at_once = came_by(&unit);
+    let away = comes_back(&mut unit, begun_on, 2);
+    let connected = connected_path(&unit);
+    let still = came_by(&unit);
+    drop(unit);
+    assert!(rt; selected && back && commanded && at_once == Some((Side::Second, 2)));
+    assert!(rt; away && connected == Some(5) && still == Some((Side::Second, 2)));
 }
 
 /// Whether the unit asks the first side for its first attention.

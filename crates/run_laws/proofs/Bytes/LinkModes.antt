@@ -133,7 +133,7 @@ trace-same (down.Got a) true None k n = refl
 
 abbrev command_step : UnitState → ℕ → ℕ → ℕ → ℕ → Bool → Bool → Bool → Option UnitStep
 command_step u p n code room fresh owner next =
-    if fresh then telling u p else (if owner && next then changes (record u { last_command = n; current = Some (new_command code room) }) else None)
+    if fresh then telling u p else (if owner && next then changes (record u { last_command = n; current = Some (new_command p code room) }) else None)
 
 -- the last of the codes
 last-code : (codes : List ℕ) (sent n code : ℕ) (t : Transfer) → IsLast codes sent t → IsNth codes n code → n ≡ sent → code ≡ t.code
@@ -177,21 +177,21 @@ module _ (side : Side) (drawn : ℕ) (k : ProgramTrace) (downs : List (List Down
   abbrev next_trace : ℕ → ProgramTrace
   next_trace code = record k { taken = k.taken ▸ code; absorbed = [] }
 
-  taken-wires : (P : Option CurrentCommand → Type 0) (Q : ℕ → List ℕ → Type 0) (R : ℕ → Load → Type 0) (code n room : ℕ) → P (Some (new_command code room)) →
+  taken-wires : (P : Option CurrentCommand → Type 0) (Q : ℕ → List ℕ → Type 0) (R : ℕ → Load → Type 0) (code n room : ℕ) → P (Some (new_command path code room)) →
       IsWired side k.number (length (backward k.taken)) CurrentClosed AnyGive AnyData downs ups u →
-      IsWired side k.number (length (code ∷ backward k.taken)) P Q R (taken downs path) ups (record u { last_command = n; current = Some (new_command code room) })
+      IsWired side k.number (length (code ∷ backward k.taken)) P Q R (taken downs path) ups (record u { last_command = n; current = Some (new_command path code room) })
   taken-wires P Q R code n room p w =
       let long : length (backward k.taken) + 1 ≡ length (code ∷ backward k.taken) = omega arith in
-      subst (λ (i : ℕ). IsWired side k.number i P Q R (taken downs path) ups (record u { last_command = n; current = Some (new_command code room) })) long
-      (wired-next side k.number (length (backward k.taken)) CurrentClosed P AnyGive Q AnyData R downs ups u (record u { last_command = n; current = Some (new_command code room) }) path p w)
+      subst (λ (i : ℕ). IsWired side k.number i P Q R (taken downs path) ups (record u { last_command = n; current = Some (new_command path code room) })) long
+      (wired-next side k.number (length (backward k.taken)) CurrentClosed P AnyGive Q AnyData R downs ups u (record u { last_command = n; current = Some (new_command path code room) }) path p w)
 
   takes-next : (begun : Option ActiveProgram) (b : ActiveProgram) (code n room : ℕ) (out : Bool) → is_outward b.transfer.code ≡ out → begun ≡ Some b → length (backward k.taken) + 1 ≡ k.sent → b.transfer.sequence ≡ 0 →
       k.now.moved ≡ [] → code ≡ b.transfer.code → IsWired side k.number (length (backward k.taken)) CurrentClosed AnyGive AnyData downs ups u →
-      Mode side begun (next_trace code) (taken downs path) ups (record u { last_command = n; current = Some (new_command code room) })
+      Mode side begun (next_trace code) (taken downs path) ups (record u { last_command = n; current = Some (new_command path code room) })
   takes-next begun b code n room false z e l s m c w = Reads b e (omega (arith, l)) z refl (taken-wires CurrentPlain NoGive AnyData code n room refl w)
   takes-next begun b code n room true z e l s m c w =
       let v : View = view_of b.transfer k.now in
-      Writes b e (omega (arith, l)) z None (begins-flow v m) (taken-wires (CurrentFlow b.transfer.code v None) (IsGive v) (IsData v None) code n room (c, begins-hand v code room s) w)
+      Writes b e (omega (arith, l)) z None (begins-flow v m) (taken-wires (CurrentFlow b.transfer.code v None) (IsGive v) (IsData v None) code n room (c, begins-hand v path code room s) w)
 
   module _ (begun : Option ActiveProgram) (t n code room : ℕ) where
     abbrev Then : Bool → Bool → Bool → Type 0
@@ -200,9 +200,9 @@ module _ (side : Side) (drawn : ℕ) (k : ProgramTrace) (downs : List (List Down
         ModeOf side begun (taken_at (reply.Down (down.Command t n code room) (outcome_of step).taken (outcome_of step).sent) (Some k)) (taken downs path)
         (with_any_sent ups (outcome_of step).sent) (unit_after u step)
 
-    then-taken : t ≡ k.number → Mode side begun (next_trace code) (taken downs path) ups (record u { last_command = n; current = Some (new_command code room) }) → Then false true true
+    then-taken : t ≡ k.number → Mode side begun (next_trace code) (taken downs path) ups (record u { last_command = n; current = Some (new_command path code room) }) → Then false true true
     then-taken e m =
-        subst (λ (b : Bool). Mode side begun (if b then next_trace code else k) (taken downs path) ups (record u { last_command = n; current = Some (new_command code room) }))
+        subst (λ (b : Bool). Mode side begun (if b then next_trace code else k) (taken downs path) ups (record u { last_command = n; current = Some (new_command path code room) }))
         (sym (eq-eqb t k.number e)) m
 
     waits-by : (may : Bool) → (b : ActiveProgram) → begun ≡ Some b → IsLast (codes_of k) k.sent b.transfer → length (backward k.taken) + 1 ≡ k.sent → b.transfer.sequence ≡ 0 → k.now.moved ≡ [] →

@@ -72,8 +72,8 @@ pub record Flow (v : View) (absorbed : List ℕ) (lead : Option ℕ) : Type 0 wh
 pub begins-flow : (v : View) → v.moved ≡ [] → Flow v [] None
 begins-flow v e = record { chunks = []; firsts = All-nil (IsFirstOf v.copied); bytes = refl; places = sym e; within = tt }
 
-pub begins-hand : (v : View) (code room : ℕ) → v.seq ≡ 0 → Hand v None (new_command code room)
-begins-hand v code room e = Level (sym e) refl refl
+pub begins-hand : (v : View) (p code room : ℕ) → v.seq ≡ 0 → Hand v None (new_command p code room)
+begins-hand v p code room e = Level (sym e) refl refl
 
 -- Give
 kept-good : (v : View) (bs bytes : List ℕ) → (bs ≡ []) ⊎ IsGood v bs → kept_bytes bs ≡ Some bytes → IsGood v bytes

@@ -432,7 +432,7 @@ unit-takes may side drawn number sent codes took wires u p (down.Select t) most 
     (select-numbered side drawn number took u p t may (nat_lt (side_of u side).floor t) refl old most h k.kept) k) k
 unit-takes may side drawn number sent codes took wires u p (down.Command t n code room) most h rises k =
     old-side side drawn number sent codes took wires u p (down.Command t n code room) (unit_works u side p (down.Command t n code room) may) (side_of u side).fresh
-    (λ old. commanded-if side drawn number sent codes took wires u t n code room (Some (new_command code room)) (is_owner u.own side t) (n == u.last_command + 1) refl refl h k) k
+    (λ old. commanded-if side drawn number sent codes took wires u t n code room (Some (new_command p code room)) (is_owner u.own side t) (n == u.last_command + 1) refl refl h k) k
 unit-takes may side drawn number sent codes took wires u p (down.Reset r b) most h rises k =
     reset-by side drawn number sent codes took wires u p r b (b == u.restarts) (side_of u side).fresh (nat_lt (side_of u side).floor r) rises h k
 unit-takes may side drawn number sent codes took wires u p d most h rises k = mild-taken may side drawn number sent codes took wires u p d tt k

@@ -110,10 +110,10 @@ changed-next u o f new e g = ap (held_with u) (sym (ap (λ (x : Own). option_map
 abbrev with_halt : Held → Held
 with_halt h = record h { halted = true }
 
-command-holder : (u : UnitState) (o : Own) (n code room : ℕ) →
-    holder_in (record u { last_command = n; current = Some (new_command code room) }) o ≡ option_map (commanded n code) (holder_in u o)
-command-holder u own.Idle n code room = refl
-command-holder u (own.Owned k v at) n code room = refl
+command-holder : (u : UnitState) (o : Own) (p n code room : ℕ) →
+    holder_in (record u { last_command = n; current = Some (new_command p code room) }) o ≡ option_map (commanded n code) (holder_in u o)
+command-holder u own.Idle p n code room = refl
+command-holder u (own.Owned k v at) p n code room = refl
 
 halt-holder : (u : UnitState) (o : Own) → holder_in (record u { halted = true }) o ≡ option_map with_halt (holder_in u o)
 halt-holder u own.Idle = refl
@@ -278,7 +278,7 @@ works-turns u side p (down.Select t) may free plain fresh k =
 works-turns u side p (down.Command t n code room) may free plain fresh k =
     subst (λ (b : Bool). Turns u side p (down.Command t n code room) (unit_works u side p (down.Command t n code room) may) (takes_if b (down.Command t n code room)))
     (next-command u u.own side t n)
-    (takes-if u side p (down.Command t n code room) (is_owner u.own side t && (n == u.last_command + 1)) _ (λ e. ap (held_with u) (command-holder u u.own n code room)))
+    (takes-if u side p (down.Command t n code room) (is_owner u.own side t && (n == u.last_command + 1)) _ (λ e. ap (held_with u) (command-holder u u.own p n code room)))
 works-turns u side p (down.Grant t c) may free plain fresh k = granted-turns u side u.own p t c refl
 works-turns u side p (down.Refuse t c) may free plain fresh k = refused-turns u side u.own p t c refl
 works-turns u side p (down.Took t n s room) may free plain fresh k = took-turns u side u.own p t n s room

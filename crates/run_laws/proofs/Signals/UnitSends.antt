@@ -134,7 +134,7 @@ taken-takes side u p _ _ above (taken.Accepts t high idle) =
 taken-takes side u p _ _ above (taken.Denies t high) =
     Rests _ _ (raised u side t) tt
     (record { floor = let f : floor_of (raised u side t) side ≡ t = here-floor u side _ in omega (arith, f, high); off = inl (ap (λ (x : Own). on_side x side) (side-own u side _)) })
-taken-takes side u p _ _ above (taken.Begins t n code room at is next) = Rests _ None _ tt (less u _ side refl (commanded-floor u n (Some (new_command code room)) side))
+taken-takes side u p _ _ above (taken.Begins t n code room at is next) = Rests _ None _ tt (less u _ side refl (commanded-floor u n (Some (new_command p code room)) side))
 taken-takes side u p _ _ above (taken.Joins t c q is) = Joins t c q _ (own-floor u (own.Owned side t (connection.On q c)) side) (on-owned side t (connection.On q c))
 taken-takes side u p _ _ above (taken.Leaves t c at is) = Answers t c
 taken-takes side u p _ _ above (taken.Parts t c q is) = Rests _ None _ tt (off u _ side (own-floor u (own.Owned side t (connection.Away c)) side) (on-owned side t (connection.Away c)))

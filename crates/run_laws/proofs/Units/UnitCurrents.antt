@@ -73,7 +73,7 @@ taken-calm side u k p _ _ (inl m) (Accepts t above idle) = absurd m
 taken-calm side u k p _ _ (inr e) (Accepts t above idle) = λ n f. absurd (other-owner side k t n (On p 0) e f)
 taken-calm side u k p _ _ h (Denies t above) = calm-side side k u _
 taken-calm side u k p _ _ (inl m) (Begins t n code room index is next) = absurd m
-taken-calm side u k p _ _ (inr e) (Begins t n code room index is next) = owner-calm side k u (record u { last_command = n; current = Some (new_command code room) }) t index e is refl
+taken-calm side u k p _ _ (inr e) (Begins t n code room index is next) = owner-calm side k u (record u { last_command = n; current = Some (new_command p code room) }) t index e is refl
 taken-calm side u k p _ _ h (Joins t c q is) = calm-connection side k t (Ask q c) (On q c) u is
 taken-calm side u k p _ _ h (Leaves t c index is) = calm side u
 taken-calm side u k p _ _ h (Parts t c q is) = calm-connection side k t (Ask q c) (Away c) u is
@@ -184,8 +184,8 @@ command-held may side number P u p t n code room h f =
     by (side_of u side).fresh (is_owner u.own side t) (n == u.last_command + 1) refl f
   where
     by : (g a b : Bool) → is_owner u.own side t ≡ a →
-        (t ≡ number → silent (outcome_of (if g then telling u p else (if a && b then changes (record u { last_command = n; current = Some (new_command code room) }) else None))) ≡ false) →
-        IsHeldStep side number P u (if g then telling u p else (if a && b then changes (record u { last_command = n; current = Some (new_command code room) }) else None))
+        (t ≡ number → silent (outcome_of (if g then telling u p else (if a && b then changes (record u { last_command = n; current = Some (new_command p code room) }) else None))) ≡ false) →
+        IsHeldStep side number P u (if g then telling u p else (if a && b then changes (record u { last_command = n; current = Some (new_command p code room) }) else None))
     by true a b i q = h
     by false true true i q = λ o. absurd (cc (q (one-number u.own side t number i o)))
     by false true false i q = h
