@@ -13,7 +13,7 @@ use Rattle.chan_model.specs.Sides.{same_side}
 use Rattle.channel_config.specs.declared.parts.SubchannelSetup.{SubchannelSetup}
 use Rattle.channel_config.specs.Setup.{Setup, has_number, are_distinct, are_paths, set_count, count_in_set, uses_of, side_left}
 use Rattle.channel_config.specs.Numbers.{AreSmall}
-use Rattle.channel_config.specs.Lawful.{IsPlaced, IsShared, IsLawful, uses_by}
+use Rattle.channel_config.specs.Lawful.{IsPlaced, IsShared, IsLawful, MayOwn, hosted, uses_by}
 
 has_number-push : (ns : List ℕ) (n m : ℕ) → has_number ns m ≡ true → has_number (ns ++ n ∷ []) m ≡ true
 has_number-push ns n m h = list_any-append (λ k. k == m) ns (n ∷ []) ∙ ap (λ (b : Bool). b || list_any (λ k. k == m) (n ∷ [])) h
@@ -54,9 +54,9 @@ All-one : {X : Type 0} (P : X → Type 0) (x : X) → P x → All P (x ∷ [])
 All-one P x h zero d lt = h
 All-one P x h (suc k) d lt = absurd (omega arith)
 
-pub lawful-storage : (s : Setup) (n : ℕ) → 0x10 ≤ n → n ≤ 0x1000 → IsLawful s → IsLawful (record s { blocks = Some n })
-lawful-storage s n low high h = record {
-  blocks = λ m e. let same : n ≡ m = cc in (omega arith, omega arith);
+pub lawful-storage : (s : Setup) (n : ℕ) → 0x10 ≤ n → IsLawful s → IsLawful (hosted s n)
+lawful-storage s n low h = record {
+  blocks = λ m e. let same : n ≡ m = cc in omega arith;
   sets = h.sets;
   units = h.units;
   shared_units = h.shared_units;
@@ -64,6 +64,9 @@ lawful-storage s n low high h = record {
   per_set = h.per_set;
   shared = h.shared;
 }
+
+pub may-own : (s : Setup) (n : ℕ) → n ≤ 0x1000 → MayOwn (hosted s n)
+may-own s n high = λ m e. let same : n ≡ m = cc in omega arith
 
 pub lawful-path-more : (s : Setup) (c : ℕ) (items : List ℕ) → items ≡ s.paths ++ c ∷ [] → IsLawful s → IsLawful (record s { paths = items })
 lawful-path-more s c items e h = lawful-paths (record s { paths = s.paths ++ c ∷ [] }) items e (record {

@@ -1,5 +1,5 @@
 -- What the rules keep of a machine's set-up.
-use Rattle.std.specs.Prelude.{◌≡◌, ℕ, ◌<◌, ◌≤◌, ◌==◌, ◌&&◌, true, List, length, All, count_by}
+use Rattle.std.specs.Prelude.{◌≡◌, ℕ, ◌<◌, ◌≤◌, ◌==◌, ◌&&◌, true, Some, List, length, All, count_by}
 use Rattle.std.specs.Option.{ForSome}
 use Rattle.chan_model.specs.declared.names.Side.{Side}
 use Rattle.chan_model.specs.declared.names.Side.TheVariants.{First, Second}
@@ -24,10 +24,18 @@ pub record IsShared (subs : List SubchannelSetup) (unit : ℕ) : Type 0 where
   pub second : uses_by subs unit Second ≤ uses_by subs unit First
 
 pub record IsLawful (s : Setup) : Type 0 where
-  pub blocks : ForSome s.blocks (λ n. (0x10 ≤ n) × (n ≤ 0x1000))
+  pub blocks : ForSome s.blocks (λ n. 0x10 ≤ n)
   pub sets : (1 ≤ set_count s) × (set_count s ≤ 4)
   pub units : length s.units ≤ 0x400
   pub shared_units : length s.shared ≡ length s.units
   pub subchannels : All (IsPlaced (set_count s) (length s.units) s.paths) s.subchannels
   pub per_set : (set : ℕ) → count_in_set s.subchannels set ≤ 0x100
   pub shared : (unit : ℕ) → IsShared s.subchannels unit
+
+-- storage of a machine's own has at most 4,096 blocks of 4,096 bytes (own)
+abbrev pub MayOwn : Setup → Type 0
+MayOwn s = ForSome s.blocks (λ n. n ≤ 0x1000)
+
+-- the same machine with storage of a host, of so many blocks, whatever was said of storage
+abbrev pub hosted : Setup → ℕ → Setup
+hosted s blocks = record s { blocks = Some blocks }

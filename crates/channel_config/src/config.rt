@@ -73,11 +73,13 @@ impl Model for Config {
 
     ghost Value = { Setup };
 
-    ghost use Rattle.channel_config.specs.Lawful.{IsLawful};
+    ghost use Rattle.channel_config.specs.Lawful.{IsLawful, MayOwn};
 
     ghost view = { λ c. record { blocks = c.blocks; sets = c.sets; paths = c.paths.items; units = c.units.items; shared = c.shared.items; subchannels = c.subchannels.items } };
 
-    ghost invariant = { λ c. IsLawful (record { blocks = c.blocks; sets = c.sets; paths = c.paths.items; units = c.units.items; shared = c.shared.items; subchannels = c.subchannels.items }) };
+    ghost invariant = { λ c.
+        let s : Setup = record { blocks = c.blocks; sets = c.sets; paths = c.paths.items; units = c.units.items; shared = c.shared.items; subchannels = c.subchannels.items } in
+        IsLawful s × MayOwn s };
 }
 
 impl Config {

@@ -36,7 +36,7 @@ pub struct Log {
 }
 
 impl Model for Log {
-    ghost use Rattle.std.specs.Prelude.{◌-◌, drop, take, vec_capacity};
+    ghost use Rattle.std.specs.Prelude.{◌-◌, ◌<◌, ◌≤◌, drop, take, vec_capacity};
     ghost use Rattle.chan_events.specs.Replies.{reply_in};
     ghost use Rattle.event_log.specs.Logs.{IsLogged, Logged, entries_at, room_of, written_reply};
 
@@ -48,7 +48,7 @@ impl Model for Log {
       reply = reply_in (written_reply (drop l.count l.entries.items)) (drop l.start l.bytes.items);
     } };
 
-    ghost invariant = { λ l. IsLogged l.bytes.items l.entries.items l.count l.start };
+    ghost invariant = { λ l. IsLogged l.bytes.items l.entries.items l.count l.start × (0 < l.count → 768 ≤ vec_capacity l.bytes) };
 }
 
 impl Log {
@@ -69,6 +69,19 @@ impl Log {
         ensures { result ≡ length self.now.entries }
     {
         self.count
+    }
+
+    /// No entries any more, nor one that is being written. No room is lost, and where there was an entry there is room for one.
+    pub fn forget(&mut self)
+        ensures entries { self.new.entries ≡ [] }
+        ensures fresh { self.new.reply ≡ reply_spec.Done }
+        ensures room { self.old.room ≤ self.new.room }
+        ensures again { 1 ≤ length self.old.entries → 1 ≤ self.new.room }
+    {
+        self.entries.clear();
+        self.bytes.clear();
+        self.count = 0;
+        self.start = 0;
     }
 
     /// Makes room for one entry. It is refused only where there was none and a growth was refused, and changes nothing then.

@@ -3,6 +3,7 @@ pub mod Appending
 pub mod Names
 pub mod Sound
 pub mod Moves
+pub mod CountedEvents
 pub mod RunSound
 pub mod RunSerials
 pub mod Growth

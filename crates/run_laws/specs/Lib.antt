@@ -1,6 +1,7 @@
 pub mod Entries
 pub mod Agreeing
 pub mod StateClaims
+pub mod Stores
 pub mod Beginnings
 pub mod OneEngine
 pub mod MaskStates

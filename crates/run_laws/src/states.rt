@@ -9,6 +9,7 @@ ghost use Rattle.channel_config.specs.Lawful.{IsLawful};
 ghost use Rattle.channel_config.specs.Setup.{Setup};
 ghost use Rattle.run_laws.specs.Agreeing.{AllAgree, LeadsToAgreed, AreAbove, HoldEndsByReset};
 ghost use Rattle.run_laws.specs.StateClaims.{IsPendingUncleared, IsLaterSubchannel};
+ghost use Rattle.run_laws.specs.Stores.{besides_stores};
 ghost use Rattle.machine_model.specs.Bounds.{IsWithin, IsUnitWithin};
 ghost use Rattle.machine_model.specs.Setups.{IsSetUp};
 ghost use Rattle.machine_model.specs.State.{State, opening_of};
@@ -20,10 +21,13 @@ use data_move::law::command_numbers;
 use step_laws::{stays_set_up, storage_blocks, walks};
 
 /// After each run the numbers of each subchannel and of each unit (its chunks, connections, attentions and restarts) are at most
-/// as many as there were events, and status of a subchannel is pending exactly where some status that was made is not cleared.
+/// as many as there were events, those not counted that store bytes, keys or prefixes; and status of a subchannel is pending exactly
+/// where some status that was made is not cleared.
 pub fn numbers()
     ensures within { (setup : Setup) (h : List Entry) (s : State) → Run (opening_of setup) h s → All (IsWithin (length h)) s.subs }
     ensures units { (setup : Setup) (h : List Entry) (s : State) → Run (opening_of setup) h s → All (IsUnitWithin (length h)) s.units }
+    ensures besides_stores { (setup : Setup) (h : List Entry) (s : State) → Run (opening_of setup) h s → All (IsWithin (besides_stores h)) s.subs }
+    ensures units_besides_stores { (setup : Setup) (h : List Entry) (s : State) → Run (opening_of setup) h s → All (IsUnitWithin (besides_stores h)) s.units }
     ensures pending { (setup : Setup) (h : List Entry) (s : State) → Run (opening_of setup) h s → All IsPendingUncleared s.subs }
 {
     walks();

@@ -3,7 +3,7 @@ use Rattle.std.proofs.Common.{◌≡◌, ℕ, zero, suc, ◌+◌, ◌-◌, ◌*�
 use Rattle.std.specs.Prelude.{IsTrue, nat_le, if◌then◌else◌, slice_index, slice_range}
 use Rattle.std.specs.List.{list_all}
 use Rattle.std.proofs.lemmas.Bool.Decides.{nat_tests}
-use Rattle.std.proofs.lemmas.List.{take-map, drop-map}
+use Rattle.std.proofs.lemmas.List.{length-map, map-set, take-map, drop-map}
 use Rattle.std.proofs.lemmas.List.Folds.{list_all-map}
 use Rattle.storage_keys.specs.declared.key.Key.{Key}
 use Rattle.storage_keys.specs.Storage.{IsAddressable, IsPrefix, is_prefix, lent_contents, may_be_lent, key_of_byte, keys_permit}
@@ -34,15 +34,34 @@ whole-blocks size blocks same = grind (arith, nat_tests)
 inside-size : (address count size : ℕ) → IsTrue (count == 0 || nat_le (address + count) size) → 0 < count → address + count ≤ size
 inside-size address count size inside some = grind (arith, nat_tests)
 
+-- what may be lent, part by part
+record IsLendable (size blocks : ℕ) (prefixes : List ℕ) : Type 0 where
+  pub some : IsTrue (nat_le 16 blocks && nat_le blocks 524288)
+  pub whole : IsTrue (size == 4096 * blocks)
+  pub cpus : IsTrue (length prefixes == 16)
+  pub areas : IsTrue (list_all (is_prefix size) prefixes)
+
+lendable : (size blocks : ℕ) (prefixes : List ℕ) → IsTrue (may_be_lent size blocks prefixes) → IsLendable size blocks prefixes
+lendable size blocks prefixes h =
+    let named = list_all (is_prefix size) prefixes in
+    let one = both (nat_le 16 blocks && nat_le blocks 524288) ((size == 4096 * blocks) && ((length prefixes == 16) && named)) h in
+    let two = both (size == 4096 * blocks) ((length prefixes == 16) && named) one.1 in
+    let three = both (length prefixes == 16) named two.1 in
+    record { some = one.0; whole = two.0; cpus = three.0; areas = three.1 }
+
+sixteen : (count : ℕ) → IsTrue (count == 16) → count ≡ 16
+sixteen count h = grind (arith, nat_tests)
+
 pub lent-addressable : (bytes keys prefixes : List ℕ) → IsTrue (may_be_lent (length bytes) (length keys) prefixes) → IsAddressable (lent_contents bytes keys prefixes)
 lent-addressable bytes keys prefixes h =
     let size = length bytes in
     let blocks = length keys in
-    let parts = both (nat_le 16 blocks && nat_le blocks 524288) ((size == 4096 * blocks) && list_all (is_prefix size) prefixes) h in
-    let rest = both (size == 4096 * blocks) (list_all (is_prefix size) prefixes) parts.1 in
+    let k = lendable size blocks prefixes h in
     record {
-      greatest = greatest-size size blocks parts.0 rest.0;
-      prefixes = λ cpu. areas size prefixes cpu (least-size size blocks parts.0 rest.0) rest.1;
+      blocks = whole-blocks size blocks k.whole ∙ ap (λ n. 4096 * n) (sym (length-map keys key_of_byte));
+      cpus = sixteen (length prefixes) k.cpus;
+      greatest = greatest-size size blocks k.some k.whole;
+      prefixes = λ cpu. areas size prefixes cpu (least-size size blocks k.some k.whole) k.areas;
     }
 
 blocks-permit : (permits : Key → Bool) (keys : List ℕ) (none : Bool) (a b : ℕ) →
@@ -64,7 +83,6 @@ lent-permit permits bytes keys prefixes address count =
 pub lent-block : (size blocks : ℕ) (prefixes : List ℕ) (address count : ℕ) → IsTrue (may_be_lent size blocks prefixes) → IsTrue (count == 0 || nat_le (address + count) size) → 0 < count →
     (address + (count - 1)) / 4096 < blocks
 lent-block size blocks prefixes address count h inside some =
-    let parts = both (nat_le 16 blocks && nat_le blocks 524288) ((size == 4096 * blocks) && list_all (is_prefix size) prefixes) h in
-    let same : size ≡ 4096 * blocks = whole-blocks size blocks (both (size == 4096 * blocks) (list_all (is_prefix size) prefixes) parts.1).0 in
+    let same : size ≡ 4096 * blocks = whole-blocks size blocks (lendable size blocks prefixes h).whole in
     let within : address + count ≤ size = inside-size address count size inside some in
     omega arith

@@ -26,8 +26,11 @@ pub record IsStorage (storage : Contents) : Type 0 where
   pub cpus : length storage.prefixes ≡ 16
   pub prefixes : (cpu : ℕ) → IsPrefix (length storage.bytes) (slice_index storage.prefixes cpu)
 
--- what accesses need of storage, whoever has it: at most 2^31 bytes, among them the area that each prefix names
+-- what holds of storage, whoever has it: at most 2^31 bytes in whole blocks, each with a key, and a prefix for each CPU, which names an
+-- area of them
 pub record IsAddressable (storage : Contents) : Type 0 where
+  pub blocks : length storage.bytes ≡ 4096 * length storage.keys
+  pub cpus : length storage.prefixes ≡ 16
   pub greatest : length storage.bytes ≤ 2 ^ 31
   pub prefixes : (cpu : ℕ) → IsPrefix (length storage.bytes) (slice_index storage.prefixes cpu)
 
@@ -79,9 +82,10 @@ lent_contents bytes keys prefixes = record { bytes = bytes; keys = map key_of_by
 abbrev pub is_prefix : ℕ → ℕ → Bool
 is_prefix size prefix = (prefix % 8192 == 0) && nat_le (prefix + 8192) size
 
--- 16 to 524,288 blocks may be lent, each with its key, and an area for each prefix (own)
+-- 16 to 524,288 blocks may be lent, each with its key, and 16 prefixes, each with its area (own)
 abbrev pub may_be_lent : ℕ → ℕ → List ℕ → Bool
-may_be_lent size blocks prefixes = (nat_le 16 blocks && nat_le blocks 524288) && ((size == 4096 * blocks) && list_all (is_prefix size) prefixes)
+may_be_lent size blocks prefixes =
+    (nat_le 16 blocks && nat_le blocks 524288) && ((size == 4096 * blocks) && ((length prefixes == 16) && list_all (is_prefix size) prefixes))
 
 -- Accesses by absolute address
 

@@ -4,43 +4,50 @@ ghost use Rattle.std.specs.Prelude.{◌≡◌, ◌+◌, ◌-◌, ◌/◌, ◌==�
 ghost use Rattle.std.specs.List.{list_all};
 ghost use Rattle.storage_keys.specs.Storage as spec;
 
-use crate::BLOCK;
 use crate::key::Key;
 use crate::main_storage::MainStorage;
 use crate::operands::PREFIX_AREA;
+use crate::{BLOCK, StorageFault};
 
 /// How many blocks may be lent at most: 2,147,483,648 bytes.
 const MOST_BLOCKS: usize = 0x8_0000;
 
 /// Main storage of a host, for one call: its bytes, the key of each block of 4,096 of them as `Key::byte` shows it (bit 7 is
-/// ignored), and the prefix of each of 16 CPUs. What is stored stands in the host's bytes.
+/// ignored), and the prefix of each of 16 CPUs. What is stored stands in the host's bytes, what is set in its keys and prefixes.
 #[derive(Drop)]
 pub struct LentStorage<'a> {
     bytes: &'a mut [u8],
-    keys: &'a [u8],
-    prefixes: &'a [u32; 16],
+    keys: &'a mut [u8],
+    prefixes: &'a mut [u32],
     ghost lent: { IsTrue (spec.may_be_lent (length bytes.now) (length keys.now) prefixes.now) },
 }
 
 impl<'a> LentStorage<'a> {
     /// Whether storage of so many bytes and keys, with these prefixes, may be lent: 16 to 524,288 keys, one for each block
-    /// of 4,096 bytes, and each prefix the address of an area of 8,192 of them, on a boundary of as many.
-    pub fn fits(size: usize, keys: usize, prefixes: &[u32; 16]) -> bool
+    /// of 4,096 bytes, and 16 prefixes, each the address of an area of 8,192 bytes, on a boundary of as many.
+    pub fn fits(size: usize, keys: usize, prefixes: &[u32]) -> bool
         ensures { result ≡ spec.may_be_lent size keys prefixes.now }
     {
         16 <= keys
             && keys <= MOST_BLOCKS
             && size == BLOCK * keys
+            && prefixes.len() == 16
             && prefixes.iter().all(|prefix| is_prefix(size, *prefix))
     }
 
     /// Storage that is lent.
-    pub fn new(bytes: &'a mut [u8], keys: &'a [u8], prefixes: &'a [u32; 16]) -> LentStorage<'a>
-        requires { IsTrue (spec.may_be_lent (length bytes.old) (length keys.now) prefixes.now) }
-        ensures same_reference { result.bytes.ghost_name ≡ bytes.entry.ghost_name }
+    pub fn new(
+        bytes: &'a mut [u8],
+        keys: &'a mut [u8],
+        prefixes: &'a mut [u32],
+    ) -> LentStorage<'a>
+        requires { IsTrue (spec.may_be_lent (length bytes.old) (length keys.old) prefixes.old) }
+        ensures same_bytes { result.bytes.ghost_name ≡ bytes.entry.ghost_name }
+        ensures same_keys { result.keys.ghost_name ≡ keys.entry.ghost_name }
+        ensures same_prefixes { result.prefixes.ghost_name ≡ prefixes.entry.ghost_name }
         ensures bytes { result.bytes.now ≡ bytes.old }
-        ensures keys { result.keys.now ≡ keys.now }
-        ensures prefixes { result.prefixes.now ≡ prefixes.now }
+        ensures keys { result.keys.now ≡ keys.old }
+        ensures prefixes { result.prefixes.now ≡ prefixes.old }
     {
         LentStorage {
             bytes,
@@ -77,6 +84,21 @@ impl MainStorage for LentStorage<'_> {
         }
         let first = address as usize;
         self.bytes[first..first + bytes.len()].copy_from_slice(bytes);
+    }
+
+    fn key_at(&self, address: u32) -> Result<Key, StorageFault> {
+        match self.keys.get(address as usize / BLOCK) {
+            Some(byte) => Ok(Key::of_byte(*byte)),
+            None => Err(StorageFault::Addressing),
+        }
+    }
+
+    fn write_key(&mut self, address: u32, key: Key) {
+        self.keys[address as usize / BLOCK] = key.byte();
+    }
+
+    fn write_prefix(&mut self, cpu: u8, address: u32) {
+        self.prefixes[cpu as usize] = address;
     }
 }
 

@@ -1,5 +1,5 @@
-mod Pasts
-mod Rising
+pub mod Pasts
+pub mod Rising
 mod Answering
 mod Accepting
 mod Headlines

@@ -55,8 +55,8 @@ abbrev pub BringsOrdered : Event → Reply → Type 0
 BringsOrdered (event.Execute cpu i) r = IfSome (serials_brought (answer_in r)) IsOrdered
 BringsOrdered e r = Unit {0}
 
--- what an event came to, by the history that it left: its refusal, or the reply of the last entry
-abbrev pub answer_of : {A : Type 0} → Result A Fault → List Entry → Result Reply Fault
+-- what an event came to, by the entries that it left: its refusal, or the reply of the last entry
+abbrev pub answer_of : {A F : Type 0} → Result A F → List Entry → Result Reply F
 answer_of (Ok _) h = Ok (last_reply h)
 answer_of (Err f) h = Err f
 

@@ -21,7 +21,7 @@ ghost use Rattle.run_laws.specs.Beginnings.{IsBegunOnce};
 ghost use Rattle.chan_events.specs.declared.reply.Reply.TheVariants as reply_spec;
 ghost use Rattle.event_log.specs.Logs.{last_reply};
 
-use crate::seen::headline;
+use crate::histories::every_history;
 use crate::stepping::keep_step;
 use chan_events::event::Event;
 use chan_events::reply::Reply;
@@ -35,11 +35,7 @@ use machine::owning::MachineAndStorage;
 use machine_model::state::UnitTurn;
 use memory::{Allocator, Supply, make_room};
 use path_select::PathChoice;
-use run_laws::answers::codes;
-use run_laws::beginnings::beginnings;
-use run_laws::clearing::serials;
-use run_laws::programs::programs;
-use run_laws::states::{agreements, numbers};
+use run_laws::states::numbers;
 use scsw_irb::serials::Serials;
 use std::alloc::Global;
 use std::marker::Model;
@@ -266,21 +262,7 @@ impl<P: PathChoice + Drop> Subsystem<P> {
         ensures agree { AllAgree self.now.state }
         ensures headline { HasHeld self.now.history self.now.state }
     {
-        serials();
-        beginnings();
-        numbers();
-        agreements();
-        run_laws::states::ends();
-        run_laws::engines::engines();
-        run_laws::engines::path_states();
-        run_laws::engines::offers();
-        run_laws::engines::returns();
-        codes();
-        run_laws::answers::clearings();
-        run_laws::answers::counts();
-        run_laws::answers::resets();
-        programs();
-        headline();
+        every_history();
         let _ = &self.history;
     }
 

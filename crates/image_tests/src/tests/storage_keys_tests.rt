@@ -138,8 +138,8 @@ fn a_block_is_guarded_by_its_key(rt: HostRuntime) {
 /// What a store of two bytes by an access key comes to in storage that a host lends. None where it may not be lent.
 fn stores_in(
     bytes: &mut [u8],
-    keys: &[u8],
-    prefixes: &[u32; 16],
+    keys: &mut [u8],
+    prefixes: &mut [u32],
     key: u8,
 ) -> Option<Result<(), StorageFault>> {
     if !LentStorage::fits(bytes.len(), keys.len(), prefixes) {
@@ -149,17 +149,38 @@ fn stores_in(
     Some(lent.store(key, 0x1FFF, &[1, 2]))
 }
 
+/// Whether a key and a prefix that are set stand in what the host lent.
+fn is_set_in(bytes: &mut [u8], keys: &mut [u8], prefixes: &mut [u32]) -> bool {
+    if !LentStorage::fits(bytes.len(), keys.len(), prefixes) {
+        return false;
+    }
+    let mut lent = LentStorage::new(bytes, keys, prefixes);
+    let key_set = lent.set_key(0x2FFF, Key::of_byte(0x18));
+    let key = lent.key_at(0x2000);
+    let key_outside = lent.set_key(0x1_0000, Key::ZERO);
+    let prefix_set = lent.set_prefix(1, 0x4000);
+    let prefix = lent.prefix(1);
+    key_set == Ok(())
+        && key == Ok(Key::of_byte(0x18))
+        && key_outside == Err(ADDRESSING)
+        && prefix_set == Ok(())
+        && prefix == 0x4000
+}
+
 #[test]
 fn a_host_lends_its_bytes(rt: HostRuntime) -> Result<(), Fail> {
     let mut bytes = vec![in rt.alloc(); 0; 0x1_0000]?;
-    let keys = [0x10; 16];
-    let refused = stores_in(bytes.as_mut_slice(), &keys, &[0; 16], 2);
-    let stored = stores_in(bytes.as_mut_slice(), &keys, &[0; 16], 1);
-    let too_few_keys = stores_in(bytes.as_mut_slice(), &keys[1..], &[0; 16], 1);
-    let prefix_outside = stores_in(bytes.as_mut_slice(), &keys, &[0x1_0000; 16], 1);
+    let mut keys = [0x10; 16];
+    let mut prefixes = [0; 16];
+    let refused = stores_in(bytes.as_mut_slice(), &mut keys, &mut prefixes, 2);
+    let stored = stores_in(bytes.as_mut_slice(), &mut keys, &mut prefixes, 1);
+    let too_few_keys = stores_in(bytes.as_mut_slice(), &mut keys[1..], &mut prefixes, 1);
+    let prefix_outside = stores_in(bytes.as_mut_slice(), &mut keys, &mut [0x1_0000; 16], 1);
+    let set = is_set_in(bytes.as_mut_slice(), &mut keys, &mut prefixes);
     assert!(rt; refused == Some(Err(PROTECTION)) && stored == Some(Ok(())));
     assert!(rt; too_few_keys.is_none() && prefix_outside.is_none());
     assert!(rt; bytes.get(0x1FFE..0x2002) == Some([0, 1, 2, 0].as_slice()));
+    assert!(rt; set && keys[1..4] == [0x10, 0x18, 0x10] && prefixes[..3] == [0, 0x4000, 0]);
     Ok(())
 }
 

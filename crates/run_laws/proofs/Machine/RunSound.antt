@@ -1,5 +1,5 @@
 -- What is kept of each subchannel holds after each run.
-use Rattle.std.proofs.Common.{◌≡◌, refl, sym, subst, ℕ, suc, ◌+◌, ◌<◌, Some, List, [], ◌∷◌, length, map, arith, length-append}
+use Rattle.std.proofs.Common.{◌≡◌, refl, sym, subst, ℕ, suc, ◌+◌, ◌<◌, Bool, true, false, cond, Some, List, [], ◌∷◌, length, map, arith}
 use Rattle.std.specs.Prelude.{slice_get, All}
 use Rattle.std.specs.List.{AllZip}
 use Rattle.std.proofs.lemmas.List.Elements.{All-contains, All-map, AllZip-get_or, length_all_zip}
@@ -19,6 +19,7 @@ use Rattle.machine_model.specs.Steps.{Step, Run, Opened, Stepped}
 use Rattle.run_laws.specs.StateClaims.{IsLaterSubchannel}
 use Rattle.run_laws.proofs.Machine.Sound.{Sound, AreNumbered, later, started-sound, wholly-sound, modified-sound, effect-sound, reset_sent-sound, halt_sent-sound, made-sound, offered-sound, up-sound, lost-sound, system-sound}
 use Rattle.step_laws.specs.Walks.{AreWalks}
+use Rattle.run_laws.proofs.Machine.CountedEvents.{Spares, counted-in, every, every-counted, every-spares, one-more}
 use Rattle.run_laws.proofs.Machine.Moves.{IsKept, Changed, step-moves, sets-stay}
 
 -- one more event, above any floor
@@ -80,11 +81,25 @@ all-later n (x ∷ xs) (y ∷ ys) a z =
 opened-sound : (setups : List SubchannelSetup) → All (SoundSub 0) (map opened setups)
 opened-sound setups = All-map (SoundSub 0) opened setups (λ k d h. (omega arith, omega arith, omega arith, tt, refl, omega arith, omega arith, omega arith))
 
+-- after one step more, by whether its event is counted
+sound-after : AreWalks → AreNumbered → (counted : Event → Bool) → Spares counted → (n : ℕ) (old : State) (e : Event) (r : Reply) (new : State) → Step old e r new →
+    All (SoundSub n) old.subs → (counts : Bool) → counted e ≡ counts → All (SoundSub (n + cond counts 1 0)) new.subs
+sound-after walks numbered counted spares n old e r new step k true is =
+    all-after n old.subs new.subs (step-moves (Turns n) (turns numbered n) old e r new (walks old e r new step)).subs k
+sound-after walks numbered counted spares n old e r new step k false is =
+    subst (λ (m : ℕ). All (SoundSub m) new.subs) (let same : n ≡ n + 0 = omega arith in same)
+    (subst (λ (xs : List Subchannel). All (SoundSub n) xs) (sym (spares old e r new step is).0) k)
+
+pub run-sound-by : AreWalks → AreNumbered → (counted : Event → Bool) → Spares counted → (setup : Setup) (h : List Entry) (s : State) → Run (opening_of setup) h s →
+    All (SoundSub (counted-in counted h)) s.subs
+run-sound-by walks numbered counted spares setup _ _ Opened = opened-sound setup.subchannels
+run-sound-by walks numbered counted spares setup _ _ (Stepped h old e r new run step) =
+    subst (λ (m : ℕ). All (SoundSub m) new.subs) (sym (one-more counted h e r))
+    (sound-after walks numbered counted spares (counted-in counted h) old e r new step (run-sound-by walks numbered counted spares setup h old run) (counted e) refl)
+
 pub run-sound : AreWalks → AreNumbered → (setup : Setup) (h : List Entry) (s : State) → Run (opening_of setup) h s → All (SoundSub (length h)) s.subs
-run-sound walks numbered setup _ _ Opened = opened-sound setup.subchannels
-run-sound walks numbered setup _ _ (Stepped h old e r new run step) =
-    subst (λ m. All (SoundSub m) new.subs) (sym (length-append h (record { event = e; reply = r } ∷ [])))
-    (all-after (length h) old.subs new.subs (step-moves (Turns (length h)) (turns numbered (length h)) old e r new (walks old e r new step)).subs (run-sound walks numbered setup h old run))
+run-sound walks numbered setup h s run =
+    subst (λ (m : ℕ). All (SoundSub m) s.subs) (every-counted h) (run-sound-by walks numbered every every-spares setup h s run)
 
 -- a step after a run
 pub step-sets : AreWalks → (s : State) (e : Event) (r : Reply) (new : State) → Step s e r new → new.sets ≡ s.sets

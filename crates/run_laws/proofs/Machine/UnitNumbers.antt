@@ -1,5 +1,5 @@
 -- The numbers of each unit are at most the number of events.
-use Rattle.std.proofs.Common.{◌≡◌, sym, subst, ℕ, ◌+◌, ◌<◌, Bool, nat_lt, Option, None, Some, Result, List, [], ◌∷◌, length, map, arith, length-append}
+use Rattle.std.proofs.Common.{◌≡◌, refl, sym, subst, ℕ, ◌+◌, ◌<◌, Bool, true, false, cond, nat_lt, Option, None, Some, Result, List, [], ◌∷◌, length, map, arith}
 use Rattle.std.specs.Prelude.{slice_get, slice_set, All, IfOk}
 use Rattle.std.specs.List.{AllZip}
 use Rattle.std.proofs.lemmas.List.Elements.{All-map, AllZip-get_or, length_all_zip}
@@ -24,9 +24,10 @@ use Rattle.machine_model.specs.Results.{DownResult}
 use Rattle.subchannel_model.specs.Sending.{carried_by, finds_full}
 use Rattle.machine_model.specs.DownSteps.{down_front, down_sub}
 use Rattle.machine_model.specs.ReportSteps.{report_taken, report_sub}
-use Rattle.machine_model.specs.Steps.{Run, Opened, Stepped}
+use Rattle.machine_model.specs.Steps.{Run, Opened, Step, Stepped}
 use Rattle.machine_model.specs.Sharing.{owing}
 use Rattle.machine_model.specs.ActSteps.{has_path_of_act, acts, act_sub}
+use Rattle.run_laws.proofs.Machine.CountedEvents.{Spares, counted-in, every, every-counted, every-spares, one-more}
 use Rattle.run_laws.proofs.Machine.Moves.{if-ok, zip-same, zip-set}
 use Rattle.run_laws.proofs.Machine.UnitPlain.{IsPlain, IsPlainStep, stays, takes-plain, report-plain, act-plain, owing-plain, restart-plain}
 use Rattle.step_laws.specs.Walks as walked
@@ -105,8 +106,21 @@ units-after n xs ys z a =
 opened-units : (kinds : List UnitKind) → All (IsUnitWithin 0) (map idle_of kinds)
 opened-units kinds = All-map (IsUnitWithin 0) idle_of kinds (λ k d h. record { current = tt; connection = tt; attentions = omega arith; restarts = omega arith })
 
+-- after one step more, by whether its event is counted
+units-by : AreWalks → (counted : Event → Bool) → Spares counted → (n : ℕ) (old : State) (e : Event) (r : Reply) (new : State) → Step old e r new →
+    All (IsUnitWithin n) old.units → (counts : Bool) → counted e ≡ counts → All (IsUnitWithin (n + cond counts 1 0)) new.units
+units-by walks counted spares n old e r new step k true is = units-after n old.units new.units (units-walk old e r new (walks old e r new step)) k
+units-by walks counted spares n old e r new step k false is =
+    subst (λ (m : ℕ). All (IsUnitWithin m) new.units) (let same : n ≡ n + 0 = omega arith in same)
+    (subst (λ (xs : List UnitState). All (IsUnitWithin n) xs) (sym (spares old e r new step is).1) k)
+
+pub run-units-by : AreWalks → (counted : Event → Bool) → Spares counted → (setup : Setup) (h : List Entry) (s : State) → Run (opening_of setup) h s →
+    All (IsUnitWithin (counted-in counted h)) s.units
+run-units-by walks counted spares setup _ _ Opened = opened-units setup.units
+run-units-by walks counted spares setup _ _ (Stepped h old e r new run step) =
+    subst (λ (m : ℕ). All (IsUnitWithin m) new.units) (sym (one-more counted h e r))
+    (units-by walks counted spares (counted-in counted h) old e r new step (run-units-by walks counted spares setup h old run) (counted e) refl)
+
 pub run-units : AreWalks → (setup : Setup) (h : List Entry) (s : State) → Run (opening_of setup) h s → All (IsUnitWithin (length h)) s.units
-run-units walks setup _ _ Opened = opened-units setup.units
-run-units walks setup _ _ (Stepped h old e r new run step) =
-    subst (λ m. All (IsUnitWithin m) new.units) (sym (length-append h (record { event = e; reply = r } ∷ [])))
-    (units-after (length h) old.units new.units (units-walk old e r new (walks old e r new step)) (run-units walks setup h old run))
+run-units walks setup h s run =
+    subst (λ (m : ℕ). All (IsUnitWithin m) s.units) (every-counted h) (run-units-by walks every every-spares setup h s run)

@@ -8,7 +8,7 @@ use Rattle.event_log.proofs.logs.Log.append_kept.Goals as goal
 pub invariant_of-self : goal.invariant_of-self
 invariant_of-self c =
     let log = c.self.inside in
-    let is = c.self.invariant in
+    let is = c.self.invariant.0 in
     let kept : KeptEntry = record c.args.kept.now { start = log.start } in
     let before = written_reply (drop log.count log.entries.items) in
     let new = begun log.bytes.items (take log.count log.entries.items) log.start before is.written (ap (λ l. l.reply) c.self.view_is ∙ c.requires.fresh) in
@@ -18,7 +18,7 @@ invariant_of-self c =
 pub returns-clause-entries : goal.returns-clause-entries
 returns-clause-entries c =
     let log = c.self.inside in
-    let is = c.self.invariant in
+    let is = c.self.invariant.0 in
     let kept : KeptEntry = record c.args.kept.now { start = log.start } in
     let ks = take log.count log.entries.items in
     let before = written_reply (drop log.count log.entries.items) in

@@ -9,7 +9,7 @@ use Rattle.event_log.proofs.logs.Log.finish.Goals as goal
 pub invariant_of-self : goal.invariant_of-self
 invariant_of-self c =
     let log = c.self.inside in
-    let is = c.self.invariant in
+    let is = c.self.invariant.0 in
     let ks = take log.count log.entries.items in
     let told = written_reply (drop log.count log.entries.items) in
     let before = unfinished log.start told in
@@ -26,7 +26,7 @@ invariant_of-self c =
 pub returns-clause-entries : goal.returns-clause-entries
 returns-clause-entries c =
     let log = c.self.inside in
-    let is = c.self.invariant in
+    let is = c.self.invariant.0 in
     let ks = take log.count log.entries.items in
     let told = written_reply (drop log.count log.entries.items) in
     let before = unfinished log.start told in

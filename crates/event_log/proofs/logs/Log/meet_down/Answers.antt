@@ -14,7 +14,7 @@ returns-clause-reply c =
     let packed = c.pack_down-reply.ensures in
     let r = reply.Down (lent_down c.args.signal.now) c.args.taken (map_sent lent_up c.args.sent.now) in
     let k = c.pack_down-reply.result in
-    let is = c.self.invariant in
+    let is = c.self.invariant.0 in
     let new = begun log.bytes.items (take log.count log.entries.items) log.start (written_reply (drop log.count log.entries.items)) is.written (ap (λ l. l.reply) c.self.view_is ∙ c.requires.fresh) in
     let last = behind log.entries.items c.write.new.entries.items log.count (unfinished log.start k) is.some c.write.ensures.items in
     ap₂ (λ (ks : List KeptEntry) (xs : List ℕ). reply_in (written_reply ks) (drop log.start xs)) last.behind packed.items
@@ -25,7 +25,7 @@ returns-clause-kept c =
     let log = c.self.inside in
     let packed = c.pack_down-reply.ensures in
     let r = reply.Down (lent_down c.args.signal.now) c.args.taken (map_sent lent_up c.args.sent.now) in
-    let is = c.self.invariant in
+    let is = c.self.invariant.0 in
     let last = behind log.entries.items c.write.new.entries.items log.count (unfinished log.start c.pack_down-reply.result) is.some c.write.ensures.items in
     record {
       entries =

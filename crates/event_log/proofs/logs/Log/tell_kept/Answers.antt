@@ -7,7 +7,7 @@ use Rattle.event_log.proofs.logs.Log.tell_kept.Goals as goal
 pub returns-clause-kept : goal.returns-clause-kept
 returns-clause-kept c =
     let log = c.self.inside in
-    let is = c.self.invariant in
+    let is = c.self.invariant.0 in
     let last = behind log.entries.items c.write.new.entries.items log.count (unfinished log.start c.args.kept) is.some c.write.ensures.items in
     record {
       entries =
