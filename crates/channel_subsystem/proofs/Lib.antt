@@ -1,0 +1,4 @@
+mod StoresLead
+mod Numbers
+mod Leading
+mod Answering

@@ -52,6 +52,8 @@ pub fn keep_last<M: MainStorage, P: PathChoice + Drop>(
     ensures ruled { GoesByRule P.picks (lent machine.old (M.contents storage.old)) event.now (answer_of result log.new.entries) (lent machine.new (M.contents storage.new)) }
     ensures last { OnOk result (log.new.entries ≡ record { event = event.now; reply = last_reply log.new.entries } ∷ []) }
     ensures refused { OnErr result (log.new.entries ≡ []) }
+    ensures kept { OnErr result (machine.new ≡ machine.old) }
+    ensures unchanged { OnErr result (M.contents storage.new ≡ M.contents storage.old) }
     ensures fits { Fits indices.now machine.new.subs }
     ensures fresh { log.new.reply ≡ reply_spec.Done }
     ensures room { 1 ≤ log.new.room + length log.new.entries }
@@ -60,7 +62,9 @@ pub fn keep_last<M: MainStorage, P: PathChoice + Drop>(
 {
     numbers();
     setups();
+    machine.apart();
     let answer = machine.perform(storage, indices, choice, event, log);
+    machine.apart();
     let _ = storage.size();
     match answer {
         Ok(()) => {

@@ -1,0 +1,99 @@
+-- Histories that lead to a channel subsystem of a host, as they open and go on.
+use Rattle.std.proofs.Common.{◌≡◌, refl, sym, ◌∙◌, ap, subst, ℕ, ◌+◌, ◌*◌, ◌^◌, ◌≤◌, not, List, [], ◌∷◌, ◌++◌, length, append_assoc, arith}
+use Rattle.std.specs.Prelude.{◌/◌}
+use Rattle.std.proofs.lemmas.List.{append-nil, length-replicate}
+use Rattle.std.proofs.lemmas.List.Sums.{count_by-le-length, sum_by-append}
+use Rattle.storage_keys.specs.Storage.{Contents, IsAddressable, cleared_storage}
+use Rattle.chan_events.specs.Events.{Event}
+use Rattle.chan_events.specs.declared.reply.Entry.{Entry}
+use Rattle.chan_events.specs.Replies.{Reply}
+use Rattle.channel_config.proofs.Keeping.{lawful-storage}
+use Rattle.channel_config.specs.Lawful.{IsLawful, hosted}
+use Rattle.channel_config.specs.Setup.{Setup}
+use Rattle.machine.specs.Lent.{lent, no_storage}
+use Rattle.machine_model.specs.Setups.{IsSetUp}
+use Rattle.machine_model.specs.State.{State, opening_of}
+use Rattle.machine_model.specs.Steps.{HasRun, Step}
+use Rattle.run_laws.specs.Stores.{besides_stores, is_store}
+use Rattle.subsystem.proofs.Pasts.{KeepsSetUps, past-more, past-opens, past-set_up}
+use Rattle.channel_subsystem.specs.Hosting.{HasLed, HasNumber, Hosted, IsOfSize, Leads}
+use Rattle.channel_subsystem.specs.Stores.{stores}
+use Rattle.channel_subsystem.proofs.StoresLead.{IsAsLarge, as_one, stores-lead, stores-uncounted}
+
+-- storage that is whole blocks is of a size, or not, by its bytes
+pub of-size : (blocks : ℕ) (storage : Contents) → IsAddressable storage → length storage.bytes / 4096 ≡ blocks → IsOfSize blocks storage
+of-size blocks storage sound same = record { bytes = omega (arith, sound.blocks, same); keys = omega (arith, sound.blocks, same); cpus = sound.cpus }
+
+-- contents of one size are as large
+large : (blocks : ℕ) (old new : Contents) → IsOfSize blocks old → IsOfSize blocks new → IsAsLarge old new
+large blocks old new a b = record { bytes = a.bytes ∙ sym b.bytes; keys = a.keys ∙ sym b.keys; prefixes = a.cpus ∙ sym b.cpus }
+
+-- what was stored since it was led to, with no other entry
+pub led-stored : KeepsSetUps → (s : Hosted) (before : Contents) → IsOfSize s.blocks before → IsAddressable before → (h : List Entry) (storage : Contents) → Leads h s storage →
+    Leads (h ++ stores before) s before
+led-stored keeps s before size sound h storage k = record {
+  run = stores-lead keeps h s.machine storage before (large s.blocks storage before k.size size) sound k.run;
+  size = size;
+  counted = omega (arith, k.counted, sum_by-append as_one h (stores before), stores-uncounted before);
+}
+
+-- by a step from there
+step-size : KeepsSetUps → (blocks : ℕ) (old new : State) (before after : Contents) (h : List Entry) (e : Event) (r : Reply) → HasRun h (lent old before) →
+    Step (lent old before) e r (lent new after) → IsOfSize blocks before → IsAddressable after → IsOfSize blocks after
+step-size keeps blocks old new before after h e r run step size sound =
+    let setup : Setup = run.0.0 in
+    let up : IsSetUp setup (lent old before) = run.0.1 in
+    let stays : IsSetUp setup (lent new after) = keeps setup (lent old before) e r (lent new after) step up in
+    let keys : length after.keys ≡ blocks = stays.blocks ∙ (sym up.blocks ∙ size.keys) in
+    record { bytes = sound.blocks ∙ ap (λ (n : ℕ). 4096 * n) keys; keys = keys; cpus = sound.cpus }
+
+pub led-further : KeepsSetUps → (old new : Hosted) (before after : Contents) (e : Event) (r : Reply) → new.last ≡ record { event = e; reply = r } ∷ [] → new.count ≡ old.count + 1 →
+    new.blocks ≡ old.blocks → Step (lent old.machine before) e r (lent new.machine after) → IsAddressable before → IsAddressable after →
+    IsOfSize old.blocks before → (h : List Entry) (storage : Contents) → Leads h old storage → Leads (h ++ (stores before ++ new.last)) new after
+led-further keeps old new before after e r last count blocks step sound further size h storage k =
+    let entry : List Entry = record { event = e; reply = r } ∷ [] in
+    let there = led-stored keeps old before size sound h storage k in
+    let more : HasRun ((h ++ stores before) ++ entry) (lent new.machine after) =
+    past-more keeps (h ++ stores before) ((h ++ stores before) ++ entry) (lent old.machine before) (lent new.machine after) e r there.run step refl in
+    let same : (h ++ stores before) ++ entry ≡ h ++ (stores before ++ new.last) =
+    append_assoc h (stores before) entry ∙ ap (λ (l : List Entry). h ++ (stores before ++ l)) (sym last) in
+    let counts : besides_stores ((h ++ stores before) ++ entry) ≤ old.count + 1 =
+    omega (arith, there.counted, sum_by-append as_one (h ++ stores before) entry, count_by-le-length (λ (x : Entry). not (is_store x.event)) entry) in
+    record {
+      run = subst (λ (l : List Entry). HasRun l (lent new.machine after)) same more;
+      size = subst (λ (n : ℕ). IsOfSize n after) (sym blocks) (step-size keeps old.blocks old.machine new.machine before after (h ++ stores before) e r there.run step size further);
+      counted = subst (λ (n : ℕ). besides_stores (h ++ (stores before ++ new.last)) ≤ n) (sym count) (subst (λ (l : List Entry). besides_stores l ≤ old.count + 1) same counts);
+    }
+
+-- and by a call that was refused
+pub led-still : KeepsSetUps → (old : Hosted) (before : Contents) → IsAddressable before → IsOfSize old.blocks before → (h : List Entry) (storage : Contents) → Leads h old storage →
+    Leads (h ++ (stores before ++ [])) (record old { last = [] }) before
+led-still keeps old before sound size h storage k =
+    let there = led-stored keeps old before size sound h storage k in
+    subst (λ (l : List Entry). Leads (h ++ l) (record old { last = [] }) before) (sym (append-nil (stores before)))
+    (record { run = there.run; size = there.size; counted = there.counted })
+
+-- at the opening
+pub led-opens : (setup : Setup) (blocks : ℕ) (s : Hosted) → IsLawful setup → 16 ≤ blocks → s.machine ≡ lent (opening_of setup) no_storage → s.blocks ≡ blocks →
+    Leads [] s (cleared_storage blocks)
+led-opens setup blocks s lawful least opened same = record {
+  run = past-opens (hosted setup blocks) [] (lent s.machine (cleared_storage blocks)) (lawful-storage setup blocks least lawful) refl
+      (ap (λ (m : State). lent m (cleared_storage blocks)) opened);
+  size = record {
+    bytes = length-replicate (4096 * blocks) 0 ∙ ap (λ (n : ℕ). 4096 * n) (sym same);
+    keys = length-replicate blocks _ ∙ sym same;
+    cpus = length-replicate 16 0;
+  };
+  counted = omega arith;
+}
+
+pub set_up-opens : (setup : Setup) (blocks : ℕ) (machine : State) → IsLawful setup → 16 ≤ blocks → machine ≡ lent (opening_of setup) no_storage →
+    IsSetUp (hosted setup blocks) (lent machine (cleared_storage blocks))
+set_up-opens setup blocks machine lawful least opened =
+    past-set_up (hosted setup blocks) (lent machine (cleared_storage blocks)) (lawful-storage setup blocks least lawful)
+    (ap (λ (m : State). lent m (cleared_storage blocks)) opened)
+
+-- there is a number for another event
+pub led-number : KeepsSetUps → (s : Hosted) (before : Contents) → IsOfSize s.blocks before → IsAddressable before → s.count + 1 ≤ 2 ^ 62 → HasLed s → HasNumber (lent s.machine before)
+led-number keeps s before size sound few (h, (storage, k)) =
+    let there = led-stored keeps s before size sound h storage k in (h ++ stores before, (there.run, omega (arith, there.counted, few)))
