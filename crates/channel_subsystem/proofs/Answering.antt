@@ -13,7 +13,7 @@ use Rattle.path_select.specs.Choice.{Rule}
 use Rattle.subsystem.specs.Keeping.{BringsOrdered, Rises, all_serials}
 use Rattle.subsystem.proofs.Pasts.{KeepsSetUps, performed-set_up}
 use Rattle.subsystem.proofs.Rising.{GoesByTable, StandsPending, StepsLater, performed-brings, performed-rises, same-rises}
-use Rattle.channel_subsystem.specs.Hosting.{HasNumber, Hosted, IsHostRefusal, IsHostStep, machine_answer}
+use Rattle.channel_subsystem.specs.Hosting.{HasNumber, Hosted, IsHostRefusal, IsHostStep, IsOfSize, machine_answer}
 use Rattle.channel_subsystem.specs.declared.host_fault.HostFault.{HostFault}
 use Rattle.channel_subsystem.specs.declared.host_fault.HostFault.TheVariants as fault
 use Rattle.channel_subsystem.proofs.Leading.{led-further, led-still}
@@ -28,12 +28,13 @@ pub record HasLaws : Type 0 where
 -- the machine performed the event
 pub accepted : HasLaws → (picks : Rule) (old new : Hosted) (before after : Contents) (e : Event) (r : Reply) → HasNumber (lent old.machine before) →
     Performs (lent old.machine before) e (Ok r) (lent new.machine after) → GoesByRule picks (lent old.machine before) e (Ok r) (lent new.machine after) →
-    new.last ≡ record { event = e; reply = r } ∷ [] → new.count ≡ old.count + 1 → new.blocks ≡ old.blocks → IsAddressable before → IsAddressable after →
-    IsHostStep picks old before e (Ok r) new after
-accepted laws picks old new before after e r (h, (run, few)) step ruled last count blocks sound further = record {
+    new.last ≡ record { event = e; reply = r } ∷ [] → new.count ≡ old.count + 1 → new.blocks ≡ old.blocks → IsOfSize old.blocks before →
+    IsAddressable before → IsAddressable after → IsHostStep picks old before e (Ok r) new after
+accepted laws picks old new before after e r (h, (run, few)) step ruled last count blocks size sound further = record {
   step = step;
   last = last;
   count = count;
+  size = size;
   blocks = blocks;
   ruled = ruled;
   refused = tt;
@@ -55,6 +56,7 @@ unmoved keeps picks old new before after e f same storage sound why ruled =
       step = tt;
       last = tt;
       count = tt;
+      size = tt;
       blocks = refl;
       ruled = ruled;
       refused = (refl, refl);

@@ -24,6 +24,9 @@ use Rattle.channel_subsystem.proofs.StoresLead.{IsAsLarge, as_one, stores-lead, 
 pub of-size : (blocks : ℕ) (storage : Contents) → IsAddressable storage → length storage.bytes / 4096 ≡ blocks → IsOfSize blocks storage
 of-size blocks storage sound same = record { bytes = omega (arith, sound.blocks, same); keys = omega (arith, sound.blocks, same); cpus = sound.cpus }
 
+pub not-of-size : (blocks : ℕ) (storage : Contents) → ¬ (length storage.bytes / 4096 ≡ blocks) → ¬ IsOfSize blocks storage
+not-of-size blocks storage other k = other (let same : length storage.bytes ≡ 4096 * blocks = k.bytes in omega arith)
+
 -- contents of one size are as large
 large : (blocks : ℕ) (old new : Contents) → IsOfSize blocks old → IsOfSize blocks new → IsAsLarge old new
 large blocks old new a b = record { bytes = a.bytes ∙ sym b.bytes; keys = a.keys ∙ sym b.keys; prefixes = a.cpus ∙ sym b.cpus }

@@ -1,4 +1,5 @@
 mod StoresLead
 mod Numbers
 mod Leading
+mod LastEntry
 mod Answering

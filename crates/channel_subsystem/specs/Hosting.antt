@@ -66,6 +66,7 @@ pub record IsHostStep (picks : Rule) (old : Hosted) (before : Contents) (e : Eve
   pub step : IfOk answer (λ reply. Step (lent old.machine before) e reply (lent new.machine after))
   pub last : IfOk answer (λ reply. new.last ≡ record { event = e; reply = reply } ∷ [])
   pub count : OnOk answer (new.count ≡ old.count + 1)
+  pub size : OnOk answer (IsOfSize old.blocks before)
   pub blocks : new.blocks ≡ old.blocks
   -- a path is chosen by the rule
   pub ruled : IfSome (machine_answer answer) (λ a. GoesByRule picks (lent old.machine before) e a (lent new.machine after))
