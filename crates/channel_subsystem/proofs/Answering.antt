@@ -30,7 +30,7 @@ pub accepted : HasLaws → (picks : Rule) (old new : Hosted) (before after : Con
     Performs (lent old.machine before) e (Ok r) (lent new.machine after) → GoesByRule picks (lent old.machine before) e (Ok r) (lent new.machine after) →
     new.last ≡ record { event = e; reply = r } ∷ [] → new.count ≡ old.count + 1 → new.blocks ≡ old.blocks → IsOfSize old.blocks before →
     IsAddressable before → IsAddressable after → IsHostStep picks old before e (Ok r) new after
-accepted laws picks old new before after e r (h, (run, few)) step ruled last count blocks size sound further = record {
+accepted laws picks old new before after e r (h, run, few) step ruled last count blocks size sound further = record {
   step = step;
   last = last;
   count = count;

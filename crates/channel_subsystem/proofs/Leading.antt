@@ -1,8 +1,7 @@
 -- Histories that lead to a channel subsystem of a host, as they open and go on.
-use Rattle.std.proofs.Common.{◌≡◌, refl, sym, ◌∙◌, ap, subst, ℕ, ◌+◌, ◌*◌, ◌^◌, ◌≤◌, not, List, [], ◌∷◌, ◌++◌, length, append_assoc, arith}
-use Rattle.std.specs.Prelude.{◌/◌}
+use Rattle.std.proofs.Common.{◌≡◌, refl, sym, ◌∙◌, ap, subst, ℕ, ◌+◌, ◌*◌, ◌/◌, ◌^◌, ◌≤◌, not, List, [], ◌∷◌, ◌++◌, length, append_assoc, arith}
 use Rattle.std.proofs.lemmas.List.{append-nil, length-replicate}
-use Rattle.std.proofs.lemmas.List.Sums.{count_by-le-length, sum_by-append}
+use Rattle.std.proofs.lemmas.List.Sums.{count_by-le-length}
 use Rattle.storage_keys.specs.Storage.{Contents, IsAddressable, cleared_storage}
 use Rattle.chan_events.specs.Events.{Event}
 use Rattle.chan_events.specs.declared.reply.Entry.{Entry}
@@ -18,7 +17,7 @@ use Rattle.run_laws.specs.Stores.{besides_stores, is_store}
 use Rattle.subsystem.proofs.Pasts.{KeepsSetUps, past-more, past-opens, past-set_up}
 use Rattle.channel_subsystem.specs.Hosting.{HasLed, HasNumber, Hosted, IsOfSize, Leads}
 use Rattle.channel_subsystem.specs.Stores.{stores}
-use Rattle.channel_subsystem.proofs.StoresLead.{IsAsLarge, as_one, stores-lead, stores-uncounted}
+use Rattle.channel_subsystem.proofs.StoresLead.{IsAsLarge, besides-append, stores-lead, stores-uncounted}
 
 -- storage that is whole blocks is of a size, or not, by its bytes
 pub of-size : (blocks : ℕ) (storage : Contents) → IsAddressable storage → length storage.bytes / 4096 ≡ blocks → IsOfSize blocks storage
@@ -37,7 +36,7 @@ pub led-stored : KeepsSetUps → (s : Hosted) (before : Contents) → IsOfSize s
 led-stored keeps s before size sound h storage k = record {
   run = stores-lead keeps h s.machine storage before (large s.blocks storage before k.size size) sound k.run;
   size = size;
-  counted = omega (arith, k.counted, sum_by-append as_one h (stores before), stores-uncounted before);
+  counted = omega (arith, k.counted, besides-append h (stores before), stores-uncounted before);
 }
 
 -- by a step from there
@@ -60,8 +59,9 @@ led-further keeps old new before after e r last count blocks step sound further 
     past-more keeps (h ++ stores before) ((h ++ stores before) ++ entry) (lent old.machine before) (lent new.machine after) e r there.run step refl in
     let same : (h ++ stores before) ++ entry ≡ h ++ (stores before ++ new.last) =
     append_assoc h (stores before) entry ∙ ap (λ (l : List Entry). h ++ (stores before ++ l)) (sym last) in
+    let single : besides_stores entry ≤ 1 = count_by-le-length (λ (x : Entry). not (is_store x.event)) entry in
     let counts : besides_stores ((h ++ stores before) ++ entry) ≤ old.count + 1 =
-    omega (arith, there.counted, sum_by-append as_one (h ++ stores before) entry, count_by-le-length (λ (x : Entry). not (is_store x.event)) entry) in
+    omega (arith, there.counted, besides-append (h ++ stores before) entry, single) in
     record {
       run = subst (λ (l : List Entry). HasRun l (lent new.machine after)) same more;
       size = subst (λ (n : ℕ). IsOfSize n after) (sym blocks) (step-size keeps old.blocks old.machine new.machine before after (h ++ stores before) e r there.run step size further);
@@ -87,7 +87,7 @@ led-opens setup blocks s lawful least opened same = record {
     keys = length-replicate blocks _ ∙ sym same;
     cpus = length-replicate 16 0;
   };
-  counted = omega arith;
+  counted = let none : besides_stores [] ≡ 0 = refl in omega (arith, none);
 }
 
 pub set_up-opens : (setup : Setup) (blocks : ℕ) (machine : State) → IsLawful setup → 16 ≤ blocks → machine ≡ lent (opening_of setup) no_storage →
@@ -98,5 +98,5 @@ set_up-opens setup blocks machine lawful least opened =
 
 -- there is a number for another event
 pub led-number : KeepsSetUps → (s : Hosted) (before : Contents) → IsOfSize s.blocks before → IsAddressable before → s.count + 1 ≤ 2 ^ 62 → HasLed s → HasNumber (lent s.machine before)
-led-number keeps s before size sound few (h, (storage, k)) =
-    let there = led-stored keeps s before size sound h storage k in (h ++ stores before, (there.run, omega (arith, there.counted, few)))
+led-number keeps s before size sound few (h, storage, k) =
+    let there = led-stored keeps s before size sound h storage k in (h ++ stores before, there.run, omega (arith, there.counted, few))

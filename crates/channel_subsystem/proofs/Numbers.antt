@@ -52,10 +52,10 @@ unit-more n few u k = record {
 }
 
 pub subs-count : ((setup : Setup) (h : List Entry) (s : State) → Run (opening_of setup) h s → All (IsWithin (besides_stores h)) s.subs) → (s : State) → HasNumber s → All CanCount s.subs
-subs-count law s (h, (run, few)) =
+subs-count law s (h, run, few) =
     All-weaker (IsWithin (besides_stores h)) CanCount (sub-more (besides_stores h) (omega (arith, few))) s.subs (law run.0.0 h s (run.1 run.0.0 run.0.1))
 
 pub units-count : ((setup : Setup) (h : List Entry) (s : State) → Run (opening_of setup) h s → All (IsUnitWithin (besides_stores h)) s.units) → (s : State) → HasNumber s →
     All CanUnitCount s.units
-units-count law s (h, (run, few)) =
+units-count law s (h, run, few) =
     All-weaker (IsUnitWithin (besides_stores h)) CanUnitCount (unit-more (besides_stores h) (omega (arith, few))) s.units (law run.0.0 h s (run.1 run.0.0 run.0.1))

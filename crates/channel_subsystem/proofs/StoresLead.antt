@@ -22,7 +22,7 @@ use Rattle.subsystem.proofs.Pasts.{KeepsSetUps, past-more}
 use Rattle.channel_subsystem.specs.Stores.{done, done_each, put_byte, set_key_of, set_prefix_of, stores}
 
 -- what each item needs, by its number
-AllFit : {A : Type 0} → (ℕ → A → Type 0) → ℕ → List A → Type 0
+abbrev AllFit : {A : Type 0} → (ℕ → A → Type 0) → ℕ → List A → Type 0
 AllFit Fits first [] = Unit {0}
 AllFit Fits first (item ∷ items) = Fits first item × AllFit Fits (first + 1) items
 
@@ -151,13 +151,13 @@ stores-lead keeps h m old new large sound run =
     subst (λ (k : List Entry). HasRun k (lent m new)) (append_assoc (h ++ puts) sets names ∙ append_assoc h puts (sets ++ names)) three
 
 -- stores are not counted
-abbrev as_one : Entry → ℕ
-as_one entry = cond (not (is_store entry.event)) 1 0
+pub besides-append : (h later : List Entry) → besides_stores (h ++ later) ≡ besides_stores h + besides_stores later
+besides-append h later = sum_by-append (λ (entry : Entry). cond (not (is_store entry.event)) 1 0) h later
 
 none-counted : {A : Type 0} (of : ℕ → A → Event) → ((n : ℕ) (x : A) → is_store (of n x) ≡ true) → (n : ℕ) (xs : List A) → besides_stores (done_each of n xs) ≡ 0
 none-counted of is n [] = refl
 none-counted of is n (x ∷ xs) =
-    sum_by-cons as_one (done (of n x)) (done_each of (n + 1) xs)
+    sum_by-cons (λ (entry : Entry). cond (not (is_store entry.event)) 1 0) (done (of n x)) (done_each of (n + 1) xs)
     ∙ ap₂ (λ (b : Bool) (k : ℕ). cond (not b) 1 0 + k) (is n x) (none-counted of is (n + 1) xs)
 
 pub stores-uncounted : (storage : Contents) → besides_stores (stores storage) ≡ 0
@@ -165,7 +165,6 @@ stores-uncounted storage =
     let puts = done_each put_byte 0 storage.bytes in
     let sets = done_each set_key_of 0 storage.keys in
     let names = done_each set_prefix_of 0 storage.prefixes in
-    let a : besides_stores puts ≡ 0 = none-counted put_byte (λ n x. refl) 0 storage.bytes in
-    let b : besides_stores sets ≡ 0 = none-counted set_key_of (λ n x. refl) 0 storage.keys in
-    let c : besides_stores names ≡ 0 = none-counted set_prefix_of (λ n x. refl) 0 storage.prefixes in
-    sum_by-append as_one puts (sets ++ names) ∙ ap (λ (n : ℕ). besides_stores puts + n) (sum_by-append as_one sets names) ∙ omega (arith, a, b, c)
+    besides-append puts (sets ++ names)
+    ∙ ap₂ (λ (a b : ℕ). a + b) (none-counted put_byte (λ n x. refl) 0 storage.bytes)
+    (besides-append sets names ∙ ap₂ (λ (a b : ℕ). a + b) (none-counted set_key_of (λ n x. refl) 0 storage.keys) (none-counted set_prefix_of (λ n x. refl) 0 storage.prefixes))

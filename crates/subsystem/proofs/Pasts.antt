@@ -77,7 +77,7 @@ pub past-set_up : (setup : Setup) (s : State) → IsLawful setup → s ≡ openi
 past-set_up setup s lawful opened = subst (λ (x : State). IsSetUp setup x) (sym opened) (opening-set_up setup lawful)
 
 -- no step changes how a machine is set up
-abbrev KeepsSetUps : Type 0
+abbrev pub KeepsSetUps : Type 0
 KeepsSetUps = (setup : Setup) (s : State) (e : Event) (r : Reply) (new : State) → Step s e r new → IsSetUp setup s → IsSetUp setup new
 
 pub performed-set_up : KeepsSetUps → (old : State) (e : Event) (a : Result Reply Fault) (new : State) → Performs old e a new → StaysSetUp old new

@@ -27,13 +27,13 @@ use Rattle.step_laws.specs.Codes.{code_by}
 use Rattle.subsystem.specs.Keeping.{BringsOrdered, IsOrdered, Rises, all_serials, serials_brought}
 
 -- what the laws say of runs
-abbrev StepsLater : Type 0
+abbrev pub StepsLater : Type 0
 StepsLater = (setup : Setup) (h : List Entry) (s : State) (e : Event) (r : Reply) (new : State) → Run (opening_of setup) h s → Step s e r new → AllZip IsLaterSubchannel s.subs new.subs
 
-abbrev StandsPending : Type 0
+abbrev pub StandsPending : Type 0
 StandsPending = (setup : Setup) (h : List Entry) (s : State) → Run (opening_of setup) h s → All IsPendingUncleared s.subs
 
-abbrev GoesByTable : Type 0
+abbrev pub GoesByTable : Type 0
 GoesByTable = (s : State) (e : Event) (r : Reply) (new : State) → Step s e r new → IsByTable s e r new
 
 -- no step lowers a serial
