@@ -1,4 +1,5 @@
 pub mod SubchannelWords
+pub mod Choices
 pub mod Setup
 pub mod Lawful
 pub mod Refusing

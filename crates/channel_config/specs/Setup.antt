@@ -7,13 +7,18 @@ use Rattle.chan_model.specs.declared.names.Side.TheVariants.{First, Second}
 use Rattle.channel_config.specs.declared.config.ConfigRule.{ConfigRule}
 use Rattle.channel_config.specs.declared.config.ConfigRule.TheVariants.{StorageSize, ChannelPath, UnitNumber, UnitOfSubchannel, PathsOfSubchannel, SharedUnit, SubchannelName, Sets}
 use Rattle.channel_config.specs.declared.names.SubchannelId.{SubchannelId}
+use Rattle.channel_config.specs.declared.parts.ConcurrentSense.{ConcurrentSense}
+use Rattle.channel_config.specs.declared.parts.ConcurrentSense.TheVariants.{Dropped}
+use Rattle.channel_config.specs.declared.parts.PathReturn.{PathReturn}
+use Rattle.channel_config.specs.declared.parts.PathReturn.TheVariants.{Available}
 use Rattle.channel_config.specs.declared.parts.UnitKind.{UnitKind}
 use Rattle.channel_config.specs.declared.parts.SubchannelSetup.{SubchannelSetup}
 use Rattle.channel_config.specs.SubchannelWords.{subchannel_named}
 
 -- what was said so far: how many blocks of 4,096 bytes storage has, how many sets of subchannels there are, the
 -- identifiers of the channel paths, the units and the subchannels in their order; and of each unit the group of units that
--- it shares a control unit with, where it shares one
+-- it shares a control unit with, where it shares one; what MODIFY SUBCHANNEL does with the concurrent-sense bit of the subchannels
+-- that are still to come, and how a channel path that is back is reported
 pub record Setup : Type 0 where
   pub blocks : Option ℕ
   pub sets : Option ℕ
@@ -21,9 +26,11 @@ pub record Setup : Type 0 where
   pub units : List UnitKind
   pub shared : List (Option ℕ)
   pub subchannels : List SubchannelSetup
+  pub concurrent_sense : ConcurrentSense
+  pub path_return : PathReturn
 
 abbrev pub no_setup : Setup
-no_setup = record { blocks = None; sets = None; paths = []; units = []; shared = []; subchannels = [] }
+no_setup = record { blocks = None; sets = None; paths = []; units = []; shared = []; subchannels = []; concurrent_sense = Dropped; path_return = Available }
 
 -- one set where nothing is said
 abbrev pub set_count : Setup → ℕ
@@ -36,6 +43,13 @@ with_storage s blocks = if is_some s.blocks || (nat_lt blocks 0x10 || nat_lt 0x1
 -- Sets: the sets are given twice, or after a subchannel, or are not 1 to 4
 abbrev pub with_sets : Setup → ℕ → Result Setup ConfigRule
 with_sets s sets = if is_some s.sets || (nat_lt 0 (length s.subchannels) || (nat_lt sets 1 || nat_lt 4 sets)) then Err Sets else Ok (record s { sets = Some sets })
+
+-- what SA22-7832 leaves to the model is as it was said last: of concurrent sense it counts for the subchannels that come after it
+abbrev pub with_concurrent_sense : Setup → ConcurrentSense → Setup
+with_concurrent_sense s choice = record s { concurrent_sense = choice }
+
+abbrev pub with_path_return : Setup → PathReturn → Setup
+with_path_return s choice = record s { path_return = choice }
 
 abbrev pub has_number : List ℕ → ℕ → Bool
 has_number numbers n = list_any (λ m. m == n) numbers
@@ -117,4 +131,4 @@ with_subchannel s word device unit paths =
     or_rule SubchannelName (if nat_lt 0xFFFF device then None else next_subchannel s word) (λ id.
     or_rule UnitOfSubchannel (side_left s unit) (λ side.
     if not (are_paths s.paths paths) then Err PathsOfSubchannel
-    else Ok (record s { subchannels = s.subchannels ++ (record { id = id; device = device; unit = unit; side = side; paths = paths }) ∷ [] })))
+    else Ok (record s { subchannels = s.subchannels ++ (record { id = id; device = device; unit = unit; side = side; paths = paths; concurrent_sense = s.concurrent_sense }) ∷ [] })))

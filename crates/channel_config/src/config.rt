@@ -8,7 +8,7 @@ ghost use Rattle.channel_config.specs.Numbers.{AreSmall};
 ghost use Rattle.channel_config.specs.declared.config.ConfigFault.TheVariants as config_fault;
 
 use crate::names::{SubchannelId, subchannel_named};
-use crate::parts::{ChpidList, SubchannelSetup, UnitKind};
+use crate::parts::{ChpidList, ConcurrentSense, PathReturn, SubchannelSetup, UnitKind};
 use chan_model::names::Side;
 use memory::{Allocator, Supply, make_room, push};
 use std::alloc::{AllocError, Global};
@@ -66,6 +66,8 @@ pub struct Config {
     units: Vec<UnitKind>,
     shared: Vec<Option<u16>>,
     subchannels: Vec<SubchannelSetup>,
+    concurrent_sense: ConcurrentSense,
+    path_return: PathReturn,
 }
 
 impl Model for Config {
@@ -75,10 +77,10 @@ impl Model for Config {
 
     ghost use Rattle.channel_config.specs.Lawful.{IsLawful, MayOwn};
 
-    ghost view = { λ c. record { blocks = c.blocks; sets = c.sets; paths = c.paths.items; units = c.units.items; shared = c.shared.items; subchannels = c.subchannels.items } };
+    ghost view = { λ c. record { blocks = c.blocks; sets = c.sets; paths = c.paths.items; units = c.units.items; shared = c.shared.items; subchannels = c.subchannels.items; concurrent_sense = c.concurrent_sense; path_return = c.path_return } };
 
     ghost invariant = { λ c.
-        let s : Setup = record { blocks = c.blocks; sets = c.sets; paths = c.paths.items; units = c.units.items; shared = c.shared.items; subchannels = c.subchannels.items } in
+        let s : Setup = record { blocks = c.blocks; sets = c.sets; paths = c.paths.items; units = c.units.items; shared = c.shared.items; subchannels = c.subchannels.items; concurrent_sense = c.concurrent_sense; path_return = c.path_return } in
         IsLawful s × MayOwn s };
 }
 
@@ -96,6 +98,8 @@ impl Config {
             units: Vec::new(alloc),
             shared: Vec::new(alloc),
             subchannels: Vec::new(alloc),
+            concurrent_sense: ConcurrentSense::Dropped,
+            path_return: PathReturn::Available,
         }
     }
 
@@ -122,6 +126,22 @@ impl Config {
         }
         self.sets = Some(sets as u8);
         Ok(())
+    }
+
+    /// What MODIFY SUBCHANNEL does with the concurrent-sense bit of the subchannels that are configured after this, until it is
+    /// said again; where nothing is said it drops it. It is never refused.
+    pub fn set_concurrent_sense(&mut self, choice: ConcurrentSense)
+        ensures { self.new ≡ spec.with_concurrent_sense self.old choice }
+    {
+        self.concurrent_sense = choice;
+    }
+
+    /// How a channel path that is back is reported, as it was said last; where nothing is said it is available. It is never
+    /// refused.
+    pub fn set_path_return(&mut self, choice: PathReturn)
+        ensures { self.new ≡ spec.with_path_return self.old choice }
+    {
+        self.path_return = choice;
     }
 
     /// The same as `path_with`, in what room the allocator has.
@@ -205,6 +225,8 @@ impl Config {
     /// above FF (hexadecimal), or the device number is above FFFF. `UnitOfSubchannel` is broken: the unit is unknown, or two
     /// subchannels use it already. `PathsOfSubchannel` is broken: a path is unknown or given twice, or there are none or more
     /// than eight.
+    ///
+    /// What MODIFY SUBCHANNEL does with its concurrent-sense bit is what was said last.
     pub fn subchannel_with<S: Supply>(
         &mut self,
         supply: &mut S,
@@ -235,6 +257,7 @@ impl Config {
             unit: unit as u16,
             side,
             paths,
+            concurrent_sense: self.concurrent_sense,
         };
         push(supply, &mut self.subchannels, setup)?;
         Ok(())
@@ -285,6 +308,13 @@ impl Config {
         ensures range { (1 ≤ result) × (result ≤ 4) }
     {
         self.sets.unwrap_or(1)
+    }
+
+    /// How a channel path that is back is reported.
+    pub fn path_return(&self) -> PathReturn
+        ensures { result ≡ self.now.path_return }
+    {
+        self.path_return
     }
 
     /// The identifiers of the channel paths, in the order of their lines.

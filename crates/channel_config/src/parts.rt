@@ -1,10 +1,12 @@
 //! What a machine is set up of.
 
 ghost use Rattle.std.specs.Prelude.{◌≡◌, ◌≤◌, [], ◌∷◌, ◌++◌, ◌<◌, length};
+ghost use Rattle.channel_config.specs.Choices as spec;
 
 use crate::names::SubchannelId;
 use arrayvec::ArrayVec;
 use chan_model::names::Side;
+use scsw_irb::crw::PathReport;
 use std::marker::Model;
 
 /// What kind of device a unit is.
@@ -16,6 +18,48 @@ pub enum UnitKind {
     Console,
     /// Rejects every command (own).
     Rejecting,
+}
+
+/// What MODIFY SUBCHANNEL does with the concurrent-sense bit, bit 31 of word 6 of the path-management-control word (SA22-7832,
+/// chapters 14 and 15, leaves it to the model). Sense is never concurrent here: the extended-control word of an
+/// interruption-response block is zero either way.
+#[derive(Clone, Copy, Debug, PartialEq, Eq)]
+pub enum ConcurrentSense {
+    /// The bit of the given word is dropped: STORE SUBCHANNEL shows zero.
+    Dropped,
+    /// The bit of the given word is kept: STORE SUBCHANNEL shows it, until it is modified again or the subsystem is reset.
+    Kept,
+}
+
+impl ConcurrentSense {
+    /// Whether the bit is kept.
+    pub fn is_kept(self) -> bool
+        ensures { result ≡ spec.is_kept self }
+    {
+        matches!(self, ConcurrentSense::Kept)
+    }
+}
+
+/// How a channel path that is back is reported: by which error-recovery code, bits 10 to 15 of the channel-report word
+/// (SA22-7832, chapter 17, leaves it to the model).
+#[derive(Clone, Copy, Debug, PartialEq, Eq)]
+pub enum PathReturn {
+    /// As available: code 01.
+    Available,
+    /// As initialized: code 02.
+    Initialized,
+}
+
+impl PathReturn {
+    /// What is reported of a path that is back.
+    pub fn report(self) -> PathReport
+        ensures { result ≡ spec.back_report self }
+    {
+        match self {
+            PathReturn::Available => PathReport::Back,
+            PathReturn::Initialized => PathReport::Initialized,
+        }
+    }
 }
 
 /// The channel-path identifiers (CHPIDs) of a subchannel, by path index: at most eight (SA22-7832, chapter 13).
@@ -79,6 +123,8 @@ pub struct SubchannelSetup {
     /// Which side of the unit it reaches: the first subchannel of a unit reaches its first side (own).
     pub side: Side,
     pub paths: ChpidList,
+    /// What MODIFY SUBCHANNEL does here with the concurrent-sense bit.
+    pub concurrent_sense: ConcurrentSense,
 }
 
 impl SubchannelSetup {
@@ -92,6 +138,7 @@ impl SubchannelSetup {
             unit: self.unit,
             side: self.side,
             paths: self.paths.copy(),
+            concurrent_sense: self.concurrent_sense,
         }
     }
 }

@@ -165,13 +165,6 @@ impl Reports {
         self.add(PathReport::Lost, path);
     }
 
-    /// The path came back, which is reported.
-    pub fn path_back(&mut self, path: u8)
-        ensures { self.new ≡ spec.with_report self.old path_report.Back path }
-    {
-        self.add(PathReport::Back, path);
-    }
-
     fn keep(&mut self, path: u8, asked: bool)
         ensures { self.new ≡ spec.with_asked self.old path asked }
     {

@@ -16,14 +16,14 @@ use Rattle.functions.specs.declared.rest.Rest.{Rest}
 use Rattle.functions.specs.Unwired.{Unwired, bare, path_of_mask, rest_in, state_of, unwired_of, unwired_sub, with_pmcw}
 
 -- MODIFY SUBCHANNEL keeps them so
-pub modified-tied : (setup : SubchannelSetup) (p : Pmcw) (scsw : Scsw) (up : List Bool) (rest : Rest) (g : Pmcw)
+pub modified-tied : (setup : SubchannelSetup) (p : Pmcw) (scsw : Scsw) (up : List Bool) (rest : Rest) (takes_sense : Bool) (g : Pmcw)
     → p ≡ pmcw_of (bare setup p scsw up rest) → g.logical < 256 → g.operational < 256
-    → modified p g ≡ pmcw_of (bare setup (modified p g) scsw up rest)
-modified-tied setup p scsw up rest g tied logical operational =
+    → modified takes_sense p g ≡ pmcw_of (bare setup (modified takes_sense p g) scsw up rest)
+modified-tied setup p scsw up rest takes_sense g tied logical operational =
     let q = pmcw_of (bare setup p scsw up rest) in
-    ap (λ (x : Pmcw). modified x g) tied
-    ∙ ap (λ (m : ℕ). record (modified q g) { logical = m }) (sym (mask-is g.logical logical))
-    ∙ ap (λ (m : ℕ). record (modified q g) { logical = mask_of_paths (paths_of_mask g.logical); operational = m }) (sym (mask-is g.operational operational))
+    ap (λ (x : Pmcw). modified takes_sense x g) tied
+    ∙ ap (λ (m : ℕ). record (modified takes_sense q g) { logical = m }) (sym (mask-is g.logical logical))
+    ∙ ap (λ (m : ℕ). record (modified takes_sense q g) { logical = mask_of_paths (paths_of_mask g.logical); operational = m }) (sym (mask-is g.operational operational))
 
 -- sets and paths, by their masks
 bit-flag : (b : Bool) → (bit_number b == 1) ≡ b

@@ -53,6 +53,7 @@ state_of pmcw up = record {
   last_used = path_of_mask pmcw.last_used;
   operational = paths_of_mask pmcw.operational;
   available = up;
+  concurrent_sense = pmcw.concurrent_sense;
   subclass_fits = pmcw.subclass_fits;
 }
 
@@ -97,6 +98,6 @@ rest_in s = record {
 abbrev pub with_rest : Unwired → Rest → Unwired
 with_rest s rest = with_state s (state_made s.state.pmcw s.state.scsw rest)
 
--- what MODIFY SUBCHANNEL leaves for a word of zeros but for LPM and POM
+-- what MODIFY SUBCHANNEL leaves for a word of zeros but for LPM and POM, where concurrent sense is taken too
 abbrev pub disabled : PmcwState → PmcwState
 disabled pmcw = record opening_pmcw { available = pmcw.available; not_operational = pmcw.not_operational; last_used = pmcw.last_used }

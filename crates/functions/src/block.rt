@@ -33,7 +33,7 @@ fn chpids_of(paths: &[u8]) -> [u8; 8]
     ]
 }
 
-/// The word: V is one, and what there is not (limits, measurement, timing and concurrent sense) is zero.
+/// The word: V is one, and what there is not (limits, measurement and timing) is zero.
 pub(crate) fn pmcw_of(setup: &SubchannelSetup, state: &PmcwState) -> Pmcw
     ensures { (sub : Subchannel) → sub.setup ≡ setup.now → sub.state.pmcw ≡ state.now → result ≡ spec.pmcw_of sub }
 {
@@ -56,6 +56,6 @@ pub(crate) fn pmcw_of(setup: &SubchannelSetup, state: &PmcwState) -> Pmcw
         operational: state.operational.mask(),
         available: installed.intersection(&state.available).mask(),
         chpids: chpids_of(setup.paths.as_slice()),
-        concurrent_sense: false,
+        concurrent_sense: state.concurrent_sense,
     }
 }

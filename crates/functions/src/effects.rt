@@ -209,7 +209,7 @@ pub(crate) fn cancel(state: &mut PackedState)
 
 /// MODIFY SUBCHANNEL with code 0.
 pub fn write_pmcw(state: &mut PackedState, given: &[u32; 7])
-    ensures { state.new ≡ with_state state.old (modify_spec.placed state.old.state (pmcw_of_words given.now)) }
+    ensures { state.new ≡ with_state state.old (modify_spec.placed state.old.setup.concurrent_sense state.old.state (pmcw_of_words given.now)) }
 {
     state.modify(given);
 }

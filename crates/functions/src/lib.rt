@@ -93,10 +93,10 @@ pub fn xsch(state: &mut PackedState) -> ConditionCode
     code
 }
 
-/// MODIFY SUBCHANNEL with a word that is allowed.
+/// MODIFY SUBCHANNEL with a word that is allowed; whether its concurrent-sense bit is kept, the set-up says.
 pub fn msch(state: &mut PackedState, given: &[u32; 7]) -> ConditionCode
     ensures code { result ≡ modify_spec.msch_code (condition_of (Some state.old.state)) }
-    ensures state { state.new ≡ with_state state.old (condition_spec.left_by result state.old.state (modify_spec.placed state.old.state (pmcw_of_words given.now))) }
+    ensures state { state.new ≡ with_state state.old (condition_spec.left_by result state.old.state (modify_spec.placed state.old.setup.concurrent_sense state.old.state (pmcw_of_words given.now))) }
 {
     let code = codes::msch_code(state);
     if code == ConditionCode::Zero {

@@ -239,11 +239,13 @@ impl PackedState {
         &mut self.rest
     }
 
-    /// MODIFY SUBCHANNEL: what it takes of a given word, whatever the bits there that are always zero here.
+    /// MODIFY SUBCHANNEL: what it takes of a given word, whatever the bits there that are always zero here. The concurrent-sense
+    /// bit is kept where the set-up says so.
     pub fn modify(&mut self, given: &[u32; 7])
-        ensures { self.new ≡ with_state self.old (placed self.old.state (pmcw_of_words given.now)) }
+        ensures { self.new ≡ with_state self.old (placed self.old.setup.concurrent_sense self.old.state (pmcw_of_words given.now)) }
     {
-        self.pmcw.modify(given);
+        let takes_sense = self.setup.concurrent_sense.is_kept();
+        self.pmcw.modify(given, takes_sense);
     }
 
     /// START SUBCHANNEL: the interruption parameter and LPM of the ORB, and PNOM is zero.
@@ -352,11 +354,11 @@ impl PackedState {
         self.pmcw.set_last_used(0);
     }
 
-    /// All that MODIFY SUBCHANNEL takes is zero, but for LPM and POM, which are all ones.
+    /// All that MODIFY SUBCHANNEL may take is zero, but for LPM and POM, which are all ones.
     fn disable(&mut self)
         ensures { self.new ≡ with_pmcw self.old (disabled self.old.state.pmcw) }
     {
-        self.pmcw.modify(&[0, 0, 0xFF00_0000, 0x0000_FF00, 0, 0, 0]);
+        self.pmcw.modify(&[0, 0, 0xFF00_0000, 0x0000_FF00, 0, 0, 0], true);
     }
 }
 

@@ -16,13 +16,13 @@ fn controls(subclass: u8, multipath: bool) -> u32
     u32::from(subclass % 8) * 0x0800_0000 + 0x0080_0000 + u32::from(multipath) * 0x0004_0000
 }
 
-/// The word with ISC, D and E one placed in it. Of `subclass` the three rightmost bits are placed.
+/// The word with ISC, D and E one placed in it; its concurrent-sense bit stays. Of `subclass` the three rightmost bits are placed.
 pub fn enabling(word: &PmcwWords, subclass: u8, multipath: bool) -> PmcwWords
     ensures { result ≡ enable_spec.enabling word.now subclass multipath }
 {
     let [parameter, _, masks, block, ..] = *word.words();
     let given = controls(subclass, multipath);
     let mut enabling = *word;
-    enabling.modify(&[parameter, given, masks, block, 0, 0, 0]);
+    enabling.modify(&[parameter, given, masks, block, 0, 0, 0], false);
     enabling
 }

@@ -26,12 +26,12 @@ pub trait Looks: Sized {
     ghost state: { Self → State };
 
     /// The machine beside its storage.
-    fn machine(&self) -> &Machine
+    fn looked_at(&self) -> &Machine
         ensures { result.now ≡ lent (state self.now) no_storage };
 
     /// The index of the subchannel that a subsystem-identification word names, in the order of the configuration, from 0;
     /// None where it is not configured.
-    fn index_of(&self, subchannel: u32) -> Option<usize>
+    fn index_named(&self, subchannel: u32) -> Option<usize>
         ensures index { result ≡ state_spec.index_of (state self.now) subchannel }
         ensures bound { IfSome result (λ index. index < length (state self.now).subs) };
 
@@ -40,14 +40,14 @@ pub trait Looks: Sized {
     final fn requested_subclasses(&self) -> u8
         ensures { (subclass : ℕ) → subclass < 8 → (bit_of result (24 + subclass) == 1) ≡ has_request (state self.now).requests subclass }
     {
-        self.machine().pending.subclasses()
+        self.looked_at().pending.subclasses()
     }
 
     /// How many channel reports wait, at most 16. STORE CHANNEL REPORT WORD takes the oldest (SA22-7832, chapter 17).
     final fn report_count(&self) -> usize
         ensures { result ≡ length (state self.now).reports.reports }
     {
-        self.machine().reports.count()
+        self.looked_at().reports.count()
     }
 
     /// The subchannel that a subsystem-identification word names, lent: `state.rest()` has its programs, its hold and its
@@ -57,8 +57,8 @@ pub trait Looks: Sized {
         ensures found { IfSome result (λ sub. state_spec.sub_of (state self.now) subchannel ≡ Some sub.now) }
         ensures none { IfNone result (state_spec.sub_of (state self.now) subchannel ≡ None) }
     {
-        let index = self.index_of(subchannel)?;
-        Some(&self.machine().subs[index])
+        let index = self.index_named(subchannel)?;
+        Some(&self.looked_at().subs[index])
     }
 
     /// The 52 bytes of the subchannel-information block that STORE SUBCHANNEL would store (SA22-7832, chapter 15). None where the
@@ -89,7 +89,7 @@ pub trait Looks: Sized {
         ensures found { IfSome result (λ remembered. slice_get (state self.now).units «unit» ≡ Some remembered.now) }
         ensures none { IfNone result (slice_get (state self.now).units «unit» ≡ None) }
     {
-        let unit = self.machine().units.get(unit as usize)?;
+        let unit = self.looked_at().units.get(unit as usize)?;
         Some(unit.state())
     }
 
@@ -97,14 +97,14 @@ pub trait Looks: Sized {
     final fn is_path_up(&self, chpid: u8) -> bool
         ensures { result ≡ slice_index_or (state self.now).up chpid false }
     {
-        self.machine().up[usize::from(chpid)]
+        self.looked_at().up[usize::from(chpid)]
     }
 
     /// Whether the channel path of this identifier serves a subchannel, as STORE CHANNEL PATH STATUS tells it.
     final fn is_path_engaged(&self, chpid: u8) -> bool
         ensures { result ≡ any_engages (state self.now).subs chpid }
     {
-        let machine = self.machine();
+        let machine = self.looked_at();
         Served::of(machine.subs.as_slice(), &machine.engines).is_engaged(chpid)
     }
 }

@@ -23,6 +23,7 @@ use chan_model::fault::Fault;
 use chan_model::names::{Cpu, Path};
 use chan_model::report::Report;
 use channel_config::names::subchannel_named;
+use channel_config::parts::PathReturn;
 use channel_reports::Reports;
 use control_units::sharing::Sharing;
 use event_log::logs::Log;
@@ -65,6 +66,8 @@ pub struct Machine {
     pub(crate) sharing: Sharing,
     pub(crate) pending: Pending,
     pub(crate) reports: Reports,
+    /// How a channel path that is back is reported.
+    pub(crate) path_return: PathReturn,
     pub(crate) engines: Engines,
     /// What a subchannel sends for a signal, before it is on its wire.
     pub(crate) sent: SentDown,
@@ -88,6 +91,7 @@ impl Model for Machine {
       members = m.sharing;
       requests = m.pending;
       reports = m.reports;
+      path_return = m.path_return;
     } };
 
     ghost invariant = { λ m. Serves m.engines m.subs.items × (length m.units.items ≤ 0x10000) };

@@ -201,6 +201,7 @@ pub fn opened_machine<S: Supply>(
         sharing,
         pending,
         reports: Reports::new(),
+        path_return: config.path_return(),
         engines,
         sent: SentDown::new(),
     };

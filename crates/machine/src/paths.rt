@@ -109,7 +109,7 @@ impl Machine {
         Ok(Reply::Done)
     }
 
-    /// A channel path that was down comes up.
+    /// A channel path that was down comes up, which is reported as the set-up says.
     #[inline(never)]
     pub(crate) fn path_up(&mut self, number: u32) -> Result<PlainReply, Fault>
         requires roomy { All CanCount self.old.subs }
@@ -126,7 +126,8 @@ impl Machine {
         let what = Sweep::ComesUp { chpid };
         sweep_all(&mut self.subs, &mut self.pending, &mut self.engines, what);
         self.up[usize::from(chpid)] = true;
-        self.reports.path_back(chpid);
+        let report = self.path_return.report();
+        self.reports.add(report, chpid);
         Ok(Reply::Done)
     }
 

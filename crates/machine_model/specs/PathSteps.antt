@@ -2,6 +2,7 @@
 -- 17; what each does to a subchannel is this project's own choice).
 use Rattle.std.specs.Prelude.{ℕ, Bool, true, false, if◌then◌else◌, map, slice_set, Err}
 use Rattle.chan_model.specs.declared.fault.Fault.TheVariants as fault
+use Rattle.channel_config.specs.Choices.{back_report}
 use Rattle.channel_config.specs.Setup.{has_number}
 use Rattle.scsw_irb.specs.declared.crw.PathReport.TheVariants as report
 use Rattle.channel_reports.specs.Queue as reports
@@ -34,10 +35,10 @@ down_path s chpid =
     let lost = reports.with_report (reports.with_asked s.reports chpid false) report.Lost chpid in
     record (with_swept s (sweep.GoesDown chpid)) { up = slice_set s.up chpid false; reports = lost }
 
--- a path that is down comes up
+-- a path that is down comes up: that it is back is reported as the set-up says
 abbrev pub up_path : State → ℕ → State
 up_path s chpid =
-    record (with_swept s (sweep.ComesUp chpid)) { up = slice_set s.up chpid true; reports = reports.with_report s.reports report.Back chpid }
+    record (with_swept s (sweep.ComesUp chpid)) { up = slice_set s.up chpid true; reports = reports.with_report s.reports (back_report s.path_return) chpid }
 
 -- a path whose reset is asked for is reset
 abbrev pub reset_path : State → ℕ → State

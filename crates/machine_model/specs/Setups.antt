@@ -9,8 +9,8 @@ abbrev pub group_of : Member → ℕ
 group_of m = m.group
 
 -- the machine is set up so, lawfully: by the blocks of its storage, its sets, its channel paths, its subchannels in their
--- order, the number of its units and their groups; there is room for a request of each subchannel. No step changes any of
--- these
+-- order, the number of its units and their groups, and how a channel path that is back is reported; there is room for a request of
+-- each subchannel. No step changes any of these
 pub record IsSetUp (setup : Setup) (s : State) : Type 0 where
   pub lawful : IsLawful setup
   pub blocks : length s.storage.keys ≡ unwrap_or setup.blocks 16
@@ -20,3 +20,4 @@ pub record IsSetUp (setup : Setup) (s : State) : Type 0 where
   pub units : length s.units ≡ length setup.units
   pub groups : map group_of s.members ≡ groups_of setup
   pub requests : s.requests.numbers ≡ 0x100
+  pub path_return : s.path_return ≡ setup.path_return

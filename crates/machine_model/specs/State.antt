@@ -5,6 +5,7 @@ use Rattle.storage_keys.specs.Storage.{Contents, cleared_storage}
 use Rattle.chan_model.specs.declared.unit_state.UnitState.{UnitState}
 use Rattle.chan_events.specs.declared.reply.Entry.{Entry}
 use Rattle.chan_model.specs.UnitTable.{idle_unit}
+use Rattle.channel_config.specs.declared.parts.PathReturn.{PathReturn}
 use Rattle.channel_config.specs.declared.parts.UnitKind.{UnitKind}
 use Rattle.channel_config.specs.Setup.{Setup, set_count, has_number, groups_of}
 use Rattle.control_units.specs.declared.Member.{Member}
@@ -34,7 +35,7 @@ use Rattle.subchannel_model.specs.Indices.{index_of_id, sub_at, reached_sub, Fou
 
 -- storage, how many sets of subchannels there are, the identifiers of the channel paths, and by identifier whether a path is
 -- configured and not down; the subchannels in the order of their configuration; the units, and what control units keep of
--- them; the requests for interruptions and the channel reports that wait
+-- them; the requests for interruptions and the channel reports that wait; and how a channel path that is back is reported
 pub record State : Type 0 where
   pub storage : Contents
   pub sets : ℕ
@@ -45,6 +46,7 @@ pub record State : Type 0 where
   pub members : List Member
   pub requests : WaitingRequests
   pub reports : WaitingReports
+  pub path_return : PathReturn
 
 -- a state, the accepted events with their replies that led there, and for how many more of them there is room
 pub record Past : Type 0 where
@@ -86,6 +88,7 @@ opening_of setup = record {
   members = map idle_member (groups_of setup);
   requests = no_requests_wait 0x100;
   reports = no_reports_wait;
+  path_return = setup.path_return;
 }
 
 -- the index of the subchannel that a subsystem-identification word names, where it is provided

@@ -14,4 +14,5 @@ mod script_tests;
 mod script_text_shown_lines;
 mod script_text_tests;
 mod script_wrong_lines;
+mod setup_choices_tests;
 mod subsystem_tests;

@@ -1,5 +1,5 @@
 -- What RESET CHANNEL PATH and STORE CHANNEL REPORT WORD answer: by which channel paths are up, which resets are asked for and not done,
--- and which reports wait (SA22-7832, chapters 14 and 17).
+-- and which reports wait (SA22-7832, chapters 14 and 17). How a path that is back is reported, the set-up says.
 use Rattle.std.specs.Prelude.{◌≡◌, ℕ, ◌==◌, Bool, true, false, if◌then◌else◌, Option, None, Some, List, [], ◌∷◌, ◌++◌, length, slice_get, drop, take}
 use Rattle.zbits.specs.Bits.{field_of}
 use Rattle.chan_events.specs.Events.{Event}
@@ -10,6 +10,8 @@ use Rattle.chan_events.specs.Replies.{Reply}
 use Rattle.chan_events.specs.declared.reply.Reply.TheVariants as reply
 use Rattle.chan_model.specs.declared.answer.ConditionCode.{ConditionCode}
 use Rattle.chan_model.specs.declared.answer.ConditionCode.TheVariants as code
+use Rattle.channel_config.specs.declared.parts.PathReturn.{PathReturn}
+use Rattle.channel_config.specs.Choices.{back_report}
 use Rattle.channel_config.specs.Setup.{Setup, has_number}
 use Rattle.scsw_irb.specs.declared.crw.Crw.{Crw}
 use Rattle.scsw_irb.specs.declared.crw.PathReport.{PathReport}
@@ -41,14 +43,14 @@ asked_by r chpid asked = asked
 
 -- a path that goes down or is reset is asked for no more; a reset of the subsystem asks for none, and no report waits; a report that is
 -- stored waits no more
-abbrev pub paths_after : Event → Reply → PathsSeen → PathsSeen
-paths_after (event.PathDown chpid) r k = record { up = with_up chpid false k.up; asked = with_up chpid false k.asked; reports = reported report.Lost chpid k.reports }
-paths_after (event.PathUp chpid) r k = record k { up = with_up chpid true k.up; reports = reported report.Back chpid k.reports }
-paths_after (event.PathReset chpid) r k = record k { asked = with_up chpid false k.asked; reports = reported report.ResetDone chpid k.reports }
-paths_after event.SystemReset r k = record k { asked = λ c. false; reports = [] }
-paths_after (event.ExecuteOther cpu (other.Rchp path)) r k = record k { asked = asked_by r (field_of path 24 31) k.asked }
-paths_after (event.ExecuteOther cpu (other.Stcrw address)) r k = record k { reports = drop 1 k.reports }
-paths_after e r k = k
+abbrev pub paths_after : PathReturn → Event → Reply → PathsSeen → PathsSeen
+paths_after back (event.PathDown chpid) r k = record { up = with_up chpid false k.up; asked = with_up chpid false k.asked; reports = reported report.Lost chpid k.reports }
+paths_after back (event.PathUp chpid) r k = record k { up = with_up chpid true k.up; reports = reported (back_report back) chpid k.reports }
+paths_after back (event.PathReset chpid) r k = record k { asked = with_up chpid false k.asked; reports = reported report.ResetDone chpid k.reports }
+paths_after back event.SystemReset r k = record k { asked = λ c. false; reports = [] }
+paths_after back (event.ExecuteOther cpu (other.Rchp path)) r k = record k { asked = asked_by r (field_of path 24 31) k.asked }
+paths_after back (event.ExecuteOther cpu (other.Stcrw address)) r k = record k { reports = drop 1 k.reports }
+paths_after back e r k = k
 
 -- 3 where the path is not up, 2 where its reset is asked for and not done, otherwise 0
 abbrev pub reset_code : PathsSeen → ℕ → ConditionCode
@@ -63,4 +65,4 @@ IsEntryRight e r k = Unit {0}
 
 -- before all the paths of the set-up are up
 abbrev pub AnswersByPaths : Setup → List Entry → Type 0
-AnswersByPaths setup h = Throughout paths_after IsEntryRight (record { up = has_number setup.paths; asked = λ c. false; reports = [] }) h
+AnswersByPaths setup h = Throughout (paths_after setup.path_return) IsEntryRight (record { up = has_number setup.paths; asked = λ c. false; reports = [] }) h

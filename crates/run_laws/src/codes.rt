@@ -14,7 +14,8 @@ use crate::states::{setups, steps};
 use step_laws::walks;
 
 /// In each run RESET CHANNEL PATH answers by which channel paths are up and which resets are asked for and not done, and STORE
-/// CHANNEL REPORT WORD gives the oldest report that waits, or none (SA22-7832, chapters 14 and 17).
+/// CHANNEL REPORT WORD gives the oldest report that waits, or none (SA22-7832, chapters 14 and 17); a path that is back is
+/// reported as the set-up says.
 pub fn path_reports()
     ensures paths { (setup : Setup) (h : List Entry) (s : State) → Run (opening_of setup) h s → AnswersByPaths setup h }
 {}

@@ -46,7 +46,7 @@ pub fn steps()
 }
 
 /// No step changes how the machine is set up: its subchannels and their order, its sets, its channel paths, its units and their
-/// groups, how large storage is, or for how many requests there is room.
+/// groups, how large storage is, for how many requests there is room, or how a channel path that is back is reported.
 pub fn setups()
     ensures stay { (s : State) (e : Event) (r : Reply) (new : State) → Step s e r new → map (λ sub. sub.setup) new.subs ≡ map (λ sub. sub.setup) s.subs }
     ensures set_up { (setup : Setup) (s : State) (e : Event) (r : Reply) (new : State) → Step s e r new → IsSetUp setup s → IsSetUp setup new }

@@ -8,7 +8,7 @@ use Rattle.zbits.specs.Bits.{bit_of, field_of, weight}
 use Rattle.zbits.specs.Flags.{flags_of, picked, some_of}
 use Rattle.zbits.proofs.Flags.{field-kept, field-taken, none, not-not}
 use Rattle.schib_block.specs.declared.pmcw.Pmcw.{Pmcw}
-use Rattle.schib_block.specs.Modify.{modified}
+use Rattle.schib_block.specs.Modify.{modified, sense_left}
 use Rattle.schib_block.specs.Reading.{flag_of, limit_mode-lt, measurement_mode-lt, pmcw_of_words, subclass-lt}
 use Rattle.schib_block.specs.PmcwWords.{ArePmcwWords}
 
@@ -16,13 +16,14 @@ use Rattle.schib_block.specs.PmcwWords.{ArePmcwWords}
 abbrev pub mixed : ℕ → ℕ → ℕ → ℕ → ℕ
 mixed keep take a b = bit_or (bit_and a keep) (bit_and b take)
 
-abbrev pub modified_words : List ℕ → List ℕ → List ℕ
-modified_words w g =
+-- the last word is the one that is left
+abbrev pub modified_words : List ℕ → List ℕ → ℕ → List ℕ
+modified_words w g last =
     slice_index g 0
     ∷ mixed 3346792447 948174848 (slice_index w 1) (slice_index g 1)
     ∷ mixed 16777215 4278190080 (slice_index w 2) (slice_index g 2)
     ∷ mixed 4294902015 65280 (slice_index w 3) (slice_index g 3)
-    ∷ slice_index w 4 ∷ slice_index w 5 ∷ slice_index w 6 ∷ []
+    ∷ slice_index w 4 ∷ slice_index w 5 ∷ last ∷ []
 
 mixed-lt : (keep take a b : ℕ) → keep < 2 ^ 32 → take < 2 ^ 32 → mixed keep take a b < 2 ^ 32
 mixed-lt keep take a b x y = or_lt 32 (bit_and a keep) (bit_and b take) (omega (arith, x, and_le_r a keep)) (omega (arith, y, and_le_r b take))
@@ -38,16 +39,17 @@ seven-fit a b c d e f g p q r s t u v (suc (suc (suc (suc (suc zero))))) = u
 seven-fit a b c d e f g p q r s t u v (suc (suc (suc (suc (suc (suc zero)))))) = v
 seven-fit a b c d e f g p q r s t u v (suc (suc (suc (suc (suc (suc (suc index))))))) = lit< tt
 
-pub modified-are : (w g : List ℕ) → ArePmcwWords w → ((index : ℕ) → slice_index g index < 2 ^ 32) → ArePmcwWords (modified_words w g)
-modified-are w g are fit = record {
+pub modified-are : (w g : List ℕ) (last : ℕ) → ArePmcwWords w → ((index : ℕ) → slice_index g index < 2 ^ 32) → last < 2 ^ 32 → field_of last 0 30 ≡ field_of (slice_index w 6) 0 30
+    → ArePmcwWords (modified_words w g last)
+modified-are w g last are fit small others = record {
   seven = refl;
   fit = seven-fit (slice_index g 0) (mixed 3346792447 948174848 (slice_index w 1) (slice_index g 1)) (mixed 16777215 4278190080 (slice_index w 2) (slice_index g 2))
-      (mixed 4294902015 65280 (slice_index w 3) (slice_index g 3)) (slice_index w 4) (slice_index w 5) (slice_index w 6)
+      (mixed 4294902015 65280 (slice_index w 3) (slice_index g 3)) (slice_index w 4) (slice_index w 5) last
       (fit 0) (mixed-lt 3346792447 948174848 (slice_index w 1) (slice_index g 1) (lit< tt) (lit< tt)) (mixed-lt 16777215 4278190080 (slice_index w 2) (slice_index g 2) (lit< tt) (lit< tt))
-      (mixed-lt 4294902015 65280 (slice_index w 3) (slice_index g 3) (lit< tt) (lit< tt)) (are.fit 4) (are.fit 5) (are.fit 6);
+      (mixed-lt 4294902015 65280 (slice_index w 3) (slice_index g 3) (lit< tt) (lit< tt)) (are.fit 4) (are.fit 5) small;
   front = field-kept (slice_index w 1) (slice_index g 1) 3346792447 948174848 0 1 refl refl ∙ are.front;
   between = field-kept (slice_index w 1) (slice_index g 1) 3346792447 948174848 5 7 refl refl ∙ are.between;
-  last = are.last;
+  last = others ∙ are.last;
 }
 
 -- a word by its fields
@@ -92,8 +94,9 @@ same-listed s sf l lf m mf flags numbers chpids t tf k kf n nf others counts ids
     ∙ ap (λ (x : List ℕ). pmcw_listed t tf k kf n nf others counts x) ei
 
 -- MODIFY SUBCHANNEL
-pub modified-is : (w g : List ℕ) → pmcw_of_words (modified_words w g) ≡ modified (pmcw_of_words w) (pmcw_of_words g)
-modified-is w g =
+pub modified-is : (w g : List ℕ) (last : ℕ) (takes_sense : Bool) → flag_of last 31 ≡ sense_left takes_sense (flag_of (slice_index w 6) 31) (flag_of (slice_index g 6) 31)
+    → pmcw_of_words (modified_words w g last) ≡ modified takes_sense (pmcw_of_words w) (pmcw_of_words g)
+modified-is w g last takes_sense left =
     let a = slice_index w 1 in
     let b = slice_index g 1 in
     let x = mixed 3346792447 948174848 a b in
@@ -119,13 +122,14 @@ modified-is w g =
     let block : field_of z 0 15 ≡ field_of e 0 15 = field-kept e f 4294902015 65280 0 15 refl refl in
     let operational : field_of z 16 23 ≡ field_of f 16 23 = field-taken e f 4294902015 65280 16 23 refl refl in
     let available : field_of z 24 31 ≡ field_of e 24 31 = field-kept e f 4294902015 65280 24 31 refl refl in
-    let sense = flag_of (slice_index w 6) 31 in
+    let shown = flag_of last 31 in
+    let sense = sense_left takes_sense (flag_of (slice_index w 6) 31) (flag_of (slice_index g 6) 31) in
     let ids = pmcw_of_words w in
-    let flags : flag_of x 8 ∷ flag_of x 13 ∷ flag_of x 14 ∷ flag_of x 15 ∷ sense ∷ [] ≡ flag_of b 8 ∷ flag_of b 13 ∷ flag_of a 14 ∷ flag_of a 15 ∷ sense ∷ [] = cc in
+    let flags : flag_of x 8 ∷ flag_of x 13 ∷ flag_of x 14 ∷ flag_of x 15 ∷ shown ∷ [] ≡ flag_of b 8 ∷ flag_of b 13 ∷ flag_of a 14 ∷ flag_of a 15 ∷ sense ∷ [] = cc in
     let numbers : slice_index g 0 ∷ field_of x 16 31 ∷ field_of y 0 7 ∷ field_of y 8 15 ∷ field_of y 16 23 ∷ field_of y 24 31 ∷ field_of z 0 15 ∷ field_of z 16 23 ∷ field_of z 24 31 ∷ []
     ≡ slice_index g 0 ∷ field_of a 16 31 ∷ field_of d 0 7 ∷ field_of c 8 15 ∷ field_of c 16 23 ∷ field_of c 24 31 ∷ field_of e 0 15 ∷ field_of f 16 23 ∷ field_of e 24 31 ∷ [] = cc in
     same-listed (field_of x 2 4) (subclass-lt x) (field_of x 9 10) (limit_mode-lt x) (field_of x 11 12) (measurement_mode-lt x)
-    (flag_of x 8 ∷ flag_of x 13 ∷ flag_of x 14 ∷ flag_of x 15 ∷ sense ∷ [])
+    (flag_of x 8 ∷ flag_of x 13 ∷ flag_of x 14 ∷ flag_of x 15 ∷ shown ∷ [])
     (slice_index g 0 ∷ field_of x 16 31 ∷ field_of y 0 7 ∷ field_of y 8 15 ∷ field_of y 16 23 ∷ field_of y 24 31 ∷ field_of z 0 15 ∷ field_of z 16 23 ∷ field_of z 24 31 ∷ []) ids.chpids
     (field_of b 2 4) (subclass-lt b) (field_of a 9 10) (limit_mode-lt a) (field_of a 11 12) (measurement_mode-lt a)
     (flag_of b 8 ∷ flag_of b 13 ∷ flag_of a 14 ∷ flag_of a 15 ∷ sense ∷ [])

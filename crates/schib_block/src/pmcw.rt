@@ -76,12 +76,12 @@ impl Pmcw {
     }
 
     /// What MODIFY SUBCHANNEL does: takes from the given word the parameter, the subclass, E, D, LPM and
-    /// POM, and nothing else (own).
+    /// POM, and nothing else (own), but for the concurrent-sense bit, which is taken where `takes_sense` says so.
     ///
     /// It is refused where the given LM or MM is not zero (own).
-    pub fn modify(&mut self, given: &Pmcw) -> Result<(), Operand>
+    pub fn modify(&mut self, given: &Pmcw, takes_sense: bool) -> Result<(), Operand>
         ensures allowed { IsOk result ↔ IsAllowedPmcw given.now }
-        ensures taken { OnOk result (self.new ≡ modified self.old given.now) }
+        ensures taken { OnOk result (self.new ≡ modified takes_sense self.old given.now) }
         ensures refused { OnErr result (self.new ≡ self.old) }
     {
         if !given.is_allowed() {
@@ -93,6 +93,9 @@ impl Pmcw {
         self.multipath = given.multipath;
         self.logical = given.logical;
         self.operational = given.operational;
+        if takes_sense {
+            self.concurrent_sense = given.concurrent_sense;
+        }
         Ok(())
     }
 

@@ -1,11 +1,12 @@
 //! The words of a path-management-control word, and what masks do to them (SA22-7832, chapter 15).
 
 ghost use Rattle.std.specs.Prelude.{◌≡◌, ◌<◌, ◌^◌, ◌↔◌, map, ℕ, IsTrue, length, slice_index};
+ghost use Rattle.zbits.specs.Bits.{field_of};
 ghost use Rattle.zbits.specs.Layout.{image_of, word_of};
 ghost use Rattle.schib_block.specs.Ranges.{IsPmcwInRange};
 ghost use Rattle.schib_block.specs.SchibTable.{pmcw_tables, schib_tables};
-ghost use Rattle.schib_block.specs.Reading.{pmcw_of_words};
-ghost use Rattle.schib_block.specs.Modify.{IsAllowedPmcw, modified};
+ghost use Rattle.schib_block.specs.Reading.{flag_of, pmcw_of_words};
+ghost use Rattle.schib_block.specs.Modify.{IsAllowedPmcw, modified, sense_left};
 
 use crate::SCHIB_BYTES;
 use crate::pmcw::Pmcw;
@@ -13,12 +14,15 @@ use scsw_irb::words::ScswWords;
 use std::marker::Model;
 use zbits::{be_bytes, field};
 
-/// The bits of each word that MODIFY SUBCHANNEL takes from the given one; of word 0 it takes all, of the last three none.
+/// The bits of each word that MODIFY SUBCHANNEL takes from the given one; of word 0 it takes all, of words 4 and 5 none, and those
+/// of word 6 only where concurrent sense is taken.
 const TAKEN_1: u32 = 0x3884_0000;
 
 const TAKEN_2: u32 = 0xFF00_0000;
 
 const TAKEN_3: u32 = 0x0000_FF00;
+
+const TAKEN_6: u32 = 0x0000_0001;
 
 /// The subchannel-information block of two words: what STORE SUBCHANNEL stores.
 pub fn block_of(pmcw: &PmcwWords, scsw: &ScswWords) -> [u8; SCHIB_BYTES]
@@ -85,9 +89,10 @@ impl PmcwWords {
         given[1] & 0x0078_0000 == 0
     }
 
-    /// MODIFY SUBCHANNEL: what it takes of a given word, whatever the bits there that are always zero here.
-    pub fn modify(&mut self, given: &[u32; 7])
-        ensures { self.new ≡ modified self.old (pmcw_of_words given.now) }
+    /// MODIFY SUBCHANNEL: what it takes of a given word, whatever the bits there that are always zero here. The concurrent-sense
+    /// bit is taken where `takes_sense` says so.
+    pub fn modify(&mut self, given: &[u32; 7], takes_sense: bool)
+        ensures { self.new ≡ modified takes_sense self.old (pmcw_of_words given.now) }
     {
         are_words(given);
         let [_, controls, masks, block, front, back, last] = self.words;
@@ -98,7 +103,7 @@ impl PmcwWords {
             block & !TAKEN_3 | given[3] & TAKEN_3,
             front,
             back,
-            last,
+            modified_sense(last, given[6], takes_sense),
         ];
     }
 
@@ -260,6 +265,27 @@ impl PmcwWords {
     {
         self.words[0]
     }
+}
+
+/// Word 6 after MODIFY SUBCHANNEL: its bit 31 is that of the given word where it is taken. Its other bits stay.
+fn modified_sense(word: u32, given: u32, takes_sense: bool) -> u32
+    ensures others { field_of result 0 30 ≡ field_of word 0 30 }
+    ensures sense { flag_of result 31 ≡ sense_left takes_sense (flag_of word 31) (flag_of given 31) }
+    ensures fits { result < 2 ^ 32 }
+{
+    if takes_sense {
+        with_sense(word, given)
+    } else {
+        word
+    }
+}
+
+/// Word 6 with bit 31 of another word.
+fn with_sense(word: u32, given: u32) -> u32
+    ensures others { field_of result 0 30 ≡ field_of word 0 30 }
+    ensures sense { flag_of result 31 ≡ flag_of given 31 }
+{
+    word & !TAKEN_6 | given & TAKEN_6
 }
 
 /// The numbers of a word are those of their types, and it has eight channel-path identifiers. A law, with nothing to do.

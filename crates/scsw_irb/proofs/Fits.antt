@@ -15,7 +15,7 @@ use Rattle.scsw_irb.specs.declared.irb.Irb.{Irb}
 use Rattle.scsw_irb.specs.declared.code.IntCode.{IntCode}
 use Rattle.scsw_irb.specs.declared.crw.Crw.{Crw}
 use Rattle.scsw_irb.specs.declared.crw.PathReport.{PathReport}
-use Rattle.scsw_irb.specs.declared.crw.PathReport.TheVariants.{Lost, Back, ResetDone}
+use Rattle.scsw_irb.specs.declared.crw.PathReport.TheVariants.{Lost, Back, Initialized, ResetDone}
 use Rattle.scsw_irb.specs.ScswTable.{code_number, function_table, activity_table, status_table, control_table, word_0, scsw_tables, irb_tables}
 use Rattle.scsw_irb.specs.CodeTable.{code_tables}
 use Rattle.scsw_irb.specs.CrwTable.{error_code, crw_table, is_solicited}
@@ -34,6 +34,7 @@ code_number-lt Three = lit< tt
 error_code-lt : (report : PathReport) → error_code report < 64
 error_code-lt Lost = lit< tt
 error_code-lt Back = lit< tt
+error_code-lt Initialized = lit< tt
 error_code-lt ResetDone = lit< tt
 
 functions-fit : (f : FunctionControl) → AllFit (function_table f)

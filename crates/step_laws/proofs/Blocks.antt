@@ -1,5 +1,6 @@
 -- No step changes how a machine is set up: how many keys storage has (a key is set in its place, and all else that is stored
--- are bytes), which channel paths are configured, which units share a control unit, and for how many requests there is room.
+-- are bytes), which channel paths are configured, which units share a control unit, for how many requests there is room, and how a
+-- channel path that is back is reported.
 use Rattle.std.proofs.Common.{◌≡◌, refl, sym, ◌∙◌, ap, subst, ℕ, zero, suc, Bool, true, false, nat_lt, Option, None, Some, Result, Ok, Err, List, [], ◌∷◌, map, length}
 use Rattle.std.specs.Prelude.{◌==◌, ◌+◌, ◌%◌, slice_get, slice_set, if◌then◌else◌, not, is_some, IfOk}
 use Rattle.std.proofs.lemmas.List.{length-set}
@@ -65,6 +66,7 @@ IsAs s new =
     × (new.chpids ≡ s.chpids)
     × (map group_of new.members ≡ map group_of s.members)
     × (new.requests.numbers ≡ s.requests.numbers)
+    × (new.path_return ≡ s.path_return)
 
 either : {A : Type 0} (P : A → Type 0) (b : Bool) (x y : A) → P x → P y → P (if b then x else y)
 either P true x y p q = p
@@ -202,18 +204,18 @@ answer-room waiting None = refl
 answer-room waiting (Some code) = refl
 
 turn-as : (s : State) (e : Event) (r : Reply) (new : State) → ResultOf s e r new → IsAs s new
-turn-as s _ _ _ (turn.Puts address bytes storage e) = (put-of s.storage storage address bytes e, refl, refl, refl)
-turn-as s _ _ _ (turn.SetsKey address key storage e) = (key-of s.storage storage address key e, refl, refl, refl)
-turn-as s _ _ _ (turn.SetsPrefix cpu address storage e) = (cpu_prefix-of s.storage storage cpu address e, refl, refl, refl)
-turn-as s _ _ _ (turn.Executes cpu i id q r storage subs n e blocks left done) = (blocks, refl, refl, refl)
-turn-as s _ _ _ (turn.Interrupts cpu mask address) = (code-of s.storage cpu address _, refl, refl, answer-room s.requests (requests.answer s.requests mask))
+turn-as s _ _ _ (turn.Puts address bytes storage e) = (put-of s.storage storage address bytes e, refl, refl, refl, refl)
+turn-as s _ _ _ (turn.SetsKey address key storage e) = (key-of s.storage storage address key e, refl, refl, refl, refl)
+turn-as s _ _ _ (turn.SetsPrefix cpu address storage e) = (cpu_prefix-of s.storage storage cpu address e, refl, refl, refl, refl)
+turn-as s _ _ _ (turn.Executes cpu i id q r storage subs n e blocks left done) = (blocks, refl, refl, refl, refl)
+turn-as s _ _ _ (turn.Interrupts cpu mask address) = (code-of s.storage cpu address _, refl, refl, answer-room s.requests (requests.answer s.requests mask), refl)
 turn-as s _ _ _ (turn.Meets word path index sub t named there ok) =
     let n : ℕ = length s.storage.keys in
-    (subst (UpOf n) ok (up-of n (returns_at s.subs sub path) s.storage sub path refl), refl, refl, refl)
+    (subst (UpOf n) ok (up-of n (returns_at s.subs sub path) s.storage sub path refl), refl, refl, refl, refl)
 turn-as s _ _ _ (turn.Takes word path index sub u t named there found ok) =
-    (refl, refl, after-groups s.members sub.setup.«unit» (asks_at sub path u) u t.«unit», refl)
-turn-as s _ _ _ (turn.Restarts at u found) = (refl, refl, over-groups s.members at (is_let_go u (restarted u)), refl)
-turn-as s _ _ _ t = (refl, refl, refl, refl)
+    (refl, refl, after-groups s.members sub.setup.«unit» (asks_at sub path u) u t.«unit», refl, refl)
+turn-as s _ _ _ (turn.Restarts at u found) = (refl, refl, over-groups s.members at (is_let_go u (restarted u)), refl, refl)
+turn-as s _ _ _ t = (refl, refl, refl, refl, refl)
 
 -- requests that are posted or dropped leave room as it was
 posted-room : (old new : Subchannel) (waiting : WaitingRequests) → (posted_for old new waiting).numbers ≡ waiting.numbers
@@ -240,7 +242,7 @@ step-as s e r new step =
     let is : HasResult s e r new = step-turn s e r new step in
     let k : IsAs s is.left = turn-as s e r is.left is.turn in
     subst (IsAs s) (sym is.settles)
-    (k.0, k.1, k.2, posted_all-room s.subs is.left.subs (requests_dropped s e r is.left.requests) ∙ (dropped-room s e r is.left.requests ∙ k.3))
+    (k.0, k.1, k.2, posted_all-room s.subs is.left.subs (requests_dropped s e r is.left.requests) ∙ (dropped-room s e r is.left.requests ∙ k.3), k.4)
 
 pub step-blocks : (s : State) (e : Event) (r : Reply) (new : State) → Step s e r new → length new.storage.keys ≡ length s.storage.keys
 step-blocks s e r new w = (step-as s e r new w).0
@@ -253,3 +255,6 @@ step-groups s e r new w = (step-as s e r new w).2
 
 pub step-room : (s : State) (e : Event) (r : Reply) (new : State) → Step s e r new → new.requests.numbers ≡ s.requests.numbers
 step-room s e r new w = (step-as s e r new w).3
+
+pub step-return : (s : State) (e : Event) (r : Reply) (new : State) → Step s e r new → new.path_return ≡ s.path_return
+step-return s e r new w = (step-as s e r new w).4

@@ -21,12 +21,13 @@ pub fn storage_blocks()
     ensures stay { (s : State) (e : Event) (r : Reply) (new : State) → Step s e r new → length new.storage.keys ≡ length s.storage.keys }
 {}
 
-/// No step changes which channel paths are configured, which units share a control unit, or for how many requests of
-/// subchannels there is room.
+/// No step changes which channel paths are configured, which units share a control unit, for how many requests of
+/// subchannels there is room, or how a channel path that is back is reported.
 pub fn stays_set_up()
     ensures chpids { (s : State) (e : Event) (r : Reply) (new : State) → Step s e r new → new.chpids ≡ s.chpids }
     ensures groups { (s : State) (e : Event) (r : Reply) (new : State) → Step s e r new → map group_of new.members ≡ map group_of s.members }
     ensures requests { (s : State) (e : Event) (r : Reply) (new : State) → Step s e r new → new.requests.numbers ≡ s.requests.numbers }
+    ensures path_return { (s : State) (e : Event) (r : Reply) (new : State) → Step s e r new → new.path_return ≡ s.path_return }
 {}
 
 /// No event is refused for want of memory: the definitions take none.

@@ -54,5 +54,6 @@ fn opening_pmcw() -> PmcwState
         last_used: None,
         operational: PathSet::all(),
         available: PathSet::all(),
+        concurrent_sense: false,
     }
 }

@@ -1,4 +1,5 @@
--- Enabling (own): ISC, D and E one are placed in the block that STORE SUBCHANNEL stores, and MODIFY SUBCHANNEL takes it.
+-- Enabling (own): ISC, D and E one are placed in the block that STORE SUBCHANNEL stores, and MODIFY SUBCHANNEL takes it. Its
+-- concurrent-sense bit is the one that stands there, and so it stays.
 use Rattle.std.proofs.Common.{lit<}
 use Rattle.std.proofs.lemmas.Nat.{mod_below}
 use Rattle.std.specs.Prelude.{ℕ, ◌+◌, ◌-◌, ◌*◌, ◌%◌, Bool, true}

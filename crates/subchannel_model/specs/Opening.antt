@@ -11,7 +11,7 @@ use Rattle.subchannel_model.specs.declared.state.SubchannelState.{SubchannelStat
 use Rattle.subchannel_model.specs.declared.state.Subchannel.{Subchannel}
 
 abbrev pub opening_pmcw : PmcwState
-opening_pmcw = record { parameter = 0; subclass = 0; enabled = false; multipath = false; logical = all_paths; not_operational = no_paths; last_used = None; operational = all_paths; available = all_paths; subclass_fits = lit< tt }
+opening_pmcw = record { parameter = 0; subclass = 0; enabled = false; multipath = false; logical = all_paths; not_operational = no_paths; last_used = None; operational = all_paths; available = all_paths; concurrent_sense = false; subclass_fits = lit< tt }
 
 abbrev pub opening_subchannel : SubchannelState
 opening_subchannel = record {

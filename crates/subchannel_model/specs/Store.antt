@@ -27,7 +27,7 @@ chpids_of paths =
     slice_index paths 0 ∷ slice_index paths 1 ∷ slice_index paths 2 ∷ slice_index paths 3
     ∷ slice_index paths 4 ∷ slice_index paths 5 ∷ slice_index paths 6 ∷ slice_index paths 7 ∷ []
 
--- the block: V is one; there are no limits, no measurement, no timing and no concurrent sense
+-- the block: V is one; there are no limits, no measurement and no timing
 abbrev pub pmcw_of : Subchannel → block.Pmcw
 pmcw_of sub = record {
   parameter = sub.state.pmcw.parameter;
@@ -47,7 +47,7 @@ pmcw_of sub = record {
   operational = mask_of_paths sub.state.pmcw.operational;
   available = mask_of_paths (available_paths sub);
   chpids = chpids_of sub.setup.paths;
-  concurrent_sense = false;
+  concurrent_sense = sub.state.pmcw.concurrent_sense;
   subclass_fits = sub.state.pmcw.subclass_fits;
   limit_fits = lit< tt;
   measurement_fits = lit< tt;

@@ -35,6 +35,8 @@ pub struct PmcwState {
     pub operational: PathSet,
     /// PAM: the paths that are not down. Of a path that is not installed it says nothing.
     pub available: PathSet,
+    /// S: concurrent sense, as MODIFY SUBCHANNEL left it. It does nothing here.
+    pub concurrent_sense: bool,
     ghost subclass_fits: { subclass < 8 },
 }
 

@@ -3,6 +3,7 @@ use Rattle.std.proofs.Common.{◌≡◌, refl, ℕ, ◌∙◌, ap, sym, subst, L
 use Rattle.std.proofs.lemmas.List.Elements.{All-cons, All-head, All-nil, All-tail}
 use Rattle.std.specs.Prelude.{unwrap_or, All}
 use Rattle.storage_keys.specs.Storage.{cleared_storage}
+use Rattle.channel_config.specs.declared.parts.PathReturn.{PathReturn}
 use Rattle.channel_config.specs.declared.parts.SubchannelSetup.{SubchannelSetup}
 use Rattle.channel_config.specs.declared.parts.UnitKind.{UnitKind}
 use Rattle.channel_config.specs.Lawful.{IsLawful, IsPlaced}
@@ -34,8 +35,8 @@ idle-units [] (y ∷ ys) e = absurd (omega (arith, e))
 idle-units (x ∷ xs) [] e = absurd (omega (arith, e))
 idle-units (x ∷ xs) (y ∷ ys) e = ap (λ us. idle_of x ∷ us) (idle-units xs ys (omega (arith, e)))
 
-abbrev opening-with : ℕ → ℕ → List ℕ → List SubchannelSetup → List UnitState → List ℕ → State
-opening-with blocks sets chpids subs units groups = record {
+abbrev opening-with : ℕ → ℕ → List ℕ → List SubchannelSetup → List UnitState → List ℕ → PathReturn → State
+opening-with blocks sets chpids subs units groups back = record {
   storage = cleared_storage blocks;
   sets = sets;
   chpids = chpids;
@@ -45,24 +46,26 @@ opening-with blocks sets chpids subs units groups = record {
   members = map idle_member groups;
   requests = no_requests_wait 0x100;
   reports = no_reports_wait;
+  path_return = back;
 }
 
-opening-same : (blocks n sets m : ℕ) (chpids paths : List ℕ) (subs these : List SubchannelSetup) (units those : List UnitState) (groups shared : List ℕ) →
-    blocks ≡ n → sets ≡ m → chpids ≡ paths → subs ≡ these → units ≡ those → groups ≡ shared →
-    opening-with blocks sets chpids subs units groups ≡ opening-with n m paths these those shared
-opening-same blocks n sets m chpids paths subs these units those groups shared a b c d e f =
-    ap (λ (k : ℕ). opening-with k sets chpids subs units groups) a
-    ∙ (ap (λ (k : ℕ). opening-with n k chpids subs units groups) b
-    ∙ (ap (λ (ps : List ℕ). opening-with n m ps subs units groups) c
-    ∙ (ap (λ (xs : List SubchannelSetup). opening-with n m paths xs units groups) d
-    ∙ (ap (λ (us : List UnitState). opening-with n m paths these us groups) e
-    ∙ ap (λ (gs : List ℕ). opening-with n m paths these those gs) f))))
+opening-same : (blocks n sets m : ℕ) (chpids paths : List ℕ) (subs these : List SubchannelSetup) (units those : List UnitState) (groups shared : List ℕ) (back again : PathReturn) →
+    blocks ≡ n → sets ≡ m → chpids ≡ paths → subs ≡ these → units ≡ those → groups ≡ shared → back ≡ again →
+    opening-with blocks sets chpids subs units groups back ≡ opening-with n m paths these those shared again
+opening-same blocks n sets m chpids paths subs these units those groups shared back again a b c d e f g =
+    ap (λ (k : ℕ). opening-with k sets chpids subs units groups back) a
+    ∙ (ap (λ (k : ℕ). opening-with n k chpids subs units groups back) b
+    ∙ (ap (λ (ps : List ℕ). opening-with n m ps subs units groups back) c
+    ∙ (ap (λ (xs : List SubchannelSetup). opening-with n m paths xs units groups back) d
+    ∙ (ap (λ (us : List UnitState). opening-with n m paths these us groups back) e
+    ∙ (ap (λ (gs : List ℕ). opening-with n m paths these those gs back) f
+    ∙ ap (λ (x : PathReturn). opening-with n m paths these those shared x) g)))))
 
 one-opening : (a b : Setup) (s : State) → IsSetUp a s → IsSetUp b s → opening_of a ≡ opening_of b
 one-opening a b s x y =
     opening-same (unwrap_or a.blocks 16) (unwrap_or b.blocks 16) (set_count a) (set_count b) a.paths b.paths a.subchannels b.subchannels (map idle_of a.units) (map idle_of b.units)
-    (groups_of a) (groups_of b) (sym x.blocks ∙ y.blocks) (sym x.sets ∙ y.sets) (sym x.chpids ∙ y.chpids) (sym x.subs ∙ y.subs)
-    (idle-units a.units b.units (sym x.units ∙ y.units)) (sym x.groups ∙ y.groups)
+    (groups_of a) (groups_of b) a.path_return b.path_return (sym x.blocks ∙ y.blocks) (sym x.sets ∙ y.sets) (sym x.chpids ∙ y.chpids) (sym x.subs ∙ y.subs)
+    (idle-units a.units b.units (sym x.units ∙ y.units)) (sym x.groups ∙ y.groups) (sym x.path_return ∙ y.path_return)
 
 -- a run from the opening of one set-up is one from that of each
 run-of-each : (a : Setup) (h : List Entry) (s : State) → IsSetUp a s → Run (opening_of a) h s → HasRun h s

@@ -1,6 +1,6 @@
 //! Looks at a channel subsystem between events, and what its workers are to do next.
 
-ghost use Rattle.std.specs.Prelude.{◌≡◌, length};
+ghost use Rattle.std.specs.Prelude.{◌≡◌, ◌<◌, IfSome, length};
 ghost use Rattle.machine_model.specs.State as state_spec;
 ghost use Rattle.machine_model.specs.UnitTurns.{lent_turns};
 ghost use Rattle.signal_step.specs.PathTurns as path_spec;
@@ -17,12 +17,12 @@ use scsw_irb::serials::Serials;
 impl<P: PathChoice + Drop> Looks for ChannelSubsystem<P> {
     ghost state = { λ s. s.machine };
 
-    fn machine(&self) -> &Machine {
+    fn looked_at(&self) -> &Machine {
         self.machine.apart();
         &self.machine
     }
 
-    fn index_of(&self, subchannel: u32) -> Option<usize> {
+    fn index_named(&self, subchannel: u32) -> Option<usize> {
         self.machine.index_of(&self.indices, subchannel)
     }
 }
@@ -33,6 +33,15 @@ impl<P: PathChoice + Drop> ChannelSubsystem<P> {
         ensures { result ≡ length self.now.machine.subs }
     {
         self.machine.count()
+    }
+
+    /// The index of the subchannel that a subsystem-identification word names, in the order of the configuration, from 0;
+    /// None where it is not configured.
+    pub fn index_of(&self, subchannel: u32) -> Option<usize>
+        ensures index { result ≡ state_spec.index_of self.now.machine subchannel }
+        ensures bound { IfSome result (λ index. index < length self.now.machine.subs) }
+    {
+        self.machine.index_of(&self.indices, subchannel)
     }
 
     /// Of how many blocks of 4,096 bytes storage must be that is lent.

@@ -9,7 +9,7 @@ fn the_last_of_sixteen_says_that_one_was_lost(rt: HostRuntime) {
     let mut reports = Reports::new();
     for _ in 0..8 {
         reports.path_lost(0x10);
-        reports.path_back(0x10);
+        reports.add(PathReport::Back, 0x10);
     }
     reports.path_lost(0x10);
     let mut words = [0u32; 17];
@@ -62,11 +62,14 @@ fn a_path_that_goes_down_is_not_asked_for(rt: HostRuntime) {
     let lost = reports.stcrw().map(Crw::word);
     reports.add(PathReport::Back, 1);
     let back = reports.stcrw().map(Crw::word);
+    reports.add(PathReport::Initialized, 1);
+    let initialized = reports.stcrw().map(Crw::word);
     drop(reports);
     assert!(rt;
         accepted == ConditionCode::Zero
             && !is_asked
             && lost == Some(0x0406_00FF)
             && back == Some(0x0401_0001)
+            && initialized == Some(0x0402_0001)
     );
 }

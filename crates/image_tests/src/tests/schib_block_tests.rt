@@ -2,6 +2,7 @@
 
 use schib_block::pmcw::Pmcw;
 use schib_block::schib::Schib;
+use schib_block::words::PmcwWords;
 use schib_block::{Operand, law};
 use scsw_irb::scsw::Scsw;
 
@@ -63,15 +64,34 @@ fn a_word_is_modified(rt: HostRuntime) {
     let mut pmcw = word();
     let mut image = IMAGE;
     image[5] = 0xA1;
-    let refused = pmcw.modify(&Pmcw::of_schib(&image));
+    let refused = pmcw.modify(&Pmcw::of_schib(&image), false);
     assert!(rt; refused == Err(Operand) && pmcw == word());
     image[4] = 0x38;
     image[5] = 0x81;
     image[6] = 0xFF;
     image[15] = 0;
-    let taken = pmcw.modify(&Pmcw::of_schib(&image));
+    image[27] = 1;
+    let taken = pmcw.modify(&Pmcw::of_schib(&image), false);
     assert!(rt; taken == Ok(()));
     let mut wanted = word();
     wanted.subclass = 7;
     assert!(rt; pmcw == wanted);
+    let taken_with_sense = pmcw.modify(&Pmcw::of_schib(&image), true);
+    wanted.concurrent_sense = true;
+    assert!(rt; taken_with_sense == Ok(()) && pmcw == wanted);
+}
+
+#[test]
+fn concurrent_sense_is_taken_where_that_is_asked_for(rt: HostRuntime) {
+    let mut words = PmcwWords::of(word());
+    let given: [u32; 7] = [0, 0, 0xFF00_0000, 0x0000_FF00, 0, 0, 0xFFFF_FFFF];
+    words.modify(&given, false);
+    let dropped = *words.words();
+    words.modify(&given, true);
+    let kept = *words.words();
+    words.modify(&[0, 0, 0xFF00_0000, 0x0000_FF00, 0, 0, 0xFFFF_FFFE], true);
+    let off_again = *words.words();
+    assert!(rt; dropped == [0, 0x0001_0100, 0xFF00_0080, 0x0000_FF80, 0x1000_0000, 0, 0]);
+    assert!(rt; kept == [0, 0x0001_0100, 0xFF00_0080, 0x0000_FF80, 0x1000_0000, 0, 1]);
+    assert!(rt; off_again == dropped);
 }

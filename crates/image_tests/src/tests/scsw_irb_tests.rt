@@ -62,6 +62,7 @@ fn reports_of_a_path(rt: HostRuntime) {
     for (report, word) in [
         (PathReport::Lost, 0x0406_00C1),
         (PathReport::Back, 0x0401_00C1),
+        (PathReport::Initialized, 0x0402_00C1),
         (PathReport::ResetDone, 0x4402_00C1),
     ] {
         let crw = Crw {
@@ -71,7 +72,7 @@ fn reports_of_a_path(rt: HostRuntime) {
         };
         assert!(rt; crw.word() == word && Crw::of_word(word) == Some(crw));
     }
-    for word in [0, 0x0402_00C1, 0x0406_01C1, 0x0906_00C1] {
+    for word in [0, 0x0404_00C1, 0x4401_00C1, 0x0406_01C1, 0x0906_00C1] {
         assert!(rt; Crw::of_word(word) == None);
     }
 }

@@ -4,7 +4,7 @@ use crate::tests::setups::idle_state;
 use chan_model::hold_state::HoldPhase;
 use chan_model::names::{Path, Side};
 use channel_config::names::SubchannelId;
-use channel_config::parts::{ChpidList, SubchannelSetup};
+use channel_config::parts::{ChpidList, ConcurrentSense, SubchannelSetup};
 use functions::{PackedState, Subchannel};
 use lookup::engines::engaged;
 use lookup::tables::SubchannelIndex;
@@ -37,6 +37,7 @@ fn subchannel(
         unit,
         side,
         paths,
+        concurrent_sense: ConcurrentSense::Dropped,
     };
     Ok(Subchannel {
         state: PackedState::of(setup, state(phase)),

@@ -29,6 +29,7 @@ fn state(words: [u32; 3]) -> SubchannelState {
         last_used: Path::new(3),
         operational: PathSet::none(),
         available: PathSet::all(),
+        concurrent_sense: false,
     };
     state.scsw = Scsw::of_words(&words).unwrap_or(Scsw::zero());
     state.serials = Serials {

@@ -10,7 +10,7 @@ use chan_model::answer::ConditionCode;
 use chan_model::fault::Fault;
 use chan_model::names::{Cpu, Side};
 use channel_config::names::SubchannelId;
-use channel_config::parts::{ChpidList, SubchannelSetup};
+use channel_config::parts::{ChpidList, ConcurrentSense, SubchannelSetup};
 use channel_reports::Reports;
 use functions::{PackedState, Subchannel};
 use interruptions::Pending;
@@ -56,6 +56,7 @@ pub(crate) fn made(alloc: Global) -> Option<Lent> {
         unit: 0,
         side: Side::First,
         paths,
+        concurrent_sense: ConcurrentSense::Dropped,
     };
     let mut up = [false; 256];
     up[0x10] = true;

@@ -5,7 +5,7 @@ use chan_model::hold_state::{HoldPhase, HoldState};
 use chan_model::names::Side;
 use chan_model::paths::PathSet;
 use channel_config::names::SubchannelId;
-use channel_config::parts::{ChpidList, SubchannelSetup};
+use channel_config::parts::{ChpidList, ConcurrentSense, SubchannelSetup};
 use data_move::commands::first_command;
 use data_move::transfer::CommandStart;
 use functions::PackedState;
@@ -29,6 +29,7 @@ pub(crate) fn idle_state() -> SubchannelState {
             last_used: None,
             operational: PathSet::all(),
             available: PathSet::all(),
+            concurrent_sense: false,
         },
         scsw: Scsw::zero(),
         serials: Serials {
@@ -65,6 +66,7 @@ pub(crate) fn setup() -> SubchannelSetup {
         unit: 0,
         side: Side::First,
         paths,
+        concurrent_sense: ConcurrentSense::Dropped,
     }
 }
 

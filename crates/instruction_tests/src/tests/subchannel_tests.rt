@@ -238,6 +238,7 @@ fn pmcw_of(state: &PackedState) -> PmcwState {
         last_used: state.last_used(),
         operational: state.operational(),
         available: state.up(),
+        concurrent_sense: state.pmcw_words()[6] & 1 != 0,
     }
 }
 

@@ -3,7 +3,7 @@
 use chan_model::names::Side;
 use channel_config::config::{Config, ConfigFault, ConfigRule};
 use channel_config::names::{SubchannelId, subchannel_named};
-use channel_config::parts::UnitKind;
+use channel_config::parts::{ConcurrentSense, PathReturn, UnitKind};
 use memory::{Allocator, FailingMemory, Supply};
 use std::alloc::Global;
 
@@ -301,4 +301,42 @@ fn each_growth_is_refused_in_turn(rt: HostRuntime) {
         assert!(rt; fills_as_granted(rt.alloc(), left), "{left}");
         assert!(rt; fills(rt.alloc()));
     }
+}
+
+/// Whether of three subchannels the second alone is one where the concurrent-sense bit is kept.
+fn keeps_second(config: &mut Config) -> bool {
+    let mut made = config.path(0x10) == Ok(()) && accepts_units(config, 3);
+    made = config.subchannel(0x0001_0000, 0x100, 0, &[0x10]) == Ok(()) && made;
+    config.set_concurrent_sense(ConcurrentSense::Kept);
+    made = config.subchannel(0x0001_0001, 0x101, 1, &[0x10]) == Ok(()) && made;
+    config.set_concurrent_sense(ConcurrentSense::Dropped);
+    made = config.subchannel(0x0001_0002, 0x102, 2, &[0x10]) == Ok(()) && made;
+    let subchannels = config.subchannels();
+    let kept = subchannels
+        .iter()
+        .filter(|sub| sub.concurrent_sense.is_kept())
+        .count();
+    let second_kept = match subchannels.get(1) {
+        Some(sub) => sub.concurrent_sense.is_kept(),
+        None => false,
+    };
+    made && kept == 1 && second_kept
+}
+
+#[test]
+fn choices_are_as_they_were_said_last(rt: HostRuntime) {
+    let mut config = Config::new(rt.alloc());
+    let unsaid = config.path_return();
+    config.set_path_return(PathReturn::Initialized);
+    let said = config.path_return();
+    config.set_path_return(PathReturn::Available);
+    let said_again = config.path_return();
+    let second_kept = keeps_second(&mut config);
+    drop(config);
+    assert!(rt;
+        unsaid == PathReturn::Available
+            && said == PathReturn::Initialized
+            && said_again == PathReturn::Available
+            && second_kept
+    );
 }

@@ -297,8 +297,9 @@ units-stay s _ _ _ (walked.Swept e r what new q sets subs units by) = ap (λ (us
 
 -- so the machine stays as it was set up
 pub set_up-stays : (setup : Setup) (s : State) (e : Event) (r : Reply) (new : State) → Walked s e r new → length new.storage.keys ≡ length s.storage.keys →
-    new.chpids ≡ s.chpids → map group_of new.members ≡ map group_of s.members → new.requests.numbers ≡ s.requests.numbers → IsSetUp setup s → IsSetUp setup new
-set_up-stays setup s e r new w blocks chpids groups requests k = record {
+    new.chpids ≡ s.chpids → map group_of new.members ≡ map group_of s.members → new.requests.numbers ≡ s.requests.numbers → new.path_return ≡ s.path_return →
+    IsSetUp setup s → IsSetUp setup new
+set_up-stays setup s e r new w blocks chpids groups requests path_return k = record {
   lawful = k.lawful;
   blocks = blocks ∙ k.blocks;
   sets = sets-stay s e r new w ∙ k.sets;
@@ -307,4 +308,5 @@ set_up-stays setup s e r new w blocks chpids groups requests k = record {
   chpids = chpids ∙ k.chpids;
   groups = groups ∙ k.groups;
   requests = requests ∙ k.requests;
+  path_return = path_return ∙ k.path_return;
 }

@@ -278,6 +278,7 @@ opening-set_up setup lawful = record {
   units = length-map setup.units idle_of;
   groups = map-back idle_member group_of (λ x. refl) (groups_of setup);
   requests = refl;
+  path_return = refl;
 }
 
 -- each unit is in a group

@@ -11,6 +11,8 @@ use Rattle.chan_events.specs.declared.reply.Entry.{Entry}
 use Rattle.chan_events.specs.Replies.{Reply}
 use Rattle.chan_events.specs.declared.reply.Reply.TheVariants as reply
 use Rattle.chan_model.specs.ConditionCodes.{rchp_code}
+use Rattle.channel_config.specs.declared.parts.PathReturn.{PathReturn}
+use Rattle.channel_config.specs.Choices.{back_report}
 use Rattle.channel_config.specs.Setup.{Setup, has_number}
 use Rattle.channel_reports.specs.Queue as reports
 use Rattle.channel_reports.specs.Queue.{WaitingReports, sixteenth_marked}
@@ -92,11 +94,12 @@ down-seen k s chpid seen = record {
 }
 
 back-seen : (k : PathsSeen) (s : State) (chpid : ℕ) → IsSeen k s.up s.reports →
-    IsSeen (record k { up = with_up chpid true k.up; reports = reported report.Back chpid k.reports }) (slice_set s.up chpid true) (reports.with_report s.reports report.Back chpid)
+    IsSeen (record k { up = with_up chpid true k.up; reports = reported (back_report s.path_return) chpid k.reports }) (slice_set s.up chpid true)
+    (reports.with_report s.reports (back_report s.path_return) chpid)
 back-seen k s chpid seen = record {
   up_seen = λ c l. flag-on s.up k.up chpid c (λ e. let long : length s.up ≡ 0x100 = seen.all_up in omega (arith, l, e, long)) (seen.up_seen c l);
   asked_seen = seen.asked_seen;
-  reports_seen = report-is k.reports s.reports.reports report.Back chpid seen.reports_seen;
+  reports_seen = report-is k.reports s.reports.reports (back_report s.path_return) chpid seen.reports_seen;
   all_up = length-set s.up chpid true ∙ seen.all_up;
   all_asked = seen.all_asked;
 }
@@ -150,9 +153,10 @@ asked-seen k s chpid true false low e seen = record {
 asked-seen k s chpid false true low e seen = seen
 asked-seen k s chpid false false low e seen = seen
 
-record IsStepSeen (k : PathsSeen) (e : Event) (r : Reply) (new : State) : Type 0 where
+record IsStepSeen (back : PathReturn) (k : PathsSeen) (e : Event) (r : Reply) (new : State) : Type 0 where
   right : IsEntryRight e r k
-  seen : IsSeen (paths_after e r k) new.up new.reports
+  seen : IsSeen (paths_after back e r k) new.up new.reports
+  returns : new.path_return ≡ back
 
 asked-right : (k : PathsSeen) (s : State) (chpid : ℕ) → chpid < 0x100 → IsSeen k s.up s.reports →
     rchp_code (is_up s.up chpid) (reports.is_asked s.reports chpid) ≡ reset_code k chpid
@@ -161,11 +165,15 @@ asked-right k s chpid low seen =
     ∙ ap (λ (b : Bool). reset_code (record { up = λ c. b; asked = λ c. reports.is_asked s.reports chpid; reports = [] }) 0) (sym (seen.up_seen chpid low))
     ∙ ap (λ (b : Bool). reset_code (record { up = λ c. k.up chpid; asked = λ c. b; reports = [] }) 0) (sym (seen.asked_seen chpid))
 
-turn-seen : (k : PathsSeen) (s : State) (e : Event) (r : Reply) (new : State) → ResultOf s e r new → IsSeen k s.up s.reports → IsStepSeen k e r new
+turn-seen : (k : PathsSeen) (s : State) (e : Event) (r : Reply) (new : State) → ResultOf s e r new → IsSeen k s.up s.reports → IsStepSeen s.path_return k e r new
 turn-seen k s _ _ _ (turn.AsksReset cpu path) seen =
     let chpid : ℕ = field_of path 24 31 in
     let low : chpid < 0x100 = byte-low path in
-    record { right = ap (λ (c : ConditionCode). reply.PathReset c) (asked-right k s chpid low seen); seen = asked-seen k s chpid (is_up s.up chpid) (reports.is_asked s.reports chpid) low refl seen }
+    record {
+      right = ap (λ (c : ConditionCode). reply.PathReset c) (asked-right k s chpid low seen);
+      seen = asked-seen k s chpid (is_up s.up chpid) (reports.is_asked s.reports chpid) low refl seen;
+      returns = refl;
+    }
 turn-seen k s _ _ _ (turn.StoresReport cpu address) seen = record {
   right = ap (λ (xs : List Crw). reply.ChannelReport (slice_get xs 0)) (sym seen.reports_seen);
   seen = record {
@@ -175,18 +183,19 @@ turn-seen k s _ _ _ (turn.StoresReport cpu address) seen = record {
     all_up = seen.all_up;
     all_asked = seen.all_asked;
   };
+  returns = refl;
 }
-turn-seen k s _ _ _ (turn.GoesDown chpid) seen = record { right = tt; seen = down-seen k s chpid seen }
-turn-seen k s _ _ _ (turn.ComesUp chpid) seen = record { right = tt; seen = back-seen k s chpid seen }
-turn-seen k s _ _ _ (turn.IsReset chpid asked) seen = record { right = seen.asked_seen chpid ∙ asked; seen = done-seen k s chpid seen }
-turn-seen k s _ _ _ turn.ResetsAll seen = record { right = tt; seen = wiped-seen k s seen }
-turn-seen k s _ _ _ t seen = record { right = tt; seen = seen }
+turn-seen k s _ _ _ (turn.GoesDown chpid) seen = record { right = tt; seen = down-seen k s chpid seen; returns = refl }
+turn-seen k s _ _ _ (turn.ComesUp chpid) seen = record { right = tt; seen = back-seen k s chpid seen; returns = refl }
+turn-seen k s _ _ _ (turn.IsReset chpid asked) seen = record { right = seen.asked_seen chpid ∙ asked; seen = done-seen k s chpid seen; returns = refl }
+turn-seen k s _ _ _ turn.ResetsAll seen = record { right = tt; seen = wiped-seen k s seen; returns = refl }
+turn-seen k s _ _ _ t seen = record { right = tt; seen = seen; returns = refl }
 
-step-seen : (k : PathsSeen) (s : State) (e : Event) (r : Reply) (new : State) → Step s e r new → IsSeen k s.up s.reports → IsStepSeen k e r new
+step-seen : (k : PathsSeen) (s : State) (e : Event) (r : Reply) (new : State) → Step s e r new → IsSeen k s.up s.reports → IsStepSeen s.path_return k e r new
 step-seen k s e r new step seen =
     let is : HasResult s e r new = step-turn s e r new step in
-    let now : IsStepSeen k e r is.left = turn-seen k s e r is.left is.turn seen in
-    subst (IsStepSeen k e r) (sym is.settles) (record { right = now.right; seen = now.seen })
+    let now : IsStepSeen s.path_return k e r is.left = turn-seen k s e r is.left is.turn seen in
+    subst (IsStepSeen s.path_return k e r) (sym is.settles) (record { right = now.right; seen = now.seen; returns = now.returns })
 
 -- along a run
 abbrev opening_paths : Setup → PathsSeen
@@ -201,8 +210,9 @@ unfolding configured_paths
 configured-long paths = length-map-range_with_len (has_number paths) 0 0x100
 
 record IsRunSeen (setup : Setup) (h : List Entry) (s : State) : Type 0 where
-  seen : IsSeen (seen_through paths_after (opening_paths setup) h) s.up s.reports
+  seen : IsSeen (seen_through (paths_after setup.path_return) (opening_paths setup) h) s.up s.reports
   right : AnswersByPaths setup h
+  returns : s.path_return ≡ setup.path_return
 
 run-seen : (setup : Setup) (h : List Entry) (s : State) → Run (opening_of setup) h s → IsRunSeen setup h s
 run-seen setup _ _ Opened = record {
@@ -214,14 +224,17 @@ run-seen setup _ _ Opened = record {
     all_asked = length-replicate 256 false;
   };
   right = tt;
+  returns = refl;
 }
 run-seen setup _ _ (Stepped h old e r new run step) =
     let before : IsRunSeen setup h old = run-seen setup h old run in
-    let k : PathsSeen = seen_through paths_after (opening_paths setup) h in
-    let now : IsStepSeen k e r new = step-seen k old e r new step before.seen in
+    let k : PathsSeen = seen_through (paths_after setup.path_return) (opening_paths setup) h in
+    let now : IsStepSeen setup.path_return k e r new =
+    subst (λ (back : PathReturn). IsStepSeen back k e r new) before.returns (step-seen k old e r new step before.seen) in
     record {
-      seen = subst (λ (y : PathsSeen). IsSeen y new.up new.reports) (sym (through-more paths_after (opening_paths setup) h e r)) now.seen;
-      right = claim-more paths_after IsEntryRight (opening_paths setup) h e r before.right now.right;
+      seen = subst (λ (y : PathsSeen). IsSeen y new.up new.reports) (sym (through-more (paths_after setup.path_return) (opening_paths setup) h e r)) now.seen;
+      right = claim-more (paths_after setup.path_return) IsEntryRight (opening_paths setup) h e r before.right now.right;
+      returns = now.returns;
     }
 
 pub run-answers-by-paths : (setup : Setup) (h : List Entry) (s : State) → Run (opening_of setup) h s → AnswersByPaths setup h

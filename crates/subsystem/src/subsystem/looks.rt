@@ -13,11 +13,11 @@ use storage_keys::key::Key;
 impl<P: PathChoice + Drop> Looks for Subsystem<P> {
     ghost state = { λ s. s.state };
 
-    fn machine(&self) -> &Machine {
+    fn looked_at(&self) -> &Machine {
         self.machine.beside()
     }
 
-    fn index_of(&self, subchannel: u32) -> Option<usize> {
+    fn index_named(&self, subchannel: u32) -> Option<usize> {
         self.machine.beside().index_of(&self.indices, subchannel)
     }
 }

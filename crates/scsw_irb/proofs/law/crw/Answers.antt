@@ -4,7 +4,7 @@ use Rattle.zbits.specs.Bits.{field_of}
 use Rattle.zbits.specs.Layout.{word_of, bit_number}
 use Rattle.zbits.proofs.LayoutLemmas.{shows_word_of}
 use Rattle.scsw_irb.specs.declared.crw.PathReport.{PathReport}
-use Rattle.scsw_irb.specs.declared.crw.PathReport.TheVariants.{Lost, Back, ResetDone}
+use Rattle.scsw_irb.specs.declared.crw.PathReport.TheVariants.{Lost, Back, Initialized, ResetDone}
 use Rattle.scsw_irb.specs.CrwTable.{crw_table, error_code, is_solicited, report_of_code}
 use Rattle.scsw_irb.proofs.Fits.{crw-fit, one_words}
 use Rattle.scsw_irb.proofs.law.crw.Goals as goal
@@ -13,6 +13,7 @@ use Rattle.scsw_irb.proofs.law.crw.Goals as goal
 coded : (report : PathReport) → IsSome (report_of_code (bit_number (is_solicited report)) (error_code report))
 coded Lost = refl
 coded Back = refl
+coded Initialized = refl
 coded ResetDone = refl
 
 pub returns-clause-allowed : goal.returns-clause-allowed
