@@ -58,19 +58,20 @@ pub fn keep_last<M: MainStorage, P: PathChoice + Drop>(
     ensures fresh { log.new.reply ≡ reply_spec.Done }
     ensures room { 1 ≤ log.new.room + length log.new.entries }
     ensures lender { M.lender storage.new ≡ M.lender storage.old }
-    ensures sound { IsAddressable (M.contents storage.new) }
+    ensures sound { OnOk result (IsAddressable (M.contents storage.new)) }
 {
     numbers();
     setups();
     machine.apart();
-    let answer = machine.perform(storage, indices, choice, event, log);
-    machine.apart();
-    let _ = storage.size();
-    match answer {
+    match machine.perform(storage, indices, choice, event, log) {
         Ok(()) => {
             log.finish(event);
+            let _ = storage.size();
             Ok(())
         }
-        Err(fault) => Err(fault),
+        Err(fault) => {
+            machine.apart();
+            Err(fault)
+        }
     }
 }
