@@ -4,6 +4,7 @@ use Rattle.std.specs.Prelude.{IfSome}
 use Rattle.storage_keys.specs.Storage.{Contents, IsAddressable}
 use Rattle.chan_model.specs.declared.fault.Fault.{Fault}
 use Rattle.chan_events.specs.Events.{Event}
+use Rattle.chan_events.specs.declared.reply.Entry.{Entry}
 use Rattle.chan_events.specs.Replies.{Reply}
 use Rattle.machine.specs.Lent.{lent, no_storage}
 use Rattle.machine_model.specs.Ruled.{GoesByRule}
@@ -66,6 +67,14 @@ unmoved keeps picks old new before after e f same storage sound why ruled =
       rises = same-rises (all_serials old.machine);
       ordered = tt;
     }))
+
+-- the same, where the log was emptied of what it had
+pub unmoved-seen : KeepsSetUps → (picks : Rule) (old seen : Hosted) (last : List Entry) (before after : Contents) (e : Event) (f : HostFault) → old ≡ seen → last ≡ [] → after ≡ before →
+    IsAddressable before → IsHostRefusal old before e f → IfSome (machine_answer (Err f)) (λ a. GoesByRule picks (lent old.machine before) e a (lent old.machine before)) →
+    IsHostStep picks seen before e (Err f) (record old { last = last }) after
+unmoved-seen keeps picks old seen last before after e f same none storage sound why ruled =
+    subst (λ (s : Hosted). IsHostStep picks s before e (Err f) (record old { last = last }) after) same
+    (unmoved keeps picks old (record old { last = last }) before after e f (ap (λ (l : List Entry). record old { last = l }) none) storage sound why ruled)
 
 -- a refusal of the machine changed nothing beside storage either
 pub same-machine : (old new : State) (before after : Contents) → lent new after ≡ lent old before → old ≡ lent old no_storage → new ≡ lent new no_storage → new ≡ old

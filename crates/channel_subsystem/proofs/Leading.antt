@@ -76,6 +76,16 @@ led-still keeps old before sound size h storage k =
     subst (λ (l : List Entry). Leads (h ++ l) (record old { last = [] }) before) (sym (append-nil (stores before)))
     (record { run = there.run; size = there.size; counted = there.counted })
 
+-- what was the entry of its last call is no matter
+pub led-whatever : (s : Hosted) (last : List Entry) → HasLed s → HasLed (record s { last = last })
+led-whatever s last (h, storage, k) = (h, storage, record { run = k.run; size = k.size; counted = k.counted })
+
+pub led-on : KeepsSetUps → (old new : Hosted) (before after : Contents) (e : Event) (r : Reply) → new.last ≡ record { event = e; reply = r } ∷ [] → new.count ≡ old.count + 1 →
+    new.blocks ≡ old.blocks → Step (lent old.machine before) e r (lent new.machine after) → IsAddressable before → IsAddressable after →
+    IsOfSize old.blocks before → HasLed old → HasLed new
+led-on keeps old new before after e r last count blocks step sound further size (h, storage, k) =
+    (h ++ (stores before ++ new.last), after, led-further keeps old new before after e r last count blocks step sound further size h storage k)
+
 -- at the opening
 pub led-opens : (setup : Setup) (blocks : ℕ) (s : Hosted) → IsLawful setup → 16 ≤ blocks → s.machine ≡ lent (opening_of setup) no_storage → s.blocks ≡ blocks →
     Leads [] s (cleared_storage blocks)

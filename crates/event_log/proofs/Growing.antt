@@ -90,6 +90,10 @@ told-behind arena more start k r ends told = ap (reply_in k) (added-behind arena
 pub room-grows : (slots more count near far start : ℕ) → slots ≤ more → near ≤ far → room_of (slots - count) (near - start) ≤ room_of (more - count) (far - start)
 room-grows slots more count near far start wider grows = omega (arith, wider, grows)
 
+-- where there is room for an entry, there would be room for one before the first
+pub room-needs : (slots size start : ℕ) → 1 ≤ room_of slots (size - start) → 768 ≤ size
+room-needs slots size start some = omega (arith, some)
+
 -- an entry stands behind those that have ended, which are as before
 pub record IsBehind (items new : List KeptEntry) (count : ℕ) (k : KeptEntry) : Type 0 where
   pub front : take count new ≡ take count items

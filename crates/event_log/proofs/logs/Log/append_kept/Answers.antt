@@ -1,8 +1,8 @@
-use Rattle.std.proofs.Common.{◌∙◌, ap, ap₂, List, ℕ, [], ◌∷◌, ◌++◌, drop, take, rules}
+use Rattle.std.proofs.Common.{◌≤◌, ◌-◌, ◌∙◌, ap, ap₂, arith, subst, sym, vec_capacity, List, ℕ, [], ◌∷◌, ◌++◌, drop, take, rules}
 use Rattle.event_log.specs.declared.entries.KeptEntry.{KeptEntry}
 use Rattle.event_log.specs.Entries.{entry_in}
-use Rattle.event_log.specs.Logs.{entries_at, written_reply}
-use Rattle.event_log.proofs.Growing.{added-all, all-taken, begun, kept-added}
+use Rattle.event_log.specs.Logs.{entries_at, room_of, written_reply}
+use Rattle.event_log.proofs.Growing.{added-all, all-taken, begun, kept-added, room-needs}
 use Rattle.event_log.proofs.logs.Log.append_kept.Goals as goal
 
 pub invariant_of-self : goal.invariant_of-self
@@ -12,8 +12,10 @@ invariant_of-self c =
     let kept : KeptEntry = record c.args.kept.now { start = log.start } in
     let before = written_reply (drop log.count log.entries.items) in
     let new = begun log.bytes.items (take log.count log.entries.items) log.start before is.written (ap (λ l. l.reply) c.self.view_is ∙ c.requires.fresh) in
-    added-all log.bytes.items c.args.bytes.now c.add_bytes.new.arena.items log.entries.items c.push_same.new.entries.items before kept log.count c.len-self-inside.result
-    c.add_bytes.ensures.items c.push_same.ensures.items (search rules) is.some is.written new c.requires.whole
+    let some : 1 ≤ room_of (vec_capacity log.entries - log.count) (vec_capacity log.bytes - log.start) = subst (λ (n : ℕ). 1 ≤ n) (sym (ap (λ l. l.room) c.self.view_is)) c.requires.room in
+    (added-all log.bytes.items c.args.bytes.now c.add_bytes.new.arena.items log.entries.items c.push_same.new.entries.items before kept log.count c.len-self-inside.result
+    c.add_bytes.ensures.items c.push_same.ensures.items (search rules) is.some is.written new c.requires.whole,
+    λ _. omega (arith, room-needs (vec_capacity log.entries - log.count) (vec_capacity log.bytes) log.start some, c.add_bytes.ensures.capacity))
 
 pub returns-clause-entries : goal.returns-clause-entries
 returns-clause-entries c =
