@@ -1,6 +1,6 @@
 -- Storage that is lent is addressable, and its keys are those that its bytes show.
 use Rattle.std.proofs.Common.{◌≡◌, ℕ, zero, suc, ◌+◌, ◌-◌, ◌*◌, ◌/◌, ◌%◌, ◌^◌, ◌<◌, ◌≤◌, Bool, true, false, ◌&&◌, ◌||◌, ◌==◌, List, [], ◌∷◌, length, map, take, drop, refl, sym, ap, subst, ◌∙◌, arith}
-use Rattle.std.specs.Prelude.{IsTrue, Option, Some, None, nat_le, option_map, if◌then◌else◌, slice_get, slice_index, slice_range, slice_set}
+use Rattle.std.specs.Prelude.{IsTrue, Some, None, nat_le, option_map, if◌then◌else◌, slice_get, slice_index, slice_range, slice_set}
 use Rattle.std.specs.List.{list_all}
 use Rattle.std.proofs.lemmas.Bool.Decides.{nat_tests}
 use Rattle.std.proofs.Math.Bridge.{le_prop}
@@ -8,7 +8,7 @@ use Rattle.std.proofs.lemmas.List.{length-map, length-set, map-set, take-map, dr
 use Rattle.std.proofs.lemmas.Option.{slice_get-map}
 use Rattle.std.proofs.lemmas.List.Folds.{list_all-map}
 use Rattle.storage_keys.specs.declared.key.Key.{Key}
-use Rattle.storage_keys.specs.Storage.{IsAddressable, IsPrefix, access-lt, bit_number, byte_of, is_prefix, lent_contents, may_be_lent, key_of_byte, keys_permit}
+use Rattle.storage_keys.specs.Storage.{IsAddressable, IsPrefix, access-lt, are_areas, are_blocks, bit_number, byte_of, is_prefix, lent_contents, may_be_lent, key_of_byte, keys_permit}
 
 both : (a b : Bool) → IsTrue (a && b) → IsTrue a × IsTrue b
 both true true h = (refl, refl)
@@ -24,11 +24,14 @@ areas size [] cpu least h = (refl, omega arith)
 areas size (p ∷ ps) zero least h = prefix-is size p (both (is_prefix size p) (list_all (is_prefix size) ps) h).0
 areas size (p ∷ ps) (suc cpu) least h = areas size ps cpu least (both (is_prefix size p) (list_all (is_prefix size) ps) h).1
 
-least-size : (size blocks : ℕ) → IsTrue (nat_le 16 blocks && nat_le blocks 524288) → IsTrue (size == 4096 * blocks) → 8192 ≤ size
+least-size : (size blocks : ℕ) → IsTrue (nat_le 16 blocks) → IsTrue (size == 4096 * blocks) → 8192 ≤ size
 least-size size blocks some same = grind (arith, nat_tests)
 
-greatest-size : (size blocks : ℕ) → IsTrue (nat_le 16 blocks && nat_le blocks 524288) → IsTrue (size == 4096 * blocks) → size ≤ 2 ^ 31
-greatest-size size blocks some same = grind (arith, nat_tests)
+greatest-size : (size blocks : ℕ) → IsTrue (nat_le blocks 524288) → IsTrue (size == 4096 * blocks) → size ≤ 2 ^ 31
+greatest-size size blocks few same = grind (arith, nat_tests)
+
+most-blocks : (blocks : ℕ) → IsTrue (nat_le blocks 524288) → blocks ≤ 524288
+most-blocks blocks few = grind (arith, nat_tests)
 
 whole-blocks : (size blocks : ℕ) → IsTrue (size == 4096 * blocks) → size ≡ 4096 * blocks
 whole-blocks size blocks same = grind (arith, nat_tests)
@@ -38,18 +41,19 @@ inside-size address count size inside some = grind (arith, nat_tests)
 
 -- what may be lent, part by part
 record IsLendable (size blocks : ℕ) (prefixes : List ℕ) : Type 0 where
-  pub some : IsTrue (nat_le 16 blocks && nat_le blocks 524288)
+  pub least : IsTrue (nat_le 16 blocks)
+  pub greatest : IsTrue (nat_le blocks 524288)
   pub whole : IsTrue (size == 4096 * blocks)
   pub cpus : IsTrue (length prefixes == 16)
   pub areas : IsTrue (list_all (is_prefix size) prefixes)
 
 lendable : (size blocks : ℕ) (prefixes : List ℕ) → IsTrue (may_be_lent size blocks prefixes) → IsLendable size blocks prefixes
 lendable size blocks prefixes h =
-    let named = list_all (is_prefix size) prefixes in
-    let one = both (nat_le 16 blocks && nat_le blocks 524288) ((size == 4096 * blocks) && ((length prefixes == 16) && named)) h in
-    let two = both (size == 4096 * blocks) ((length prefixes == 16) && named) one.1 in
-    let three = both (length prefixes == 16) named two.1 in
-    record { some = one.0; whole = two.0; cpus = three.0; areas = three.1 }
+    let parts = both (are_blocks size blocks) (are_areas size prefixes) h in
+    let one = both (nat_le 16 blocks) (nat_le blocks 524288 && size == 4096 * blocks) parts.0 in
+    let two = both (nat_le blocks 524288) (size == 4096 * blocks) one.1 in
+    let three = both (length prefixes == 16) (list_all (is_prefix size) prefixes) parts.1 in
+    record { least = one.0; greatest = two.0; whole = two.1; cpus = three.0; areas = three.1 }
 
 sixteen : (count : ℕ) → IsTrue (count == 16) → count ≡ 16
 sixteen count h = grind (arith, nat_tests)
@@ -62,8 +66,8 @@ lent-addressable bytes keys prefixes h =
     record {
       blocks = whole-blocks size blocks k.whole ∙ ap (λ n. 4096 * n) (sym (length-map keys key_of_byte));
       cpus = sixteen (length prefixes) k.cpus;
-      greatest = greatest-size size blocks k.some k.whole;
-      prefixes = λ cpu. areas size prefixes cpu (least-size size blocks k.some k.whole) k.areas;
+      greatest = greatest-size size blocks k.greatest k.whole;
+      prefixes = λ cpu. areas size prefixes cpu (least-size size blocks k.least k.whole) k.areas;
     }
 
 blocks-permit : (permits : Key → Bool) (keys : List ℕ) (none : Bool) (a b : ℕ) →
@@ -90,7 +94,7 @@ lent-block size blocks prefixes address count h inside some =
     omega arith
 
 -- a key is the one that its byte shows
-key-with : (access : ℕ) (fetch_protected referenced changed : Bool) → access < 16 → Key
+abbrev key-with : (access : ℕ) (fetch_protected referenced changed : Bool) → access < 16 → Key
 key-with access fetch_protected referenced changed fits =
     record { access = access; fetch_protected = fetch_protected; referenced = referenced; changed = changed; access_fits = fits }
 
@@ -150,6 +154,9 @@ lendable-with size blocks prefixes cpu prefix is h =
     let k = lendable size blocks prefixes h in
     let more = slice_set prefixes cpu prefix in
     let cpus : IsTrue (length more == 16) = ap (λ n. n == 16) (length-set prefixes cpu prefix) ∙ k.cpus in
-    both-back (nat_le 16 blocks && nat_le blocks 524288) ((size == 4096 * blocks) && ((length more == 16) && list_all (is_prefix size) more)) k.some
-    (both-back (size == 4096 * blocks) ((length more == 16) && list_all (is_prefix size) more) k.whole
-    (both-back (length more == 16) (list_all (is_prefix size) more) cpus (all-set (is_prefix size) prefixes cpu prefix (prefix-tells size prefix is) k.areas)))
+    both-back (are_blocks size blocks) (are_areas size more) (both (are_blocks size blocks) (are_areas size prefixes) h).0
+    (both-back (length more == 16) (list_all (is_prefix size) more) cpus (all-set (is_prefix size) prefixes cpu prefix (prefix-tells size prefix is) k.areas))
+
+-- how many keys there are
+pub lent-keys : (size blocks : ℕ) (prefixes : List ℕ) → IsTrue (may_be_lent size blocks prefixes) → blocks ≤ 524288
+lent-keys size blocks prefixes h = most-blocks blocks (lendable size blocks prefixes h).greatest

@@ -83,9 +83,14 @@ abbrev pub is_prefix : ℕ → ℕ → Bool
 is_prefix size prefix = (prefix % 8192 == 0) && nat_le (prefix + 8192) size
 
 -- 16 to 524,288 blocks may be lent, each with its key, and 16 prefixes, each with its area (own)
+abbrev pub are_blocks : ℕ → ℕ → Bool
+are_blocks size blocks = nat_le 16 blocks && (nat_le blocks 524288 && size == 4096 * blocks)
+
+abbrev pub are_areas : ℕ → List ℕ → Bool
+are_areas size prefixes = length prefixes == 16 && list_all (is_prefix size) prefixes
+
 abbrev pub may_be_lent : ℕ → ℕ → List ℕ → Bool
-may_be_lent size blocks prefixes =
-    (nat_le 16 blocks && nat_le blocks 524288) && ((size == 4096 * blocks) && ((length prefixes == 16) && list_all (is_prefix size) prefixes))
+may_be_lent size blocks prefixes = are_blocks size blocks && are_areas size prefixes
 
 -- Accesses by absolute address
 

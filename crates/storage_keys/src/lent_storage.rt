@@ -28,19 +28,11 @@ impl<'a> LentStorage<'a> {
     pub fn fits(size: usize, keys: usize, prefixes: &[u32]) -> bool
         ensures { result ≡ spec.may_be_lent size keys prefixes.now }
     {
-        16 <= keys
-            && keys <= MOST_BLOCKS
-            && size == BLOCK * keys
-            && prefixes.len() == 16
-            && prefixes.iter().all(|prefix| is_prefix(size, *prefix))
+        are_blocks(size, keys) && are_areas(size, prefixes)
     }
 
     /// Storage that is lent.
-    pub fn new(
-        bytes: &'a mut [u8],
-        keys: &'a mut [u8],
-        prefixes: &'a mut [u32],
-    ) -> LentStorage<'a>
+    pub fn new(bytes: &'a mut [u8], keys: &'a mut [u8], prefixes: &'a mut [u32]) -> LentStorage<'a>
         requires { IsTrue (spec.may_be_lent (length bytes.old) (length keys.old) prefixes.old) }
         ensures same_bytes { result.bytes.ghost_name ≡ bytes.entry.ghost_name }
         ensures same_keys { result.keys.ghost_name ≡ keys.entry.ghost_name }
@@ -102,6 +94,27 @@ impl MainStorage for LentStorage<'_> {
     }
 }
 
+/// Whether so many bytes are so many blocks, as many as may be lent.
+fn are_blocks(size: usize, blocks: usize) -> bool
+    ensures { result ≡ spec.are_blocks size blocks }
+{
+    16 <= blocks && blocks <= MOST_BLOCKS && size == BLOCK * blocks
+}
+
+/// Whether these are prefixes for 16 CPUs, each the address of an area in storage of this size.
+fn are_areas(size: usize, prefixes: &[u32]) -> bool
+    ensures { result ≡ spec.are_areas size prefixes.now }
+{
+    prefixes.len() == 16 && are_prefixes(size, prefixes)
+}
+
+/// Whether each of these is the address of an area in storage of this size.
+fn are_prefixes(size: usize, prefixes: &[u32]) -> bool
+    ensures { result ≡ list_all (spec.is_prefix size) prefixes.now }
+{
+    prefixes.iter().all(|prefix| is_prefix(size, *prefix))
+}
+
 /// Whether a prefix is the address of an area in storage of this size.
 fn is_prefix(size: usize, prefix: u32) -> bool
     ensures { result ≡ spec.is_prefix size prefix }
@@ -111,7 +124,8 @@ fn is_prefix(size: usize, prefix: u32) -> bool
 
 /// The keys of the blocks in which so many bytes lie, from an absolute address on.
 fn blocks_of(keys: &[u8], address: u32, count: usize) -> &[u8]
-    requires { 0 < count → (address + (count - 1)) / 4096 < length keys.now }
+    requires inside { 0 < count → (address + (count - 1)) / 4096 < length keys.now }
+    requires bound { length keys.now ≤ 524288 }
     ensures { result.now ≡ (if count == 0 then [] else slice_range keys.now (address / 4096) ((address + (count - 1)) / 4096 + 1)) }
 {
     if count == 0 {
