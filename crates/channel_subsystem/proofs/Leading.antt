@@ -93,9 +93,9 @@ led-opens setup blocks s lawful least opened same = record {
   run = past-opens (hosted setup blocks) [] (lent s.machine (cleared_storage blocks)) (lawful-storage setup blocks least lawful) refl
       (ap (λ (m : State). lent m (cleared_storage blocks)) opened);
   size = record {
-    bytes = length-replicate (4096 * blocks) 0 ∙ ap (λ (n : ℕ). 4096 * n) (sym same);
+    bytes = length-replicate {A = ℕ} (4096 * blocks) 0 ∙ ap (λ (n : ℕ). 4096 * n) (sym same);
     keys = length-replicate blocks _ ∙ sym same;
-    cpus = length-replicate 16 0;
+    cpus = length-replicate {A = ℕ} 16 0;
   };
   counted = let none : besides_stores [] ≡ 0 = refl in omega (arith, none);
 }
