@@ -1,5 +1,5 @@
 -- The numbers of each unit are at most the number of events.
-use Rattle.std.proofs.Common.{◌≡◌, refl, sym, subst, ℕ, ◌+◌, ◌<◌, Bool, true, false, cond, nat_lt, Option, None, Some, Result, List, [], ◌∷◌, length, map, arith}
+use Rattle.std.proofs.Common.{◌≡◌, refl, sym, subst, ℕ, ◌+◌, ◌<◌, Bool, true, false, cond, nat_lt, Option, None, Some, Result, List, length, map, arith}
 use Rattle.std.specs.Prelude.{slice_get, slice_set, All, IfOk}
 use Rattle.std.specs.List.{AllZip}
 use Rattle.std.proofs.lemmas.List.Elements.{All-map, AllZip-get_or, length_all_zip}
