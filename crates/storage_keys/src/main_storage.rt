@@ -7,7 +7,9 @@ ghost use Rattle.storage_keys.specs.Storage as spec;
 use crate::StorageFault;
 use crate::accesses::{check_fetch, is_inside, part};
 use crate::key::Key;
-use crate::operands::{PREFIX_AREA, absolute_under, is_operand_inside, piece_length, read_operand, store_piece};
+use crate::operands::{
+    PREFIX_AREA, absolute_under, is_operand_inside, piece_length, read_operand, store_piece,
+};
 
 /// Main storage: at most 2,147,483,648 bytes, a key for each block of 4,096 of them, and a prefix for each of 16 CPUs. Who has
 /// it gives its bytes, what its keys permit, its prefixes and a write; all accesses stand on these. No call takes memory.
