@@ -358,7 +358,8 @@ impl PackedState {
     fn disable(&mut self)
         ensures { self.new ≡ with_pmcw self.old (disabled self.old.state.pmcw) }
     {
-        self.pmcw.modify(&[0, 0, 0xFF00_0000, 0x0000_FF00, 0, 0, 0], true);
+        self.pmcw
+            .modify(&[0, 0, 0xFF00_0000, 0x0000_FF00, 0, 0, 0], true);
     }
 }
 

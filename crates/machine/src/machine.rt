@@ -453,7 +453,13 @@ impl Machine {
         ensures lender { M.lender storage.new ≡ M.lender storage.old }
     {
         let answer = match event {
-            Event::Up { subchannel, path } => return self.up(storage, indices, *subchannel, *path, log),
+            Event::Up { subchannel, path } => return self.up(
+                storage,
+                indices,
+                *subchannel,
+                *path,
+                log,
+            ),
             Event::Down { subchannel, path } => return self.down(indices, *subchannel, *path, log),
             Event::Report { unit, report } => return self.tell_report(indices, *unit, report, log),
             Event::Choose { subchannel } => {
@@ -467,7 +473,11 @@ impl Machine {
             Event::Put { address, bytes } => put(storage, *address, bytes),
             Event::SetKey { address, key } => set_key(storage, *address, *key),
             Event::SetPrefix { cpu, address } => set_prefix(storage, *cpu, *address),
-            Event::ExecuteOther { cpu, instruction } => self.execute_other(storage, *cpu, *instruction),
+            Event::ExecuteOther { cpu, instruction } => self.execute_other(
+                storage,
+                *cpu,
+                *instruction,
+            ),
             Event::Restart { unit } => self.restart(*unit),
             Event::PathDown { chpid } => self.path_down(*chpid),
             Event::PathUp { chpid } => self.path_up(*chpid),

@@ -97,6 +97,7 @@ impl MachineAndStorage {
         ensures kept { IsKept log.old log.new }
         ensures refused { OnErr result (log.new ≡ log.old) }
     {
-        self.machine.perform(&mut self.storage, indices, choice, event, log)
+        self.machine
+            .perform(&mut self.storage, indices, choice, event, log)
     }
 }

@@ -44,11 +44,7 @@ pub fn put<M: MainStorage>(
 
 /// SetKey: the key of the block of an address.
 #[inline(never)]
-pub fn set_key<M: MainStorage>(
-    storage: &mut M,
-    address: u32,
-    key: Key,
-) -> Result<PlainReply, Fault>
+pub fn set_key<M: MainStorage>(storage: &mut M, address: u32, key: Key) -> Result<PlainReply, Fault>
     ensures gives { (machine : State) → giving_spec.Gives (lent machine (M.contents storage.old)) (storage_spec.key_result (lent machine (M.contents storage.old)) address key) (plain_outcome result) (lent machine (M.contents storage.new)) }
     ensures lender { M.lender storage.new ≡ M.lender storage.old }
 {

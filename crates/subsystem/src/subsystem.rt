@@ -317,7 +317,9 @@ impl<P: PathChoice + Drop> Subsystem<P> {
     pub fn path_turn(&self, subchannel: u32, chpid: u8) -> Option<Event>
         ensures { result ≡ path_spec.path_turn_of self.now.state subchannel chpid }
     {
-        self.machine.beside().path_turn(&self.indices, subchannel, chpid)
+        self.machine
+            .beside()
+            .path_turn(&self.indices, subchannel, chpid)
     }
 
     /// What a unit is to do next; None where it is not configured.

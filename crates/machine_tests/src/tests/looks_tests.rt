@@ -18,8 +18,12 @@ const CHPID: u8 = 0x10;
 fn signals(subsystem: &Subsystem<Rotating>) -> Option<(usize, usize)> {
     let path = Path::new(0)?;
     let wires = &subsystem.subchannel(WORD)?.wires;
-    let down = (0..8).filter(|index| wires.down_at(path, *index).is_some()).count();
-    let up = (0..8).filter(|index| wires.up_at(path, *index).is_some()).count();
+    let down = (0..8)
+        .filter(|index| wires.down_at(path, *index).is_some())
+        .count();
+    let up = (0..8)
+        .filter(|index| wires.up_at(path, *index).is_some())
+        .count();
     Some((down, up))
 }
 
@@ -96,8 +100,8 @@ fn shows_block(subsystem: &Subsystem<Rotating>) -> bool {
     };
     schib[..28]
         == [
-            0, 0, 0, 0, 0x00, 0x81, 0x01, 0x00, 0xFF, 0x00, 0x80, 0x80, 0, 0, 0xFF, 0x80, 0x10, 0, 0, 0, 0,
-            0, 0, 0, 0, 0, 0, 0,
+            0, 0, 0, 0, 0x00, 0x81, 0x01, 0x00, 0xFF, 0x00, 0x80, 0x80, 0, 0, 0xFF, 0x80, 0x10, 0,
+            0, 0, 0, 0, 0, 0, 0, 0, 0, 0,
         ]
         && schib[28..40] == [0, 0x80, 0x40, 7, 0, 0, 0x10, 8, 0x0C, 0, 0, 0]
 }
@@ -107,7 +111,10 @@ fn shows_status(subsystem: &Subsystem<Rotating>) -> bool {
     let Some(irb) = subsystem.irb(WORD) else {
         return false;
     };
-    irb[..16] == [0, 0x80, 0x40, 7, 0, 0, 0x10, 8, 0x0C, 0, 0, 0, 0, 0x80, 0, 0]
+    irb[..16]
+        == [
+            0, 0x80, 0x40, 7, 0, 0, 0x10, 8, 0x0C, 0, 0, 0, 0, 0x80, 0, 0,
+        ]
         && subsystem.requested_subclasses() == 0x80
         && !subsystem.is_path_engaged(CHPID)
         && subsystem.history().len() == 17

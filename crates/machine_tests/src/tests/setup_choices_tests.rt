@@ -15,8 +15,8 @@ use subsystem::subsystem::Subsystem;
 /// A subchannel-information block: E is one (bit 8 of word 1), LPM (byte 0 of word 2) and POM (byte 2 of word 3) are all ones, and
 /// S is one (bit 31 of word 6).
 const BLOCK: [u8; 52] = [
-    0, 0, 0, 0, 0, 0x80, 0, 0, 0xFF, 0, 0, 0, 0, 0, 0xFF, 0, 0, 0, 0, 0, 0, 0, 0, 0, 0, 0, 0, 1, 0, 0,
-    0, 0, 0, 0, 0, 0, 0, 0, 0, 0, 0, 0, 0, 0, 0, 0, 0, 0, 0, 0, 0, 0,
+    0, 0, 0, 0, 0, 0x80, 0, 0, 0xFF, 0, 0, 0, 0, 0, 0xFF, 0, 0, 0, 0, 0, 0, 0, 0, 0, 0, 0, 0, 1, 0,
+    0, 0, 0, 0, 0, 0, 0, 0, 0, 0, 0, 0, 0, 0, 0, 0, 0, 0, 0, 0, 0, 0, 0,
 ];
 
 /// A set-up of two subchannels on one path, of which MODIFY SUBCHANNEL keeps the concurrent-sense bit at the first alone.
@@ -97,7 +97,10 @@ fn concurrent_sense_is_kept_where_the_setup_says_so(rt: HostRuntime) {
     assert!(rt; kept, "the first subchannel keeps it");
     assert!(rt; dropped, "the second drops it");
     assert!(rt; stays, "enabling leaves it");
-    assert!(rt; reset && after_reset, "it is zero after a reset of the subsystem");
+    assert!(rt;
+        reset && after_reset,
+        "it is zero after a reset of the subsystem"
+    );
 }
 
 /// What STORE CHANNEL REPORT WORD gives; None where no report waits.

@@ -8,8 +8,8 @@ use data_move::moving::Move;
 use idaw::{ListKind, WordFault};
 use orb_block::Orb;
 use std::alloc::Global;
-use storage_keys::{MainStorage, Storage};
 use storage_keys::key::Key;
+use storage_keys::{MainStorage, Storage};
 
 const PROGRAM: Check = Check::Program;
 
