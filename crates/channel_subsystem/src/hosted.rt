@@ -71,12 +71,7 @@ impl<P: Drop> Model for ChannelSubsystem<P> {
 impl<P: PathChoice + Drop> ChannelSubsystem<P> {
     /// The channel subsystem that is set up so, for storage of so many blocks of 4,096 bytes, whatever the set-up says of storage.
     /// What was given is handed back where there is no memory, or the blocks are not 16 to 524,288.
-    pub fn new(
-        alloc: Global,
-        config: Config,
-        blocks: u32,
-        choice: P,
-    ) -> Result<Self, NotMade<P>>
+    pub fn new(alloc: Global, config: Config, blocks: u32, choice: P) -> Result<Self, NotMade<P>>
         ensures made { IfOk result (λ s. s ≡ record { machine = lent (state_spec.opening_of config) no_storage; blocks = blocks; last = []; count = 0 }) }
         ensures leads { IfOk result (λ s. Leads [] s (cleared_storage blocks)) }
         ensures set_up { IfOk result (λ s. IsSetUp (hosted config blocks) (lent s.machine (cleared_storage blocks))) }
@@ -84,7 +79,13 @@ impl<P: PathChoice + Drop> ChannelSubsystem<P> {
         ensures config { IfErr result (λ n. n.config ≡ config) }
         ensures choice { IfErr result (λ n. n.choice ≡ choice) }
     {
-        ChannelSubsystem::new_with(alloc, &mut Allocator { refused: false }, config, blocks, choice)
+        ChannelSubsystem::new_with(
+            alloc,
+            &mut Allocator { refused: false },
+            config,
+            blocks,
+            choice,
+        )
     }
 
     /// The same, in what room a supply has. It is not made only where the blocks are not 16 to 524,288, or the supply refuses a

@@ -64,10 +64,8 @@ impl Host {
 
     /// Whether these bytes stand there.
     fn holds(&self, address: u16, bytes: &[u8]) -> bool {
-        bytes
-            .iter()
-            .enumerate()
-            .all(|(offset, byte)| self.bytes.get(usize::from(address) + offset) == Some(byte))
+        bytes.iter().enumerate().all(|(offset, byte)| self.bytes.get(usize::from(address) + offset)
+            == Some(byte))
     }
 
     /// One event on what the host has.
@@ -213,14 +211,10 @@ fn is_cleared(host: &mut Host, subsystem: &mut ChannelSubsystem<Rotating>, made:
     };
     let none = matches!(
         host.step(subsystem, &test),
-        Some(
-            Ok(
-                Reply::Status {
-                    answer: Answer::One(_),
-                    ..
-                },
-            ),
-        )
+        Some(Ok(Reply::Status {
+            answer: Answer::One(_),
+            ..
+        },),)
     );
     shown && none
 }

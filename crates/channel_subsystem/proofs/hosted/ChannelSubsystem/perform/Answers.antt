@@ -29,7 +29,7 @@ invariant_of-self-in-Ok g c =
     let old : Hosted = record { machine = c.self.inside.machine; blocks = c.self.inside.blocks; last = c.self.inside.log.entries; count = c.self.inside.count } in
     let new : Hosted = record { machine = c.keep_last.new.machine; blocks = c.self.inside.blocks; last = c.keep_last.new.log.entries; count = c.self.inside.count + 1 } in (
       led-on c.setups.ensures.set_up old new before after c.args.event.now (last_reply c.keep_last.new.log.entries) c.in-Ok.ensures.last refl refl c.in-Ok.ensures.performs
-      c.is_of_size.ensures.sound c.in-Ok.ensures.sound c.if-not-is_of_size.ensures.same c.self.invariant.0,
+          c.is_of_size.ensures.sound c.in-Ok.ensures.sound c.if-not-is_of_size.ensures.same c.self.invariant.0,
       (c.in-Ok.ensures.fits, (c.in-Ok.ensures.fresh, c.in-Ok.ensures.room)),
     )
 
@@ -38,7 +38,7 @@ invariant_of-self-in-Err g c =
     let entries = c.keep_last.new.log.entries in
     let old : Hosted = record { machine = c.self.inside.machine; blocks = c.self.inside.blocks; last = c.self.inside.log.entries; count = c.self.inside.count } in (
       subst (λ (m : State). HasLed (record { machine = m; blocks = c.self.inside.blocks; last = entries; count = c.self.inside.count })) (sym c.in-Err.ensures.kept)
-      (led-whatever old entries c.self.invariant.0),
+          (led-whatever old entries c.self.invariant.0),
       (c.in-Err.ensures.fits, (c.in-Err.ensures.fresh, c.in-Err.ensures.room)),
     )
 
