@@ -6,7 +6,7 @@ ghost use Rattle.machine_model.specs.State as state_spec;
 ghost use Rattle.machine_model.specs.Ruled.{GoesByRule};
 ghost use Rattle.machine_model.specs.Steps as spec;
 ghost use Rattle.machine_model.specs.Bounds.{CanCount, CanUnitCount};
-ghost use Rattle.machine.specs.Lent.{lent};
+ghost use Rattle.machine.specs.Lent.{lent, no_storage};
 ghost use Rattle.machine.specs.Postable.{IsPostable};
 ghost use Rattle.storage_keys.specs.Storage.{Contents};
 ghost use Rattle.chan_events.specs.declared.event.Event.TheVariants as event_spec;
@@ -98,6 +98,13 @@ impl Model for Machine {
 }
 
 impl Machine {
+    /// It has no storage of its own.
+    pub fn apart(&self)
+        ensures { self.now ≡ lent self.now no_storage }
+    {
+        let _ = &self.subs;
+    }
+
     /// How many subchannels there are.
     pub fn count(&self) -> usize
         ensures { result ≡ length self.now.subs }
