@@ -1,6 +1,6 @@
 //! An instruction on a subchannel that is not provided: its operand is tested, then the condition code is 3.
 
-ghost use Rattle.std.specs.Prelude.{ℕ};
+ghost use Rattle.std.specs.Prelude.{◌≡◌, ℕ};
 ghost use Rattle.io_step.specs.Executing as spec;
 ghost use Rattle.chan_events.specs.Replies.{plain_outcome};
 ghost use Rattle.chan_events.specs.declared.event.Instruction.TheVariants as instruction_spec;

@@ -1,12 +1,15 @@
 //! The instructions that name no subchannel.
 
-ghost use Rattle.std.specs.Prelude.{◌≡◌, ◌≤◌, ◌<◌, ◌+◌, Ok, Err, IfOk, IfErr, OnErr, OnOk, Some, length};
+ghost use Rattle.std.specs.Prelude.{◌≡◌, ◌≤◌, ◌<◌, ◌+◌, Ok, Err, IfOk, IfErr, OnErr, OnOk, Some, length, map, take};
+ghost use Rattle.zbits.specs.Layout.{word_of};
+ghost use Rattle.zbits.specs.Words.{bytes_of_words};
+ghost use Rattle.scsw_irb.specs.CodeTable.{code_tables};
 ghost use Rattle.io_step.specs.Operands.{from_storage};
 ghost use Rattle.chan_events.specs.declared.reply.Reply.TheVariants as reply;
 ghost use Rattle.channel_reports.specs.Queue.{WaitingReports};
 ghost use Rattle.interruptions.specs.Requests.{WaitingRequests};
 ghost use Rattle.machine_model.specs.OtherSteps as spec;
-ghost use Rattle.storage_keys.specs.Storage.{Contents};
+ghost use Rattle.storage_keys.specs.Storage.{Contents, operand_stored};
 
 use crate::operands::{WORD, check_operand};
 use chan_events::reply::{PATH_STATUS_BYTES, report_word};
@@ -59,19 +62,37 @@ fn check_code<M: MainStorage>(storage: &M, cpu: Cpu, address: u32) -> Result<(),
     }
 }
 
+/// The three words of an interruption code are stored where an interruption stores them.
+fn store_long_code<M: MainStorage>(storage: &mut M, cpu: Cpu, code: IntCode)
+    requires inside { 196 ≤ length (M.contents storage.old).bytes }
+    ensures stored { M.contents storage.new ≡ operand_stored (M.contents storage.old) cpu 184 (bytes_of_words (map word_of (code_tables code))) }
+    ensures lender { M.lender storage.new ≡ M.lender storage.old }
+{
+    let image = be_bytes::<LONG_CODE_BYTES>(&code.words());
+    storage.store_operand(cpu.number(), CODE, &image);
+}
+
+/// The first two words of an interruption code are stored at an address.
+fn store_short_code<M: MainStorage>(storage: &mut M, cpu: Cpu, address: u32, code: IntCode)
+    requires inside { address + 8 ≤ length (M.contents storage.old).bytes }
+    ensures stored { M.contents storage.new ≡ operand_stored (M.contents storage.old) cpu address (bytes_of_words (take 2 (map word_of (code_tables code)))) }
+    ensures lender { M.lender storage.new ≡ M.lender storage.old }
+{
+    let [identification, parameter, _] = code.words();
+    let image = be_bytes::<SHORT_CODE_BYTES>(&[identification, parameter]);
+    storage.store_operand(cpu.number(), address, &image);
+}
+
 /// The interruption code is stored at an address.
 fn store_code<M: MainStorage>(storage: &mut M, cpu: Cpu, address: u32, code: IntCode)
     requires inside { spec.code_address address + spec.code_size address ≤ length (M.contents storage.old).bytes }
     ensures stored { M.contents storage.new ≡ spec.code_stored (M.contents storage.old) cpu address (Some code) }
     ensures lender { M.lender storage.new ≡ M.lender storage.old }
 {
-    let [identification, parameter, interruption] = code.words();
     if address == 0 {
-        let image = be_bytes::<LONG_CODE_BYTES>(&[identification, parameter, interruption]);
-        storage.store_operand(cpu.number(), CODE, &image);
+        store_long_code(storage, cpu, code);
     } else {
-        let image = be_bytes::<SHORT_CODE_BYTES>(&[identification, parameter]);
-        storage.store_operand(cpu.number(), address, &image);
+        store_short_code(storage, cpu, address, code);
     }
 }
 

@@ -66,6 +66,7 @@ impl MachineAndStorage {
     pub fn beside(&self) -> &Machine
         ensures { result.now ≡ lent self.now no_storage }
     {
+        self.machine.apart();
         &self.machine
     }
 

@@ -17,7 +17,7 @@ use interruptions::Pending;
 use io_step::{ChannelPaths, perform, perform_other};
 use scsw_irb::code::IntCode;
 use std::alloc::Global;
-use storage_keys::{Storage, StorageFault};
+use storage_keys::{MainStorage, Storage, StorageFault};
 use subchannel_model::state::SubchannelState;
 use wires::Wires;
 

@@ -6,6 +6,7 @@ use crate::tests::instruction_bench::{
 };
 use chan_events::event::{Instruction, OtherInstruction};
 use chan_model::fault::Fault;
+use storage_keys::MainStorage;
 
 const TPI: OtherInstruction = OtherInstruction::Tpi {
     mask: 1,

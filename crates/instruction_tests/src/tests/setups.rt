@@ -13,7 +13,7 @@ use orb_block::Orb;
 use scsw_irb::scsw::Scsw;
 use scsw_irb::serials::Serials;
 use std::alloc::Global;
-use storage_keys::Storage;
+use storage_keys::{MainStorage, Storage};
 use subchannel_model::state::{ActiveProgram, PmcwState, Program, SubchannelState};
 
 /// An enabled subchannel of subclass 0 that holds no device and has no status.

@@ -15,7 +15,7 @@ use status::causes::shown_of;
 use status::ends::chains_command;
 use status::{law, make_pending, tsch};
 use std::alloc::Global;
-use storage_keys::Storage;
+use storage_keys::{MainStorage, Storage};
 use subchannel_model::cause::StatusCause;
 use subchannel_model::state::{ActiveProgram, ProgramPosition, SubchannelState};
 

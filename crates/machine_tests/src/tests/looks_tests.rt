@@ -106,7 +106,8 @@ fn shows_block(subsystem: &Subsystem<Rotating>) -> bool {
         && schib[28..40] == [0, 0x80, 0x40, 7, 0, 0, 0x10, 8, 0x0C, 0, 0, 0]
 }
 
-/// The status of the write waits, in subclass 0, as TEST SUBCHANNEL would store it; no path is in use.
+/// The status of the write waits, in subclass 0, as TEST SUBCHANNEL would store it; the engine of the path is in use until the unit
+/// has answered that it lets go.
 fn shows_status(subsystem: &Subsystem<Rotating>) -> bool {
     let Some(irb) = subsystem.irb(WORD) else {
         return false;
@@ -116,7 +117,7 @@ fn shows_status(subsystem: &Subsystem<Rotating>) -> bool {
             0, 0x80, 0x40, 7, 0, 0, 0x10, 8, 0x0C, 0, 0, 0, 0, 0x80, 0, 0,
         ]
         && subsystem.requested_subclasses() == 0x80
-        && !subsystem.is_path_engaged(CHPID)
+        && subsystem.is_path_engaged(CHPID)
         && subsystem.history().len() == 17
 }
 

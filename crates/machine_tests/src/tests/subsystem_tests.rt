@@ -300,11 +300,11 @@ pub fn begun(alloc: Global, count: usize) -> Option<Subsystem<Rotating>> {
     }
 }
 
-/// The requests for room as a subsystem of one unit and one subchannel is made: one for each of both, eighteen for the wires of the
-/// subchannel, each way one for eight of them and one for each, three for the tables of indices, two for storage, one for the
+/// The requests for room as a subsystem of one unit and one subchannel is made: one for each of both, one for the list of subchannels
+/// before it has any, eighteen for the wires of the subchannel, each way one for eight of them and one for each, three for the tables of indices, two for storage, one for the
 /// identifiers of the channel paths, three for what control units keep, and five for the requests for interruptions and for what
 /// links them in the order of posting and in their queues.
-const REQUESTS: u64 = 34;
+const REQUESTS: u64 = 35;
 
 /// Grants so many requests, and no more.
 pub fn granting(left: u64) -> FailingMemory {

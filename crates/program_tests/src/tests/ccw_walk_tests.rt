@@ -6,7 +6,7 @@ use ccw_walk::program::{Advance, Ended, Reading};
 use orb_block::Orb;
 use std::alloc::Global;
 use storage_keys::key::Key;
-use storage_keys::{Storage, StorageFault};
+use storage_keys::{MainStorage, Storage, StorageFault};
 
 /// Format 1, key 0, the program at 1000.
 const FORMAT_1: [u8; 12] = [0, 0, 0, 0, 0, 0x80, 0xFF, 0, 0, 0, 0x10, 0];

@@ -5,7 +5,7 @@ ghost use Rattle.std.specs.Prelude.{◌<◌};
 use ccw_codec::{Ccw, Format};
 use data_move::moving::Move;
 use idaw::ListKind;
-use storage_keys::Storage;
+use storage_keys::{MainStorage, Storage};
 
 /// The first words of the lists.
 const FIRSTS: [u32; 8] = [0, 1, 0x7FF, 0x800, 0xFFF, 0x1234, 0x2FFE, 0xF7FF];

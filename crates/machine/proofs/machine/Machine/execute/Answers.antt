@@ -29,7 +29,7 @@ returns-in_default-index_in-clause-performs g c =
     ap (subchannel_named old.sets) (sym c.subchannel_word.ensures) ∙ (sym c.subchannel_named.ensures.value ∙ c.in-Some.is) in
     let placed : index_in c.in-Some.id old.subs ≡ None =
     ap (index_in c.in-Some.id) (sym c.as_slice.ensures.value) ∙ (sym c.index_in.ensures.index ∙ c.in_default-index_in.is) in
-    subst (λ (s : State). Performs (lent s before) (event.Execute c.args.cpu c.args.instruction.now) (plain_outcome c.execute_absent.result) (lent old after)) c.self.view_is
+    subst (λ (s : State). Performs (lent s before) (event.Execute c.args.cpu c.args.instruction.now) (plain_outcome c.execute_absent.result) (lent s after)) c.self.view_is
     (executes-absent old c.args.cpu c.args.instruction.now c.in-Some.id after (plain_outcome c.execute_absent.result) named placed c.execute_absent.ensures.done)
 
 pub returns-clause-performs : goal.returns-clause-performs
@@ -49,8 +49,8 @@ returns-clause-performs g c =
     c.perform_provided-answer.new.pending c.post.new.pending (plain_outcome c.perform_provided-answer.result) named placed stands c.perform_provided-answer.ensures.done
     (c.post.ensures ∙ ap (λ (n : ℕ). posted_since n c.perform_provided-answer.new.sub c.perform_provided-answer.new.pending) c.made_by-made.ensures))
 
-pub invariant_of-self-2 : goal.invariant_of-self-2
-invariant_of-self-2 g c =
+pub invariant_of-self : goal.invariant_of-self
+invariant_of-self g c =
     let before = g.M.MainStorage.contents c.args.storage.now in
     let left = g.M.MainStorage.contents c.perform_provided-answer.new.storage in
     let old = lent (the_view c.self.inside) before in
