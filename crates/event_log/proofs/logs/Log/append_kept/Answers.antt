@@ -12,10 +12,11 @@ invariant_of-self c =
     let kept : KeptEntry = record c.args.kept.now { start = log.start } in
     let before = written_reply (drop log.count log.entries.items) in
     let new = begun log.bytes.items (take log.count log.entries.items) log.start before is.written (ap (λ l. l.reply) c.self.view_is ∙ c.requires.fresh) in
-    let some : 1 ≤ room_of (vec_capacity log.entries - log.count) (vec_capacity log.bytes - log.start) = subst (λ (n : ℕ). 1 ≤ n) (sym (ap (λ l. l.room) c.self.view_is)) c.requires.room in
-    (added-all log.bytes.items c.args.bytes.now c.add_bytes.new.arena.items log.entries.items c.push_same.new.entries.items before kept log.count c.len-self-inside.result
-    c.add_bytes.ensures.items c.push_same.ensures.items (search rules) is.some is.written new c.requires.whole,
-    λ _. omega (arith, room-needs (vec_capacity log.entries - log.count) (vec_capacity log.bytes) log.start some, c.add_bytes.ensures.capacity))
+    let some : 1 ≤ room_of (vec_capacity log.entries - log.count) (vec_capacity log.bytes - log.start) = subst (λ (n : ℕ). 1 ≤ n) (sym (ap (λ l. l.room) c.self.view_is)) c.requires.room in (
+      added-all log.bytes.items c.args.bytes.now c.add_bytes.new.arena.items log.entries.items c.push_same.new.entries.items before kept log.count c.len-self-inside.result
+          c.add_bytes.ensures.items c.push_same.ensures.items (search rules) is.some is.written new c.requires.whole,
+      λ _. omega (arith, room-needs (vec_capacity log.entries - log.count) (vec_capacity log.bytes) log.start some, c.add_bytes.ensures.capacity),
+    )
 
 pub returns-clause-entries : goal.returns-clause-entries
 returns-clause-entries c =

@@ -20,10 +20,11 @@ invariant_of-self c =
     let k : KeptEntry = record { start = log.start; event = c.keep_in.new.slot; reply = told } in
     let pushed = ap₂ (λ (l : List KeptEntry) (x : KeptEntry). slice_set l log.count (record x { event = c.keep_in.new.slot })) c.settle.ensures.items same ∙ set_at ks before [] k log.count long in
     let more = event_bytes c.args.event.now in
-    let some : 1 ≤ room_of (vec_capacity log.entries - log.count) (vec_capacity log.bytes - log.start) = subst (λ (n : ℕ). 1 ≤ n) (sym (ap (λ l. l.room) c.self.view_is)) c.requires in
-    (ended-all log.bytes.items more c.add_bytes.new.arena.items log.entries.items _ k log.count c.len-self-inside.result
-    (c.add_bytes.ensures.items ∙ ap (λ (xs : List ℕ). log.bytes.items ++ xs) c.bytes.ensures.value) pushed (search rules) is.some is.written c.keep_in.ensures.length,
-    λ _. omega (arith, room-needs (vec_capacity log.entries - log.count) (vec_capacity log.bytes) log.start some, c.add_bytes.ensures.capacity))
+    let some : 1 ≤ room_of (vec_capacity log.entries - log.count) (vec_capacity log.bytes - log.start) = subst (λ (n : ℕ). 1 ≤ n) (sym (ap (λ l. l.room) c.self.view_is)) c.requires in (
+      ended-all log.bytes.items more c.add_bytes.new.arena.items log.entries.items _ k log.count c.len-self-inside.result
+          (c.add_bytes.ensures.items ∙ ap (λ (xs : List ℕ). log.bytes.items ++ xs) c.bytes.ensures.value) pushed (search rules) is.some is.written c.keep_in.ensures.length,
+      λ _. omega (arith, room-needs (vec_capacity log.entries - log.count) (vec_capacity log.bytes) log.start some, c.add_bytes.ensures.capacity),
+    )
 
 pub returns-clause-entries : goal.returns-clause-entries
 returns-clause-entries c =
