@@ -174,13 +174,14 @@ fn a_host_lends_its_bytes(rt: HostRuntime) -> Result<(), Fail> {
     let mut prefixes = [0; 16];
     let refused = stores_in(bytes.as_mut_slice(), &mut keys, &mut prefixes, 2);
     let stored = stores_in(bytes.as_mut_slice(), &mut keys, &mut prefixes, 1);
-    let too_few_keys = stores_in(bytes.as_mut_slice(), &mut keys[1..], &mut prefixes, 1);
+    let too_few_keys = stores_in(bytes.as_mut_slice(), &mut [0x10; 15], &mut prefixes, 1);
     let prefix_outside = stores_in(bytes.as_mut_slice(), &mut keys, &mut [0x1_0000; 16], 1);
     let set = is_set_in(bytes.as_mut_slice(), &mut keys, &mut prefixes);
     assert!(rt; refused == Some(Err(PROTECTION)) && stored == Some(Ok(())));
     assert!(rt; too_few_keys.is_none() && prefix_outside.is_none());
     assert!(rt; bytes.get(0x1FFE..0x2002) == Some([0, 1, 2, 0].as_slice()));
-    assert!(rt; set && keys[1..4] == [0x10, 0x18, 0x10] && prefixes[..3] == [0, 0x4000, 0]);
+    assert!(rt; set && keys[1] == 0x10 && keys[2] == 0x18 && keys[3] == 0x10);
+    assert!(rt; prefixes[0] == 0 && prefixes[1] == 0x4000 && prefixes[2] == 0);
     Ok(())
 }
 
