@@ -1,22 +1,20 @@
 -- One event and its answer, by what the machine did on the host's storage and what the log has.
-use Rattle.std.proofs.Common.{◌≡◌, refl, sym, ◌∙◌, ap, subst, ℕ, ◌+◌, ◌^◌, ◌≤◌, List, [], ◌∷◌, ◌++◌, Result, Ok, Err, arith}
+use Rattle.std.proofs.Common.{◌≡◌, refl, sym, ◌∙◌, ap, subst, ◌+◌, List, [], ◌∷◌, Ok, Err}
 use Rattle.std.specs.Prelude.{IfSome}
 use Rattle.storage_keys.specs.Storage.{Contents, IsAddressable}
-use Rattle.chan_model.specs.declared.fault.Fault.{Fault}
 use Rattle.chan_events.specs.Events.{Event}
 use Rattle.chan_events.specs.declared.reply.Entry.{Entry}
 use Rattle.chan_events.specs.Replies.{Reply}
 use Rattle.machine.specs.Lent.{lent, no_storage}
 use Rattle.machine_model.specs.Ruled.{GoesByRule}
 use Rattle.machine_model.specs.State.{State}
-use Rattle.machine_model.specs.Steps.{HasRun, Performs}
+use Rattle.machine_model.specs.Steps.{Performs}
 use Rattle.path_select.specs.Choice.{Rule}
-use Rattle.subsystem.specs.Keeping.{BringsOrdered, Rises, all_serials}
+use Rattle.subsystem.specs.Keeping.{all_serials}
 use Rattle.subsystem.proofs.Pasts.{KeepsSetUps, performed-set_up}
 use Rattle.subsystem.proofs.Rising.{GoesByTable, StandsPending, StepsLater, performed-brings, performed-rises, same-rises}
 use Rattle.channel_subsystem.specs.Hosting.{HasNumber, Hosted, IsHostRefusal, IsHostStep, IsOfSize, machine_answer}
 use Rattle.channel_subsystem.specs.declared.host_fault.HostFault.{HostFault}
-use Rattle.channel_subsystem.specs.declared.host_fault.HostFault.TheVariants as fault
 use Rattle.channel_subsystem.proofs.Leading.{led-further, led-still}
 
 -- what the laws say

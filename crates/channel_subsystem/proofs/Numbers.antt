@@ -1,5 +1,5 @@
 -- Numbers that are at most so many can be raised where so many can.
-use Rattle.std.proofs.Common.{ℕ, ◌+◌, ◌^◌, ◌≤◌, Option, None, Some, List, arith}
+use Rattle.std.proofs.Common.{ℕ, ◌^◌, ◌≤◌, Option, None, Some, List, arith}
 use Rattle.std.specs.Prelude.{All}
 use Rattle.std.proofs.lemmas.List.Elements.{All-weaker}
 use Rattle.chan_model.specs.declared.unit_state.CurrentCommand.{CurrentCommand}

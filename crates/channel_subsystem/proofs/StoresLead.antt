@@ -1,6 +1,6 @@
 -- Whatever storage of a size held, its contents come about by stores.
-use Rattle.std.proofs.Common.{◌≡◌, refl, sym, ◌∙◌, ap, ap₂, subst, ℕ, zero, suc, ◌+◌, ◌*◌, ◌/◌, ◌%◌, ◌<◌, ◌≤◌, Bool, true, false, not, cond, nat_le, ◌==◌, Result, Ok, Err, List, [], ◌∷◌, ◌++◌, length, take, drop, length-append, append_assoc, add-one, arith}
-use Rattle.std.specs.Prelude.{slice_index, slice_set, if◌then◌else◌}
+use Rattle.std.proofs.Common.{◌≡◌, refl, sym, ◌∙◌, ap, ap₂, subst, ℕ, zero, suc, ◌+◌, ◌*◌, ◌/◌, ◌<◌, ◌≤◌, Bool, true, not, cond, ◌==◌, Result, Ok, Err, List, [], ◌∷◌, ◌++◌, length, take, drop, length-append, append_assoc, add-one, arith}
+use Rattle.std.specs.Prelude.{slice_index, if◌then◌else◌}
 use Rattle.std.proofs.lemmas.Bool.{le-leb}
 use Rattle.std.proofs.lemmas.List.{append-nil, set_at}
 use Rattle.std.proofs.lemmas.List.Sums.{sum_by-append, sum_by-cons}
@@ -14,7 +14,6 @@ use Rattle.chan_events.specs.declared.reply.Reply.TheVariants as reply
 use Rattle.machine.specs.Lent.{lent}
 use Rattle.machine.proofs.Storing.{put_performs, key_performs, prefix_performs}
 use Rattle.machine_model.specs.State.{State}
-use Rattle.machine_model.specs.Results.{Outcome}
 use Rattle.machine_model.specs.Steps.{HasRun, Step}
 use Rattle.machine_model.specs.StorageSteps.{storage_result}
 use Rattle.run_laws.specs.Stores.{besides_stores, is_store}

@@ -1,4 +1,4 @@
-use Rattle.std.proofs.Common.{◌≡◌, ◌∙◌, ap, sym, subst, arith, length, List, Ok, Err}
+use Rattle.std.proofs.Common.{◌∙◌, ap, sym, subst, arith, length, List, Ok}
 use Rattle.chan_events.specs.declared.reply.Entry.{Entry}
 use Rattle.chan_events.specs.Replies.{Reply}
 use Rattle.lookup.proofs.Keeping.{fits-kept}
@@ -6,7 +6,6 @@ use Rattle.machine.specs.Lent.{lent}
 use Rattle.machine_model.specs.Ruled.{GoesByRule}
 use Rattle.machine_model.specs.State.{State}
 use Rattle.machine_model.specs.Steps.{Performs}
-use Rattle.storage_keys.specs.Storage.{Contents}
 use Rattle.subsystem.proofs.Pasts.{past-postable}
 use Rattle.channel_subsystem.proofs.Answering.{same-machine}
 use Rattle.channel_subsystem.proofs.LastEntry.{its-entry, its-reply}
