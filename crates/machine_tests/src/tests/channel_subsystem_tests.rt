@@ -77,11 +77,9 @@ impl Host {
         if !LentStorage::fits(self.bytes.len(), self.keys.len(), &self.prefixes) {
             return None;
         }
-        let mut lent = LentStorage::new(
-            self.bytes.as_mut_slice(),
-            &mut self.keys,
-            &mut self.prefixes,
-        );
+        let mut keys = self.keys;
+        let mut prefixes = self.prefixes;
+        let mut lent = LentStorage::new(self.bytes.as_mut_slice(), &mut keys, &mut prefixes);
         Some(subsystem.step(&mut lent, event))
     }
 
