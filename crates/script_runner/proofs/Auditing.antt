@@ -34,6 +34,7 @@ stays_by by s t i j setup k = record {
   units = j.units ∙ sym i.units ∙ k.units;
   groups = j.groups ∙ sym i.groups ∙ k.groups;
   requests = j.requests;
+  path_return = j.path_return ∙ sym i.path_return ∙ k.path_return;
 }
 
 -- the seats and the count by other names

@@ -6,7 +6,6 @@ use chan_model::names::{Cpu, Path, Side};
 use chan_model::unit_state::Own;
 use machine::looks::Looks;
 use path_select::Rotating;
-use std::alloc::Global;
 use storage_keys::StorageFault;
 use storage_keys::key::Key;
 use subsystem::subsystem::Subsystem;
@@ -77,18 +76,18 @@ fn is_accepted(subsystem: &Subsystem<Rotating>) -> bool {
         )
 }
 
-/// Whether this holds after so many events of a write.
-fn holds_after(alloc: Global, count: usize, claim: fn(&Subsystem<Rotating>) -> bool) -> bool {
-    match begun(alloc, count) {
-        Some(subsystem) => claim(&subsystem),
-        None => false,
-    }
-}
-
 #[test]
 fn a_program_is_seen_on_its_way(rt: HostRuntime) {
-    let offered = holds_after(rt.alloc(), 6, is_offered);
-    let accepted = holds_after(rt.alloc(), 7, is_accepted);
+    let Some(subsystem) = begun(rt.alloc(), 6) else {
+        return assert!(rt; false, "the events are accepted");
+    };
+    let offered = is_offered(&subsystem);
+    drop(subsystem);
+    let Some(later) = begun(rt.alloc(), 7) else {
+        return assert!(rt; false, "the events are accepted");
+    };
+    let accepted = is_accepted(&later);
+    drop(later);
     assert!(rt; offered, "offered");
     assert!(rt; accepted, "accepted");
 }
