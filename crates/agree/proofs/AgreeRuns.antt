@@ -29,7 +29,7 @@ use Rattle.agree.specs.Bounds.{IsWell}
 use Rattle.agree.specs.State.{WorldState, links_of, line_of, opening_world}
 use Rattle.agreement_laws.specs.Sending.{is_on_path, is_away}
 use Rattle.agree.specs.Results.{world_result_of, world_result}
-use Rattle.agree.specs.Replies.{told_down, told_up, is_taken, chosen_act, heard_reply, met_reply, owner_reply, reply_of}
+use Rattle.agree.specs.Replies.{sent_down_reply, sent_up_reply, is_taken, chosen_act, hold_took_reply, unit_took_reply, owner_reply, reply_of}
 use Rattle.agree.specs.Histories.{entries_of}
 use Rattle.agreement_laws.specs.Holders.{IsRestarted, ComesOfHolder}
 use Rattle.agreement_laws.specs.HolderSeen.{holder, Holding, is_held_by, side_seen, IsHolderOr, IsUnheldOr, GoesToHolder}
@@ -130,17 +130,17 @@ sent-agrees u side phase p _ (Halts t there) a =
     held-agrees u side phase t (elim (either (is_on_path phase t p) (is_away phase t) there) [ inl on ↦ path-held phase t p on | inr away ↦ away-held phase t away ]) a
 
 -- as it is chosen, and as it lets the device go
-chosen-agrees : (u : UnitState) (side : Side) (n : ℕ) (h : HoldState) (phase : HoldPhase) (p : ℕ) (single : Bool) → h.phase ≡ phase → IsAgreedAt phase u side → AgreesIn (told_down side (hold_acts n h (chosen_act phase p single)).sent) (holding_of u)
+chosen-agrees : (u : UnitState) (side : Side) (n : ℕ) (h : HoldState) (phase : HoldPhase) (p : ℕ) (single : Bool) → h.phase ≡ phase → IsAgreedAt phase u side → AgreesIn (sent_down_reply side (hold_acts n h (chosen_act phase p single)).sent) (holding_of u)
 chosen-agrees u side n h hold.Free p single e a =
-    subst (λ (x : HoldPhase). AgreesIn (told_down side (hold_offered n h x p single).sent) (holding_of u)) (sym e) (free-agrees u side a)
+    subst (λ (x : HoldPhase). AgreesIn (sent_down_reply side (hold_offered n h x p single).sent) (holding_of u)) (sym e) (free-agrees u side a)
 chosen-agrees u side n h (hold.Reset r) p single e a =
-    subst (λ (x : HoldPhase). AgreesIn (told_down side (hold_stepped n h (sending_reset h x p)).sent) (holding_of u)) (sym e) tt
+    subst (λ (x : HoldPhase). AgreesIn (sent_down_reply side (hold_stepped n h (sending_reset h x p)).sent) (holding_of u)) (sym e) tt
 chosen-agrees u side n h (hold.Offer v q) p single e a = tt
 chosen-agrees u side n h (hold.On v q c) p single e a = tt
 chosen-agrees u side n h (hold.Away v) p single e a = tt
 chosen-agrees u side n h (hold.Letting v q) p single e a = tt
 
-lets_go-agrees : (u : UnitState) (side : Side) (n : ℕ) (h : HoldState) (phase : HoldPhase) → IsAgreedAt phase u side → AgreesIn (told_down side (hold_stepped n h (letting_go h phase)).sent) (holding_of u)
+lets_go-agrees : (u : UnitState) (side : Side) (n : ℕ) (h : HoldState) (phase : HoldPhase) → IsAgreedAt phase u side → AgreesIn (sent_down_reply side (hold_stepped n h (letting_go h phase)).sent) (holding_of u)
 lets_go-agrees u side n h (hold.On v q c) a = held-agrees u side (hold.On v q c) v refl a
 lets_go-agrees u side n h hold.Free a = tt
 lets_go-agrees u side n h (hold.Offer v q) a = tt
@@ -259,15 +259,15 @@ agreed-at : Means → (w : WorldState) (s : Side) → IsGood (links_of w) → Is
 agreed-at means w First g = (means (links_of w) First g).agree
 agreed-at means w Second g = (means (links_of w) Second g).agree
 
-heard-agrees : (w : WorldState) (s : Side) (may : Bool) (o : Option (OnPath Up)) → IsAgreedAt (line_of w s).link.hold.phase w.«unit» s → AgreesIn (heard_reply s (line_of w s) o may) (holding_of w.«unit»)
-heard-agrees w s may None a = tt
-heard-agrees w s may (Some x) a = takes-agrees w.«unit» s (line_of w s).link.drawn (line_of w s).link.hold x.path x.signal may a
+hold_took-agrees : (w : WorldState) (s : Side) (may : Bool) (o : Option (OnPath Up)) → IsAgreedAt (line_of w s).link.hold.phase w.«unit» s → AgreesIn (hold_took_reply s (line_of w s) o may) (holding_of w.«unit»)
+hold_took-agrees w s may None a = tt
+hold_took-agrees w s may (Some x) a = takes-agrees w.«unit» s (line_of w s).link.drawn (line_of w s).link.hold x.path x.signal may a
 
-met-agrees : (w : WorldState) (s : Side) (may : Bool) (o : Option (OnPath Down)) → AgreesIn (met_reply s w.«unit» o may) (holding_of w.«unit»)
-met-agrees w s may None = tt
-met-agrees w s may (Some x) = tt
+unit_took-agrees : (w : WorldState) (s : Side) (may : Bool) (o : Option (OnPath Down)) → AgreesIn (unit_took_reply s w.«unit» o may) (holding_of w.«unit»)
+unit_took-agrees w s may None = tt
+unit_took-agrees w s may (Some x) = tt
 
-said-agrees : (k : Holding) (s : Side) (sent : Option (OnPath Up)) → AgreesIn (told_up s sent) k
+said-agrees : (k : Holding) (s : Side) (sent : Option (OnPath Up)) → AgreesIn (sent_up_reply s sent) k
 said-agrees k s None = tt
 said-agrees k s (Some x) = tt
 
@@ -278,8 +278,8 @@ owner-agrees w (own.Owned s t at) act = said-agrees (holding_of w.«unit») s _
 event-agrees : Means → (w : WorldState) (e : WorldEvent) (new : WorldState) → IsGood (links_of w) → MadeOf w e new → AgreesIn (reply_of w e) (holding_of w.«unit»)
 event-agrees means w (event.Choose s p single) new g made =
     chosen-agrees w.«unit» s (line_of w s).link.drawn (line_of w s).link.hold (line_of w s).link.hold.phase p single refl (agreed-at means w s g)
-event-agrees means w (event.Down s index keep may) new g made = met-agrees w s may (slice_get (line_of w s).link.downs index)
-event-agrees means w (event.Up s index keep may) new g made = heard-agrees w s may (slice_get (line_of w s).link.ups index) (agreed-at means w s g)
+event-agrees means w (event.Down s index keep may) new g made = unit_took-agrees w s may (slice_get (line_of w s).link.downs index)
+event-agrees means w (event.Up s index keep may) new g made = hold_took-agrees w s may (slice_get (line_of w s).link.ups index) (agreed-at means w s g)
 event-agrees means w (event.LoseDown s index) new g made = tt
 event-agrees means w (event.LoseUp s index) new g made = tt
 event-agrees means w (event.PathDown s p) new g made = tt

@@ -40,7 +40,7 @@ seen_of s = record { number = s.floor; restarted = s.fresh }
 abbrev pub holding_of : UnitState → Holding
 holding_of u = record { restarts = u.restarts; holder = holder_of u.own; command = u.last_command; first = seen_of u.first; second = seen_of u.second }
 
--- a signal was met: the entry is right, and tells what the unit keeps
+-- a signal was taken: the entry is right, and tells what the unit keeps
 pub record Turns (u : UnitState) (side : Side) (d : Down) (step : Option UnitStep) : Type 0 where
   pub right : IsMetRight side d (outcome_of step).taken (outcome_of step).sent (holding_of u)
   pub next : holding_of (unit_after u step) ≡ held_met side d (outcome_of step).taken (outcome_of step).sent (holding_of u)

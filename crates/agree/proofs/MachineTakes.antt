@@ -27,9 +27,9 @@ if-step : (b : Bool) (x y : UpStep) → y.outcome.taken ≡ false → (if b then
 if-step true x y n e = cc
 if-step false x y n e = absurd (cc (n, e))
 
-if-met : (b : Bool) (x y : SignalOutcome) → y.step.outcome.taken ≡ false → (if b then x else y).step.outcome.taken ≡ true → b ≡ true
-if-met true x y n e = cc
-if-met false x y n e = absurd (cc (n, e))
+if-taken : (b : Bool) (x y : SignalOutcome) → y.step.outcome.taken ≡ false → (if b then x else y).step.outcome.taken ≡ true → b ≡ true
+if-taken true x y n e = cc
+if-taken false x y n e = absurd (cc (n, e))
 
 with-true : (b : Bool) → b ≡ true → (b && true) ≡ true
 with-true b e = ap (λ (x : Bool). x && true) e
@@ -82,7 +82,7 @@ machine-takes returns storage s p (up.Accept t) e =
     accept-taken s.hold s.hold.phase t (takes_device s) (if-step (outcome_of step).taken (accepted_in_phase storage (record s { hold = hold_after s.hold step }) (hold_after s.hold step).phase (outcome_of step)) (signal_ignored s) refl e)
 machine-takes returns storage s p (up.Data load t c n m) e =
     let signal : DataSignal = record { path = p; number = t; connection = c; command = n; sequence = m } in
-    with-true (is_connected s.hold.phase p t c) (if-met (is_connected s.hold.phase p t c) (moves_data storage s s.begun signal load) (with_storage storage (signal_ignored s)) refl e)
+    with-true (is_connected s.hold.phase p t c) (if-taken (is_connected s.hold.phase p t c) (moves_data storage s s.begun signal load) (with_storage storage (signal_ignored s)) refl e)
 machine-takes returns storage s p (up.End t n status more) e =
     let signal : EndSignal = record { path = p; number = t; command = n; status = status; more = more } in
     with-true (is_on s.hold.phase t) (if-step (is_on s.hold.phase t) (ends_at_work storage s s.begun signal) (signal_ignored s) refl e)

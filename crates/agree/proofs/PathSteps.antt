@@ -22,14 +22,14 @@ use Rattle.agreement_laws.specs.Invariant.{Ends, ends_of, IsSelectGood, IsDownGo
 use Rattle.agreement_laws.proofs.SeenSignals.{Rises, reset-above}
 use Rattle.agree.specs.declared.reply.WorldReply.{WorldReply}
 use Rattle.agree.specs.declared.reply.WorldReply.TheVariants as reply
-use Rattle.agree.specs.Replies.{told_down, told_up, is_taken, arrived_reply}
+use Rattle.agree.specs.Replies.{sent_down_reply, sent_up_reply, is_taken, arrived_reply}
 use Rattle.agreement_laws.specs.PathsSeen.{SeenPaths, sent_down, sent_up}
 use Rattle.agree.specs.ByItsPath.{cleared, cut_at, seen_here, is_at, seen_in, IsHereRight, IsRight}
 use Rattle.agree.proofs.UnitPaths.{floor_of, IsStill, takes-takes}
 use Rattle.agree.proofs.UnitActs.{Acts, apart-still}
 use Rattle.agree.proofs.PathTies.{IsOfferOn, Tied, hold-stays, unit-after-same, unit-stays}
-use Rattle.agree.proofs.PathHolds.{Told, IsNumbered, AreNumbered, IsSendable, acts-told, cleared-tied, cut-tied, Heard, takes-heard}
-use Rattle.agree.proofs.PathUnits.{Met, takes-met, Said, acts-said}
+use Rattle.agree.proofs.PathHolds.{Told, IsNumbered, AreNumbered, IsSendable, acts-told, cleared-tied, cut-tied, Heard, takes-hold_took}
+use Rattle.agree.proofs.PathUnits.{UnitTook, takes-unit_took, Said, acts-said}
 
 abbrev pub TiedIn : Side → Links → SeenPaths → Type 0
 TiedIn side w k = Tied side w.«unit» (link_of w side) k
@@ -118,22 +118,22 @@ here side r k new y right t = (
   subst (λ (b : Bool). TiedIn side new (if b then seen_here r k else k)) (sym y) t,
 )
 
-told-at : (s side : Side) (sent : Option (OnPath Down)) → same_side s side ≡ false → is_at (told_down s sent) side ≡ false
+told-at : (s side : Side) (sent : Option (OnPath Down)) → same_side s side ≡ false → is_at (sent_down_reply s sent) side ≡ false
 told-at s side None n = refl
 told-at s side (Some x) n = n
 
 told-here : (side : Side) (u : UnitState) (new : Links) (k : SeenPaths) (sent : Option (OnPath Down)) → new.«unit» ≡ u → Told side u (link_of new side) k sent →
-    Right side (told_down side sent) k new (seen_in side (told_down side sent) k)
+    Right side (sent_down_reply side sent) k new (seen_in side (sent_down_reply side sent) k)
 told-here side u new k None e t = not-here side reply.Done k new refl (subst (λ (v : UnitState). Tied side v (link_of new side) k) (sym e) t.tied)
 told-here side u new k (Some x) e t =
     here side (reply.SentDown side x) k new (same-side side) t.right (subst (λ (v : UnitState). Tied side v (link_of new side) (sent_down x k)) (sym e) t.tied)
 
 hold-by : (side s : Side) (b : Bool) → same_side s side ≡ b → (old new : Links) (k : SeenPaths) (act : HoldAct) → IsGood old → IsSendable (link_of old s).hold.phase act → LinksStep old (Hold_acts s act) new → TiedIn side old k →
-    Right side (told_down s (hold_acts (link_of old s).drawn (link_of old s).hold act).sent) k new (seen_in side (told_down s (hold_acts (link_of old s).drawn (link_of old s).hold act).sent) k)
+    Right side (sent_down_reply s (hold_acts (link_of old s).drawn (link_of old s).hold act).sent) k new (seen_in side (sent_down_reply s (hold_acts (link_of old s).drawn (link_of old s).hold act).sent) k)
 hold-by side s true is old new k act g may st t =
     let at : s ≡ side = one-side s side is in
     subst (λ (j : Side). IsSendable (link_of old j).hold.phase act → LinksStep old (Hold_acts j act) new →
-    Right side (told_down j (hold_acts (link_of old j).drawn (link_of old j).hold act).sent) k new (seen_in side (told_down j (hold_acts (link_of old j).drawn (link_of old j).hold act).sent) k)) (sym at)
+    Right side (sent_down_reply j (hold_acts (link_of old j).drawn (link_of old j).hold act).sent) k new (seen_in side (sent_down_reply j (hold_acts (link_of old j).drawn (link_of old j).hold act).sent) k)) (sym at)
     (λ m st.
     told-here side old.«unit» new k (hold_acts (link_of old side).drawn (link_of old side).hold act).sent st.«unit»
     (acts-told side old.«unit» (link_of old side) k act m (numbered old side g) t (link_of new side) (hold-link side old new act st)))
@@ -142,9 +142,9 @@ hold-by side s false is old new k act g may st t =
     not-here side _ k new (told-at s side (hold_acts (link_of old s).drawn (link_of old s).hold act).sent is) (other-hold side s old new act k is st t)
 
 pub hold-right : (side s : Side) (old new : Links) (k : SeenPaths) (act : HoldAct) (l : Link) → link_of old s ≡ l → IsGood old → IsSendable l.hold.phase act → LinksStep old (Hold_acts s act) new → TiedIn side old k →
-    Right side (told_down s (hold_acts l.drawn l.hold act).sent) k new (seen_in side (told_down s (hold_acts l.drawn l.hold act).sent) k)
+    Right side (sent_down_reply s (hold_acts l.drawn l.hold act).sent) k new (seen_in side (sent_down_reply s (hold_acts l.drawn l.hold act).sent) k)
 hold-right side s old new k act l e g may st t =
-    subst (λ (x : Link). IsSendable x.hold.phase act → Right side (told_down s (hold_acts x.drawn x.hold act).sent) k new (seen_in side (told_down s (hold_acts x.drawn x.hold act).sent) k)) e
+    subst (λ (x : Link). IsSendable x.hold.phase act → Right side (sent_down_reply s (hold_acts x.drawn x.hold act).sent) k new (seen_in side (sent_down_reply s (hold_acts x.drawn x.hold act).sent) k)) e
     (λ m. hold-by side s (same_side s side) refl old new k act g m st t) may
 
 -- a clear
@@ -172,10 +172,10 @@ pub cut-right : (side s : Side) (old new : Links) (k : SeenPaths) (p : ℕ) → 
 cut-right side s old new k p st t = cut-by side s (same_side s side) refl old new k p st t
 
 -- a signal arrives at a hold
-heard-by : (side s : Side) (b : Bool) → same_side s side ≡ b → (old new : Links) (k : SeenPaths) (x : OnPath Up) (may : Bool) → LinksStep old (Hold_acts s (Takes x may)) new → TiedIn side old k →
+hold_took-by : (side s : Side) (b : Bool) → same_side s side ≡ b → (old new : Links) (k : SeenPaths) (x : OnPath Up) (may : Bool) → LinksStep old (Hold_acts s (Takes x may)) new → TiedIn side old k →
     Right side (reply.Up s x (is_taken (link_of old s).hold x.path x.signal may) (hold_acts (link_of old s).drawn (link_of old s).hold (Takes x may)).sent) k new
     (seen_in side (reply.Up s x (is_taken (link_of old s).hold x.path x.signal may) (hold_acts (link_of old s).drawn (link_of old s).hold (Takes x may)).sent) k)
-heard-by side s true is old new k x may st t =
+hold_took-by side s true is old new k x may st t =
     let at : s ≡ side = one-side s side is in
     subst (λ (j : Side). LinksStep old (Hold_acts j (Takes x may)) new →
     Right side (reply.Up j x (is_taken (link_of old j).hold x.path x.signal may) (hold_acts (link_of old j).drawn (link_of old j).hold (Takes x may)).sent) k new
@@ -183,19 +183,19 @@ heard-by side s true is old new k x may st t =
     (λ st.
     let r : WorldReply = reply.Up side x (is_taken (link_of old side).hold x.path x.signal may) (hold_acts (link_of old side).drawn (link_of old side).hold (Takes x may)).sent in
     let h : Heard side old.«unit» (link_of new side) k x (is_taken (link_of old side).hold x.path x.signal may) (hold_taken (link_of old side).drawn (link_of old side).hold x.path x.signal may).sent =
-    takes-heard side old.«unit» (link_of old side) (link_of new side) k x.path x.signal may (t.ups x st.given) t (hold-link side old new (Takes x may) st) in
+    takes-hold_took side old.«unit» (link_of old side) (link_of new side) k x.path x.signal may (t.ups x st.given) t (hold-link side old new (Takes x may) st) in
     here side r k new (same-side side) h.right (same-unit side old new side (Takes x may) (seen_here r k) st h.tied))
     st
-heard-by side s false is old new k x may st t =
+hold_took-by side s false is old new k x may st t =
     not-here side (reply.Up s x (is_taken (link_of old s).hold x.path x.signal may) (hold_acts (link_of old s).drawn (link_of old s).hold (Takes x may)).sent) k new is (other-hold side s old new (Takes x may) k is st t)
 
-pub heard-right : (side s : Side) (old new : Links) (k : SeenPaths) (x : OnPath Up) (may : Bool) (l : Link) → link_of old s ≡ l → LinksStep old (Hold_acts s (Takes x may)) new → TiedIn side old k →
+pub hold_took-right : (side s : Side) (old new : Links) (k : SeenPaths) (x : OnPath Up) (may : Bool) (l : Link) → link_of old s ≡ l → LinksStep old (Hold_acts s (Takes x may)) new → TiedIn side old k →
     Right side (reply.Up s x (is_taken l.hold x.path x.signal may) (hold_acts l.drawn l.hold (Takes x may)).sent) k new
     (seen_in side (reply.Up s x (is_taken l.hold x.path x.signal may) (hold_acts l.drawn l.hold (Takes x may)).sent) k)
-heard-right side s old new k x may l e st t =
+hold_took-right side s old new k x may l e st t =
     subst (λ (y : Link). Right side (reply.Up s x (is_taken y.hold x.path x.signal may) (hold_acts y.drawn y.hold (Takes x may)).sent) k new
     (seen_in side (reply.Up s x (is_taken y.hold x.path x.signal may) (hold_acts y.drawn y.hold (Takes x may)).sent) k)) e
-    (heard-by side s (same_side s side) refl old new k x may st t)
+    (hold_took-by side s (same_side s side) refl old new k x may st t)
 
 -- the unit acts, and sends to this side, or not
 unit-link : (side : Side) (old new : Links) (act : UnitAct) (b : Bool) → is_to old.«unit» act side ≡ b → LinksStep old (Unit_acts act) new →
@@ -214,19 +214,19 @@ other-unit side old new act k n is st t =
     (unit-stays side old.«unit» _ (link_of old side) (link_of new side) k None t (unit-link side old new act false n st) is tt)
 
 said-up : (side : Side) (old new : Links) (act : UnitAct) (k : SeenPaths) (sent : Option (OnPath Up)) → LinksStep old (Unit_acts act) new → Said side (unit_after old.«unit» (unit_steps old.«unit» act)) (link_of new side) k sent →
-    Right side (told_up side sent) k new (seen_in side (told_up side sent) k)
+    Right side (sent_up_reply side sent) k new (seen_in side (sent_up_reply side sent) k)
 said-up side old new act k None st h = not-here side reply.Done k new refl (now-tied side old new act k st (h.quiet refl))
 said-up side old new act k (Some x) st h = here side (reply.SentUp side x) k new (same-side side) h.right (now-tied side old new act (sent_up x k) st h.tied)
 
-said-at : (s side : Side) (sent : Option (OnPath Up)) → same_side s side ≡ false → is_at (told_up s sent) side ≡ false
+said-at : (s side : Side) (sent : Option (OnPath Up)) → same_side s side ≡ false → is_at (sent_up_reply s sent) side ≡ false
 said-at s side None n = refl
 said-at s side (Some x) n = n
 
 said-by : (side s : Side) (b : Bool) → same_side s side ≡ b → (old new : Links) (k : SeenPaths) (act : UnitAct) → is_to old.«unit» act side ≡ same_side s side →
     (same_side s side ≡ true → Acts side old.«unit» (unit_steps old.«unit» act)) → (same_side s side ≡ false → IsStill old.«unit» (unit_after old.«unit» (unit_steps old.«unit» act)) side) →
-    LinksStep old (Unit_acts act) new → TiedIn side old k → Right side (told_up s (outcome_of (unit_steps old.«unit» act)).sent) k new (seen_in side (told_up s (outcome_of (unit_steps old.«unit» act)).sent) k)
+    LinksStep old (Unit_acts act) new → TiedIn side old k → Right side (sent_up_reply s (outcome_of (unit_steps old.«unit» act)).sent) k new (seen_in side (sent_up_reply s (outcome_of (unit_steps old.«unit» act)).sent) k)
 said-by side s true is old new k act to acts apart st t =
-    subst (λ (j : Side). Right side (told_up j (outcome_of (unit_steps old.«unit» act)).sent) k new (seen_in side (told_up j (outcome_of (unit_steps old.«unit» act)).sent) k)) (sym (one-side s side is))
+    subst (λ (j : Side). Right side (sent_up_reply j (outcome_of (unit_steps old.«unit» act)).sent) k new (seen_in side (sent_up_reply j (outcome_of (unit_steps old.«unit» act)).sent) k)) (sym (one-side s side is))
     (said-up side old new act k _ st
     (acts-said side old.«unit» (link_of old side) k (unit_steps old.«unit» act) t (acts is) (link_of new side) (unit-link side old new act true (to ∙ is) st)))
 said-by side s false is old new k act to acts apart st t =
@@ -234,31 +234,31 @@ said-by side s false is old new k act to acts apart st t =
 
 pub said-right : (side s : Side) (old new : Links) (k : SeenPaths) (act : UnitAct) → is_to old.«unit» act side ≡ same_side s side →
     (same_side s side ≡ true → Acts side old.«unit» (unit_steps old.«unit» act)) → (same_side s side ≡ false → IsStill old.«unit» (unit_after old.«unit» (unit_steps old.«unit» act)) side) →
-    LinksStep old (Unit_acts act) new → TiedIn side old k → Right side (told_up s (outcome_of (unit_steps old.«unit» act)).sent) k new (seen_in side (told_up s (outcome_of (unit_steps old.«unit» act)).sent) k)
+    LinksStep old (Unit_acts act) new → TiedIn side old k → Right side (sent_up_reply s (outcome_of (unit_steps old.«unit» act)).sent) k new (seen_in side (sent_up_reply s (outcome_of (unit_steps old.«unit» act)).sent) k)
 said-right side s old new k act to acts apart st t = said-by side s (same_side s side) refl old new k act to acts apart st t
 
 -- a signal arrives at the unit
-met-by : Rises → (side s : Side) (b : Bool) → same_side s side ≡ b → (old new : Links) (k : SeenPaths) (x : OnPath Down) (may : Bool) → IsGood old → LinksStep old (Unit_acts (Takes_down s x may)) new → TiedIn side old k →
+unit_took-by : Rises → (side s : Side) (b : Bool) → same_side s side ≡ b → (old new : Links) (k : SeenPaths) (x : OnPath Down) (may : Bool) → IsGood old → LinksStep old (Unit_acts (Takes_down s x may)) new → TiedIn side old k →
     Right side (arrived_reply s x (outcome_of (unit_steps old.«unit» (Takes_down s x may)))) k new (seen_in side (arrived_reply s x (outcome_of (unit_steps old.«unit» (Takes_down s x may)))) k)
-met-by rises side s true is old new k x may g st t =
+unit_took-by rises side s true is old new k x may g st t =
     subst (λ (j : Side). LinksStep old (Unit_acts (Takes_down j x may)) new →
     Right side (arrived_reply j x (outcome_of (unit_steps old.«unit» (Takes_down j x may)))) k new (seen_in side (arrived_reply j x (outcome_of (unit_steps old.«unit» (Takes_down j x may)))) k)) (sym (one-side s side is))
     (λ st.
     let act : UnitAct = Takes_down side x may in
     let r : WorldReply = arrived_reply side x (outcome_of (unit_steps old.«unit» act)) in
-    let h : Met side (unit_after old.«unit» (unit_steps old.«unit» act)) (link_of new side) k x (outcome_of (unit_steps old.«unit» act)).taken (outcome_of (unit_steps old.«unit» act)).sent =
-    takes-met side old.«unit» (link_of old side) k x.path x.signal (unit_steps old.«unit» act) (t.downs x st.given) (offer-on old side x g st.given) t
+    let h : UnitTook side (unit_after old.«unit» (unit_steps old.«unit» act)) (link_of new side) k x (outcome_of (unit_steps old.«unit» act)).taken (outcome_of (unit_steps old.«unit» act)).sent =
+    takes-unit_took side old.«unit» (link_of old side) k x.path x.signal (unit_steps old.«unit» act) (t.downs x st.given) (offer-on old side x g st.given) t
     (takes-takes side old.«unit» x.path x.signal may (reset-above rises old side x.path x.signal g st.given)) (link_of new side)
     (unit-link side old new act true (same-side side) st) in
     here side r k new (same-side side) h.right (now-tied side old new act (seen_here r k) st h.tied))
     st
-met-by rises side s false is old new k x may g st t =
+unit_took-by rises side s false is old new k x may g st t =
     not-here side (arrived_reply s x (outcome_of (unit_steps old.«unit» (Takes_down s x may)))) k new is
     (other-unit side old new (Takes_down s x may) k is (apart-still old.«unit» _ s side is (leaves-unit_takes s old.«unit» x.path x.signal may)) st t)
 
-pub met-right : Rises → (side s : Side) (old new : Links) (k : SeenPaths) (x : OnPath Down) (may : Bool) → IsGood old → LinksStep old (Unit_acts (Takes_down s x may)) new → TiedIn side old k →
+pub unit_took-right : Rises → (side s : Side) (old new : Links) (k : SeenPaths) (x : OnPath Down) (may : Bool) → IsGood old → LinksStep old (Unit_acts (Takes_down s x may)) new → TiedIn side old k →
     Right side (arrived_reply s x (outcome_of (unit_steps old.«unit» (Takes_down s x may)))) k new (seen_in side (arrived_reply s x (outcome_of (unit_steps old.«unit» (Takes_down s x may)))) k)
-met-right rises side s old new k x may g st t = met-by rises side s (same_side s side) refl old new k x may g st t
+unit_took-right rises side s old new k x may g st t = unit_took-by rises side s (same_side s side) refl old new k x may g st t
 
 -- a restart
 restart-floor : (u : UnitState) (side : Side) → floor_of u side ≤ floor_of (restarted u) side

@@ -42,8 +42,8 @@ abbrev pub acts : LineState → HoldAct → LineState
 acts l act = acted l (hold_acts l.link.drawn l.link.hold act)
 
 -- the side after the unit sent it something or nothing
-abbrev pub line_told : LineState → Option (OnPath Up) → LineState
-line_told l sent = record l { link = record l.link { ups = queue_with_sent l.up l.link.ups sent; accepted = with_accepted l.link.accepted sent } }
+abbrev pub line_with_sent : LineState → Option (OnPath Up) → LineState
+line_with_sent l sent = record l { link = record l.link { ups = queue_with_sent l.up l.link.ups sent; accepted = with_accepted l.link.accepted sent } }
 
 abbrev pub LineResult : Type 0
 LineResult = Result LineState Fault
@@ -66,12 +66,12 @@ abbrev pub line_sends : LineState → ℕ → Down → LineResult
 line_sends l p signal = if may_send l.link.hold.phase p signal then Ok (acts l (Sends (record { path = p; signal = signal }))) else Err NotNow
 
 -- the hold takes the signal at an index
-abbrev pub heard : LineState → Option (OnPath Up) → ℕ → Bool → Bool → LineResult
-heard l None index keep may = Err NotSent
-heard l (Some x) index keep may = Ok (acts (with_ups l (left_after l.link.ups index keep)) (Takes x may))
+abbrev pub hold_took : LineState → Option (OnPath Up) → ℕ → Bool → Bool → LineResult
+hold_took l None index keep may = Err NotSent
+hold_took l (Some x) index keep may = Ok (acts (with_ups l (left_after l.link.ups index keep)) (Takes x may))
 
-abbrev pub hears : LineState → ℕ → Bool → Bool → LineResult
-hears l index keep may = heard l (slice_get l.link.ups index) index keep may
+abbrev pub hold_takes : LineState → ℕ → Bool → Bool → LineResult
+hold_takes l index keep may = hold_took l (slice_get l.link.ups index) index keep may
 
 -- a signal vanishes
 abbrev pub loses_down : LineState → ℕ → LineResult
@@ -106,7 +106,7 @@ unit_line u l = record { «unit» = u; line = l }
 
 -- the unit stepped, and what it sent goes to the side
 abbrev pub unit_stepped : UnitLine → Option UnitStep → UnitLine
-unit_stepped b step = record { «unit» = unit_after b.«unit» step; line = line_told b.line (outcome_of step).sent }
+unit_stepped b step = record { «unit» = unit_after b.«unit» step; line = line_with_sent b.line (outcome_of step).sent }
 
 -- an act of the unit, where its state allows it
 abbrev pub stepping : UnitLine → Option UnitStep → Result UnitLine Fault
@@ -117,13 +117,13 @@ abbrev pub acts_for : UnitLine → UnitAct → Result UnitLine Fault
 acts_for b act = stepping b (unit_steps b.«unit» act)
 
 -- the unit takes the signal at an index
-abbrev pub met : UnitLine → Side → Option (OnPath Down) → ℕ → Bool → Bool → Result UnitLine Fault
-met b side None index keep may = Err NotSent
-met b side (Some x) index keep may =
+abbrev pub unit_took : UnitLine → Side → Option (OnPath Down) → ℕ → Bool → Bool → Result UnitLine Fault
+unit_took b side None index keep may = Err NotSent
+unit_took b side (Some x) index keep may =
     Ok (unit_stepped (record b { line = with_downs b.line (left_after b.line.link.downs index keep) }) (unit_steps b.«unit» (Takes_down side x may)))
 
-abbrev pub unit_meets : UnitLine → Side → ℕ → Bool → Bool → Result UnitLine Fault
-unit_meets b side index keep may = met b side (slice_get b.line.link.downs index) index keep may
+abbrev pub unit_takes : UnitLine → Side → ℕ → Bool → Bool → Result UnitLine Fault
+unit_takes b side index keep may = unit_took b side (slice_get b.line.link.downs index) index keep may
 
 -- A call does as a turn says. Where it is refused, for that or for want of memory, all is as before; for want of memory it
 -- is refused for a reason alone, as that a list is full.

@@ -21,13 +21,13 @@ use Rattle.agree.specs.declared.reply.WorldReply.{WorldReply}
 use Rattle.agree.specs.declared.reply.WorldReply.TheVariants as reply
 use Rattle.agree.specs.State.{LineState, WorldState, line_of}
 
-abbrev pub told_down : Side → Option (OnPath Down) → WorldReply
-told_down side None = reply.Done
-told_down side (Some x) = reply.SentDown side x
+abbrev pub sent_down_reply : Side → Option (OnPath Down) → WorldReply
+sent_down_reply side None = reply.Done
+sent_down_reply side (Some x) = reply.SentDown side x
 
-abbrev pub told_up : Side → Option (OnPath Up) → WorldReply
-told_up side None = reply.Done
-told_up side (Some x) = reply.SentUp side x
+abbrev pub sent_up_reply : Side → Option (OnPath Up) → WorldReply
+sent_up_reply side None = reply.Done
+sent_up_reply side (Some x) = reply.SentUp side x
 
 -- Whether a signal that came by a path is taken. A Data is taken where its program is connected on that path by that connection, an
 -- End where its program is connected, by whatever path it came; and where the program waits for it, as `may` says. All else is
@@ -47,21 +47,21 @@ abbrev pub hold_sends : LineState → HoldAct → Option (OnPath Down)
 hold_sends l act = (hold_acts l.link.drawn l.link.hold act).sent
 
 abbrev pub hold_reply : Side → LineState → HoldAct → WorldReply
-hold_reply side l act = told_down side (hold_sends l act)
+hold_reply side l act = sent_down_reply side (hold_sends l act)
 
-abbrev pub heard_reply : Side → LineState → Option (OnPath Up) → Bool → WorldReply
-heard_reply side l None may = reply.Done
-heard_reply side l (Some x) may = reply.Up side x (is_taken l.link.hold x.path x.signal may) (hold_sends l (Takes x may))
+abbrev pub hold_took_reply : Side → LineState → Option (OnPath Up) → Bool → WorldReply
+hold_took_reply side l None may = reply.Done
+hold_took_reply side l (Some x) may = reply.Up side x (is_taken l.link.hold x.path x.signal may) (hold_sends l (Takes x may))
 
 abbrev pub unit_reply : Side → UnitState → UnitAct → WorldReply
-unit_reply side u act = told_up side (unit_table.outcome_of (unit_steps u act)).sent
+unit_reply side u act = sent_up_reply side (unit_table.outcome_of (unit_steps u act)).sent
 
 abbrev pub arrived_reply : Side → OnPath Down → Taken Up → WorldReply
 arrived_reply side x outcome = reply.Down side x outcome.taken outcome.sent
 
-abbrev pub met_reply : Side → UnitState → Option (OnPath Down) → Bool → WorldReply
-met_reply side u None may = reply.Done
-met_reply side u (Some x) may = arrived_reply side x (unit_table.outcome_of (unit_steps u (Takes_down side x may)))
+abbrev pub unit_took_reply : Side → UnitState → Option (OnPath Down) → Bool → WorldReply
+unit_took_reply side u None may = reply.Done
+unit_took_reply side u (Some x) may = arrived_reply side x (unit_table.outcome_of (unit_steps u (Takes_down side x may)))
 
 abbrev pub owner_reply : Own → UnitState → UnitAct → WorldReply
 owner_reply own.Idle u act = reply.Done
@@ -70,8 +70,8 @@ owner_reply (own.Owned side t connection) u act = unit_reply side u act
 -- of each event
 abbrev pub reply_of : WorldState → WorldEvent → WorldReply
 reply_of w (event.Choose side p single) = hold_reply side (line_of w side) (chosen_act (line_of w side).link.hold.phase p single)
-reply_of w (event.Down side index keep may) = met_reply side w.«unit» (slice_get (line_of w side).link.downs index) may
-reply_of w (event.Up side index keep may) = heard_reply side (line_of w side) (slice_get (line_of w side).link.ups index) may
+reply_of w (event.Down side index keep may) = unit_took_reply side w.«unit» (slice_get (line_of w side).link.downs index) may
+reply_of w (event.Up side index keep may) = hold_took_reply side (line_of w side) (slice_get (line_of w side).link.ups index) may
 reply_of w (event.LetGo side) = hold_reply side (line_of w side) Lets_go
 reply_of w (event.Send side p signal) = reply.SentDown side (record { path = p; signal = signal })
 reply_of w event.Leave = owner_reply w.«unit».own w.«unit» Leaves

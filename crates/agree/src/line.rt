@@ -1,8 +1,8 @@
 //! One side of a unit: its hold, the signals between both, and its paths.
 
+mod acting;
 mod program;
 mod signals;
-mod told;
 
 ghost use Rattle.std.specs.Prelude.{◌≡◌, ◌≤◌, ◌^◌, IfOk, OnOk, OnErr, Ok, length, slice_get, true};
 ghost use Rattle.agree.specs.Lines as spec;
@@ -212,7 +212,7 @@ impl SideLine {
     }
 
     /// The hold takes the signal at an index.
-    pub fn hear(
+    pub fn take_up(
         &mut self,
         side: Side,
         index: usize,
@@ -220,8 +220,8 @@ impl SideLine {
         may: bool,
     ) -> Result<WorldReply, Fault>
         requires { self.old.line.link.drawn ≤ 2 ^ 62 }
-        ensures reply { IfOk result (λ r. r ≡ reply_spec.heard_reply side self.old.line (slice_get self.old.line.link.ups index) may) }
-        ensures gives { spec.GivesResult self.old.line (spec.hears self.old.line index keep may) (room_spec.IsFullDown self.new.room) result self.new.line }
+        ensures reply { IfOk result (λ r. r ≡ reply_spec.hold_took_reply side self.old.line (slice_get self.old.line.link.ups index) may) }
+        ensures gives { spec.GivesResult self.old.line (spec.hold_takes self.old.line index keep may) (room_spec.IsFullDown self.new.room) result self.new.line }
         ensures room { room_spec.LineTakes result self.old.room self.new.room }
     {
         if index >= self.ups.len() {

@@ -182,8 +182,10 @@ impl Parts {
         ensures room { TakesRoom result self.old.room self.new.room }
     {
         match side {
-            Side::First => self.first.meet(&mut self.unit, side, index, keep, may),
-            Side::Second => self.second.meet(&mut self.unit, side, index, keep, may),
+            Side::First => self.first.take_down(&mut self.unit, side, index, keep, may),
+            Side::Second => self
+                .second
+                .take_down(&mut self.unit, side, index, keep, may),
         }
     }
 
@@ -194,8 +196,8 @@ impl Parts {
         ensures room { TakesRoom result self.old.room self.new.room }
     {
         match side {
-            Side::First => self.first.hear(side, index, keep, may),
-            Side::Second => self.second.hear(side, index, keep, may),
+            Side::First => self.first.take_up(side, index, keep, may),
+            Side::Second => self.second.take_up(side, index, keep, may),
         }
     }
 

@@ -43,7 +43,7 @@ pub enum WorldReply {
 impl WorldReply {
     /// What a side sent, or nothing.
     pub fn of_side(side: Side, sent: &Option<OnPath<LentDown<'_>>>) -> Self
-        ensures { result ≡ spec.told_down side (map_sent lent_down sent.now) }
+        ensures { result ≡ spec.sent_down_reply side (map_sent lent_down sent.now) }
     {
         match sent {
             None => WorldReply::Done,
@@ -56,7 +56,7 @@ impl WorldReply {
 
     /// What the unit sent to a side, or nothing.
     pub fn of_unit(side: Side, sent: &Option<OnPath<LentUp<'_>>>) -> Self
-        ensures { result ≡ spec.told_up side (map_sent lent_up sent.now) }
+        ensures { result ≡ spec.sent_up_reply side (map_sent lent_up sent.now) }
     {
         match sent {
             None => WorldReply::Done,

@@ -12,7 +12,7 @@ use mir.Val.{bool_byte}
 use Rattle.std.proofs.Math.Dec.{eqb-suc-zero}
 use Rattle.control_units.specs.declared.Member.{Member}
 use Rattle.control_units.specs.declared.groups.Group.{Group}
-use Rattle.control_units.specs.Units.{any_other, idle_member, member_told, is_begun_in, is_refused_in, is_owed_at, over_at, refused_at}
+use Rattle.control_units.specs.Units.{any_other, idle_member, member_informed, is_begun_in, is_refused_in, is_owed_at, over_at, refused_at}
 use Rattle.control_units.specs.Groups.{idle_group, group_of, AreGroupsOf, changed_at, changed, begun_changed, with_refused, begun_as}
 
 abbrev made : ℕ → Bool → Group
@@ -116,18 +116,18 @@ refused-set members groups index m is kept =
     (λ k apart. same-group _ _ _ _ (count-same (is_begun_in k) members index m new is refl)
     (any-same (is_refused_in k) members index m new is (of-other true m.group k apart ∙ sym (of-other m.refused m.group k apart))))
 
--- the units of a group are told
-begun-told : (k : ℕ) (x : Member) (b : Bool) → is_begun_in k x ≡ is_begun_in k (if b then record x { refused = false } else x)
-begun-told k x true = refl
-begun-told k x false = refl
+-- the units of a group are informed
+begun-informed : (k : ℕ) (x : Member) (b : Bool) → is_begun_in k x ≡ is_begun_in k (if b then record x { refused = false } else x)
+begun-informed k x true = refl
+begun-informed k x false = refl
 
-refused-told : (k group : ℕ) (x : Member) (b : Bool) → (x.group == group) ≡ b → k ≢ group → is_refused_in k x ≡ is_refused_in k (if b then record x { refused = false } else x)
-refused-told k group x true e apart = and_right x.refused (x.group == k) (ne_eqb x.group k (λ h. apart (sym h ∙ eqb-true x.group group e)))
-refused-told k group x false e apart = refl
+refused-informed : (k group : ℕ) (x : Member) (b : Bool) → (x.group == group) ≡ b → k ≢ group → is_refused_in k x ≡ is_refused_in k (if b then record x { refused = false } else x)
+refused-informed k group x true e apart = and_right x.refused (x.group == k) (ne_eqb x.group k (λ h. apart (sym h ∙ eqb-true x.group group e)))
+refused-informed k group x false e apart = refl
 
-is-told : (group : ℕ) (x : Member) (b : Bool) → (x.group == group) ≡ b → is_refused_in group (if b then record x { refused = false } else x) ≡ false
-is-told group x true e = refl
-is-told group x false e = and_right x.refused (x.group == group) e
+is-informed : (group : ℕ) (x : Member) (b : Bool) → (x.group == group) ≡ b → is_refused_in group (if b then record x { refused = false } else x) ≡ false
+is-informed group x true e = refl
+is-informed group x false e = and_right x.refused (x.group == group) e
 
 count-map : (test : Member → Bool) (f : Member → Member) (xs : List Member) → ((x : Member) → test x ≡ test (f x)) → count_by test xs ≡ count_by test (map f xs)
 count-map test f [] same = refl
@@ -146,31 +146,31 @@ none-map : (test : Member → Bool) (f : Member → Member) (xs : List Member) �
 none-map test f [] none = refl
 none-map test f (x ∷ xs) none = sym (or_from (test (f x)) (list_any test (map f xs)) (none x) (sym (none-map test f xs none)))
 
-all-told : (members : List Member) (groups : List Group) (group : ℕ) → AreGroupsOf members groups →
-    AreGroupsOf (map (member_told group) members) (changed (with_refused false) groups group)
-all-told members groups group kept =
-    let told = member_told group in
-    changed-entry (with_refused false) (group_of members) (group_of (map told members)) groups group (slice_get groups group) refl kept
-    (same-group _ _ _ _ (count-map (is_begun_in group) told members (λ x. begun-told group x (x.group == group)))
-    (none-map (is_refused_in group) told members (λ x. is-told group x (x.group == group) refl)))
-    (λ k apart. same-group _ _ _ _ (count-map (is_begun_in k) told members (λ x. begun-told k x (x.group == group)))
-    (any-map (is_refused_in k) told members (λ x. refused-told k group x (x.group == group) refl apart)))
+all-informed : (members : List Member) (groups : List Group) (group : ℕ) → AreGroupsOf members groups →
+    AreGroupsOf (map (member_informed group) members) (changed (with_refused false) groups group)
+all-informed members groups group kept =
+    let informed = member_informed group in
+    changed-entry (with_refused false) (group_of members) (group_of (map informed members)) groups group (slice_get groups group) refl kept
+    (same-group _ _ _ _ (count-map (is_begun_in group) informed members (λ x. begun-informed group x (x.group == group)))
+    (none-map (is_refused_in group) informed members (λ x. is-informed group x (x.group == group) refl)))
+    (λ k apart. same-group _ _ _ _ (count-map (is_begun_in k) informed members (λ x. begun-informed k x (x.group == group)))
+    (any-map (is_refused_in k) informed members (λ x. refused-informed k group x (x.group == group) refl apart)))
 
--- where none is refused, there is nothing to tell
+-- where none is refused, there is nothing to inform
 not-refused : (r e : Bool) → e ≡ true → (r && e) ≡ false → r ≡ false
 not-refused true e is h = absurd (cc (is, h))
 not-refused false e is h = refl
 
-told-one : (group : ℕ) (x : Member) (b : Bool) → (x.group == group) ≡ b → is_refused_in group x ≡ false → (if b then record x { refused = false } else x) ≡ x
-told-one group x true e h = ap (λ (r : Bool). record x { refused = r }) (sym (not-refused x.refused (x.group == group) e h))
-told-one group x false e h = refl
+informed-one : (group : ℕ) (x : Member) (b : Bool) → (x.group == group) ≡ b → is_refused_in group x ≡ false → (if b then record x { refused = false } else x) ≡ x
+informed-one group x true e h = ap (λ (r : Bool). record x { refused = r }) (sym (not-refused x.refused (x.group == group) e h))
+informed-one group x false e h = refl
 
-pub none-told : (group : ℕ) (xs : List Member) → list_any (is_refused_in group) xs ≡ false → xs ≡ map (member_told group) xs
-none-told group [] h = refl
-none-told group (x ∷ xs) h =
+pub none-informed : (group : ℕ) (xs : List Member) → list_any (is_refused_in group) xs ≡ false → xs ≡ map (member_informed group) xs
+none-informed group [] h = refl
+none-informed group (x ∷ xs) h =
     let parts = or_parts (is_refused_in group x) (list_any (is_refused_in group) xs) h in
-    ap (λ (y : Member). y ∷ xs) (sym (told-one group x (x.group == group) refl parts.0))
-    ∙ ap (λ (ys : List Member). member_told group x ∷ ys) (none-told group xs parts.1)
+    ap (λ (y : Member). y ∷ xs) (sym (informed-one group x (x.group == group) refl parts.0))
+    ∙ ap (λ (ys : List Member). member_informed group x ∷ ys) (none-informed group xs parts.1)
 
 -- at the beginning none is begun or refused
 no-count : (test : Member → Bool) (groups : List ℕ) → ((g : ℕ) → test (idle_member g) ≡ false) → 0 ≡ count_by test (map idle_member groups)
@@ -225,7 +225,7 @@ entry-other members groups index m g is kept at =
     ∙ (ap (λ (b : Bool). not (count_by (is_begun_in m.group) members == cond b 1 0)) (sym (of-own m.begun m.group))
     ∙ counted-other (is_begun_in m.group) members index m is)
 
--- what calls left: the units and the entries, each as told
+-- what calls left: the units and the entries, each as informed
 groups-at : (members later : List Member) (groups new : List Group) → later ≡ members → new ≡ groups → AreGroupsOf members groups → AreGroupsOf later new
 groups-at members later groups new m g kept = subst (λ (ms : List Member). AreGroupsOf ms new) (sym m) (subst (λ (gs : List Group). AreGroupsOf members gs) (sym g) kept)
 
@@ -239,10 +239,10 @@ pub refused-kept : (members later : List Member) (groups new : List Group) (inde
 refused-kept members later groups new index m is kept l n =
     groups-at (refused_at members index (Some m)) later (changed (with_refused true) groups m.group) new (l ∙ ap (refused_at members index) is) n (refused-set members groups index m is kept)
 
-pub told-kept : (members later : List Member) (groups new : List Group) (group : ℕ) → AreGroupsOf members groups →
-    later ≡ map (member_told group) members → new ≡ changed (with_refused false) groups group → AreGroupsOf later new
-told-kept members later groups new group kept l n =
-    groups-at (map (member_told group) members) later (changed (with_refused false) groups group) new l n (all-told members groups group kept)
+pub informed-kept : (members later : List Member) (groups new : List Group) (group : ℕ) → AreGroupsOf members groups →
+    later ≡ map (member_informed group) members → new ≡ changed (with_refused false) groups group → AreGroupsOf later new
+informed-kept members later groups new group kept l n =
+    groups-at (map (member_informed group) members) later (changed (with_refused false) groups group) new l n (all-informed members groups group kept)
 
 pub idle-kept : (numbers : List ℕ) (n : ℕ) (members : List Member) (groups : List Group) → members ≡ map idle_member numbers → groups ≡ replicate n idle_group → AreGroupsOf members groups
 idle-kept numbers n members groups m g = groups-at (map idle_member numbers) members (replicate n idle_group) groups m g (all-idle numbers n)
@@ -254,9 +254,9 @@ owed-is members later index m owed is l o =
     o ∙ (ap (list_any (is_refused_in m.group)) (l ∙ ap (begun_as false members index) is)
     ∙ (sym (any-same (is_refused_in m.group) members index m (record m { begun = false }) is refl) ∙ ap (is_owed_at members) (sym is)))
 
-pub over-is : (members later told : List Member) (index : ℕ) (m : Member) → slice_get members index ≡ Some m → later ≡ begun_as false members index (slice_get members index) →
-    told ≡ map (member_told m.group) later → told ≡ over_at members index (slice_get members index)
-over-is members later told index m is l t = t ∙ (ap (map (member_told m.group)) (l ∙ ap (begun_as false members index) is) ∙ ap (over_at members index) (sym is))
+pub over-is : (members later informed : List Member) (index : ℕ) (m : Member) → slice_get members index ≡ Some m → later ≡ begun_as false members index (slice_get members index) →
+    informed ≡ map (member_informed m.group) later → informed ≡ over_at members index (slice_get members index)
+over-is members later informed index m is l t = t ∙ (ap (map (member_informed m.group)) (l ∙ ap (begun_as false members index) is) ∙ ap (over_at members index) (sym is))
 
 -- what a look at an index shows
 pub seen-at : {A : Type 0} (xs ys : List A) (i k : ℕ) (x : A) → xs ≡ ys → i ≡ k → i < length xs → x ≡ get_or xs i x → slice_get ys k ≡ Some x

@@ -31,7 +31,7 @@ begun_changed before after g = record g { begun = g.begun - cond before 1 0 + co
 abbrev pub with_refused : Bool → Group → Group
 with_refused refused g = record g { refused = refused }
 
--- a unit is not begun any more, and its group is told nothing
+-- a unit is not begun any more, and its group is informed of nothing
 abbrev pub ended_at : List Member → ℕ → Option Member → List Member
 ended_at members index found = elim found [ None ↦ members | Some m ↦ slice_set members index (record m { begun = false }) ]
 

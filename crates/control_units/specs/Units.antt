@@ -1,4 +1,4 @@
--- Units that share a control unit: one of a group is served at a time (own). What a control unit keeps is told by unit, in
+-- Units that share a control unit: one of a group is served at a time (own). What a control unit keeps is listed by unit, in
 -- the order of their numbers: the number of its group, whether it is begun, and whether it was refused since a unit of its
 -- group was over. Units of the same number share; a unit with a number of its own shares with none.
 use Rattle.std.specs.Prelude.{ℕ, ◌+◌, ◌==◌, ◌&&◌, ◌||◌, Bool, true, false, not, if◌then◌else◌, Option, None, Some, List, take, drop, map, slice_get, slice_set}
@@ -51,12 +51,12 @@ abbrev pub is_owed : List Member → ℕ → Bool
 is_owed members index = is_owed_at members (slice_get members index)
 
 -- A unit is over: it is not begun, and no unit of its group is refused any more.
-abbrev pub member_told : ℕ → Member → Member
-member_told group m = if m.group == group then record m { refused = false } else m
+abbrev pub member_informed : ℕ → Member → Member
+member_informed group m = if m.group == group then record m { refused = false } else m
 
 abbrev pub over_at : List Member → ℕ → Option Member → List Member
 over_at members index found =
-    elim found [ None ↦ members | Some m ↦ map (member_told m.group) (slice_set members index (record m { begun = false })) ]
+    elim found [ None ↦ members | Some m ↦ map (member_informed m.group) (slice_set members index (record m { begun = false })) ]
 
 abbrev pub over : List Member → ℕ → List Member
 over members index = over_at members index (slice_get members index)

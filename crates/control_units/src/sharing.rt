@@ -203,34 +203,34 @@ fn end(members: &mut Vec<Member>, groups: &mut Vec<Group>, unit: u16) -> bool
     };
     let group = member.group;
     set_begun(members, groups, unit, false);
-    tell_group(members, groups, group)
+    inform_group(members, groups, group)
 }
 
 /// No unit of the group is refused any more. Answers whether one was.
-fn tell_group(members: &mut Vec<Member>, groups: &mut Vec<Group>, group: u16) -> bool
+fn inform_group(members: &mut Vec<Member>, groups: &mut Vec<Group>, group: u16) -> bool
     requires { AreGroupsOf members.old.items groups.old.items }
     ensures owed { result ≡ list_any (spec.is_refused_in group) members.old.items }
-    ensures told { members.new.items ≡ map (spec.member_told group) members.old.items }
+    ensures informed { members.new.items ≡ map (spec.member_informed group) members.old.items }
     ensures groups { AreGroupsOf members.new.items groups.new.items }
 {
     if !was_refused(members, groups, group) {
         return false;
     }
-    tell_all(members, group);
+    inform_all(members, group);
     set_refused(groups, group, false);
     true
 }
 
 /// No unit of the group is refused any more.
-fn tell_all(members: &mut Vec<Member>, group: u16)
-    ensures { members.new.items ≡ map (spec.member_told group) members.old.items }
+fn inform_all(members: &mut Vec<Member>, group: u16)
+    ensures { members.new.items ≡ map (spec.member_informed group) members.old.items }
 {
-    tell(members.as_mut_slice(), group);
+    inform(members.as_mut_slice(), group);
 }
 
 /// No unit of the group among these is refused any more.
-fn tell(members: &mut [Member], group: u16)
-    ensures { members.new ≡ map (spec.member_told group) members.old }
+fn inform(members: &mut [Member], group: u16)
+    ensures { members.new ≡ map (spec.member_informed group) members.old }
 {
     for member in members.iter_mut() {
         tell_one(member, group);
@@ -239,7 +239,7 @@ fn tell(members: &mut [Member], group: u16)
 
 /// A unit of the group is not refused any more.
 fn tell_one(member: &mut Member, group: u16)
-    ensures { member.new ≡ spec.member_told group member.old }
+    ensures { member.new ≡ spec.member_informed group member.old }
 {
     if member.group == group {
         member.refused = false;

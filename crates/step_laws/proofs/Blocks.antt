@@ -35,7 +35,7 @@ use Rattle.subchannel_model.specs.Data.{moves_data}
 use Rattle.subchannel_model.specs.Taking.{takes_up}
 use Rattle.wires.specs.Queues.{queue}
 use Rattle.control_units.specs.declared.Member.{Member}
-use Rattle.control_units.specs.Units.{may_serve, member_told, begun_at, over_at, refused_at}
+use Rattle.control_units.specs.Units.{may_serve, member_informed, begun_at, over_at, refused_at}
 use Rattle.interruptions.specs.Requests as requests
 use Rattle.interruptions.specs.Requests.{WaitingRequests}
 use Rattle.scsw_irb.specs.declared.code.IntCode.{IntCode}
@@ -154,10 +154,10 @@ refused-groups : (members : List Member) (index : ℕ) (q : Option Member) → s
 refused-groups members index None e = refl
 refused-groups members index (Some m) e = set-groups members index m (record m { refused = true }) e refl
 
-told-groups : (group : ℕ) (members : List Member) → map group_of (map (member_told group) members) ≡ map group_of members
+told-groups : (group : ℕ) (members : List Member) → map group_of (map (member_informed group) members) ≡ map group_of members
 told-groups group [] = refl
 told-groups group (m ∷ ms) =
-    ap (λ (g : ℕ). g ∷ map group_of (map (member_told group) ms)) (either (λ (x : Member). x.group ≡ m.group) (m.group == group) (record m { refused = false }) m refl refl) ∙ ap (λ (gs : List ℕ). m.group ∷ gs) (told-groups group ms)
+    ap (λ (g : ℕ). g ∷ map group_of (map (member_informed group) ms)) (either (λ (x : Member). x.group ≡ m.group) (m.group == group) (record m { refused = false }) m refl refl) ∙ ap (λ (gs : List ℕ). m.group ∷ gs) (told-groups group ms)
 
 ended-groups : (members : List Member) (index : ℕ) (q : Option Member) → slice_get members index ≡ q → map group_of (over_at members index q) ≡ map group_of members
 ended-groups members index None e = refl

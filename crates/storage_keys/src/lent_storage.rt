@@ -1,6 +1,6 @@
 //! Main storage that a host lends for one call.
 
-ghost use Rattle.std.specs.Prelude.{◌≡◌, ◌+◌, ◌-◌, ◌/◌, ◌==◌, ◌<◌, ◌≤◌, IsTrue, length, [], if◌then◌else◌, slice_range};
+ghost use Rattle.std.specs.Prelude.{◌≡◌, ◌+◌, ◌-◌, ◌/◌, ◌==◌, ◌<◌, ◌≤◌, IsTrue, length, [], ◌∷◌, if◌then◌else◌, slice_range};
 ghost use Rattle.std.specs.List.{list_all};
 ghost use Rattle.storage_keys.specs.Storage as spec;
 
@@ -52,7 +52,7 @@ impl<'a> LentStorage<'a> {
 impl MainStorage for LentStorage<'_> {
     ghost contents = { λ s. spec.lent_contents s.bytes.now s.keys.now s.prefixes.now };
 
-    ghost lender = { λ s. s.bytes.ghost_name };
+    ghost lender = { λ s. s.bytes.ghost_name ∷ s.keys.ghost_name ∷ s.prefixes.ghost_name ∷ [] };
 
     fn bytes(&self) -> &[u8] {
         &*self.bytes

@@ -5,7 +5,7 @@
 //! `LentStorage` is a host's, for one call.
 #![tactic(auto)]
 
-ghost use Rattle.std.specs.Prelude.{◌≡◌, ◌<◌, ◌≤◌, IsTrue, IfOk, IfErr, OnOk, OnErr, Ok, Err, replicate, true};
+ghost use Rattle.std.specs.Prelude.{◌≡◌, ◌<◌, ◌≤◌, [], IsTrue, IfOk, IfErr, OnOk, OnErr, Ok, Err, replicate, true};
 ghost use Rattle.storage_keys.specs.Storage as spec;
 ghost use Rattle.memory.specs.Requests.{IsModest};
 
@@ -106,7 +106,7 @@ impl Storage {
 impl MainStorage for Storage {
     ghost contents = { λ s. s };
 
-    ghost lender = { λ _. 0 };
+    ghost lender = { λ _. [] };
 
     fn bytes(&self) -> &[u8] {
         self.bytes.as_slice()

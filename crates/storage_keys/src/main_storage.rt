@@ -1,6 +1,6 @@
 //! Main storage as accesses find it, whoever has it (SA22-7832, chapter 3).
 
-ghost use Rattle.std.specs.Prelude.{◌≡◌, ℕ, ◌+◌, ◌<◌, ◌≤◌, length, IsTrue, IfOk, IfErr, OnOk, OnErr, Ok, Err, slice_index};
+ghost use Rattle.std.specs.Prelude.{◌≡◌, ℕ, List, ◌+◌, ◌<◌, ◌≤◌, length, IsTrue, IfOk, IfErr, OnOk, OnErr, Ok, Err, slice_index};
 ghost use Rattle.storage_keys.specs.Storage.{Contents, IsAddressable};
 ghost use Rattle.storage_keys.specs.Storage as spec;
 
@@ -17,8 +17,8 @@ pub trait MainStorage: Sized {
     // What it holds.
     ghost contents: { Self → Contents };
 
-    // Whose bytes they are: no call changes it.
-    ghost lender: { Self → ℕ };
+    // Whose bytes, keys and prefixes they are: no call changes it.
+    ghost lender: { Self → List ℕ };
 
     /// All bytes, by absolute address.
     fn bytes(&self) -> &[u8]

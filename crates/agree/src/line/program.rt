@@ -55,7 +55,7 @@ pub fn may_send(hold: &Hold, path: Path, signal: &Down) -> bool
     }
 }
 
-/// What comes of a signal that the hold meets.
+/// What comes of a signal that the hold takes.
 pub fn met_by(hold: &mut Hold, signal: &OnPath<Up>, may: bool) -> Taken<PlainDown>
     ensures state { hold.new ≡ table.hold_after hold.old (table.hold_takes hold.old signal.now.path signal.now.signal may) }
     ensures outcome { map_taken plain_down result ≡ table.outcome_of (table.hold_takes hold.old signal.now.path signal.now.signal may) }

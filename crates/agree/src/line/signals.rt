@@ -94,7 +94,7 @@ pub fn make_room(ups: &mut Vec<OnPath<Up>>, accepted: &mut Vec<u64>) -> Result<(
 }
 
 /// Sends a signal from the unit, for which there is room. On a path that is down it vanishes.
-pub fn tell(
+pub fn send_up(
     ups: &mut Vec<OnPath<Up>>,
     accepted: &mut Vec<u64>,
     up: &[bool; 8],

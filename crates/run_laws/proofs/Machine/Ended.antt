@@ -45,7 +45,7 @@ use Rattle.run_laws.proofs.Machine.Linked.{IsLinked, AreApart, AreLinked}
 use Rattle.run_laws.proofs.Machine.Moves.{if-ok}
 use Rattle.run_laws.proofs.Machine.RunAgrees.{start-hold, test-hold, modify-hold, function-hold, run-told}
 use Rattle.run_laws.proofs.Machine.TraceEvents.{Tells, start-tells, test-tells, modify-tells, function-tells, choose-tells, marked-tells, up_sub-tells}
-use Rattle.run_laws.proofs.Machine.UnitEvents.{Follows, IsKept, hold-kept, down-kept, report-kept, act-kept, owing-kept, told_links, links-wider, restart-good, with_owed, owed-link, owed-due}
+use Rattle.run_laws.proofs.Machine.UnitEvents.{Follows, IsKept, hold-kept, down-kept, report-kept, act-kept, owing-kept, acted_links, links-wider, restart-good, with_owed, owed-link, owed-due}
 use Rattle.agreement_laws.specs.Moving.{Restarts}
 use Rattle.step_laws.proofs.Marks.{marked-suits}
 use Rattle.step_laws.proofs.Indices.{set-get, map-get}
@@ -183,11 +183,11 @@ module _ (laws : AreLaws) (s : State) (which : Option ℕ) (k : StartCounts) (li
             let was : u ≡ a = some-same (slice_get s.units x.setup.«unit») u a eu (ap (λ (n : ℕ). slice_get s.units n) q.0 ∙ found) in
             let l : IsLinked s.subs x.setup.«unit» u which k = linked.linked x.setup.«unit» u eu in
             let m : IsLink x (link_of l.links x.setup.side) = l.stand i x ex refl in
-            let w : Links = with_owed owed (told_links l.links Restarts) in
+            let w : Links = with_owed owed (acted_links l.links Restarts) in
             due-of w x.setup.side x.state.hold v
-            (ap (λ (n : Link). n.hold) (owed-link owed (told_links l.links Restarts) x.setup.side) ∙ ((links-wider l.links Restarts x.setup.side).hold ∙ m.hold))
+            (ap (λ (n : Link). n.hold) (owed-link owed (acted_links l.links Restarts) x.setup.side) ∙ ((links-wider l.links Restarts x.setup.side).hold ∙ m.hold))
             (ap (λ (n : UnitState). owing owed (restarted n)) (l.«unit» ∙ was) ∙ sym q.1)
-            (owed-due owed (told_links l.links Restarts) x.setup.side
+            (owed-due owed (acted_links l.links Restarts) x.setup.side
             ((restart-good laws l.links l.good).1 x.setup.side (due-for l.links x.setup.side x.state.hold u m.hold l.«unit» d)))
         | inr q ↦ subst (λ (w : UnitState). IsOutstanding x.state.hold.phase (side_of w x.setup.side)) (some-same (slice_get s.units x.setup.«unit») u v eu q.1) d
       ]))

@@ -28,7 +28,7 @@ use Rattle.run_laws.proofs.Machine.Growth.{Covers, IsLink, link-wider, AreLaws}
 use Rattle.run_laws.proofs.Machine.HoldEvents.{IsOfHold}
 use Rattle.run_laws.proofs.Machine.TraceEvents.{Tells}
 use Rattle.run_laws.proofs.Machine.Tales.{IsTold, told-opened, told-wider}
-use Rattle.run_laws.proofs.Machine.UnitEvents.{Follows, IsKept, hold-kept, told_links, links-wider, told-accepted, restart-good, restart-passed, with_owed, owed-link, owed-good, owed-passed, owed-accepted}
+use Rattle.run_laws.proofs.Machine.UnitEvents.{Follows, IsKept, hold-kept, acted_links, links-wider, told-accepted, restart-good, restart-passed, with_owed, owed-link, owed-good, owed-passed, owed-accepted}
 use Rattle.agreement_laws.specs.Moving.{Restarts}
 use Rattle.step_laws.proofs.Indices.{set-get, map-get, one-index}
 
@@ -193,12 +193,12 @@ owed-linked owed subs at u which k l =
 restarted-linked : AreLaws → (subs : List Subchannel) (at : ℕ) (u : UnitState) (which : Option ℕ) (k : StartCounts) → IsLinked subs at u which k → IsLinked subs at (restarted u) which k
 restarted-linked laws subs at u which k l =
     record {
-      links = told_links l.links Restarts;
+      links = acted_links l.links Restarts;
       good = (restart-good laws l.links l.good).0;
       «unit» = ap restarted l.«unit»;
-      stand = λ i x e h. link-wider x (link_of l.links x.setup.side) (link_of (told_links l.links Restarts) x.setup.side) (links-wider l.links Restarts x.setup.side) (l.stand i x e h);
+      stand = λ i x e h. link-wider x (link_of l.links x.setup.side) (link_of (acted_links l.links Restarts) x.setup.side) (links-wider l.links Restarts x.setup.side) (l.stand i x e h);
       told = λ i x e h q.
-          told-wider k x.state l.links (told_links l.links Restarts) x.setup.side (λ t p. restart-passed laws l.links x.setup.side t l.good p)
+          told-wider k x.state l.links (acted_links l.links Restarts) x.setup.side (λ t p. restart-passed laws l.links x.setup.side t l.good p)
           (told-accepted l.links Restarts x.setup.side) (l.told i x e h q);
     }
 

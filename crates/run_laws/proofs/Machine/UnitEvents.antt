@@ -134,14 +134,14 @@ hold-kept laws sub new u k next h f =
     }
 
 -- an act of the unit
-abbrev pub told_links : Links → UnitAct → Links
-told_links w act =
+abbrev pub acted_links : Links → UnitAct → Links
+acted_links w act =
     record { «unit» = unit_after w.«unit» (unit_steps w.«unit» act); first = told w.first (up_sent w.«unit» act First); second = told w.second (up_sent w.«unit» act Second) }
 
 link-told : (l : Link) (one : Option (OnPath Up)) → IsWider l (told l one)
 link-told l one = record { drawn = refl; hold = refl; downs = λ x c. c; ups = one-wider l.ups one }
 
-pub links-wider : (w : Links) (act : UnitAct) (k : Side) → IsWider (link_of w k) (link_of (told_links w act) k)
+pub links-wider : (w : Links) (act : UnitAct) (k : Side) → IsWider (link_of w k) (link_of (acted_links w act) k)
 links-wider w act First = link-told w.first (up_sent w.«unit» act First)
 links-wider w act Second = link-told w.second (up_sent w.«unit» act Second)
 
@@ -150,7 +150,7 @@ sent-within l true one e = one-within l.ups one
 sent-within l false one e = absurd (cc e)
 
 sent-told : (w : Links) (act : UnitAct) (side : Side) → is_to w.«unit» act side ≡ true →
-    IfSome (sent_by (unit_steps w.«unit» act)) (λ x. Contains (link_of (told_links w act) side).ups x)
+    IfSome (sent_by (unit_steps w.«unit» act)) (λ x. Contains (link_of (acted_links w act) side).ups x)
 sent-told w act First e = sent-within w.first (is_to w.«unit» act First) (sent_by (unit_steps w.«unit» act)) e
 sent-told w act Second e = sent-within w.second (is_to w.«unit» act Second) (sent_by (unit_steps w.«unit» act)) e
 
@@ -185,12 +185,12 @@ if-kept sub u k g true x y e f = e
 if-kept sub u k g false x y e f = f
 
 -- what was accepted at each side after an act of the unit
-pub told-accepted : (w : Links) (act : UnitAct) (j : Side) (t : ℕ) → IsAccepted w j t → IsAccepted (told_links w act) j t
+pub told-accepted : (w : Links) (act : UnitAct) (j : Side) (t : ℕ) → IsAccepted w j t → IsAccepted (acted_links w act) j t
 told-accepted w act First t c = accepted-wider w.first.accepted (up_sent w.«unit» act First) t c
 told-accepted w act Second t c = accepted-wider w.second.accepted (up_sent w.«unit» act Second) t c
 
 told-list : (w : Links) (act : UnitAct) (j : Side) → is_to w.«unit» act j ≡ true →
-    (link_of (told_links w act) j).accepted ≡ with_accepted (link_of w j).accepted (sent_by (unit_steps w.«unit» act))
+    (link_of (acted_links w act) j).accepted ≡ with_accepted (link_of w j).accepted (sent_by (unit_steps w.«unit» act))
 told-list w act First e = ap (λ (b : Bool). with_accepted w.first.accepted (sent_to b (sent_by (unit_steps w.«unit» act)))) e
 told-list w act Second e = ap (λ (b : Bool). with_accepted w.second.accepted (sent_to b (sent_by (unit_steps w.«unit» act)))) e
 
@@ -215,27 +215,27 @@ module _ (laws : AreLaws) where
       is_to w.«unit» act side ≡ true → IsLink sub (link_of w side) → IsFewer sub.wires.down downs → TellsUnit sub w.«unit» act k next →
       ((j : Side) → IsTakenBy w.«unit» (link_of w j).hold.phase act j → (same_side side j ≡ true) × T) → Follows T w side sub (sent_up sub downs (sent_by (unit_steps w.«unit» act))) (unit_after w.«unit» (unit_steps w.«unit» act)) k next
   unit-follows T w act side sub downs k next g given e l f tells taken =
-      let step : LinksStep w (Unit_acts act) (told_links w act) =
+      let step : LinksStep w (Unit_acts act) (acted_links w act) =
       record { given = given; «unit» = refl; first = told-step w.first (up_sent w.«unit» act First); second = told-step w.second (up_sent w.«unit» act Second) } in
-      let all = laws.keeps w (Unit_acts act) (told_links w act) g step in
-      let good : IsGood (told_links w act) = all.0 in
+      let all = laws.keeps w (Unit_acts act) (acted_links w act) g step in
+      let good : IsGood (acted_links w act) = all.0 in
       record {
-        links = told_links w act;
+        links = acted_links w act;
         good = good;
         «unit» = refl;
-        here = unit-link sub (link_of w side) (link_of (told_links w act) side) downs (sent_by (unit_steps w.«unit» act)) l (links-wider w act side) (sent-told w act side e) f;
+        here = unit-link sub (link_of w side) (link_of (acted_links w act) side) downs (sent_by (unit_steps w.«unit» act)) l (links-wider w act side) (sent-told w act side e) f;
         there = λ j h. links-wider w act j;
         ends = λ j d.
             elim (all.1 j d) [
               | inl x ↦ inl x
               | inr p ↦ let q = taken j p.0 in inr (q.0, q.1, p.1)
             ];
-        passed = λ j t p. laws.stays w (Unit_acts act) (told_links w act) j t g step p;
+        passed = λ j t p. laws.stays w (Unit_acts act) (acted_links w act) j t g step p;
         accepted = told-accepted w act;
-        told = tells w (told_links w act) side (record {
-          passed = λ t p. laws.stays w (Unit_acts act) (told_links w act) side t g step p;
+        told = tells w (acted_links w act) side (record {
+          passed = λ t p. laws.stays w (Unit_acts act) (acted_links w act) side t g step p;
           accepted = told-accepted w act side;
-          once = (laws.means (told_links w act) side good).once;
+          once = (laws.means (acted_links w act) side good).once;
           list = told-list w act side e;
         });
       }
@@ -353,12 +353,12 @@ module _ (laws : AreLaws) where
   act-kept sub u what k e = if-kept sub u k (λ r. k) (has_path_of_act sub what) _ _ (acted-kept sub u what k e) tt
 
   -- a restart of the unit, which no subchannel is told of
-  restarts-step : (w : Links) → LinksStep w (Unit_acts moving.Restarts) (told_links w moving.Restarts)
+  restarts-step : (w : Links) → LinksStep w (Unit_acts moving.Restarts) (acted_links w moving.Restarts)
   restarts-step w = record { given = tt; «unit» = refl; first = told-step w.first None; second = told-step w.second None }
 
-  pub restart-good : (w : Links) → IsGood w → IsGood (told_links w moving.Restarts) × ((j : Side) → IsResetDue w j → IsResetDue (told_links w moving.Restarts) j)
+  pub restart-good : (w : Links) → IsGood w → IsGood (acted_links w moving.Restarts) × ((j : Side) → IsResetDue w j → IsResetDue (acted_links w moving.Restarts) j)
   restart-good w g =
-      let all = laws.keeps w (Unit_acts moving.Restarts) (told_links w moving.Restarts) g (restarts-step w) in (
+      let all = laws.keeps w (Unit_acts moving.Restarts) (acted_links w moving.Restarts) g (restarts-step w) in (
         all.0,
         λ j d.
             elim (all.1 j d) [
@@ -367,8 +367,8 @@ module _ (laws : AreLaws) where
             ],
       )
 
-  pub restart-passed : (w : Links) (j : Side) (t : ℕ) → IsGood w → IsPassed w j t → IsPassed (told_links w moving.Restarts) j t
-  restart-passed w j t g p = laws.stays w (Unit_acts moving.Restarts) (told_links w moving.Restarts) j t g (restarts-step w) p
+  pub restart-passed : (w : Links) (j : Side) (t : ℕ) → IsGood w → IsPassed w j t → IsPassed (acted_links w moving.Restarts) j t
+  restart-passed w j t g p = laws.stays w (Unit_acts moving.Restarts) (acted_links w moving.Restarts) j t g (restarts-step w) p
 
 -- what a unit owes changes none of it
 abbrev pub with_owed : Bool → Links → Links

@@ -15,7 +15,7 @@ use Rattle.chan_model.specs.declared.unit_state.UnitState.{UnitState}
 use Rattle.chan_model.specs.UnitTable.{UnitStep, unit_after, side_of, raised, selected, telling, noticing, resets, forgetting, unit_takes, is_idle, restarted}
 use Rattle.chan_model.specs.Sides.{same_side}
 use Rattle.control_units.specs.declared.Member.{Member}
-use Rattle.control_units.specs.Units.{any_other, is_begun_in, member_told, may_serve, may_serve_at, begun_at, over_at}
+use Rattle.control_units.specs.Units.{any_other, is_begun_in, member_informed, may_serve, may_serve_at, begun_at, over_at}
 use Rattle.machine_model.specs.Setups.{group_of}
 use Rattle.machine_model.specs.Sharing.{is_asked_for, members_asked, is_let_go, members_over, members_after}
 use Rattle.step_laws.proofs.Indices.{set-get, map-get, same-or-not}
@@ -242,9 +242,9 @@ told-begun : (g : ℕ) (x : Member) (b : Bool) → (if b then record x { refused
 told-begun g x true = refl
 told-begun g x false = refl
 
-told-after : (members after : List Member) (at g : ℕ) (b : Bool) → AfterIs members after at b → AfterIs members (map (member_told g) after) at b
+told-after : (members after : List Member) (at g : ℕ) (b : Bool) → AfterIs members after at b → AfterIs members (map (member_informed g) after) at b
 told-after members after at g b k = λ i m f.
-    let got = map-get (member_told g) after i m f in
+    let got = map-get (member_informed g) after i m f in
     let same : m.begun ≡ got.0.begun = ap (λ (x : Member). x.begun) (sym got.2) ∙ told-begun g got.0 (got.0.group == g) in
     ((λ h. same ∙ (k i got.0 got.1).0 h), (λ n. let r = (k i got.0 got.1).1 n in (r.0, r.1, same ∙ r.2)))
 

@@ -1,4 +1,4 @@
-//! What the unit does, and how one side is told of it.
+//! What the unit does, and what it sends one side.
 
 ghost use Rattle.std.specs.Prelude.{◌≡◌, ◌<◌, ◌^◌, IfOk, slice_get};
 ghost use Rattle.agree.specs.Lines as spec;
@@ -8,7 +8,7 @@ ghost use Rattle.agreement_laws.specs.Moving as moving;
 ghost use Rattle.unit.specs.UnitWords as words;
 
 use super::SideLine;
-use super::signals::{make_room, tell};
+use super::signals::{make_room, send_up};
 use crate::reply::{WorldReply, own_up};
 use chan_model::fault::Fault;
 use chan_model::lent_forms::lend_up;
@@ -18,7 +18,7 @@ use unit::Unit;
 
 impl SideLine {
     /// The unit takes the signal at an index.
-    pub fn meet(
+    pub fn take_down(
         &mut self,
         unit: &mut Unit,
         side: Side,
@@ -26,8 +26,8 @@ impl SideLine {
         keep: bool,
         may: bool,
     ) -> Result<WorldReply, Fault>
-        ensures reply { IfOk result (λ r. r ≡ reply_spec.met_reply side unit.old (slice_get self.old.line.link.downs index) may) }
-        ensures gives { spec.GivesResult (spec.unit_line unit.old self.old.line) (spec.unit_meets (spec.unit_line unit.old self.old.line) side index keep may) (room_spec.IsFullUp self.new.room) result (spec.unit_line unit.new self.new.line) }
+        ensures reply { IfOk result (λ r. r ≡ reply_spec.unit_took_reply side unit.old (slice_get self.old.line.link.downs index) may) }
+        ensures gives { spec.GivesResult (spec.unit_line unit.old self.old.line) (spec.unit_takes (spec.unit_line unit.old self.old.line) side index keep may) (room_spec.IsFullUp self.new.room) result (spec.unit_line unit.new self.new.line) }
         ensures room { room_spec.LineTakes result self.old.room self.new.room }
     {
         if index >= self.downs.len() {
@@ -43,7 +43,7 @@ impl SideLine {
         }
         let sent = lend_up(&outcome.sent);
         let answer = own_up(&sent);
-        tell(&mut self.ups, &mut self.accepted, &self.up, &sent);
+        send_up(&mut self.ups, &mut self.accepted, &self.up, &sent);
         Ok(WorldReply::Down {
             side,
             signal,
@@ -65,7 +65,7 @@ impl SideLine {
         }
         let sent = lend_up(&outcome);
         let reply = WorldReply::of_unit(side, &sent);
-        tell(&mut self.ups, &mut self.accepted, &self.up, &sent);
+        send_up(&mut self.ups, &mut self.accepted, &self.up, &sent);
         Ok(reply)
     }
 
@@ -83,7 +83,7 @@ impl SideLine {
         }
         let sent = lend_up(&outcome);
         let reply = WorldReply::of_unit(side, &sent);
-        tell(&mut self.ups, &mut self.accepted, &self.up, &sent);
+        send_up(&mut self.ups, &mut self.accepted, &self.up, &sent);
         Ok(reply)
     }
 
@@ -106,7 +106,7 @@ impl SideLine {
         }
         let sent = lend_up(&outcome);
         let reply = WorldReply::of_unit(side, &sent);
-        tell(&mut self.ups, &mut self.accepted, &self.up, &sent);
+        send_up(&mut self.ups, &mut self.accepted, &self.up, &sent);
         Ok(reply)
     }
 
@@ -123,7 +123,7 @@ impl SideLine {
         }
         let sent = lend_up(&outcome);
         let reply = WorldReply::of_unit(side, &sent);
-        tell(&mut self.ups, &mut self.accepted, &self.up, &sent);
+        send_up(&mut self.ups, &mut self.accepted, &self.up, &sent);
         Ok(reply)
     }
 
@@ -146,7 +146,7 @@ impl SideLine {
         }
         let outcome = unit.lend(&outcome);
         let reply = WorldReply::of_unit(side, &outcome.sent);
-        tell(&mut self.ups, &mut self.accepted, &self.up, &outcome.sent);
+        send_up(&mut self.ups, &mut self.accepted, &self.up, &outcome.sent);
         Ok(reply)
     }
 }

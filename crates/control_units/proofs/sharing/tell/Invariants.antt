@@ -1,7 +1,0 @@
-use Rattle.std.proofs.Common.{◌≡◌, ◌++◌, map, take, drop}
-use Rattle.control_units.specs.Units.{member_told}
-use Rattle.control_units.proofs.sharing.tell.Given as goal
-
--- the first units are told, the rest are as before
-abbrev pub invariant-loop-member : goal.invariant-loop-member
-invariant-loop-member l = l.members ≡ map (member_told l.group) (take l.member-index l.fn.members) ++ drop l.member-index l.fn.members
