@@ -1,5 +1,5 @@
 -- What there is of a channel subsystem, as small values.
-use Rattle.std.specs.Prelude.{◌≡◌, ◌≤◌, ◌^◌, ◌⊎◌, ℕ, ◌+◌, ◌==◌, not, Bool, List, map, length, slice_get, slice_set, unwrap_or, Option, None, Some, if◌then◌else◌}
+use Rattle.std.specs.Prelude.{◌≡◌, ◌≤◌, ◌^◌, ◌⊎◌, ℕ, ◌+◌, ◌==◌, not, Bool, List, [], map, length, slice_get, slice_set, unwrap_or, Option, None, Some, if◌then◌else◌}
 use Rattle.std.specs.List.{range_with_len}
 use Rattle.storage_keys.specs.Storage.{Contents, cleared_storage}
 use Rattle.chan_model.specs.declared.unit_state.UnitState.{UnitState}
@@ -47,6 +47,13 @@ pub record State : Type 0 where
   pub requests : WaitingRequests
   pub reports : WaitingReports
   pub path_return : PathReturn
+
+-- a machine without storage, and the state that it makes with the storage that it is lent
+abbrev pub no_storage : Contents
+no_storage = record { bytes = []; keys = []; prefixes = [] }
+
+abbrev pub lent : State → Contents → State
+lent machine storage = record machine { storage = storage }
 
 -- a state, the accepted events with their replies that led there, and for how many more of them there is room
 pub record Past : Type 0 where
