@@ -15,8 +15,10 @@ use Rattle.machine_model.specs.State.{State, opening_of}
 use Rattle.machine_model.specs.Steps.{HasRun, Step}
 use Rattle.run_laws.specs.Stores.{besides_stores, is_store}
 use Rattle.subsystem.proofs.Pasts.{KeepsSetUps, past-more, past-opens, past-set_up}
-use Rattle.channel_subsystem.specs.Hosting.{HasLed, HasNumber, Hosted, IsOfSize, Leads}
+use Rattle.channel_subsystem.specs.Ends.{EndsBy, still_kept}
+use Rattle.channel_subsystem.specs.Hosting.{HasLed, HasNumber, Hosted, IsAsBefore, IsOfSize, Leads}
 use Rattle.channel_subsystem.specs.Stores.{stores}
+use Rattle.channel_subsystem.proofs.Ending.{all-stores, ends-entry, ends-none, ends-still, ends-stored}
 use Rattle.channel_subsystem.proofs.StoresLead.{IsAsLarge, besides-append, stores-lead, stores-uncounted}
 
 -- storage that is whole blocks is of a size, or not, by its bytes
@@ -37,7 +39,16 @@ led-stored keeps s before size sound h storage k = record {
   run = stores-lead keeps h s.machine storage before (large s.blocks storage before k.size size) sound k.run;
   size = size;
   counted = omega (arith, k.counted, besides-append h (stores before), stores-uncounted before);
+  ends = ends-stored h s.kept (stores before) (all-stores before) k.ends;
 }
+
+-- the entry of an event was added, and beside the machine nothing else is changed
+pub record Adds (old new : Hosted) (e : Event) (r : Reply) : Type 0 where
+  pub blocks : new.blocks ≡ old.blocks
+  pub keeping : new.keeping ≡ old.keeping
+  pub kept : new.kept ≡ still_kept old.keeping old.kept ++ record { event = e; reply = r } ∷ []
+  pub room : old.room ≤ new.room + 1
+  pub count : new.count ≡ old.count + 1
 
 -- by a step from there
 step-size : KeepsSetUps → (blocks : ℕ) (old new : State) (before after : Contents) (h : List Entry) (e : Event) (r : Reply) → HasRun h (lent old before) →
@@ -49,47 +60,50 @@ step-size keeps blocks old new before after h e r run step size sound =
     let keys : length after.keys ≡ blocks = stays.blocks ∙ (sym up.blocks ∙ size.keys) in
     record { bytes = sound.blocks ∙ ap (λ (n : ℕ). 4096 * n) keys; keys = keys; cpus = sound.cpus }
 
-pub led-further : KeepsSetUps → (old new : Hosted) (before after : Contents) (e : Event) (r : Reply) → new.last ≡ record { event = e; reply = r } ∷ [] → new.count ≡ old.count + 1 →
-    new.blocks ≡ old.blocks → Step (lent old.machine before) e r (lent new.machine after) → IsAddressable before → IsAddressable after →
-    IsOfSize old.blocks before → (h : List Entry) (storage : Contents) → Leads h old storage → Leads (h ++ (stores before ++ new.last)) new after
-led-further keeps old new before after e r last count blocks step sound further size h storage k =
-    let entry : List Entry = record { event = e; reply = r } ∷ [] in
-    let there = led-stored keeps old before size sound h storage k in
-    let more : HasRun ((h ++ stores before) ++ entry) (lent new.machine after) =
-    past-more keeps (h ++ stores before) ((h ++ stores before) ++ entry) (lent old.machine before) (lent new.machine after) e r there.run step refl in
-    let same : (h ++ stores before) ++ entry ≡ h ++ (stores before ++ new.last) =
-    append_assoc h (stores before) entry ∙ ap (λ (l : List Entry). h ++ (stores before ++ l)) (sym last) in
+pub led-by-entry : KeepsSetUps → (old new : Hosted) (before after : Contents) (e : Event) (r : Reply) → Adds old new e r → Step (lent old.machine before) e r (lent new.machine after) →
+    IsAddressable after → (h : List Entry) → Leads h old before → Leads (h ++ record { event = e; reply = r } ∷ []) new after
+led-by-entry keeps old new before after e r adds step further h k =
+    let added : Entry = record { event = e; reply = r } in
+    let entry : List Entry = added ∷ [] in
     let single : besides_stores entry ≤ 1 = count_by-le-length (λ (x : Entry). not (is_store x.event)) entry in
-    let counts : besides_stores ((h ++ stores before) ++ entry) ≤ old.count + 1 =
-    omega (arith, there.counted, besides-append (h ++ stores before) entry, single) in
+    let counts : besides_stores (h ++ entry) ≤ old.count + 1 = omega (arith, k.counted, besides-append h entry, single) in
     record {
-      run = subst (λ (l : List Entry). HasRun l (lent new.machine after)) same more;
-      size = subst (λ (n : ℕ). IsOfSize n after) (sym blocks) (step-size keeps old.blocks old.machine new.machine before after (h ++ stores before) e r there.run step size further);
-      counted = subst (λ (n : ℕ). besides_stores (h ++ (stores before ++ new.last)) ≤ n) (sym count) (subst (λ (l : List Entry). besides_stores l ≤ old.count + 1) same counts);
+      run = past-more keeps h (h ++ entry) (lent old.machine before) (lent new.machine after) e r k.run step refl;
+      size = subst (λ (n : ℕ). IsOfSize n after) (sym adds.blocks) (step-size keeps old.blocks old.machine new.machine before after h e r k.run step k.size further);
+      counted = subst (λ (n : ℕ). besides_stores (h ++ entry) ≤ n) (sym adds.count) counts;
+      ends = subst (λ (l : List Entry). EndsBy (h ++ entry) l) (sym adds.kept) (ends-entry h (still_kept old.keeping old.kept) added (ends-still old.keeping h old.kept k.ends));
     }
 
--- and by a call that was refused
-pub led-still : KeepsSetUps → (old : Hosted) (before : Contents) → IsAddressable before → IsOfSize old.blocks before → (h : List Entry) (storage : Contents) → Leads h old storage →
-    Leads (h ++ (stores before ++ [])) (record old { last = [] }) before
-led-still keeps old before sound size h storage k =
-    let there = led-stored keeps old before size sound h storage k in
-    subst (λ (l : List Entry). Leads (h ++ l) (record old { last = [] }) before) (sym (append-nil (stores before)))
-    (record { run = there.run; size = there.size; counted = there.counted })
+-- by what was stored, and then by a step
+pub led-further : KeepsSetUps → (old new : Hosted) (before after : Contents) (e : Event) (r : Reply) → Adds old new e r → Step (lent old.machine before) e r (lent new.machine after) →
+    IsAddressable before → IsAddressable after → IsOfSize old.blocks before → (h : List Entry) (storage : Contents) → Leads h old storage →
+    Leads (h ++ (stores before ++ record { event = e; reply = r } ∷ [])) new after
+led-further keeps old new before after e r adds step sound further size h storage k =
+    let entry : List Entry = record { event = e; reply = r } ∷ [] in
+    subst (λ (l : List Entry). Leads l new after) (append_assoc h (stores before) entry)
+    (led-by-entry keeps old new before after e r adds step further (h ++ stores before) (led-stored keeps old before size sound h storage k))
 
--- what was the entry of its last call is no matter
-pub led-whatever : (s : Hosted) (last : List Entry) → HasLed s → HasLed (record s { last = last })
-led-whatever s last (h, storage, k) = (h, storage, record { run = k.run; size = k.size; counted = k.counted })
+-- and by a call that was refused: what was kept of it is no matter, nor is the room
+pub led-left : (old : Hosted) (room : ℕ) (h : List Entry) (storage : Contents) → Leads h old storage →
+    Leads h (record old { kept = still_kept old.keeping old.kept; room = room }) storage
+led-left old room h storage k = record { run = k.run; size = k.size; counted = k.counted; ends = ends-still old.keeping h old.kept k.ends }
 
-pub led-on : KeepsSetUps → (old new : Hosted) (before after : Contents) (e : Event) (r : Reply) → new.last ≡ record { event = e; reply = r } ∷ [] → new.count ≡ old.count + 1 →
-    new.blocks ≡ old.blocks → Step (lent old.machine before) e r (lent new.machine after) → IsAddressable before → IsAddressable after →
-    IsOfSize old.blocks before → HasLed old → HasLed new
-led-on keeps old new before after e r last count blocks step sound further size (h, storage, k) =
-    (h ++ (stores before ++ new.last), after, led-further keeps old new before after e r last count blocks step sound further size h storage k)
+pub led-as-before : (old new : Hosted) → IsAsBefore old new → HasLed old → HasLed new
+led-as-before old new as (h, storage, k) = (h, storage, subst (λ (s : Hosted). Leads h s storage) (sym as.same) (led-left old new.room h storage k))
+
+-- what was kept is let go
+pub led-forgotten : (old : Hosted) (room : ℕ) (h : List Entry) (storage : Contents) → Leads h old storage → Leads h (record old { kept = []; room = room }) storage
+led-forgotten old room h storage k = record { run = k.run; size = k.size; counted = k.counted; ends = ends-none h }
+
+pub led-on : KeepsSetUps → (old new : Hosted) (before after : Contents) (e : Event) (r : Reply) → Adds old new e r → Step (lent old.machine before) e r (lent new.machine after) →
+    IsAddressable before → IsAddressable after → IsOfSize old.blocks before → HasLed old → HasLed new
+led-on keeps old new before after e r adds step sound further size (h, storage, k) =
+    (h ++ (stores before ++ record { event = e; reply = r } ∷ []), after, led-further keeps old new before after e r adds step sound further size h storage k)
 
 -- at the opening
-pub led-opens : (setup : Setup) (blocks : ℕ) (s : Hosted) → IsLawful setup → 16 ≤ blocks → s.machine ≡ lent (opening_of setup) no_storage → s.blocks ≡ blocks →
+pub led-opens : (setup : Setup) (blocks : ℕ) (s : Hosted) → IsLawful setup → 16 ≤ blocks → s.machine ≡ lent (opening_of setup) no_storage → s.blocks ≡ blocks → s.kept ≡ [] →
     Leads [] s (cleared_storage blocks)
-led-opens setup blocks s lawful least opened same = record {
+led-opens setup blocks s lawful least opened same none = record {
   run = past-opens (hosted setup blocks) [] (lent s.machine (cleared_storage blocks)) (lawful-storage setup blocks least lawful) refl
       (ap (λ (m : State). lent m (cleared_storage blocks)) opened);
   size = record {
@@ -98,6 +112,7 @@ led-opens setup blocks s lawful least opened same = record {
     cpus = length-replicate {A = ℕ} 16 0;
   };
   counted = let none : besides_stores [] ≡ 0 = refl in omega (arith, none);
+  ends = subst (λ (l : List Entry). EndsBy [] l) (sym none) (ends-none []);
 }
 
 pub set_up-opens : (setup : Setup) (blocks : ℕ) (machine : State) → IsLawful setup → 16 ≤ blocks → machine ≡ lent (opening_of setup) no_storage →

@@ -1,2 +1,4 @@
+pub mod Ends
 pub mod Hosting
+pub mod Replaying
 pub mod Stores

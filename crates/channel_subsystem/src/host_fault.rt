@@ -12,6 +12,9 @@ pub enum HostFault {
     /// As many events were accepted as there are numbers for: 4,611,686,018,427,387,903.
     #[error("the numbers of events are used up")]
     NumbersUsedUp,
+    /// All entries are kept, and there is no memory for another.
+    #[error("there is no memory for an entry")]
+    NoMemory,
     /// The machine refuses the event.
     #[error("{0}")]
     Refused(Fault),

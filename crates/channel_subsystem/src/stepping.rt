@@ -1,9 +1,11 @@
-//! One event at a machine that is lent storage, with its entry alone in the log.
+//! One event at a machine that is lent storage, with its entry behind those that a log has.
 
-ghost use Rattle.std.specs.Prelude.{◌≡◌, ◌+◌, ◌≤◌, ◌∷◌, [], OnErr, OnOk, length};
+ghost use Rattle.std.specs.Prelude.{◌≡◌, ◌⊎◌, ◌+◌, ◌≤◌, ◌++◌, ◌∷◌, [], OnErr, OnOk, length};
 ghost use Rattle.std.specs.Bool.{OnTrue, OnFalse};
 ghost use Rattle.chan_events.specs.declared.reply.Reply.TheVariants as reply_spec;
+ghost use Rattle.channel_subsystem.specs.Ends.{still_kept};
 ghost use Rattle.channel_subsystem.specs.Hosting.{HasNumber, IsOfSize};
+ghost use Rattle.channel_subsystem.specs.declared.keeping.Keeping.TheVariants as keeping_spec;
 ghost use Rattle.event_log.specs.Logs.{last_reply};
 ghost use Rattle.lookup.specs.Tables.{Fits};
 ghost use Rattle.machine.specs.Lent.{lent};
@@ -12,6 +14,7 @@ ghost use Rattle.machine_model.specs.Steps.{Performs};
 ghost use Rattle.storage_keys.specs.Storage.{IsAddressable};
 ghost use Rattle.subsystem.specs.Keeping.{answer_of};
 
+use crate::keeping::Keeping;
 use chan_events::event::Event;
 use chan_model::fault::Fault;
 use event_log::logs::Log;
@@ -33,9 +36,25 @@ pub fn is_of_size<M: MainStorage>(storage: &M, blocks: u32) -> bool
     storage.size() / BLOCK == blocks
 }
 
-/// One event at a machine on what its host's storage holds, with its entry in a log that has no other.
+/// Lets go what is not kept as another event begins. Where the last entry alone is kept there is room for another after it.
+pub fn make_way(keeping: Keeping, log: &mut Log)
+    requires fresh { log.old.reply ≡ reply_spec.Done }
+    requires room { 1 ≤ log.old.room + length log.old.entries }
+    ensures entries { log.new.entries ≡ still_kept keeping log.old.entries }
+    ensures fresh { log.new.reply ≡ reply_spec.Done }
+    ensures kept { log.old.room ≤ log.new.room }
+    ensures room { 1 ≤ log.new.room + length log.new.entries }
+    ensures all { (keeping ≡ keeping_spec.AllEntries) ⊎ (1 ≤ log.new.room) }
+{
+    match keeping {
+        Keeping::LastEntry => log.forget(),
+        Keeping::AllEntries => {}
+    }
+}
+
+/// One event at a machine on what its host's storage holds, with its entry in a log that has room for it.
 #[inline(never)]
-pub fn keep_last<M: MainStorage, P: PathChoice + Drop>(
+pub fn keep_entry<M: MainStorage, P: PathChoice + Drop>(
     machine: &mut Machine,
     storage: &mut M,
     indices: &SubchannelIndex,
@@ -46,17 +65,16 @@ pub fn keep_last<M: MainStorage, P: PathChoice + Drop>(
     requires run { HasNumber (lent machine.old (M.contents storage.old)) }
     requires fits { Fits indices.now machine.old.subs }
     requires fresh { log.old.reply ≡ reply_spec.Done }
-    requires none { log.old.entries ≡ [] }
     requires room { 1 ≤ log.old.room }
     ensures performs { Performs (lent machine.old (M.contents storage.old)) event.now (answer_of result log.new.entries) (lent machine.new (M.contents storage.new)) }
     ensures ruled { GoesByRule P.picks (lent machine.old (M.contents storage.old)) event.now (answer_of result log.new.entries) (lent machine.new (M.contents storage.new)) }
-    ensures last { OnOk result (log.new.entries ≡ record { event = event.now; reply = last_reply log.new.entries } ∷ []) }
-    ensures refused { OnErr result (log.new.entries ≡ []) }
+    ensures entry { OnOk result (log.new.entries ≡ log.old.entries ++ record { event = event.now; reply = last_reply log.new.entries } ∷ []) }
+    ensures room { OnOk result (log.old.room ≤ log.new.room + 1) }
+    ensures refused { OnErr result (log.new ≡ log.old) }
     ensures kept { OnErr result (machine.new ≡ machine.old) }
     ensures unchanged { OnErr result (M.contents storage.new ≡ M.contents storage.old) }
     ensures fits { Fits indices.now machine.new.subs }
     ensures fresh { log.new.reply ≡ reply_spec.Done }
-    ensures room { 1 ≤ log.new.room + length log.new.entries }
     ensures lender { M.lender storage.new ≡ M.lender storage.old }
     ensures sound { OnOk result (IsAddressable (M.contents storage.new)) }
 {

@@ -1,6 +1,7 @@
-use Rattle.std.proofs.Common.{◌∙◌, ap, sym, subst, arith, length, List, Ok}
+use Rattle.std.proofs.Common.{◌∙◌, ap, sym, subst, List, [], ◌∷◌, ◌++◌, Ok}
 use Rattle.chan_events.specs.declared.reply.Entry.{Entry}
 use Rattle.chan_events.specs.Replies.{Reply}
+use Rattle.event_log.specs.Logs.{last_reply}
 use Rattle.lookup.proofs.Keeping.{fits-kept}
 use Rattle.machine.specs.Lent.{lent}
 use Rattle.machine_model.specs.Ruled.{GoesByRule}
@@ -10,7 +11,7 @@ use Rattle.subsystem.proofs.Pasts.{past-postable}
 use Rattle.channel_subsystem.proofs.Answering.{same-machine}
 use Rattle.channel_subsystem.proofs.LastEntry.{its-entry, its-reply}
 use Rattle.channel_subsystem.proofs.Numbers.{subs-count, units-count}
-use Rattle.channel_subsystem.proofs.stepping.keep_last.Goals as goal
+use Rattle.channel_subsystem.proofs.stepping.keep_entry.Goals as goal
 
 pub perform-requires-clause-subs : goal.perform-requires-clause-subs
 perform-requires-clause-subs g c =
@@ -32,23 +33,22 @@ returns-in-Ok-clause-performs g c =
     let old = lent c.args.machine.now (g.M.MainStorage.contents c.args.storage.now) in
     let new = lent c.perform.new.self (g.M.MainStorage.contents c.perform.new.storage) in
     let e = c.args.event.now in
-    let none = c.in-Ok.ensures.kept.entries ∙ c.requires.none in
     subst (λ (r : Reply). Performs old e (Ok r) new)
-    (sym (its-reply c.perform.new.log.entries c.finish.new.self.entries e c.perform.new.log.reply none c.finish.ensures.entries)) c.in-Ok.ensures.performs
+    (sym (its-reply c.perform.new.log.entries c.finish.new.self.entries e c.perform.new.log.reply c.finish.ensures.entries)) c.in-Ok.ensures.performs
 
 pub returns-in-Ok-clause-ruled : goal.returns-in-Ok-clause-ruled
 returns-in-Ok-clause-ruled g c =
     let old = lent c.args.machine.now (g.M.MainStorage.contents c.args.storage.now) in
     let new = lent c.perform.new.self (g.M.MainStorage.contents c.perform.new.storage) in
     let e = c.args.event.now in
-    let none = c.in-Ok.ensures.kept.entries ∙ c.requires.none in
     subst (λ (r : Reply). GoesByRule g.P.PathChoice.picks old e (Ok r) new)
-    (sym (its-reply c.perform.new.log.entries c.finish.new.self.entries e c.perform.new.log.reply none c.finish.ensures.entries)) c.in-Ok.ensures.ruled
+    (sym (its-reply c.perform.new.log.entries c.finish.new.self.entries e c.perform.new.log.reply c.finish.ensures.entries)) c.in-Ok.ensures.ruled
 
-pub returns-in-Ok-clause-last : goal.returns-in-Ok-clause-last
-returns-in-Ok-clause-last g c =
-    its-entry c.perform.new.log.entries c.finish.new.self.entries c.args.event.now c.perform.new.log.reply
-    (c.in-Ok.ensures.kept.entries ∙ c.requires.none) c.finish.ensures.entries
+pub returns-in-Ok-clause-entry : goal.returns-in-Ok-clause-entry
+returns-in-Ok-clause-entry g c =
+    let e = c.args.event.now in
+    its-entry c.perform.new.log.entries c.finish.new.self.entries e c.perform.new.log.reply c.finish.ensures.entries
+    ∙ ap (λ (h : List Entry). h ++ record { event = e; reply = last_reply c.finish.new.self.entries } ∷ []) c.in-Ok.ensures.kept.entries
 
 pub returns-in-Ok-clause-fits : goal.returns-in-Ok-clause-fits
 returns-in-Ok-clause-fits g c =
@@ -56,12 +56,6 @@ returns-in-Ok-clause-fits g c =
     let new = lent c.perform.new.self (g.M.MainStorage.contents c.perform.new.storage) in
     fits-kept c.args.indices.now c.args.machine.now.subs c.perform.new.self.subs
     (c.setups.ensures.stay old c.args.event.now c.perform.new.log.reply new c.in-Ok.ensures.performs) c.requires.fits
-
-pub returns-in-Ok-clause-room : goal.returns-in-Ok-clause-room
-returns-in-Ok-clause-room g c =
-    let entry = its-entry c.perform.new.log.entries c.finish.new.self.entries c.args.event.now c.perform.new.log.reply
-    (c.in-Ok.ensures.kept.entries ∙ c.requires.none) c.finish.ensures.entries in
-    omega (arith, ap (λ (l : List Entry). length l) entry)
 
 pub returns-in-Err-clause-kept : goal.returns-in-Err-clause-kept
 returns-in-Err-clause-kept g c =
