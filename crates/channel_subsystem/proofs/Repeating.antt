@@ -14,9 +14,13 @@ use Rattle.channel_subsystem.specs.Replaying.{AreRepeated}
 
 repeated-then : (picks : Rule) (old : Hosted) (before : Contents) (entries : List Entry) (next : Hosted) (storage : Contents) (entry : Entry) (new : Hosted) (after : Contents) →
     AreRepeated picks old before entries next storage → IsHostStep picks next storage entry.event (Ok entry.reply) new after → AreRepeated picks old before (entries ++ entry ∷ []) new after
-repeated-then picks old before [] next storage entry new after done step =
-    (new, after, subst (λ (s : Hosted). IsHostStep picks s before entry.event (Ok entry.reply) new after) done.0
-    (subst (λ (c : Contents). IsHostStep picks next c entry.event (Ok entry.reply) new after) done.1 step), (refl, refl))
+repeated-then picks old before [] next storage entry new after done step = (
+  new,
+  after,
+  subst (λ (s : Hosted). IsHostStep picks s before entry.event (Ok entry.reply) new after) done.0
+      (subst (λ (c : Contents). IsHostStep picks next c entry.event (Ok entry.reply) new after) done.1 step),
+  (refl, refl),
+)
 repeated-then picks old before (first ∷ entries) next storage entry new after done step =
     (done.0, done.1, done.2, repeated-then picks done.0 done.1 entries next storage entry new after done.3 step)
 

@@ -4,6 +4,7 @@ mod channel_subsystem_tests;
 mod device_models_ends;
 mod device_models_tests;
 mod histories_tests;
+mod kept_history_tests;
 mod long_runs_tests;
 mod looks_tests;
 mod many_subchannels_tests;

@@ -10,6 +10,7 @@ use channel_config::config::Config;
 use channel_config::parts::UnitKind;
 use channel_subsystem::host_fault::HostFault;
 use channel_subsystem::hosted::ChannelSubsystem;
+use channel_subsystem::keeping::Keeping;
 use machine_model::state::UnitTurn;
 use path_select::Rotating;
 use scsw_irb::status::DeviceStatus;
@@ -17,34 +18,34 @@ use std::alloc::Global;
 use storage_keys::LentStorage;
 
 /// The channel path of the subchannel.
-const CHPID: u8 = 0x10;
+pub const CHPID: u8 = 0x10;
 
 /// An operation-request block at 500: format 1, all paths, its program at 1000.
-const ORB: [u8; 12] = [0, 0, 0, 0, 0, 0x80, 0xFF, 0, 0, 0, 0x10, 0];
+pub const ORB: [u8; 12] = [0, 0, 0, 0, 0, 0x80, 0xFF, 0, 0, 0, 0x10, 0];
 
 /// A write of 4 bytes from 2000.
-const CCW: [u8; 8] = [1, 0x20, 0, 4, 0, 0, 0x20, 0];
+pub const CCW: [u8; 8] = [1, 0x20, 0, 4, 0, 0, 0x20, 0];
 
 /// What it writes.
-const DATA: [u8; 4] = [0xC1, 0xC2, 0xC3, 0xC4];
+pub const DATA: [u8; 4] = [0xC1, 0xC2, 0xC3, 0xC4];
 
 /// As much as TEST SUBCHANNEL stores of the status word: channel end and device end, no count is left.
-const SCSW: [u8; 12] = [0, 0x80, 0x40, 7, 0, 0, 0x10, 8, 0x0C, 0, 0, 0];
+pub const SCSW: [u8; 12] = [0, 0x80, 0x40, 7, 0, 0, 0x10, 8, 0x0C, 0, 0, 0];
 
 /// More turns than a write takes.
 const MANY: u32 = 50;
 
 /// What a host has.
 #[derive(Drop)]
-struct Host {
-    bytes: Vec<u8>,
-    keys: [u8; 16],
-    prefixes: [u32; 16],
+pub struct Host {
+    pub bytes: Vec<u8>,
+    pub keys: [u8; 16],
+    pub prefixes: [u32; 16],
 }
 
 impl Host {
     /// 16 blocks.
-    fn new(alloc: Global) -> Option<Host> {
+    pub fn new(alloc: Global) -> Option<Host> {
         let bytes = vec![in alloc; 0; 0x1_0000].ok()?;
         Some(Host {
             bytes,
@@ -54,7 +55,7 @@ impl Host {
     }
 
     /// A CPU stores: that is no call of the channel subsystem.
-    fn store(&mut self, address: u16, bytes: &[u8]) {
+    pub fn store(&mut self, address: u16, bytes: &[u8]) {
         for (offset, byte) in bytes.iter().enumerate() {
             if let Some(place) = self.bytes.get_mut(usize::from(address) + offset) {
                 *place = *byte;
@@ -63,13 +64,13 @@ impl Host {
     }
 
     /// Whether these bytes stand there.
-    fn holds(&self, address: u16, bytes: &[u8]) -> bool {
+    pub fn holds(&self, address: u16, bytes: &[u8]) -> bool {
         bytes.iter().enumerate().all(|(offset, byte)| self.bytes.get(usize::from(address) + offset)
             == Some(byte))
     }
 
     /// One event on what the host has.
-    fn step(
+    pub fn step(
         &mut self,
         subsystem: &mut ChannelSubsystem<Rotating>,
         event: &Event,
@@ -100,7 +101,7 @@ impl Host {
 }
 
 /// One subchannel with one path and one unit; nothing is said of storage.
-fn one_path(alloc: Global) -> Config {
+pub fn one_path(alloc: Global) -> Config {
     let mut config = Config::new(alloc);
     let _ = config.path(u32::from(CHPID));
     let _ = config.unit(0, UnitKind::Block);
@@ -121,7 +122,7 @@ fn answer(call: &Call) -> DeviceAnswer {
 }
 
 /// What the unit does next.
-fn next_of_unit(turn: &UnitTurn) -> Option<Event> {
+pub fn next_of_unit(turn: &UnitTurn) -> Option<Event> {
     let report = match turn {
         UnitTurn::Takes { path, .. } => {
             return Some(Event::Down {
@@ -240,7 +241,13 @@ fn writes(host: &mut Host, subsystem: &mut ChannelSubsystem<Rotating>, made: u64
 /// How many of so many writes are done. None where there is no memory at the opening.
 fn writes_done(alloc: Global, count: u64) -> Option<u64> {
     let mut host = Host::new(alloc)?;
-    let mut subsystem = ChannelSubsystem::new(alloc, one_path(alloc), 16, Rotating {}).ok()?;
+    let mut subsystem = ChannelSubsystem::new(
+        alloc,
+        one_path(alloc),
+        16,
+        Keeping::LastEntry,
+        Rotating {},
+    ).ok()?;
     let enabled = host.executes(
         &mut subsystem,
         Instruction::Enable {
@@ -283,8 +290,13 @@ fn storage_of_another_size_is_refused(rt: HostRuntime) {
     let Some(mut host) = Host::new(rt.alloc()) else {
         return assert!(rt; false, "there is memory");
     };
-    let Ok(mut subsystem) = ChannelSubsystem::new(rt.alloc(), one_path(rt.alloc()), 17, Rotating {})
-    else {
+    let Ok(mut subsystem) = ChannelSubsystem::new(
+        rt.alloc(),
+        one_path(rt.alloc()),
+        17,
+        Keeping::LastEntry,
+        Rotating {},
+    ) else {
         return assert!(rt; false, "there is memory");
     };
     let refused = refuses_other_size(&mut host, &mut subsystem);
@@ -295,7 +307,16 @@ fn storage_of_another_size_is_refused(rt: HostRuntime) {
 /// Whether a channel subsystem is made for so many blocks, where so many requests for room are granted.
 fn opens(alloc: Global, blocks: u32, left: u64) -> bool {
     let mut supply = granting(left);
-    ChannelSubsystem::new_with(alloc, &mut supply, one_path(alloc), blocks, Rotating {}).is_ok()
+    let config = one_path(alloc);
+    ChannelSubsystem::new_with(
+        alloc,
+        &mut supply,
+        config,
+        blocks,
+        Keeping::LastEntry,
+        Rotating {},
+    )
+    .is_ok()
 }
 
 #[test]
