@@ -1,6 +1,6 @@
 -- One event and its answer, by what the machine did on the host's storage and what the log has.
-use Rattle.std.proofs.Common.{◌≡◌, ◌≤◌, refl, sym, ◌∙◌, ap, subst, ◌+◌, arith, ℕ, List, [], ◌∷◌, ◌++◌, Ok, Err}
-use Rattle.std.specs.Prelude.{IfSome}
+use Rattle.std.proofs.Common.{◌≡◌, ◌≤◌, refl, sym, ◌∙◌, ap, subst, ◌+◌, arith, ℕ, List, [], ◌∷◌, ◌++◌, Ok, Err, inl, inr}
+use Rattle.std.specs.Prelude.{◌⊎◌, IfSome}
 use Rattle.std.proofs.lemmas.List.{append-nil}
 use Rattle.storage_keys.specs.Storage.{Contents, IsAddressable}
 use Rattle.chan_events.specs.Events.{Event}
@@ -18,6 +18,7 @@ use Rattle.channel_subsystem.specs.Ends.{still_kept}
 use Rattle.channel_subsystem.specs.Hosting.{HasNumber, Hosted, IsAsBefore, IsHostRefusal, IsHostStep, IsOfSize, Leads, machine_answer}
 use Rattle.channel_subsystem.specs.Stores.{stores}
 use Rattle.channel_subsystem.specs.declared.host_fault.HostFault.{HostFault}
+use Rattle.channel_subsystem.specs.declared.keeping.Keeping.TheVariants.{AllEntries}
 use Rattle.channel_subsystem.proofs.Leading.{Adds, led-by-entry, led-further, led-left, led-stored}
 
 -- what the laws say
@@ -86,6 +87,22 @@ unmoved keeps picks old new before after e f as storage sound why ruled =
 -- what a call leaves of the log where it is refused
 pub as-before : (old : Hosted) (kept : List Entry) (room : ℕ) → kept ≡ still_kept old.keeping old.kept → old.room ≤ room → IsAsBefore old (record old { kept = kept; room = room })
 as-before old kept room still more = record { same = ap (λ (l : List Entry). record old { kept = l; room = room }) still; room = more }
+
+pub unmoved-seen : KeepsSetUps → (picks : Rule) (old seen : Hosted) (kept : List Entry) (room : ℕ) (before after : Contents) (e : Event) (f : HostFault) → old ≡ seen →
+    kept ≡ still_kept old.keeping old.kept → old.room ≤ room → after ≡ before → IsAddressable before → IsHostRefusal old before e f →
+    IfSome (machine_answer (Err f)) (λ a. GoesByRule picks (lent old.machine before) e a (lent old.machine before)) →
+    IsHostStep picks seen before e (Err f) (record old { kept = kept; room = room }) after
+unmoved-seen keeps picks old seen kept room before after e f is still more storage sound why ruled =
+    subst (λ (s : Hosted). IsHostStep picks s before e (Err f) (record old { kept = kept; room = room }) after) is
+    (unmoved keeps picks old (record old { kept = kept; room = room }) before after e f (as-before old kept room still more) storage sound why ruled)
+
+-- there was no room where all entries are kept
+pub lacks-room : (s : Hosted) (room : ℕ) → (s.keeping ≡ AllEntries) ⊎ (1 ≤ room) → s.room ≤ room → room ≡ 0 → (s.keeping ≡ AllEntries) × (s.room ≡ 0)
+lacks-room s room why more none =
+    elim why [
+      | inl all ↦ (all, omega (arith, more, none))
+      | inr some ↦ absurd (omega (arith, some, none))
+    ]
 
 -- a refusal of the machine changed nothing beside storage either
 pub same-machine : (old new : State) (before after : Contents) → lent new after ≡ lent old before → old ≡ lent old no_storage → new ≡ lent new no_storage → new ≡ old

@@ -1,16 +1,21 @@
 -- Entries whose events are performed once more, as they grow at their end.
-use Rattle.std.proofs.Common.{◌≡◌, ◌≤◌, refl, sym, ◌∙◌, ap, subst, ℕ, zero, suc, ◌+◌, ◌-◌, Option, Some, Ok, List, [], ◌∷◌, ◌++◌, length, length-append, take, append_assoc, arith}
+use Rattle.std.proofs.Common.{◌≡◌, ◌≤◌, ◌<◌, refl, sym, ◌∙◌, ap, ap₂, subst, ℕ, ◌+◌, ◌-◌, Option, None, Some, Ok, List, [], ◌∷◌, ◌++◌, length, length-append, take, append_assoc, arith, inl, inr}
 use Rattle.std.specs.Prelude.{slice_get}
 use Rattle.std.proofs.lemmas.List.{append-nil, take_more}
-use Rattle.std.proofs.lemmas.Option.{get_or_from_slice_get, slice_get_within}
+use Rattle.std.proofs.lemmas.Option.{get_or_from_slice_get, slice_get_cases, slice_get_within}
 use Rattle.storage_keys.specs.Storage.{Contents}
+use Rattle.chan_events.specs.Events.{Event}
 use Rattle.chan_events.specs.declared.reply.Entry.{Entry}
+use Rattle.chan_events.specs.Replies.{Reply}
+use Rattle.event_log.specs.Logs.{last_reply}
 use Rattle.machine.specs.Lent.{lent}
 use Rattle.machine_model.specs.Steps.{HasRun}
 use Rattle.path_select.specs.Choice.{Rule}
 use Rattle.subsystem.proofs.Pasts.{KeepsSetUps, past-more}
+use Rattle.channel_subsystem.specs.Ends.{still_kept}
 use Rattle.channel_subsystem.specs.Hosting.{Hosted, IsHostStep, Leads}
-use Rattle.channel_subsystem.specs.Replaying.{AreRepeated}
+use Rattle.channel_subsystem.specs.Replaying.{AreRepeated, EndsAt, GoesOtherwise}
+use Rattle.channel_subsystem.specs.declared.not_replayed.NotReplayed.{NotReplayed}
 
 repeated-then : (picks : Rule) (old : Hosted) (before : Contents) (entries : List Entry) (next : Hosted) (storage : Contents) (entry : Entry) (new : Hosted) (after : Contents) →
     AreRepeated picks old before entries next storage → IsHostStep picks next storage entry.event (Ok entry.reply) new after → AreRepeated picks old before (entries ++ entry ∷ []) new after
@@ -70,3 +75,49 @@ last-kept all kept entry is =
 
 pub some-kept : (all kept : List Entry) (entry : Entry) → all ≡ kept ++ entry ∷ [] → 1 ≤ length all
 some-kept all kept entry is = omega (arith, length-append kept (entry ∷ []), ap (λ (l : List Entry). length l) is)
+
+some-same : {x y : Entry} → Some x ≡ Some y → x ≡ y
+some-same same = cc same
+
+-- whether it is the entry that was to be repeated
+pub same-step : (picks : Rule) (old : Hosted) (before : Contents) (found : Entry) (here : Option Entry) (new : Hosted) (after : Contents) →
+    IsHostStep picks old before found.event (Ok (last_reply new.kept)) new after → slice_get new.kept (length new.kept - 1) ≡ here →
+    (entry : Entry) → here ≡ Some entry → IsHostStep picks old before entry.event (Ok entry.reply) new after
+same-step picks old before found here new after step same entry there =
+    let last : Entry = record { event = found.event; reply = last_reply new.kept } in
+    let is : entry ≡ last = some-same (sym there ∙ (sym same ∙ last-kept new.kept (still_kept old.keeping old.kept) last step.kept)) in
+    subst (λ (x : Entry). IsHostStep picks old before x.event (Ok x.reply) new after) (sym is) step
+
+pub other-step : (picks : Rule) (old : Hosted) (before : Contents) (found : Entry) (here : Option Entry) (new : Hosted) (after : Contents) → here ≡ Some found →
+    IsHostStep picks old before found.event (Ok (last_reply new.kept)) new after → ¬ ((length new.kept - 1 < length new.kept) × (slice_get new.kept (length new.kept - 1) ≡ here)) →
+    (entry : Entry) → here ≡ Some entry → IsHostStep picks old before entry.event (Ok (last_reply new.kept)) new after × ¬ (last_reply new.kept ≡ entry.reply)
+other-step picks old before found here new after is step other entry there =
+    let last : Entry = record { event = found.event; reply = last_reply new.kept } in
+    let one : entry ≡ found = some-same (sym there ∙ is) in
+    let got = last-kept new.kept (still_kept old.keeping old.kept) last step.kept in
+    let some = some-kept new.kept (still_kept old.keeping old.kept) last step.kept in (
+      subst (λ (x : Entry). IsHostStep picks old before x.event (Ok (last_reply new.kept)) new after) (sym one) step,
+      λ same. other (omega (arith, some), got ∙ (ap₂ (λ (e : Event) (r : Reply). Some (record { event = e; reply = r })) (ap (λ (x : Entry). x.event) (sym one)) same ∙ sym there)),
+    )
+
+-- the entries before an index and that there
+pub repeated-on : (picks : Rule) (old : Hosted) (before : Contents) (entries : List Entry) (index : ℕ) (next : Hosted) (storage : Contents) (new : Hosted) (after : Contents) →
+    index < length entries → AreRepeated picks old before (take index entries) next storage →
+    ((entry : Entry) → slice_get entries index ≡ Some entry → IsHostStep picks next storage entry.event (Ok entry.reply) new after) →
+    AreRepeated picks old before (take (index + 1) entries) new after
+repeated-on picks old before entries index next storage new after within done step =
+    elim (slice_get_cases entries index).1 [
+      | inl x ↦ repeated-more picks old before entries index next storage x.0 new after x.2 done (step x.0 x.2)
+      | inr x ↦ absurd (omega (arith, within, x.0))
+    ]
+
+-- the entry there went otherwise
+pub ends-at : (picks : Rule) (old : Hosted) (before : Contents) (entries : List Entry) (n : NotReplayed) (next : Hosted) (storage : Contents) (new : Hosted) (after : Contents) →
+    n.index < length entries → AreRepeated picks old before (take n.index entries) next storage →
+    ((entry : Entry) → slice_get entries n.index ≡ Some entry → GoesOtherwise picks next storage entry n.difference new after) →
+    EndsAt picks old before entries n new after
+ends-at picks old before entries n next storage new after within done otherwise =
+    elim (slice_get_cases entries n.index).1 [
+      | inl x ↦ record { next = next; storage = storage; repeated = done; entry = x.0; there = x.2; otherwise = otherwise x.0 x.2 }
+      | inr x ↦ absurd (omega (arith, within, x.0))
+    ]
