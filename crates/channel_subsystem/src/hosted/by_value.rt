@@ -1,0 +1,122 @@
+//! Instructions with their operand by value, since a guest's operands stand at logical addresses, which its host alone can translate.
+
+ghost use Rattle.std.specs.Prelude.{◌≡◌, ◌≢◌, Err, true};
+ghost use Rattle.channel_subsystem.specs.GivenSteps.{IsGivenStep, IsOtherGivenStep};
+ghost use Rattle.channel_subsystem.specs.declared.host_fault.HostFault.TheVariants as fault_spec;
+ghost use Rattle.io_step.specs.GivenOperands.{HasOperand, HasRoom, storage_with};
+ghost use Rattle.storage_keys.specs.Storage.{cleared_storage};
+
+use super::ChannelSubsystem;
+use crate::host_fault::HostFault;
+use crate::stepping::by_value::{keep_by_value, keep_other_by_value};
+use crate::stepping::{make_room, make_way};
+use chan_events::reply::PlainReply;
+use chan_model::names::Cpu;
+use io_step::{Answered, ByValue, OtherByValue};
+use memory::{Allocator, Supply};
+use path_select::PathChoice;
+use run_laws::answers::codes;
+use run_laws::states::{setups, steps};
+
+impl<P: PathChoice + Drop> ChannelSubsystem<P> {
+    /// A CPU executes an instruction on the subchannel that a subsystem-identification word names, with its operand by value: what
+    /// is answered, and the block that is to be stored at the operand (the SCHIB of STORE SUBCHANNEL, 52 bytes, with code 0; the IRB
+    /// of TEST SUBCHANNEL, 64 bytes, with codes 0 and 1). No storage is lent to it. Its entry has the operand at address 0. That the
+    /// operand stands on its boundary, and where the CPU may fetch or store, is tested by the host. It is refused as `step` is, with
+    /// `Fault::Operand` where the word names no set of subchannels or the contents of the operand are not allowed.
+    pub fn execute_by_value(
+        &mut self,
+        cpu: Cpu,
+        subchannel: u32,
+        instruction: &ByValue,
+    ) -> Result<Answered, HostFault>
+        ensures stepped { IsGivenStep P.picks self.old cpu subchannel instruction.now result self.new }
+        ensures somewhere { HasOperand instruction.now (storage_with instruction.now self.old.blocks) cpu 0 }
+    {
+        self.execute_by_value_with(
+            &mut Allocator { refused: false },
+            cpu,
+            subchannel,
+            instruction,
+        )
+    }
+
+    /// The same, with room for its entry from a supply. It is refused `NoMemory` only where the supply refuses that.
+    pub fn execute_by_value_with<S: Supply>(
+        &mut self,
+        supply: &mut S,
+        cpu: Cpu,
+        subchannel: u32,
+        instruction: &ByValue,
+    ) -> Result<Answered, HostFault>
+        ensures stepped { IsGivenStep P.picks self.old cpu subchannel instruction.now result self.new }
+        ensures somewhere { HasOperand instruction.now (storage_with instruction.now self.old.blocks) cpu 0 }
+        ensures unrefused { result ≢ Err fault_spec.NoMemory → S.refused supply.new ≡ S.refused supply.old }
+        ensures memory { result ≡ Err fault_spec.NoMemory → S.refused supply.new ≡ true }
+    {
+        setups();
+        steps();
+        codes();
+        instruction.is_somewhere();
+        make_way(self.keeping, &mut self.log);
+        make_room(supply, self.count, &mut self.log)?;
+        match keep_by_value(
+            &mut self.machine,
+            &self.indices,
+            cpu,
+            subchannel,
+            instruction,
+            &mut self.log,
+        ) {
+            Ok(answered) => {
+                self.count += 1;
+                Ok(answered)
+            }
+            Err(fault) => Err(HostFault::Refused(fault)),
+        }
+    }
+
+    /// A CPU executes an instruction that names no subchannel, with its operand by value: the reply tells all that is to be stored
+    /// at the operand (`Interruption` the code, whose `words` are the three words that an interruption stores, of which TEST PENDING
+    /// INTERRUPTION stores two at an address that is not 0; `ChannelReport` the report word, zero where none waits; `Paths` the 32
+    /// bytes). It is refused as `step` is, but never by the machine.
+    pub fn execute_other_by_value(
+        &mut self,
+        cpu: Cpu,
+        instruction: OtherByValue,
+    ) -> Result<PlainReply, HostFault>
+        ensures stepped { IsOtherGivenStep P.picks self.old cpu instruction result self.new }
+        ensures somewhere { HasRoom instruction (cleared_storage self.old.blocks) cpu 0 }
+    {
+        self.execute_other_by_value_with(&mut Allocator { refused: false }, cpu, instruction)
+    }
+
+    /// The same, with room for its entry from a supply. It is refused `NoMemory` only where the supply refuses that.
+    pub fn execute_other_by_value_with<S: Supply>(
+        &mut self,
+        supply: &mut S,
+        cpu: Cpu,
+        instruction: OtherByValue,
+    ) -> Result<PlainReply, HostFault>
+        ensures stepped { IsOtherGivenStep P.picks self.old cpu instruction result self.new }
+        ensures somewhere { HasRoom instruction (cleared_storage self.old.blocks) cpu 0 }
+        ensures unrefused { result ≢ Err fault_spec.NoMemory → S.refused supply.new ≡ S.refused supply.old }
+        ensures memory { result ≡ Err fault_spec.NoMemory → S.refused supply.new ≡ true }
+    {
+        setups();
+        steps();
+        codes();
+        instruction.is_somewhere();
+        make_way(self.keeping, &mut self.log);
+        make_room(supply, self.count, &mut self.log)?;
+        let reply = keep_other_by_value(
+            &mut self.machine,
+            &self.indices,
+            cpu,
+            instruction,
+            &mut self.log,
+        );
+        self.count += 1;
+        Ok(reply)
+    }
+}
