@@ -63,6 +63,12 @@ IsHostRefusal s storage e fault.NumbersUsedUp = 2 ^ 62 ≤ s.count + 1
 IsHostRefusal s storage e fault.NoMemory = (s.keeping ≡ AllEntries) × (s.room ≡ 0)
 IsHostRefusal s storage e (fault.Refused f) = IsRefused (lent s.machine storage) e f
 
+-- why there is no room for another entry: of numbers none is left, or of memory
+abbrev pub LacksRoom : (count room : ℕ) → HostFault → Type 0
+LacksRoom count room fault.NumbersUsedUp = 2 ^ 62 ≤ count + 1
+LacksRoom count room fault.NoMemory = room ≡ 0
+LacksRoom count room other = ⊥
+
 -- what the machine answered, where it was asked
 abbrev pub machine_answer : Result Reply HostFault → Option (Result Reply Fault)
 machine_answer (Ok reply) = Some (Ok reply)

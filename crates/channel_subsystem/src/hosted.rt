@@ -1,5 +1,6 @@
 //! The channel subsystem of a host.
 
+mod by_value;
 mod looks;
 mod replaying;
 

@@ -1,10 +1,13 @@
 //! One event at a machine that is lent storage, with its entry behind those that a log has.
 
-ghost use Rattle.std.specs.Prelude.{◌≡◌, ◌⊎◌, ◌+◌, ◌≤◌, ◌++◌, ◌∷◌, [], OnErr, OnOk, length};
+pub mod by_value;
+
+ghost use Rattle.std.specs.Prelude.{◌≡◌, ◌≢◌, ◌⊎◌, ◌+◌, ◌^◌, ◌≤◌, ◌++◌, ◌∷◌, [], Err, IfErr, OnErr, OnOk, length, true};
 ghost use Rattle.std.specs.Bool.{OnTrue, OnFalse};
 ghost use Rattle.chan_events.specs.declared.reply.Reply.TheVariants as reply_spec;
 ghost use Rattle.channel_subsystem.specs.Ends.{still_kept};
-ghost use Rattle.channel_subsystem.specs.Hosting.{HasNumber, IsOfSize};
+ghost use Rattle.channel_subsystem.specs.Hosting.{HasNumber, IsOfSize, LacksRoom};
+ghost use Rattle.channel_subsystem.specs.declared.host_fault.HostFault.TheVariants as fault_spec;
 ghost use Rattle.channel_subsystem.specs.declared.keeping.Keeping.TheVariants as keeping_spec;
 ghost use Rattle.event_log.specs.Logs.{last_reply};
 ghost use Rattle.lookup.specs.Tables.{Fits};
@@ -14,12 +17,14 @@ ghost use Rattle.machine_model.specs.Steps.{Performs};
 ghost use Rattle.storage_keys.specs.Storage.{IsAddressable};
 ghost use Rattle.subsystem.specs.Keeping.{answer_of};
 
+use crate::host_fault::HostFault;
 use crate::keeping::Keeping;
 use chan_events::event::Event;
 use chan_model::fault::Fault;
 use event_log::logs::Log;
 use lookup::tables::SubchannelIndex;
 use machine::machine::Machine;
+use memory::Supply;
 use path_select::PathChoice;
 use run_laws::states::{numbers, setups};
 use storage_keys::MainStorage;
@@ -49,6 +54,28 @@ pub fn make_way(keeping: Keeping, log: &mut Log)
     match keeping {
         Keeping::LastEntry => log.forget(),
         Keeping::AllEntries => {}
+    }
+}
+
+/// Room and a number for another entry. It is refused only where 2^62 - 1 events were accepted, or there was no room and the supply
+/// refused a growth, and changes nothing then.
+pub fn make_room<S: Supply>(supply: &mut S, count: u64, log: &mut Log) -> Result<(), HostFault>
+    ensures entries { log.new.entries ≡ log.old.entries }
+    ensures reply { log.new.reply ≡ log.old.reply }
+    ensures kept { log.old.room ≤ log.new.room }
+    ensures made { OnOk result (1 ≤ log.new.room) }
+    ensures number { OnOk result (count + 2 ≤ 2 ^ 62) }
+    ensures refused { OnErr result (log.new ≡ log.old) }
+    ensures refusal { IfErr result (LacksRoom count log.old.room) }
+    ensures unrefused { result ≢ Err fault_spec.NoMemory → S.refused supply.new ≡ S.refused supply.old }
+    ensures memory { result ≡ Err fault_spec.NoMemory → S.refused supply.new ≡ true }
+{
+    if count >= (1 << 62) - 1 {
+        return Err(HostFault::NumbersUsedUp);
+    }
+    match log.make_room_with(supply) {
+        Ok(()) => Ok(()),
+        Err(_) => Err(HostFault::NoMemory),
     }
 }
 
