@@ -8,7 +8,6 @@ use Rattle.storage_keys.specs.declared.StorageFault.{StorageFault}
 use Rattle.storage_keys.specs.declared.StorageFault.TheVariants.{Addressing, Specification}
 use Rattle.storage_keys.specs.Storage.{Contents, absolute_under, absolute_addresses, cleared_storage, is_operand_inside, operand_at, operand_check, put_at, where_permitted}
 use Rattle.storage_keys.proofs.OperandLemmas.{map-slice_index-range}
-use Rattle.machine_model.specs.OtherSteps.{code_check}
 use Rattle.io_step.specs.declared.by_value.OtherByValue.{OtherByValue}
 use Rattle.io_step.specs.declared.by_value.OtherByValue.TheVariants as given_other
 use Rattle.io_step.specs.GivenOperands.{HasRoom}
