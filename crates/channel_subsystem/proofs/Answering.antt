@@ -79,10 +79,10 @@ unmoved-left keeps picks old room before e f more sound why ruled =
 pub unmoved : KeepsSetUps → (picks : Rule) (old new : Hosted) (before after : Contents) (e : Event) (f : HostFault) → IsAsBefore old new → after ≡ before →
     IsAddressable before → IsHostRefusal old before e f → IfSome (machine_answer (Err f)) (λ a. GoesByRule picks (lent old.machine before) e a (lent old.machine before)) →
     IsHostStep picks old before e (Err f) new after
-unmoved keeps picks old new before after e f as storage sound why ruled =
-    subst (λ (x : Hosted). IsHostStep picks old before e (Err f) x after) (sym as.same)
+unmoved keeps picks old new before after e f left storage sound why ruled =
+    subst (λ (x : Hosted). IsHostStep picks old before e (Err f) x after) (sym left.same)
     (subst (λ (x : Contents). IsHostStep picks old before e (Err f) (record old { kept = still_kept old.keeping old.kept; room = new.room }) x) (sym storage)
-    (unmoved-left keeps picks old new.room before e f as.room sound why ruled))
+    (unmoved-left keeps picks old new.room before e f left.room sound why ruled))
 
 -- what a call leaves of the log where it is refused
 pub as-before : (old : Hosted) (kept : List Entry) (room : ℕ) → kept ≡ still_kept old.keeping old.kept → old.room ≤ room → IsAsBefore old (record old { kept = kept; room = room })

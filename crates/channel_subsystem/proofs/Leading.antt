@@ -89,7 +89,7 @@ pub led-left : (old : Hosted) (room : ℕ) (h : List Entry) (storage : Contents)
 led-left old room h storage k = record { run = k.run; size = k.size; counted = k.counted; ends = ends-still old.keeping h old.kept k.ends }
 
 pub led-as-before : (old new : Hosted) → IsAsBefore old new → HasLed old → HasLed new
-led-as-before old new as (h, storage, k) = (h, storage, subst (λ (s : Hosted). Leads h s storage) (sym as.same) (led-left old new.room h storage k))
+led-as-before old new left (h, storage, k) = (h, storage, subst (λ (s : Hosted). Leads h s storage) (sym left.same) (led-left old new.room h storage k))
 
 -- what was kept is let go
 pub led-forgotten : (old : Hosted) (room : ℕ) (h : List Entry) (storage : Contents) → Leads h old storage → Leads h (record old { kept = []; room = room }) storage

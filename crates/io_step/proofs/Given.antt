@@ -1,13 +1,12 @@
 -- An instruction whose operand is given by value, as the instruction that it is wherever storage has that operand.
-use Rattle.std.proofs.Common.{◌≡◌, refl, sym, ◌∙◌, ap, subst, ℕ, ◌≤◌, Bool, Option, None, Some, Result, Ok, Err, List, length, if◌then◌else◌}
+use Rattle.std.proofs.Common.{◌≡◌, refl, sym, subst, ℕ, Option, None, Some, Result}
 use Rattle.storage_keys.specs.Storage.{Contents}
 use Rattle.chan_events.specs.Instructions.{subchannel_word}
 use Rattle.chan_events.specs.declared.event.Instruction.{Instruction}
-use Rattle.chan_events.specs.Replies.{Reply, reply_code}
+use Rattle.chan_events.specs.Replies.{Reply}
 use Rattle.chan_model.specs.declared.answer.ConditionCode.{ConditionCode}
 use Rattle.chan_model.specs.declared.answer.ConditionCode.TheVariants as code
 use Rattle.chan_model.specs.declared.fault.Fault.{Fault}
-use Rattle.interruptions.specs.Requests.{WaitingRequests, request_dropped}
 use Rattle.machine_model.specs.Requests.{drops}
 use Rattle.subchannel_model.specs.declared.state.Subchannel.{Subchannel}
 use Rattle.io_step.specs.declared.by_value.Answered.{Answered}

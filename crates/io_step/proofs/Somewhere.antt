@@ -1,5 +1,5 @@
 -- Storage as it is at first, in which real addresses up to 8,191 are absolute ones, has each operand there.
-use Rattle.std.proofs.Common.{◌≡◌, refl, sym, ◌∙◌, ap, ℕ, zero, suc, ◌+◌, ◌*◌, ◌%◌, ◌<◌, ◌≤◌, Bool, true, not, ◌&&◌, ◌==◌, List, [], ◌∷◌, ◌++◌, length, map, take, drop, Result, Ok, Err, if◌then◌else◌, arith, length-append}
+use Rattle.std.proofs.Common.{◌≡◌, refl, sym, ◌∙◌, ap, ℕ, zero, suc, ◌+◌, ◌-◌, ◌*◌, ◌%◌, ◌<◌, ◌≤◌, Bool, true, not, ◌&&◌, ◌==◌, List, [], ◌∷◌, ◌++◌, length, map, take, drop, Result, Ok, Err, if◌then◌else◌, arith, length-append}
 use Rattle.std.specs.Prelude.{nat_lt, replicate, slice_index, slice_range}
 use Rattle.std.specs.List.{list_all, range_with_len}
 use Rattle.std.proofs.lemmas.Bool.Decides.{nat_tests}
@@ -8,7 +8,6 @@ use Rattle.storage_keys.specs.declared.StorageFault.{StorageFault}
 use Rattle.storage_keys.specs.declared.StorageFault.TheVariants.{Addressing, Specification}
 use Rattle.storage_keys.specs.Storage.{Contents, absolute_under, absolute_addresses, cleared_storage, is_operand_inside, operand_at, operand_check, put_at, where_permitted}
 use Rattle.storage_keys.proofs.OperandLemmas.{map-slice_index-range}
-use Rattle.machine_model.specs.OtherSteps.{code_check}
 use Rattle.io_step.specs.declared.by_value.OtherByValue.{OtherByValue}
 use Rattle.io_step.specs.declared.by_value.OtherByValue.TheVariants as given_other
 use Rattle.io_step.specs.GivenOperands.{HasRoom}
@@ -62,10 +61,12 @@ pub has-block : (blocks cpu n : ℕ) (block : List ℕ) → length block ≡ n �
 has-block blocks cpu n block size low =
     let s : Contents = put_at (cleared_storage blocks) 0 block in
     let none : slice_index s.prefixes cpu ≡ 0 = no-prefix 16 cpu in
-    let rest = drop (0 + length block) (replicate (4096 * blocks) 0) in
+    let rest : List ℕ = drop (0 + length block) (replicate (4096 * blocks) 0) in
     let inside : 0 + n ≤ length s.bytes = omega (arith, size, length-append block rest) in
     let area : 0 + n ≤ 8192 = omega (arith, low) in
-    let stands : slice_range s.bytes 0 (0 + n) ≡ block = ap (λ (k : ℕ). slice_range s.bytes 0 (0 + k)) (sym size) ∙ first-bytes block rest in
+    let whole : 0 + length block - 0 ≡ length block = omega arith in
+    let stands : slice_range s.bytes 0 (0 + n) ≡ block =
+    ap (λ (k : ℕ). slice_range s.bytes 0 (0 + k)) (sym size) ∙ (ap (λ (k : ℕ). take k s.bytes) whole ∙ first-bytes block rest) in
     let bytes = ap (map (slice_index s.bytes)) (addresses-low s cpu 0 n none area) ∙ (map-slice_index-range s.bytes 0 n (λ _. inside) ∙ stands) in
     ap (λ (r : Result (Unit {0}) StorageFault). where_permitted r (map (slice_index s.bytes) (absolute_addresses s cpu 0 n))) (checked-low s cpu 0 n 4 none refl area inside)
     ∙ ap (λ (xs : List ℕ). Ok xs) bytes

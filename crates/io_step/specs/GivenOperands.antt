@@ -1,12 +1,9 @@
 -- Instructions whose operand is given by value, and which leave the block that they would store. They come to what the same
 -- instruction comes to wherever storage has that operand (SA22-7832, chapter 14).
-use Rattle.std.specs.Prelude.{◌≡◌, ℕ, ◌==◌, List, [], ◌∷◌, Option, None, Some, Result, Ok, Err, length}
-use Rattle.zbits.specs.Layout.{image_of}
+use Rattle.std.specs.Prelude.{◌≡◌, ℕ, List, [], ◌∷◌, Option, None, Some, Result, Ok, Err}
 use Rattle.zbits.specs.Words.{bytes_of_words}
-use Rattle.scsw_irb.specs.ScswTable.{irb_tables}
 use Rattle.storage_keys.specs.Storage.{Contents, cleared_storage, operand_at, operand_check, operand_stored, put_at}
 use Rattle.chan_model.specs.declared.fault.Fault.{Fault}
-use Rattle.chan_model.specs.declared.answer.ConditionCode.{ConditionCode}
 use Rattle.chan_events.specs.ReportWords.{report_word}
 use Rattle.chan_events.specs.declared.event.Instruction.{Instruction}
 use Rattle.chan_events.specs.declared.event.Instruction.TheVariants as instruction

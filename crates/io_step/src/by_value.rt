@@ -97,7 +97,8 @@ impl ByValue {
         match self {
             ByValue::Ssch { orb } => is_whole(orb),
             ByValue::Msch { schib } => is_whole(schib),
-            ByValue::Stsch | ByValue::Tsch => {}
+            ByValue::Stsch => {}
+            ByValue::Tsch => {}
         }
     }
 }
@@ -203,10 +204,7 @@ pub fn test(sub: &mut Subchannel) -> Answered
 /// Executes an instruction with its operand by value on a subchannel that is provided: for every storage that has the operand,
 /// at any address, what it answers and leaves is what the machine's definitions give, once the block is stored there. It is
 /// refused where the contents of the operand are not allowed, and then changes nothing.
-pub fn execute_by_value(
-    sub: &mut Subchannel,
-    instruction: &ByValue,
-) -> Result<Answered, Fault>
+pub fn execute_by_value(sub: &mut Subchannel, instruction: &ByValue) -> Result<Answered, Fault>
     requires { CanCount sub.old }
     ensures done { (storage : Contents) (cpu word address : ℕ) → given_spec.HasOperand instruction.now storage cpu address →
         spec.Executed storage sub.old cpu (given_spec.instruction_at instruction.now word address) (given_spec.outcome result)

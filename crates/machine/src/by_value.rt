@@ -18,7 +18,9 @@ use chan_events::reply::PlainReply;
 use chan_model::fault::Fault;
 use channel_config::names::subchannel_named;
 use event_log::logs::Log;
-use io_step::{Answered, ByValue, OtherByValue, absent_by_value, perform_by_value, perform_other_by_value};
+use io_step::{
+    Answered, ByValue, OtherByValue, absent_by_value, perform_by_value, perform_other_by_value,
+};
 use lookup::engines::{Served, engaged};
 use lookup::tables::SubchannelIndex;
 use run_laws::engines::engines;

@@ -18,17 +18,17 @@ use storage_keys::LentStorage;
 /// More turns than a write takes, and more entries than there is room for at the opening.
 const MANY: usize = 500;
 
-/// A host and its channel subsystem, with the events that were called and accepted.
+/// A guest: what its host has, its channel subsystem, and the events that were called and accepted.
 #[derive(Drop)]
-struct Session {
+struct Guest {
     host: Host,
     subsystem: ChannelSubsystem<Rotating>,
     called: Vec<Event>,
 }
 
-impl Session {
+impl Guest {
     /// For storage of 16 blocks.
-    fn new(alloc: Global, keeping: Keeping) -> Option<Session> {
+    fn new(alloc: Global, keeping: Keeping) -> Option<Guest> {
         let host = Host::new(alloc)?;
         let subsystem = ChannelSubsystem::new(
             alloc,
@@ -37,7 +37,7 @@ impl Session {
             keeping,
             Rotating {},
         ).ok()?;
-        Some(Session {
+        Some(Guest {
             host,
             subsystem,
             called: Vec::new(alloc),
@@ -173,9 +173,9 @@ fn are_events(history: &History<'_>, events: &[Event]) -> bool {
 
 /// Whether a write is kept as it was called.
 fn keeps_a_write(alloc: Global) -> Option<bool> {
-    let mut session = Session::new(alloc, Keeping::AllEntries)?;
-    let done = session.starts() && session.ends();
-    Some(done && session.keeps_called())
+    let mut guest = Guest::new(alloc, Keeping::AllEntries)?;
+    let done = guest.starts() && guest.ends();
+    Some(done && guest.keeps_called())
 }
 
 #[test]
@@ -185,11 +185,11 @@ fn all_entries_are_those_of_the_calls_in_order(rt: HostRuntime) {
 
 /// Whether of a write the last entry alone is kept.
 fn keeps_the_last(alloc: Global) -> Option<bool> {
-    let mut session = Session::new(alloc, Keeping::LastEntry)?;
-    let done = session.starts() && session.ends();
-    let before = session.called.len().checked_sub(1)?;
-    let last = session.called.as_slice().get(before..)?;
-    Some(done && are_events(&session.subsystem.history(), last))
+    let mut guest = Guest::new(alloc, Keeping::LastEntry)?;
+    let done = guest.starts() && guest.ends();
+    let before = guest.called.len().checked_sub(1)?;
+    let last = guest.called.as_slice().get(before..)?;
+    Some(done && are_events(&guest.subsystem.history(), last))
 }
 
 #[test]
@@ -199,13 +199,13 @@ fn the_last_entry_is_that_of_the_last_call(rt: HostRuntime) {
 
 /// Whether what was let go in the middle of a write is not kept, and the rest is.
 fn lets_go(alloc: Global) -> Option<bool> {
-    let mut session = Session::new(alloc, Keeping::AllEntries)?;
-    let started = session.starts();
-    session.subsystem.forget();
-    let none = session.subsystem.history().len() == 0 && session.subsystem.last_reply().is_none();
-    session.called.clear();
-    let ended = session.ends();
-    Some(started && none && ended && session.keeps_called())
+    let mut guest = Guest::new(alloc, Keeping::AllEntries)?;
+    let started = guest.starts();
+    guest.subsystem.forget();
+    let none = guest.subsystem.history().len() == 0 && guest.subsystem.last_reply().is_none();
+    guest.called.clear();
+    let ended = guest.ends();
+    Some(started && none && ended && guest.keeps_called())
 }
 
 #[test]
@@ -215,8 +215,8 @@ fn what_is_let_go_is_not_kept(rt: HostRuntime) {
 
 /// Whether a write is replayed on another host and its channel subsystem, which come to the same status and the same history.
 fn replays_a_write(alloc: Global) -> Option<bool> {
-    let mut first = Session::new(alloc, Keeping::AllEntries)?;
-    let mut second = Session::new(alloc, Keeping::AllEntries)?;
+    let mut first = Guest::new(alloc, Keeping::AllEntries)?;
+    let mut second = Guest::new(alloc, Keeping::AllEntries)?;
     let done = first.starts() && first.ends();
     let replayed = matches!(second.replays(&first.subsystem.history())?, Ok(()));
     let shown = second.host.holds(0x600, &SCSW) && second.host.holds(0x2000, &DATA);
@@ -234,8 +234,8 @@ fn a_write_is_replayed(rt: HostRuntime) {
 
 /// Where a write is replayed twice, how the second differs: its blocks and data are put as before, but a status was made since.
 fn replays_twice(alloc: Global) -> Option<bool> {
-    let mut first = Session::new(alloc, Keeping::AllEntries)?;
-    let mut second = Session::new(alloc, Keeping::AllEntries)?;
+    let mut first = Guest::new(alloc, Keeping::AllEntries)?;
+    let mut second = Guest::new(alloc, Keeping::AllEntries)?;
     let done = first.starts() && first.ends();
     let once = matches!(second.replays(&first.subsystem.history())?, Ok(()));
     let entries = second.subsystem.history().len();
@@ -259,8 +259,8 @@ fn a_replay_ends_at_another_reply(rt: HostRuntime) {
 
 /// Whether a replay on storage of another size ends at its first entry, and nothing is kept of it.
 fn replays_on_other_storage(alloc: Global) -> Option<bool> {
-    let mut first = Session::new(alloc, Keeping::AllEntries)?;
-    let mut second = Session::new(alloc, Keeping::AllEntries)?;
+    let mut first = Guest::new(alloc, Keeping::AllEntries)?;
+    let mut second = Guest::new(alloc, Keeping::AllEntries)?;
     second.subsystem = ChannelSubsystem::new(
         alloc,
         one_path(alloc),
@@ -288,17 +288,17 @@ fn a_replay_ends_where_it_is_refused(rt: HostRuntime) {
 /// Whether a call is refused where there is no room for its entry and no memory, changes nothing then, and is accepted where there is
 /// memory again, or where what is kept is let go.
 fn meets_no_memory(alloc: Global) -> Option<bool> {
-    let mut session = Session::new(alloc, Keeping::AllEntries)?;
-    let accepted = session.resets();
+    let mut guest = Guest::new(alloc, Keeping::AllEntries)?;
+    let accepted = guest.resets();
     let refused = matches!(
-        session.resets_without_memory(),
+        guest.resets_without_memory(),
         Some(Err(HostFault::NoMemory))
     );
-    let kept = session.subsystem.history().len() == accepted && 0 < accepted && accepted < MANY;
-    let granted = session.enters(Event::SystemReset);
-    let more = session.subsystem.history().len() > accepted;
-    session.subsystem.forget();
-    let again = session.resets() >= accepted;
+    let kept = guest.subsystem.history().len() == accepted && 0 < accepted && accepted < MANY;
+    let granted = guest.enters(Event::SystemReset);
+    let more = guest.subsystem.history().len() > accepted;
+    guest.subsystem.forget();
+    let again = guest.resets() >= accepted;
     Some(refused && kept && granted && more && again)
 }
 
@@ -309,8 +309,8 @@ fn an_entry_more_needs_memory(rt: HostRuntime) {
 
 /// How many calls are accepted where the last entry alone is kept and no memory is granted.
 fn needs_no_memory(alloc: Global) -> Option<usize> {
-    let mut session = Session::new(alloc, Keeping::LastEntry)?;
-    Some(session.resets())
+    let mut guest = Guest::new(alloc, Keeping::LastEntry)?;
+    Some(guest.resets())
 }
 
 #[test]

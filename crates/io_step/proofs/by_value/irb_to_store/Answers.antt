@@ -1,4 +1,4 @@
-use Rattle.std.proofs.Common.{◌∙◌, ap, refl, sym}
+use Rattle.std.proofs.Common.{◌∙◌, ap, refl}
 use Rattle.zbits.specs.Layout.{image_of}
 use Rattle.scsw_irb.specs.ScswTable.{irb_tables}
 use Rattle.storage_keys.specs.Storage.{operand_stored}

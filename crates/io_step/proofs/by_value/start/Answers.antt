@@ -1,13 +1,9 @@
-use Rattle.std.proofs.Common.{ap, sym, refl, subst, ℕ, Some, Result, Ok, List}
+use Rattle.std.proofs.Common.{ap, sym, refl, Some, Ok}
 use Rattle.std.proofs.lemmas.Result.{err_from_is_err_and}
-use Rattle.storage_keys.specs.declared.StorageFault.{StorageFault}
 use Rattle.storage_keys.specs.Storage.{operand_at}
-use Rattle.chan_model.specs.declared.fault.Fault.{Fault}
-use Rattle.orb_block.specs.declared.Orb.{Orb}
 use Rattle.machine_model.specs.State.{with_sub}
 use Rattle.machine_model.specs.Results.{does, at_index}
 use Rattle.io_step.specs.Executing.{state_with_storage}
-use Rattle.io_step.specs.Operands.{HasOrb}
 use Rattle.chan_events.specs.Replies.{reply_of}
 use Rattle.io_step.proofs.Executions.{given-orb, starts, starts-not}
 use Rattle.io_step.proofs.by_value.start.Goals as goal
