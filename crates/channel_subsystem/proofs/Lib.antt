@@ -4,4 +4,6 @@ mod Ending
 mod Leading
 mod LastEntry
 mod Answering
+mod GivenStorage
+mod Giving
 mod Repeating
