@@ -23,7 +23,7 @@ ghost use Rattle.subsystem.specs.Keeping.{answer_of};
 
 use crate::host_fault::HostFault;
 use crate::keeping::Keeping;
-use crate::stepping::{is_of_size, keep_entry, make_way};
+use crate::stepping::{is_of_size, keep_entry, make_room, make_way};
 use chan_events::event::Event;
 use chan_events::reply::Reply;
 use channel_config::config::Config;
@@ -62,7 +62,7 @@ pub struct ChannelSubsystem<P: Drop> {
 impl<P: Drop> Model for ChannelSubsystem<P> {
     ghost use Rattle.std.specs.Prelude.{◌≡◌, ◌+◌, ◌≤◌, length};
     ghost use Rattle.chan_events.specs.declared.reply.Reply.TheVariants as reply_spec;
-    ghost use Rattle.channel_subsystem.specs.Hosting.{HasLed, Hosted};
+    ghost use Rattle.channel_subsystem.specs.Hosting.{HasLed, Hosted, IsHostSize};
     ghost use Rattle.lookup.specs.Tables.{Fits};
 
     ghost Value = { Hosted };
@@ -71,7 +71,7 @@ impl<P: Drop> Model for ChannelSubsystem<P> {
 
     ghost invariant = { λ s.
         HasLed (record { machine = s.machine; blocks = s.blocks; keeping = s.keeping; kept = s.log.entries; room = s.log.room; count = s.count })
-        × (Fits s.indices s.machine.subs × ((s.log.reply ≡ reply_spec.Done) × (1 ≤ s.log.room + length s.log.entries))) };
+        × (Fits s.indices s.machine.subs × ((s.log.reply ≡ reply_spec.Done) × ((1 ≤ s.log.room + length s.log.entries) × IsHostSize s.blocks))) };
 }
 
 impl<P: PathChoice + Drop> ChannelSubsystem<P> {
@@ -211,12 +211,7 @@ impl<P: PathChoice + Drop> ChannelSubsystem<P> {
         if !is_of_size(storage, self.blocks) {
             return Err(HostFault::OtherSize);
         }
-        if self.count >= (1 << 62) - 1 {
-            return Err(HostFault::NumbersUsedUp);
-        }
-        if self.log.make_room_with(supply).is_err() {
-            return Err(HostFault::NoMemory);
-        }
+        make_room(supply, self.count, &mut self.log)?;
         match keep_entry(
             &mut self.machine,
             storage,
