@@ -1,6 +1,6 @@
 use Rattle.std.proofs.Common.{◌≡◌, take}
 use Rattle.channel_subsystem.specs.Replaying.{AreRepeated}
-use Rattle.channel_subsystem.proofs.hosted.replaying.ChannelSubsystem.replay_with.Given as goal
+use Rattle.channel_subsystem.proofs.hosted.ChannelSubsystem.replay_with.Given as goal
 
 abbrev pub invariant-loop-index : goal.invariant-loop-index
 invariant-loop-index g l = record {
