@@ -12,7 +12,7 @@ use Rattle.machine.specs.contracts.machine.Machine.{the_view}
 use Rattle.machine.proofs.GivenSteps.{given-absent, given-performs, given-unnamed}
 use Rattle.machine.proofs.Lifting.{at_seen, gets}
 use Rattle.machine.proofs.Serving.{served-performed}
-use Rattle.machine.proofs.by_value.Machine.execute_by_value.Goals as goal
+use Rattle.machine.proofs.machine.Machine.execute_by_value.Goals as goal
 
 pub returns-in_default-clause-performs : goal.returns-in_default-clause-performs
 returns-in_default-clause-performs c = λ storage cpu address has.
