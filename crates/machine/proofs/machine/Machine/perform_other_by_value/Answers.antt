@@ -9,7 +9,7 @@ use Rattle.machine.specs.Lent.{lent}
 use Rattle.machine.specs.contracts.machine.Machine.{the_view}
 use Rattle.machine.proofs.GivenSteps.{given-other}
 use Rattle.machine.proofs.Lifting.{AreAlike}
-use Rattle.machine.proofs.by_value.Machine.perform_other_by_value.Goals as goal
+use Rattle.machine.proofs.machine.Machine.perform_other_by_value.Goals as goal
 
 pub returns-clause-performs : goal.returns-clause-performs
 returns-clause-performs c = λ storage cpu address has.
