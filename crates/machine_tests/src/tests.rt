@@ -1,5 +1,6 @@
 //! A module for each crate that is tested.
 
+mod by_value_tests;
 mod channel_subsystem_tests;
 mod device_models_ends;
 mod device_models_tests;

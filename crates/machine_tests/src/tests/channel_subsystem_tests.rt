@@ -165,7 +165,7 @@ fn absorbs_data(turn: &UnitTurn) -> bool {
 
 /// Performs turns of the path and of the unit until there is nothing to do, and stores the data before each; how often the unit
 /// was to absorb them. None where a turn is refused, or they don't end.
-fn run_turns(host: &mut Host, subsystem: &mut ChannelSubsystem<Rotating>) -> Option<u32> {
+pub fn run_turns(host: &mut Host, subsystem: &mut ChannelSubsystem<Rotating>) -> Option<u32> {
     let mut absorbed = 0;
     for _turn in 0..MANY {
         host.store(0x2000, &DATA);
