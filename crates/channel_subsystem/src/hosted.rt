@@ -23,7 +23,7 @@ ghost use Rattle.subsystem.specs.Keeping.{answer_of};
 
 use crate::host_fault::HostFault;
 use crate::keeping::Keeping;
-use crate::stepping::{is_of_size, keep_entry, make_room, make_way};
+use crate::stepping::{is_of_size, keep_entry, make_way};
 use chan_events::event::Event;
 use chan_events::reply::Reply;
 use channel_config::config::Config;
@@ -211,7 +211,12 @@ impl<P: PathChoice + Drop> ChannelSubsystem<P> {
         if !is_of_size(storage, self.blocks) {
             return Err(HostFault::OtherSize);
         }
-        make_room(supply, self.count, &mut self.log)?;
+        if self.count >= (1 << 62) - 1 {
+            return Err(HostFault::NumbersUsedUp);
+        }
+        if self.log.make_room_with(supply).is_err() {
+            return Err(HostFault::NoMemory);
+        }
         match keep_entry(
             &mut self.machine,
             storage,

@@ -59,7 +59,9 @@ impl<P: PathChoice + Drop> ChannelSubsystem<P> {
         codes();
         instruction.is_somewhere();
         make_way(self.keeping, &mut self.log);
-        make_room(supply, self.count, &mut self.log)?;
+        if let Err(fault) = make_room(supply, self.count, &mut self.log) {
+            return Err(fault);
+        }
         match keep_by_value(
             &mut self.machine,
             &self.indices,
@@ -108,7 +110,9 @@ impl<P: PathChoice + Drop> ChannelSubsystem<P> {
         codes();
         instruction.is_somewhere();
         make_way(self.keeping, &mut self.log);
-        make_room(supply, self.count, &mut self.log)?;
+        if let Err(fault) = make_room(supply, self.count, &mut self.log) {
+            return Err(fault);
+        }
         let reply = keep_other_by_value(
             &mut self.machine,
             &self.indices,

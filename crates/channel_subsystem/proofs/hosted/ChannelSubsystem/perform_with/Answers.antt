@@ -51,7 +51,7 @@ invariant_of-self-in-Ok g c =
     } in (
       led-on c.setups.ensures.set_up old new before after c.args.event.now (last_reply log.entries) adds c.in-Ok.ensures.performs
           c.is_of_size.ensures.sound c.in-Ok.ensures.sound c.if-not-is_of_size.ensures.same c.self.invariant.0,
-      (c.in-Ok.ensures.fits, (c.in-Ok.ensures.fresh, omega (arith, ap (λ (h : List Entry). length h) c.in-Ok.ensures.entry, length-append c.make_room_with.new.self.entries (entry ∷ [])))),
+      (c.in-Ok.ensures.fits, (c.in-Ok.ensures.fresh, (omega (arith, ap (λ (h : List Entry). length h) c.in-Ok.ensures.entry, length-append c.make_room_with.new.self.entries (entry ∷ [])), c.self.invariant.1.1.1.1))),
     )
 
 pub invariant_of-self-in-Err : goal.invariant_of-self-in-Err
@@ -66,7 +66,7 @@ invariant_of-self-in-Err g c =
       subst (λ (m : State). HasLed (record { machine = m; blocks = c.self.inside.blocks; keeping = c.self.inside.keeping; kept = log.entries; room = log.room; count = c.self.inside.count }))
           (sym c.in-Err.ensures.kept)
           (led-as-before old (record old { kept = log.entries; room = log.room }) (as-before old log.entries log.room still more) c.self.invariant.0),
-      (c.in-Err.ensures.fits, (c.in-Err.ensures.fresh, omega (arith, c.make_way.ensures.room, c.make_room_with.ensures.kept.room, ap (λ (l : Logged). l.room) same, count))),
+      (c.in-Err.ensures.fits, (c.in-Err.ensures.fresh, (omega (arith, c.make_way.ensures.room, c.make_room_with.ensures.kept.room, ap (λ (l : Logged). l.room) same, count), c.self.invariant.1.1.1.1))),
     )
 
 pub returns-in-Ok-clause-stepped : goal.returns-in-Ok-clause-stepped
