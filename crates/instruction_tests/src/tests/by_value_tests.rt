@@ -115,7 +115,10 @@ fn a_schib_is_left_that_would_be_stored(rt: HostRuntime) {
     let same = is_stored(&bench, &left);
     drop(bench);
     assert!(rt; is_code(code(&left), 0), "the subchannel is provided");
-    assert!(rt; leaves(&left, 4..8, &[0x38, 0x81, 1, 0]), "its block is left");
+    assert!(rt;
+        leaves(&left, 4..8, &[0x38, 0x81, 1, 0]),
+        "its block is left"
+    );
     assert!(rt; is_code(stored, 0), "the subchannel is provided");
     assert!(rt; same, "the block that is left is the one that is stored");
 }
