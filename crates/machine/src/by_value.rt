@@ -38,7 +38,7 @@ impl Machine {
         requires roomy { All CanCount self.old.subs }
         requires postable { All IsPostable self.old.subs }
         requires requests { self.old.requests.numbers ≡ 0x100 }
-        ensures performs { (storage : Contents) (cpu address : ℕ) → given_spec.HasOperand instruction.now storage cpu address →
+        ensures { (storage : Contents) (cpu address : ℕ) → given_spec.HasOperand instruction.now storage cpu address →
             spec.Performs (lent self.old storage) (event_spec.Execute cpu (given_spec.instruction_at instruction.now word address))
             (given_spec.outcome result) (lent self.new (given_spec.storage_after storage cpu address result)) }
     {

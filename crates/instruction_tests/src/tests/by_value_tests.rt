@@ -215,7 +215,10 @@ fn requests_and_reports_are_answered_by_value(rt: HostRuntime) {
     expected[2] = 0xC0;
     assert!(rt; code_of(&passed_over) == 0, "the mask has no such subclass");
     assert!(rt; code_of(&taken) == 1, "the request is taken out");
-    assert!(rt; words == [0x0001_0001, 0x101, 0x3800_0000], "its code is answered");
+    assert!(rt;
+        words == [0x0001_0001, 0x101, 0x3800_0000],
+        "its code is answered"
+    );
     assert!(rt; code_of(&left_none) == 0, "no request is left");
     assert!(rt; code_of(&reported) == 0, "the report is taken out");
     assert!(rt; report == 0x0406_0010, "the report is answered");

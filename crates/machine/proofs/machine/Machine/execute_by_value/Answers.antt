@@ -14,14 +14,14 @@ use Rattle.machine.proofs.Lifting.{at_seen, gets}
 use Rattle.machine.proofs.Serving.{served-performed}
 use Rattle.machine.proofs.machine.Machine.execute_by_value.Goals as goal
 
-pub returns-in_default-clause-performs : goal.returns-in_default-clause-performs
-returns-in_default-clause-performs c = λ storage cpu address has.
+pub returns-in_default : goal.returns-in_default
+returns-in_default c = λ storage cpu address has.
     let old = the_view c.self.inside in
     let named : subchannel_named old.sets c.args.word ≡ None = sym c.subchannel_named.ensures.value ∙ c.in_default.is in
     rw (← c.self.view_is) (given-unnamed old storage cpu c.args.word address c.args.instruction.now named)
 
-pub returns-in_default-index_in-clause-performs : goal.returns-in_default-index_in-clause-performs
-returns-in_default-index_in-clause-performs c = λ storage cpu address has.
+pub returns-in_default-index_in : goal.returns-in_default-index_in
+returns-in_default-index_in c = λ storage cpu address has.
     let old = the_view c.self.inside in
     let i = c.args.instruction.now in
     let named : subchannel_named old.sets c.args.word ≡ Some c.in-Some.id = sym c.subchannel_named.ensures.value ∙ c.in-Some.is in
@@ -32,8 +32,8 @@ returns-in_default-index_in-clause-performs c = λ storage cpu address has.
     (given-absent old storage cpu c.args.word address i c.in-Some.id (plain_outcome c.absent_by_value.result) c.alone.result named placed c.alone.ensures.answer
     (c.alone.ensures.stored storage cpu address) (c.absent_by_value.ensures storage cpu c.args.word address has))
 
-pub returns-clause-performs : goal.returns-clause-performs
-returns-clause-performs c = λ storage cpu address has.
+pub returns : goal.returns
+returns c = λ storage cpu address has.
     let old = the_view c.self.inside in
     let i = c.args.instruction.now in
     let answer = c.perform_by_value-answer.result in
