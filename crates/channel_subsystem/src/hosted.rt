@@ -7,7 +7,7 @@ ghost use Rattle.chan_events.specs.declared.reply.Entry.{Entry};
 ghost use Rattle.channel_config.specs.Lawful.{hosted};
 ghost use Rattle.channel_subsystem.specs.Hosting.{HasLed, IsHostSize, IsHostStep, Leads};
 ghost use Rattle.event_log.specs.Logs.{last_reply};
-ghost use Rattle.machine.specs.Lent.{lent, no_storage};
+ghost use Rattle.machine_model.specs.State.{lent, no_storage};
 ghost use Rattle.machine_model.specs.Setups.{IsSetUp};
 ghost use Rattle.machine_model.specs.State as state_spec;
 ghost use Rattle.run_laws.specs.Agreeing.{AllAgree};

@@ -6,7 +6,7 @@ ghost use Rattle.chan_events.specs.declared.reply.Reply.TheVariants as reply_spe
 ghost use Rattle.channel_subsystem.specs.Hosting.{HasNumber, IsOfSize};
 ghost use Rattle.event_log.specs.Logs.{last_reply};
 ghost use Rattle.lookup.specs.Tables.{Fits};
-ghost use Rattle.machine.specs.Lent.{lent};
+ghost use Rattle.machine_model.specs.State.{lent};
 ghost use Rattle.machine_model.specs.Ruled.{GoesByRule};
 ghost use Rattle.machine_model.specs.Steps.{Performs};
 ghost use Rattle.storage_keys.specs.Storage.{IsAddressable};

@@ -22,7 +22,7 @@ use Rattle.machine_model.specs.OtherSteps.{answers, lent_whole, other_result}
 use Rattle.machine_model.specs.State.{State, with_sub}
 use Rattle.machine_model.specs.Steps.{Performs}
 use Rattle.signal_step.specs.Giving.{posted_since}
-use Rattle.machine.specs.Lent as machine
+use Rattle.machine_model.specs.State as machine
 use Rattle.machine.proofs.Lifting.{AreAlike, StandsAt, executes, executes-absent, executes-unnamed, other-performs}
 
 -- the subchannel named has the index
