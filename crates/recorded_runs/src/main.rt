@@ -1,0 +1,132 @@
+//! Performs recorded runs at a channel subsystem on storage of its host's own, and compares what is answered with what is recorded.
+//!
+//! Its words are files. The first lines of each set up what a script sets up, with as much storage as is wanted; the device of a
+//! `unit NUMBER outside` is not there. Each later line is an event, ` = `, and what is to be answered, in the words of scripts.
+//! `put` is what the guest's CPU stores and `show` what it reads, by itself and with no event; `dev UNIT ANSWER` hands in what the
+//! device answered to the call at hand. Each line that is answered otherwise is printed, with what is recorded and what came, and of each
+//! file how many lines it has, how many of them were performed, and how many were answered otherwise.
+#![tactic(auto)]
+
+mod acts;
+mod guest;
+mod guest_storage;
+mod lines;
+mod setup;
+
+use crate::guest::Guest;
+use crate::guest_storage::GuestStorage;
+use crate::lines::{LineOutcome, perform_line};
+use crate::setup::RunSetup;
+use channel_subsystem::hosted::ChannelSubsystem;
+use path_select::Rotating;
+use std::alloc::{AllocError, Global};
+use std::rt::Files;
+use std::{env, fs, io, str};
+
+/// What parts an event from what is recorded of it.
+const MARK: &str = " = ";
+
+/// The words of a line, which are parted by blanks.
+fn words_of(alloc: Global, line: &str) -> Result<Vec<&[u8]>, AllocError> {
+    let mut words = Vec::new(alloc);
+    for word in line.split(' ') {
+        words.push(word.as_bytes())?;
+    }
+    Ok(words)
+}
+
+/// What the lines before the first event set up, and how many they are.
+fn set_up(alloc: Global, text: &str) -> Option<(RunSetup, usize)> {
+    let mut setup = RunSetup::new(alloc);
+    for (index, line) in text.lines().enumerate() {
+        if line.contains(MARK) {
+            return Some((setup, index));
+        }
+        let words = words_of(alloc, line).ok()?;
+        setup.take(alloc, words.as_slice())?;
+    }
+    None
+}
+
+/// The guest that is set up so.
+fn opened(alloc: Global, setup: RunSetup) -> Option<Guest<Rotating>> {
+    let storage = GuestStorage::new(alloc, setup.blocks)?;
+    let subsystem = ChannelSubsystem::new(alloc, setup.config, setup.blocks, Rotating).ok()?;
+    Some(Guest { subsystem, storage })
+}
+
+/// What a line with an event comes to.
+fn outcome(
+    alloc: Global,
+    guest: &mut Guest<Rotating>,
+    line: &str,
+) -> Result<LineOutcome, AllocError> {
+    let Some((event, wanted)) = line.split_once(MARK) else {
+        return Ok(LineOutcome::Unreadable);
+    };
+    let words = words_of(alloc, event)?;
+    perform_line(alloc, guest, words.as_slice(), wanted.as_bytes())
+}
+
+/// How many lines were performed, those of the set-up among them, and how many were answered otherwise than is recorded.
+#[derive(Clone, Copy)]
+struct Tally {
+    performed: usize,
+    otherwise: u64,
+}
+
+/// Performs the lines behind those of the set-up, until one can't be read, and prints each that is answered otherwise.
+fn perform<R: AllocGlobal + Print>(
+    rt: &R,
+    guest: &mut Guest<Rotating>,
+    text: &str,
+    set_up: usize,
+) -> io::Result<Tally> {
+    let mut tally = Tally {
+        performed: set_up,
+        otherwise: 0,
+    };
+    for (index, line) in text.lines().enumerate().skip(set_up) {
+        let number = index.wrapping_add(1);
+        match outcome(rt.alloc(), guest, line)? {
+            LineOutcome::AsRecorded => {}
+            LineOutcome::Otherwise(came) => {
+                let came = str::from_utf8(came.as_slice()).unwrap_or("no text");
+                println!(rt; "  line {number}: {line}")?;
+                println!(rt; "  but came {came}")?;
+                tally.otherwise = tally.otherwise.wrapping_add(1);
+            }
+            LineOutcome::Unreadable => {
+                println!(rt; "  line {number} can't be read: {line}")?;
+                return Ok(tally);
+            }
+        }
+        tally.performed = number;
+    }
+    Ok(tally)
+}
+
+/// Performs the run of a file, and prints what came of it.
+fn perform_file<R: Files + AllocGlobal + Print>(rt: &R, name: &str) -> io::Result<()> {
+    let text = fs::read_to_string(rt, name)?;
+    let text = text.as_str();
+    let Some((setup, set_up)) = set_up(rt.alloc(), text) else {
+        return println!(rt; "{name}: its first lines set nothing up");
+    };
+    let Some(mut guest) = opened(rt.alloc(), setup) else {
+        return println!(rt; "{name}: it can't be opened");
+    };
+    let Tally {
+        performed,
+        otherwise,
+    } = perform(rt, &mut guest, text, set_up)?;
+    let lines = text.lines().count();
+    println!(rt; "{name}: {performed} of {lines} lines performed, {otherwise} answered otherwise")
+}
+
+fn main(rt: HostRuntime) -> io::Result<()> {
+    for word in env::args(&rt)?.skip(1) {
+        perform_file(&rt, word.as_str())?;
+    }
+    Ok(())
+}
