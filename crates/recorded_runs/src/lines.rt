@@ -3,15 +3,18 @@
 ghost use Rattle.std.specs.Prelude.{◌≡◌, ◌++◌, IfOk, IfSome, map};
 ghost use Rattle.streams.specs.Sinks.{Puts};
 ghost use Rattle.recorded_runs.specs.Acts.{act_of};
-ghost use Rattle.recorded_runs.specs.Guests as spec;
+ghost use Rattle.recorded_runs.specs.Performing as spec;
+ghost use Rattle.recorded_runs.specs.Performing.{moment};
 
 use crate::acts::act_of;
-use crate::guest::Guest;
+use crate::performing::perform;
 use chan_events::reply::Reply;
 use channel_subsystem::host_fault::HostFault;
+use channel_subsystem::hosted::ChannelSubsystem;
 use path_select::PathChoice;
 use script_text::{put_refusal, put_reply};
 use std::alloc::{AllocError, Global};
+use storage_keys::MainStorage;
 use streams::{CheckedWriter, Sink};
 
 /// What a line came to, over what stands for a text.
@@ -50,18 +53,20 @@ fn text_of(alloc: Global, answer: &Result<Reply, HostFault>) -> Result<Vec<u8>, 
 }
 
 /// Performs a line of these words, of which this answer is recorded.
-pub fn perform_line<P: PathChoice + Drop>(
+pub fn perform_line<P: PathChoice + Drop, M: MainStorage>(
     alloc: Global,
-    guest: &mut Guest<P>,
+    subsystem: &mut ChannelSubsystem<P>,
+    storage: &mut M,
     words: &[&[u8]],
     wanted: &[u8],
 ) -> Result<LineOutcome, AllocError>
-    ensures { IfOk result (λ outcome. spec.ComesTo P.picks guest.old (act_of (map (λ w. w.now) words.now)) wanted.now outcome guest.new) }
+    ensures comes { IfOk result (λ outcome. spec.ComesTo P.picks (moment subsystem.old (M.contents storage.old)) (act_of (map (λ w. w.now) words.now)) wanted.now outcome (moment subsystem.new (M.contents storage.new))) }
+    ensures lender { M.lender storage.new ≡ M.lender storage.old }
 {
     let Some(act) = act_of(words) else {
         return Ok(LineOutcome::Unreadable);
     };
-    let came = text_of(alloc, &guest.perform(&act))?;
+    let came = text_of(alloc, &perform(subsystem, storage, &act))?;
     if came.as_slice() == wanted {
         Ok(LineOutcome::AsRecorded)
     } else {

@@ -8,12 +8,11 @@
 #![tactic(auto)]
 
 mod acts;
-mod guest;
 mod guest_storage;
 mod lines;
+mod performing;
 mod setup;
 
-use crate::guest::Guest;
 use crate::guest_storage::GuestStorage;
 use crate::lines::{LineOutcome, perform_line};
 use crate::setup::RunSetup;
@@ -26,6 +25,20 @@ use std::{env, fs, io, str};
 /// What parts an event from what is recorded of it.
 const MARK: &str = " = ";
 
+/// A channel subsystem, and the storage of its guest.
+#[derive(Drop)]
+struct Guest {
+    subsystem: ChannelSubsystem<Rotating>,
+    storage: GuestStorage,
+}
+
+/// How many lines were performed, those of the set-up among them, and how many were answered otherwise than is recorded.
+#[derive(Clone, Copy)]
+struct Tally {
+    performed: usize,
+    otherwise: u64,
+}
+
 /// The words of a line, which are parted by blanks.
 fn words_of(alloc: Global, line: &str) -> Result<Vec<&[u8]>, AllocError> {
     let mut words = Vec::new(alloc);
@@ -35,7 +48,7 @@ fn words_of(alloc: Global, line: &str) -> Result<Vec<&[u8]>, AllocError> {
     Ok(words)
 }
 
-/// What the lines before the first event set up, and how many they are.
+/// What the lines before the first event set up, and how many they are; None where one of them sets nothing up, or no event follows.
 fn set_up(alloc: Global, text: &str) -> Option<(RunSetup, usize)> {
     let mut setup = RunSetup::new(alloc);
     for (index, line) in text.lines().enumerate() {
@@ -48,62 +61,67 @@ fn set_up(alloc: Global, text: &str) -> Option<(RunSetup, usize)> {
     None
 }
 
-/// The guest that is set up so.
-fn opened(alloc: Global, setup: RunSetup) -> Option<Guest<Rotating>> {
-    let storage = GuestStorage::new(alloc, setup.blocks)?;
-    let subsystem = ChannelSubsystem::new(alloc, setup.config, setup.blocks, Rotating).ok()?;
-    Some(Guest { subsystem, storage })
-}
-
-/// What a line with an event comes to.
-fn outcome(
-    alloc: Global,
-    guest: &mut Guest<Rotating>,
-    line: &str,
-) -> Result<LineOutcome, AllocError> {
-    let Some((event, wanted)) = line.split_once(MARK) else {
-        return Ok(LineOutcome::Unreadable);
-    };
-    let words = words_of(alloc, event)?;
-    perform_line(alloc, guest, words.as_slice(), wanted.as_bytes())
-}
-
-/// How many lines were performed, those of the set-up among them, and how many were answered otherwise than is recorded.
-#[derive(Clone, Copy)]
-struct Tally {
-    performed: usize,
-    otherwise: u64,
-}
-
-/// Performs the lines behind those of the set-up, until one can't be read, and prints each that is answered otherwise.
-fn perform<R: AllocGlobal + Print>(
-    rt: &R,
-    guest: &mut Guest<Rotating>,
-    text: &str,
-    set_up: usize,
-) -> io::Result<Tally> {
-    let mut tally = Tally {
-        performed: set_up,
-        otherwise: 0,
-    };
-    for (index, line) in text.lines().enumerate().skip(set_up) {
-        let number = index.wrapping_add(1);
-        match outcome(rt.alloc(), guest, line)? {
-            LineOutcome::AsRecorded => {}
-            LineOutcome::Otherwise(came) => {
-                let came = str::from_utf8(came.as_slice()).unwrap_or("no text");
-                println!(rt; "  line {number}: {line}")?;
-                println!(rt; "  but came {came}")?;
-                tally.otherwise = tally.otherwise.wrapping_add(1);
-            }
-            LineOutcome::Unreadable => {
-                println!(rt; "  line {number} can't be read: {line}")?;
-                return Ok(tally);
-            }
-        }
-        tally.performed = number;
+impl Guest {
+    /// What is set up so; None where it can't be opened.
+    fn opened(alloc: Global, setup: RunSetup) -> Option<Guest> {
+        let storage = GuestStorage::new(alloc, setup.blocks).ok()?;
+        let subsystem = ChannelSubsystem::new(alloc, setup.config, setup.blocks, Rotating).ok()?;
+        Some(Guest { subsystem, storage })
     }
-    Ok(tally)
+
+    /// What a line with an event comes to. One that has none can't be read.
+    fn outcome(&mut self, alloc: Global, line: &str) -> Result<LineOutcome, AllocError> {
+        let Some((event, wanted)) = line.split_once(MARK) else {
+            return Ok(LineOutcome::Unreadable);
+        };
+        let Some(mut lent) = self.storage.lend() else {
+            return Ok(LineOutcome::Unreadable);
+        };
+        let words = words_of(alloc, event)?;
+        perform_line(
+            alloc,
+            &mut self.subsystem,
+            &mut lent,
+            words.as_slice(),
+            wanted.as_bytes(),
+        )
+    }
+
+    /// Performs the lines behind those of the set-up, until one can't be read, and prints each that is answered otherwise.
+    fn perform<R: AllocGlobal + Print>(
+        &mut self,
+        rt: &R,
+        text: &str,
+        set_up: usize,
+    ) -> io::Result<Tally> {
+        let mut tally = Tally {
+            performed: set_up,
+            otherwise: 0,
+        };
+        for (index, line) in text.lines().enumerate().skip(set_up) {
+            let number = index.wrapping_add(1);
+            match self.outcome(rt.alloc(), line)? {
+                LineOutcome::AsRecorded => {}
+                LineOutcome::Otherwise(came) => {
+                    tell_otherwise(rt, number, line, came.as_slice())?;
+                    tally.otherwise = tally.otherwise.wrapping_add(1);
+                }
+                LineOutcome::Unreadable => {
+                    println!(rt; "  line {number} can't be read: {line}")?;
+                    return Ok(tally);
+                }
+            }
+            tally.performed = number;
+        }
+        Ok(tally)
+    }
+}
+
+/// Prints a line, and what came in place of what is recorded.
+fn tell_otherwise<R: Print>(rt: &R, number: usize, line: &str, came: &[u8]) -> io::Result<()> {
+    let came = str::from_utf8(came).unwrap_or("no text");
+    println!(rt; "  line {number}: {line}")?;
+    println!(rt; "  but came {came}")
 }
 
 /// Performs the run of a file, and prints what came of it.
@@ -113,13 +131,13 @@ fn perform_file<R: Files + AllocGlobal + Print>(rt: &R, name: &str) -> io::Resul
     let Some((setup, set_up)) = set_up(rt.alloc(), text) else {
         return println!(rt; "{name}: its first lines set nothing up");
     };
-    let Some(mut guest) = opened(rt.alloc(), setup) else {
+    let Some(mut guest) = Guest::opened(rt.alloc(), setup) else {
         return println!(rt; "{name}: it can't be opened");
     };
     let Tally {
         performed,
         otherwise,
-    } = perform(rt, &mut guest, text, set_up)?;
+    } = guest.perform(rt, text, set_up)?;
     let lines = text.lines().count();
     println!(rt; "{name}: {performed} of {lines} lines performed, {otherwise} answered otherwise")
 }

@@ -1,4 +1,4 @@
--- A guest beside its channel subsystem, and what each line of a run does to both (own).
+-- What each line of a run does to a channel subsystem, and to the storage of its guest (own).
 use Rattle.std.specs.Prelude.{◌≡◌, ℕ, List, Option, Some, None, option_and_then, Result, Ok, Err, codes, if◌then◌else◌}
 use Rattle.std.specs.Str.{bytes_eq}
 use Rattle.storage_keys.specs.Storage.{Contents, put, shown}
@@ -25,13 +25,16 @@ use Rattle.recorded_runs.specs.declared.acts.RecordedAct.TheVariants.{Stores, Re
 use Rattle.recorded_runs.specs.declared.lines.LineOutcome.{LineOutcome}
 use Rattle.recorded_runs.specs.declared.lines.LineOutcome.TheVariants.{AsRecorded, Otherwise, Unreadable}
 
--- a channel subsystem, and the main storage that its guest has
-pub record Guests : Type 0 where
+-- a channel subsystem, and what the storage of its guest holds
+pub record Moment : Type 0 where
   pub subsystem : Hosted
   pub storage : Contents
 
+abbrev pub moment : Hosted → Contents → Moment
+moment subsystem storage = record { subsystem = subsystem; storage = storage }
+
 -- an event of the machine, on what storage holds
-abbrev pub EntersEvent : Rule → Guests → Event → Result Reply HostFault → Guests → Type 0
+abbrev pub EntersEvent : Rule → Moment → Event → Result Reply HostFault → Moment → Type 0
 EntersEvent picks old e answer new = IsHostStep picks old.subsystem old.storage e answer new.subsystem new.storage
 
 -- a report of what the device answered to the call that its unit asks for; where the unit is to send its Data again, that it does
@@ -44,13 +47,13 @@ abbrev pub reported : State → ℕ → DeviceAnswer → Option Report
 reported s at answer = option_and_then (λ turn. report_of (next_of None turn) answer) (unit_turn_of s at)
 
 -- the report goes in; where no call is at hand nothing happens
-abbrev pub EntersReport : Rule → Guests → ℕ → Option Report → Result Reply HostFault → Guests → Type 0
+abbrev pub EntersReport : Rule → Moment → ℕ → Option Report → Result Reply HostFault → Moment → Type 0
 EntersReport picks old at (Some report) answer new = EntersEvent picks old (event.Report at report) answer new
 EntersReport picks old at None answer new = (answer ≡ Err (Refused NotNow)) × (new ≡ old)
 
--- what a store of the guest's CPU leaves, and what is told of it
-abbrev pub IsStored : Guests → Result Contents StorageFault → Result Reply HostFault → Guests → Type 0
-IsStored old (Ok storage) answer new = (answer ≡ Ok reply.Done) × (new ≡ record old { storage = storage })
+-- what a store of the guest's CPU leaves of storage, and what is told of it
+abbrev pub IsStored : Contents → Result Contents StorageFault → Result Reply HostFault → Contents → Type 0
+IsStored old (Ok stored) answer new = (answer ≡ Ok reply.Done) × (new ≡ stored)
 IsStored old (Err fault) answer new = (answer ≡ Err (Refused (Storage fault))) × (new ≡ old)
 
 -- what is told of what the guest's CPU reads
@@ -59,8 +62,9 @@ read_answer (Ok bytes) = Ok (reply.Shown bytes)
 read_answer (Err fault) = Err (Refused (Storage fault))
 
 -- what a line does to both, with its answer
-abbrev pub Performs : Rule → Guests → RecordedAct → Result Reply HostFault → Guests → Type 0
-Performs picks old (Stores address bytes) answer new = IsStored old (put old.storage address bytes) answer new
+abbrev pub Performs : Rule → Moment → RecordedAct → Result Reply HostFault → Moment → Type 0
+Performs picks old (Stores address bytes) answer new =
+    IsStored old.storage (put old.storage address bytes) answer new.storage × (new.subsystem ≡ old.subsystem)
 Performs picks old (Reads address count) answer new = (answer ≡ read_answer (shown old.storage address count)) × (new ≡ old)
 Performs picks old (Answers at a) answer new = EntersReport picks old at (reported old.subsystem.machine at a) answer new
 Performs picks old (Enters e) answer new = EntersEvent picks old e answer new
@@ -77,7 +81,7 @@ abbrev pub outcome_of : List ℕ → List ℕ → LineOutcome (List ℕ)
 outcome_of wanted came = if bytes_eq came wanted then AsRecorded else Otherwise came
 
 -- a line that has this done comes to this
-abbrev pub ComesTo : Rule → Guests → Option RecordedAct → List ℕ → LineOutcome (List ℕ) → Guests → Type 0
+abbrev pub ComesTo : Rule → Moment → Option RecordedAct → List ℕ → LineOutcome (List ℕ) → Moment → Type 0
 ComesTo picks old None wanted outcome new = (outcome ≡ Unreadable) × (new ≡ old)
 ComesTo picks old (Some act) wanted outcome new =
     (answer : Result Reply HostFault) × Performs picks old act answer new × (outcome ≡ outcome_of wanted (answer_text answer))
