@@ -27,14 +27,13 @@ impl GuestStorage {
 
     /// It is lent as it is: nothing is copied. None where it is not of 16 to 524,288 blocks.
     pub fn lend(&mut self) -> Option<LentStorage<'_>> {
-        let size = self.bytes.len();
-        if !LentStorage::fits(size, self.keys.len(), self.prefixes.as_slice()) {
-            return None;
+        let bytes = self.bytes.as_mut_slice();
+        let keys = self.keys.as_mut_slice();
+        let prefixes = self.prefixes.as_mut_slice();
+        if LentStorage::fits(bytes.len(), keys.len(), prefixes) {
+            Some(LentStorage::new(bytes, keys, prefixes))
+        } else {
+            None
         }
-        Some(LentStorage::new(
-            self.bytes.as_mut_slice(),
-            self.keys.as_mut_slice(),
-            self.prefixes.as_mut_slice(),
-        ))
     }
 }

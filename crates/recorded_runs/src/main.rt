@@ -1,10 +1,14 @@
-//! Performs recorded runs at a channel subsystem on storage of its host's own, and compares what is answered with what is recorded.
+//! Performs recorded runs at a channel subsystem on its host's storage, and compares what is answered with what is recorded.
 //!
 //! Its words are files. The first lines of each set up what a script sets up, with as much storage as is wanted; the device of a
 //! `unit NUMBER outside` is not there. Each later line is an event, ` = `, and what is to be answered, in the words of scripts.
 //! `put` is what the guest's CPU stores and `show` what it reads, by itself and with no event; `dev UNIT ANSWER` hands in what the
-//! device answered to the call at hand. Each line that is answered otherwise is printed, with what is recorded and what came, and of each
-//! file how many lines it has, how many of them were performed, and how many were answered otherwise.
+//! device answered to the call at hand. Each line that is answered otherwise is printed, with what came, and of each file how many of
+//! its lines were performed, and how many were answered otherwise. A line that can't be read is printed too, and is the last.
+//!
+//! `firmware-ipl.run` is recorded from QEMU's boot firmware for s390x: it recognizes its devices, and loads a program by one START
+//! SUBCHANNEL. `linux-recognition.run` is recorded from Debian's Linux 6.1: it recognizes three devices. `altered.run` is a beginning of
+//! the first with two answers altered, and `unreadable.run` one with a line that has no answer: they show what is told of such.
 #![tactic(auto)]
 
 mod acts;
