@@ -74,11 +74,17 @@ abbrev pub answer_text : Result Reply HostFault → List ℕ
 answer_text (Ok r) = reply_text r
 answer_text (Err (Refused fault)) = refusal_text fault
 answer_text (Err OtherSize) = codes "other size"
-answer_text (Err NumbersUsedUp) = codes "numbers used up"
+answer_text (Err NumbersUsedUp) = codes "no number"
 
 -- whether a line was answered as is recorded
 abbrev pub outcome_of : List ℕ → List ℕ → LineOutcome (List ℕ)
 outcome_of wanted came = if bytes_eq came wanted then AsRecorded else Otherwise came
+
+-- the same outcome over something else in place of its text
+abbrev pub map_outcome : {A B : Type 0} → (A → B) → LineOutcome A → LineOutcome B
+map_outcome f AsRecorded = AsRecorded
+map_outcome f (Otherwise text) = Otherwise (f text)
+map_outcome f Unreadable = Unreadable
 
 -- a line that has this done comes to this
 abbrev pub ComesTo : Rule → Moment → Option RecordedAct → List ℕ → LineOutcome (List ℕ) → Moment → Type 0

@@ -36,7 +36,7 @@ fn put_answer<S: Sink>(sink: &mut S, answer: &Result<Reply, HostFault>) -> bool
         Ok(reply) => put_reply(sink, reply),
         Err(HostFault::Refused(fault)) => put_refusal(sink, fault),
         Err(HostFault::OtherSize) => sink.put(b"other size"),
-        Err(HostFault::NumbersUsedUp) => sink.put(b"numbers used up"),
+        Err(HostFault::NumbersUsedUp) => sink.put(b"no number"),
     }
 }
 
@@ -60,7 +60,7 @@ pub fn perform_line<P: PathChoice + Drop, M: MainStorage>(
     words: &[&[u8]],
     wanted: &[u8],
 ) -> Result<LineOutcome, AllocError>
-    ensures comes { IfOk result (λ outcome. spec.ComesTo P.picks (moment subsystem.old (M.contents storage.old)) (act_of (map (λ w. w.now) words.now)) wanted.now outcome (moment subsystem.new (M.contents storage.new))) }
+    ensures comes { IfOk result (λ outcome. spec.ComesTo P.picks (moment subsystem.old (M.contents storage.old)) (act_of (map (λ w. w.now) words.now)) wanted.now (spec.map_outcome (λ text. text.items) outcome) (moment subsystem.new (M.contents storage.new))) }
     ensures lender { M.lender storage.new ≡ M.lender storage.old }
 {
     let Some(act) = act_of(words) else {
