@@ -18,7 +18,7 @@ use Rattle.channel_subsystem.specs.declared.host_fault.HostFault.TheVariants.{Ot
 use Rattle.unit_driver.specs.Reporting.{AskedCall, next_of}
 use Rattle.unit_driver.specs.Reporting as reporting
 use Rattle.unit_driver.specs.declared.reporting.NextReport.{NextReport}
-use Rattle.unit_driver.specs.declared.reporting.NextReport.TheVariants.{Told, Asked, Nothing}
+use Rattle.unit_driver.specs.declared.reporting.NextReport.TheVariants.{Told, Asked}
 use Rattle.script_text.specs.Text.{refusal_text, reply_text}
 use Rattle.recorded_runs.specs.declared.acts.RecordedAct.{RecordedAct}
 use Rattle.recorded_runs.specs.declared.acts.RecordedAct.TheVariants.{Stores, Reads, Answers, Enters}
