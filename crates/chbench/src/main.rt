@@ -173,26 +173,14 @@ impl Wanted {
                 kind,
                 subchannels,
                 cycles,
-            } => Some(Outcome::Count(at_subsystem(
-                alloc,
-                answers,
-                kind,
-                subchannels,
-                cycles,
-            )?)),
+            } => Some(Outcome::Count(at_subsystem(alloc, answers, kind, subchannels, cycles)?)),
             Wanted::Step {
                 owner: Owner::Host,
                 answers,
                 kind,
                 subchannels,
                 cycles,
-            } => Some(Outcome::Count(on_lent(
-                alloc,
-                answers,
-                kind,
-                subchannels,
-                cycles,
-            )?)),
+            } => Some(Outcome::Count(on_lent(alloc, answers, kind, subchannels, cycles)?)),
             Wanted::AtCore(task) => seats::perform(rt, alloc, task),
         }
     }

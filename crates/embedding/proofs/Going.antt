@@ -11,7 +11,7 @@ use Rattle.storage_keys.specs.Storage.{Contents}
 use Rattle.machine_model.specs.State.{State, lent}
 use Rattle.embedding.specs.declared.host.Turn.{Turn}
 use Rattle.embedding.specs.declared.host.Turn.TheVariants.{Moved, Quiet, Refused}
-use Rattle.embedding.specs.Hosts.{Moment, Enters, Leads, GoesOn, Turned, state_at}
+use Rattle.embedding.specs.Hosts.{Moment, Enters, IsAsBefore, Leads, GoesOn, Turned, state_at}
 
 leads-then : (a b c : State) (es fs : List Entry) → Leads a es b → Leads b fs c → Leads a (es ++ fs) c
 leads-then a b c [] fs h k = subst (λ (s : State). Leads s fs c) h k
@@ -26,14 +26,15 @@ goes_then m n a b c h k = record {
   blocks = k.blocks ∙ h.blocks;
 }
 
-pub goes_nowhere : (a b : Moment) (e : Event) (f : HostFault) → Enters a e (Err f) b → GoesOn 0 a b
-goes_nowhere a b e f h = record {
-  entries = [];
-  many = refl;
-  leads = ap (λ (s : Hosted). lent s.machine b.storage) h.refused.0 ∙ ap (λ (c : Contents). lent a.subsystem.machine c) h.refused.1;
-  counted = omega (arith, ap (λ (s : Hosted). s.count) h.refused.0);
+pub as_before : (a b : Moment) (e : Event) (f : HostFault) → Enters a e (Err f) b → IsAsBefore a b
+as_before a b e f h = record {
+  state = ap (λ (s : Hosted). lent s.machine b.storage) h.refused.0 ∙ ap (λ (c : Contents). lent a.subsystem.machine c) h.refused.1;
+  count = ap (λ (s : Hosted). s.count) h.refused.0;
   blocks = h.blocks;
 }
+
+pub goes_nowhere : (a b : Moment) → IsAsBefore a b → GoesOn 0 a b
+goes_nowhere a b h = record { entries = []; many = refl; leads = h.state; counted = omega (arith, h.count); blocks = h.blocks }
 
 pub goes_once : (a b : Moment) (e : Event) (r : Reply) → Enters a e (Ok r) b → GoesOn 1 a b
 goes_once a b e r h = record {
@@ -48,17 +49,17 @@ pub turned_idle : (word : ℕ) (a b : Moment) → Enters a (event.Choose word) (
 turned_idle word a b h = (1, omega arith, goes_once a b (event.Choose word) reply.Idle h, h.last)
 
 pub turned_refused : (word : ℕ) (a b : Moment) (e : Event) (f : HostFault) → Enters a e (Err f) b → Turned word 1 (Refused f) a b
-turned_refused word a b e f h = (0, omega arith, goes_nowhere a b e f h)
+turned_refused word a b e f h = (0, omega arith, goes_nowhere a b (as_before a b e f h))
 
 pub turned_then : (word m n : ℕ) (t : Turn) (a b c : Moment) → GoesOn m a b → Turned word n t b c → Turned word (m + n) t a c
 turned_then word m n Moved a b c h k = goes_then m n a b c h k
 turned_then word m n Quiet a b c h k = (m + k.0, omega (arith, k.1), goes_then m k.0 a b c h k.2, k.3)
 turned_then word m n (Refused f) a b c h k = (m + k.0, omega (arith, k.1), goes_then m k.0 a b c h k.2)
 
-pub turned_later : (word n : ℕ) (t : Turn) (a b c : Moment) → GoesOn 0 a b → Turned word n t b c → Turned word n t a c
+pub turned_later : (word n : ℕ) (t : Turn) (a b c : Moment) → IsAsBefore a b → Turned word n t b c → Turned word n t a c
 turned_later word n t a b c h k =
     let same : 0 + n ≡ n = omega arith in
-    subst (λ (m : ℕ). Turned word m t a c) same (turned_then word 0 n t a b c h k)
+    subst (λ (m : ℕ). Turned word m t a c) same (turned_then word 0 n t a b c (goes_nowhere a b h) k)
 
 pub goes_start : (a : Moment) → GoesOn 0 a a
 goes_start a = record { entries = []; many = refl; leads = refl; counted = omega arith; blocks = refl }

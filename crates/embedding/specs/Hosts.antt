@@ -41,6 +41,12 @@ state_at m = lent m.subsystem.machine m.storage
 abbrev pub Enters : Moment → Event → Result Reply HostFault → Moment → Type 0
 Enters old e answer new = IsHostStep TakesNext old.subsystem old.storage e answer new.subsystem new.storage
 
+-- nothing happened to the machine or to storage
+pub record IsAsBefore (old new : Moment) : Type 0 where
+  pub state : state_at new ≡ state_at old
+  pub count : new.subsystem.count ≡ old.subsystem.count
+  pub blocks : new.subsystem.blocks ≡ old.subsystem.blocks
+
 -- these entries, each a step, lead from one state to another
 abbrev pub Leads : State → List Entry → State → Type 0
 Leads old [] new = new ≡ old

@@ -1,10 +1,10 @@
 //! A host: a channel subsystem with one subchannel, and the clock that is its device. Storage is lent for each call.
 
-ghost use Rattle.std.specs.Prelude.{◌≡◌, None, IfSome, OnSome};
+ghost use Rattle.std.specs.Prelude.{◌≡◌, [], None, IfSome};
 ghost use Rattle.std.specs.Bool.{OnTrue, OnFalse};
 ghost use Rattle.channel_subsystem.specs.Hosting as hosting;
 ghost use Rattle.embedding.specs.Hosts as spec;
-ghost use Rattle.embedding.specs.Hosts.{Enters, GoesOn, Turned, moment};
+ghost use Rattle.embedding.specs.Hosts.{Enters, GoesOn, IsAsBefore, Turned, moment};
 ghost use Rattle.storage_keys.specs.Storage.{cleared_storage};
 ghost use Rattle.subsystem.specs.Keeping.{answer_of};
 
@@ -139,7 +139,9 @@ impl Host {
         if let Some(report) = self.next_report() {
             return self.enter_report(storage, report);
         }
-        if self.take_down(storage) || self.is_done(storage, &up(0)) || self.is_done(storage, &up(1))
+        if self.take_down(storage)
+            || self.is_done(storage, &up(0))
+            || self.is_done(storage, &up(1))
         {
             return Turn::Moved;
         }
@@ -190,7 +192,7 @@ impl Host {
     /// The unit takes the signal that waits for it, if one does.
     fn take_down<M: MainStorage>(&mut self, storage: &mut M) -> bool
         ensures done { OnTrue result (GoesOn 1 (moment self.old.subsystem (M.contents storage.old)) (moment self.new.subsystem (M.contents storage.new))) }
-        ensures none { OnFalse result (GoesOn 0 (moment self.old.subsystem (M.contents storage.old)) (moment self.new.subsystem (M.contents storage.new))) }
+        ensures none { OnFalse result (IsAsBefore (moment self.old.subsystem (M.contents storage.old)) (moment self.new.subsystem (M.contents storage.new))) }
         ensures lender { M.lender storage.new ≡ M.lender storage.old }
     {
         match self.subsystem.unit_turn(UNIT) {
@@ -206,10 +208,10 @@ impl Host {
     }
 
     /// Performs an event, and says whether it was accepted.
-    #[tactic(auto, using(crate::proofs::Going::goes_once, crate::proofs::Going::goes_nowhere))]
+    #[tactic(auto, using(crate::proofs::Going::goes_once, crate::proofs::Going::as_before))]
     fn is_done<M: MainStorage>(&mut self, storage: &mut M, event: &Event) -> bool
         ensures done { OnTrue result (GoesOn 1 (moment self.old.subsystem (M.contents storage.old)) (moment self.new.subsystem (M.contents storage.new))) }
-        ensures refused { OnFalse result (GoesOn 0 (moment self.old.subsystem (M.contents storage.old)) (moment self.new.subsystem (M.contents storage.new))) }
+        ensures refused { OnFalse result (IsAsBefore (moment self.old.subsystem (M.contents storage.old)) (moment self.new.subsystem (M.contents storage.new))) }
         ensures lender { M.lender storage.new ≡ M.lender storage.old }
     {
         self.enter(storage, event).is_ok()

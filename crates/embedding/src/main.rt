@@ -16,12 +16,17 @@ use channel_subsystem::host_fault::HostFault;
 use std::alloc::Global;
 use std::io;
 
-/// Where the guest has its operation-request block, its channel program, its data, and room for an interruption-response block: above
-/// 48 MiB.
+/// Where the guest has its operation-request block, above 48 MiB.
 const ORB_AT: u32 = 0x0300_0500;
-const PROGRAM_AT: u32 = 0x0300_1000;
-const DATA_AT: u32 = 0x0300_2000;
+
+/// Where its interruption-response block is stored.
 const IRB_AT: u32 = 0x0300_0600;
+
+/// Where its channel program stands.
+const PROGRAM_AT: u32 = 0x0300_1000;
+
+/// Where that reads to and writes from.
+const DATA_AT: u32 = 0x0300_2000;
 
 /// The guest's operation-request block: its parameter, format 1 and every path, and the address of its program.
 const ORB: [u8; 12] = [0, 0xC1, 0x0C, 0, 0, 0x80, 0xFF, 0, 0x03, 0, 0x10, 0];
