@@ -29,7 +29,7 @@ use Rattle.agree.specs.Bounds.{IsWell}
 use Rattle.agree.specs.State.{WorldState, links_of, line_of, opening_world}
 use Rattle.agreement_laws.specs.Sending.{is_on_path, is_away}
 use Rattle.agree.specs.Results.{world_result_of, world_result}
-use Rattle.agree.specs.Replies.{sent_down_reply, sent_up_reply, is_taken, chosen_act, hold_took_reply, unit_took_reply, owner_reply, reply_of}
+use Rattle.agree.specs.Replies.{sent_down_reply, sent_up_reply, is_taken, chosen_act, line_took_up_reply, line_took_down_reply, owner_reply, reply_of}
 use Rattle.agree.specs.Histories.{entries_of}
 use Rattle.agreement_laws.specs.Holders.{IsRestarted, ComesOfHolder}
 use Rattle.agreement_laws.specs.HolderSeen.{holder, Holding, is_held_by, side_seen, IsHolderOr, IsUnheldOr, GoesToHolder}
@@ -259,13 +259,13 @@ agreed-at : Means → (w : WorldState) (s : Side) → IsGood (links_of w) → Is
 agreed-at means w First g = (means (links_of w) First g).agree
 agreed-at means w Second g = (means (links_of w) Second g).agree
 
-hold_took-agrees : (w : WorldState) (s : Side) (may : Bool) (o : Option (OnPath Up)) → IsAgreedAt (line_of w s).link.hold.phase w.«unit» s → AgreesIn (hold_took_reply s (line_of w s) o may) (holding_of w.«unit»)
-hold_took-agrees w s may None a = tt
-hold_took-agrees w s may (Some x) a = takes-agrees w.«unit» s (line_of w s).link.drawn (line_of w s).link.hold x.path x.signal may a
+line_took_up-agrees : (w : WorldState) (s : Side) (may : Bool) (o : Option (OnPath Up)) → IsAgreedAt (line_of w s).link.hold.phase w.«unit» s → AgreesIn (line_took_up_reply s (line_of w s) o may) (holding_of w.«unit»)
+line_took_up-agrees w s may None a = tt
+line_took_up-agrees w s may (Some x) a = takes-agrees w.«unit» s (line_of w s).link.drawn (line_of w s).link.hold x.path x.signal may a
 
-unit_took-agrees : (w : WorldState) (s : Side) (may : Bool) (o : Option (OnPath Down)) → AgreesIn (unit_took_reply s w.«unit» o may) (holding_of w.«unit»)
-unit_took-agrees w s may None = tt
-unit_took-agrees w s may (Some x) = tt
+line_took_down-agrees : (w : WorldState) (s : Side) (may : Bool) (o : Option (OnPath Down)) → AgreesIn (line_took_down_reply s w.«unit» o may) (holding_of w.«unit»)
+line_took_down-agrees w s may None = tt
+line_took_down-agrees w s may (Some x) = tt
 
 said-agrees : (k : Holding) (s : Side) (sent : Option (OnPath Up)) → AgreesIn (sent_up_reply s sent) k
 said-agrees k s None = tt
@@ -278,8 +278,8 @@ owner-agrees w (own.Owned s t at) act = said-agrees (holding_of w.«unit») s _
 event-agrees : Means → (w : WorldState) (e : WorldEvent) (new : WorldState) → IsGood (links_of w) → MadeOf w e new → AgreesIn (reply_of w e) (holding_of w.«unit»)
 event-agrees means w (event.Choose s p single) new g made =
     chosen-agrees w.«unit» s (line_of w s).link.drawn (line_of w s).link.hold (line_of w s).link.hold.phase p single refl (agreed-at means w s g)
-event-agrees means w (event.Down s index keep may) new g made = unit_took-agrees w s may (slice_get (line_of w s).link.downs index)
-event-agrees means w (event.Up s index keep may) new g made = hold_took-agrees w s may (slice_get (line_of w s).link.ups index) (agreed-at means w s g)
+event-agrees means w (event.Down s index keep may) new g made = line_took_down-agrees w s may (slice_get (line_of w s).link.downs index)
+event-agrees means w (event.Up s index keep may) new g made = line_took_up-agrees w s may (slice_get (line_of w s).link.ups index) (agreed-at means w s g)
 event-agrees means w (event.LoseDown s index) new g made = tt
 event-agrees means w (event.LoseUp s index) new g made = tt
 event-agrees means w (event.PathDown s p) new g made = tt

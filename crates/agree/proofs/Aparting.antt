@@ -21,7 +21,7 @@ use Rattle.agreement_laws.specs.Moving.{UnitAct, Leaves, Asks, Attends, Notices,
 use Rattle.agree.specs.declared.event.WorldEvent.{WorldEvent}
 use Rattle.agree.specs.declared.event.WorldEvent.TheVariants as event
 use Rattle.agree.specs.State.{LineState, WorldState, line_of, with_line}
-use Rattle.agree.specs.Lines.{GivesResult, LineResult, acts_for, unit_took, unit_takes, line_chosen, line_let_go, line_sends, hold_takes, loses_down, loses_up, goes_down, comes_up, is_cut, acts}
+use Rattle.agree.specs.Lines.{GivesResult, LineResult, acts_for, line_took_down, line_takes_down, line_chosen, line_let_go, line_sends, line_takes_up, loses_down, loses_up, goes_down, comes_up, is_cut, acts}
 use Rattle.agreement_laws.specs.Moving as moving
 use Rattle.agree.specs.Lines as line
 use Rattle.agree.specs.Results.{WorldResult, at_side, at_world_unit, at_owner, both_of, on_path, path_named, world_result_of, world_result, state_after, world_after}
@@ -57,10 +57,10 @@ acts-apart w side act h =
     done-at_unit (IsApart side w) w side (acts_for (both_of w side) act)
     (done-stepping (λ b. IsApart side w (record (with_line w side b.line) { «unit» = b.«unit» })) (both_of w side) (unit_steps w.«unit» act) (united-apart w side _ _ h))
 
-unit_took-apart : (w : WorldState) (side : Side) (x : Option (OnPath Down)) (index : ℕ) (keep may : Bool) →
-    OnDone (λ b. IsApart side w (record (with_line w side b.line) { «unit» = b.«unit» })) (unit_took (both_of w side) side x index keep may)
-unit_took-apart w side None index keep may = tt
-unit_took-apart w side (Some x) index keep may = united-apart w side _ _ (leaves-unit_takes side w.«unit» x.path x.signal may)
+line_took_down-apart : (w : WorldState) (side : Side) (x : Option (OnPath Down)) (index : ℕ) (keep may : Bool) →
+    OnDone (λ b. IsApart side w (record (with_line w side b.line) { «unit» = b.«unit» })) (line_took_down (both_of w side) side x index keep may)
+line_took_down-apart w side None index keep may = tt
+line_took_down-apart w side (Some x) index keep may = united-apart w side _ _ (leaves-unit_takes side w.«unit» x.path x.signal may)
 
 -- what the unit does of itself
 attention-leaves : (side : Side) (u : UnitState) (n : ℕ) (a : Option Attention) (b : Bool) → LeavesOther side u (record u { attentions = n; attention = a; end_owed = b })
@@ -112,8 +112,8 @@ owner-apart w act h =
 pub turn-leaves : (w : WorldState) (e : WorldEvent) → OnDone (LeavesApart w e) (world_result_of w e)
 turn-leaves w (event.Choose side p single) = path-apart w side p (λ q. line_chosen (line_of w side) (line_of w side).link.hold.phase q single)
 turn-leaves w (event.Down side index keep may) =
-    done-at_unit (IsApart side w) w side (unit_takes (both_of w side) side index keep may) (unit_took-apart w side (slice_get (line_of w side).link.downs index) index keep may)
-turn-leaves w (event.Up side index keep may) = turn-apart w side (hold_takes (line_of w side) index keep may)
+    done-at_unit (IsApart side w) w side (line_takes_down (both_of w side) side index keep may) (line_took_down-apart w side (slice_get (line_of w side).link.downs index) index keep may)
+turn-leaves w (event.Up side index keep may) = turn-apart w side (line_takes_up (line_of w side) index keep may)
 turn-leaves w (event.LoseDown side index) = turn-apart w side (loses_down (line_of w side) index)
 turn-leaves w (event.LoseUp side index) = turn-apart w side (loses_up (line_of w side) index)
 turn-leaves w (event.PathDown side p) = path-apart w side p (λ q. goes_down (line_of w side) q)

@@ -24,13 +24,13 @@ use Rattle.agree.specs.declared.reply.WorldReply.TheVariants as reply
 use Rattle.agree.specs.Bounds.{IsWell}
 use Rattle.agree.specs.State.{WorldState, links_of, line_of, opening_world}
 use Rattle.agree.specs.Results.{WorldResult, world_result_of, world_result, state_after, world_after}
-use Rattle.agree.specs.Replies.{sent_down_reply, sent_up_reply, unit_took_reply, hold_took_reply, owner_reply, reply_of}
+use Rattle.agree.specs.Replies.{sent_down_reply, sent_up_reply, line_took_down_reply, line_took_up_reply, owner_reply, reply_of}
 use Rattle.agree.specs.Histories.{WorldEntry, entered, entries_of, Throughout}
 use Rattle.agreement_laws.specs.Holders.{SideAnswered}
 use Rattle.agreement_laws.specs.HolderSeen.{holder, Holding, let_go, is_held_by, with_seen, with_restart, held_after, side_seen, with_answered, IsHolder, IsAnswerOf, IsSaidRight, with_accept}
 use Rattle.agree.specs.OneHolder.{restarted_by, held_in, holding_after, IsReplyRight, nothing_held, HasOneHolder, accepts_in, accepts_of, AreAbove, IsBegunOnce}
 use Rattle.agree.proofs.Lasting.{event-lasts}
-use Rattle.agree.proofs.Making.{OnDone, done-weaker, counted-done, Keeps, Ends, MadeOf, turn-made, heard_cause, unit_took_cause}
+use Rattle.agree.proofs.Making.{OnDone, done-weaker, counted-done, Keeps, Ends, MadeOf, turn-made, heard_cause, line_took_down_cause}
 use Rattle.agree.proofs.Holdings.{holder_of, holding_of, Turns, takes-turns, takes-told-after, reports-keep, leaving-keeps, asking-keeps, attending-keeps, noticing-keeps}
 use Rattle.agree.proofs.Holdings as holdings
 use Rattle.agree.proofs.UnitActs.{IsOfConnection, Acts, Idles, Says, Begins, Asks, Sends, reports-acts, leaving-acts, asking-acts, attending-acts, noticing-acts}
@@ -50,22 +50,22 @@ told-right : (s : Side) (k : Holding) (sent : Option (OnPath Down)) → IsReplyR
 told-right s k None = (tt, refl)
 told-right s k (Some x) = (tt, refl)
 
-hold_took-right : (s : Side) (w : WorldState) (may : Bool) (o : Option (OnPath Up)) (k : Holding) → IsReplyRight (hold_took_reply s (line_of w s) o may) k × (held_in (hold_took_reply s (line_of w s) o may) k ≡ k)
-hold_took-right s w may None k = (tt, refl)
-hold_took-right s w may (Some x) k = (tt, refl)
+line_took_up-right : (s : Side) (w : WorldState) (may : Bool) (o : Option (OnPath Up)) (k : Holding) → IsReplyRight (line_took_up_reply s (line_of w s) o may) k × (held_in (line_took_up_reply s (line_of w s) o may) k ≡ k)
+line_took_up-right s w may None k = (tt, refl)
+line_took_up-right s w may (Some x) k = (tt, refl)
 
 hold-unit : (w new : WorldState) (s : Side) (act : HoldAct) → LinksStep (links_of w) (Hold_acts s act) (links_of new) → holding_of new.«unit» ≡ holding_of w.«unit»
 hold-unit w new s act st = ap holding_of st.«unit»
 
-hold_took-unit : (w new : WorldState) (s : Side) (may : Bool) (o : Option (OnPath Up)) → LinksStep (links_of w) (heard_cause s o may) (links_of new) → holding_of new.«unit» ≡ holding_of w.«unit»
-hold_took-unit w new s may None st = ap holding_of st.«unit»
-hold_took-unit w new s may (Some x) st = ap holding_of st.«unit»
+line_took_up-unit : (w new : WorldState) (s : Side) (may : Bool) (o : Option (OnPath Up)) → LinksStep (links_of w) (heard_cause s o may) (links_of new) → holding_of new.«unit» ≡ holding_of w.«unit»
+line_took_up-unit w new s may None st = ap holding_of st.«unit»
+line_took_up-unit w new s may (Some x) st = ap holding_of st.«unit»
 
 -- a signal arrives at the unit
-unit_took-holds : Rises → (s : Side) (w new : WorldState) (may : Bool) (o : Option (OnPath Down)) → IsGood (links_of w) → LinksStep (links_of w) (unit_took_cause s o may) (links_of new) →
-    IsReplyRight (unit_took_reply s w.«unit» o may) (holding_of w.«unit») × (holding_of new.«unit» ≡ held_in (unit_took_reply s w.«unit» o may) (holding_of w.«unit»))
-unit_took-holds rises s w new may None g st = (tt, ap holding_of st.«unit»)
-unit_took-holds rises s w new may (Some x) g st =
+line_took_down-holds : Rises → (s : Side) (w new : WorldState) (may : Bool) (o : Option (OnPath Down)) → IsGood (links_of w) → LinksStep (links_of w) (line_took_down_cause s o may) (links_of new) →
+    IsReplyRight (line_took_down_reply s w.«unit» o may) (holding_of w.«unit») × (holding_of new.«unit» ≡ held_in (line_took_down_reply s w.«unit» o may) (holding_of w.«unit»))
+line_took_down-holds rises s w new may None g st = (tt, ap holding_of st.«unit»)
+line_took_down-holds rises s w new may (Some x) g st =
     let above = reset-above rises (links_of w) s x.path x.signal g st.given in
     let turns : Turns w.«unit» s x.signal (unit_steps w.«unit» (Takes_down s x may)) = takes-turns w.«unit» s x.path x.signal may above in
     ((turns.right, λ e. takes-told-after w.«unit» s x.path x.signal may e), ap holding_of st.«unit» ∙ turns.next)
@@ -123,10 +123,10 @@ hold-holds w new s act sent st = let right = told-right s (holding_of w.«unit»
 
 pub event-holds : Rises → (w : WorldState) (e : WorldEvent) (new : WorldState) → IsGood (links_of w) → MadeOf w e new → Holds w e new
 event-holds rises w (event.Choose s p single) new g made = hold-holds w new s _ _ (stepped w (event.Choose s p single) new made)
-event-holds rises w (event.Down s index keep may) new g made = unit_took-holds rises s w new may (slice_get (line_of w s).link.downs index) g (stepped w (event.Down s index keep may) new made)
+event-holds rises w (event.Down s index keep may) new g made = line_took_down-holds rises s w new may (slice_get (line_of w s).link.downs index) g (stepped w (event.Down s index keep may) new made)
 event-holds rises w (event.Up s index keep may) new g made =
     let o : Option (OnPath Up) = slice_get (line_of w s).link.ups index in
-    let right = hold_took-right s w may o (holding_of w.«unit») in (right.0, hold_took-unit w new s may o (stepped w (event.Up s index keep may) new made) ∙ sym right.1)
+    let right = line_took_up-right s w may o (holding_of w.«unit») in (right.0, line_took_up-unit w new s may o (stepped w (event.Up s index keep may) new made) ∙ sym right.1)
 event-holds rises w (event.LoseDown s index) new g made = hold-holds w new s _ None (stepped w (event.LoseDown s index) new made)
 event-holds rises w (event.LoseUp s index) new g made = hold-holds w new s _ None (stepped w (event.LoseUp s index) new made)
 event-holds rises w (event.PathDown s p) new g made = hold-holds w new s _ None (stepped w (event.PathDown s p) new made)

@@ -24,7 +24,7 @@ use Rattle.agree.specs.declared.event.WorldEvent.TheVariants as event
 use Rattle.agreement_laws.specs.Sending.{may_send}
 use Rattle.agree.specs.State.{LineState, WorldState, links_of, line_of, with_line, is_up}
 use Rattle.chan_model.specs.declared.fault.Fault.TheVariants.{NoMemory, NoSuchPath, NotSent, NotNow}
-use Rattle.agree.specs.Lines.{LineResult, UnitLine, acts, line_with_sent, unit_stepped, stepping, acts_for, with_downs, with_ups, line_with_path, left_after, without_path, line_chosen, line_let_go, line_sends, hold_took, hold_takes, unit_took, unit_takes, loses_down, loses_up, cut, goes_down, comes_up, is_cut}
+use Rattle.agree.specs.Lines.{LineResult, UnitLine, acts, line_with_sent, unit_stepped, stepping, acts_for, with_downs, with_ups, line_with_path, left_after, without_path, line_chosen, line_let_go, line_sends, line_took_up, line_takes_up, line_took_down, line_takes_down, loses_down, loses_up, cut, goes_down, comes_up, is_cut}
 use Rattle.agree.specs.Replies.{chosen_act}
 use Rattle.agree.specs.Results.{WorldResult, at_side, at_world_unit, at_owner, both_of, on_path, path_named, all_reset, world_result_of, counted, max_steps, world_result}
 use Rattle.agree.specs.Promises.{EndsByEvent, IsResetTakenBy, IsResetMet}
@@ -129,13 +129,13 @@ abbrev pub heard_cause : Side → Option (OnPath Up) → Bool → LinkCause
 heard_cause side None may = Hold_acts side Nothing
 heard_cause side (Some x) may = Hold_acts side (Takes x may)
 
-abbrev pub unit_took_cause : Side → Option (OnPath Down) → Bool → LinkCause
-unit_took_cause side None may = Hold_acts side Nothing
-unit_took_cause side (Some x) may = Unit_acts (Takes_down side x may)
+abbrev pub line_took_down_cause : Side → Option (OnPath Down) → Bool → LinkCause
+line_took_down_cause side None may = Hold_acts side Nothing
+line_took_down_cause side (Some x) may = Unit_acts (Takes_down side x may)
 
 abbrev pub cause_of : WorldState → WorldEvent → LinkCause
 cause_of w (event.Choose side p single) = Hold_acts side (chosen_act (line_of w side).link.hold.phase p single)
-cause_of w (event.Down side index keep may) = unit_took_cause side (slice_get (line_of w side).link.downs index) may
+cause_of w (event.Down side index keep may) = line_took_down_cause side (slice_get (line_of w side).link.downs index) may
 cause_of w (event.Up side index keep may) = heard_cause side (slice_get (line_of w side).link.ups index) may
 cause_of w (event.LoseDown side index) = Hold_acts side Nothing
 cause_of w (event.LoseUp side index) = Hold_acts side Nothing
@@ -248,10 +248,10 @@ sends-made w e side p d its =
     done-where (λ m. (may_send l.link.hold.phase p d ≡ true) × Made w e (with_line w side m)) (may_send l.link.hold.phase p d) NotNow (acts l (Sends (record { path = p; signal = d })))
     (λ is. (is, act-made w e side (Sends (record { path = p; signal = d })) its (sent-of_program l.link.hold.phase p d (sent-as l.link.hold.phase p d is))))
 
-hold_took-made : (w : WorldState) (e : WorldEvent) (side : Side) (index : ℕ) (keep may : Bool) (x : Option (OnPath Up)) → slice_get (line_of w side).link.ups index ≡ x → heard_cause side x may ≡ cause_of w e →
-    OnDone (λ l. Made w e (with_line w side l)) (hold_took (line_of w side) x index keep may)
-hold_took-made w e side index keep may None is its = tt
-hold_took-made w e side index keep may (Some x) is its =
+line_took_up-made : (w : WorldState) (e : WorldEvent) (side : Side) (index : ℕ) (keep may : Bool) (x : Option (OnPath Up)) → slice_get (line_of w side).link.ups index ≡ x → heard_cause side x may ≡ cause_of w e →
+    OnDone (λ l. Made w e (with_line w side l)) (line_took_up (line_of w side) x index keep may)
+line_took_up-made w e side index keep may None is its = tt
+line_took_up-made w e side index keep may (Some x) is its =
     hold-made w e side (Takes x may) (line_of w side).link.downs (left_after (line_of w side).link.ups index keep) (line_of w side).up its
     (contains-got (line_of w side).link.ups index x is) (among-same (line_of w side).link.downs) (among-left (line_of w side).link.ups index keep)
 
@@ -290,22 +290,22 @@ up-made w e side p its =
     (hold-made w e side Nothing l.link.downs l.link.ups (slice_set l.up p true) its tt (among-same l.link.downs) (among-same l.link.ups))
 
 -- the unit takes a signal
-unit_took-tells : (w : WorldState) (side : Side) (index : ℕ) (keep may : Bool) (x : OnPath Down) → slice_get (line_of w side).link.downs index ≡ Some x →
+line_took_down-tells : (w : WorldState) (side : Side) (index : ℕ) (keep may : Bool) (x : OnPath Down) → slice_get (line_of w side).link.downs index ≡ Some x →
     (s : Side) → IsResetTaken (links_of w) (Unit_acts (Takes_down side x may)) s → IsResetTakenBy w (event.Down side index keep may) s
-unit_took-tells w side index keep may x is s h =
+line_took_down-tells w side index keep may x is s h =
     (h.0, subst (λ (o : Option (OnPath Down)). IsResetMet w.«unit» (link_of (links_of w) s).hold.phase s o) (sym is) h.1)
 
 contains-link : (w : WorldState) (side : Side) (x : OnPath Down) → Contains (line_of w side).link.downs x → Contains (link_of (links_of w) side).downs x
 contains-link w First x h = h
 contains-link w Second x h = h
 
-unit_took-made : (w : WorldState) (side : Side) (index : ℕ) (keep may : Bool) (x : Option (OnPath Down)) → slice_get (line_of w side).link.downs index ≡ x →
-    OnDone (λ b. Made w (event.Down side index keep may) (record (with_line w side b.line) { «unit» = b.«unit» })) (unit_took (both_of w side) side x index keep may)
-unit_took-made w side index keep may None is = tt
-unit_took-made w side index keep may (Some x) is =
-    unit-made w (event.Down side index keep may) side (Takes_down side x may) (left_after (line_of w side).link.downs index keep) (ap (λ (o : Option (OnPath Down)). unit_took_cause side o may) (sym is)) (λ s. refl)
+line_took_down-made : (w : WorldState) (side : Side) (index : ℕ) (keep may : Bool) (x : Option (OnPath Down)) → slice_get (line_of w side).link.downs index ≡ x →
+    OnDone (λ b. Made w (event.Down side index keep may) (record (with_line w side b.line) { «unit» = b.«unit» })) (line_took_down (both_of w side) side x index keep may)
+line_took_down-made w side index keep may None is = tt
+line_took_down-made w side index keep may (Some x) is =
+    unit-made w (event.Down side index keep may) side (Takes_down side x may) (left_after (line_of w side).link.downs index keep) (ap (λ (o : Option (OnPath Down)). line_took_down_cause side o may) (sym is)) (λ s. refl)
     (contains-link w side x (contains-got (line_of w side).link.downs index x is)) (among-left (line_of w side).link.downs index keep)
-    (unit_took-tells w side index keep may x is)
+    (line_took_down-tells w side index keep may x is)
 
 -- the device is restarted
 restart-made : (w : WorldState) → Made w event.Restart (record w { «unit» = restarted w.«unit» })
@@ -383,11 +383,11 @@ turn-made w (event.Choose side p single) =
     (side-made w (event.Choose side p single) side (line_chosen (line_of w side) (line_of w side).link.hold.phase p single)
     (chosen-made w (event.Choose side p single) side (line_of w side).link.hold.phase p single refl))
 turn-made w (event.Down side index keep may) =
-    done-at_unit (Made w (event.Down side index keep may)) w side (unit_takes (both_of w side) side index keep may)
-    (unit_took-made w side index keep may (slice_get (line_of w side).link.downs index) refl)
+    done-at_unit (Made w (event.Down side index keep may)) w side (line_takes_down (both_of w side) side index keep may)
+    (line_took_down-made w side index keep may (slice_get (line_of w side).link.downs index) refl)
 turn-made w (event.Up side index keep may) =
-    side-made w (event.Up side index keep may) side (hold_takes (line_of w side) index keep may)
-    (hold_took-made w (event.Up side index keep may) side index keep may (slice_get (line_of w side).link.ups index) refl refl)
+    side-made w (event.Up side index keep may) side (line_takes_up (line_of w side) index keep may)
+    (line_took_up-made w (event.Up side index keep may) side index keep may (slice_get (line_of w side).link.ups index) refl refl)
 turn-made w (event.LoseDown side index) =
     side-made w (event.LoseDown side index) side (loses_down (line_of w side) index) (lost_down-made w (event.LoseDown side index) side index refl)
 turn-made w (event.LoseUp side index) =

@@ -22,7 +22,7 @@ use Rattle.agree.specs.declared.event.WorldEvent.TheVariants as event
 use Rattle.agreement_laws.specs.Sending.{may_send}
 use Rattle.agree.specs.State.{LineState, WorldState, line_of, with_line, is_up}
 use Rattle.agree.specs.Lines as line
-use Rattle.agree.specs.Lines.{LineResult, acts_for, line_chosen, line_let_go, line_sends, hold_took, hold_takes, unit_took, unit_takes, loses_down, loses_up, cut, goes_down, comes_up, is_cut, with_downs, with_ups, line_with_path}
+use Rattle.agree.specs.Lines.{LineResult, acts_for, line_chosen, line_let_go, line_sends, line_took_up, line_takes_up, line_took_down, line_takes_down, loses_down, loses_up, cut, goes_down, comes_up, is_cut, with_downs, with_ups, line_with_path}
 use Rattle.agree.specs.Results.{WorldResult, at_side, at_world_unit, at_owner, both_of, on_path, path_named, world_result_of}
 use Rattle.agree.specs.Bounds.{IsWorldUnitWithin, IsWorldWithin}
 use Rattle.agree.proofs.Making.{OnDone, done-at_unit, done-at_owner, done-on_path, done-if, done-unless, done-stepping}
@@ -115,14 +115,14 @@ device_released-draws l (hold.On t q c) = acts-drawn l.link.drawn l.link.hold Le
 device_released-draws l (hold.Away t) = tt
 device_released-draws l (hold.Letting t q) = tt
 
-hold_took-draws : (l : LineState) (x : Option (OnPath Up)) (index : ℕ) (keep may : Bool) → OnDone (Draws l) (hold_took l x index keep may)
-hold_took-draws l None index keep may = tt
-hold_took-draws l (Some x) index keep may = acts-drawn l.link.drawn l.link.hold (Takes x may)
+line_took_up-draws : (l : LineState) (x : Option (OnPath Up)) (index : ℕ) (keep may : Bool) → OnDone (Draws l) (line_took_up l x index keep may)
+line_took_up-draws l None index keep may = tt
+line_took_up-draws l (Some x) index keep may = acts-drawn l.link.drawn l.link.hold (Takes x may)
 
-unit_took-within : (n : ℕ) (w : WorldState) (side : Side) (x : Option (OnPath Down)) (index : ℕ) (keep may : Bool) → IsWorldWithin n w →
-    OnDone (λ b. IsWorldWithin (n + 1) (record (with_line w side b.line) { «unit» = b.«unit» })) (unit_took (both_of w side) side x index keep may)
-unit_took-within n w side None index keep may h = tt
-unit_took-within n w side (Some x) index keep may h = unit-within n w side _ (Takes_down side x may) h refl
+line_took_down-within : (n : ℕ) (w : WorldState) (side : Side) (x : Option (OnPath Down)) (index : ℕ) (keep may : Bool) → IsWorldWithin n w →
+    OnDone (λ b. IsWorldWithin (n + 1) (record (with_line w side b.line) { «unit» = b.«unit» })) (line_took_down (both_of w side) side x index keep may)
+line_took_down-within n w side None index keep may h = tt
+line_took_down-within n w side (Some x) index keep may h = unit-within n w side _ (Takes_down side x may) h refl
 
 path-within : (n : ℕ) (named : Result ℕ Fault) (turn : ℕ → WorldResult) → ((p : ℕ) → OnDone (IsWorldWithin (n + 1)) (turn p)) → OnDone (IsWorldWithin (n + 1)) (on_path named turn)
 path-within n named turn h = done-on_path (IsWorldWithin (n + 1)) named turn h
@@ -133,11 +133,11 @@ event-within n w (event.Choose side p single) h =
     path-within n (path_named p) (λ q. at_side w side (line_chosen l l.link.hold.phase q single))
     (λ q. turn-within n w side (line_chosen l l.link.hold.phase q single) h (chosen-draws l l.link.hold.phase q single))
 event-within n w (event.Down side index keep may) h =
-    done-at_unit (IsWorldWithin (n + 1)) w side (unit_takes (both_of w side) side index keep may)
-    (unit_took-within n w side (slice_get (line_of w side).link.downs index) index keep may h)
+    done-at_unit (IsWorldWithin (n + 1)) w side (line_takes_down (both_of w side) side index keep may)
+    (line_took_down-within n w side (slice_get (line_of w side).link.downs index) index keep may h)
 event-within n w (event.Up side index keep may) h =
     let l : LineState = line_of w side in
-    turn-within n w side (hold_takes l index keep may) h (hold_took-draws l (slice_get l.link.ups index) index keep may)
+    turn-within n w side (line_takes_up l index keep may) h (line_took_up-draws l (slice_get l.link.ups index) index keep may)
 event-within n w (event.LoseDown side index) h =
     let l : LineState = line_of w side in
     turn-within n w side (loses_down l index) h

@@ -234,9 +234,9 @@ pub record Heard (side : Side) (u : UnitState) (new : Link) (k : SeenPaths) (x :
 abbrev HoldTook : Side → UnitState → Link → SeenPaths → OnPath Up → Option HoldStep → Type 0
 HoldTook side u l k x step = (new : Link) → LinkStep l (hold_stepped l.drawn l.hold step) None new → Heard side u new k x (outcome_of step).taken (hold_stepped l.drawn l.hold step).sent
 
-if-hold_took : (side : Side) (u : UnitState) (l : Link) (k : SeenPaths) (x : OnPath Up) (b : Bool) (a c : Option HoldStep) → (b ≡ true → HoldTook side u l k x a) → HoldTook side u l k x c → HoldTook side u l k x (if b then a else c)
-if-hold_took side u l k x true a c f g = f refl
-if-hold_took side u l k x false a c f g = g
+if-line_took_up : (side : Side) (u : UnitState) (l : Link) (k : SeenPaths) (x : OnPath Up) (b : Bool) (a c : Option HoldStep) → (b ≡ true → HoldTook side u l k x a) → HoldTook side u l k x c → HoldTook side u l k x (if b then a else c)
+if-line_took_up side u l k x true a c f g = f refl
+if-line_took_up side u l k x false a c f g = g
 
 arrives : (ks : List Connected) (k : SeenPaths) (phase : HoldPhase) (p : ℕ) (x : Up) → k.ways ≡ ks → IsUpTied ks phase p x → ArrivesRight k p x
 arrives ks k phase p (up.Accept t) e h = tt
@@ -254,35 +254,35 @@ ignored : (side : Side) (u : UnitState) (l : Link) (k : SeenPaths) (x : OnPath U
 ignored side u l k x a t new s = record { right = (a, refl); tied = hold-stays side u l new k (still l.drawn l.hold) t s refl refl tt }
 
 -- Accept
-begun-hold_took : (side : Side) (u : UnitState) (l : Link) (k : SeenPaths) (t q : ℕ) (may : Bool) → k.offered ≡ Some (record { number = t; path = q }) → way_of k.ways t 0 ≡ Some q → Tied side u l k →
+begun-line_took_up : (side : Side) (u : UnitState) (l : Link) (k : SeenPaths) (t q : ℕ) (may : Bool) → k.offered ≡ Some (record { number = t; path = q }) → way_of k.ways t 0 ≡ Some q → Tied side u l k →
     HoldTook side u l k (record { path = q; signal = up.Accept t }) (Some (program_begun l.hold t q may))
-begun-hold_took side u l k t q true o w tie new s = record { right = (tt, o, tt); tied = hold-turns side u l new k _ None (Some (linked t q 0)) 0 tt tie s refl refl w tt }
-begun-hold_took side u l k t q false o w tie new s = record { right = (tt, o, refl); tied = hold-turns side u l new k _ None None 0 tt tie s refl tt tt tt }
+begun-line_took_up side u l k t q true o w tie new s = record { right = (tt, o, tt); tied = hold-turns side u l new k _ None (Some (linked t q 0)) 0 tt tie s refl refl w tt }
+begun-line_took_up side u l k t q false o w tie new s = record { right = (tt, o, refl); tied = hold-turns side u l new k _ None None 0 tt tie s refl tt tt tt }
 
-accept-hold_took : (side : Side) (u : UnitState) (l : Link) (k : SeenPaths) (p t : ℕ) (may : Bool) (phase : HoldPhase) → l.hold.phase ≡ phase → IsUpTied k.ways phase p (up.Accept t) → Tied side u l k →
+accept-line_took_up : (side : Side) (u : UnitState) (l : Link) (k : SeenPaths) (p t : ℕ) (may : Bool) (phase : HoldPhase) → l.hold.phase ≡ phase → IsUpTied k.ways phase p (up.Accept t) → Tied side u l k →
     HoldTook side u l k (record { path = p; signal = up.Accept t }) (offer_accepted l.hold phase t may)
-accept-hold_took side u l k p t may (hold.Offer v q) e h tie =
+accept-line_took_up side u l k p t may (hold.Offer v q) e h tie =
     let x : OnPath Up = record { path = p; signal = up.Accept t } in
-    if-hold_took side u l k x (t == v) (Some (program_begun l.hold v q may)) None
+    if-line_took_up side u l k x (t == v) (Some (program_begun l.hold v q may)) None
     (λ f.
     let n : t ≡ v = eqb-true t v f in
     let a : p ≡ q = h.1 (sym n) in
     let o : k.offered ≡ Some (record { number = v; path = q }) = of-phase (λ y. IsOfferTied y k.offered) l (hold.Offer v q) e tie.offered in
     subst (λ (y : OnPath Up). HoldTook side u l k y (Some (program_begun l.hold v q may))) (sym (ap (λ (m : ℕ). record { path = m; signal = up.Accept t }) a ∙ ap (λ (m : ℕ). record { path = q; signal = up.Accept m }) n))
-    (begun-hold_took side u l k v q may o (ap (λ (m : ℕ). way_of k.ways m 0) (sym n) ∙ (h.0 ∙ ap (λ (m : ℕ). Some m) a)) tie))
+    (begun-line_took_up side u l k v q may o (ap (λ (m : ℕ). way_of k.ways m 0) (sym n) ∙ (h.0 ∙ ap (λ (m : ℕ). Some m) a)) tie))
     (ignored side u l k x tt tie)
-accept-hold_took side u l k p t may hold.Free e h tie = ignored side u l k (record { path = p; signal = up.Accept t }) tt tie
-accept-hold_took side u l k p t may (hold.On v q c) e h tie = ignored side u l k (record { path = p; signal = up.Accept t }) tt tie
-accept-hold_took side u l k p t may (hold.Away v) e h tie = ignored side u l k (record { path = p; signal = up.Accept t }) tt tie
-accept-hold_took side u l k p t may (hold.Letting v q) e h tie = ignored side u l k (record { path = p; signal = up.Accept t }) tt tie
-accept-hold_took side u l k p t may (hold.Reset r) e h tie = ignored side u l k (record { path = p; signal = up.Accept t }) tt tie
+accept-line_took_up side u l k p t may hold.Free e h tie = ignored side u l k (record { path = p; signal = up.Accept t }) tt tie
+accept-line_took_up side u l k p t may (hold.On v q c) e h tie = ignored side u l k (record { path = p; signal = up.Accept t }) tt tie
+accept-line_took_up side u l k p t may (hold.Away v) e h tie = ignored side u l k (record { path = p; signal = up.Accept t }) tt tie
+accept-line_took_up side u l k p t may (hold.Letting v q) e h tie = ignored side u l k (record { path = p; signal = up.Accept t }) tt tie
+accept-line_took_up side u l k p t may (hold.Reset r) e h tie = ignored side u l k (record { path = p; signal = up.Accept t }) tt tie
 
 -- Busy
-busy-hold_took : (side : Side) (u : UnitState) (l : Link) (k : SeenPaths) (p t : ℕ) (phase : HoldPhase) → l.hold.phase ≡ phase → Tied side u l k →
+busy-line_took_up : (side : Side) (u : UnitState) (l : Link) (k : SeenPaths) (p t : ℕ) (phase : HoldPhase) → l.hold.phase ≡ phase → Tied side u l k →
     HoldTook side u l k (record { path = p; signal = up.Busy t }) (found_busy l.hold phase t)
-busy-hold_took side u l k p t (hold.Offer v q) e tie =
+busy-line_took_up side u l k p t (hold.Offer v q) e tie =
     let x : OnPath Up = record { path = p; signal = up.Busy t } in
-    if-hold_took side u l k x (t == v) _ None
+    if-line_took_up side u l k x (t == v) _ None
     (λ f new s.
     let o : k.offered ≡ Some (record { number = v; path = q }) = of-phase (λ y. IsOfferTied y k.offered) l (hold.Offer v q) e tie.offered in
     record {
@@ -290,11 +290,11 @@ busy-hold_took side u l k p t (hold.Offer v q) e tie =
       tied = hold-turns side u l new k _ None k.connected k.answered tt tie s (of-phase (λ y. IsPhaseTied y k.connected) l (hold.Offer v q) e tie.connected) tt tt tt;
     })
     (ignored side u l k x tt tie)
-busy-hold_took side u l k p t hold.Free e tie = ignored side u l k (record { path = p; signal = up.Busy t }) tt tie
-busy-hold_took side u l k p t (hold.On v q c) e tie = ignored side u l k (record { path = p; signal = up.Busy t }) tt tie
-busy-hold_took side u l k p t (hold.Away v) e tie = ignored side u l k (record { path = p; signal = up.Busy t }) tt tie
-busy-hold_took side u l k p t (hold.Letting v q) e tie = ignored side u l k (record { path = p; signal = up.Busy t }) tt tie
-busy-hold_took side u l k p t (hold.Reset r) e tie = ignored side u l k (record { path = p; signal = up.Busy t }) tt tie
+busy-line_took_up side u l k p t hold.Free e tie = ignored side u l k (record { path = p; signal = up.Busy t }) tt tie
+busy-line_took_up side u l k p t (hold.On v q c) e tie = ignored side u l k (record { path = p; signal = up.Busy t }) tt tie
+busy-line_took_up side u l k p t (hold.Away v) e tie = ignored side u l k (record { path = p; signal = up.Busy t }) tt tie
+busy-line_took_up side u l k p t (hold.Letting v q) e tie = ignored side u l k (record { path = p; signal = up.Busy t }) tt tie
+busy-line_took_up side u l k p t (hold.Reset r) e tie = ignored side u l k (record { path = p; signal = up.Busy t }) tt tie
 
 -- Leave
 some-path : (p q : ℕ) → Some p ≡ Some q → p ≡ q
@@ -305,11 +305,11 @@ left-connected ks m v q d t p c h w way n b =
     let same : q ≡ p = some-path q p (sym w ∙ (ap (λ (x : ℕ). way_of ks x d) (sym n) ∙ (ap (λ (x : ℕ). way_of ks t x) (sym b) ∙ way))) in
     h ∙ (ap (λ (x : ℕ). Some (linked x q d)) (sym n) ∙ (ap (λ (x : ℕ). Some (linked t x d)) same ∙ ap (λ (x : ℕ). Some (linked t p x)) (sym b)))
 
-leave-hold_took : (side : Side) (u : UnitState) (l : Link) (k : SeenPaths) (p t c : ℕ) (phase : HoldPhase) → l.hold.phase ≡ phase → way_of k.ways t c ≡ Some p → Tied side u l k →
+leave-line_took_up : (side : Side) (u : UnitState) (l : Link) (k : SeenPaths) (p t c : ℕ) (phase : HoldPhase) → l.hold.phase ≡ phase → way_of k.ways t c ≡ Some p → Tied side u l k →
     HoldTook side u l k (record { path = p; signal = up.Leave t c }) (left l.hold phase t c)
-leave-hold_took side u l k p t c (hold.On v q d) e way tie =
+leave-line_took_up side u l k p t c (hold.On v q d) e way tie =
     let x : OnPath Up = record { path = p; signal = up.Leave t c } in
-    if-hold_took side u l k x ((t == v) && (c == d)) _ None
+    if-line_took_up side u l k x ((t == v) && (c == d)) _ None
     (λ f new s.
     let both = and_parts (t == v) (c == d) f in
     record {
@@ -322,107 +322,107 @@ leave-hold_took side u l k p t c (hold.On v q d) e way tie =
       tied = hold-turns side u l new k _ k.offered None k.answered tt tie s refl (of-phase (λ y. IsAnswerTied y l.hold.seen k.answered) l (hold.On v q d) e tie.answered) tt tt;
     })
     (ignored side u l k x way tie)
-leave-hold_took side u l k p t c hold.Free e way tie = ignored side u l k (record { path = p; signal = up.Leave t c }) way tie
-leave-hold_took side u l k p t c (hold.Offer v q) e way tie = ignored side u l k (record { path = p; signal = up.Leave t c }) way tie
-leave-hold_took side u l k p t c (hold.Away v) e way tie = ignored side u l k (record { path = p; signal = up.Leave t c }) way tie
-leave-hold_took side u l k p t c (hold.Letting v q) e way tie = ignored side u l k (record { path = p; signal = up.Leave t c }) way tie
-leave-hold_took side u l k p t c (hold.Reset r) e way tie = ignored side u l k (record { path = p; signal = up.Leave t c }) way tie
+leave-line_took_up side u l k p t c hold.Free e way tie = ignored side u l k (record { path = p; signal = up.Leave t c }) way tie
+leave-line_took_up side u l k p t c (hold.Offer v q) e way tie = ignored side u l k (record { path = p; signal = up.Leave t c }) way tie
+leave-line_took_up side u l k p t c (hold.Away v) e way tie = ignored side u l k (record { path = p; signal = up.Leave t c }) way tie
+leave-line_took_up side u l k p t c (hold.Letting v q) e way tie = ignored side u l k (record { path = p; signal = up.Leave t c }) way tie
+leave-line_took_up side u l k p t c (hold.Reset r) e way tie = ignored side u l k (record { path = p; signal = up.Leave t c }) way tie
 
 -- Back
-refused-hold_took : (side : Side) (u : UnitState) (l : Link) (k : SeenPaths) (p t c : ℕ) → k.answered < c → way_of k.ways t c ≡ Some p → Tied side u l k →
+refused-line_took_up : (side : Side) (u : UnitState) (l : Link) (k : SeenPaths) (p t c : ℕ) → k.answered < c → way_of k.ways t c ≡ Some p → Tied side u l k →
     HoldTook side u l k (record { path = p; signal = up.Back t c }) (Some (refusing l.hold p t c))
-refused-hold_took side u l k p t c above way tie new s =
+refused-line_took_up side u l k p t c above way tie new s =
     record {
       right = (way, above, refl);
       tied = hold-after side u l new k _ k.offered k.connected c tie s tie.offered tie.connected (answer-same l.hold.phase c) tie.hold_way tt (λ x a h. h);
     }
 
-granted-hold_took : (side : Side) (u : UnitState) (l : Link) (k : SeenPaths) (p t c : ℕ) (may : Bool) → k.answered < c → k.connected ≡ None → way_of k.ways t c ≡ Some p → Tied side u l k →
+granted-line_took_up : (side : Side) (u : UnitState) (l : Link) (k : SeenPaths) (p t c : ℕ) (may : Bool) → k.answered < c → k.connected ≡ None → way_of k.ways t c ≡ Some p → Tied side u l k →
     HoldTook side u l k (record { path = p; signal = up.Back t c }) (if may then Some (granting l.hold p t c) else Some (refusing l.hold p t c))
-granted-hold_took side u l k p t c true above none way tie =
+granted-line_took_up side u l k p t c true above none way tie =
     λ new s. record { right = (way, above, (refl, none)); tied = hold-turns side u l new k _ k.offered (Some (linked t p c)) c tt tie s refl refl way way }
-granted-hold_took side u l k p t c false above none way tie = refused-hold_took side u l k p t c above way tie
+granted-line_took_up side u l k p t c false above none way tie = refused-line_took_up side u l k p t c above way tie
 
 above-seen : (seen n c : ℕ) → seen ≡ n → nat_lt seen c ≡ true → n < c
 above-seen seen n c e l = let lt : seen < c = ltb-true seen c l in omega (arith, e, lt)
 
-back-hold_took : (side : Side) (u : UnitState) (l : Link) (k : SeenPaths) (p t c : ℕ) (may : Bool) (phase : HoldPhase) → l.hold.phase ≡ phase → way_of k.ways t c ≡ Some p → Tied side u l k →
+back-line_took_up : (side : Side) (u : UnitState) (l : Link) (k : SeenPaths) (p t c : ℕ) (may : Bool) (phase : HoldPhase) → l.hold.phase ≡ phase → way_of k.ways t c ≡ Some p → Tied side u l k →
     HoldTook side u l k (record { path = p; signal = up.Back t c }) (asked_back l.hold phase p t c may)
-back-hold_took side u l k p t c may (hold.On v q d) e way tie =
+back-line_took_up side u l k p t c may (hold.On v q d) e way tie =
     let x : OnPath Up = record { path = p; signal = up.Back t c } in
-    if-hold_took side u l k x ((t == v) && nat_lt l.hold.seen c) _ None
+    if-line_took_up side u l k x ((t == v) && nat_lt l.hold.seen c) _ None
     (λ f.
     let both = and_parts (t == v) (nat_lt l.hold.seen c) f in
     let above : k.answered < c = above-seen l.hold.seen k.answered c (of-phase (λ y. IsAnswerTied y l.hold.seen k.answered) l (hold.On v q d) e tie.answered) both.1 in
-    subst (λ (m : ℕ). HoldTook side u l k x (Some (refusing l.hold p m c))) (eqb-true t v both.0) (refused-hold_took side u l k p t c above way tie))
+    subst (λ (m : ℕ). HoldTook side u l k x (Some (refusing l.hold p m c))) (eqb-true t v both.0) (refused-line_took_up side u l k p t c above way tie))
     (ignored side u l k x way tie)
-back-hold_took side u l k p t c may (hold.Away v) e way tie =
+back-line_took_up side u l k p t c may (hold.Away v) e way tie =
     let x : OnPath Up = record { path = p; signal = up.Back t c } in
-    if-hold_took side u l k x ((t == v) && nat_lt l.hold.seen c) _ None
+    if-line_took_up side u l k x ((t == v) && nat_lt l.hold.seen c) _ None
     (λ f.
     let both = and_parts (t == v) (nat_lt l.hold.seen c) f in
     let above : k.answered < c = above-seen l.hold.seen k.answered c (of-phase (λ y. IsAnswerTied y l.hold.seen k.answered) l (hold.Away v) e tie.answered) both.1 in
     subst (λ (m : ℕ). HoldTook side u l k x (if may then Some (granting l.hold p m c) else Some (refusing l.hold p m c))) (eqb-true t v both.0)
-    (granted-hold_took side u l k p t c may above (of-phase (λ y. IsPhaseTied y k.connected) l (hold.Away v) e tie.connected) way tie))
+    (granted-line_took_up side u l k p t c may above (of-phase (λ y. IsPhaseTied y k.connected) l (hold.Away v) e tie.connected) way tie))
     (ignored side u l k x way tie)
-back-hold_took side u l k p t c may hold.Free e way tie = ignored side u l k (record { path = p; signal = up.Back t c }) way tie
-back-hold_took side u l k p t c may (hold.Offer v q) e way tie = ignored side u l k (record { path = p; signal = up.Back t c }) way tie
-back-hold_took side u l k p t c may (hold.Letting v q) e way tie = ignored side u l k (record { path = p; signal = up.Back t c }) way tie
-back-hold_took side u l k p t c may (hold.Reset r) e way tie = ignored side u l k (record { path = p; signal = up.Back t c }) way tie
+back-line_took_up side u l k p t c may hold.Free e way tie = ignored side u l k (record { path = p; signal = up.Back t c }) way tie
+back-line_took_up side u l k p t c may (hold.Offer v q) e way tie = ignored side u l k (record { path = p; signal = up.Back t c }) way tie
+back-line_took_up side u l k p t c may (hold.Letting v q) e way tie = ignored side u l k (record { path = p; signal = up.Back t c }) way tie
+back-line_took_up side u l k p t c may (hold.Reset r) e way tie = ignored side u l k (record { path = p; signal = up.Back t c }) way tie
 
 -- Released, Cleared, Attn
-released-hold_took : (side : Side) (u : UnitState) (l : Link) (k : SeenPaths) (p t : ℕ) (phase : HoldPhase) → l.hold.phase ≡ phase → Tied side u l k →
+released-line_took_up : (side : Side) (u : UnitState) (l : Link) (k : SeenPaths) (p t : ℕ) (phase : HoldPhase) → l.hold.phase ≡ phase → Tied side u l k →
     HoldTook side u l k (record { path = p; signal = up.Released t }) (released l.hold phase t)
-released-hold_took side u l k p t (hold.Letting v q) e tie =
+released-line_took_up side u l k p t (hold.Letting v q) e tie =
     let x : OnPath Up = record { path = p; signal = up.Released t } in
-    if-hold_took side u l k x (t == v) _ None
+    if-line_took_up side u l k x (t == v) _ None
     (λ f new s. record { right = (tt, tt, tt); tied = hold-turns side u l new k _ k.offered k.connected k.answered tt tie s (of-phase (λ y. IsPhaseTied y k.connected) l (hold.Letting v q) e tie.connected) tt tt tt })
     (ignored side u l k x tt tie)
-released-hold_took side u l k p t hold.Free e tie = ignored side u l k (record { path = p; signal = up.Released t }) tt tie
-released-hold_took side u l k p t (hold.Offer v q) e tie = ignored side u l k (record { path = p; signal = up.Released t }) tt tie
-released-hold_took side u l k p t (hold.On v q c) e tie = ignored side u l k (record { path = p; signal = up.Released t }) tt tie
-released-hold_took side u l k p t (hold.Away v) e tie = ignored side u l k (record { path = p; signal = up.Released t }) tt tie
-released-hold_took side u l k p t (hold.Reset r) e tie = ignored side u l k (record { path = p; signal = up.Released t }) tt tie
+released-line_took_up side u l k p t hold.Free e tie = ignored side u l k (record { path = p; signal = up.Released t }) tt tie
+released-line_took_up side u l k p t (hold.Offer v q) e tie = ignored side u l k (record { path = p; signal = up.Released t }) tt tie
+released-line_took_up side u l k p t (hold.On v q c) e tie = ignored side u l k (record { path = p; signal = up.Released t }) tt tie
+released-line_took_up side u l k p t (hold.Away v) e tie = ignored side u l k (record { path = p; signal = up.Released t }) tt tie
+released-line_took_up side u l k p t (hold.Reset r) e tie = ignored side u l k (record { path = p; signal = up.Released t }) tt tie
 
-cleared-hold_took : (side : Side) (u : UnitState) (l : Link) (k : SeenPaths) (p r : ℕ) (phase : HoldPhase) → Tied side u l k →
+cleared-line_took_up : (side : Side) (u : UnitState) (l : Link) (k : SeenPaths) (p r : ℕ) (phase : HoldPhase) → Tied side u l k →
     HoldTook side u l k (record { path = p; signal = up.Cleared r }) (reset_cleared l.hold phase r)
-cleared-hold_took side u l k p r (hold.Reset v) tie =
+cleared-line_took_up side u l k p r (hold.Reset v) tie =
     let x : OnPath Up = record { path = p; signal = up.Cleared r } in
-    if-hold_took side u l k x (r == v) _ None (λ f new s. record { right = (tt, tt, tt); tied = hold-turns side u l new k _ None None k.answered tt tie s refl tt tt tt }) (ignored side u l k x tt tie)
-cleared-hold_took side u l k p r hold.Free tie = ignored side u l k (record { path = p; signal = up.Cleared r }) tt tie
-cleared-hold_took side u l k p r (hold.Offer v q) tie = ignored side u l k (record { path = p; signal = up.Cleared r }) tt tie
-cleared-hold_took side u l k p r (hold.On v q c) tie = ignored side u l k (record { path = p; signal = up.Cleared r }) tt tie
-cleared-hold_took side u l k p r (hold.Away v) tie = ignored side u l k (record { path = p; signal = up.Cleared r }) tt tie
-cleared-hold_took side u l k p r (hold.Letting v q) tie = ignored side u l k (record { path = p; signal = up.Cleared r }) tt tie
+    if-line_took_up side u l k x (r == v) _ None (λ f new s. record { right = (tt, tt, tt); tied = hold-turns side u l new k _ None None k.answered tt tie s refl tt tt tt }) (ignored side u l k x tt tie)
+cleared-line_took_up side u l k p r hold.Free tie = ignored side u l k (record { path = p; signal = up.Cleared r }) tt tie
+cleared-line_took_up side u l k p r (hold.Offer v q) tie = ignored side u l k (record { path = p; signal = up.Cleared r }) tt tie
+cleared-line_took_up side u l k p r (hold.On v q c) tie = ignored side u l k (record { path = p; signal = up.Cleared r }) tt tie
+cleared-line_took_up side u l k p r (hold.Away v) tie = ignored side u l k (record { path = p; signal = up.Cleared r }) tt tie
+cleared-line_took_up side u l k p r (hold.Letting v q) tie = ignored side u l k (record { path = p; signal = up.Cleared r }) tt tie
 
-attn-hold_took : (side : Side) (u : UnitState) (l : Link) (k : SeenPaths) (x : OnPath Up) (a : ℕ) (may : Bool) (phase : HoldPhase) → IsUpTied k.ways l.hold.phase x.path x.signal →
+attn-line_took_up : (side : Side) (u : UnitState) (l : Link) (k : SeenPaths) (x : OnPath Up) (a : ℕ) (may : Bool) (phase : HoldPhase) → IsUpTied k.ways l.hold.phase x.path x.signal →
     ArrivesRight k x.path x.signal → ComesRight k x.path x.signal → taken_up x k ≡ k → Tied side u l k → HoldTook side u l k x (attended l.hold phase x.path a may)
-attn-hold_took side u l k x a true hold.Free h arrived comes same tie = λ new s.
+attn-line_took_up side u l k x a true hold.Free h arrived comes same tie = λ new s.
     record { right = (arrived, comes, refl); tied = subst (λ (y : SeenPaths). Tied side u new (sent_down (record { path = x.path; signal = down.Got a }) y)) (sym same) (hold-stays side u l new k _ tie s refl refl tt) }
-attn-hold_took side u l k x a false hold.Free h arrived comes same tie = ignored side u l k x arrived tie
-attn-hold_took side u l k x a may (hold.Offer v q) h arrived comes same tie = ignored side u l k x arrived tie
-attn-hold_took side u l k x a may (hold.On v q c) h arrived comes same tie = ignored side u l k x arrived tie
-attn-hold_took side u l k x a may (hold.Away v) h arrived comes same tie = ignored side u l k x arrived tie
-attn-hold_took side u l k x a may (hold.Letting v q) h arrived comes same tie = ignored side u l k x arrived tie
-attn-hold_took side u l k x a may (hold.Reset r) h arrived comes same tie = ignored side u l k x arrived tie
+attn-line_took_up side u l k x a false hold.Free h arrived comes same tie = ignored side u l k x arrived tie
+attn-line_took_up side u l k x a may (hold.Offer v q) h arrived comes same tie = ignored side u l k x arrived tie
+attn-line_took_up side u l k x a may (hold.On v q c) h arrived comes same tie = ignored side u l k x arrived tie
+attn-line_took_up side u l k x a may (hold.Away v) h arrived comes same tie = ignored side u l k x arrived tie
+attn-line_took_up side u l k x a may (hold.Letting v q) h arrived comes same tie = ignored side u l k x arrived tie
+attn-line_took_up side u l k x a may (hold.Reset r) h arrived comes same tie = ignored side u l k x arrived tie
 
 -- Notice
-notice-hold_took : (side : Side) (u : UnitState) (l new : Link) (k : SeenPaths) (p b : ℕ) (more : Bool) → Tied side u l k →
+notice-line_took_up : (side : Side) (u : UnitState) (l new : Link) (k : SeenPaths) (p b : ℕ) (more : Bool) → Tied side u l k →
     LinkStep l (if more then reset_again l.drawn (record l.hold { known_restarts = b }) else still l.drawn l.hold) None new →
     Heard side u new k (record { path = p; signal = up.Notice b }) (outcome_of (if more then Some (hold_quietly (record l.hold { known_restarts = b })) else None)).taken
     (if more then reset_again l.drawn (record l.hold { known_restarts = b }) else still l.drawn l.hold).sent
-notice-hold_took side u l new k p b true tie s = record { right = (tt, tt, tt); tied = hold-turns side u l new k _ None None k.answered tt tie s tt tt tt tt }
-notice-hold_took side u l new k p b false tie s = record { right = (tt, refl); tied = hold-stays side u l new k (still l.drawn l.hold) tie s refl refl tt }
+notice-line_took_up side u l new k p b true tie s = record { right = (tt, tt, tt); tied = hold-turns side u l new k _ None None k.answered tt tie s tt tt tt tt }
+notice-line_took_up side u l new k p b false tie s = record { right = (tt, refl); tied = hold-stays side u l new k (still l.drawn l.hold) tie s refl refl tt }
 
 -- Data and End leave the hold
-data-hold_took : (side : Side) (u : UnitState) (l new : Link) (k : SeenPaths) (p t c n m : ℕ) (load : Load) (may b : Bool) → (is_connected l.hold.phase p t c && may) ≡ b → way_of k.ways t c ≡ Some p → Tied side u l k →
+data-line_took_up : (side : Side) (u : UnitState) (l new : Link) (k : SeenPaths) (p t c n m : ℕ) (load : Load) (may b : Bool) → (is_connected l.hold.phase p t c && may) ≡ b → way_of k.ways t c ≡ Some p → Tied side u l k →
     LinkStep l (still l.drawn l.hold) None new → Heard side u new k (record { path = p; signal = up.Data load t c n m }) b None
-data-hold_took side u l new k p t c n m load may true e way tie s =
+data-line_took_up side u l new k p t c n m load may true e way tie s =
     record {
       right = (way, (on-connection l.hold.phase k.ways k.connected t p c (and_parts (is_connected l.hold.phase p t c) may e).0 tie.connected tie.hold_way).0, tt);
       tied = hold-stays side u l new k (still l.drawn l.hold) tie s refl refl tt;
     }
-data-hold_took side u l new k p t c n m load may false e way tie s = record { right = (way, refl); tied = hold-stays side u l new k (still l.drawn l.hold) tie s refl refl tt }
+data-line_took_up side u l new k p t c n m load may false e way tie s = record { right = (way, refl); tied = hold-stays side u l new k (still l.drawn l.hold) tie s refl refl tt }
 
 on-number : (phase : HoldPhase) (m : Option Connected) (t : ℕ) → is_on phase t ≡ true → IsPhaseTied phase m → IsNumber m t
 on-number hold.Free m t e h = absurd (cc e)
@@ -432,25 +432,25 @@ on-number (hold.Away v) m t e h = absurd (cc e)
 on-number (hold.Letting v q) m t e h = absurd (cc e)
 on-number (hold.Reset r) m t e h = absurd (cc e)
 
-end-hold_took : (side : Side) (u : UnitState) (l new : Link) (k : SeenPaths) (x : OnPath Up) (t : ℕ) (may b : Bool) → (is_on l.hold.phase t && may) ≡ b → ArrivesRight k x.path x.signal →
+end-line_took_up : (side : Side) (u : UnitState) (l new : Link) (k : SeenPaths) (x : OnPath Up) (t : ℕ) (may b : Bool) → (is_on l.hold.phase t && may) ≡ b → ArrivesRight k x.path x.signal →
     (IsNumber k.connected t → ComesRight k x.path x.signal) → taken_up x k ≡ k → Tied side u l k → LinkStep l (still l.drawn l.hold) None new → Heard side u new k x b None
-end-hold_took side u l new k x t may true e arrived comes same tie s =
+end-line_took_up side u l new k x t may true e arrived comes same tie s =
     record {
       right = (arrived, comes (on-number l.hold.phase k.connected t (and_parts (is_on l.hold.phase t) may e).0 tie.connected), tt);
       tied = subst (λ (y : SeenPaths). Tied side u new y) (sym same) (hold-stays side u l new k (still l.drawn l.hold) tie s refl refl tt);
     }
-end-hold_took side u l new k x t may false e arrived comes same tie s = record { right = (arrived, refl); tied = hold-stays side u l new k (still l.drawn l.hold) tie s refl refl tt }
+end-line_took_up side u l new k x t may false e arrived comes same tie s = record { right = (arrived, refl); tied = hold-stays side u l new k (still l.drawn l.hold) tie s refl refl tt }
 
-pub takes-hold_took : (side : Side) (u : UnitState) (l new : Link) (k : SeenPaths) (p : ℕ) (x : Up) (may : Bool) → IsUpTied k.ways l.hold.phase p x → Tied side u l k →
+pub takes-line_took_up : (side : Side) (u : UnitState) (l new : Link) (k : SeenPaths) (p : ℕ) (x : Up) (may : Bool) → IsUpTied k.ways l.hold.phase p x → Tied side u l k →
     LinkStep l (hold_taken l.drawn l.hold p x may) None new → Heard side u new k (record { path = p; signal = x }) (is_taken l.hold p x may) (hold_taken l.drawn l.hold p x may).sent
-takes-hold_took side u l new k p (up.Accept t) may h tie s = accept-hold_took side u l k p t may l.hold.phase refl h tie new s
-takes-hold_took side u l new k p (up.Busy t) may h tie s = busy-hold_took side u l k p t l.hold.phase refl tie new s
-takes-hold_took side u l new k p (up.Leave t c) may h tie s = leave-hold_took side u l k p t c l.hold.phase refl h tie new s
-takes-hold_took side u l new k p (up.Back t c) may h tie s = back-hold_took side u l k p t c may l.hold.phase refl h tie new s
-takes-hold_took side u l new k p (up.Data load t c n m) may h tie s = data-hold_took side u l new k p t c n m load may (is_connected l.hold.phase p t c && may) refl h tie s
-takes-hold_took side u l new k p (up.End t n status more) may h tie s =
-    end-hold_took side u l new k (record { path = p; signal = up.End t n status more }) t may (is_on l.hold.phase t && may) refl tt (λ y. y) refl tie s
-takes-hold_took side u l new k p (up.Released t) may h tie s = released-hold_took side u l k p t l.hold.phase refl tie new s
-takes-hold_took side u l new k p (up.Cleared r) may h tie s = cleared-hold_took side u l k p r l.hold.phase tie new s
-takes-hold_took side u l new k p (up.Notice b) may h tie s = notice-hold_took side u l new k p b (nat_lt l.hold.known_restarts b) tie s
-takes-hold_took side u l new k p (up.Attn a status) may h tie s = attn-hold_took side u l k (record { path = p; signal = up.Attn a status }) a may l.hold.phase h tt tt refl tie new s
+takes-line_took_up side u l new k p (up.Accept t) may h tie s = accept-line_took_up side u l k p t may l.hold.phase refl h tie new s
+takes-line_took_up side u l new k p (up.Busy t) may h tie s = busy-line_took_up side u l k p t l.hold.phase refl tie new s
+takes-line_took_up side u l new k p (up.Leave t c) may h tie s = leave-line_took_up side u l k p t c l.hold.phase refl h tie new s
+takes-line_took_up side u l new k p (up.Back t c) may h tie s = back-line_took_up side u l k p t c may l.hold.phase refl h tie new s
+takes-line_took_up side u l new k p (up.Data load t c n m) may h tie s = data-line_took_up side u l new k p t c n m load may (is_connected l.hold.phase p t c && may) refl h tie s
+takes-line_took_up side u l new k p (up.End t n status more) may h tie s =
+    end-line_took_up side u l new k (record { path = p; signal = up.End t n status more }) t may (is_on l.hold.phase t && may) refl tt (λ y. y) refl tie s
+takes-line_took_up side u l new k p (up.Released t) may h tie s = released-line_took_up side u l k p t l.hold.phase refl tie new s
+takes-line_took_up side u l new k p (up.Cleared r) may h tie s = cleared-line_took_up side u l k p r l.hold.phase tie new s
+takes-line_took_up side u l new k p (up.Notice b) may h tie s = notice-line_took_up side u l new k p b (nat_lt l.hold.known_restarts b) tie s
+takes-line_took_up side u l new k p (up.Attn a status) may h tie s = attn-line_took_up side u l k (record { path = p; signal = up.Attn a status }) a may l.hold.phase h tt tt refl tie new s

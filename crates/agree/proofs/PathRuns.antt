@@ -26,18 +26,18 @@ use Rattle.agree.specs.Bounds.{IsWell}
 use Rattle.agree.specs.State.{WorldState, links_of, line_of, with_line, opening_world}
 use Rattle.agree.specs.Lines.{acts}
 use Rattle.agree.specs.Results.{WorldResult, all_reset, world_result_of, world_result, state_after, world_after}
-use Rattle.agree.specs.Replies.{sent_down_reply, chosen_act, unit_took_reply, hold_took_reply, owner_reply, reply_of}
+use Rattle.agree.specs.Replies.{sent_down_reply, chosen_act, line_took_down_reply, line_took_up_reply, owner_reply, reply_of}
 use Rattle.agree.specs.Histories.{WorldEntry, entered, entries_of, Throughout}
 use Rattle.agreement_laws.specs.PathsSeen.{SeenPaths}
 use Rattle.agree.specs.ByItsPath.{cleared, seen_in, seen_after, IsRight, nothing_seen, IsByItsPath}
 use Rattle.agree.proofs.Aparting.{attends-leaves, notices-leaves, leaving-leaves, asking-leaves, report-leaves}
 use Rattle.agree.proofs.Lasting.{event-lasts}
-use Rattle.agree.proofs.Making.{OnDone, done-weaker, counted-done, Keeps, Ends, Made, MadeOf, turn-made, heard_cause, unit_took_cause, cause_of, first-reset, second-reset}
+use Rattle.agree.proofs.Making.{OnDone, done-weaker, counted-done, Keeps, Ends, Made, MadeOf, turn-made, heard_cause, line_took_down_cause, cause_of, first-reset, second-reset}
 use Rattle.agree.proofs.UnitActs.{Acts, reports-acts, leaving-acts, asking-acts, attending-acts, noticing-acts, apart-still}
 use Rattle.agree.proofs.UnitPaths.{IsStill}
 use Rattle.agree.proofs.UnitPaths as paths
 use Rattle.agree.proofs.PathHolds.{IsSendable}
-use Rattle.agree.proofs.PathSteps.{TiedIn, Right, hold-right, clear-right, cut-right, hold_took-right, other-unit, said-right, unit_took-right, restart-right}
+use Rattle.agree.proofs.PathSteps.{TiedIn, Right, hold-right, clear-right, cut-right, line_took_up-right, other-unit, said-right, line_took_down-right, restart-right}
 
 pub at-line : (w : WorldState) (s : Side) → link_of (links_of w) s ≡ (line_of w s).link
 at-line w First = refl
@@ -68,15 +68,15 @@ chosen-sendable at (hold.Away t) p single = tt
 chosen-sendable at (hold.Letting t q) p single = tt
 chosen-sendable at (hold.Reset r) p single = tt
 
-hold_took-goes : (side s : Side) (w new : WorldState) (k : SeenPaths) (may : Bool) (o : Option (OnPath Up)) → IsGood (links_of w) → LinksStep (links_of w) (heard_cause s o may) (links_of new) → TiedIn side (links_of w) k →
-    Right side (hold_took_reply s (line_of w s) o may) k (links_of new) (seen_in side (hold_took_reply s (line_of w s) o may) k)
-hold_took-goes side s w new k may None g st t = quiet-right side s w new k Nothing refl g tt st t
-hold_took-goes side s w new k may (Some x) g st t = hold_took-right side s (links_of w) (links_of new) k x may (line_of w s).link (at-line w s) st t
+line_took_up-goes : (side s : Side) (w new : WorldState) (k : SeenPaths) (may : Bool) (o : Option (OnPath Up)) → IsGood (links_of w) → LinksStep (links_of w) (heard_cause s o may) (links_of new) → TiedIn side (links_of w) k →
+    Right side (line_took_up_reply s (line_of w s) o may) k (links_of new) (seen_in side (line_took_up_reply s (line_of w s) o may) k)
+line_took_up-goes side s w new k may None g st t = quiet-right side s w new k Nothing refl g tt st t
+line_took_up-goes side s w new k may (Some x) g st t = line_took_up-right side s (links_of w) (links_of new) k x may (line_of w s).link (at-line w s) st t
 
-unit_took-goes : Rises → (side s : Side) (w new : WorldState) (k : SeenPaths) (may : Bool) (o : Option (OnPath Down)) → IsGood (links_of w) → LinksStep (links_of w) (unit_took_cause s o may) (links_of new) → TiedIn side (links_of w) k →
-    Right side (unit_took_reply s w.«unit» o may) k (links_of new) (seen_in side (unit_took_reply s w.«unit» o may) k)
-unit_took-goes rises side s w new k may None g st t = quiet-right side s w new k Nothing refl g tt st t
-unit_took-goes rises side s w new k may (Some x) g st t = unit_took-right rises side s (links_of w) (links_of new) k x may g st t
+line_took_down-goes : Rises → (side s : Side) (w new : WorldState) (k : SeenPaths) (may : Bool) (o : Option (OnPath Down)) → IsGood (links_of w) → LinksStep (links_of w) (line_took_down_cause s o may) (links_of new) → TiedIn side (links_of w) k →
+    Right side (line_took_down_reply s w.«unit» o may) k (links_of new) (seen_in side (line_took_down_reply s w.«unit» o may) k)
+line_took_down-goes rises side s w new k may None g st t = quiet-right side s w new k Nothing refl g tt st t
+line_took_down-goes rises side s w new k may (Some x) g st t = line_took_down-right rises side s (links_of w) (links_of new) k x may g st t
 
 -- of the side whose program holds the device
 owner-goes : (side : Side) (w new : WorldState) (k : SeenPaths) (act : UnitAct) (o : Own) → w.«unit».own ≡ o → ((s : Side) → is_to w.«unit» act s ≡ is_owner_side w.«unit».own s) →
@@ -99,9 +99,9 @@ event-goes rises side k w (event.Choose s p single) new g t made =
     holds-right side s w new k (chosen_act (line_of w s).link.hold.phase p single) g (chosen-sendable (line_of w s).link.hold.phase (line_of w s).link.hold.phase p single)
     (stepped w (event.Choose s p single) new made) t
 event-goes rises side k w (event.Down s index keep may) new g t made =
-    unit_took-goes rises side s w new k may (slice_get (line_of w s).link.downs index) g (stepped w (event.Down s index keep may) new made) t
+    line_took_down-goes rises side s w new k may (slice_get (line_of w s).link.downs index) g (stepped w (event.Down s index keep may) new made) t
 event-goes rises side k w (event.Up s index keep may) new g t made =
-    hold_took-goes side s w new k may (slice_get (line_of w s).link.ups index) g (stepped w (event.Up s index keep may) new made) t
+    line_took_up-goes side s w new k may (slice_get (line_of w s).link.ups index) g (stepped w (event.Up s index keep may) new made) t
 event-goes rises side k w (event.LoseDown s index) new g t made = quiet-right side s w new k Nothing refl g tt (stepped w (event.LoseDown s index) new made) t
 event-goes rises side k w (event.LoseUp s index) new g t made = quiet-right side s w new k Nothing refl g tt (stepped w (event.LoseUp s index) new made) t
 event-goes rises side k w (event.PathDown s p) new g t made = (λ h. absurd (cc h), cut-right side s (links_of w) (links_of new) k p (stepped w (event.PathDown s p) new made) t)

@@ -28,8 +28,8 @@ use Rattle.agree.specs.ByItsPath.{cleared, cut_at, seen_here, is_at, seen_in, Is
 use Rattle.agree.proofs.UnitPaths.{floor_of, IsStill, takes-takes}
 use Rattle.agree.proofs.UnitActs.{Acts, apart-still}
 use Rattle.agree.proofs.PathTies.{IsOfferOn, Tied, hold-stays, unit-after-same, unit-stays}
-use Rattle.agree.proofs.PathHolds.{Told, IsNumbered, AreNumbered, IsSendable, acts-told, cleared-tied, cut-tied, Heard, takes-hold_took}
-use Rattle.agree.proofs.PathUnits.{UnitTook, takes-unit_took, Said, acts-said}
+use Rattle.agree.proofs.PathHolds.{Told, IsNumbered, AreNumbered, IsSendable, acts-told, cleared-tied, cut-tied, Heard, takes-line_took_up}
+use Rattle.agree.proofs.PathUnits.{UnitTook, takes-line_took_down, Said, acts-said}
 
 abbrev pub TiedIn : Side → Links → SeenPaths → Type 0
 TiedIn side w k = Tied side w.«unit» (link_of w side) k
@@ -172,10 +172,10 @@ pub cut-right : (side s : Side) (old new : Links) (k : SeenPaths) (p : ℕ) → 
 cut-right side s old new k p st t = cut-by side s (same_side s side) refl old new k p st t
 
 -- a signal arrives at a hold
-hold_took-by : (side s : Side) (b : Bool) → same_side s side ≡ b → (old new : Links) (k : SeenPaths) (x : OnPath Up) (may : Bool) → LinksStep old (Hold_acts s (Takes x may)) new → TiedIn side old k →
+line_took_up-by : (side s : Side) (b : Bool) → same_side s side ≡ b → (old new : Links) (k : SeenPaths) (x : OnPath Up) (may : Bool) → LinksStep old (Hold_acts s (Takes x may)) new → TiedIn side old k →
     Right side (reply.Up s x (is_taken (link_of old s).hold x.path x.signal may) (hold_acts (link_of old s).drawn (link_of old s).hold (Takes x may)).sent) k new
     (seen_in side (reply.Up s x (is_taken (link_of old s).hold x.path x.signal may) (hold_acts (link_of old s).drawn (link_of old s).hold (Takes x may)).sent) k)
-hold_took-by side s true is old new k x may st t =
+line_took_up-by side s true is old new k x may st t =
     let at : s ≡ side = one-side s side is in
     subst (λ (j : Side). LinksStep old (Hold_acts j (Takes x may)) new →
     Right side (reply.Up j x (is_taken (link_of old j).hold x.path x.signal may) (hold_acts (link_of old j).drawn (link_of old j).hold (Takes x may)).sent) k new
@@ -183,19 +183,19 @@ hold_took-by side s true is old new k x may st t =
     (λ st.
     let r : WorldReply = reply.Up side x (is_taken (link_of old side).hold x.path x.signal may) (hold_acts (link_of old side).drawn (link_of old side).hold (Takes x may)).sent in
     let h : Heard side old.«unit» (link_of new side) k x (is_taken (link_of old side).hold x.path x.signal may) (hold_taken (link_of old side).drawn (link_of old side).hold x.path x.signal may).sent =
-    takes-hold_took side old.«unit» (link_of old side) (link_of new side) k x.path x.signal may (t.ups x st.given) t (hold-link side old new (Takes x may) st) in
+    takes-line_took_up side old.«unit» (link_of old side) (link_of new side) k x.path x.signal may (t.ups x st.given) t (hold-link side old new (Takes x may) st) in
     here side r k new (same-side side) h.right (same-unit side old new side (Takes x may) (seen_here r k) st h.tied))
     st
-hold_took-by side s false is old new k x may st t =
+line_took_up-by side s false is old new k x may st t =
     not-here side (reply.Up s x (is_taken (link_of old s).hold x.path x.signal may) (hold_acts (link_of old s).drawn (link_of old s).hold (Takes x may)).sent) k new is (other-hold side s old new (Takes x may) k is st t)
 
-pub hold_took-right : (side s : Side) (old new : Links) (k : SeenPaths) (x : OnPath Up) (may : Bool) (l : Link) → link_of old s ≡ l → LinksStep old (Hold_acts s (Takes x may)) new → TiedIn side old k →
+pub line_took_up-right : (side s : Side) (old new : Links) (k : SeenPaths) (x : OnPath Up) (may : Bool) (l : Link) → link_of old s ≡ l → LinksStep old (Hold_acts s (Takes x may)) new → TiedIn side old k →
     Right side (reply.Up s x (is_taken l.hold x.path x.signal may) (hold_acts l.drawn l.hold (Takes x may)).sent) k new
     (seen_in side (reply.Up s x (is_taken l.hold x.path x.signal may) (hold_acts l.drawn l.hold (Takes x may)).sent) k)
-hold_took-right side s old new k x may l e st t =
+line_took_up-right side s old new k x may l e st t =
     subst (λ (y : Link). Right side (reply.Up s x (is_taken y.hold x.path x.signal may) (hold_acts y.drawn y.hold (Takes x may)).sent) k new
     (seen_in side (reply.Up s x (is_taken y.hold x.path x.signal may) (hold_acts y.drawn y.hold (Takes x may)).sent) k)) e
-    (hold_took-by side s (same_side s side) refl old new k x may st t)
+    (line_took_up-by side s (same_side s side) refl old new k x may st t)
 
 -- the unit acts, and sends to this side, or not
 unit-link : (side : Side) (old new : Links) (act : UnitAct) (b : Bool) → is_to old.«unit» act side ≡ b → LinksStep old (Unit_acts act) new →
@@ -238,27 +238,27 @@ pub said-right : (side s : Side) (old new : Links) (k : SeenPaths) (act : UnitAc
 said-right side s old new k act to acts apart st t = said-by side s (same_side s side) refl old new k act to acts apart st t
 
 -- a signal arrives at the unit
-unit_took-by : Rises → (side s : Side) (b : Bool) → same_side s side ≡ b → (old new : Links) (k : SeenPaths) (x : OnPath Down) (may : Bool) → IsGood old → LinksStep old (Unit_acts (Takes_down s x may)) new → TiedIn side old k →
+line_took_down-by : Rises → (side s : Side) (b : Bool) → same_side s side ≡ b → (old new : Links) (k : SeenPaths) (x : OnPath Down) (may : Bool) → IsGood old → LinksStep old (Unit_acts (Takes_down s x may)) new → TiedIn side old k →
     Right side (arrived_reply s x (outcome_of (unit_steps old.«unit» (Takes_down s x may)))) k new (seen_in side (arrived_reply s x (outcome_of (unit_steps old.«unit» (Takes_down s x may)))) k)
-unit_took-by rises side s true is old new k x may g st t =
+line_took_down-by rises side s true is old new k x may g st t =
     subst (λ (j : Side). LinksStep old (Unit_acts (Takes_down j x may)) new →
     Right side (arrived_reply j x (outcome_of (unit_steps old.«unit» (Takes_down j x may)))) k new (seen_in side (arrived_reply j x (outcome_of (unit_steps old.«unit» (Takes_down j x may)))) k)) (sym (one-side s side is))
     (λ st.
     let act : UnitAct = Takes_down side x may in
     let r : WorldReply = arrived_reply side x (outcome_of (unit_steps old.«unit» act)) in
     let h : UnitTook side (unit_after old.«unit» (unit_steps old.«unit» act)) (link_of new side) k x (outcome_of (unit_steps old.«unit» act)).taken (outcome_of (unit_steps old.«unit» act)).sent =
-    takes-unit_took side old.«unit» (link_of old side) k x.path x.signal (unit_steps old.«unit» act) (t.downs x st.given) (offer-on old side x g st.given) t
+    takes-line_took_down side old.«unit» (link_of old side) k x.path x.signal (unit_steps old.«unit» act) (t.downs x st.given) (offer-on old side x g st.given) t
     (takes-takes side old.«unit» x.path x.signal may (reset-above rises old side x.path x.signal g st.given)) (link_of new side)
     (unit-link side old new act true (same-side side) st) in
     here side r k new (same-side side) h.right (now-tied side old new act (seen_here r k) st h.tied))
     st
-unit_took-by rises side s false is old new k x may g st t =
+line_took_down-by rises side s false is old new k x may g st t =
     not-here side (arrived_reply s x (outcome_of (unit_steps old.«unit» (Takes_down s x may)))) k new is
     (other-unit side old new (Takes_down s x may) k is (apart-still old.«unit» _ s side is (leaves-unit_takes s old.«unit» x.path x.signal may)) st t)
 
-pub unit_took-right : Rises → (side s : Side) (old new : Links) (k : SeenPaths) (x : OnPath Down) (may : Bool) → IsGood old → LinksStep old (Unit_acts (Takes_down s x may)) new → TiedIn side old k →
+pub line_took_down-right : Rises → (side s : Side) (old new : Links) (k : SeenPaths) (x : OnPath Down) (may : Bool) → IsGood old → LinksStep old (Unit_acts (Takes_down s x may)) new → TiedIn side old k →
     Right side (arrived_reply s x (outcome_of (unit_steps old.«unit» (Takes_down s x may)))) k new (seen_in side (arrived_reply s x (outcome_of (unit_steps old.«unit» (Takes_down s x may)))) k)
-unit_took-right rises side s old new k x may g st t = unit_took-by rises side s (same_side s side) refl old new k x may g st t
+line_took_down-right rises side s old new k x may g st t = line_took_down-by rises side s (same_side s side) refl old new k x may g st t
 
 -- a restart
 restart-floor : (u : UnitState) (side : Side) → floor_of u side ≤ floor_of (restarted u) side

@@ -44,42 +44,42 @@ abbrev MetBy : Side → UnitState → Link → SeenPaths → OnPath Down → Opt
 MetBy side u l k x step = (new : Link) → LinkStep l (still l.drawn l.hold) (sent_by step) new → UnitTook side (unit_after u step) new k x (outcome_of step).taken (outcome_of step).sent
 
 -- it tells by the signal alone what is seen
-tells-unit_took : (side : Side) (u v : UnitState) (l : Link) (k : SeenPaths) (p : ℕ) (d : Down) (x : Up) → IsQuiet x → IsStill u v side → Tied side u l k →
+tells-line_took_down : (side : Side) (u v : UnitState) (l : Link) (k : SeenPaths) (p : ℕ) (d : Down) (x : Up) → IsQuiet x → IsStill u v side → Tied side u l k →
     MetBy side u l k (record { path = p; signal = d }) (sends v p x)
-tells-unit_took side u v l k p d (up.Busy t) q is tie new s = record { right = refl; tied = unit-stays side u v l new k _ tie s is tt }
-tells-unit_took side u v l k p d (up.Notice b) q is tie new s = record { right = refl; tied = unit-stays side u v l new k _ tie s is tt }
-tells-unit_took side u v l k p d (up.Attn a status) q is tie new s = record { right = refl; tied = unit-stays side u v l new k _ tie s is tt }
-tells-unit_took side u v l k p d (up.Accept t) q is tie new s = absurd q
-tells-unit_took side u v l k p d (up.Leave t c) q is tie new s = absurd q
-tells-unit_took side u v l k p d (up.Back t c) q is tie new s = absurd q
-tells-unit_took side u v l k p d (up.Data load t c n m) q is tie new s = absurd q
-tells-unit_took side u v l k p d (up.End t n status more) q is tie new s = absurd q
-tells-unit_took side u v l k p d (up.Released t) q is tie new s = absurd q
-tells-unit_took side u v l k p d (up.Cleared r) q is tie new s = absurd q
+tells-line_took_down side u v l k p d (up.Busy t) q is tie new s = record { right = refl; tied = unit-stays side u v l new k _ tie s is tt }
+tells-line_took_down side u v l k p d (up.Notice b) q is tie new s = record { right = refl; tied = unit-stays side u v l new k _ tie s is tt }
+tells-line_took_down side u v l k p d (up.Attn a status) q is tie new s = record { right = refl; tied = unit-stays side u v l new k _ tie s is tt }
+tells-line_took_down side u v l k p d (up.Accept t) q is tie new s = absurd q
+tells-line_took_down side u v l k p d (up.Leave t c) q is tie new s = absurd q
+tells-line_took_down side u v l k p d (up.Back t c) q is tie new s = absurd q
+tells-line_took_down side u v l k p d (up.Data load t c n m) q is tie new s = absurd q
+tells-line_took_down side u v l k p d (up.End t n status more) q is tie new s = absurd q
+tells-line_took_down side u v l k p d (up.Released t) q is tie new s = absurd q
+tells-line_took_down side u v l k p d (up.Cleared r) q is tie new s = absurd q
 
 none-held : (ks : List Connected) (f : ℕ) (h : Option Held) → h ≡ None → IsHeldWay ks h × IsLast ks h × IsMine f h
 none-held ks f h e = subst (λ (x : Option Held). IsHeldWay ks x × IsLast ks x × IsMine f x) (sym e) (tt, tt, tt)
 
-frees-unit_took : (side : Side) (u v : UnitState) (l : Link) (k : SeenPaths) (p : ℕ) (d : Down) (x : Up) → IsFreeing x → holds v side ≡ None → floor_of u side ≤ floor_of v side → Tied side u l k →
+frees-line_took_down : (side : Side) (u v : UnitState) (l : Link) (k : SeenPaths) (p : ℕ) (d : Down) (x : Up) → IsFreeing x → holds v side ≡ None → floor_of u side ≤ floor_of v side → Tied side u l k →
     MetBy side u l k (record { path = p; signal = d }) (sends v p x)
-frees-unit_took side u v l k p d (up.Released t) q none le tie new s =
+frees-line_took_down side u v l k p d (up.Released t) q none le tie new s =
     let gone = none-held k.ways (floor_of v side) (holds v side) none in
     record { right = refl; tied = unit-after-same side u v l new k None _ tie s le (ap moving_of (sym none)) gone.0 gone.1 gone.2 tt }
-frees-unit_took side u v l k p d (up.Cleared r) q none le tie new s =
+frees-line_took_down side u v l k p d (up.Cleared r) q none le tie new s =
     let gone = none-held k.ways (floor_of v side) (holds v side) none in
     record { right = refl; tied = unit-after-same side u v l new k None _ tie s le (ap moving_of (sym none)) gone.0 gone.1 gone.2 tt }
-frees-unit_took side u v l k p d (up.Busy t) q none le tie new s = absurd q
-frees-unit_took side u v l k p d (up.Notice b) q none le tie new s = absurd q
-frees-unit_took side u v l k p d (up.Attn a status) q none le tie new s = absurd q
-frees-unit_took side u v l k p d (up.Accept t) q none le tie new s = absurd q
-frees-unit_took side u v l k p d (up.Leave t c) q none le tie new s = absurd q
-frees-unit_took side u v l k p d (up.Back t c) q none le tie new s = absurd q
-frees-unit_took side u v l k p d (up.Data load t c n m) q none le tie new s = absurd q
-frees-unit_took side u v l k p d (up.End t n status more) q none le tie new s = absurd q
+frees-line_took_down side u v l k p d (up.Busy t) q none le tie new s = absurd q
+frees-line_took_down side u v l k p d (up.Notice b) q none le tie new s = absurd q
+frees-line_took_down side u v l k p d (up.Attn a status) q none le tie new s = absurd q
+frees-line_took_down side u v l k p d (up.Accept t) q none le tie new s = absurd q
+frees-line_took_down side u v l k p d (up.Leave t c) q none le tie new s = absurd q
+frees-line_took_down side u v l k p d (up.Back t c) q none le tie new s = absurd q
+frees-line_took_down side u v l k p d (up.Data load t c n m) q none le tie new s = absurd q
+frees-line_took_down side u v l k p d (up.End t n status more) q none le tie new s = absurd q
 
-changes-unit_took : (side : Side) (u v : UnitState) (l : Link) (k : SeenPaths) (p : ℕ) (d : Down) → IsPlainDown d → (m : Option Connected) → m ≡ k.moving → ((new : Link) → LinkStep l (still l.drawn l.hold) None new → Tied side v new (record k { moving = m })) →
+changes-line_took_down : (side : Side) (u v : UnitState) (l : Link) (k : SeenPaths) (p : ℕ) (d : Down) → IsPlainDown d → (m : Option Connected) → m ≡ k.moving → ((new : Link) → LinkStep l (still l.drawn l.hold) None new → Tied side v new (record k { moving = m })) →
     (new : Link) → LinkStep l (still l.drawn l.hold) None new → Tied side v new (record k { moving = m }) → UnitTook side v new k (record { path = p; signal = d }) true None
-changes-unit_took side u v l k p d plain m e f new s h =
+changes-line_took_down side u v l k p d plain m e f new s h =
     let kept = plain-taken k.moving p d plain in
     record { right = kept.0; tied = subst (λ (y : Option Connected). Tied side v new (record k { moving = y })) (e ∙ sym kept.1) h }
 
@@ -111,21 +111,21 @@ some-path p q e = cc e
 same-way : (ks : List Connected) (t p q c : ℕ) → way_of ks t c ≡ Some p → way_of ks t c ≡ Some q → p ≡ q
 same-way ks t p q c a b = some-path p q (sym a ∙ b)
 
-pub takes-unit_took : (side : Side) (u : UnitState) (l : Link) (k : SeenPaths) (p : ℕ) (d : Down) (step : Option UnitStep) → IsDownTied k.ways p d → ((t : ℕ) → d ≡ down.Select t → floor_of u side < t → IsOfferOn l.hold.phase t p) →
+pub takes-line_took_down : (side : Side) (u : UnitState) (l : Link) (k : SeenPaths) (p : ℕ) (d : Down) (step : Option UnitStep) → IsDownTied k.ways p d → ((t : ℕ) → d ≡ down.Select t → floor_of u side < t → IsOfferOn l.hold.phase t p) →
     Tied side u l k → Takes side u p d step → MetBy side u l k (record { path = p; signal = d }) step
-takes-unit_took side u l k p _ _ way offer tie (Ignores d) new s = record { right = refl; tied = unit-stays side u u l new k None tie s (record { held = refl; floor = omega arith }) tt }
-takes-unit_took side u l k p _ _ way offer tie (Tells d v x q is) new s = tells-unit_took side u v l k p d x q is tie new s
-takes-unit_took side u l k p _ _ way offer tie (Changes d v plain is) new s =
-    changes-unit_took side u v l k p d plain k.moving refl (λ n m. unit-stays side u v l n k None tie m is tt) new s (unit-stays side u v l new k None tie s is tt)
-takes-unit_took side u l k p _ _ way offer tie (Gives t c n m q bytes v on is) new s =
+takes-line_took_down side u l k p _ _ way offer tie (Ignores d) new s = record { right = refl; tied = unit-stays side u u l new k None tie s (record { held = refl; floor = omega arith }) tt }
+takes-line_took_down side u l k p _ _ way offer tie (Tells d v x q is) new s = tells-line_took_down side u v l k p d x q is tie new s
+takes-line_took_down side u l k p _ _ way offer tie (Changes d v plain is) new s =
+    changes-line_took_down side u v l k p d plain k.moving refl (λ n m. unit-stays side u v l n k None tie m is tt) new s (unit-stays side u v l new k None tie s is tt)
+takes-line_took_down side u l k p _ _ way offer tie (Gives t c n m q bytes v on is) new s =
     let old = old-way side u l k (held t (connection.On q c)) tie on in
     let same : p ≡ q = same-way k.ways t p q c way old.0 in
     record {
       right = old-moving side u l k (held t (connection.On q c)) tie on ∙ ap (λ (x : ℕ). Some (linked t x c)) (sym same);
       tied = unit-stays side u v l new k None tie s is tt;
     }
-takes-unit_took side u l k p _ _ way offer tie (Frees d v x q none le) new s = frees-unit_took side u v l k p d x q none le tie new s
-takes-unit_took side u l k p _ _ way offer tie (Accepts t v above floor on) new s =
+takes-line_took_down side u l k p _ _ way offer tie (Frees d v x q none le) new s = frees-line_took_down side u v l k p d x q none le tie new s
+takes-line_took_down side u l k p _ _ way offer tie (Accepts t v above floor on) new s =
     let one : Connected = linked t p 0 in
     let none : way_of k.ways t 0 ≡ None = none-above (floor_of u side) t 0 above k.ways tie.below in
     let old : Each (λ x. x.number ≡ t → x.connection ≤ 0) k.ways =
@@ -137,7 +137,7 @@ takes-unit_took side u l k p _ _ way offer tie (Accepts t v above floor on) new 
           unit-after-more side u v l new k one (Some one) _ tie s none (omega (arith, floor, above)) (omega (arith, floor)) (ap moving_of (sym on)) at.0 at.1 at.2
           (way-new t p 0 k.ways, offer t refl above);
     }
-takes-unit_took side u l k p _ _ way offer tie (Joins t c q v asks on le) new s =
+takes-line_took_down side u l k p _ _ way offer tie (Joins t c q v asks on le) new s =
     let old = old-way side u l k (held t (connection.Ask q c)) tie asks in
     let same : p ≡ q = same-way k.ways t p q c way old.0 in
     let at = held-way k.ways (floor_of v side) (holds v side) (held t (connection.On q c)) on old.0 old.1 (mine-now side u v t (floor_of u side) (floor_of v side) le old.2) in
@@ -145,14 +145,14 @@ takes-unit_took side u l k p _ _ way offer tie (Joins t c q v asks on le) new s 
       right = tt;
       tied = unit-after-same side u v l new k (Some (linked t p c)) None tie s le (ap (λ (x : ℕ). Some (linked t x c)) same ∙ ap moving_of (sym on)) at.0 at.1 at.2 tt;
     }
-takes-unit_took side u l k p _ _ way offer tie (Parts d t c q v plain asks away le) new s =
+takes-line_took_down side u l k p _ _ way offer tie (Parts d t c q v plain asks away le) new s =
     let old = old-way side u l k (held t (connection.Ask q c)) tie asks in
     let at = held-way k.ways (floor_of v side) (holds v side) (held t (connection.Away c)) away tt old.1 (mine-now side u v t (floor_of u side) (floor_of v side) le old.2) in
     let gone : k.moving ≡ None = old-moving side u l k (held t (connection.Ask q c)) tie asks in
     let next : (n : Link) → LinkStep l (still l.drawn l.hold) None n → Tied side v n (record k { moving = k.moving }) =
     λ n m. unit-after-same side u v l n k k.moving None tie m le (gone ∙ ap moving_of (sym away)) at.0 at.1 at.2 tt in
-    changes-unit_took side u v l k p d plain k.moving refl next new s (next new s)
-takes-unit_took side u l k p _ _ way offer tie (Answers t c) new s =
+    changes-line_took_down side u v l k p d plain k.moving refl next new s (next new s)
+takes-line_took_down side u l k p _ _ way offer tie (Answers t c) new s =
     record { right = refl; tied = unit-stays side u u l new k _ tie s (record { held = refl; floor = omega arith }) way }
 
 -- the unit sent a signal of itself, or for its device

@@ -19,7 +19,7 @@ use Rattle.agree.specs.declared.event.WorldEvent.{WorldEvent}
 use Rattle.agree.specs.declared.event.WorldEvent.TheVariants as event
 use Rattle.agreement_laws.specs.Sending.{may_send}
 use Rattle.agree.specs.State.{LineState, WorldState, line_of, is_up}
-use Rattle.agree.specs.Lines.{GivesResult, LineResult, UnitLine, acts_for, stepping, line_chosen, line_let_go, line_sends, acts, hold_took, hold_takes, unit_took, unit_takes, loses_down, loses_up, cut, goes_down, comes_up, is_cut, with_downs, with_ups, line_with_path}
+use Rattle.agree.specs.Lines.{GivesResult, LineResult, UnitLine, acts_for, stepping, line_chosen, line_let_go, line_sends, acts, line_took_up, line_takes_up, line_took_down, line_takes_down, loses_down, loses_up, cut, goes_down, comes_up, is_cut, with_downs, with_ups, line_with_path}
 use Rattle.agree.specs.Results.{WorldResult, at_side, at_world_unit, at_owner, both_of, on_path, path_named, world_result_of, counted, max_steps, world_result}
 use Rattle.agree.specs.Rooms.{LineRoom, WorldRoom, LineLoses, Loses, TakesRoom, IsFullDown, IsFullUp, IsOwnerFull, IsFullFor, IsWorldSpent, line_room_of}
 
@@ -62,13 +62,13 @@ let_go_sound l (hold.On t q c) = tt
 let_go_sound l (hold.Away t) = λ f. cc f
 let_go_sound l (hold.Letting t q) = λ f. cc f
 
-hold_took_sound : (l : LineState) (x : Option (OnPath Up)) (index : ℕ) (keep may : Bool) → Sound (hold_took l x index keep may)
-hold_took_sound l None index keep may = λ f. cc f
-hold_took_sound l (Some x) index keep may = tt
+line_took_up_sound : (l : LineState) (x : Option (OnPath Up)) (index : ℕ) (keep may : Bool) → Sound (line_took_up l x index keep may)
+line_took_up_sound l None index keep may = λ f. cc f
+line_took_up_sound l (Some x) index keep may = tt
 
-unit_took_sound : (b : UnitLine) (side : Side) (x : Option (OnPath Down)) (index : ℕ) (keep may : Bool) → Sound (unit_took b side x index keep may)
-unit_took_sound b side None index keep may = λ f. cc f
-unit_took_sound b side (Some x) index keep may = tt
+line_took_down_sound : (b : UnitLine) (side : Side) (x : Option (OnPath Down)) (index : ℕ) (keep may : Bool) → Sound (line_took_down b side x index keep may)
+line_took_down_sound b side None index keep may = λ f. cc f
+line_took_down_sound b side (Some x) index keep may = tt
 
 stepping_sound : (b : UnitLine) (step : Option UnitStep) → Sound (stepping b step)
 stepping_sound b None = λ f. cc f
@@ -87,11 +87,11 @@ never w (event.Choose side p single) =
     on_one p (λ q. at_side w side (line_chosen l l.link.hold.phase q single))
     (λ q. sided w side (line_chosen l l.link.hold.phase q single) (chosen_sound l l.link.hold.phase q single))
 never w (event.Down side index keep may) =
-    united w side (unit_takes (both_of w side) side index keep may)
-    (unit_took_sound (both_of w side) side (slice_get (line_of w side).link.downs index) index keep may)
+    united w side (line_takes_down (both_of w side) side index keep may)
+    (line_took_down_sound (both_of w side) side (slice_get (line_of w side).link.downs index) index keep may)
 never w (event.Up side index keep may) =
     let l : LineState = line_of w side in
-    sided w side (hold_takes l index keep may) (hold_took_sound l (slice_get l.link.ups index) index keep may)
+    sided w side (line_takes_up l index keep may) (line_took_up_sound l (slice_get l.link.ups index) index keep may)
 never w (event.LoseDown side index) =
     let l : LineState = line_of w side in
     sided w side (loses_down l index)

@@ -66,12 +66,12 @@ abbrev pub line_sends : LineState → ℕ → Down → LineResult
 line_sends l p signal = if may_send l.link.hold.phase p signal then Ok (acts l (Sends (record { path = p; signal = signal }))) else Err NotNow
 
 -- the hold takes the signal at an index
-abbrev pub hold_took : LineState → Option (OnPath Up) → ℕ → Bool → Bool → LineResult
-hold_took l None index keep may = Err NotSent
-hold_took l (Some x) index keep may = Ok (acts (with_ups l (left_after l.link.ups index keep)) (Takes x may))
+abbrev pub line_took_up : LineState → Option (OnPath Up) → ℕ → Bool → Bool → LineResult
+line_took_up l None index keep may = Err NotSent
+line_took_up l (Some x) index keep may = Ok (acts (with_ups l (left_after l.link.ups index keep)) (Takes x may))
 
-abbrev pub hold_takes : LineState → ℕ → Bool → Bool → LineResult
-hold_takes l index keep may = hold_took l (slice_get l.link.ups index) index keep may
+abbrev pub line_takes_up : LineState → ℕ → Bool → Bool → LineResult
+line_takes_up l index keep may = line_took_up l (slice_get l.link.ups index) index keep may
 
 -- a signal vanishes
 abbrev pub loses_down : LineState → ℕ → LineResult
@@ -117,13 +117,13 @@ abbrev pub acts_for : UnitLine → UnitAct → Result UnitLine Fault
 acts_for b act = stepping b (unit_steps b.«unit» act)
 
 -- the unit takes the signal at an index
-abbrev pub unit_took : UnitLine → Side → Option (OnPath Down) → ℕ → Bool → Bool → Result UnitLine Fault
-unit_took b side None index keep may = Err NotSent
-unit_took b side (Some x) index keep may =
+abbrev pub line_took_down : UnitLine → Side → Option (OnPath Down) → ℕ → Bool → Bool → Result UnitLine Fault
+line_took_down b side None index keep may = Err NotSent
+line_took_down b side (Some x) index keep may =
     Ok (unit_stepped (record b { line = with_downs b.line (left_after b.line.link.downs index keep) }) (unit_steps b.«unit» (Takes_down side x may)))
 
-abbrev pub unit_takes : UnitLine → Side → ℕ → Bool → Bool → Result UnitLine Fault
-unit_takes b side index keep may = unit_took b side (slice_get b.line.link.downs index) index keep may
+abbrev pub line_takes_down : UnitLine → Side → ℕ → Bool → Bool → Result UnitLine Fault
+line_takes_down b side index keep may = line_took_down b side (slice_get b.line.link.downs index) index keep may
 
 -- A call does as a turn says. Where it is refused, for that or for want of memory, all is as before; for want of memory it
 -- is refused for a reason alone, as that a list is full.

@@ -49,9 +49,9 @@ hold_sends l act = (hold_acts l.link.drawn l.link.hold act).sent
 abbrev pub hold_reply : Side → LineState → HoldAct → WorldReply
 hold_reply side l act = sent_down_reply side (hold_sends l act)
 
-abbrev pub hold_took_reply : Side → LineState → Option (OnPath Up) → Bool → WorldReply
-hold_took_reply side l None may = reply.Done
-hold_took_reply side l (Some x) may = reply.Up side x (is_taken l.link.hold x.path x.signal may) (hold_sends l (Takes x may))
+abbrev pub line_took_up_reply : Side → LineState → Option (OnPath Up) → Bool → WorldReply
+line_took_up_reply side l None may = reply.Done
+line_took_up_reply side l (Some x) may = reply.Up side x (is_taken l.link.hold x.path x.signal may) (hold_sends l (Takes x may))
 
 abbrev pub unit_reply : Side → UnitState → UnitAct → WorldReply
 unit_reply side u act = sent_up_reply side (unit_table.outcome_of (unit_steps u act)).sent
@@ -59,9 +59,9 @@ unit_reply side u act = sent_up_reply side (unit_table.outcome_of (unit_steps u 
 abbrev pub arrived_reply : Side → OnPath Down → Taken Up → WorldReply
 arrived_reply side x outcome = reply.Down side x outcome.taken outcome.sent
 
-abbrev pub unit_took_reply : Side → UnitState → Option (OnPath Down) → Bool → WorldReply
-unit_took_reply side u None may = reply.Done
-unit_took_reply side u (Some x) may = arrived_reply side x (unit_table.outcome_of (unit_steps u (Takes_down side x may)))
+abbrev pub line_took_down_reply : Side → UnitState → Option (OnPath Down) → Bool → WorldReply
+line_took_down_reply side u None may = reply.Done
+line_took_down_reply side u (Some x) may = arrived_reply side x (unit_table.outcome_of (unit_steps u (Takes_down side x may)))
 
 abbrev pub owner_reply : Own → UnitState → UnitAct → WorldReply
 owner_reply own.Idle u act = reply.Done
@@ -70,8 +70,8 @@ owner_reply (own.Owned side t connection) u act = unit_reply side u act
 -- of each event
 abbrev pub reply_of : WorldState → WorldEvent → WorldReply
 reply_of w (event.Choose side p single) = hold_reply side (line_of w side) (chosen_act (line_of w side).link.hold.phase p single)
-reply_of w (event.Down side index keep may) = unit_took_reply side w.«unit» (slice_get (line_of w side).link.downs index) may
-reply_of w (event.Up side index keep may) = hold_took_reply side (line_of w side) (slice_get (line_of w side).link.ups index) may
+reply_of w (event.Down side index keep may) = line_took_down_reply side w.«unit» (slice_get (line_of w side).link.downs index) may
+reply_of w (event.Up side index keep may) = line_took_up_reply side (line_of w side) (slice_get (line_of w side).link.ups index) may
 reply_of w (event.LetGo side) = hold_reply side (line_of w side) Lets_go
 reply_of w (event.Send side p signal) = reply.SentDown side (record { path = p; signal = signal })
 reply_of w event.Leave = owner_reply w.«unit».own w.«unit» Leaves

@@ -10,7 +10,7 @@ use Rattle.agreement_laws.specs.Moving.{Is_reset, Leaves, Asks, Attends, Notices
 use Rattle.agree.specs.declared.event.WorldEvent.{WorldEvent}
 use Rattle.agree.specs.declared.event.WorldEvent.TheVariants as event
 use Rattle.agree.specs.State.{WorldState, line_of, with_line}
-use Rattle.agree.specs.Lines.{LineResult, UnitLine, unit_line, acts, acts_for, unit_takes, line_chosen, line_let_go, line_sends, hold_takes, loses_down, loses_up, goes_down, comes_up, is_cut}
+use Rattle.agree.specs.Lines.{LineResult, UnitLine, unit_line, acts, acts_for, line_takes_down, line_chosen, line_let_go, line_sends, line_takes_up, loses_down, loses_up, goes_down, comes_up, is_cut}
 
 abbrev pub WorldResult : Type 0
 WorldResult = Result WorldState Fault
@@ -47,8 +47,8 @@ all_reset w = record w { first = acts w.first Is_reset; second = acts w.second I
 -- each event, but for the count of steps
 abbrev pub world_result_of : WorldState → WorldEvent → WorldResult
 world_result_of w (event.Choose side p single) = on_path (path_named p) (λ q. at_side w side (line_chosen (line_of w side) (line_of w side).link.hold.phase q single))
-world_result_of w (event.Down side index keep may) = at_world_unit w side (unit_takes (both_of w side) side index keep may)
-world_result_of w (event.Up side index keep may) = at_side w side (hold_takes (line_of w side) index keep may)
+world_result_of w (event.Down side index keep may) = at_world_unit w side (line_takes_down (both_of w side) side index keep may)
+world_result_of w (event.Up side index keep may) = at_side w side (line_takes_up (line_of w side) index keep may)
 world_result_of w (event.LoseDown side index) = at_side w side (loses_down (line_of w side) index)
 world_result_of w (event.LoseUp side index) = at_side w side (loses_up (line_of w side) index)
 world_result_of w (event.PathDown side p) = on_path (path_named p) (λ q. at_side w side (goes_down (line_of w side) q))

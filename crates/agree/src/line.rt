@@ -220,8 +220,8 @@ impl SideLine {
         may: bool,
     ) -> Result<WorldReply, Fault>
         requires { self.old.line.link.drawn ≤ 2 ^ 62 }
-        ensures reply { IfOk result (λ r. r ≡ reply_spec.hold_took_reply side self.old.line (slice_get self.old.line.link.ups index) may) }
-        ensures gives { spec.GivesResult self.old.line (spec.hold_takes self.old.line index keep may) (room_spec.IsFullDown self.new.room) result self.new.line }
+        ensures reply { IfOk result (λ r. r ≡ reply_spec.line_took_up_reply side self.old.line (slice_get self.old.line.link.ups index) may) }
+        ensures gives { spec.GivesResult self.old.line (spec.line_takes_up self.old.line index keep may) (room_spec.IsFullDown self.new.room) result self.new.line }
         ensures room { room_spec.LineTakes result self.old.room self.new.room }
     {
         if index >= self.ups.len() {

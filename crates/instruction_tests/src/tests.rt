@@ -1,5 +1,6 @@
 //! A module for each crate that is tested.
 
+mod by_value_tests;
 mod finding_tests;
 mod functions_tests;
 mod instruction_bench;

@@ -25,7 +25,7 @@ use Rattle.subchannel_model.specs.Enable.{enabling, enabling_schib, enabling_wor
 use Rattle.subchannel_model.specs.Indices.{Found}
 use Rattle.subchannel_model.specs.Test.{tsch_code, irb_of}
 use Rattle.machine_model.specs.Results.{Outcome, SubResult, leaves, does, at_index}
-use Rattle.machine_model.specs.InstructionSteps.{code_at, modify_sub, enable_sub, test_with, with_irb, with_schib, with_enabling, stores_irb, start_at, modify_at, store_answer, PerformsStart, PerformsModify, PerformsEnable, performs_store, performs_test}
+use Rattle.machine_model.specs.InstructionSteps.{code_at, modify_sub, enable_sub, test_with, with_irb, with_schib, with_enabling, stores_irb, start_at, modify_at, store_answer, WhereFetched, PerformsStart, PerformsModify, PerformsEnable, performs_store, performs_test}
 use Rattle.io_step.specs.Executing.{state_with_storage}
 use Rattle.io_step.specs.Operands.{HasOrb, HasWord, from_storage}
 
@@ -36,6 +36,21 @@ starts s found (Err f) orb r h e = absurd (cc h)
 
 err_inj : (f g : Fault) → ◌≡◌ {A = Result Pmcw Fault} (Err f) (Err g) → f ≡ g
 err_inj f g e = cc
+
+err_orb : (f g : Fault) → ◌≡◌ {A = Result Orb Fault} (Err f) (Err g) → f ≡ g
+err_orb f g e = cc
+
+-- the operand that storage has is the one that is given
+pub given-orb : (fetched : Result (List ℕ) StorageFault) (image : List ℕ) (r : Result Orb Fault) → fetched ≡ Ok image → HasOrb (Ok image) r → HasOrb fetched r
+given-orb fetched image r has h = subst (λ (x : Result (List ℕ) StorageFault). HasOrb x r) (sym has) h
+
+pub given-word : (fetched : Result (List ℕ) StorageFault) (image : List ℕ) (r : Result Pmcw Fault) → fetched ≡ Ok image → HasWord (Ok image) r → HasWord fetched r
+given-word fetched image r has h = subst (λ (x : Result (List ℕ) StorageFault). HasWord x r) (sym has) h
+
+pub starts-not : (s : State) (found : Option Found) (fetched : Result (List ℕ) StorageFault) (f : Fault) →
+    HasOrb fetched (Err f) → PerformsStart s found fetched (Err f)
+starts-not s found (Ok image) f h = inl (h.0, ap (λ (g : Fault). Err g) h.1)
+starts-not s found (Err g) f h = ap (λ (k : Fault). Err k) (err_orb f (fault.Storage g) h)
 
 pub modifies : (s : State) (found : Option Found) (fetched : Result (List ℕ) StorageFault) (given : Pmcw) (r : Outcome) →
     HasWord fetched (Ok given) → r ≡ modify_at s found given → PerformsModify s found fetched r
@@ -54,6 +69,14 @@ ok_inj x y e = cc
 pub permitted : {A : Type 0} (r : Result A StorageFault) (x : A) → Ok x ≡ from_storage r → r ≡ Ok x
 permitted (Ok y) x e = ap (λ z. Ok z) (sym (ok_inj x y e))
 permitted (Err f) x e = absurd (cc e)
+
+err_bytes : (f g : Fault) → ◌≡◌ {A = Result (List ℕ) Fault} (Err f) (Err g) → f ≡ g
+err_bytes f g e = cc
+
+-- where storage has no operand, its fault is the refusal
+pub unfetched : (r : Result (List ℕ) StorageFault) (f : Fault) (P : List ℕ → Outcome → Type 0) → Err f ≡ from_storage r → WhereFetched r P (Err f)
+unfetched (Ok image) f P e = absurd (cc e)
+unfetched (Err g) f P e = ap (λ (k : Fault). Err k) (err_bytes f (fault.Storage g) e)
 
 -- an operand that is on its boundary and in storage has bytes
 pub fetched : (before : Contents) (cpu address count : ℕ) (u : Unit {0}) → operand_check before cpu address count 4 ≡ Ok u →
@@ -89,6 +112,13 @@ irb-stored s before after cpu number address sub code image b tested is passes w
     ap (λ (x : Contents). state_with_storage s x)
     (stored ∙ (ap (λ (k : ℕ). operand_stored before k address image) named ∙ ap (λ (xs : List ℕ). operand_stored before cpu address xs) written))
     ∙ sym (ap (λ (x : Bool). with_irb (state_with_storage s before) cpu address sub x) performs_store)
+
+pub irb-not-stored : (s : State) (storage : Contents) (cpu address : ℕ) (sub : Subchannel) (code : ConditionCode) (b : Bool) →
+    code ≡ code_at tsch_code sub → b ≡ stores_irb code → b ≡ false →
+    state_with_storage s storage ≡ with_irb (state_with_storage s storage) cpu address sub (stores_irb (code_at tsch_code sub))
+irb-not-stored s storage cpu address sub code b tested is fails =
+    let rests : stores_irb (code_at tsch_code sub) ≡ false = ap stores_irb (sym tested) ∙ (sym is ∙ fails) in
+    sym (ap (λ (x : Bool). with_irb (state_with_storage s storage) cpu address sub x) rests)
 
 pub stores-sub : (s : State) (before after : Contents) (cpu number address index : ℕ) (sub : Subchannel) (image : List ℕ) (u : Unit {0}) →
     slice_get s.subs index ≡ Some sub → Ok u ≡ from_storage (operand_check before cpu address 52 4) → number ≡ cpu →

@@ -1,3 +1,4 @@
 pub mod Operands
 pub mod Executing
+pub mod GivenOperands
 pub mod Performing

@@ -1,12 +1,15 @@
 //! An instruction on a subchannel that is not provided: its operand is tested, then the condition code is 3.
 
-ghost use Rattle.std.specs.Prelude.{◌≡◌, ℕ};
+ghost use Rattle.std.specs.Prelude.{◌≡◌, ℕ, Ok};
 ghost use Rattle.io_step.specs.Executing as spec;
+ghost use Rattle.io_step.specs.GivenOperands as given_spec;
+ghost use Rattle.storage_keys.specs.Storage.{Contents, operand_at};
 ghost use Rattle.chan_events.specs.Replies.{plain_outcome};
 ghost use Rattle.chan_events.specs.declared.event.Instruction.TheVariants as instruction_spec;
 
+use crate::by_value::ByValue;
 use crate::operands::{
-    ENABLE_BLOCK, ENABLE_WORD, WORD, check_operand, operand, orb_at, word_at, word_in,
+    ENABLE_BLOCK, ENABLE_WORD, WORD, allowed_orb, allowed_word, check_operand, operand, word_in,
 };
 use chan_events::event::Instruction;
 use chan_events::reply::{PlainReply, Reply};
@@ -14,18 +17,48 @@ use chan_model::answer::Answer;
 use chan_model::fault::Fault;
 use chan_model::names::Cpu;
 use functions::blocks::enabling_word;
+use orb_block::ORB_BYTES;
 use schib_block::SCHIB_BYTES;
 use schib_block::words::PmcwWords;
 use scsw_irb::irb::IRB_BYTES;
 use storage_keys::MainStorage;
 use zbits::be_bytes;
 
+fn start_by_value(orb: &[u8; ORB_BYTES]) -> Result<PlainReply, Fault>
+    ensures { (storage : Contents) (cpu word address : ℕ) → operand_at storage cpu address 12 4 ≡ Ok orb.now →
+        spec.Executed_absent storage cpu (instruction_spec.Ssch word address) (plain_outcome result) storage }
+{
+    allowed_orb(orb)?;
+    Ok(Reply::Code(Answer::Three))
+}
+
+fn modify_by_value(schib: &[u8; SCHIB_BYTES]) -> Result<PlainReply, Fault>
+    ensures { (storage : Contents) (cpu word address : ℕ) → operand_at storage cpu address 52 4 ≡ Ok schib.now →
+        spec.Executed_absent storage cpu (instruction_spec.Msch word address) (plain_outcome result) storage }
+{
+    allowed_word(schib)?;
+    Ok(Reply::Code(Answer::Three))
+}
+
+/// Executes an instruction with its operand by value on a subchannel that is not provided: nothing is left to be stored.
+/// Operand where the contents of the operand are not allowed.
+pub fn absent_by_value(instruction: &ByValue) -> Result<PlainReply, Fault>
+    ensures { (storage : Contents) (cpu word address : ℕ) → given_spec.HasOperand instruction.now storage cpu address →
+        spec.Executed_absent storage cpu (given_spec.instruction_at instruction.now word address) (plain_outcome result) storage }
+{
+    match instruction {
+        ByValue::Ssch { orb } => start_by_value(orb),
+        ByValue::Msch { schib } => modify_by_value(schib),
+        ByValue::Stsch | ByValue::Tsch => Ok(Reply::Code(Answer::Three)),
+    }
+}
+
 fn start<M: MainStorage>(storage: &M, cpu: Cpu, address: u32) -> Result<PlainReply, Fault>
     ensures { (word : ℕ) →
         spec.Executed_absent (M.contents storage.now) cpu (instruction_spec.Ssch word address) (plain_outcome result) (M.contents storage.now) }
 {
-    orb_at(storage, cpu, address)?;
-    Ok(Reply::Code(Answer::Three))
+    let orb = operand::<M, ORB_BYTES>(storage, cpu, address)?;
+    start_by_value(&orb)
 }
 
 fn test<M: MainStorage>(storage: &M, cpu: Cpu, address: u32) -> Result<PlainReply, Fault>
@@ -48,8 +81,8 @@ fn modify<M: MainStorage>(storage: &M, cpu: Cpu, address: u32) -> Result<PlainRe
     ensures { (word : ℕ) →
         spec.Executed_absent (M.contents storage.now) cpu (instruction_spec.Msch word address) (plain_outcome result) (M.contents storage.now) }
 {
-    word_at(storage, cpu, address)?;
-    Ok(Reply::Code(Answer::Three))
+    let schib = operand::<M, SCHIB_BYTES>(storage, cpu, address)?;
+    modify_by_value(&schib)
 }
 
 /// The bits are placed in the block that stands there, where MODIFY SUBCHANNEL takes it.

@@ -55,12 +55,11 @@ pub fn operand<M: MainStorage, const BYTES: usize>(
         .map_err(Fault::Storage)
 }
 
-/// The operation-request block at a real address.
-pub fn orb_at<M: MainStorage>(storage: &M, cpu: Cpu, address: u32) -> Result<Orb, Fault>
-    ensures { HasOrb (operand_at (M.contents storage.now) cpu address 12 4) result }
+/// The operation-request block that an operand is. Operand where it is one that is not allowed.
+pub fn allowed_orb(image: &[u8; ORB_BYTES]) -> Result<Orb, Fault>
+    ensures { HasOrb (Ok image.now) result }
 {
-    let image = operand::<M, ORB_BYTES>(storage, cpu, address)?;
-    Orb::read(&image).map_err(|_| Fault::Operand)
+    Orb::read(image).map_err(|_| Fault::Operand)
 }
 
 /// The words of the path-management-control word that a subchannel-information block has, whatever their reserved bits:
@@ -73,15 +72,14 @@ pub fn word_in(image: &[u8; SCHIB_BYTES]) -> [u32; 7]
     [parameter, controls, masks, block, front, back, last]
 }
 
-/// The words of the path-management-control word of the subchannel-information block at a real address, where MODIFY
-/// SUBCHANNEL takes it.
-pub fn word_at<M: MainStorage>(storage: &M, cpu: Cpu, address: u32) -> Result<[u32; 7], Fault>
-    ensures word { IfOk result (λ given. HasWord (operand_at (M.contents storage.now) cpu address 52 4) (Ok (pmcw_of_words given))) }
-    ensures refused { IfErr result (λ f. HasWord (operand_at (M.contents storage.now) cpu address 52 4) (Err f)) }
+/// The words of the path-management-control word of a subchannel-information block, where MODIFY SUBCHANNEL takes it. Operand
+/// where it does not.
+pub fn allowed_word(image: &[u8; SCHIB_BYTES]) -> Result<[u32; 7], Fault>
+    ensures word { IfOk result (λ given. HasWord (Ok image.now) (Ok (pmcw_of_words given))) }
+    ensures refused { IfErr result (λ f. HasWord (Ok image.now) (Err f)) }
     ensures allowed { IfOk result (λ given. IsAllowedPmcw (pmcw_of_words given)) }
 {
-    let image = operand::<M, SCHIB_BYTES>(storage, cpu, address)?;
-    let given = word_in(&image);
+    let given = word_in(image);
     if PmcwWords::is_allowed(&given) {
         Ok(given)
     } else {

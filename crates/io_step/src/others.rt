@@ -171,7 +171,8 @@ fn engaged_byte(engaged: &PathTable, index: usize) -> u8
     set.mask()
 }
 
-fn engaged_bytes(engaged: &PathTable) -> [u8; PATH_STATUS_BYTES]
+/// The bytes of STORE CHANNEL PATH STATUS.
+pub fn engaged_bytes(engaged: &PathTable) -> [u8; PATH_STATUS_BYTES]
     ensures { result ≡ spec.engaged_bytes engaged.now 32 }
 {
     let mut image = [0; PATH_STATUS_BYTES];

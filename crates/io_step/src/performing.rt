@@ -21,7 +21,7 @@ use interruptions::Pending;
 use storage_keys::MainStorage;
 
 /// Whether an instruction that set this code drops the request of its subchannel.
-fn drops(instruction: Instruction, code: Option<ConditionCode>) -> bool
+pub fn drops(instruction: Instruction, code: Option<ConditionCode>) -> bool
     ensures { result ≡ requests_spec.drops instruction code }
 {
     match instruction {

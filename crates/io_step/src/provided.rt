@@ -3,23 +3,20 @@
 ghost use Rattle.std.specs.Prelude.{◌≡◌, ◌≤◌, ◌+◌, ℕ, length};
 ghost use Rattle.io_step.specs.Executing as spec;
 ghost use Rattle.chan_events.specs.Replies.{plain_outcome};
-ghost use Rattle.machine_model.specs.State.{State};
-ghost use Rattle.machine_model.specs.InstructionSteps as steps;
+ghost use Rattle.io_step.specs.GivenOperands as given_spec;
 ghost use Rattle.machine_model.specs.Bounds.{CanCount};
-ghost use Rattle.subchannel_model.specs.Test.{tsch_code};
 ghost use Rattle.chan_events.specs.declared.event.Instruction.TheVariants as instruction_spec;
 
-use crate::effects::{
-    cancel_sub, clear_sub, halt_sub, modify_sub, resume_sub, start_sub, store_reply, stores_irb,
-    test_code_of, test_sub,
-};
+use crate::by_value::{self, Block};
+use crate::effects::{cancel_sub, clear_sub, halt_sub, modify_sub, resume_sub};
 use crate::enabling::enabling;
-use crate::operands::{ENABLE_BLOCK, WORD, check_operand, orb_at, word_at};
+use crate::operands::{ENABLE_BLOCK, WORD, check_operand, operand};
 use chan_events::event::Instruction;
 use chan_events::reply::PlainReply;
 use chan_model::fault::Fault;
 use chan_model::names::Cpu;
 use functions::Subchannel;
+use orb_block::ORB_BYTES;
 use schib_block::SCHIB_BYTES;
 use schib_block::words::block_of;
 use scsw_irb::irb::IRB_BYTES;
@@ -37,21 +34,20 @@ fn start<M: MainStorage>(
         (plain_outcome result) (M.contents storage.now) sub.new }
     ensures setup { sub.new.setup ≡ sub.old.setup }
 {
-    let orb = orb_at(storage, cpu, address)?;
-    Ok(start_sub(sub, orb))
+    let orb = operand::<M, ORB_BYTES>(storage, cpu, address)?;
+    by_value::start(sub, &orb)
 }
 
-/// The interruption-response block is stored where TEST SUBCHANNEL stores one.
-fn store_irb<M: MainStorage>(storage: &mut M, sub: &Subchannel, cpu: Cpu, address: u32)
-    requires inside { address + 64 ≤ length (M.contents storage.old).bytes }
-    ensures stored { (s : State) → spec.state_with_storage s (M.contents storage.new) ≡
-        steps.with_irb (spec.state_with_storage s (M.contents storage.old)) cpu address sub.now
-        (steps.stores_irb (steps.code_at tsch_code sub.now)) }
+/// The block that an instruction leaves is stored at its operand.
+fn store_block<M: MainStorage>(storage: &mut M, cpu: Cpu, address: u32, block: &Option<Block>)
+    requires inside { address + length (given_spec.block_bytes block.now) ≤ length (M.contents storage.old).bytes }
+    ensures stored { M.contents storage.new ≡ given_spec.with_block (M.contents storage.old) cpu address block.now }
     ensures lender { M.lender storage.new ≡ M.lender storage.old }
 {
-    if stores_irb(test_code_of(sub)) {
-        let image = sub.state.irb();
-        storage.store_operand(cpu.number(), address, &image);
+    match block {
+        None => {}
+        Some(Block::Schib(schib)) => storage.store_operand(cpu.number(), address, schib),
+        Some(Block::Irb(irb)) => storage.store_operand(cpu.number(), address, irb),
     }
 }
 
@@ -68,8 +64,9 @@ fn test<M: MainStorage>(
     ensures lender { M.lender storage.new ≡ M.lender storage.old }
 {
     check_operand(storage, cpu, address, IRB_BYTES, WORD)?;
-    store_irb(storage, sub, cpu, address);
-    Ok(test_sub(sub))
+    let answered = by_value::test(sub);
+    store_block(storage, cpu, address, &answered.block);
+    Ok(answered.reply)
 }
 
 fn store<M: MainStorage>(
@@ -84,9 +81,9 @@ fn store<M: MainStorage>(
     ensures lender { M.lender storage.new ≡ M.lender storage.old }
 {
     check_operand(storage, cpu, address, SCHIB_BYTES, WORD)?;
-    let image = sub.state.schib();
-    storage.store_operand(cpu.number(), address, &image);
-    Ok(store_reply(sub))
+    let answered = by_value::store(sub);
+    store_block(storage, cpu, address, &answered.block);
+    Ok(answered.reply)
 }
 
 fn modify<M: MainStorage>(
@@ -100,8 +97,8 @@ fn modify<M: MainStorage>(
         (plain_outcome result) (M.contents storage.now) sub.new }
     ensures setup { sub.new.setup ≡ sub.old.setup }
 {
-    let given = word_at(storage, cpu, address)?;
-    Ok(modify_sub(sub, &given))
+    let schib = operand::<M, SCHIB_BYTES>(storage, cpu, address)?;
+    by_value::modify(sub, &schib)
 }
 
 fn enable<M: MainStorage>(

@@ -1,5 +1,6 @@
 mod Posted
 mod Lifting
+mod GivenSteps
 pub mod Storing
 mod Serving
 mod Sweeping

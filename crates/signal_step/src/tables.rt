@@ -2,12 +2,13 @@
 
 ghost use Rattle.std.specs.Prelude.{◌≡◌, ℕ, Bool, List};
 ghost use Rattle.channel_config.specs.Setup as setup_spec;
+ghost use Rattle.io_step.specs.GivenOperands as given_spec;
 ghost use Rattle.machine_model.specs.OtherSteps as other_spec;
 ghost use Rattle.machine_model.specs.OtherSteps.{LentWhole};
 ghost use Rattle.machine_model.specs.State as state_spec;
 
 use chan_events::event::OtherInstruction;
-use io_step::PathTable;
+use io_step::{OtherByValue, PathTable};
 use lookup::engines::Served;
 
 /// Whether the path is among these.
@@ -47,5 +48,16 @@ pub fn engaged_for(subs: &Served<'_>, instruction: OtherInstruction) -> PathTabl
     match instruction {
         OtherInstruction::Stcps { .. } => engaged(subs),
         _ => [false; 256],
+    }
+}
+
+/// The same for an instruction with its operand by value.
+pub fn engaged_by_value(subs: &Served<'_>, instruction: OtherByValue) -> PathTable
+    ensures { (lent : LentWhole) (up : List Bool) (cpu address : ℕ) → other_spec.other_result lent up result cpu (given_spec.other_at instruction address)
+        ≡ other_spec.other_result lent up (other_spec.engaged_chpids subs.now 0x100) cpu (given_spec.other_at instruction address) }
+{
+    match instruction {
+        OtherByValue::Stcps => engaged(subs),
+        OtherByValue::Tpi { .. } | OtherByValue::Stcrw => [false; 256],
     }
 }

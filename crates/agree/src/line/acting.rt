@@ -26,8 +26,8 @@ impl SideLine {
         keep: bool,
         may: bool,
     ) -> Result<WorldReply, Fault>
-        ensures reply { IfOk result (λ r. r ≡ reply_spec.unit_took_reply side unit.old (slice_get self.old.line.link.downs index) may) }
-        ensures gives { spec.GivesResult (spec.unit_line unit.old self.old.line) (spec.unit_takes (spec.unit_line unit.old self.old.line) side index keep may) (room_spec.IsFullUp self.new.room) result (spec.unit_line unit.new self.new.line) }
+        ensures reply { IfOk result (λ r. r ≡ reply_spec.line_took_down_reply side unit.old (slice_get self.old.line.link.downs index) may) }
+        ensures gives { spec.GivesResult (spec.unit_line unit.old self.old.line) (spec.line_takes_down (spec.unit_line unit.old self.old.line) side index keep may) (room_spec.IsFullUp self.new.room) result (spec.unit_line unit.new self.new.line) }
         ensures room { room_spec.LineTakes result self.old.room self.new.room }
     {
         if index >= self.downs.len() {

@@ -14,7 +14,10 @@ use channel_config::parts::{ChpidList, ConcurrentSense, SubchannelSetup};
 use channel_reports::Reports;
 use functions::{PackedState, Subchannel};
 use interruptions::Pending;
-use io_step::{ChannelPaths, perform, perform_other};
+use io_step::{
+    Answered, ByValue, ChannelPaths, OtherByValue, perform, perform_by_value, perform_other,
+    perform_other_by_value,
+};
 use scsw_irb::code::IntCode;
 use std::alloc::Global;
 use storage_keys::{MainStorage, Storage, StorageFault};
@@ -45,6 +48,11 @@ fn state(enabled: bool) -> SubchannelState {
 
 /// Subchannel 1 of set 0, enabled, with one path that is configured and engaged: hexadecimal 10. Path 11 is engaged too.
 pub(crate) fn made(alloc: Global) -> Option<Lent> {
+    made_in(alloc, state(true))
+}
+
+/// The same with a subchannel in this state.
+pub(crate) fn made_in(alloc: Global, state: SubchannelState) -> Option<Lent> {
     let storage = Storage::new(alloc, 16).ok()?;
     let pending = Pending::new(alloc, 2).ok()?;
     let wires = Wires::new(alloc).ok()?;
@@ -65,7 +73,7 @@ pub(crate) fn made(alloc: Global) -> Option<Lent> {
     Some(Lent {
         storage,
         sub: Subchannel {
-            state: PackedState::of(setup, state(true)),
+            state: PackedState::of(setup, state),
             wires,
         },
         pending,
@@ -133,15 +141,34 @@ pub(crate) fn other(bench: &mut Lent, instruction: OtherInstruction) -> Result<u
     code_in(&answer)
 }
 
+/// What an instruction with its operand by value answers, where the subchannel is provided.
+pub(crate) fn given(bench: &mut Lent, instruction: ByValue) -> Result<Answered, Fault> {
+    if !is_roomy(&bench.sub) {
+        return Err(Fault::NoMemory);
+    }
+    perform_by_value(&mut bench.sub, &mut bench.pending, &instruction)
+}
+
+/// The same for an instruction that names no subchannel.
+pub(crate) fn given_other(bench: &mut Lent, instruction: OtherByValue) -> PlainReply {
+    perform_other_by_value(
+        &mut bench.pending,
+        &mut bench.reports,
+        &bench.paths.engaged,
+        instruction,
+    )
+}
+
 /// The condition code of what was answered, or the refusal.
-fn code_in(answer: &Result<PlainReply, Fault>) -> Result<u8, Fault> {
+pub(crate) fn code_in(answer: &Result<PlainReply, Fault>) -> Result<u8, Fault> {
     match answer {
         Ok(reply) => Ok(code_of(reply)),
         Err(fault) => Err(*fault),
     }
 }
 
-fn code_of(reply: &PlainReply) -> u8 {
+/// The condition code of a reply.
+pub(crate) fn code_of(reply: &PlainReply) -> u8 {
     match reply.code() {
         Some(ConditionCode::Zero) => 0,
         Some(ConditionCode::One) => 1,

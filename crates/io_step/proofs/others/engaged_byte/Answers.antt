@@ -1,4 +1,4 @@
-use Rattle.std.proofs.Common.{◌≡◌, ◌∙◌, sym, ap, ap₂, ◌+◌, ◌*◌, ℕ, Bool, List, false}
+use Rattle.std.proofs.Common.{◌∙◌, sym, ap, ap₂, ◌+◌, ◌*◌, ℕ, Bool, List, false}
 use Rattle.std.specs.Prelude.{slice_index_or, slice_set}
 use Rattle.chan_model.specs.PathSets.{mask_of_paths, members}
 use Rattle.chan_model.proofs.PathFilling.{all-set, set_each}
