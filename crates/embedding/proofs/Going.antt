@@ -1,5 +1,7 @@
 -- Events that follow one another.
-use Rattle.std.proofs.Common.{◌≡◌, refl, sym, ◌∙◌, ap, subst, ℕ, ◌+◌, ◌<◌, Ok, Err, List, [], ◌∷◌, ◌++◌, length-append, arith}
+use Rattle.std.proofs.Common.{◌≡◌, refl, ◌∙◌, ap, subst, ℕ, ◌+◌, ◌<◌, Result, Ok, Err, List, [], ◌∷◌, ◌++◌, length-append, arith}
+use Rattle.std.specs.Bool.{OnTrue}
+use Rattle.std.specs.Result.{is_ok}
 use Rattle.chan_events.specs.Events.{Event}
 use Rattle.chan_events.specs.declared.event.Event.TheVariants as event
 use Rattle.chan_events.specs.declared.reply.Entry.{Entry}
@@ -8,7 +10,9 @@ use Rattle.chan_events.specs.declared.reply.Reply.TheVariants as reply
 use Rattle.channel_subsystem.specs.declared.host_fault.HostFault.{HostFault}
 use Rattle.channel_subsystem.specs.Hosting.{Hosted}
 use Rattle.storage_keys.specs.Storage.{Contents}
+use Rattle.event_log.specs.Logs.{last_reply}
 use Rattle.machine_model.specs.State.{State, lent}
+use Rattle.subsystem.specs.Keeping.{answer_of}
 use Rattle.embedding.specs.declared.host.Turn.{Turn}
 use Rattle.embedding.specs.declared.host.Turn.TheVariants.{Moved, Quiet, Refused}
 use Rattle.embedding.specs.Hosts.{Moment, Enters, IsAsBefore, Leads, GoesOn, Turned, state_at}
@@ -44,6 +48,10 @@ goes_once a b e r h = record {
   counted = h.count;
   blocks = h.blocks;
 }
+
+pub entered : (a b : Moment) (e : Event) (r : Result (Unit {0}) HostFault) (h : List Entry) → Enters a e (answer_of r h) b → OnTrue (is_ok r) (GoesOn 1 a b)
+entered a b e (Ok u) h k = goes_once a b e (last_reply h) k
+entered a b e (Err f) h k = tt
 
 pub turned_idle : (word : ℕ) (a b : Moment) → Enters a (event.Choose word) (Ok reply.Idle) b → Turned word 1 Quiet a b
 turned_idle word a b h = (1, omega arith, goes_once a b (event.Choose word) reply.Idle h, h.last)

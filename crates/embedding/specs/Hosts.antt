@@ -1,5 +1,5 @@
 -- What a host has beside its guest's storage, what its calls do to both, and what a refusal means to a CPU.
-use Rattle.std.specs.Prelude.{◌≡◌, ◌≤◌, ◌+◌, ℕ, List, [], ◌∷◌, length, Option, None, Some, Result, Ok, Err}
+use Rattle.std.specs.Prelude.{◌≡◌, ◌≤◌, ◌+◌, ℕ, List, [], ◌∷◌, length, Option, None, Some, Result}
 use Rattle.storage_keys.specs.Storage.{Contents}
 use Rattle.storage_keys.specs.declared.StorageFault.TheVariants.{Addressing, Protection, Specification}
 use Rattle.chan_model.specs.declared.fault.Fault.TheVariants.{Storage, Operand}
