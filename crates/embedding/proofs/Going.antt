@@ -54,7 +54,7 @@ entered a b e (Ok u) h k = goes_once a b e (last_reply h) k
 entered a b e (Err f) h k = tt
 
 pub turned_idle : (word : ℕ) (a b : Moment) → Enters a (event.Choose word) (Ok reply.Idle) b → Turned word 1 Quiet a b
-turned_idle word a b h = (1, omega arith, goes_once a b (event.Choose word) reply.Idle h, h.last)
+turned_idle word a b h = (1, omega arith, goes_once a b (event.Choose word) reply.Idle h, ([], h.last))
 
 pub turned_refused : (word : ℕ) (a b : Moment) (e : Event) (f : HostFault) → Enters a e (Err f) b → Turned word 1 (Refused f) a b
 turned_refused word a b e f h = (0, omega arith, goes_nowhere a b (as_before a b e f h))

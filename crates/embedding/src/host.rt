@@ -183,9 +183,7 @@ impl Host {
     {
         match fault {
             HostFault::Refused(fault) => keep_refused(&mut self.waiting, event, fault),
-            HostFault::OtherSize | HostFault::NumbersUsedUp => {
-                self.waiting = WaitingReport::of_event(event);
-            }
+            _ => self.waiting = WaitingReport::of_event(event),
         }
     }
 

@@ -7,7 +7,7 @@ pub returns-in-Ok-Idle-clause-turned : goal.returns-in-Ok-Idle-clause-turned
 returns-in-Ok-Idle-clause-turned g c =
     let held = g.M.MainStorage.contents in
     turned_idle 0x10000 (moment c.args.self.now.subsystem (held c.args.storage.now)) (moment c.perform.new.self.subsystem (held c.perform.new.storage))
-        (rw c.in-Ok-Idle.field-0-is at c.in-Ok-Idle.ensures.enters)
+    (rw c.in-Ok-Idle.field-0-is at c.in-Ok-Idle.ensures.enters)
 
 pub returns-in-Ok : goal.returns-in-Ok
 returns-in-Ok g c =
