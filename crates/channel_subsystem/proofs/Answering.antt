@@ -6,7 +6,7 @@ use Rattle.storage_keys.specs.Storage.{Contents, IsAddressable}
 use Rattle.chan_events.specs.Events.{Event}
 use Rattle.chan_events.specs.declared.reply.Entry.{Entry}
 use Rattle.chan_events.specs.Replies.{Reply}
-use Rattle.machine.specs.Lent.{lent, no_storage}
+use Rattle.machine_model.specs.State.{lent, no_storage}
 use Rattle.machine_model.specs.Ruled.{GoesByRule}
 use Rattle.machine_model.specs.State.{State}
 use Rattle.machine_model.specs.Steps.{Performs}

@@ -8,7 +8,7 @@ use Rattle.io_step.specs.GivenOperands.{HasOperand, HasRoom, storage_with, with_
 use Rattle.io_step.specs.declared.by_value.Answered.{Answered}
 use Rattle.io_step.specs.declared.by_value.ByValue.{ByValue}
 use Rattle.io_step.specs.declared.by_value.OtherByValue.{OtherByValue}
-use Rattle.machine.specs.Lent.{lent}
+use Rattle.machine_model.specs.State.{lent}
 use Rattle.machine_model.specs.Ruled.{GoesByRule}
 use Rattle.machine_model.specs.State.{State}
 use Rattle.machine_model.specs.Steps.{Performs}

@@ -9,7 +9,7 @@ use Rattle.chan_events.specs.Replies.{Reply}
 use Rattle.channel_config.proofs.Keeping.{lawful-storage}
 use Rattle.channel_config.specs.Lawful.{IsLawful, hosted}
 use Rattle.channel_config.specs.Setup.{Setup}
-use Rattle.machine.specs.Lent.{lent, no_storage}
+use Rattle.machine_model.specs.State.{lent, no_storage}
 use Rattle.machine_model.specs.Setups.{IsSetUp}
 use Rattle.machine_model.specs.State.{State, opening_of}
 use Rattle.machine_model.specs.Steps.{HasRun, Step}

@@ -8,7 +8,7 @@ use Rattle.chan_events.specs.Events.{Event}
 use Rattle.chan_events.specs.declared.reply.Entry.{Entry}
 use Rattle.chan_events.specs.Replies.{Reply}
 use Rattle.event_log.specs.Logs.{last_reply}
-use Rattle.machine.specs.Lent.{lent}
+use Rattle.machine_model.specs.State.{lent}
 use Rattle.machine_model.specs.Steps.{HasRun}
 use Rattle.path_select.specs.Choice.{Rule}
 use Rattle.subsystem.proofs.Pasts.{KeepsSetUps, past-more}

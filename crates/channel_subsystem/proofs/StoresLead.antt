@@ -11,7 +11,7 @@ use Rattle.storage_keys.specs.Storage.{Contents, IsAddressable, IsPrefix, is_ins
 use Rattle.chan_events.specs.Events.{Event}
 use Rattle.chan_events.specs.declared.reply.Entry.{Entry}
 use Rattle.chan_events.specs.declared.reply.Reply.TheVariants as reply
-use Rattle.machine.specs.Lent.{lent}
+use Rattle.machine_model.specs.State.{lent}
 use Rattle.machine.proofs.Storing.{put_performs, key_performs, prefix_performs}
 use Rattle.machine_model.specs.State.{State}
 use Rattle.machine_model.specs.Steps.{HasRun, Step}

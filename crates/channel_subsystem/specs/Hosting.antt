@@ -5,7 +5,7 @@ use Rattle.chan_model.specs.declared.fault.Fault.{Fault}
 use Rattle.chan_events.specs.Events.{Event}
 use Rattle.chan_events.specs.declared.reply.Entry.{Entry}
 use Rattle.chan_events.specs.Replies.{Reply}
-use Rattle.machine.specs.Lent.{lent}
+use Rattle.machine_model.specs.State.{lent}
 use Rattle.machine_model.specs.Ruled.{GoesByRule}
 use Rattle.machine_model.specs.State.{State}
 use Rattle.machine_model.specs.Steps.{HasRun, IsRefused, Step}

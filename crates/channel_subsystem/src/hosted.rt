@@ -11,7 +11,7 @@ ghost use Rattle.channel_subsystem.specs.Ends.{EndsBy};
 ghost use Rattle.channel_subsystem.specs.Hosting.{HasLed, IsHostSize, IsHostStep, Leads};
 ghost use Rattle.channel_subsystem.specs.declared.host_fault.HostFault.TheVariants as fault_spec;
 ghost use Rattle.event_log.specs.Logs.{last_reply};
-ghost use Rattle.machine.specs.Lent.{lent, no_storage};
+ghost use Rattle.machine_model.specs.State.{lent, no_storage};
 ghost use Rattle.machine_model.specs.Setups.{IsSetUp};
 ghost use Rattle.machine_model.specs.State as state_spec;
 ghost use Rattle.run_laws.specs.Agreeing.{AllAgree};

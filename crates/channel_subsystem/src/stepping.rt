@@ -11,7 +11,7 @@ ghost use Rattle.channel_subsystem.specs.declared.host_fault.HostFault.TheVarian
 ghost use Rattle.channel_subsystem.specs.declared.keeping.Keeping.TheVariants as keeping_spec;
 ghost use Rattle.event_log.specs.Logs.{last_reply};
 ghost use Rattle.lookup.specs.Tables.{Fits};
-ghost use Rattle.machine.specs.Lent.{lent};
+ghost use Rattle.machine_model.specs.State.{lent};
 ghost use Rattle.machine_model.specs.Ruled.{GoesByRule};
 ghost use Rattle.machine_model.specs.Steps.{Performs};
 ghost use Rattle.storage_keys.specs.Storage.{IsAddressable};

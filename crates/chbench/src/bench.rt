@@ -186,25 +186,16 @@ impl<F: Floor + Drop> Bench<F> {
         refused
     }
 
-    /// How many entries the history has.
-    fn entries(&self) -> u64 {
-        self.floor.subsystem().history().len() as u64
-    }
-
     /// Performs so many cycles of this kind.
     pub fn measure(&mut self, alloc: Global, kind: Kind, cycles: u64) -> Result<Count, AllocError> {
         let beats = kind.beats(alloc)?;
         let events = self.events(alloc, beats.as_slice())?;
-        let before = self.entries();
+        let before = self.floor.accepted();
         let refused = self.cycles(events.as_slice(), cycles);
-        let cleared = match self.floor.subsystem().serials(self.subchannel) {
-            Some(serials) => serials.cleared,
-            None => 0,
-        };
         Ok(Count {
-            accepted: self.entries().saturating_sub(before),
+            accepted: self.floor.accepted().saturating_sub(before),
             refused,
-            cleared,
+            cleared: self.floor.cleared(self.subchannel),
         })
     }
 }

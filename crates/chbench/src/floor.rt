@@ -3,6 +3,7 @@
 use chan_events::event::Event;
 use chan_events::reply::Reply;
 use chan_model::chunk::CHUNK_BYTES;
+use chan_model::report::LentWork;
 use core_lock::guarded::Guarded;
 use core_lock::locked::Seat;
 use core_lock::naming::MachineBrand;
@@ -10,7 +11,9 @@ use core_lock::stock::SeatStock;
 use device_law::answering::answer_to;
 use device_models::any_device::AnyDevice;
 use event_log::history::LentReply;
+use machine_model::state::UnitTurn;
 use path_select::Rotating;
+use scsw_irb::serials::Serials;
 use subsystem::subsystem::Subsystem;
 use unit_driver::reporting::{NextReport, next_report, no_report};
 
@@ -23,8 +26,11 @@ pub trait Floor {
     /// not where the unit has no work.
     fn reports(&mut self, unit: u32, device: &mut AnyDevice) -> bool;
 
-    /// The subsystem, to look at.
-    fn subsystem(&self) -> &Subsystem<Rotating>;
+    /// How many events were accepted.
+    fn accepted(&self) -> u64;
+
+    /// How many statuses of a subchannel were cleared; 0 where it is not configured.
+    fn cleared(&self, subchannel: u32) -> u64;
 }
 
 /// The event of a report, in an index that is made once.
@@ -44,17 +50,19 @@ impl ReportSlot {
         }
     }
 
-    /// Writes the report of a unit's next work, its device having been called where the work is a call; false where it has
-    /// none.
-    fn write(&mut self, subsystem: &Subsystem<Rotating>, of: u32, device: &mut AnyDevice) -> bool {
-        let Some(turn) = subsystem.lent_turn(of) else {
-            return false;
-        };
+    /// Writes the report of a unit's next work, by its turn, its device having been called where the work is a call; false where
+    /// it has none.
+    pub fn write(
+        &mut self,
+        turn: &UnitTurn<LentWork<'_>>,
+        of: u32,
+        device: &mut AnyDevice,
+    ) -> bool {
         let Event::Report { unit, report } = &mut self.event else {
             return false;
         };
         *unit = of;
-        match next_report(&None, &turn, report) {
+        match next_report(&None, turn, report) {
             NextReport::Told(()) => true,
             NextReport::Asked(call) => {
                 answer_to(device, &call, &mut report.answer);
@@ -63,12 +71,25 @@ impl ReportSlot {
             NextReport::Nothing => false,
         }
     }
+
+    /// The event.
+    pub fn event(&self) -> &Event {
+        &self.event
+    }
+}
+
+/// How many statuses were cleared, by a subchannel's serials.
+pub fn cleared_of(serials: Option<Serials>) -> u64 {
+    match serials {
+        Some(serials) => serials.cleared,
+        None => 0,
+    }
 }
 
 /// Whether a reply has no more bytes than two signals may have. Each reply that is a value is looked at in this way, from a call
 /// that is not built in, so that what is counted is what one pays who reads it.
 #[inline(never)]
-fn is_whole(reply: &Reply) -> bool {
+pub fn is_whole(reply: &Reply) -> bool {
     bytes_of(reply) <= 2 * CHUNK_BYTES
 }
 
@@ -112,7 +133,10 @@ impl Floor for Answering {
     }
 
     fn reports(&mut self, unit: u32, device: &mut AnyDevice) -> bool {
-        if !self.report.write(&self.subsystem, unit, device) {
+        let Some(turn) = self.subsystem.lent_turn(unit) else {
+            return false;
+        };
+        if !self.report.write(&turn, unit, device) {
             return false;
         }
         match &self.subsystem.step(&self.report.event) {
@@ -121,14 +145,18 @@ impl Floor for Answering {
         }
     }
 
-    fn subsystem(&self) -> &Subsystem<Rotating> {
-        &self.subsystem
+    fn accepted(&self) -> u64 {
+        self.subsystem.history().len() as u64
+    }
+
+    fn cleared(&self, subchannel: u32) -> u64 {
+        cleared_of(self.subsystem.serials(subchannel))
     }
 }
 
 /// Whether what is kept of a reply has no more bytes than there are for it: looked at as one that is a value is.
 #[inline(never)]
-fn is_there(reply: &LentReply<'_>) -> bool {
+pub fn is_there(reply: &LentReply<'_>) -> bool {
     let (kept, bytes) = reply.parts();
     kept.length() <= bytes.len()
 }
@@ -165,8 +193,12 @@ impl Floor for Looking {
         self.performing.reports(unit, device) && self.replied()
     }
 
-    fn subsystem(&self) -> &Subsystem<Rotating> {
-        self.performing.subsystem()
+    fn accepted(&self) -> u64 {
+        self.performing.accepted()
+    }
+
+    fn cleared(&self, subchannel: u32) -> u64 {
+        self.performing.cleared(subchannel)
     }
 }
 
@@ -193,14 +225,21 @@ impl Floor for Performing {
     }
 
     fn reports(&mut self, unit: u32, device: &mut AnyDevice) -> bool {
-        if !self.report.write(&self.subsystem, unit, device) {
+        let Some(turn) = self.subsystem.lent_turn(unit) else {
+            return false;
+        };
+        if !self.report.write(&turn, unit, device) {
             return false;
         }
         self.subsystem.perform(&self.report.event).is_ok()
     }
 
-    fn subsystem(&self) -> &Subsystem<Rotating> {
-        &self.subsystem
+    fn accepted(&self) -> u64 {
+        self.subsystem.history().len() as u64
+    }
+
+    fn cleared(&self, subchannel: u32) -> u64 {
+        cleared_of(self.subsystem.serials(subchannel))
     }
 }
 
@@ -222,7 +261,10 @@ impl<J: MachineBrand> Floor for Seated<J> {
     }
 
     fn reports(&mut self, unit: u32, device: &mut AnyDevice) -> bool {
-        if !self.report.write(self.guarded.subsystem(), unit, device) {
+        let Some(turn) = self.guarded.subsystem().lent_turn(unit) else {
+            return false;
+        };
+        if !self.report.write(&turn, unit, device) {
             return false;
         }
         match &self.guarded.enter(&mut self.seat, &self.report.event) {
@@ -231,7 +273,11 @@ impl<J: MachineBrand> Floor for Seated<J> {
         }
     }
 
-    fn subsystem(&self) -> &Subsystem<Rotating> {
-        self.guarded.subsystem()
+    fn accepted(&self) -> u64 {
+        self.guarded.subsystem().history().len() as u64
+    }
+
+    fn cleared(&self, subchannel: u32) -> u64 {
+        cleared_of(self.guarded.subsystem().serials(subchannel))
     }
 }

@@ -8,6 +8,8 @@
 //!   which is one TEST SUBCHANNEL.
 //! - `perform KIND SUBCHANNELS CYCLES`: the same by `Subsystem::perform`, whose answers stay in the history.
 //! - `look KIND SUBCHANNELS CYCLES`: the same, and each answer is looked at where it stands, by `Subsystem::last_reply`.
+//! - `lent-step`, `lent-perform` and `lent-look KIND SUBCHANNELS CYCLES`: the same three by `ChannelSubsystem`, which keeps no
+//!   history, on 64 MiB of storage that is lent to it for all of them.
 //! - `enter KIND SUBCHANNELS CYCLES`: the same by `Guarded::enter`, from the first seat of a core that no lock guards; `Core::enter`
 //!   does the same with an event that it takes.
 //! - `race CPUS LOOKERS TIMES`: so many CPUs, each on a thread of its own, execute TEST SUBCHANNEL under the lock, so many times
@@ -20,31 +22,47 @@
 mod bench;
 mod cycle;
 mod floor;
+mod lent;
 mod race;
 mod seats;
 
 use crate::bench::{Bench, Count, config_of};
 use crate::cycle::Kind;
 use crate::floor::{Answering, Floor, Looking, Performing};
+use crate::lent::{LentAnswering, LentLooking, LentPerforming};
 use crate::race::{Race, RaceCount};
 use crate::seats::{Outcome, Task};
+use channel_subsystem::hosted::ChannelSubsystem;
 use path_select::Rotating;
 use std::alloc::Global;
 use std::process::ExitCode;
 use std::sync::Wait;
 use std::thread::Threads;
 use std::{env, io};
+use storage_keys::LentStorage;
 use subsystem::subsystem::Subsystem;
+
+/// How many blocks of 4,096 bytes are lent to a channel subsystem: 64 MiB.
+const BLOCKS: u32 = 0x4000;
 
 /// What is done with the answers of a subsystem by itself.
 #[derive(Clone, Copy)]
 enum Answers {
     /// Each is a value, and is read.
     AreOwned,
-    /// Each stays in the history.
+    /// Each stays where it is.
     Stay,
-    /// Each stays in the history, and is looked at there.
+    /// Each is looked at where it stands.
     AreLent,
+}
+
+/// Whose storage it is.
+#[derive(Clone, Copy)]
+enum Owner {
+    /// The subsystem's, which keeps a history.
+    Subsystem,
+    /// The benchmark's, which lends it.
+    Host,
 }
 
 impl Answers {
@@ -60,6 +78,19 @@ impl Answers {
             None
         }
     }
+
+    /// The same of a subsystem that is lent storage.
+    fn of_lent(name: &str) -> Option<Answers> {
+        if name == "lent-step" {
+            Some(Answers::AreOwned)
+        } else if name == "lent-perform" {
+            Some(Answers::Stay)
+        } else if name == "lent-look" {
+            Some(Answers::AreLent)
+        } else {
+            None
+        }
+    }
 }
 
 /// What a group of words asks for.
@@ -67,6 +98,7 @@ impl Answers {
 enum Wanted {
     /// Cycles at a subsystem by itself.
     Step {
+        owner: Owner,
         answers: Answers,
         kind: Kind,
         subchannels: u32,
@@ -101,6 +133,15 @@ impl Wanted {
     fn named(name: &str, second: &str, third: u32, times: u64) -> Option<Wanted> {
         if let Some(answers) = Answers::named(name) {
             Some(Wanted::Step {
+                owner: Owner::Subsystem,
+                answers,
+                kind: Kind::named(second)?,
+                subchannels: third,
+                cycles: times,
+            })
+        } else if let Some(answers) = Answers::of_lent(name) {
+            Some(Wanted::Step {
+                owner: Owner::Host,
                 answers,
                 kind: Kind::named(second)?,
                 subchannels: third,
@@ -127,34 +168,72 @@ impl Wanted {
     fn perform<R: Threads + Wait + Sync>(self, rt: &R, alloc: Global) -> Option<Outcome> {
         match self {
             Wanted::Step {
+                owner: Owner::Subsystem,
                 answers,
                 kind,
                 subchannels,
                 cycles,
-            } => {
-                let subsystem = opened(alloc, kind, subchannels)?;
-                let count = match answers {
-                    Answers::AreOwned => {
-                        measured(alloc, Answering::of(subsystem), kind, subchannels, cycles)?
-                    }
-                    Answers::Stay => {
-                        measured(alloc, Performing::of(subsystem), kind, subchannels, cycles)?
-                    }
-                    Answers::AreLent => {
-                        measured(alloc, Looking::of(subsystem), kind, subchannels, cycles)?
-                    }
-                };
-                Some(Outcome::Count(count))
-            }
+            } => Some(Outcome::Count(at_subsystem(alloc, answers, kind, subchannels, cycles)?)),
+            Wanted::Step {
+                owner: Owner::Host,
+                answers,
+                kind,
+                subchannels,
+                cycles,
+            } => Some(Outcome::Count(on_lent(alloc, answers, kind, subchannels, cycles)?)),
             Wanted::AtCore(task) => seats::perform(rt, alloc, task),
         }
     }
 }
 
-/// A subsystem of so many subchannels with the paths of this kind.
-fn opened(alloc: Global, kind: Kind, subchannels: u32) -> Option<Subsystem<Rotating>> {
+/// Cycles at a subsystem of so many subchannels with the paths of this kind, which keeps their history.
+fn at_subsystem(
+    alloc: Global,
+    answers: Answers,
+    kind: Kind,
+    subchannels: u32,
+    cycles: u64,
+) -> Option<Count> {
     let config = config_of(alloc, subchannels, kind.paths())?;
-    Subsystem::new(alloc, config, Rotating).ok()
+    let subsystem = Subsystem::new(alloc, config, Rotating).ok()?;
+    match answers {
+        Answers::AreOwned => measured(alloc, Answering::of(subsystem), kind, subchannels, cycles),
+        Answers::Stay => measured(alloc, Performing::of(subsystem), kind, subchannels, cycles),
+        Answers::AreLent => measured(alloc, Looking::of(subsystem), kind, subchannels, cycles),
+    }
+}
+
+/// Cycles at one that keeps no history, on 64 MiB that are lent to it.
+fn on_lent(
+    alloc: Global,
+    answers: Answers,
+    kind: Kind,
+    subchannels: u32,
+    cycles: u64,
+) -> Option<Count> {
+    let config = config_of(alloc, subchannels, kind.paths())?;
+    let subsystem = ChannelSubsystem::new(alloc, config, BLOCKS, Rotating).ok()?;
+    let mut bytes = vec![in alloc; 0; 0x1000 * BLOCKS as usize].ok()?;
+    let mut keys = vec![in alloc; 0; BLOCKS as usize].ok()?;
+    let mut prefixes = [0; 16];
+    if !LentStorage::fits(bytes.len(), keys.len(), &prefixes) {
+        return None;
+    }
+    let storage = LentStorage::new(bytes.as_mut_slice(), keys.as_mut_slice(), &mut prefixes);
+    match answers {
+        Answers::AreOwned => {
+            let floor = LentAnswering::of(subsystem, storage);
+            measured(alloc, floor, kind, subchannels, cycles)
+        }
+        Answers::Stay => {
+            let floor = LentPerforming::of(subsystem, storage);
+            measured(alloc, floor, kind, subchannels, cycles)
+        }
+        Answers::AreLent => {
+            let floor = LentLooking::of(subsystem, storage);
+            measured(alloc, floor, kind, subchannels, cycles)
+        }
+    }
 }
 
 /// Cycles at a floor of so many subchannels.
@@ -216,7 +295,7 @@ fn main(rt: HostRuntime) -> io::Result<ExitCode> {
     for group in words.as_slice().chunks(4) {
         let Some(wanted) = Wanted::of(group) else {
             println!(rt;
-                "chbench: step|perform|look|enter KIND SUBCHANNELS CYCLES | race CPUS LOOKERS TIMES .."
+                "chbench: [lent-]step|perform|look KIND SUBCHANNELS CYCLES | enter KIND SUBCHANNELS CYCLES | race CPUS LOOKERS TIMES .."
             )?;
             return Ok(ExitCode::from(2));
         };

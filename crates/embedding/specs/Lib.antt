@@ -1,2 +1,3 @@
 pub mod Clocks
+pub mod Guests
 pub mod Hosts

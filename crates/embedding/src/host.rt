@@ -1,10 +1,11 @@
-//! A host: a channel subsystem with one subchannel, and the clock that is its device.
+//! A host: a channel subsystem with one subchannel, and the clock that is its device. Storage is lent for each call.
 
 ghost use Rattle.std.specs.Prelude.{◌≡◌, [], None, IfSome};
 ghost use Rattle.std.specs.Bool.{OnTrue, OnFalse};
-ghost use Rattle.machine_model.specs.State.{IsAsBefore};
+ghost use Rattle.channel_subsystem.specs.Hosting as hosting;
 ghost use Rattle.embedding.specs.Hosts as spec;
-ghost use Rattle.embedding.specs.Hosts.{Enters, GoesOn, Turned};
+ghost use Rattle.embedding.specs.Hosts.{Enters, GoesOn, IsAsBefore, Turned, moment};
+ghost use Rattle.storage_keys.specs.Storage.{cleared_storage};
 ghost use Rattle.subsystem.specs.Keeping.{answer_of};
 
 use crate::clock::Clock;
@@ -14,12 +15,13 @@ use chan_model::fault::Fault;
 use chan_model::report::Report;
 use channel_config::config::{Config, ConfigFault};
 use channel_config::parts::UnitKind;
+use channel_subsystem::host_fault::HostFault;
+use channel_subsystem::hosted::ChannelSubsystem;
 use machine_model::state::UnitTurn;
 use path_select::Rotating;
 use std::alloc::Global;
 use std::marker::Model;
-use storage_keys::StorageFault;
-use subsystem::subsystem::Subsystem;
+use storage_keys::{MainStorage, StorageFault};
 use unit_driver::reporting::reported;
 use unit_driver::waiting::{WaitingReport, forget, keep_refused};
 
@@ -37,30 +39,29 @@ pub enum Turn {
     /// Nothing was due.
     Quiet,
     /// An event was refused, which a later turn may try again.
-    Refused(Fault),
+    Refused(HostFault),
 }
 
 /// A channel subsystem, the clock, and the report of the clock that is still to be handed in.
 #[derive(Drop)]
 pub struct Host {
-    subsystem: Subsystem<Rotating>,
+    subsystem: ChannelSubsystem<Rotating>,
     clock: Clock,
     waiting: Option<WaitingReport>,
 }
 
 impl Model for Host {
-    ghost use Rattle.embedding.specs.Hosts.{Hosted};
+    ghost use Rattle.embedding.specs.Hosts.{Hosts};
 
-    ghost Value = { Hosted };
+    ghost Value = { Hosts };
 
-    ghost view = { λ h. record { past = h.subsystem; clock = h.clock; waiting = h.waiting } };
+    ghost view = { λ h. record { subsystem = h.subsystem; clock = h.clock; waiting = h.waiting } };
 }
 
-/// Storage of 64 KiB, two channel paths, and the subchannel of device 0190, which reaches the unit by both. Of what kind
-/// the unit is means nothing to the subsystem: it never calls a device.
+/// Two channel paths, and the subchannel of device 0190, which reaches the unit by both. Of what kind the unit is means nothing
+/// to the subsystem: it never calls a device.
 pub fn configured(alloc: Global) -> Result<Config, ConfigFault> {
     let mut config = Config::new(alloc);
-    config.storage(0x10)?;
     config.path(0x10)?;
     config.path(0x11)?;
     config.unit(UNIT, UnitKind::Console)?;
@@ -69,12 +70,15 @@ pub fn configured(alloc: Global) -> Result<Config, ConfigFault> {
 }
 
 impl Host {
-    /// The host at its opening; None where there is no memory.
-    pub fn new(alloc: Global, clock: Clock) -> Option<Host>
-        ensures { IfSome result (λ h. (h.clock ≡ clock) × (h.waiting ≡ None) × (h.past.history ≡ [])) }
+    /// The host at its opening, for storage of so many blocks of 4,096 bytes; None where there is no memory, or the blocks are
+    /// not 16 to 524,288. No call takes memory after that.
+    pub fn new(alloc: Global, blocks: u32, clock: Clock) -> Option<Host>
+        ensures opened { IfSome result (λ h. hosting.Leads [] h.subsystem (cleared_storage blocks)) }
+        ensures clock { IfSome result (λ h. h.clock ≡ clock) }
+        ensures waiting { IfSome result (λ h. h.waiting ≡ None) }
     {
         let config = configured(alloc).ok()?;
-        let subsystem = Subsystem::new(alloc, config, Rotating).ok()?;
+        let subsystem = ChannelSubsystem::new(alloc, config, blocks, Rotating).ok()?;
         Some(Host {
             subsystem,
             clock,
@@ -84,33 +88,40 @@ impl Host {
 
     /// The clock goes on.
     pub fn time_goes_on(&mut self, by: u32)
-        ensures machine { self.new.past ≡ self.old.past }
+        ensures subsystem { self.new.subsystem ≡ self.old.subsystem }
     {
         self.clock.goes_on(by);
     }
 
-    /// Performs an event: a step that the history keeps, or a refusal that changes nothing. The reply is a value of its own.
-    pub fn perform(&mut self, event: &Event) -> Result<Reply, Fault>
-        ensures { Enters self.old.past event.now result self.new.past }
+    /// Performs an event on what storage holds: a step, or a refusal that changes nothing. The reply is a value of its own.
+    pub fn perform<M: MainStorage>(
+        &mut self,
+        storage: &mut M,
+        event: &Event,
+    ) -> Result<Reply, HostFault>
+        ensures enters { Enters (moment self.old.subsystem (M.contents storage.old)) event.now result (moment self.new.subsystem (M.contents storage.new)) }
+        ensures lender { M.lender storage.new ≡ M.lender storage.old }
     {
-        self.subsystem.step(event)
+        self.subsystem.step(storage, event)
     }
 
-    /// The same for one who does not keep the reply: it is in the history, and nothing is copied.
-    fn enter(&mut self, event: &Event) -> Result<(), Fault>
-        ensures { Enters self.old.past event.now (answer_of result self.new.past.history) self.new.past }
+    /// The same for one who does not keep the reply: the subsystem lends it, and nothing is copied.
+    fn enter<M: MainStorage>(&mut self, storage: &mut M, event: &Event) -> Result<(), HostFault>
+        ensures enters { Enters (moment self.old.subsystem (M.contents storage.old)) event.now (answer_of result self.new.subsystem.last) (moment self.new.subsystem (M.contents storage.new)) }
+        ensures lender { M.lender storage.new ≡ M.lender storage.old }
     {
-        self.subsystem.perform(event)
+        self.subsystem.perform(storage, event)
     }
 
     /// Turns the subchannel and its unit until nothing is due, an event is refused, or so many events were accepted. `Quiet`
     /// is answered only where the subsystem has just said that there is nothing to choose.
     #[tactic(auto, using(crate::proofs::Going::goes_start, crate::proofs::Going::goes_then))]
-    pub fn turn_until_quiet(&mut self, most: u32) -> Turn
-        ensures { Turned 0x10000 most result self.old.past self.new.past }
+    pub fn turn_until_quiet<M: MainStorage>(&mut self, storage: &mut M, most: u32) -> Turn
+        ensures turned { Turned 0x10000 most result (moment self.old.subsystem (M.contents storage.old)) (moment self.new.subsystem (M.contents storage.new)) }
+        ensures lender { M.lender storage.new ≡ M.lender storage.old }
     {
         for _ in 0..most {
-            match self.turn() {
+            match self.turn(storage) {
                 Turn::Moved => {}
                 Turn::Quiet => return Turn::Quiet,
                 Turn::Refused(fault) => return Turn::Refused(fault),
@@ -121,21 +132,25 @@ impl Host {
 
     /// The next event that is due: the unit's, else that of a signal for the subchannel, else what is chosen for it.
     #[tactic(auto, using(crate::proofs::Going::turned_later))]
-    fn turn(&mut self) -> Turn
-        ensures { Turned 0x10000 1 result self.old.past self.new.past }
+    fn turn<M: MainStorage>(&mut self, storage: &mut M) -> Turn
+        ensures turned { Turned 0x10000 1 result (moment self.old.subsystem (M.contents storage.old)) (moment self.new.subsystem (M.contents storage.new)) }
+        ensures lender { M.lender storage.new ≡ M.lender storage.old }
     {
         if let Some(report) = self.next_report() {
-            return self.enter_report(report);
+            return self.enter_report(storage, report);
         }
-        if self.take_down() || self.is_done(&up(0)) || self.is_done(&up(1)) {
+        if self.take_down(storage)
+            || self.is_done(storage, &up(0))
+            || self.is_done(storage, &up(1))
+        {
             return Turn::Moved;
         }
-        self.choose()
+        self.choose(storage)
     }
 
     /// The report that waits, else that of the unit's next work, for which the clock may be called.
     fn next_report(&mut self) -> Option<Report>
-        ensures machine { self.new.past ≡ self.old.past }
+        ensures subsystem { self.new.subsystem ≡ self.old.subsystem }
     {
         let Some(turn) = self.subsystem.lent_turn(UNIT) else {
             return None;
@@ -143,54 +158,72 @@ impl Host {
         reported(&mut self.clock, &self.waiting, &turn)
     }
 
-    /// Hands in a report. The clock was called for it, so it waits where there is no room for it yet.
-    fn enter_report(&mut self, report: Report) -> Turn
-        ensures { Turned 0x10000 1 result self.old.past self.new.past }
+    /// Hands in a report. The clock was called for it, so it waits where it can't be entered yet.
+    fn enter_report<M: MainStorage>(&mut self, storage: &mut M, report: Report) -> Turn
+        ensures turned { Turned 0x10000 1 result (moment self.old.subsystem (M.contents storage.old)) (moment self.new.subsystem (M.contents storage.new)) }
+        ensures lender { M.lender storage.new ≡ M.lender storage.old }
     {
         let event = Event::Report { unit: UNIT, report };
-        match self.enter(&event) {
+        match self.enter(storage, &event) {
             Ok(()) => {
                 forget(&mut self.waiting);
                 Turn::Moved
             }
             Err(fault) => {
-                keep_refused(&mut self.waiting, &event, fault);
+                self.keep_report(&event, fault);
                 Turn::Refused(fault)
             }
         }
     }
 
+    /// After the event of a report was refused so: it is dropped where it came too late, and waits where there was no room for it,
+    /// or the machine was not asked.
+    fn keep_report(&mut self, event: &Event, fault: HostFault)
+        ensures subsystem { self.new.subsystem ≡ self.old.subsystem }
+    {
+        match fault {
+            HostFault::Refused(fault) => keep_refused(&mut self.waiting, event, fault),
+            _ => self.waiting = WaitingReport::of_event(event),
+        }
+    }
+
     /// The unit takes the signal that waits for it, if one does.
-    fn take_down(&mut self) -> bool
-        ensures done { OnTrue result (GoesOn 1 self.old.past self.new.past) }
-        ensures none { OnFalse result (IsAsBefore self.old.past self.new.past) }
+    fn take_down<M: MainStorage>(&mut self, storage: &mut M) -> bool
+        ensures done { OnTrue result (GoesOn 1 (moment self.old.subsystem (M.contents storage.old)) (moment self.new.subsystem (M.contents storage.new))) }
+        ensures none { OnFalse result (IsAsBefore (moment self.old.subsystem (M.contents storage.old)) (moment self.new.subsystem (M.contents storage.new))) }
+        ensures lender { M.lender storage.new ≡ M.lender storage.old }
     {
         match self.subsystem.unit_turn(UNIT) {
-            Some(UnitTurn::Takes { path, .. }) => self.is_done(&Event::Down {
-                subchannel: SUBCHANNEL,
-                path,
-            }),
+            Some(UnitTurn::Takes { path, .. }) => self.is_done(
+                storage,
+                &Event::Down {
+                    subchannel: SUBCHANNEL,
+                    path,
+                },
+            ),
             _ => false,
         }
     }
 
     /// Performs an event, and says whether it was accepted.
-    fn is_done(&mut self, event: &Event) -> bool
-        ensures done { OnTrue result (GoesOn 1 self.old.past self.new.past) }
-        ensures refused { OnFalse result (IsAsBefore self.old.past self.new.past) }
+    #[tactic(auto, using(crate::proofs::Going::goes_once, crate::proofs::Going::as_before))]
+    fn is_done<M: MainStorage>(&mut self, storage: &mut M, event: &Event) -> bool
+        ensures done { OnTrue result (GoesOn 1 (moment self.old.subsystem (M.contents storage.old)) (moment self.new.subsystem (M.contents storage.new))) }
+        ensures refused { OnFalse result (IsAsBefore (moment self.old.subsystem (M.contents storage.old)) (moment self.new.subsystem (M.contents storage.new))) }
+        ensures lender { M.lender storage.new ≡ M.lender storage.old }
     {
-        self.enter(event).is_ok()
+        self.enter(storage, event).is_ok()
     }
 
     /// The subsystem does what is due for the subchannel.
-    #[tactic(auto, using(crate::proofs::Going::turned_idle))]
-    fn choose(&mut self) -> Turn
-        ensures { Turned 0x10000 1 result self.old.past self.new.past }
+    fn choose<M: MainStorage>(&mut self, storage: &mut M) -> Turn
+        ensures turned { Turned 0x10000 1 result (moment self.old.subsystem (M.contents storage.old)) (moment self.new.subsystem (M.contents storage.new)) }
+        ensures lender { M.lender storage.new ≡ M.lender storage.old }
     {
         let event = Event::Choose {
             subchannel: SUBCHANNEL,
         };
-        match self.perform(&event) {
+        match self.perform(storage, &event) {
             Ok(Reply::Idle) => Turn::Quiet,
             Ok(_) => Turn::Moved,
             Err(fault) => Turn::Refused(fault),
@@ -208,14 +241,14 @@ fn up(path: u32) -> Event {
 
 /// The code of the program interruption that the guest's instruction ends with where it is refused so; None where the
 /// refusal is no fault of the guest's.
-pub fn program_interruption(fault: Fault) -> Option<u16>
+pub fn program_interruption(fault: HostFault) -> Option<u16>
     ensures { result ≡ spec.program_interruption fault }
 {
     match fault {
-        Fault::Storage(StorageFault::Protection) => Some(0x0004),
-        Fault::Storage(StorageFault::Addressing) => Some(0x0005),
-        Fault::Storage(StorageFault::Specification) => Some(0x0006),
-        Fault::Operand => Some(0x0015),
+        HostFault::Refused(Fault::Storage(StorageFault::Protection)) => Some(0x0004),
+        HostFault::Refused(Fault::Storage(StorageFault::Addressing)) => Some(0x0005),
+        HostFault::Refused(Fault::Storage(StorageFault::Specification)) => Some(0x0006),
+        HostFault::Refused(Fault::Operand) => Some(0x0015),
         _ => None,
     }
 }

@@ -26,7 +26,7 @@ use Rattle.subchannel_model.specs.Indices.{Found}
 use Rattle.subchannel_model.specs.Test.{tsch_code, irb_of}
 use Rattle.machine_model.specs.Results.{Outcome, SubResult, leaves, does, at_index}
 use Rattle.machine_model.specs.InstructionSteps.{code_at, modify_sub, enable_sub, test_with, with_irb, with_schib, with_enabling, stores_irb, start_at, modify_at, store_answer, WhereFetched, PerformsStart, PerformsModify, PerformsEnable, performs_store, performs_test}
-use Rattle.io_step.specs.Executing.{state_with_storage}
+use Rattle.machine_model.specs.State.{lent}
 use Rattle.io_step.specs.Operands.{HasOrb, HasWord, from_storage}
 
 pub starts : (s : State) (found : Option Found) (fetched : Result (List ℕ) StorageFault) (orb : Orb) (r : Outcome) →
@@ -93,52 +93,52 @@ set_there (y ∷ ys) (suc i) x e = ap (λ zs. y ∷ zs) (set_there ys i x e)
 
 pub tests-sub : (s : State) (before after : Contents) (cpu address index : ℕ) (old new : Subchannel) (u : Unit {0}) (r : Reply) →
     Ok u ≡ from_storage (operand_check before cpu address 64 4) →
-    state_with_storage s after ≡ with_irb (state_with_storage s before) cpu address old (stores_irb (code_at tsch_code old)) →
+    lent s after ≡ with_irb (lent s before) cpu address old (stores_irb (code_at tsch_code old)) →
     test_with old (code_at tsch_code old) ≡ leaves r new →
-    does r (with_sub (state_with_storage s after) index new) ≡ performs_test (state_with_storage s before) cpu address (Some (record { index = index; sub = old })) (operand_check before cpu address 64 4)
+    does r (with_sub (lent s after) index new) ≡ performs_test (lent s before) cpu address (Some (record { index = index; sub = old })) (operand_check before cpu address 64 4)
 tests-sub s before after cpu address index old new u r checked irb left =
     let check : operand_check before cpu address 64 4 ≡ Ok u = permitted (operand_check before cpu address 64 4) u checked in
-    sym (ap (λ (x : Result (Unit {0}) StorageFault). performs_test (state_with_storage s before) cpu address (Some (record { index = index; sub = old })) x) check
-    ∙ (ap (λ (t : SubResult). at_index (with_irb (state_with_storage s before) cpu address old (stores_irb (code_at tsch_code old))) index t) left
+    sym (ap (λ (x : Result (Unit {0}) StorageFault). performs_test (lent s before) cpu address (Some (record { index = index; sub = old })) x) check
+    ∙ (ap (λ (t : SubResult). at_index (with_irb (lent s before) cpu address old (stores_irb (code_at tsch_code old))) index t) left
     ∙ ap (λ (x : State). does r (with_sub x index new)) (sym irb)))
 
 -- the IRB is stored with code 0 and 1
 pub irb-stored : (s : State) (before after : Contents) (cpu number address : ℕ) (sub : Subchannel) (code : ConditionCode) (image : List ℕ) (b : Bool) →
     code ≡ code_at tsch_code sub → b ≡ stores_irb code → b ≡ true → image ≡ image_of (irb_tables (irb_of sub.state)) → number ≡ cpu →
     after ≡ operand_stored before number address image →
-    state_with_storage s after ≡ with_irb (state_with_storage s before) cpu address sub (stores_irb (code_at tsch_code sub))
+    lent s after ≡ with_irb (lent s before) cpu address sub (stores_irb (code_at tsch_code sub))
 irb-stored s before after cpu number address sub code image b tested is passes written named stored =
     let performs_store : stores_irb (code_at tsch_code sub) ≡ true = ap stores_irb (sym tested) ∙ (sym is ∙ passes) in
-    ap (λ (x : Contents). state_with_storage s x)
+    ap (λ (x : Contents). lent s x)
     (stored ∙ (ap (λ (k : ℕ). operand_stored before k address image) named ∙ ap (λ (xs : List ℕ). operand_stored before cpu address xs) written))
-    ∙ sym (ap (λ (x : Bool). with_irb (state_with_storage s before) cpu address sub x) performs_store)
+    ∙ sym (ap (λ (x : Bool). with_irb (lent s before) cpu address sub x) performs_store)
 
 pub irb-not-stored : (s : State) (storage : Contents) (cpu address : ℕ) (sub : Subchannel) (code : ConditionCode) (b : Bool) →
     code ≡ code_at tsch_code sub → b ≡ stores_irb code → b ≡ false →
-    state_with_storage s storage ≡ with_irb (state_with_storage s storage) cpu address sub (stores_irb (code_at tsch_code sub))
+    lent s storage ≡ with_irb (lent s storage) cpu address sub (stores_irb (code_at tsch_code sub))
 irb-not-stored s storage cpu address sub code b tested is fails =
     let rests : stores_irb (code_at tsch_code sub) ≡ false = ap stores_irb (sym tested) ∙ (sym is ∙ fails) in
-    sym (ap (λ (x : Bool). with_irb (state_with_storage s storage) cpu address sub x) rests)
+    sym (ap (λ (x : Bool). with_irb (lent s storage) cpu address sub x) rests)
 
 pub stores-sub : (s : State) (before after : Contents) (cpu number address index : ℕ) (sub : Subchannel) (image : List ℕ) (u : Unit {0}) →
     slice_get s.subs index ≡ Some sub → Ok u ≡ from_storage (operand_check before cpu address 52 4) → number ≡ cpu →
     image ≡ image_of (schib_tables (schib_of sub)) → after ≡ operand_stored before number address image →
-    does (reply.Status (store_answer sub) sub.state.scsw) (with_sub (state_with_storage s after) index sub)
-    ≡ performs_store (state_with_storage s before) cpu address (Some (record { index = index; sub = sub })) (operand_check before cpu address 52 4)
+    does (reply.Status (store_answer sub) sub.state.scsw) (with_sub (lent s after) index sub)
+    ≡ performs_store (lent s before) cpu address (Some (record { index = index; sub = sub })) (operand_check before cpu address 52 4)
 stores-sub s before after cpu number address index sub image u there checked named written stored =
     let check : operand_check before cpu address 52 4 ≡ Ok u = permitted (operand_check before cpu address 52 4) u checked in
     let all : operand_stored before cpu address (image_of (schib_tables (schib_of sub))) ≡ after =
     ap (λ (xs : List ℕ). operand_stored before cpu address xs) (sym written)
     ∙ (ap (λ (k : ℕ). operand_stored before k address image) (sym named) ∙ sym stored) in
     let shown = reply.Status (store_answer sub) sub.state.scsw in
-    sym (ap (λ (x : Result (Unit {0}) StorageFault). performs_store (state_with_storage s before) cpu address (Some (record { index = index; sub = sub })) x) check
-    ∙ (ap (λ (x : Contents). does shown (state_with_storage s x)) all
+    sym (ap (λ (x : Result (Unit {0}) StorageFault). performs_store (lent s before) cpu address (Some (record { index = index; sub = sub })) x) check
+    ∙ (ap (λ (x : Contents). does shown (lent s x)) all
     ∙ ap (λ (xs : List Subchannel). does shown (record s { storage = after; subs = xs })) (sym (set_there s.subs index sub there))))
 
 pub enables-sub : (s : State) (before after : Contents) (cpu number subclass index : ℕ) (multipath : Bool) (old new : Subchannel) (word : Pmcw) (scsw : Scsw) (image words : List ℕ) (u : Unit {0}) (r : Reply) →
     Ok u ≡ from_storage (operand_check before cpu 0xF00 52 4) → number ≡ cpu → word ≡ enabling (pmcw_of old) subclass multipath → scsw ≡ old.state.scsw →
     image ≡ image_of (schib_tables (record { pmcw = word; scsw = scsw })) → after ≡ operand_stored before number 0xF00 image → pmcw_of_words words ≡ word → modify_sub old (pmcw_of_words words) ≡ leaves r new →
-    PerformsEnable (state_with_storage s before) cpu (Some (record { index = index; sub = old })) subclass multipath (operand_at before cpu 0xF00 52 4) (does r (with_sub (state_with_storage s after) index new))
+    PerformsEnable (lent s before) cpu (Some (record { index = index; sub = old })) subclass multipath (operand_at before cpu 0xF00 52 4) (does r (with_sub (lent s after) index new))
 enables-sub s before after cpu number subclass index multipath old new word scsw image words u r checked named made shown written stored read left =
     let given : modify_sub old (enabling (pmcw_of old) subclass multipath) ≡ leaves r new =
     ap (modify_sub old) (sym made) ∙ (ap (modify_sub old) (sym read) ∙ left) in
@@ -148,21 +148,21 @@ enables-sub s before after cpu number subclass index multipath old new word scsw
     let all : operand_stored before cpu 0xF00 (image_of (schib_tables (enabling_schib old subclass multipath))) ≡ after =
     ap (λ (xs : List ℕ). operand_stored before cpu 0xF00 xs) bytes
     ∙ (ap (λ (k : ℕ). operand_stored before k 0xF00 image) (sym named) ∙ sym stored) in
-    let done : enable_sub (state_with_storage s before) cpu (record { index = index; sub = old }) subclass multipath ≡ does r (with_sub (state_with_storage s after) index new) =
-    ap (λ (t : SubResult). at_index (with_schib (state_with_storage s before) cpu 0xF00 (enabling_schib old subclass multipath)) index t) given
-    ∙ ap (λ (x : Contents). does r (with_sub (state_with_storage s x) index new)) all in
+    let done : enable_sub (lent s before) cpu (record { index = index; sub = old }) subclass multipath ≡ does r (with_sub (lent s after) index new) =
+    ap (λ (t : SubResult). at_index (with_schib (lent s before) cpu 0xF00 (enabling_schib old subclass multipath)) index t) given
+    ∙ ap (λ (x : Contents). does r (with_sub (lent s x) index new)) all in
     let there = fetched before cpu 0xF00 52 u (permitted (operand_check before cpu 0xF00 52 4) u checked) in
-    subst (λ (x : Result (List ℕ) StorageFault). PerformsEnable (state_with_storage s before) cpu (Some (record { index = index; sub = old })) subclass multipath x (does r (with_sub (state_with_storage s after) index new)))
+    subst (λ (x : Result (List ℕ) StorageFault). PerformsEnable (lent s before) cpu (Some (record { index = index; sub = old })) subclass multipath x (does r (with_sub (lent s after) index new)))
     (sym there.1) (sym done)
 
 -- what enabling leaves where nothing is provided
 pub enables-none : (s : State) (before after : Contents) (cpu number subclass : ℕ) (multipath : Bool) (image placed : List ℕ) (old new : ℕ) →
     old ≡ word_at image 1 → new ≡ enabling_word old subclass multipath → placed ≡ bytes_of_words (new ∷ []) → number ≡ cpu →
-    after ≡ operand_stored before number 0xF04 placed → state_with_storage s after ≡ with_enabling (state_with_storage s before) cpu image subclass multipath
+    after ≡ operand_stored before number 0xF04 placed → lent s after ≡ with_enabling (lent s before) cpu image subclass multipath
 enables-none s before after cpu number subclass multipath image placed old new there made written named stored =
     let word : new ≡ enabling_word (word_at image 1) subclass multipath = made ∙ ap (λ (w : ℕ). enabling_word w subclass multipath) there in
     let bytes : placed ≡ bytes_of_words (enabling_word (word_at image 1) subclass multipath ∷ []) = written ∙ ap (λ (w : ℕ). bytes_of_words (w ∷ [])) word in
-    ap (λ (x : Contents). state_with_storage s x)
+    ap (λ (x : Contents). lent s x)
     (stored ∙ (ap (λ (k : ℕ). operand_stored before k 0xF04 placed) named ∙ ap (λ (xs : List ℕ). operand_stored before cpu 0xF04 xs) bytes))
 
 -- a clause that holds where storage goes on holds where the instruction does

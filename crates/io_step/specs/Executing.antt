@@ -5,25 +5,22 @@ use Rattle.chan_events.specs.declared.event.Instruction.{Instruction}
 use Rattle.chan_model.specs.declared.fault.Fault.{Fault}
 use Rattle.chan_events.specs.Replies.{Reply}
 use Rattle.subchannel_model.specs.declared.state.Subchannel.{Subchannel}
-use Rattle.machine_model.specs.State.{State, with_sub}
+use Rattle.machine_model.specs.State.{State, lent, with_sub}
 use Rattle.machine_model.specs.Results.{Outcome, does}
 use Rattle.machine_model.specs.InstructionSteps.{Executes_at}
-
-abbrev pub state_with_storage : State → Contents → State
-state_with_storage s storage = record s { storage = storage }
 
 -- in every machine that has this storage, and this subchannel at some index, the instruction is executed with this outcome:
 -- what it answers, and the machine with what is left of both
 abbrev pub Comes_to : Contents → Subchannel → ℕ → Instruction → (State → ℕ → Outcome) → Type 0
 Comes_to storage sub cpu i outcome =
-    (s : State) (index : ℕ) → slice_get s.subs index ≡ Some sub → Executes_at (state_with_storage s storage) cpu i (Some (record { index = index; sub = sub })) (outcome s index)
+    (s : State) (index : ℕ) → slice_get s.subs index ≡ Some sub → Executes_at (lent s storage) cpu i (Some (record { index = index; sub = sub })) (outcome s index)
 
 abbrev pub Executed : Contents → Subchannel → ℕ → Instruction → Result Reply Fault → Contents → Subchannel → Type 0
-Executed before old cpu i (Ok r) after new = Comes_to before old cpu i (λ s index. does r (with_sub (state_with_storage s after) index new))
+Executed before old cpu i (Ok r) after new = Comes_to before old cpu i (λ s index. does r (with_sub (lent s after) index new))
 Executed before old cpu i (Err f) after new = Comes_to before old cpu i (λ s index. Err f) × ((new ≡ old) × (after ≡ before))
 
 -- the same where the subchannel is not provided
 abbrev pub Executed_absent : Contents → ℕ → Instruction → Result Reply Fault → Contents → Type 0
-Executed_absent before cpu i (Ok r) after = (s : State) → Executes_at (state_with_storage s before) cpu i None (does r (state_with_storage s after))
+Executed_absent before cpu i (Ok r) after = (s : State) → Executes_at (lent s before) cpu i None (does r (lent s after))
 Executed_absent before cpu i (Err f) after =
-    ((s : State) → Executes_at (state_with_storage s before) cpu i None (Err f)) × (after ≡ before)
+    ((s : State) → Executes_at (lent s before) cpu i None (Err f)) × (after ≡ before)

@@ -10,6 +10,7 @@ ghost use Rattle.machine_model.specs.Bounds.{CanCount};
 ghost use Rattle.machine_model.specs.InstructionSteps as steps;
 ghost use Rattle.machine_model.specs.OtherSteps as other_spec;
 ghost use Rattle.machine_model.specs.State.{State};
+ghost use Rattle.machine_model.specs.State as state_spec;
 ghost use Rattle.subchannel_model.specs.Test.{tsch_code};
 ghost use Rattle.storage_keys.specs.Storage.{Contents, cleared_storage, operand_at, operand_check};
 
@@ -177,8 +178,8 @@ pub fn store(sub: &Subchannel) -> Answered
 
 /// The IRB that TEST SUBCHANNEL stores, where it stores one.
 fn irb_to_store(sub: &Subchannel) -> Option<Block>
-    ensures stored { (s : State) (storage : Contents) (cpu address : ℕ) → spec.state_with_storage s (given_spec.with_block storage cpu address result) ≡
-        steps.with_irb (spec.state_with_storage s storage) cpu address sub.now (steps.stores_irb (steps.code_at tsch_code sub.now)) }
+    ensures stored { (s : State) (storage : Contents) (cpu address : ℕ) → state_spec.lent s (given_spec.with_block storage cpu address result) ≡
+        steps.with_irb (state_spec.lent s storage) cpu address sub.now (steps.stores_irb (steps.code_at tsch_code sub.now)) }
     ensures size { length (given_spec.block_bytes result) ≤ 64 }
 {
     if stores_irb(test_code_of(sub)) {

@@ -1,9 +1,8 @@
 -- An instruction whose operand is given by value, as the event that it is wherever storage has the operand.
-use Rattle.std.proofs.Common.{◌≡◌, refl, sym, ◌∙◌, ap, subst, ℕ, Option, None, Some, Result, Ok, Err, List, Bool}
+use Rattle.std.proofs.Common.{◌≡◌, sym, ◌∙◌, ap, subst, ℕ, None, Some, Result, Ok, Err, List, Bool}
 use Rattle.storage_keys.specs.Storage.{Contents}
 use Rattle.channel_config.specs.declared.names.SubchannelId.{SubchannelId}
 use Rattle.channel_config.specs.SubchannelWords.{subchannel_named}
-use Rattle.chan_events.specs.Events.{Event}
 use Rattle.chan_events.specs.declared.event.Event.TheVariants as event
 use Rattle.chan_events.specs.Replies.{Reply}
 use Rattle.chan_model.specs.declared.fault.Fault.{Fault}
@@ -14,16 +13,16 @@ use Rattle.io_step.specs.declared.by_value.Answered.{Answered}
 use Rattle.io_step.specs.declared.by_value.ByValue.{ByValue}
 use Rattle.io_step.specs.declared.by_value.OtherByValue.{OtherByValue}
 use Rattle.io_step.specs.Executing.{Executed_absent}
-use Rattle.io_step.specs.GivenOperands.{HasOperand, HasRoom, instruction_at, other_at, outcome, storage_after, with_reply}
+use Rattle.io_step.specs.GivenOperands.{instruction_at, other_at, outcome, storage_after, with_reply}
 use Rattle.io_step.specs.Performing.{Performed, lent}
 use Rattle.io_step.proofs.Given.{word-of}
 use Rattle.subchannel_model.specs.declared.state.Subchannel.{Subchannel}
 use Rattle.subchannel_model.specs.Indices.{index_in}
-use Rattle.machine_model.specs.OtherSteps.{LentWhole, OtherResult, answers, engaged_chpids, lent_whole, other_result}
+use Rattle.machine_model.specs.OtherSteps.{answers, lent_whole, other_result}
 use Rattle.machine_model.specs.State.{State, with_sub}
 use Rattle.machine_model.specs.Steps.{Performs}
 use Rattle.signal_step.specs.Giving.{posted_since}
-use Rattle.machine.specs.Lent as machine
+use Rattle.machine_model.specs.State as machine
 use Rattle.machine.proofs.Lifting.{AreAlike, StandsAt, executes, executes-absent, executes-unnamed, other-performs}
 
 -- the subchannel named has the index

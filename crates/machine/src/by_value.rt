@@ -7,7 +7,7 @@ ghost use Rattle.chan_events.specs.declared.reply.Reply.TheVariants as reply_spe
 ghost use Rattle.event_log.specs.Logs.{IsKept, answer_in};
 ghost use Rattle.io_step.specs.GivenOperands as given_spec;
 ghost use Rattle.lookup.specs.Tables.{Fits};
-ghost use Rattle.machine.specs.Lent.{lent};
+ghost use Rattle.machine_model.specs.State.{lent};
 ghost use Rattle.machine.specs.Postable.{IsPostable};
 ghost use Rattle.machine_model.specs.Bounds.{CanCount};
 ghost use Rattle.machine_model.specs.Steps as spec;

@@ -11,7 +11,7 @@ ghost use Rattle.subchannel_model.specs.Store.{schib_of};
 ghost use Rattle.subchannel_model.specs.Test.{irb_of};
 ghost use Rattle.machine_model.specs.State.{State};
 ghost use Rattle.machine_model.specs.State as state_spec;
-ghost use Rattle.machine.specs.Lent.{lent, no_storage};
+ghost use Rattle.machine_model.specs.State.{lent, no_storage};
 
 use crate::machine::Machine;
 use chan_model::unit_state::UnitState;

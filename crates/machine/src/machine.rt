@@ -6,7 +6,7 @@ ghost use Rattle.machine_model.specs.State as state_spec;
 ghost use Rattle.machine_model.specs.Ruled.{GoesByRule};
 ghost use Rattle.machine_model.specs.Steps as spec;
 ghost use Rattle.machine_model.specs.Bounds.{CanCount, CanUnitCount};
-ghost use Rattle.machine.specs.Lent.{lent, no_storage};
+ghost use Rattle.machine_model.specs.State.{lent, no_storage};
 ghost use Rattle.machine.specs.Postable.{IsPostable};
 ghost use Rattle.storage_keys.specs.Storage.{Contents};
 ghost use Rattle.chan_events.specs.declared.event.Event.TheVariants as event_spec;
@@ -76,7 +76,7 @@ pub struct Machine {
 impl Model for Machine {
     ghost use Rattle.std.specs.Prelude.{◌≤◌, length};
     ghost use Rattle.machine_model.specs.State.{State};
-    ghost use Rattle.machine.specs.Lent.{no_storage};
+    ghost use Rattle.machine_model.specs.State.{no_storage};
     ghost use Rattle.lookup.specs.Tables.{Serves};
 
     ghost Value = { State };

@@ -8,7 +8,7 @@ ghost use Rattle.channel_config.specs.Setup as setup_spec;
 ghost use Rattle.control_units.specs.Units as members_spec;
 ghost use Rattle.lookup.specs.Tables.{Fits};
 ghost use Rattle.interruptions.specs.Requests.{no_requests_wait};
-ghost use Rattle.machine.specs.Lent.{lent, no_storage};
+ghost use Rattle.machine_model.specs.State.{lent, no_storage};
 ghost use Rattle.storage_keys.specs.Storage.{cleared_storage};
 
 use crate::machine::Machine;

@@ -5,7 +5,7 @@ ghost use Rattle.chan_events.specs.declared.reply.Reply.TheVariants as reply_spe
 ghost use Rattle.channel_config.specs.Lawful.{IsLawful};
 ghost use Rattle.event_log.specs.Logs.{IsKept, answer_in};
 ghost use Rattle.lookup.specs.Tables.{Fits};
-ghost use Rattle.machine.specs.Lent.{lent, no_storage};
+ghost use Rattle.machine_model.specs.State.{lent, no_storage};
 ghost use Rattle.machine.specs.Postable.{IsPostable};
 ghost use Rattle.machine_model.specs.Bounds.{CanCount, CanUnitCount};
 ghost use Rattle.machine_model.specs.Ruled.{GoesByRule};
@@ -36,7 +36,7 @@ pub struct MachineAndStorage {
 
 impl Model for MachineAndStorage {
     ghost use Rattle.machine_model.specs.State.{State};
-    ghost use Rattle.machine.specs.Lent.{lent};
+    ghost use Rattle.machine_model.specs.State.{lent};
 
     ghost Value = { State };
 

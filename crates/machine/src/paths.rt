@@ -8,7 +8,7 @@ ghost use Rattle.machine_model.specs.PathSteps as path_spec;
 ghost use Rattle.machine_model.specs.Requests as requests_spec;
 ghost use Rattle.machine_model.specs.Steps as spec;
 ghost use Rattle.signal_step.specs.Giving as giving_spec;
-ghost use Rattle.machine.specs.Lent.{lent};
+ghost use Rattle.machine_model.specs.State.{lent};
 ghost use Rattle.machine.specs.Postable.{IsPostable};
 ghost use Rattle.storage_keys.specs.Storage.{Contents};
 ghost use Rattle.chan_events.specs.Replies.{plain_outcome};

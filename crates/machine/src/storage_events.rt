@@ -3,7 +3,7 @@
 ghost use Rattle.std.specs.Prelude.{◌≡◌, ◌≤◌, Ok, IfErr, OnErr, OnOk};
 ghost use Rattle.chan_model.specs.declared.fault.Fault.TheVariants as fault_spec;
 ghost use Rattle.signal_step.specs.Giving as giving_spec;
-ghost use Rattle.machine.specs.Lent.{lent};
+ghost use Rattle.machine_model.specs.State.{lent};
 ghost use Rattle.machine_model.specs.State.{State};
 ghost use Rattle.machine_model.specs.StorageSteps as storage_spec;
 ghost use Rattle.chan_events.specs.declared.reply.Reply.TheVariants as reply_spec;

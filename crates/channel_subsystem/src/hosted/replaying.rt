@@ -7,7 +7,7 @@ ghost use Rattle.channel_subsystem.specs.Replaying.{AreRepeated, EndsAt, GoesOth
 ghost use Rattle.channel_subsystem.specs.declared.host_fault.HostFault.TheVariants as fault_spec;
 ghost use Rattle.channel_subsystem.specs.declared.not_replayed.Difference.TheVariants as difference_spec;
 ghost use Rattle.event_log.specs.Logs.{HasSame};
-ghost use Rattle.machine.specs.Lent.{lent};
+ghost use Rattle.machine_model.specs.State.{lent};
 ghost use Rattle.machine_model.specs.Steps.{HasRun};
 
 use super::ChannelSubsystem;

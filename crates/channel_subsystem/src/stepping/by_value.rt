@@ -7,7 +7,7 @@ ghost use Rattle.channel_subsystem.specs.GivenSteps.{given_event, other_event};
 ghost use Rattle.channel_subsystem.specs.Hosting.{HasNumber};
 ghost use Rattle.io_step.specs.GivenOperands.{HasOperand, HasRoom, outcome, storage_after, with_reply};
 ghost use Rattle.lookup.specs.Tables.{Fits};
-ghost use Rattle.machine.specs.Lent.{lent};
+ghost use Rattle.machine_model.specs.State.{lent};
 ghost use Rattle.machine_model.specs.Steps.{Performs};
 ghost use Rattle.storage_keys.specs.Storage.{Contents};
 

@@ -10,6 +10,7 @@ use chan_events::reply::Reply;
 use chan_model::fault::Fault;
 use io_step::{Answered, Block, ByValue, OtherByValue, absent_by_value};
 use scsw_irb::serials::Serials;
+use std::ops::Range;
 use storage_keys::MainStorage;
 
 /// An ORB of format 1 with all paths and a channel program at 1000.
@@ -26,15 +27,15 @@ fn code(answer: &Result<Answered, Fault>) -> Result<u8, Fault> {
     }
 }
 
-/// Whether the bytes from `first` on of the block that is left are these.
-fn leaves(answer: &Result<Answered, Fault>, first: usize, bytes: &[u8]) -> bool {
+/// Whether the bytes at these places of the block that is left are these.
+fn leaves(answer: &Result<Answered, Fault>, places: Range<usize>, bytes: &[u8]) -> bool {
     let Ok(answered) = answer else {
         return false;
     };
     match &answered.block {
         None => false,
-        Some(Block::Schib(schib)) => schib.get(first..first + bytes.len()) == Some(bytes),
-        Some(Block::Irb(irb)) => irb.get(first..first + bytes.len()) == Some(bytes),
+        Some(Block::Schib(schib)) => schib.get(places) == Some(bytes),
+        Some(Block::Irb(irb)) => irb.get(places) == Some(bytes),
     }
 }
 
@@ -94,7 +95,7 @@ fn a_schib_is_given_by_value(rt: HostRuntime) {
     assert!(rt; leaves_nothing(&good), "nothing is stored");
     assert!(rt; is_code(code(&stored), 0), "the subchannel is provided");
     assert!(rt;
-        leaves(&stored, 4, &[0x30, 0x85, 1, 0]),
+        leaves(&stored, 4..8, &[0x30, 0x85, 1, 0]),
         "subclass 6, enabled, multipath mode, of device 100"
     );
     assert!(rt; is_operand(code(&wrong)), "the block is wrong");
@@ -114,7 +115,10 @@ fn a_schib_is_left_that_would_be_stored(rt: HostRuntime) {
     let same = is_stored(&bench, &left);
     drop(bench);
     assert!(rt; is_code(code(&left), 0), "the subchannel is provided");
-    assert!(rt; leaves(&left, 4, &[0x38, 0x81, 1, 0]), "its block is left");
+    assert!(rt;
+        leaves(&left, 4..8, &[0x38, 0x81, 1, 0]),
+        "its block is left"
+    );
     assert!(rt; is_code(stored, 0), "the subchannel is provided");
     assert!(rt; same, "the block that is left is the one that is stored");
 }
@@ -160,7 +164,7 @@ fn an_irb_is_left_that_would_be_stored(rt: HostRuntime) {
     drop(stored);
     let irb = [0, 0x80, 0x40, 7, 0, 0, 0x10, 8, 0x0C, 0, 0, 0];
     assert!(rt; is_code(code(&left), 0), "status is pending");
-    assert!(rt; leaves(&left, 0, &irb), "the status word is left");
+    assert!(rt; leaves(&left, 0..12, &irb), "the status word is left");
     assert!(rt; code_of(&taken) == 0, "the request is taken out");
     assert!(rt; is_code(code_stored, 0), "status is pending");
     assert!(rt; same, "the block that is left is the one that is stored");

@@ -7,7 +7,7 @@ use Rattle.chan_model.specs.declared.answer.Answer.TheVariants as answer
 use Rattle.chan_events.specs.declared.reply.Reply.TheVariants as reply
 use Rattle.machine_model.specs.Results.{does}
 use Rattle.machine_model.specs.InstructionSteps.{PerformsEnable}
-use Rattle.io_step.specs.Executing.{state_with_storage}
+use Rattle.machine_model.specs.State.{lent}
 use Rattle.io_step.proofs.Executions.{enables-none, not-allowed, permitted}
 use Rattle.io_step.proofs.Reading.{second}
 use Rattle.io_step.proofs.absent.enable.Goals as goal
@@ -16,7 +16,7 @@ pub returns-then-not-is_allowed-clause-done : goal.returns-then-not-is_allowed-c
 returns-then-not-is_allowed-clause-done g c = λ word.
     let before = g.M.MainStorage.contents c.args.storage.now in
     let fetched = permitted (operand_at before c.args.cpu 0xF00 52 4) c.in_ok-image.image c.in_ok-image.ensures in (
-      λ s. subst (λ (x : Result (List ℕ) StorageFault). PerformsEnable (state_with_storage s before) c.args.cpu None c.args.subclass c.args.multipath x (Err fault.Operand)) (sym fetched)
+      λ s. subst (λ (x : Result (List ℕ) StorageFault). PerformsEnable (lent s before) c.args.cpu None c.args.subclass c.args.multipath x (Err fault.Operand)) (sym fetched)
           (pmcw_of_words c.word_in-words.result, c.word_in-words.ensures.shown, inl (not-allowed (pmcw_of_words c.word_in-words.result) c.is_allowed.result c.if-not-is_allowed.true c.is_allowed.ensures.1, refl)),
       refl,
     )
@@ -28,6 +28,6 @@ returns-clause-done g c = λ word s.
     let fetched = permitted (operand_at before c.args.cpu 0xF00 52 4) c.in_ok-image.image c.in_ok-image.ensures in
     let left = enables-none s before after c.args.cpu c.number.result c.args.subclass c.args.multipath c.in_ok-image.image c.be_bytes-placed.result _ c.enabling_word.result
     (second c.in_ok-image.image c.word_in-words.result c.word_in-words.ensures.words) c.enabling_word.ensures c.be_bytes-placed.ensures c.number.ensures.value c.store_operand.ensures.stored in
-    subst (λ (x : Result (List ℕ) StorageFault). PerformsEnable (state_with_storage s before) c.args.cpu None c.args.subclass c.args.multipath x
-    (does (reply.Code answer.Three) (state_with_storage s after))) (sym fetched)
+    subst (λ (x : Result (List ℕ) StorageFault). PerformsEnable (lent s before) c.args.cpu None c.args.subclass c.args.multipath x
+    (does (reply.Code answer.Three) (lent s after))) (sym fetched)
     (pmcw_of_words c.word_in-words.result, c.word_in-words.ensures.shown, inr (c.is_allowed.ensures.0 c.if-not-is_allowed.false, ap (does (reply.Code answer.Three)) left))

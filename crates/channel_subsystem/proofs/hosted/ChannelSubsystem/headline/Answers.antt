@@ -1,5 +1,5 @@
 use Rattle.std.proofs.Common.{subst}
-use Rattle.machine.specs.Lent.{lent}
+use Rattle.machine_model.specs.State.{lent}
 use Rattle.channel_subsystem.specs.Hosting.{HasLed}
 use Rattle.channel_subsystem.proofs.hosted.ChannelSubsystem.headline.Goals as goal
 

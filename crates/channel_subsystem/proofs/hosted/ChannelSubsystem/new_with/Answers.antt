@@ -11,7 +11,7 @@ invariant_of-result g c =
     let none = c.make_room_with.ensures.kept.entries ∙ ap (λ l. l.entries) c.new-log.ensures in
     let room : 1 ≤ log.room = search rules in (
       ([], cleared_storage c.args.blocks, led-opens c.args.config c.args.blocks s c.in-Ok.ensures.lawful c.if-blocks-lt16.false c.in-Ok.ensures.opened refl none),
-      (c.in-Ok.ensures.fits, (c.make_room_with.ensures.reply ∙ ap (λ l. l.reply) c.new-log.ensures, (omega (arith, room), (c.if-blocks-lt16.false, c.if-blocks-gt524_288.false)))),
+      (c.in-Ok.ensures.fits, (c.make_room_with.ensures.reply ∙ ap (λ l. l.reply) c.new-log.ensures, (omega (arith, room), (c.if-blocks-lt16.false, c.if-blocks-gt524288.false)))),
     )
 
 pub returns-in-Ok-clause-leads : goal.returns-in-Ok-clause-leads

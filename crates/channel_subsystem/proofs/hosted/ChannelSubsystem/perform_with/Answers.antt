@@ -3,7 +3,7 @@ use Rattle.chan_events.specs.declared.reply.Entry.{Entry}
 use Rattle.channel_subsystem.specs.Hosting.{HasLed, Hosted, IsHostStep}
 use Rattle.channel_subsystem.specs.declared.host_fault.HostFault.TheVariants as fault
 use Rattle.event_log.specs.Logs.{Logged, last_reply}
-use Rattle.machine.specs.Lent.{lent}
+use Rattle.machine_model.specs.State.{lent}
 use Rattle.machine_model.specs.Ruled.{GoesByRule}
 use Rattle.machine_model.specs.State.{State}
 use Rattle.channel_subsystem.proofs.Answering.{HasLaws, accepted, as-before, lacks-room, unmoved-seen}

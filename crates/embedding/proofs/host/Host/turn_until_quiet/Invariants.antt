@@ -1,5 +1,9 @@
-use Rattle.embedding.specs.Hosts.{GoesOn}
+use Rattle.std.proofs.Common.{◌≡◌}
+use Rattle.embedding.specs.Hosts.{GoesOn, moment}
 use Rattle.embedding.proofs.host.Host.turn_until_quiet.Given as goal
 
 abbrev pub invariant-loop : goal.invariant-loop
-invariant-loop l = GoesOn l.counter l.fn.self.past l.self.past
+invariant-loop g l = record {
+  goes : GoesOn l.counter (moment l.fn.self.subsystem (g.M.MainStorage.contents l.fn.storage)) (moment l.self.subsystem (g.M.MainStorage.contents l.storage));
+  lender : g.M.MainStorage.lender l.storage ≡ g.M.MainStorage.lender l.fn.storage;
+}

@@ -6,7 +6,7 @@ use Rattle.machine_model.specs.ActSteps.{side_of_act}
 use Rattle.subchannel_model.specs.Indices.{reached_in}
 use Rattle.machine_model.specs.Steps.{Performs}
 use Rattle.chan_events.specs.Replies.{plain_outcome}
-use Rattle.machine.specs.Lent.{lent}
+use Rattle.machine_model.specs.State.{lent}
 use Rattle.machine.specs.contracts.machine.Machine.{the_view}
 use Rattle.machine.proofs.Lifting.{at_seen, act-performs, gets}
 use Rattle.machine.proofs.Serving.{serves-still}

@@ -4,7 +4,7 @@ use Rattle.chan_events.specs.declared.event.Event.TheVariants as event
 use Rattle.machine_model.specs.State.{State, with_sub, state_with_unit}
 use Rattle.machine_model.specs.Steps.{Performs}
 use Rattle.event_log.specs.Logs.{answer_in}
-use Rattle.machine.specs.Lent.{lent}
+use Rattle.machine_model.specs.State.{lent}
 use Rattle.machine.specs.contracts.machine.Machine.{the_view}
 use Rattle.machine.proofs.Lifting.{at_seen, named_at, down-performs-at, gets}
 use Rattle.machine.proofs.Serving.{serves-still}

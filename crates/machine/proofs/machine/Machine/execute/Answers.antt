@@ -7,7 +7,7 @@ use Rattle.subchannel_model.specs.Indices.{index_in}
 use Rattle.chan_events.specs.Instructions.{subchannel_word}
 use Rattle.chan_events.specs.Replies.{plain_outcome}
 use Rattle.signal_step.specs.Giving.{posted_since}
-use Rattle.machine.specs.Lent.{lent}
+use Rattle.machine_model.specs.State.{lent}
 use Rattle.machine.specs.contracts.machine.Machine.{the_view}
 use Rattle.machine.proofs.Lifting.{at_seen, executes, executes-absent, executes-unnamed, gets}
 use Rattle.machine.proofs.Serving.{served-performed}

@@ -7,7 +7,7 @@ use Rattle.machine_model.specs.State.{State, with_sub}
 use Rattle.machine_model.specs.Steps.{Performs}
 use Rattle.subchannel_model.specs.Indices.{index_in}
 use Rattle.signal_step.specs.Giving.{posted_since}
-use Rattle.machine.specs.Lent.{lent}
+use Rattle.machine_model.specs.State.{lent}
 use Rattle.machine.specs.contracts.machine.Machine.{the_view}
 use Rattle.machine.proofs.GivenSteps.{given-absent, given-performs, given-unnamed}
 use Rattle.machine.proofs.Lifting.{at_seen, gets}

@@ -4,7 +4,7 @@ use Rattle.machine_model.specs.State.{State}
 use Rattle.machine_model.specs.Steps.{Performs}
 use Rattle.subchannel_model.specs.declared.state.Subchannel.{Subchannel}
 use Rattle.chan_events.specs.Replies.{plain_outcome}
-use Rattle.machine.specs.Lent.{lent}
+use Rattle.machine_model.specs.State.{lent}
 use Rattle.machine.specs.contracts.machine.Machine.{the_view}
 use Rattle.machine.proofs.Lifting.{other-performs, AreAlike}
 use Rattle.machine.proofs.machine.Machine.execute_other.Goals as goal

@@ -5,7 +5,7 @@ use Rattle.io_step.specs.GivenOperands.{other_at, with_reply}
 use Rattle.machine_model.specs.State.{State}
 use Rattle.machine_model.specs.Steps.{Performs}
 use Rattle.subchannel_model.specs.declared.state.Subchannel.{Subchannel}
-use Rattle.machine.specs.Lent.{lent}
+use Rattle.machine_model.specs.State.{lent}
 use Rattle.machine.specs.contracts.machine.Machine.{the_view}
 use Rattle.machine.proofs.GivenSteps.{given-other}
 use Rattle.machine.proofs.Lifting.{AreAlike}

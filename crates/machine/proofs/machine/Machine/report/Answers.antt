@@ -5,7 +5,7 @@ use Rattle.machine_model.specs.State.{State, with_sub, state_with_unit}
 use Rattle.subchannel_model.specs.Indices.{reached_in}
 use Rattle.machine_model.specs.Steps.{Performs}
 use Rattle.chan_events.specs.Replies.{plain_outcome}
-use Rattle.machine.specs.Lent.{lent}
+use Rattle.machine_model.specs.State.{lent}
 use Rattle.machine.specs.contracts.machine.Machine.{the_view}
 use Rattle.machine.proofs.Lifting.{at_seen, report-performs, gets}
 use Rattle.machine.proofs.Serving.{serves-still}

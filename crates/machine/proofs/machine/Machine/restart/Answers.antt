@@ -4,7 +4,7 @@ use Rattle.chan_events.specs.declared.event.Event.TheVariants as event
 use Rattle.chan_events.specs.declared.reply.Reply.TheVariants as reply
 use Rattle.machine_model.specs.State.{State, state_with_unit}
 use Rattle.machine_model.specs.Steps.{Performs}
-use Rattle.machine.specs.Lent.{lent}
+use Rattle.machine_model.specs.State.{lent}
 use Rattle.machine.specs.contracts.machine.Machine.{the_view}
 use Rattle.machine.proofs.Lifting.{restart-performs}
 use Rattle.machine.proofs.machine.Machine.restart.Goals as goal

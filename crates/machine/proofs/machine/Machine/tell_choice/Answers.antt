@@ -3,7 +3,7 @@ use Rattle.chan_model.specs.declared.fault.Fault.{Fault}
 use Rattle.chan_events.specs.declared.event.Event.TheVariants as event
 use Rattle.chan_events.specs.Replies.{Reply}
 use Rattle.machine_model.specs.Ruled.{GoesByRule}
-use Rattle.machine.specs.Lent.{lent}
+use Rattle.machine_model.specs.State.{lent}
 use Rattle.machine.proofs.machine.Machine.tell_choice.Goals as goal
 
 pub returns-clause-ruled : goal.returns-clause-ruled

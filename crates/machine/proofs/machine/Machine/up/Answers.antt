@@ -6,7 +6,7 @@ use Rattle.machine_model.specs.State.{State, with_sub}
 use Rattle.machine_model.specs.Steps.{Performs}
 use Rattle.event_log.specs.Logs.{answer_in}
 use Rattle.signal_step.specs.Giving.{MayReturn, posted_since}
-use Rattle.machine.specs.Lent.{lent}
+use Rattle.machine_model.specs.State.{lent}
 use Rattle.machine.specs.contracts.machine.Machine.{the_view}
 use Rattle.machine.proofs.Lifting.{at_seen, named_at, one_there, up-pathless, up-performs, gets}
 use Rattle.machine.proofs.Serving.{served-performed}
