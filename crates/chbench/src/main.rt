@@ -33,6 +33,7 @@ use crate::lent::{LentAnswering, LentLooking, LentPerforming};
 use crate::race::{Race, RaceCount};
 use crate::seats::{Outcome, Task};
 use channel_subsystem::hosted::ChannelSubsystem;
+use channel_subsystem::keeping::Keeping;
 use path_select::Rotating;
 use std::alloc::Global;
 use std::process::ExitCode;
@@ -212,7 +213,13 @@ fn on_lent(
     cycles: u64,
 ) -> Option<Count> {
     let config = config_of(alloc, subchannels, kind.paths())?;
-    let subsystem = ChannelSubsystem::new(alloc, config, BLOCKS, Rotating).ok()?;
+    let subsystem = ChannelSubsystem::new(
+        alloc,
+        config,
+        BLOCKS,
+        Keeping::LastEntry,
+        Rotating,
+    ).ok()?;
     let mut bytes = vec![in alloc; 0; 0x1000 * BLOCKS as usize].ok()?;
     let mut keys = vec![in alloc; 0; BLOCKS as usize].ok()?;
     let mut prefixes = [0; 16];

@@ -8,6 +8,7 @@ use Rattle.chan_events.specs.declared.reply.Entry.{Entry}
 use Rattle.chan_events.specs.Replies.{Reply}
 use Rattle.chan_events.specs.declared.reply.Reply.TheVariants as reply
 use Rattle.channel_subsystem.specs.declared.host_fault.HostFault.{HostFault}
+use Rattle.channel_subsystem.specs.Ends.{still_kept}
 use Rattle.channel_subsystem.specs.Hosting.{Hosted}
 use Rattle.storage_keys.specs.Storage.{Contents}
 use Rattle.event_log.specs.Logs.{last_reply}
@@ -32,8 +33,8 @@ goes_then m n a b c h k = record {
 
 pub as_before : (a b : Moment) (e : Event) (f : HostFault) → Enters a e (Err f) b → IsAsBefore a b
 as_before a b e f h = record {
-  state = ap (λ (s : Hosted). lent s.machine b.storage) h.refused.0 ∙ ap (λ (c : Contents). lent a.subsystem.machine c) h.refused.1;
-  count = ap (λ (s : Hosted). s.count) h.refused.0;
+  state = ap (λ (s : Hosted). lent s.machine b.storage) h.refused.0.same ∙ ap (λ (c : Contents). lent a.subsystem.machine c) h.refused.1;
+  count = ap (λ (s : Hosted). s.count) h.refused.0.same;
   blocks = h.blocks;
 }
 
@@ -54,7 +55,7 @@ entered a b e (Ok u) h k = goes_once a b e (last_reply h) k
 entered a b e (Err f) h k = tt
 
 pub turned_idle : (word : ℕ) (a b : Moment) → Enters a (event.Choose word) (Ok reply.Idle) b → Turned word 1 Quiet a b
-turned_idle word a b h = (1, omega arith, goes_once a b (event.Choose word) reply.Idle h, ([], h.last))
+turned_idle word a b h = (1, omega arith, goes_once a b (event.Choose word) reply.Idle h, (still_kept a.subsystem.keeping a.subsystem.kept, h.kept))
 
 pub turned_refused : (word : ℕ) (a b : Moment) (e : Event) (f : HostFault) → Enters a e (Err f) b → Turned word 1 (Refused f) a b
 turned_refused word a b e f h = (0, omega arith, goes_nowhere a b (as_before a b e f h))

@@ -62,7 +62,7 @@ pub record GoesOn (count : ℕ) (old new : Moment) : Type 0 where
 
 -- the last answer is that there was nothing to choose for the subchannel
 abbrev pub EndsIdle : ℕ → Moment → Type 0
-EndsIdle word m = (entries : List Entry) × (m.subsystem.last ≡ entries ++ record { event = event.Choose word; reply = reply.Idle } ∷ [])
+EndsIdle word m = (entries : List Entry) × (m.subsystem.kept ≡ entries ++ record { event = event.Choose word; reply = reply.Idle } ∷ [])
 
 -- What turns came to: so many events, and more may be due; or fewer or as many, where nothing was due or an event was refused.
 abbrev pub Turned : ℕ → ℕ → Turn → Moment → Moment → Type 0

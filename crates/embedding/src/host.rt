@@ -17,6 +17,7 @@ use channel_config::config::{Config, ConfigFault};
 use channel_config::parts::UnitKind;
 use channel_subsystem::host_fault::HostFault;
 use channel_subsystem::hosted::ChannelSubsystem;
+use channel_subsystem::keeping::Keeping;
 use machine_model::state::UnitTurn;
 use path_select::Rotating;
 use std::alloc::Global;
@@ -78,7 +79,13 @@ impl Host {
         ensures waiting { IfSome result (λ h. h.waiting ≡ None) }
     {
         let config = configured(alloc).ok()?;
-        let subsystem = ChannelSubsystem::new(alloc, config, blocks, Rotating).ok()?;
+        let subsystem = ChannelSubsystem::new(
+            alloc,
+            config,
+            blocks,
+            Keeping::LastEntry,
+            Rotating,
+        ).ok()?;
         Some(Host {
             subsystem,
             clock,
@@ -107,7 +114,7 @@ impl Host {
 
     /// The same for one who does not keep the reply: the subsystem lends it, and nothing is copied.
     fn enter<M: MainStorage>(&mut self, storage: &mut M, event: &Event) -> Result<(), HostFault>
-        ensures enters { Enters (moment self.old.subsystem (M.contents storage.old)) event.now (answer_of result self.new.subsystem.last) (moment self.new.subsystem (M.contents storage.new)) }
+        ensures enters { Enters (moment self.old.subsystem (M.contents storage.old)) event.now (answer_of result self.new.subsystem.kept) (moment self.new.subsystem (M.contents storage.new)) }
         ensures lender { M.lender storage.new ≡ M.lender storage.old }
     {
         self.subsystem.perform(storage, event)

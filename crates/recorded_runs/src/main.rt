@@ -21,6 +21,7 @@ use crate::guest_storage::GuestStorage;
 use crate::lines::{LineOutcome, perform_line};
 use crate::setup::RunSetup;
 use channel_subsystem::hosted::ChannelSubsystem;
+use channel_subsystem::keeping::Keeping;
 use path_select::Rotating;
 use std::alloc::{AllocError, Global};
 use std::rt::Files;
@@ -69,7 +70,14 @@ impl Guest {
     /// What is set up so; None where it can't be opened.
     fn opened(alloc: Global, setup: RunSetup) -> Option<Guest> {
         let storage = GuestStorage::new(alloc, setup.blocks).ok()?;
-        let subsystem = ChannelSubsystem::new(alloc, setup.config, setup.blocks, Rotating).ok()?;
+        let subsystem = ChannelSubsystem::new(
+            alloc,
+            setup.config,
+            setup.blocks,
+            Keeping::LastEntry,
+            Rotating,
+        )
+        .ok()?;
         Some(Guest { subsystem, storage })
     }
 

@@ -11,4 +11,4 @@ returns-in-Ok-clause-turned g c =
     let old = moment c.args.self.now.subsystem (held c.args.storage.now) in
     let new = moment c.enter.new.self.subsystem (held c.enter.new.storage) in
     subst (λ (h : Hosts). GoesOn 1 old (moment h.subsystem (held c.enter.new.storage))) (sym c.self.view_is)
-    (goes_once old new (event.Report 0 c.args.report) (last_reply c.enter.new.self.subsystem.last) c.in-Ok.ensures.enters)
+    (goes_once old new (event.Report 0 c.args.report) (last_reply c.enter.new.self.subsystem.kept) c.in-Ok.ensures.enters)

@@ -7,4 +7,4 @@ returns-clause-done g c =
     let held = g.M.MainStorage.contents in
     rw c.is_ok.ensures.value
     (entered (moment c.args.self.now.subsystem (held c.args.storage.now)) (moment c.enter.new.self.subsystem (held c.enter.new.storage)) c.args.event.now
-    c.enter.result c.enter.new.self.subsystem.last c.enter.ensures.enters)
+    c.enter.result c.enter.new.self.subsystem.kept c.enter.ensures.enters)
