@@ -1,5 +1,5 @@
 -- One event and its answer, by what the machine did on the host's storage and what the log has.
-use Rattle.std.proofs.Common.{◌≡◌, ◌≤◌, refl, sym, ◌∙◌, ap, subst, ◌+◌, arith, ℕ, List, [], ◌∷◌, ◌++◌, Ok, Err, inl, inr}
+use Rattle.std.proofs.Common.{◌≡◌, ◌≤◌, refl, sym, ◌∙◌, ap, subst, arith, ℕ, List, ◌++◌, Ok, Err, inl, inr}
 use Rattle.std.specs.Prelude.{◌⊎◌, IfSome}
 use Rattle.std.proofs.lemmas.List.{append-nil}
 use Rattle.storage_keys.specs.Storage.{Contents, IsAddressable}

@@ -1,6 +1,6 @@
 -- Histories that lead to a channel subsystem of a host, as they open and go on.
 use Rattle.std.proofs.Common.{◌≡◌, refl, sym, ◌∙◌, ap, subst, ℕ, ◌+◌, ◌*◌, ◌/◌, ◌^◌, ◌≤◌, not, List, [], ◌∷◌, ◌++◌, length, append_assoc, arith}
-use Rattle.std.proofs.lemmas.List.{append-nil, length-replicate}
+use Rattle.std.proofs.lemmas.List.{length-replicate}
 use Rattle.std.proofs.lemmas.List.Sums.{count_by-le-length}
 use Rattle.storage_keys.specs.Storage.{Contents, IsAddressable, cleared_storage}
 use Rattle.chan_events.specs.Events.{Event}

@@ -1,4 +1,6 @@
-use Rattle.std.proofs.Common.{◌<◌, ◌∙◌, length, rules}
+use Rattle.std.proofs.Common.{◌≡◌, ◌≤◌, ◌<◌, ◌∙◌, subst, length, take, List, rules}
+use Rattle.std.proofs.lemmas.List.{take_all}
+use Rattle.chan_events.specs.declared.reply.Entry.{Entry}
 use Rattle.channel_subsystem.specs.Replaying.{AreRepeated}
 use Rattle.channel_subsystem.specs.declared.not_replayed.NotReplayed.{NotReplayed}
 use Rattle.channel_subsystem.proofs.Repeating.{ends-at, repeated-leads, repeated-on, repeated-runs}
@@ -27,11 +29,15 @@ returns-in-Err-clause-ended g c =
 pub returns-clause-leads : goal.returns-clause-leads
 returns-clause-leads g c =
     let contents = g.M.MainStorage.contents in
-    let all : AreRepeated g.P.PathChoice.picks c.args.self.now (contents c.args.storage.now) c.args.history.now c.loop-index.self (contents c.loop-index.storage) = search rules in
-    repeated-leads g.P.PathChoice.picks c.args.self.now (contents c.args.storage.now) c.args.history.now c.loop-index.self (contents c.loop-index.storage) all
+    let past : length c.args.history.now ≤ c.loop-index.index = search rules in
+    let all : take c.loop-index.index c.args.history.now ≡ c.args.history.now = take_all c.loop-index.index c.args.history.now past in
+    repeated-leads g.P.PathChoice.picks c.args.self.now (contents c.args.storage.now) c.args.history.now c.loop-index.self (contents c.loop-index.storage)
+    (subst (λ (l : List Entry). AreRepeated g.P.PathChoice.picks c.args.self.now (contents c.args.storage.now) l c.loop-index.self (contents c.loop-index.storage)) all c.loop-index.invariant.repeated)
 
 pub returns-clause-runs : goal.returns-clause-runs
 returns-clause-runs g c =
     let contents = g.M.MainStorage.contents in
-    let all : AreRepeated g.P.PathChoice.picks c.args.self.now (contents c.args.storage.now) c.args.history.now c.loop-index.self (contents c.loop-index.storage) = search rules in
-    repeated-runs c.setups.ensures.set_up g.P.PathChoice.picks c.args.self.now (contents c.args.storage.now) c.args.history.now c.loop-index.self (contents c.loop-index.storage) all
+    let past : length c.args.history.now ≤ c.loop-index.index = search rules in
+    let all : take c.loop-index.index c.args.history.now ≡ c.args.history.now = take_all c.loop-index.index c.args.history.now past in
+    repeated-runs c.setups.ensures.set_up g.P.PathChoice.picks c.args.self.now (contents c.args.storage.now) c.args.history.now c.loop-index.self (contents c.loop-index.storage)
+    (subst (λ (l : List Entry). AreRepeated g.P.PathChoice.picks c.args.self.now (contents c.args.storage.now) l c.loop-index.self (contents c.loop-index.storage)) all c.loop-index.invariant.repeated)
