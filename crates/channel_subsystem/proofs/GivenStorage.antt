@@ -1,15 +1,17 @@
 -- Storage that has the operand of an instruction by value, and storage with what such an instruction leaves: as large, and as
 -- storage is.
 use Rattle.std.proofs.Common.{◌≡◌, refl, sym, ◌∙◌, ap, subst, ℕ, zero, suc, ◌+◌, ◌*◌, ◌^◌, ◌≤◌, List, [], ◌∷◌, ◌++◌, length, map, drop, set, Option, None, Some, Result, Ok, Err, arith, length-append}
-use Rattle.std.specs.Prelude.{Unit, replicate, slice_index}
-use Rattle.std.proofs.lemmas.List.{length-drop, length-replicate, length-set}
+use Rattle.std.specs.Prelude.{replicate, slice_index}
+use Rattle.zbits.specs.Words.{bytes_of_words}
+use Rattle.std.proofs.lemmas.List.{length-drop, length-map, length-replicate, length-set}
 use Rattle.std.proofs.lemmas.List.FromFn.{length-map-range_with_len}
 use Rattle.storage_keys.specs.Storage.{Contents, IsAddressable, IsPrefix, absolute, absolute_addresses, cleared_storage, operand_at, operand_check, operand_stored, put_at, where_permitted, with_values}
 use Rattle.storage_keys.specs.declared.StorageFault.{StorageFault}
 use Rattle.scsw_irb.specs.declared.code.IntCode.{IntCode}
 use Rattle.chan_events.specs.Replies.{Reply}
 use Rattle.chan_events.specs.declared.reply.Reply.TheVariants as reply
-use Rattle.machine_model.specs.OtherSteps.{code_stored}
+use Rattle.chan_events.specs.ReportWords.{report_word}
+use Rattle.machine_model.specs.OtherSteps.{code_stored, code_words}
 use Rattle.io_step.specs.GivenOperands.{HasOperand, block_bytes, storage_with, with_block, with_reply}
 use Rattle.io_step.specs.declared.by_value.Block.{Block}
 use Rattle.io_step.specs.declared.by_value.ByValue.{ByValue}
@@ -38,11 +40,11 @@ block-addressable s cpu (Some block) k = stored-addressable s cpu 0 (block_bytes
 
 code-addressable : (s : Contents) (cpu : ℕ) (found : Option IntCode) → IsAddressable s → IsAddressable (code_stored s cpu 0 found)
 code-addressable s cpu None k = k
-code-addressable s cpu (Some code) k = stored-addressable s cpu 184 _ k
+code-addressable s cpu (Some code) k = stored-addressable s cpu 184 (bytes_of_words (code_words 0 code)) k
 
 pub reply-addressable : (s : Contents) (cpu : ℕ) (r : Reply) → IsAddressable s → IsAddressable (with_reply s cpu 0 r)
 reply-addressable s cpu (reply.Interruption found) k = code-addressable s cpu found k
-reply-addressable s cpu (reply.ChannelReport report) k = stored-addressable s cpu 0 _ k
+reply-addressable s cpu (reply.ChannelReport report) k = stored-addressable s cpu 0 (bytes_of_words (report_word report ∷ [])) k
 reply-addressable s cpu (reply.Paths engaged) k = stored-addressable s cpu 0 engaged k
 reply-addressable s cpu reply.Done k = k
 reply-addressable s cpu (reply.Shown bytes) k = k

@@ -1,5 +1,5 @@
 -- An instruction whose operand is given by value, as a step of a channel subsystem on each storage that has the operand.
-use Rattle.std.proofs.Common.{◌≡◌, refl, ℕ, ◌+◌, ◌^◌, ◌≤◌, List, Ok, Err}
+use Rattle.std.proofs.Common.{◌≡◌, refl, ℕ, ◌+◌, ◌^◌, ◌≤◌, ◌⊎◌, List, Ok, Err}
 use Rattle.std.specs.Prelude.{IfSome}
 use Rattle.storage_keys.specs.Storage.{Contents, IsAddressable, cleared_storage}
 use Rattle.chan_events.specs.declared.reply.Entry.{Entry}
@@ -16,10 +16,12 @@ use Rattle.path_select.specs.Choice.{Rule}
 use Rattle.subsystem.proofs.Pasts.{KeepsSetUps}
 use Rattle.channel_subsystem.specs.Ends.{still_kept}
 use Rattle.channel_subsystem.specs.GivenSteps.{IsGivenStep, IsOtherGivenStep, given_event, other_event}
-use Rattle.channel_subsystem.specs.Hosting.{HasLed, Hosted, IsHostRefusal, IsHostSize, IsOfSize, machine_answer}
+use Rattle.chan_events.specs.Events.{Event}
+use Rattle.channel_subsystem.specs.declared.keeping.Keeping.TheVariants.{AllEntries}
+use Rattle.channel_subsystem.specs.Hosting.{HasLed, Hosted, IsHostRefusal, IsHostSize, IsOfSize, LacksRoom, machine_answer}
 use Rattle.channel_subsystem.specs.declared.host_fault.HostFault.{HostFault}
 use Rattle.channel_subsystem.specs.declared.host_fault.HostFault.TheVariants as fault
-use Rattle.channel_subsystem.proofs.Answering.{HasLaws, accepted, unmoved-seen}
+use Rattle.channel_subsystem.proofs.Answering.{HasLaws, accepted, lacks-room, unmoved-seen}
 use Rattle.channel_subsystem.proofs.GivenStorage.{at-first, block-addressable, given-storage, reply-addressable}
 use Rattle.channel_subsystem.proofs.Leading.{Adds, led-number, led-on}
 
@@ -42,6 +44,14 @@ given-led keeps old new cpu word i answered host there performs adds led =
     let hosts = given-storage i old.blocks cpu host there in
     led-on keeps old new before (with_block before cpu 0 answered.block) (given_event cpu word i) (reply_of answered.reply) adds (performs before there)
     hosts.sound (block-addressable before cpu answered.block hosts.sound) hosts.size led
+
+-- there was no room for the entry
+pub lacks-why : (s : Hosted) (room : ℕ) (before : Contents) (e : Event) (f : HostFault) → (s.keeping ≡ AllEntries) ⊎ (1 ≤ room) → s.room ≤ room → LacksRoom s.count room f →
+    IsHostRefusal s before e f
+lacks-why s room before e fault.OtherSize all more why = absurd why
+lacks-why s room before e fault.NumbersUsedUp all more why = why
+lacks-why s room before e fault.NoMemory all more why = lacks-room s room all more why
+lacks-why s room before e (fault.Refused f) all more why = absurd why
 
 -- the call was refused
 given-unruled : (picks : Rule) (s : State) (cpu word : ℕ) (i : ByValue) (f : HostFault) → IfSome (machine_answer (Err f)) (λ a. GoesByRule picks s (given_event cpu word i) a s)

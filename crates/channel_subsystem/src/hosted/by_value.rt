@@ -16,7 +16,7 @@ use io_step::{Answered, ByValue, OtherByValue};
 use memory::{Allocator, Supply};
 use path_select::PathChoice;
 use run_laws::answers::codes;
-use run_laws::states::{setups, steps};
+use run_laws::states::{numbers, setups, steps};
 
 impl<P: PathChoice + Drop> ChannelSubsystem<P> {
     /// A CPU executes an instruction on the subchannel that a subsystem-identification word names, with its operand by value: what
@@ -54,6 +54,7 @@ impl<P: PathChoice + Drop> ChannelSubsystem<P> {
         ensures unrefused { result ≢ Err fault_spec.NoMemory → S.refused supply.new ≡ S.refused supply.old }
         ensures memory { result ≡ Err fault_spec.NoMemory → S.refused supply.new ≡ true }
     {
+        numbers();
         setups();
         steps();
         codes();
@@ -105,6 +106,7 @@ impl<P: PathChoice + Drop> ChannelSubsystem<P> {
         ensures unrefused { result ≢ Err fault_spec.NoMemory → S.refused supply.new ≡ S.refused supply.old }
         ensures memory { result ≡ Err fault_spec.NoMemory → S.refused supply.new ≡ true }
     {
+        numbers();
         setups();
         steps();
         codes();
