@@ -60,7 +60,7 @@ returns-in-Ok-clause-stepped g c =
     } in
     let laws : HasLaws = record { keeps = c.setups.ensures.set_up; later = c.steps.ensures.subs; pending = c.numbers.ensures.pending; table = c.codes.ensures.table } in
     subst (λ (s : Hosted). IsGivenStep g.P.PathChoice.picks s c.args.cpu c.args.subchannel i (Ok answered) new) c.self.view_is
-    (given-accepted laws g.P.PathChoice.picks old new c.args.cpu c.args.subchannel i answered c.self.invariant.0 (omega (arith, c.not-Err.ensures.number)) c.in-Ok.ensures.performs adds)
+    (given-accepted laws g.P.PathChoice.picks old new c.args.cpu c.args.subchannel i answered c.self.invariant.0 (omega (arith, c.in_default.ensures.number)) c.in-Ok.ensures.performs adds)
 
 pub returns-in-Err-keep_by_value-clause-stepped : goal.returns-in-Err-keep_by_value-clause-stepped
 returns-in-Err-keep_by_value-clause-stepped g c =

@@ -57,4 +57,4 @@ returns-clause-stepped g c =
     } in
     let laws : HasLaws = record { keeps = c.setups.ensures.set_up; later = c.steps.ensures.subs; pending = c.numbers.ensures.pending; table = c.codes.ensures.table } in
     subst (λ (s : Hosted). IsOtherGivenStep g.P.PathChoice.picks s c.args.cpu c.args.instruction (Ok plain) new) c.self.view_is
-    (other-accepted laws g.P.PathChoice.picks old new c.args.cpu c.args.instruction plain c.self.invariant.0 (omega (arith, c.not-Err.ensures.number)) c.keep_other_by_value-reply.ensures.performs adds)
+    (other-accepted laws g.P.PathChoice.picks old new c.args.cpu c.args.instruction plain c.self.invariant.0 (omega (arith, c.in_default.ensures.number)) c.keep_other_by_value-reply.ensures.performs adds)
