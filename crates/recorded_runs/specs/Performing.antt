@@ -14,7 +14,7 @@ use Rattle.path_select.specs.Choice.{Rule}
 use Rattle.machine_model.specs.State.{State, unit_turn_of}
 use Rattle.channel_subsystem.specs.Hosting.{Hosted, IsHostStep}
 use Rattle.channel_subsystem.specs.declared.host_fault.HostFault.{HostFault}
-use Rattle.channel_subsystem.specs.declared.host_fault.HostFault.TheVariants.{OtherSize, NumbersUsedUp, Refused}
+use Rattle.channel_subsystem.specs.declared.host_fault.HostFault.TheVariants.{OtherSize, NumbersUsedUp, NoMemory, Refused}
 use Rattle.unit_driver.specs.Reporting.{AskedCall, next_of}
 use Rattle.unit_driver.specs.Reporting as reporting
 use Rattle.unit_driver.specs.declared.reporting.NextReport.{NextReport}
@@ -75,6 +75,7 @@ answer_text (Ok r) = reply_text r
 answer_text (Err (Refused fault)) = refusal_text fault
 answer_text (Err OtherSize) = codes "other size"
 answer_text (Err NumbersUsedUp) = codes "no number"
+answer_text (Err NoMemory) = codes "no memory"
 
 -- whether a line was answered as is recorded
 abbrev pub outcome_of : List ℕ → List ℕ → LineOutcome (List ℕ)

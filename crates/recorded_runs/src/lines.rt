@@ -37,6 +37,7 @@ fn put_answer<S: Sink>(sink: &mut S, answer: &Result<Reply, HostFault>) -> bool
         Err(HostFault::Refused(fault)) => put_refusal(sink, fault),
         Err(HostFault::OtherSize) => sink.put(b"other size"),
         Err(HostFault::NumbersUsedUp) => sink.put(b"no number"),
+        Err(HostFault::NoMemory) => sink.put(b"no memory"),
     }
 }
 
