@@ -16,10 +16,13 @@ use std::alloc::Global;
 /// What MODIFY SUBCHANNEL takes of a block that enables: the enabled bit, bit 8 of word 1, and all paths in LPM and POM.
 const ENABLED: [u8; 16] = [0, 0, 0, 0, 0, 0x80, 0, 0, 0xFF, 0, 0, 0, 0, 0, 0xFF, 0];
 
+/// Word 1 and the first byte of word 2 of a block that is stored: E and V, the device number, and LPM.
+const STORED: [u8; 5] = [0, 0x81, 1, 0, 0xFF];
+
 /// A subchannel-information block that enables.
 fn enabling() -> [u8; 52] {
     let mut schib = [0; 52];
-    schib[..16].copy_from_slice(&ENABLED);
+    (&mut schib[..16]).copy_from_slice(&ENABLED);
     schib
 }
 
@@ -85,7 +88,7 @@ fn is_tested(subsystem: &mut ChannelSubsystem<Rotating>) -> bool {
                 },
                 Some(Block::Irb(irb)),
             ),
-        ) => irb[..12] == SCSW,
+        ) => irb[..12] == SCSW[..],
         _ => false,
     };
     let second = match answered(subsystem, &ByValue::Tsch) {
@@ -114,7 +117,7 @@ fn is_stored(subsystem: &mut ChannelSubsystem<Rotating>) -> bool {
                 },
                 Some(Block::Schib(schib)),
             ),
-        ) => schib[4..9] == [0, 0x81, 1, 0, 0xFF] && schib[11] == 0x80,
+        ) => schib[4..9] == STORED[..] && schib[11] == 0x80,
         _ => false,
     }
 }
