@@ -50,8 +50,11 @@ impl Guest {
         accepted && self.called.push(event).is_ok()
     }
 
-    /// The host enters what its CPU stores.
+    /// The host enters what its CPU stores, at most 256 bytes.
     fn puts(&mut self, address: u32, bytes: &[u8]) -> bool {
+        if bytes.len() > 256 {
+            return false;
+        }
         self.enters(Event::Put {
             address,
             bytes: Chunk::of(bytes),
