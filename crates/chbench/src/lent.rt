@@ -11,7 +11,7 @@ use storage_keys::LentStorage;
 #[derive(Drop)]
 pub struct LentPerforming<'a> {
     subsystem: ChannelSubsystem<Rotating>,
-    storage: LentStorage<'a>,
+    storage: LentStorage<'a, 'a, 'a>,
     accepted: u64,
     report: ReportSlot,
 }
@@ -20,7 +20,7 @@ impl<'a> LentPerforming<'a> {
     /// This subsystem on this storage.
     pub fn of(
         subsystem: ChannelSubsystem<Rotating>,
-        storage: LentStorage<'a>,
+        storage: LentStorage<'a, 'a, 'a>,
     ) -> LentPerforming<'a> {
         LentPerforming {
             subsystem,
@@ -81,7 +81,7 @@ pub struct LentLooking<'a> {
 
 impl<'a> LentLooking<'a> {
     /// This subsystem on this storage.
-    pub fn of(subsystem: ChannelSubsystem<Rotating>, storage: LentStorage<'a>) -> LentLooking<'a> {
+    pub fn of(subsystem: ChannelSubsystem<Rotating>, storage: LentStorage<'a, 'a, 'a>) -> LentLooking<'a> {
         LentLooking {
             performing: LentPerforming::of(subsystem, storage),
         }
@@ -124,7 +124,7 @@ impl<'a> LentAnswering<'a> {
     /// This subsystem on this storage.
     pub fn of(
         subsystem: ChannelSubsystem<Rotating>,
-        storage: LentStorage<'a>,
+        storage: LentStorage<'a, 'a, 'a>,
     ) -> LentAnswering<'a> {
         LentAnswering {
             performing: LentPerforming::of(subsystem, storage),

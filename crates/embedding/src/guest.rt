@@ -54,7 +54,7 @@ impl GuestStorage {
 
     /// It is lent for a call of the channel subsystem, as it is: nothing is copied. None where a CPU was given a prefix that names no
     /// area of 8,192 bytes in it.
-    pub fn lend(&mut self) -> Option<LentStorage<'_>> {
+    pub fn lend(&mut self) -> Option<LentStorage<'_, '_, '_>> {
         let size = self.bytes.len();
         if !LentStorage::fits(size, self.keys.len(), self.prefixes.as_slice()) {
             return None;

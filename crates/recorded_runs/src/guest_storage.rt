@@ -26,7 +26,7 @@ impl GuestStorage {
     }
 
     /// It is lent as it is: nothing is copied. None where it is not of 16 to 524,288 blocks.
-    pub fn lend(&mut self) -> Option<LentStorage<'_>> {
+    pub fn lend(&mut self) -> Option<LentStorage<'_, '_, '_>> {
         let bytes = self.bytes.as_mut_slice();
         let keys = self.keys.as_mut_slice();
         let prefixes = self.prefixes.as_mut_slice();

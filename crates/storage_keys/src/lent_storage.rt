@@ -15,14 +15,14 @@ const MOST_BLOCKS: usize = 0x8_0000;
 /// Main storage of a host, for one call: its bytes, the key of each block of 4,096 of them as `Key::byte` shows it (bit 7 is
 /// ignored), and the prefix of each of 16 CPUs. What is stored stands in the host's bytes, what is set in its keys and prefixes.
 #[derive(Drop)]
-pub struct LentStorage<'a> {
-    bytes: &'a mut [u8],
-    keys: &'a mut [u8],
-    prefixes: &'a mut [u32],
+pub struct LentStorage<'b, 'k, 'p> {
+    bytes: &'b mut [u8],
+    keys: &'k mut [u8],
+    prefixes: &'p mut [u32],
     ghost lent: { IsTrue (spec.may_be_lent (length bytes.now) (length keys.now) prefixes.now) },
 }
 
-impl<'a> LentStorage<'a> {
+impl<'b, 'k, 'p> LentStorage<'b, 'k, 'p> {
     /// Whether storage of so many bytes and keys, with these prefixes, may be lent: 16 to 524,288 keys, one for each block
     /// of 4,096 bytes, and 16 prefixes, each the address of an area of 8,192 bytes, on a boundary of as many.
     pub fn fits(size: usize, keys: usize, prefixes: &[u32]) -> bool
@@ -32,7 +32,11 @@ impl<'a> LentStorage<'a> {
     }
 
     /// Storage that is lent.
-    pub fn new(bytes: &'a mut [u8], keys: &'a mut [u8], prefixes: &'a mut [u32]) -> LentStorage<'a>
+    pub fn new(
+        bytes: &'b mut [u8],
+        keys: &'k mut [u8],
+        prefixes: &'p mut [u32],
+    ) -> LentStorage<'b, 'k, 'p>
         requires { IsTrue (spec.may_be_lent (length bytes.old) (length keys.old) prefixes.old) }
         ensures same_bytes { result.bytes.ghost_name ≡ bytes.entry.ghost_name }
         ensures same_keys { result.keys.ghost_name ≡ keys.entry.ghost_name }
@@ -49,7 +53,7 @@ impl<'a> LentStorage<'a> {
     }
 }
 
-impl MainStorage for LentStorage<'_> {
+impl MainStorage for LentStorage<'_, '_, '_> {
     ghost contents = { λ s. spec.lent_contents s.bytes.now s.keys.now s.prefixes.now };
 
     ghost lender = { λ s. s.bytes.ghost_name ∷ s.keys.ghost_name ∷ s.prefixes.ghost_name ∷ [] };
