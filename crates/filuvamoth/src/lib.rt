@@ -1,0 +1,62 @@
+//! The channel subsystem as functions for C (own). `host/filuvamoth.h` declares them.
+//!
+//! A host keeps a handle in its own memory, sets it to zero once, and passes its address to each call. Used alone, this crate
+//! promises: each call that names an event, a setting or a look is that of `host_machine` on the machine behind the handle, and the
+//! number that is answered is that of its answer; behind a closed handle nothing is done. A handle is used by one call at a time.
+#![tactic(auto)]
+
+ghost use Rattle.std.specs.Prelude.{◌≡◌, None, Some};
+ghost use Rattle.channel_config.specs.Setup.{no_setup};
+ghost use Rattle.host_machine.specs.declared.host_machine.HostMachine.TheVariants as machine_spec;
+
+mod calls;
+mod devices;
+mod events;
+mod given;
+mod handle;
+mod held;
+mod instructions;
+mod looks;
+mod parts;
+mod setting_up;
+
+use calls::{ALREADY_OPEN, CLOSED};
+use handle::Handle;
+use host_machine::answers::NO_MEMORY;
+use host_machine::host_machine::HostMachine;
+use std::alloc::Global;
+
+/// The number of this interface in the high half, and of the release in the low half.
+#[unsafe(no_mangle)]
+pub extern "C" fn fm_version() -> u32
+    ensures { result ≡ 0x10001 }
+{
+    0x0001_0001
+}
+
+/// Opens a handle on a machine of which nothing is set up. It is refused where the handle is open already, and where there is no
+/// memory; then the handle stays as it was.
+#[unsafe(no_mangle)]
+pub extern "C" fn fm_new(alloc: Global, handle: &mut Handle) -> i32 {
+    if handle.open {
+        return ALREADY_OPEN;
+    }
+    match Box::new(alloc, HostMachine::new(alloc)) {
+        Ok(inside) => {
+            handle.put(inside);
+            0
+        }
+        Err(_) => NO_MEMORY,
+    }
+}
+
+/// Closes a handle, and frees all that its machine has.
+#[unsafe(no_mangle)]
+pub extern "C" fn fm_free(alloc: Global, handle: &mut Handle) -> i32
+    ensures { handle.new.held.inside ≡ None }
+{
+    match handle.take(alloc) {
+        None => CLOSED,
+        Some(_) => 0,
+    }
+}

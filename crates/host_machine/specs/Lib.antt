@@ -1,0 +1,7 @@
+pub mod Answers
+pub mod Given
+pub mod Hosts
+pub mod Looks
+pub mod Machines
+pub mod Settings
+pub mod Works
